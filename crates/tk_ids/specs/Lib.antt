@@ -1,0 +1,2 @@
+-- Ids.
+pub mod Ids
