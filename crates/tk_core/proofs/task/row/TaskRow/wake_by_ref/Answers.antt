@@ -1,0 +1,5 @@
+use Rattle.tk_core.specs.Laws.TaskSteps.{follows}
+use Rattle.tk_core.proofs.task.row.TaskRow.wake_by_ref.Goals as goal
+
+pub returns : goal.returns
+returns c = follows _ _ _ (λ within. rw (c.woken.ensures, c.found_by_wake.ensures))

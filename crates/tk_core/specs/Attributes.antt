@@ -1,0 +1,56 @@
+-- Attributes: what the changes of a value make of it, and which it refuses.
+use Rattle.std.specs.Prelude.{ℕ, ◌+◌, ◌-◌, ◌^◌, Bool, nat_lt, nat_le, if◌then◌else◌, List, [], ◌∷◌, sum_by, Option, Some, None, unwrap_or, is_some, slice_get}
+use Rattle.std.specs.List.{after_last, filter_map}
+use Rattle.tk_ids.specs.declared.attr.AttrValue.{AttrValue}
+use Rattle.tk_ids.specs.declared.attr.AttrValue.TheVariants as values
+use Rattle.tk_core.specs.Lists.{last_of}
+use Rattle.tk_core.specs.declared.attrs.AttrOp.{AttrOp}
+use Rattle.tk_core.specs.declared.attrs.AttrOp.TheVariants.{Add, Sub, Override}
+use Rattle.tk_core.specs.declared.reply.Refusal.{Refusal}
+use Rattle.tk_core.specs.declared.reply.Refusal.TheVariants.{NoAttribute, WrongKind, OutOfRange}
+
+-- what a change adds
+abbrev pub added : AttrOp → ℕ
+added (Add (values.U64 n)) = n
+added _ = 0
+
+-- what a change takes away
+abbrev pub taken : AttrOp → ℕ
+taken (Sub (values.U64 n)) = n
+taken _ = 0
+
+-- what a change overrides the value with
+abbrev pub set_by : AttrOp → Option AttrValue
+set_by (Override value) = Some value
+set_by _ = None
+
+-- whether a change is an override
+abbrev pub is_override : AttrOp → Bool
+is_override op = is_some (set_by op)
+
+-- a number plus what is added, minus what is taken away
+abbrev pub moved : AttrValue → List AttrOp → AttrValue
+moved (values.U64 n) ops = values.U64 ((n + sum_by added ops) - sum_by taken ops)
+moved (values.Bool b) ops = values.Bool b
+
+-- the value that changes leave: the last override (or the first value), plus the adds after it, minus the subtractions after it
+unfoldable pub value_of : AttrValue → List AttrOp → AttrValue
+value_of first ops = moved (unwrap_or (last_of set_by ops) first) (after_last is_override ops)
+
+-- the values of attributes that are numbered from `i`, where `change_of` says how a call changes the attribute of an index
+abbrev pub values_from : {C : Type 0} → (ℕ → C → Option AttrOp) → ℕ → List AttrValue → List C → List AttrValue
+values_from change_of i [] calls = []
+values_from change_of i (first ∷ firsts) calls = value_of first (filter_map (change_of i) calls) ∷ values_from change_of (i + 1) firsts calls
+
+-- why a value refuses a change: another kind, or a number that leaves its range. A `Bool` is only overridden
+abbrev pub refused_change : AttrValue → AttrOp → Option Refusal
+refused_change (values.U64 n) (Add (values.U64 by)) = if nat_lt (n + by) (2 ^ 64) then None else Some OutOfRange
+refused_change (values.U64 n) (Sub (values.U64 by)) = if nat_le by n then None else Some OutOfRange
+refused_change (values.U64 n) (Override (values.U64 m)) = None
+refused_change (values.Bool b) (Override (values.Bool c)) = None
+refused_change _ _ = Some WrongKind
+
+-- why the attribute of an index refuses a change: it isn't there, or its value refuses
+abbrev pub refused_by : Option AttrValue → AttrOp → Option Refusal
+refused_by None op = Some NoAttribute
+refused_by (Some value) op = refused_change value op

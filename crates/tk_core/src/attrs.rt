@@ -1,0 +1,37 @@
+//! Changes of attributes.
+
+use crate::reply::Refusal;
+use tk_ids::AttrValue;
+
+/// A change of an attribute.
+#[derive(Clone, Copy, Debug, PartialEq, Eq)]
+pub enum AttrOp {
+    Add(AttrValue),
+    Sub(AttrValue),
+    Override(AttrValue),
+}
+
+impl AttrOp {
+    ghost use Rattle.std.specs.Prelude.{◌≡◌, MatchResult};
+    ghost use Rattle.tk_core.specs.Attributes.{refused_change};
+    ghost use Rattle.tk_core.specs.Laws.AttributeSteps.{changed_value};
+
+    /// The value after this change, or why the value refuses it.
+    pub(crate) fn applied_to(self, value: AttrValue) -> Result<AttrValue, Refusal>
+        ensures { MatchResult result (λ next. (refused_change value self ≡ None) × (next ≡ changed_value self value)) (λ refusal. refused_change value self ≡ Some refusal) }
+    {
+        match (value, self) {
+            (AttrValue::U64(n), AttrOp::Add(AttrValue::U64(by))) => match n.checked_add(by) {
+                Some(sum) => Ok(AttrValue::U64(sum)),
+                None => Err(Refusal::OutOfRange),
+            },
+            (AttrValue::U64(n), AttrOp::Sub(AttrValue::U64(by))) => match n.checked_sub(by) {
+                Some(rest) => Ok(AttrValue::U64(rest)),
+                None => Err(Refusal::OutOfRange),
+            },
+            (AttrValue::U64(_), AttrOp::Override(AttrValue::U64(n))) => Ok(AttrValue::U64(n)),
+            (AttrValue::Bool(_), AttrOp::Override(AttrValue::Bool(b))) => Ok(AttrValue::Bool(b)),
+            _ => Err(Refusal::WrongKind),
+        }
+    }
+}
