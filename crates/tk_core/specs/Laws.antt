@@ -2,6 +2,7 @@
 pub mod Pushed
 pub mod Answered
 pub mod Folded
+pub mod LegalLaws
 pub mod Drawn
 pub mod Handles
 pub mod TaskSteps

@@ -1,12 +1,14 @@
 //! The values of an item's attributes.
-ghost use Rattle.std.specs.Prelude.{◌≡◌, ℕ, ◌≤◌, ◌<◌, List, length, slice_get, slice_set, take};
+//!
+//! They are kept in place, behind one another, with zeros up to six, so that a row is `Copy`.
+ghost use Rattle.std.specs.Prelude.{◌≡◌, ◌≤◌, ◌<◌, ◌↔◌, IsTrue, [], length, slice_get, slice_set, take};
 
 use crate::attrs::AttrOp;
 use crate::reply::Refusal;
-use tk_ids::AttrValue;
 use std::marker::Model;
+use tk_ids::AttrValue;
 
-/// At most six values.
+/// The values of an item's attributes, at most six. A contract sees the list of them.
 #[derive(Clone, Copy, Debug, PartialEq, Eq)]
 pub struct AttrValues {
     values: [AttrValue; 6],
@@ -31,7 +33,7 @@ impl Model for AttrValues {
 }
 
 impl AttrValues {
-    /// At most six values.
+    /// The values that a slice holds, at most six.
     pub fn new(values: &[AttrValue]) -> Self
         requires { length values.now ≤ 6 }
         ensures { result ≡ values.now }
@@ -76,6 +78,21 @@ impl AttrValues {
         self.count
     }
 
+    /// Whether there is none.
+    pub fn is_empty(&self) -> bool
+        ensures { IsTrue result ↔ (self.now ≡ []) }
+    {
+        self.count == 0
+    }
+
+    /// The values as a slice.
+    pub fn as_slice(&self) -> &[AttrValue]
+        ensures { result.now ≡ self.now }
+    {
+        &self.values[..self.count]
+    }
+
+    /// The value at an index, counted from 0, if there is one.
     pub fn get(&self, index: u64) -> Option<AttrValue>
         ensures { result ≡ slice_get self.now index }
     {

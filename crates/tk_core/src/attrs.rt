@@ -3,11 +3,14 @@
 use crate::reply::Refusal;
 use tk_ids::AttrValue;
 
-/// A change of an attribute.
+/// A change of an attribute, with a value of the attribute's kind. A `Bool` is only overridden.
 #[derive(Clone, Copy, Debug, PartialEq, Eq)]
 pub enum AttrOp {
+    /// The value is added. Refused with `OutOfRange` where the sum is above 2^64 - 1.
     Add(AttrValue),
+    /// The value is taken away. Refused with `OutOfRange` where the difference is below 0.
     Sub(AttrValue),
+    /// The value takes the place of the attribute's.
     Override(AttrValue),
 }
 

@@ -1,9 +1,12 @@
 -- The laws of a resource's row as an object that is stepped by calls.
-use Rattle.std.proofs.Common.{◌≡◌, ℕ, ◌+◌, ◌^◌, ◌≤◌, length, Some, [], refl, sym, ap, ◌∙◌, arith}
+use Rattle.std.proofs.Common.{◌≡◌, List, ℕ, ◌+◌, ◌^◌, ◌≤◌, length, Some, [], refl, sym, ap, ◌∙◌, arith}
 use Rattle.std.specs.Prelude.{◌==◌}
 use Rattle.tk_core.specs.Lists.{capped, count_of, last_of}
-use Rattle.tk_core.specs.History.{accepted}
-use Rattle.tk_core.specs.Fold.{number_of, fold_of, answer_at, row_after}
+use Rattle.tk_core.specs.declared.history.Entry.{Entry}
+use Rattle.tk_core.specs.declared.reply.Reply.{Reply}
+use Rattle.tk_core.specs.History.{accepted, calls_of}
+use Rattle.tk_core.specs.Fold.{number_of, fold_of, answer_at, HasItsAnswers, row_after}
+use Rattle.tk_core.specs.Legal.{IsLegal}
 use Rattle.tk_core.specs.Meaning.{AreToldApart, BeginsAtOpening, NumbersAreNew}
 use Rattle.tk_core.specs.Resource.{change_of, row_of, resource_kind}
 use Rattle.tk_core.specs.ResourceMeaning.{resource_meaning}
@@ -11,7 +14,8 @@ use Rattle.tk_core.specs.ResourceWords.{words_of}
 use Rattle.tk_core.specs.declared.resource.row.ResourceRow.{ResourceRow}
 use Rattle.tk_core.specs.declared.resource.call.ResourceCall.{ResourceCall}
 use Rattle.tk_core.specs.declared.resource.call.ResourceCall.TheVariants.{Close, Attr, Enlist, Read}
-use Rattle.tk_core.specs.Laws.Folded.{after}
+use Rattle.tk_core.specs.Laws.Folded.{after, fold_of-calls}
+use Rattle.tk_core.specs.Laws.LegalLaws.{has_its_answers}
 use Rattle.tk_core.specs.Laws.Drawn as drawn
 use Rattle.tk_core.specs.Laws.Handles.{draws_none, draws_next}
 use Rattle.tk_core.specs.Laws.AttributeSteps.{values_from-nil}
@@ -45,3 +49,10 @@ drawing = record { next = draws; rises = gives_none_back }
 pub numbers_are_new : NumbersAreNew resource_meaning
 numbers_are_new opening calls call n is_opening e =
     drawn.numbers_are_new resource_kind changed opening (Holds opening) (grows opening) (none opening) (λ row. row.handles) drawing (λ cs holds. holds.within) calls call n e
+
+-- a legal history has its answers, and the row after its calls is its fold
+pub legal_answers : (opening : ResourceRow) (h : List (Entry ResourceCall (Reply ResourceRow))) → IsLegal resource_meaning opening h → HasItsAnswers resource_kind opening h
+legal_answers opening h legal = has_its_answers resource_kind opening h (λ before later e cut. (legal before later e cut).reply)
+
+pub legal_fold : (opening : ResourceRow) (h : List (Entry ResourceCall (Reply ResourceRow))) → IsLegal resource_meaning opening h → fold_of resource_kind opening h ≡ row_after resource_kind opening (calls_of h)
+legal_fold opening h legal = fold_of-calls resource_kind opening h (legal_answers opening h legal)

@@ -1,9 +1,12 @@
 -- The laws of a task's row as an object that is stepped by calls.
-use Rattle.std.proofs.Common.{◌≡◌, ℕ, ◌+◌, ◌^◌, ◌≤◌, length, Some, [], refl, sym, ap, ◌∙◌, arith}
+use Rattle.std.proofs.Common.{◌≡◌, List, ℕ, ◌+◌, ◌^◌, ◌≤◌, length, Some, [], refl, sym, ap, ◌∙◌, arith}
 use Rattle.std.specs.Prelude.{◌==◌}
 use Rattle.tk_core.specs.Lists.{any_of, any_since, capped, count_of, first_of, last_of, greatest_of, sum_of}
-use Rattle.tk_core.specs.History.{accepted}
-use Rattle.tk_core.specs.Fold.{number_of, fold_of, answer_at, row_after}
+use Rattle.tk_core.specs.declared.history.Entry.{Entry}
+use Rattle.tk_core.specs.declared.reply.Reply.{Reply}
+use Rattle.tk_core.specs.History.{accepted, calls_of}
+use Rattle.tk_core.specs.Fold.{number_of, fold_of, answer_at, HasItsAnswers, row_after}
+use Rattle.tk_core.specs.Legal.{IsLegal}
 use Rattle.tk_core.specs.Meaning.{AreToldApart, BeginsAtOpening, NumbersAreNew}
 use Rattle.tk_core.specs.Task.{row_of, task_kind}
 use Rattle.tk_core.specs.TaskMeaning.{task_meaning}
@@ -11,7 +14,8 @@ use Rattle.tk_core.specs.TaskWords.{words_of}
 use Rattle.tk_core.specs.declared.task.row.TaskRow.{TaskRow}
 use Rattle.tk_core.specs.declared.task.call.TaskCall.{TaskCall}
 use Rattle.tk_core.specs.declared.task.call.TaskCall.TheVariants.{PollStart, PollEnd, Close, CloneWaker, WakeVal, WakeRef, Release, Enlist, Read}
-use Rattle.tk_core.specs.Laws.Folded.{after}
+use Rattle.tk_core.specs.Laws.Folded.{after, fold_of-calls}
+use Rattle.tk_core.specs.Laws.LegalLaws.{has_its_answers}
 use Rattle.tk_core.specs.Laws.Drawn as drawn
 use Rattle.tk_core.specs.Laws.Handles.{draws_none, draws_next}
 use Rattle.tk_core.specs.Laws.TaskSteps.{changed, Holds, grows, none}
@@ -54,3 +58,10 @@ drawing = record { next = draws; rises = gives_none_back }
 pub numbers_are_new : NumbersAreNew task_meaning
 numbers_are_new opening calls call n is_opening e =
     drawn.numbers_are_new task_kind changed opening (Holds opening) (grows opening) (none opening) (λ row. row.handles) drawing (λ cs holds. holds) calls call n e
+
+-- a legal history has its answers, and the row after its calls is its fold
+pub legal_answers : (opening : TaskRow) (h : List (Entry TaskCall (Reply TaskRow))) → IsLegal task_meaning opening h → HasItsAnswers task_kind opening h
+legal_answers opening h legal = has_its_answers task_kind opening h (λ before later e cut. (legal before later e cut).reply)
+
+pub legal_fold : (opening : TaskRow) (h : List (Entry TaskCall (Reply TaskRow))) → IsLegal task_meaning opening h → fold_of task_kind opening h ≡ row_after task_kind opening (calls_of h)
+legal_fold opening h legal = fold_of-calls task_kind opening h (legal_answers opening h legal)

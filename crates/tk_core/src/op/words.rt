@@ -76,7 +76,9 @@ impl OpRow {
         let from_2 = from_1 / 2;
         let from_3 = from_2 / 2;
         let from_4 = from_3 / 2;
-        let attrs = [words[10], words[11], words[12], words[13], words[14], words[15]];
+        let attrs = [
+            words[10], words[11], words[12], words[13], words[14], words[15],
+        ];
         OpRow {
             created: words[1],
             dropped: moment_of(flags % 2 == 1, words[2]),
