@@ -78,8 +78,12 @@ impl Attrs {
     ///
     /// `BadAttributes` where they are more than 6 or two have the same name. The list then comes back.
     pub fn new(list: Vec<AttrSpec>) -> Result<Attrs, (IdError, Vec<AttrSpec>)>
-        ensures attrs { result ≡ if are_attributes (spec_names list.items) then Ok list.items else Err (IdError.BadAttributes, list) }
-        ensures rule { IsOk result ↔ ((length list.items ≤ 6) × AllPairs (λ a b. a ≢ b) (spec_names list.items)) }
+        ensures attrs { result ≡ if are_attributes (spec_names list.items)
+            then Ok list.items else Err (IdError.BadAttributes, list) }
+
+        // the same in words: the list is short enough, and no name is equal to a later one
+        ensures rule { IsOk result ↔
+            ((length list.items ≤ 6) × AllPairs (λ a b. a ≢ b) (spec_names list.items)) }
     {
         if are_attributes(list.as_slice()) {
             Ok(Attrs { list })
@@ -128,8 +132,12 @@ impl AttrInfos {
     ///
     /// `BadAttributes` where they are more than 6 or two have the same name. The list then comes back.
     pub fn new(list: Vec<AttrInfo>) -> Result<AttrInfos, (IdError, Vec<AttrInfo>)>
-        ensures attrs { result ≡ if are_attributes (info_names list.items) then Ok list.items else Err (IdError.BadAttributes, list) }
-        ensures rule { IsOk result ↔ ((length list.items ≤ 6) × AllPairs (λ a b. a ≢ b) (info_names list.items)) }
+        ensures attrs { result ≡ if are_attributes (info_names list.items)
+            then Ok list.items else Err (IdError.BadAttributes, list) }
+
+        // the same in words: the list is short enough, and no name is equal to a later one
+        ensures rule { IsOk result ↔
+            ((length list.items ≤ 6) × AllPairs (λ a b. a ≢ b) (info_names list.items)) }
     {
         if are_attributes(list.as_slice()) {
             Ok(AttrInfos { list })
