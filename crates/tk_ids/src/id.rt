@@ -4,7 +4,7 @@
 //! from 1 to 2^40 - 1. An id is printed `recorder.n`.
 ghost use Rattle.std.specs.Prelude.{◌≡◌, true, Some, if◌then◌else◌};
 ghost use Rattle.std.specs.Fmt.{DisplaysOnOk};
-ghost use Rattle.tk_ids.specs.Ids.{is_id, recorder_of, number_of, id_text};
+ghost use Rattle.tk_ids.specs.Ids.{is_id, id_of, recorder_of, number_of, id_text};
 
 use crate::error::IdError;
 use std::fmt;
@@ -65,6 +65,7 @@ impl TaskId {
     pub fn value(self) -> u64
         ensures value { result ≡ self }
         ensures id { is_id result ≡ true }
+        ensures sum { result ≡ id_of (recorder_of result) (number_of result) }
     {
         self.value
     }
@@ -121,6 +122,7 @@ impl ResourceId {
     pub fn value(self) -> u64
         ensures value { result ≡ self }
         ensures id { is_id result ≡ true }
+        ensures sum { result ≡ id_of (recorder_of result) (number_of result) }
     {
         self.value
     }
@@ -177,6 +179,7 @@ impl AsyncOpId {
     pub fn value(self) -> u64
         ensures value { result ≡ self }
         ensures id { is_id result ≡ true }
+        ensures sum { result ≡ id_of (recorder_of result) (number_of result) }
     {
         self.value
     }

@@ -1,6 +1,6 @@
 //! Where a recorder's ids come from: one count for each kind of item.
-ghost use Rattle.std.specs.Prelude.{◌≡◌, ◌≤◌, true, if◌then◌else◌, IfOk};
-ghost use Rattle.tk_ids.specs.Ids.{is_id};
+ghost use Rattle.std.specs.Prelude.{◌≡◌, ◌≤◌, ◌+◌, true, if◌then◌else◌, IfOk};
+ghost use Rattle.tk_ids.specs.Ids.{is_id, recorder_of, number_of};
 ghost use Rattle.tk_ids.specs.IdBlocks.{Given, is_recorder, is_given, next_id, given_after, last_number};
 
 use crate::error::IdError;
@@ -41,6 +41,7 @@ fn next_id(recorder: u64, given: u64) -> Result<u64, IdError>
     requires given { given ≤ last_number }
     ensures next { result ≡ next_id recorder given }
     ensures id { IfOk result (λ id. is_id id ≡ true) }
+    ensures parts { IfOk result (λ id. (recorder_of id ≡ recorder) × (number_of id ≡ given + 1)) }
 {
     if given == LAST_NUMBER {
         Err(IdError::IdsSpent)
@@ -85,6 +86,8 @@ impl IdBlock {
     /// `IdsSpent` where the last one had the number 2^40 - 1, and then the block stays as it is.
     pub fn next_task(&mut self) -> Result<TaskId, IdError>
         ensures id { result ≡ next_id self.old.recorder self.old.tasks }
+        ensures parts { IfOk result (λ id.
+            (recorder_of id ≡ self.old.recorder) × (number_of id ≡ self.old.tasks + 1)) }
         ensures block { self.new ≡ record self.old { tasks = given_after self.old.tasks } }
     {
         let id = next_id(self.recorder, self.tasks)?;
@@ -97,6 +100,8 @@ impl IdBlock {
     /// `IdsSpent` where the last one had the number 2^40 - 1, and then the block stays as it is.
     pub fn next_resource(&mut self) -> Result<ResourceId, IdError>
         ensures id { result ≡ next_id self.old.recorder self.old.resources }
+        ensures parts { IfOk result (λ id.
+            (recorder_of id ≡ self.old.recorder) × (number_of id ≡ self.old.resources + 1)) }
         ensures block { self.new ≡ record self.old { resources = given_after self.old.resources } }
     {
         let id = next_id(self.recorder, self.resources)?;
@@ -109,6 +114,8 @@ impl IdBlock {
     /// `IdsSpent` where the last one had the number 2^40 - 1, and then the block stays as it is.
     pub fn next_op(&mut self) -> Result<AsyncOpId, IdError>
         ensures id { result ≡ next_id self.old.recorder self.old.ops }
+        ensures parts { IfOk result (λ id.
+            (recorder_of id ≡ self.old.recorder) × (number_of id ≡ self.old.ops + 1)) }
         ensures block { self.new ≡ record self.old { ops = given_after self.old.ops } }
     {
         let id = next_id(self.recorder, self.ops)?;
