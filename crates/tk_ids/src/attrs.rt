@@ -4,6 +4,8 @@ ghost use Rattle.std.specs.List.{list_any};
 ghost use Rattle.std.specs.Str.{bytes_eq};
 ghost use Rattle.tk_ids.specs.Attributes.{are_attributes, are_distinct, spec_names, info_names};
 
+mod compared;
+
 use crate::attr::{AttrInfo, AttrSpec};
 use crate::error::IdError;
 use crate::name::Name;

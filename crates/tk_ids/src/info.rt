@@ -54,7 +54,7 @@ impl Clone for TaskInfo {
 }
 
 /// A resource, as a timer or a lock.
-#[derive(Debug, Drop)]
+#[derive(Debug, Drop, PartialEq, Eq)]
 pub struct ResourceInfo {
     pub id: ResourceId,
     /// The resource that it is a part of.
@@ -98,7 +98,7 @@ impl Clone for ResourceInfo {
 }
 
 /// An async operation: a use of a resource that takes several polls.
-#[derive(Debug, Drop)]
+#[derive(Debug, Drop, PartialEq, Eq)]
 pub struct OpInfo {
     pub id: AsyncOpId,
     /// The call that made it, as `Mutex::lock`.

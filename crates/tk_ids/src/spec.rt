@@ -24,7 +24,7 @@ pub struct TaskSpec {
 }
 
 /// A resource that is to be recorded, as a timer or a lock.
-#[derive(Debug, Drop)]
+#[derive(Debug, Drop, PartialEq, Eq)]
 pub struct ResourceSpec {
     /// The resource that it is a part of.
     pub parent: Option<ResourceId>,
@@ -38,7 +38,7 @@ pub struct ResourceSpec {
 }
 
 /// An async operation that is to be recorded: a use of a resource that takes several polls.
-#[derive(Debug, Drop)]
+#[derive(Debug, Drop, PartialEq, Eq)]
 pub struct OpSpec {
     /// The call that made it, as `Mutex::lock`.
     pub source: Name,

@@ -93,6 +93,30 @@ fn hands_back_a_list_that_may_not(rt: HostRuntime) -> Result<(), Fail> {
 }
 
 #[test]
+fn lists_are_equal_attribute_by_attribute(rt: HostRuntime) -> Result<(), Fail> {
+    let alloc = rt.alloc();
+    let attrs = Attrs::new(specs_of(alloc, &["a", "b"])?)?;
+    assert!(rt;
+        attrs == Attrs::new(specs_of(alloc, &["a", "b"])?)?,
+        "the same attributes"
+    );
+    assert!(rt;
+        attrs != Attrs::new(specs_of(alloc, &["b", "a"])?)?,
+        "another order"
+    );
+    let infos = AttrInfos::new(infos_of(alloc, &["a", "b"])?)?;
+    assert!(rt;
+        infos == AttrInfos::new(infos_of(alloc, &["a", "b"])?)?,
+        "the same infos"
+    );
+    assert!(rt;
+        infos != AttrInfos::new(infos_of(alloc, &["a"])?)?,
+        "fewer infos"
+    );
+    Ok(())
+}
+
+#[test]
 fn tells_the_kind_of_a_value(rt: HostRuntime) {
     for (value, kind) in KINDS {
         assert_eq!(rt; value.kind(), kind, "{value:?}");

@@ -1,4 +1,4 @@
-//! Copies of infos, compared part by part.
+//! Copies of infos.
 
 use crate::{
     AsyncOpId, AttrInfo, AttrInfos, AttrKind, Location, Name, OpInfo, ResourceId, ResourceInfo,
@@ -61,16 +61,12 @@ fn copies_a_resource(rt: HostRuntime) -> Result<(), Fail> {
         location: location(alloc)?,
         attrs: attrs(alloc)?,
     };
-    let copy = info.copy()?;
-    assert_eq!(rt; copy.id, info.id, "id");
-    assert_eq!(rt; copy.parent, info.parent, "parent");
-    assert_eq!(rt; copy.concrete, info.concrete, "concrete type");
-    assert_eq!(rt; copy.kind, info.kind, "kind");
-    assert_eq!(rt; copy.location, info.location, "location");
+    assert_eq!(rt; info.copy()?, info, "a copy");
+    assert_eq!(rt; info.clone()?, info, "a clone");
     assert_eq!(rt;
-        copy.attrs.as_slice(),
+        info.copy()?.attrs.as_slice(),
         attrs(alloc)?.as_slice(),
-        "attributes"
+        "its attributes"
     );
     Ok(())
 }
@@ -85,15 +81,12 @@ fn copies_an_operation(rt: HostRuntime) -> Result<(), Fail> {
         parent: Some(AsyncOpId::from_value(FIRST)?),
         attrs: attrs(alloc)?,
     };
-    let copy = info.copy()?;
-    assert_eq!(rt; copy.id, info.id, "id");
-    assert_eq!(rt; copy.source, info.source, "source");
-    assert_eq!(rt; copy.resource, info.resource, "resource");
-    assert_eq!(rt; copy.parent, info.parent, "parent");
+    assert_eq!(rt; info.copy()?, info, "a copy");
+    assert_eq!(rt; info.clone()?, info, "a clone");
     assert_eq!(rt;
-        copy.attrs.as_slice(),
+        info.copy()?.attrs.as_slice(),
         attrs(alloc)?.as_slice(),
-        "attributes"
+        "its attributes"
     );
     Ok(())
 }
