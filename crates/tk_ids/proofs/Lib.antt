@@ -1,0 +1,2 @@
+-- On specs/Names.antt.
+pub mod NamesLemmas

@@ -1,21 +1,25 @@
 //! Ids: `recorder * 2^40 + n`, with a recorder of 1 to 64 and the number `n` of the item among those of its kind.
-ghost use Rattle.std.specs.Prelude.{◌≡◌, true, if◌then◌else◌};
-ghost use Rattle.tk_ids.specs.Ids.{is_id, recorder_of, number_of};
+//!
+//! Tasks, resources and async operations have ids of their own, as in tokio-console, and each kind counts its own `n`
+//! from 1 to 2^40 - 1. An id is printed `recorder.n`.
+ghost use Rattle.std.specs.Prelude.{◌≡◌, true, Some, if◌then◌else◌};
+ghost use Rattle.tk_ids.specs.Ids.{is_id, recorder_of, number_of, id_text};
 
+use crate::error::IdError;
+use std::fmt;
 use std::marker::Model;
-
-/// Why an id, a name or a list of attributes is refused.
-#[derive(Clone, Copy, Debug, PartialEq, Eq)]
-pub enum IdError {
-    /// A recorder or a number is out of range.
-    BadId,
-}
 
 fn is_id(value: u64) -> bool
     ensures { result ≡ is_id value }
 {
     let recorder = value >> 40;
     1 <= recorder && recorder <= 64 && 1 <= value % (1 << 40)
+}
+
+fn parts_of(id: u64) -> (u64, u64)
+    ensures { result ≡ (recorder_of id, number_of id) }
+{
+    (id >> 40, id % (1 << 40))
 }
 
 /// The id of a task.
@@ -61,6 +65,130 @@ impl TaskId {
     pub fn parts(self) -> (u64, u64)
         ensures { result ≡ (recorder_of self, number_of self) }
     {
-        (self.value >> 40, self.value % (1 << 40))
+        parts_of(self.value)
+    }
+}
+
+/// `recorder.n`, as `1.7`.
+impl fmt::Display for TaskId {
+    ghost output = { λ id. Some (id_text id) };
+
+    fn fmt<W: fmt::Write>(&self, f: &mut fmt::Formatter<W>) -> fmt::Result {
+        let (recorder, number) = self.parts();
+        write!(f, "{recorder}.{number}")
+    }
+}
+
+/// The id of a resource.
+#[derive(Clone, Copy, Debug, PartialEq, Eq, Hash)]
+pub struct ResourceId {
+    value: u64,
+}
+
+impl Model for ResourceId {
+    ghost use Rattle.std.specs.Prelude.{◌≡◌, ℕ, true};
+    ghost use Rattle.tk_ids.specs.Ids.{is_id};
+
+    ghost Value = { ℕ };
+
+    ghost view = { λ id. id.value };
+
+    ghost invariant = { λ id. is_id id.value ≡ true };
+
+    ghost inverse = { λ v. record { value = v } };
+}
+
+impl ResourceId {
+    /// The id with this value, or `BadId` where no id has it.
+    pub fn from_value(value: u64) -> Result<ResourceId, IdError>
+        ensures { result ≡ if is_id value then Ok value else Err IdError.BadId }
+    {
+        if is_id(value) {
+            Ok(ResourceId { value })
+        } else {
+            Err(IdError::BadId)
+        }
+    }
+
+    /// The id as one number.
+    pub fn value(self) -> u64
+        ensures value { result ≡ self }
+        ensures id { is_id result ≡ true }
+    {
+        self.value
+    }
+
+    /// The recorder, and the number among its resources.
+    pub fn parts(self) -> (u64, u64)
+        ensures { result ≡ (recorder_of self, number_of self) }
+    {
+        parts_of(self.value)
+    }
+}
+
+/// `recorder.n`, as `1.7`.
+impl fmt::Display for ResourceId {
+    ghost output = { λ id. Some (id_text id) };
+
+    fn fmt<W: fmt::Write>(&self, f: &mut fmt::Formatter<W>) -> fmt::Result {
+        let (recorder, number) = self.parts();
+        write!(f, "{recorder}.{number}")
+    }
+}
+
+/// The id of an async operation.
+#[derive(Clone, Copy, Debug, PartialEq, Eq, Hash)]
+pub struct AsyncOpId {
+    value: u64,
+}
+
+impl Model for AsyncOpId {
+    ghost use Rattle.std.specs.Prelude.{◌≡◌, ℕ, true};
+    ghost use Rattle.tk_ids.specs.Ids.{is_id};
+
+    ghost Value = { ℕ };
+
+    ghost view = { λ id. id.value };
+
+    ghost invariant = { λ id. is_id id.value ≡ true };
+
+    ghost inverse = { λ v. record { value = v } };
+}
+
+impl AsyncOpId {
+    /// The id with this value, or `BadId` where no id has it.
+    pub fn from_value(value: u64) -> Result<AsyncOpId, IdError>
+        ensures { result ≡ if is_id value then Ok value else Err IdError.BadId }
+    {
+        if is_id(value) {
+            Ok(AsyncOpId { value })
+        } else {
+            Err(IdError::BadId)
+        }
+    }
+
+    /// The id as one number.
+    pub fn value(self) -> u64
+        ensures value { result ≡ self }
+        ensures id { is_id result ≡ true }
+    {
+        self.value
+    }
+
+    /// The recorder, and the number among its async operations.
+    pub fn parts(self) -> (u64, u64)
+        ensures { result ≡ (recorder_of self, number_of self) }
+    {
+        parts_of(self.value)
+    }
+}
+
+/// `recorder.n`, as `1.7`.
+impl fmt::Display for AsyncOpId {
+    ghost output = { λ id. Some (id_text id) };
+
+    fn fmt<W: fmt::Write>(&self, f: &mut fmt::Formatter<W>) -> fmt::Result {
+        let (recorder, number) = self.parts();
+        write!(f, "{recorder}.{number}")
     }
 }

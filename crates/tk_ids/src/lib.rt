@@ -5,7 +5,13 @@
 #![tactic(auto)]
 
 mod attr;
+mod error;
 mod id;
+mod id_block;
+mod name;
 
 pub use attr::{AttrKind, AttrValue};
-pub use id::{IdError, TaskId};
+pub use error::IdError;
+pub use id::{AsyncOpId, ResourceId, TaskId};
+pub use id_block::IdBlock;
+pub use name::Name;
