@@ -1,4 +1,4 @@
-use Rattle.std.proofs.Common.{◌≡◌, ℕ, ◌<◌, ◌≤◌, rules, true, false, List, length, get_or, ◌∙◌, sym, arith}
+use Rattle.std.proofs.Common.{◌≡◌, ℕ, ◌<◌, rules, true, false, List, length, get_or, ◌∙◌, sym, arith}
 use Rattle.std.proofs.lemmas.Bool.{false_from_ne_true, true_from_ne_false, true≢false}
 use Rattle.std.proofs.lemmas.Bool.Decides.{nat_tests}
 use Rattle.std.proofs.lemmas.List.Folds.{list_all_at}
@@ -16,8 +16,8 @@ printable-lt b h = grind (arith, nat_tests)
 printable-IsAscii : (bytes : List ℕ) → list_all is_printable bytes ≡ true → IsAscii bytes
 printable-IsAscii bytes h =
     IsAscii-from_reads bytes (length bytes) (omega arith) (λ k within.
-        printable-lt (get_or bytes k 0)
-            (true_from_ne_false _ (λ is. true≢false (sym h ∙ list_all_at is_printable bytes k 0 within is))))
+    printable-lt (get_or bytes k 0)
+    (true_from_ne_false _ (λ is. true≢false (sym h ∙ list_all_at is_printable bytes k 0 within is))))
 
 name-printable : (bytes : List ℕ) → is_name bytes ≡ true → list_all is_printable bytes ≡ true
 name-printable bytes h = search rules

@@ -1,5 +1,5 @@
 -- Which ids a recorder gives out.
-use Rattle.std.specs.Prelude.{ℕ, ◌+◌, ◌-◌, ◌^◌, ◌==◌, Bool, ◌&&◌, nat_le, min, Result, Ok, Err, if◌then◌else◌}
+use Rattle.std.specs.Prelude.{ℕ, ◌+◌, ◌-◌, ◌^◌, ◌==◌, Bool, ◌&&◌, nat_le, Result, Ok, Err, if◌then◌else◌}
 use Rattle.tk_ids.specs.Ids.{id_of}
 use Rattle.tk_ids.specs.declared.error.IdError.{IdError}
 use Rattle.tk_ids.specs.declared.error.IdError.TheVariants.{IdsSpent}

@@ -1,4 +1,9 @@
 //! Attributes: values with a name, which calls may change.
+ghost use Rattle.std.specs.Prelude.{◌≡◌};
+ghost use Rattle.tk_ids.specs.Attributes.{kind_of};
+
+use crate::name::Name;
+use std::alloc::AllocError;
 
 /// What kind of value an attribute has.
 #[derive(Clone, Copy, Debug, PartialEq, Eq)]
@@ -12,4 +17,48 @@ pub enum AttrKind {
 pub enum AttrValue {
     U64(u64),
     Bool(bool),
+}
+
+impl AttrValue {
+    /// The value's kind, which it keeps when it is changed.
+    pub fn kind(self) -> AttrKind
+        ensures { result ≡ kind_of self }
+    {
+        match self {
+            AttrValue::U64(_) => AttrKind::U64,
+            AttrValue::Bool(_) => AttrKind::Bool,
+        }
+    }
+}
+
+/// An attribute as its item declares it: with the value that it has first.
+#[derive(Debug, Drop, PartialEq, Eq)]
+pub struct AttrSpec {
+    pub name: Name,
+    /// What the value counts, as `bytes`.
+    pub unit: Option<Name>,
+    pub first: AttrValue,
+}
+
+/// What stays of an attribute while its value changes.
+#[derive(Debug, Drop, PartialEq, Eq)]
+pub struct AttrInfo {
+    pub name: Name,
+    /// What the value counts, as `bytes`.
+    pub unit: Option<Name>,
+    pub kind: AttrKind,
+}
+
+impl Clone for AttrInfo {
+    ghost is_clone = { λ a b. a ≡ b };
+
+    fn clone(&self) -> Result<AttrInfo, AllocError> {
+        let name = self.name.clone()?;
+        let unit = self.unit.clone()?;
+        Ok(AttrInfo {
+            name,
+            unit,
+            kind: self.kind,
+        })
+    }
 }

@@ -3,6 +3,7 @@
 //! Tasks, resources and async operations have ids of their own, as in tokio-console, and each kind counts its own `n`
 //! from 1 to 2^40 - 1. An id is printed `recorder.n`.
 ghost use Rattle.std.specs.Prelude.{◌≡◌, true, Some, if◌then◌else◌};
+ghost use Rattle.std.specs.Fmt.{DisplaysOnOk};
 ghost use Rattle.tk_ids.specs.Ids.{is_id, recorder_of, number_of, id_text};
 
 use crate::error::IdError;
@@ -20,6 +21,13 @@ fn parts_of(id: u64) -> (u64, u64)
     ensures { result ≡ (recorder_of id, number_of id) }
 {
     (id >> 40, id % (1 << 40))
+}
+
+fn write_id<W: fmt::Write>(id: u64, f: &mut fmt::Formatter<W>) -> fmt::Result
+    ensures { DisplaysOnOk W.write_str_gives f.old result (Some (id_text id)) f.new }
+{
+    let (recorder, number) = parts_of(id);
+    write!(f, "{recorder}.{number}")
 }
 
 /// The id of a task.
@@ -74,8 +82,7 @@ impl fmt::Display for TaskId {
     ghost output = { λ id. Some (id_text id) };
 
     fn fmt<W: fmt::Write>(&self, f: &mut fmt::Formatter<W>) -> fmt::Result {
-        let (recorder, number) = self.parts();
-        write!(f, "{recorder}.{number}")
+        write_id(self.value, f)
     }
 }
 
@@ -131,8 +138,7 @@ impl fmt::Display for ResourceId {
     ghost output = { λ id. Some (id_text id) };
 
     fn fmt<W: fmt::Write>(&self, f: &mut fmt::Formatter<W>) -> fmt::Result {
-        let (recorder, number) = self.parts();
-        write!(f, "{recorder}.{number}")
+        write_id(self.value, f)
     }
 }
 
@@ -188,7 +194,6 @@ impl fmt::Display for AsyncOpId {
     ghost output = { λ id. Some (id_text id) };
 
     fn fmt<W: fmt::Write>(&self, f: &mut fmt::Formatter<W>) -> fmt::Result {
-        let (recorder, number) = self.parts();
-        write!(f, "{recorder}.{number}")
+        write_id(self.value, f)
     }
 }

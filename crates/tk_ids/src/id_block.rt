@@ -28,7 +28,12 @@ impl Model for IdBlock {
 
     ghost view = { λ b. record { recorder = b.recorder; tasks = b.tasks; resources = b.resources; ops = b.ops } };
 
-    ghost invariant = { λ b. is_given (record { recorder = b.recorder; tasks = b.tasks; resources = b.resources; ops = b.ops }) ≡ true };
+    ghost invariant = { λ b. is_given (record {
+      recorder = b.recorder;
+      tasks = b.tasks;
+      resources = b.resources;
+      ops = b.ops;
+    }) ≡ true };
 }
 
 fn next_id(recorder: u64, given: u64) -> Result<u64, IdError>
@@ -49,7 +54,8 @@ impl IdBlock {
     ///
     /// `BadId` where `r` is not in 1 to 64.
     pub fn new(r: u64) -> Result<IdBlock, IdError>
-        ensures { result ≡ if is_recorder r then Ok (record { recorder = r; tasks = 0; resources = 0; ops = 0 }) else Err IdError.BadId }
+        ensures { let none : Given = record { recorder = r; tasks = 0; resources = 0; ops = 0 } in
+            result ≡ if is_recorder r then Ok none else Err IdError.BadId }
     {
         IdBlock::resume(r, 0, 0, 0)
     }
@@ -108,5 +114,33 @@ impl IdBlock {
         let id = next_id(self.recorder, self.ops)?;
         self.ops += 1;
         AsyncOpId::from_value(id)
+    }
+
+    /// The recorder.
+    pub fn recorder(&self) -> u64
+        ensures { result ≡ self.now.recorder }
+    {
+        self.recorder
+    }
+
+    /// How many ids of tasks it has given out.
+    pub fn tasks(&self) -> u64
+        ensures { result ≡ self.now.tasks }
+    {
+        self.tasks
+    }
+
+    /// How many ids of resources it has given out.
+    pub fn resources(&self) -> u64
+        ensures { result ≡ self.now.resources }
+    {
+        self.resources
+    }
+
+    /// How many ids of async operations it has given out.
+    pub fn ops(&self) -> u64
+        ensures { result ≡ self.now.ops }
+    {
+        self.ops
     }
 }

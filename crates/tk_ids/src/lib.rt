@@ -1,17 +1,36 @@
 //! What identifies and describes tasks, resources and async operations.
 //!
-//! - [`TaskId`], [`ResourceId`], [`AsyncOpId`]: ids, each a recorder and a count of its own.
+//! - [`TaskId`], [`ResourceId`], [`AsyncOpId`]: ids, each a recorder and a number.
+//! - [`IdBlock`]: the ids that a recorder gives out.
+//! - [`Name`]: 1 to 1,024 bytes of printable text.
+//! - [`Location`]: a place in a source file.
 //! - [`AttrKind`], [`AttrValue`]: the kind and the value of an attribute.
+//! - [`AttrSpec`], [`Attrs`]: an attribute as its item declares it, and a list of them.
+//! - [`AttrInfo`], [`AttrInfos`]: what stays of an attribute while its value changes, and a list of that.
+//! - [`TaskKind`], [`TaskSpec`], [`ResourceSpec`], [`OpSpec`]: what a caller hands in of an item.
+//! - [`TaskInfo`], [`ResourceInfo`], [`OpInfo`]: what stays of an item as long as it is shown.
+//! - [`Dropped`]: how many items and events were dropped.
+//! - [`IdError`]: why one of these is refused.
 #![tactic(auto)]
 
 mod attr;
+mod attrs;
 mod error;
 mod id;
 mod id_block;
+mod info;
+mod location;
 mod name;
+mod spec;
+#[cfg(test)]
+mod tests;
 
-pub use attr::{AttrKind, AttrValue};
+pub use attr::{AttrInfo, AttrKind, AttrSpec, AttrValue};
+pub use attrs::{AttrInfos, Attrs};
 pub use error::IdError;
 pub use id::{AsyncOpId, ResourceId, TaskId};
 pub use id_block::IdBlock;
+pub use info::{Dropped, OpInfo, ResourceInfo, TaskInfo};
+pub use location::Location;
 pub use name::Name;
+pub use spec::{OpSpec, ResourceSpec, TaskKind, TaskSpec};

@@ -45,7 +45,8 @@ impl Name {
     /// `BadName` where they are no name, and `Memory` where they are one and there is no memory to keep it.
     pub fn new(alloc: Global, bytes: &[u8]) -> Result<Name, IdError>
         ensures ok { IfOk result (λ name. (name ≡ bytes.now) × (spec.is_name bytes.now ≡ true)) }
-        ensures err { IfErr result (λ e. e ≡ if spec.is_name bytes.now then IdError.Memory else IdError.BadName) }
+        ensures err { IfErr result (λ e. e ≡
+            if spec.is_name bytes.now then IdError.Memory else IdError.BadName) }
     {
         let Ok(text) = str::from_utf8(bytes) else {
             return Err(IdError::BadName);

@@ -1,4 +1,3 @@
-use Rattle.std.proofs.Common.{rules}
 use Rattle.tk_ids.proofs.NamesLemmas.{is_name-not_utf8}
 use Rattle.tk_ids.proofs.name.Name.new.Goals as goal
 
