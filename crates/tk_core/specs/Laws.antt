@@ -5,6 +5,15 @@ pub mod Folded
 pub mod Drawn
 pub mod Handles
 pub mod TaskSteps
+pub mod WordsReadBack
 pub mod TaskReadBack
 pub mod TaskLaws
 pub mod AttributeSteps
+pub mod Refusals
+pub mod AttrReadBack
+pub mod ResourceSteps
+pub mod ResourceReadBack
+pub mod ResourceLaws
+pub mod OpSteps
+pub mod OpReadBack
+pub mod OpLaws

@@ -9,11 +9,19 @@ pub mod Legal
 pub mod Polls
 pub mod Task
 pub mod TaskMeaning
--- Attributes
+-- Attributes, resources and async operations
 pub mod Attributes
+pub mod Resource
+pub mod ResourceMeaning
+pub mod Op
+pub mod OpMeaning
 -- The numbers of refusals
 pub mod Codes
 -- Inner: the layout of rows in words, and laws with their proofs. No public clause above this crate cites these
 pub mod Words
 pub mod TaskWords
+pub mod AttrValues
+pub mod AttrWords
+pub mod ResourceWords
+pub mod OpWords
 pub mod Laws

@@ -1,6 +1,7 @@
 -- What one more change makes of a value.
-use Rattle.std.proofs.Common.{◌≡◌, ℕ, suc, ◌+◌, ◌-◌, ◌≤◌, cond, List, [], ◌∷◌, ◌++◌, Option, Some, None, refl, ap, ◌∙◌, arith}
-use Rattle.std.specs.Prelude.{sum_by, unwrap_or, nat_le}
+use Rattle.std.proofs.Common.{◌≡◌, ℕ, suc, ◌+◌, ◌-◌, ◌≤◌, cond, List, [], ◌∷◌, ◌++◌, Option, Some, None, refl, sym, ap, ◌∙◌, inl, inr, zero-add, eq-eqb, arith}
+use Rattle.std.specs.Prelude.{sum_by, unwrap_or, nat_le, ◌==◌}
+use Rattle.std.proofs.lemmas.Bool.{cases_eq, ne_eqb}
 use Rattle.std.specs.List.{after_last, filter_map}
 use Rattle.std.specs.List.{cons_option, slice_get}
 use Rattle.std.specs.Option.{option_map}
@@ -11,7 +12,7 @@ use Rattle.std.proofs.lemmas.List.Elements.{filter_map-append}
 use Rattle.std.proofs.lemmas.Bool.Decides.{nat_tests}
 use Rattle.std.proofs.lemmas.List.Sums.{sum_by_push}
 use Rattle.tk_core.specs.Lists.{last_of}
-use Rattle.tk_core.specs.Attributes.{added, taken, set_by, is_override, moved, value_of, values_from, refused_change}
+use Rattle.tk_core.specs.Attributes.{added, taken, set_by, is_override, moved, value_of, values_from, refused_change, refused_by}
 use Rattle.tk_core.specs.Laws.Pushed.{last_of_push, after_last_push}
 use Rattle.tk_ids.specs.declared.attr.AttrValue.{AttrValue}
 use Rattle.tk_ids.specs.declared.attr.AttrValue.TheVariants as values
@@ -116,3 +117,74 @@ module _ {C : Type 0} (change : ℕ → C → Option AttrOp) where
       let e : changes i (calls ++ call ∷ []) ≡ changes i calls = changes_push i calls call ∙ rw (nothing, append-nil) in
       let same : i + suc j ≡ (i + 1) + j = omega arith in
       rw (e, values_set (i + 1) j firsts calls call op new (rw same at here) (λ k ne. others k (λ eq. ne (eq ∙ same))) (λ f is. rw same at (changed f is))) refl
+
+-- the values after a change of the one at an index, if it is there
+abbrev pub replaced : List AttrValue → ℕ → AttrOp → Option AttrValue → List AttrValue
+replaced attrs i op None = attrs
+replaced attrs i op (Some value) = set attrs i (changed_value op value)
+
+module _ {C : Type 0} (change : ℕ → C → Option AttrOp) where
+  -- of each attribute no more was taken than there was
+  abbrev pub AllCovered : List AttrValue → List C → Type 0
+  AllCovered firsts calls = (i : ℕ) (first : AttrValue) → slice_get firsts i ≡ Some first → IsCovered first (changes change i calls)
+
+  pub all_covered_none : (firsts : List AttrValue) → AllCovered firsts []
+  unfolding last_of
+  all_covered_none firsts i first is = covers_none first
+
+  -- a call that changes no attribute leaves the values
+  pub attrs_same : (firsts : List AttrValue) (calls : List C) (call : C) → ((i : ℕ) → change i call ≡ None) → AllCovered firsts calls
+      → (values_from change 0 firsts (calls ++ call ∷ []) ≡ values_from change 0 firsts calls) × AllCovered firsts (calls ++ call ∷ [])
+  attrs_same firsts calls call none covered = (
+    values_same change 0 firsts calls call (λ i le. none i),
+    λ i first is.
+        let e : changes change i (calls ++ call ∷ []) ≡ changes change i calls = changes_push change i calls call ∙ rw (none i, append-nil) in
+        rw e (covered i first is),
+  )
+
+  at_zero : (firsts : List AttrValue) (calls : List C) (i : ℕ) (o : Option AttrValue) → slice_get firsts i ≡ o → slice_get (values_from change 0 firsts calls) i ≡ option_map (λ first. value_of first (changes change i calls)) o
+  at_zero firsts calls i o is = value_at change 0 i firsts calls ∙ rw (is, zero-add) refl
+
+  -- a call that changes the one at an index, which doesn't refuse
+  pub attrs_changed : (firsts : List AttrValue) (calls : List C) (call : C) (i : ℕ) (op : AttrOp) (o : Option AttrValue) → slice_get firsts i ≡ o
+      → change i call ≡ Some op → ((k : ℕ) → (k ≡ i → ⊥) → change k call ≡ None)
+      → AllCovered firsts calls → refused_by (slice_get (values_from change 0 firsts calls) i) op ≡ None
+      → (values_from change 0 firsts (calls ++ call ∷ []) ≡ replaced (values_from change 0 firsts calls) i op (slice_get (values_from change 0 firsts calls) i)) × AllCovered firsts (calls ++ call ∷ [])
+  attrs_changed firsts calls call i op None is here others covered free =
+      let gone : refused_by None op ≡ None = rw (at_zero firsts calls i None is) at free in
+      absurd cc
+  attrs_changed firsts calls call i op (Some first) is here others covered free =
+      let ops = changes change i calls in
+      let at = at_zero firsts calls i (Some first) is in
+      let allowed : refused_change (value_of first ops) op ≡ None = rw at at free in
+      let p = value_push first ops op allowed (covered i first is) in
+      let new = changed_value op (value_of first ops) in
+      let whole = values_set change 0 i firsts calls call op new (rw zero-add here) (λ k ne. others k (λ e. ne (e ∙ sym (zero-add i)))) (λ f fis. let same : f ≡ first = cc in rw (zero-add, same) p.0) in (
+        rw at whole,
+        λ k f kis. elim (cases_eq k i) [
+          | inl e ↦
+              let same : f ≡ first = cc (ap (λ (n : ℕ). slice_get firsts n) e) in
+              let more : changes change i (calls ++ call ∷ []) ≡ ops ++ op ∷ [] = changes_push change i calls call ∙ rw here refl in
+              rw (e, same, more) p.1
+          | inr ne ↦
+              let more : changes change k (calls ++ call ∷ []) ≡ changes change k calls = changes_push change k calls call ∙ rw (others k ne, append-nil) in
+              rw more (covered k f kis)
+        ],
+      )
+
+values_none : {C : Type 0} (change : ℕ → C → Option AttrOp) (i : ℕ) (firsts : List AttrValue) → values_from change i firsts [] ≡ firsts
+unfolding value_of last_of
+values_none change i [] = refl
+values_none change i (values.U64 n ∷ firsts) = rw (values_none change (i + 1) firsts) (ap (λ m. values.U64 m ∷ firsts) (omega arith))
+values_none change i (values.Bool b ∷ firsts) = rw (values_none change (i + 1) firsts) refl
+
+-- no calls leave the first values
+pub values_from-nil : {C : Type 0} (change : ℕ → C → Option AttrOp) (firsts : List AttrValue) → values_from change 0 firsts [] ≡ firsts
+values_from-nil change firsts = values_none change 0 firsts
+
+-- an index is changed by the call that names it, and by no other
+pub names_index : (i : ℕ) (op : AttrOp) → cond (i == i) (Some op) None ≡ Some op
+names_index i op = rw (eq-eqb i i refl) refl
+
+pub names_no_other : (k i : ℕ) (op : AttrOp) → (k ≡ i → ⊥) → cond (k == i) (Some op) None ≡ None
+names_no_other k i op ne = rw (ne_eqb k i ne) refl

@@ -1,22 +1,9 @@
 -- A row is read back from its words.
-use Rattle.std.proofs.Common.{◌≡◌, ℕ, ◌+◌, ◌*◌, ◌/◌, ◌%◌, Bool, true, false, cond, List, get_or, Option, Some, None, refl, arith}
-use Rattle.std.specs.Prelude.{is_some, ◌==◌}
-use Rattle.std.proofs.lemmas.Bool.Decides.{nat_tests}
-use Rattle.tk_core.specs.Words.{word_of}
+use Rattle.std.proofs.Common.{◌≡◌, ℕ, ◌/◌, ◌%◌, cond, List, get_or, Some, None}
+use Rattle.std.specs.Prelude.{◌==◌}
 use Rattle.tk_core.specs.TaskWords.{words_of}
+use Rattle.tk_core.specs.Laws.WordsReadBack.{low_bit, high_bits, moment}
 use Rattle.tk_core.specs.declared.task.row.TaskRow.{TaskRow}
-
-pub low_bit : (bit : Bool) (rest : ℕ) → ((cond bit 1 0 + 2 * rest) % 2 == 1) ≡ bit
-low_bit true rest = grind (arith, nat_tests)
-low_bit false rest = grind (arith, nat_tests)
-
-pub high_bits : (bit : Bool) (rest : ℕ) → (cond bit 1 0 + 2 * rest) / 2 ≡ rest
-high_bits true rest = omega arith
-high_bits false rest = omega arith
-
-pub moment : (o : Option ℕ) → cond (is_some o) (Some (word_of o)) None ≡ o
-moment None = refl
-moment (Some m) = refl
 
 -- the row that sixteen words may be those of
 abbrev pub read_from : List ℕ → TaskRow

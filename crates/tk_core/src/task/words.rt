@@ -1,17 +1,11 @@
 //! A task's row as sixteen words.
-ghost use Rattle.std.specs.Prelude.{◌≡◌, ℕ, ◌+◌, ◌*◌, ◌/◌, ◌%◌, ◌≤◌, ◌==◌, ◌↔◌, if◌then◌else◌, is_some, Option};
-ghost use Rattle.tk_core.specs.Words.{word_of, number_of_bits};
+ghost use Rattle.std.specs.Prelude.{◌≡◌, ◌↔◌};
+ghost use Rattle.tk_core.specs.Words.{number_of_bits};
 ghost use Rattle.tk_core.specs.TaskWords.{words_of, flags_of};
 ghost use Rattle.tk_core.specs.declared.task.row.TaskRow.{TaskRow};
 
+use crate::moment::moment_of;
 use crate::task::TaskRow;
-
-/// A moment by its flag and its word.
-pub(crate) fn moment_of(present: bool, word: u64) -> Option<u64>
-    ensures { result ≡ if present then Some word else None }
-{
-    if present { Some(word) } else { None }
-}
 
 impl TaskRow {
     fn flags(&self) -> u64
@@ -90,7 +84,7 @@ impl TaskRow {
         }
     }
 
-    /// The row that has these words, if there is one.
+    /// The row that has these words: `None` exactly where no row has them.
     pub fn from_words(words: &[u64; 16]) -> Option<Self>
         ensures { (row : TaskRow) → (result ≡ Some row) ↔ (words_of row ≡ words.now) }
     {

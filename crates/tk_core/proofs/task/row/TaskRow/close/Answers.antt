@@ -10,10 +10,10 @@ returns-then-is_some c =
 
 pub returns-then-self : goal.returns-then-self
 returns-then-self c =
-    let open_is : is_some c.args.self.now.dropped ≡ false = cc in
-    follows _ _ _ (λ within. rw (open_is, c.if-self.true))
+    let live : is_some c.args.self.now.dropped ≡ false = cc in
+    follows _ _ _ (λ within. rw (live, c.if-self.true))
 
 pub returns : goal.returns
 returns c =
-    let open_is : is_some c.args.self.now.dropped ≡ false = cc in
-    follows _ _ _ (λ within. rw (open_is, c.if-self.false) (cc))
+    let live : is_some c.args.self.now.dropped ≡ false = cc in
+    follows _ _ _ (λ within. rw (live, c.if-self.false) (cc))

@@ -1,0 +1,19 @@
+use Rattle.std.proofs.Common.{◌≡◌, true, false}
+use Rattle.std.specs.Prelude.{is_some}
+use Rattle.tk_core.specs.Laws.OpSteps.{follows}
+use Rattle.tk_core.proofs.op.row.OpRow.close.Goals as goal
+
+pub returns-then-is_some : goal.returns-then-is_some
+returns-then-is_some c =
+    let closed : is_some c.args.self.now.dropped ≡ true = cc in
+    follows _ _ _ (λ within. rw closed)
+
+pub returns-then-self : goal.returns-then-self
+returns-then-self c =
+    let live : is_some c.args.self.now.dropped ≡ false = cc in
+    follows _ _ _ (λ within. rw (live, c.if-self.true))
+
+pub returns : goal.returns
+returns c =
+    let live : is_some c.args.self.now.dropped ≡ false = cc in
+    follows _ _ _ (λ within. rw (live, c.if-self.false) (cc))
