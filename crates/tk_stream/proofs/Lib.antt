@@ -1,0 +1,5 @@
+pub mod Written
+pub mod NoEnds
+pub mod Keyed
+pub mod Kept
+pub mod RowsLemmas

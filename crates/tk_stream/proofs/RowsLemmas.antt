@@ -1,0 +1,81 @@
+-- Two rows agree in each of their fields exactly where they are equal.
+use Rattle.std.proofs.Common.{◌≡◌, ℕ, Bool, true, false, Option, Some, None, nat_eq, refl, ap, sym, ◌∙◌, ◌↔◌}
+use Rattle.std.specs.Prelude.{◌&&◌}
+use Rattle.std.specs.Bool.{beq}
+use Rattle.std.specs.Option.{option_eq}
+use Rattle.std.proofs.lemmas.Bool.{and_parts, eqb-true, eq-eqb}
+use Rattle.tk_core.specs.declared.task.row.TaskRow.{TaskRow}
+use Rattle.tk_stream.specs.Rows.{same_row}
+
+flags_agree : (a b : Bool) → beq a b ≡ true → a ≡ b
+flags_agree true true h = refl
+flags_agree true false h = absurd (cc)
+flags_agree false true h = absurd (cc)
+flags_agree false false h = refl
+
+same_flag : (a : Bool) → beq a a ≡ true
+same_flag true = refl
+same_flag false = refl
+
+moments_agree : (a b : Option ℕ) → option_eq nat_eq a b ≡ true → a ≡ b
+moments_agree (Some m) (Some n) h = ap Some (eqb-true m n h)
+moments_agree (Some m) None h = absurd (cc)
+moments_agree None (Some n) h = absurd (cc)
+moments_agree None None h = refl
+
+same_moment : (a : Option ℕ) → option_eq nat_eq a a ≡ true
+same_moment (Some m) = eq-eqb m m refl
+same_moment None = refl
+
+same_number : (n : ℕ) → nat_eq n n ≡ true
+same_number n = eq-eqb n n refl
+
+same_fields : (a b : TaskRow) → a.created ≡ b.created → a.dropped ≡ b.dropped → a.polls ≡ b.polls → a.first_poll ≡ b.first_poll
+    → a.last_started ≡ b.last_started → a.last_ended ≡ b.last_ended → a.busy ≡ b.busy → a.wakes ≡ b.wakes → a.self_wakes ≡ b.self_wakes
+    → a.last_wake ≡ b.last_wake → a.clones ≡ b.clones → a.drops ≡ b.drops → a.handles ≡ b.handles → a.sched ≡ b.sched
+    → a.polling ≡ b.polling → a.scheduled ≡ b.scheduled → a ≡ b
+same_fields a b created dropped polls first_poll last_started last_ended busy wakes self_wakes last_wake clones drops handles sched polling scheduled =
+    λ i. record { created = created i; dropped = dropped i; polls = polls i; first_poll = first_poll i; last_started = last_started i; last_ended = last_ended i; busy = busy i; wakes = wakes i; self_wakes = self_wakes i; last_wake = last_wake i; clones = clones i; drops = drops i; handles = handles i; sched = sched i; polling = polling i; scheduled = scheduled i }
+
+fields_agree : (a b : TaskRow) → same_row a b ≡ true → a ≡ b
+fields_agree a b h =
+    let p15 = and_parts _ (beq a.scheduled b.scheduled) h in
+    let p14 = and_parts _ (beq a.polling b.polling) p15.0 in
+    let p13 = and_parts _ (nat_eq a.sched b.sched) p14.0 in
+    let p12 = and_parts _ (nat_eq a.handles b.handles) p13.0 in
+    let p11 = and_parts _ (nat_eq a.drops b.drops) p12.0 in
+    let p10 = and_parts _ (nat_eq a.clones b.clones) p11.0 in
+    let p9 = and_parts _ (option_eq nat_eq a.last_wake b.last_wake) p10.0 in
+    let p8 = and_parts _ (nat_eq a.self_wakes b.self_wakes) p9.0 in
+    let p7 = and_parts _ (nat_eq a.wakes b.wakes) p8.0 in
+    let p6 = and_parts _ (nat_eq a.busy b.busy) p7.0 in
+    let p5 = and_parts _ (option_eq nat_eq a.last_ended b.last_ended) p6.0 in
+    let p4 = and_parts _ (option_eq nat_eq a.last_started b.last_started) p5.0 in
+    let p3 = and_parts _ (option_eq nat_eq a.first_poll b.first_poll) p4.0 in
+    let p2 = and_parts _ (nat_eq a.polls b.polls) p3.0 in
+    let p1 = and_parts (nat_eq a.created b.created) (option_eq nat_eq a.dropped b.dropped) p2.0 in
+    let created : a.created ≡ b.created = eqb-true _ _ p1.0 in
+    let dropped : a.dropped ≡ b.dropped = moments_agree _ _ p1.1 in
+    let polls : a.polls ≡ b.polls = eqb-true _ _ p2.1 in
+    let first_poll : a.first_poll ≡ b.first_poll = moments_agree _ _ p3.1 in
+    let last_started : a.last_started ≡ b.last_started = moments_agree _ _ p4.1 in
+    let last_ended : a.last_ended ≡ b.last_ended = moments_agree _ _ p5.1 in
+    let busy : a.busy ≡ b.busy = eqb-true _ _ p6.1 in
+    let wakes : a.wakes ≡ b.wakes = eqb-true _ _ p7.1 in
+    let self_wakes : a.self_wakes ≡ b.self_wakes = eqb-true _ _ p8.1 in
+    let last_wake : a.last_wake ≡ b.last_wake = moments_agree _ _ p9.1 in
+    let clones : a.clones ≡ b.clones = eqb-true _ _ p10.1 in
+    let drops : a.drops ≡ b.drops = eqb-true _ _ p11.1 in
+    let handles : a.handles ≡ b.handles = eqb-true _ _ p12.1 in
+    let sched : a.sched ≡ b.sched = eqb-true _ _ p13.1 in
+    let polling : a.polling ≡ b.polling = flags_agree _ _ p14.1 in
+    let scheduled : a.scheduled ≡ b.scheduled = flags_agree _ _ p15.1 in
+    same_fields a b created dropped polls first_poll last_started last_ended busy wakes self_wakes last_wake clones drops handles sched polling scheduled
+
+agrees : (a : TaskRow) → same_row a a ≡ true
+agrees a =
+    rw (same_number a.created, same_moment a.dropped, same_number a.polls, same_moment a.first_poll, same_moment a.last_started, same_moment a.last_ended, same_number a.busy, same_number a.wakes, same_number a.self_wakes, same_moment a.last_wake, same_number a.clones, same_number a.drops, same_number a.handles, same_number a.sched, same_flag a.polling, same_flag a.scheduled)
+    refl
+
+pub same_rows : (a b : TaskRow) → (same_row a b ≡ true) ↔ (a ≡ b)
+same_rows a b = (fields_agree a b, λ e. ap (same_row a) (sym e) ∙ agrees a)

@@ -1,0 +1,6 @@
+use Rattle.std.proofs.Common.{◌≡◌, take}
+use Rattle.tk_stream.specs.Lines.{new_infos}
+use Rattle.tk_stream.proofs.between.new_infos.Given as goal
+
+abbrev pub invariant-loop-i : goal.invariant-loop-i
+invariant-loop-i l = l.list.items ≡ new_infos l.old (take l.i l.new.tasks)

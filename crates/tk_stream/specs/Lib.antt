@@ -1,0 +1,13 @@
+-- What tables hold, and what their calls make of it
+pub mod Tables
+-- What a line says
+pub mod Rows
+pub mod Lines
+-- How a line is spelled: its JSON value, and its text
+pub mod Spelling
+-- The numbers of errors
+pub mod Errors
+-- Inner: no public clause cites these
+pub mod Put
+pub mod Entries
+pub mod Kept
