@@ -6,7 +6,7 @@ use Rattle.std.specs.List.{AllByRecursion, IsDistinct}
 use Rattle.std.proofs.lemmas.Bool.{eqb-true, eq-eqb}
 use Rattle.tk_stream.specs.declared.task.Task.{Task}
 use Rattle.tk_stream.specs.Tables.{TablesView, AreFit, task_id, task_with}
-use Rattle.tk_stream.specs.Lines.{is_new, is_told, have_same_row, new_infos, told_rows, line_between, snapshot_of}
+use Rattle.tk_stream.specs.Lines.{is_new, is_told, have_same_row, line_between, snapshot_of}
 use Rattle.tk_stream.proofs.RowsLemmas.{agrees}
 
 -- ---- all

@@ -1,8 +1,7 @@
 -- The text of a value has no line end: a text's are escaped, and nothing else has one.
-use Rattle.std.proofs.Common.{◌≡◌, ℕ, zero, suc, ◌+◌, ◌/◌, ◌%◌, ◌≤◌, ◌<◌, List, [], ◌∷◌, ◌++◌, Bool, true, false, cond, nat_eq, nat_lt, decimal, refl, arith, inl, inr}
+use Rattle.std.proofs.Common.{◌≡◌, ℕ, zero, suc, ◌+◌, ◌/◌, ◌%◌, ◌<◌, List, [], ◌∷◌, ◌++◌, Bool, true, false, cond, nat_eq, nat_lt, decimal, refl, arith, inl, inr}
 use Rattle.std.specs.Prelude.{not, ◌&&◌, pos, negsuc}
-use Rattle.std.specs.List.{list_all}
-use Rattle.std.specs.Fmt.{digit_glyph, digits_onto, digits, signed_decimal}
+use Rattle.std.specs.Fmt.{digit_glyph, digits_onto, digits}
 use Rattle.std.proofs.lemmas.Bool.{and_parts, cases_lt, cases_eq}
 use Rattle.std.proofs.lemmas.Bool.Decides.{nat_tests}
 use Rattle.json.specs.Print.{escape_byte, escape, quoted, token_text}
