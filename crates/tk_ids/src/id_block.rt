@@ -11,7 +11,7 @@ const LAST_NUMBER: u64 = (1 << 40) - 1;
 
 /// The ids that one recorder gives out: of each kind the next is one above the last.
 ///
-/// A recorder has one block, so no two of its items of a kind have the same id.
+/// Two blocks of one recorder would give out the same ids, so that a recorder keeps to one.
 #[derive(Debug, Drop)]
 pub struct IdBlock {
     recorder: u64,
@@ -125,7 +125,8 @@ impl IdBlock {
 
     /// The recorder.
     pub fn recorder(&self) -> u64
-        ensures { result ≡ self.now.recorder }
+        ensures recorder { result ≡ self.now.recorder }
+        ensures given { is_given self.now ≡ true }
     {
         self.recorder
     }

@@ -1,11 +1,11 @@
 -- Entries that stand under their own ids.
-use Rattle.std.proofs.Common.{◌≡◌, ℕ, zero, suc, List, [], ◌∷◌, ◌++◌, cond, nat_eq, take, slice_get, Some, refl, ap, ap₂, sym, ◌∙◌}
+use Rattle.std.proofs.Common.{◌≡◌, ℕ, zero, suc, List, [], ◌∷◌, ◌++◌, cond, nat_eq, map, take, slice_get, Some, refl, ap, ap₂, sym, ◌∙◌}
 use Rattle.std.proofs.lemmas.Option.{same_Some}
-use Rattle.std.specs.Map.{lookup, values_of}
+use Rattle.std.specs.Map.{lookup, keys_of, values_of}
 use Rattle.tk_core.specs.declared.task.row.TaskRow.{TaskRow}
 use Rattle.indexmap.specs.Layout.{set_value_at}
 use Rattle.tk_stream.specs.declared.task.Task.{Task}
-use Rattle.tk_stream.specs.Tables.{TablesView, task_with, with_row}
+use Rattle.tk_stream.specs.Tables.{TablesView, task_id, task_with, with_row}
 use Rattle.tk_stream.specs.Entries.{AreKeyed}
 
 pub lookup-task_with : (id : ℕ) (es : List (ℕ × Task)) → AreKeyed es → lookup (nat_eq id) es ≡ task_with id (values_of es)
@@ -30,6 +30,11 @@ pub values_of-set : (es : List (ℕ × Task)) (i : ℕ) (t : Task) (row : TaskRo
 values_of-set [] i t row at = refl
 values_of-set (e ∷ es) zero t row at = ap (λ (x : Task). record x { row = row } ∷ values_of es) (sym (same_Some e.1 t at))
 values_of-set (e ∷ es) (suc i) t row at = ap (λ ts. e.1 ∷ ts) (values_of-set es i t row at)
+
+-- the keys are the tasks' ids
+pub keys_of-keyed : (es : List (ℕ × Task)) → AreKeyed es → keys_of es ≡ map task_id (values_of es)
+keys_of-keyed [] h = refl
+keys_of-keyed (e ∷ es) h = ap₂ (λ k ks. k ∷ ks) h.0 (keys_of-keyed es h.1)
 
 abbrev pub with_tasks : TablesView → List Task → TablesView
 with_tasks v ts = record v { tasks = ts }

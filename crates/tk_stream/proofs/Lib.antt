@@ -3,3 +3,4 @@ pub mod NoEnds
 pub mod Keyed
 pub mod Kept
 pub mod RowsLemmas
+pub mod LinesLemmas

@@ -72,7 +72,7 @@ fields_agree a b h =
     let scheduled : a.scheduled ≡ b.scheduled = flags_agree _ _ p15.1 in
     same_fields a b created dropped polls first_poll last_started last_ended busy wakes self_wakes last_wake clones drops handles sched polling scheduled
 
-agrees : (a : TaskRow) → same_row a a ≡ true
+pub agrees : (a : TaskRow) → same_row a a ≡ true
 agrees a =
     rw (same_number a.created, same_moment a.dropped, same_number a.polls, same_moment a.first_poll, same_moment a.last_started, same_moment a.last_ended, same_number a.busy, same_number a.wakes, same_number a.self_wakes, same_moment a.last_wake, same_number a.clones, same_number a.drops, same_number a.handles, same_number a.sched, same_flag a.polling, same_flag a.scheduled)
     refl

@@ -1,6 +1,7 @@
 //! What a line tells of the tasks of new tables.
-ghost use Rattle.std.specs.Prelude.{◌≡◌, ◌++◌, IfOk, OnOk, map, filter};
+ghost use Rattle.std.specs.Prelude.{◌≡◌, ◌++◌, IfOk, OnOk};
 ghost use Rattle.tk_stream.specs.Lines as lines;
+ghost use Rattle.tk_stream.specs.Tables.{task_id};
 ghost use Rattle.tk_stream.specs.Kept.{kept};
 
 use crate::rows::same_row;
@@ -11,13 +12,13 @@ use tk_core::TaskRow;
 use tk_ids::{TaskId, TaskInfo};
 
 fn is_new(old: &Tables, task: &Task) -> bool
-    ensures { result ≡ lines.is_new old.now task.now }
+    ensures { result ≡ lines.is_new task_id old.now.tasks task.now }
 {
     old.task(task.info.id).is_none()
 }
 
 fn is_told(old: &Tables, task: &Task) -> bool
-    ensures { result ≡ lines.is_told old.now task.now }
+    ensures { result ≡ lines.is_told task_id lines.have_same_row old.now.tasks task.now }
 {
     match old.task(task.info.id) {
         Some(before) => !same_row(&before.row, &task.row),
@@ -53,7 +54,7 @@ pub(crate) fn new_infos(
     old: &Tables,
     new: &Tables,
 ) -> Result<Vec<TaskInfo>, AllocError>
-    ensures { IfOk result (λ v. v.items ≡ lines.new_infos old.now new.now.tasks) }
+    ensures { IfOk result (λ v. v.items ≡ lines.new_infos old.now.tasks new.now.tasks) }
 {
     let mut list = Vec::new(alloc);
     for i in 0..new.task_count() {
@@ -69,7 +70,7 @@ pub(crate) fn told_rows(
     old: &Tables,
     new: &Tables,
 ) -> Result<Vec<(TaskId, TaskRow)>, AllocError>
-    ensures { IfOk result (λ v. v.items ≡ lines.told_rows old.now new.now.tasks) }
+    ensures { IfOk result (λ v. v.items ≡ lines.told_rows old.now.tasks new.now.tasks) }
 {
     let mut list = Vec::new(alloc);
     for i in 0..new.task_count() {

@@ -1,7 +1,19 @@
 //! Lines of a stream.
 //!
-//! A line is one JSON object with twelve keys, as
-//! `{"dropped":[0,0,0],"new_ops":[],..,"seq":1,"snapshot":false,"task_stats":[],"v":1}`.
+//! A line is one JSON object with exactly these keys, which are written in this order, without spaces.
+//!
+//! | Key | Value |
+//! |---|---|
+//! | `dropped` | totals of what was dropped: `[tasks, resources, ops]` |
+//! | `new_ops`, `new_resources` | lists that are empty, since tables hold tasks alone yet |
+//! | `new_tasks` | a list of `{"id":N,"kind":"spawn" or "blocking","loc":[file, line, column],"name":"..."}` |
+//! | `now` | the moment, in nanoseconds |
+//! | `op_stats`, `poll_counts`, `resource_stats` | lists that are empty, as above |
+//! | `seq` | the line's number, from 1 to 2^63 |
+//! | `snapshot` | whether the line tells of the tables as a whole |
+//! | `task_stats` | a list of rows: an object with `id` and the row's 16 fields, each under its name; an absent moment is `null` |
+//! | `v` | 1, the version of the format |
+//!
 //! `specs/Lines.antt` says what a line says, and `specs/Spelling.antt` how it is spelled.
 ghost use Rattle.std.specs.Prelude.{◌≡◌, true, false, IfOk, OnOk, if◌then◌else◌, IsTrue};
 ghost use Rattle.serde_json.specs.View.{view, members_view};

@@ -12,7 +12,7 @@ use tk_core::TaskRow;
 use tk_ids::{Dropped, TaskId, TaskInfo};
 
 /// The tasks that were told of, how many events were dropped, and the moment of the last whole line.
-#[derive(Drop)]
+#[derive(Debug, Drop)]
 pub struct Tables {
     tasks: IndexMap<TaskId, Task>,
     dropped: Dropped,
@@ -33,7 +33,7 @@ impl Model for Tables {
 }
 
 impl Tables {
-    ghost use Rattle.tk_stream.specs.Tables.{empty_tables, task_with, with_task, with_row, cut_to};
+    ghost use Rattle.tk_stream.specs.Tables.{AreFit, empty_tables, task_with, with_task, with_row, cut_to};
 
     /// Tables without items, whose numbers are 0. Today they take no memory, so there always are such tables.
     pub fn new(alloc: Global) -> Result<Tables, AllocError>
@@ -51,9 +51,10 @@ impl Tables {
         })
     }
 
-    /// How many tasks there are.
+    /// How many tasks there are. No two have the same id.
     pub fn task_count(&self) -> usize
-        ensures { result ≡ length self.now.tasks }
+        ensures count { result ≡ length self.now.tasks }
+        ensures fit { AreFit self.now }
     {
         self.tasks.len()
     }

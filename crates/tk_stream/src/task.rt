@@ -6,7 +6,7 @@ use tk_core::TaskRow;
 use tk_ids::TaskInfo;
 
 /// A task in tables: what is told of it once, and its statistics, which change.
-#[derive(Debug, Drop)]
+#[derive(Debug, Drop, PartialEq, Eq)]
 pub struct Task {
     /// Its id, kind, name and location, which stay.
     pub info: TaskInfo,
