@@ -19,7 +19,7 @@ pub record Given : Type 0 where
   pub resources : ℕ
   pub ops : ℕ
 
--- no kind has more ids than there are numbers
+-- the recorder is in range, and it has given out no more ids of a kind than there are numbers
 abbrev pub is_given : Given → Bool
 is_given given = is_recorder given.recorder
     && nat_le given.tasks last_number && nat_le given.resources last_number && nat_le given.ops last_number

@@ -32,5 +32,5 @@ pub use id::{AsyncOpId, ResourceId, TaskId};
 pub use id_block::IdBlock;
 pub use info::{Dropped, OpInfo, ResourceInfo, TaskInfo};
 pub use location::Location;
-pub use name::Name;
+pub use name::{Name, is_name};
 pub use spec::{OpSpec, ResourceSpec, TaskKind, TaskSpec};

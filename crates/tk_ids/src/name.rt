@@ -27,7 +27,8 @@ impl Model for Name {
     ghost invariant = { λ n. is_name (string_bytes n.text) ≡ true };
 }
 
-fn is_name(bytes: &[u8]) -> bool
+/// Whether bytes are a name.
+pub fn is_name(bytes: &[u8]) -> bool
     ensures { result ≡ spec.is_name bytes.now }
 {
     1 <= bytes.len() && bytes.len() <= 1024 && are_printable(bytes)

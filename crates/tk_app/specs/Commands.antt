@@ -1,0 +1,51 @@
+-- What a line of a script says.
+use Rattle.std.specs.Prelude.{ℕ, List, [], ◌∷◌, if◌then◌else◌, Option, Some, None, option_map, option_and_then, codes, Bool, true, ◌==◌}
+use Rattle.std.specs.Str.{bytes_eq}
+use Rattle.tk_ids.specs.Names.{is_name}
+use Rattle.tk_ids.specs.declared.spec.TaskKind.{TaskKind}
+use Rattle.tk_core.specs.declared.task.call.TaskCall.{TaskCall}
+use Rattle.tk_core.specs.declared.task.call.TaskCall.TheVariants.{PollStart, PollEnd, Close}
+use Rattle.tk_app.specs.Pieces.{pieces_at}
+use Rattle.tk_app.specs.Words.{moment, kind, one_number, two_numbers}
+use Rattle.tk_app.specs.declared.command.Command.{Command}
+use Rattle.tk_app.specs.declared.command.Command.TheVariants as commands
+
+-- a command: a task that is created at a moment, a call of the owner of a task by its number, or a line of the stream
+pub data Said : Type 0 where
+  task : ℕ → TaskKind → List ℕ → Said
+  call : ℕ → TaskCall → Said
+  publish : ℕ → Said
+
+-- a moment, a kind and a name
+abbrev pub task_by : List (List ℕ) → Option Said
+task_by (m ∷ k ∷ n ∷ []) = option_and_then (λ at. option_and_then (λ of. if is_name n then Some (task at of n) else None) (kind k)) (moment m)
+task_by _ = None
+
+-- by the first word, and then by the rest
+abbrev pub said_by : List (List ℕ) → Option Said
+said_by [] = None
+said_by (w ∷ words) =
+    if bytes_eq w (codes "task") then task_by words else
+    (if bytes_eq w (codes "start") then option_map (λ p. call p.0 (PollStart p.1)) (two_numbers words) else
+    (if bytes_eq w (codes "end") then option_map (λ p. call p.0 (PollEnd p.1)) (two_numbers words) else
+    (if bytes_eq w (codes "close") then option_map (λ p. call p.0 (Close p.1)) (two_numbers words) else
+    (if bytes_eq w (codes "publish") then option_map publish (one_number words) else None))))
+
+-- what a line says: its words stand between single spaces
+abbrev pub said : List ℕ → Option Said
+said line = said_by (pieces_at 32 line)
+
+-- a command without where its name lies
+abbrev pub view : Command → Said
+view (commands.Task moment kind name) = task moment kind name.now
+view (commands.Owner number made) = call number made
+view (commands.Publish moment) = publish moment
+
+-- an empty line says nothing, and a line that begins with `#` is a comment
+abbrev pub is_skipped : List ℕ → Bool
+is_skipped [] = true
+is_skipped (b ∷ bs) = b == 35
+
+-- the lines of a script end at the bytes 0x0A
+abbrev pub lines_of : List ℕ → List (List ℕ)
+lines_of script = pieces_at 10 script

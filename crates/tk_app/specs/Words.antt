@@ -1,0 +1,28 @@
+-- The words of a command: numbers, and kinds of tasks.
+use Rattle.std.specs.Prelude.{ℕ, ◌^◌, List, [], ◌∷◌, length, ◌&&◌, nat_lt, nat_le, if◌then◌else◌, Option, Some, None, option_map, option_and_then, codes}
+use Rattle.std.specs.List.{list_all}
+use Rattle.std.specs.Char.{is_ascii_digit}
+use Rattle.std.specs.Str.{bytes_eq}
+use Rattle.std.specs.Str.Parse.{digits_value}
+use Rattle.tk_ids.specs.declared.spec.TaskKind.{TaskKind}
+use Rattle.tk_ids.specs.declared.spec.TaskKind.TheVariants.{Spawn, Blocking}
+
+-- a decimal of 1 to 20 digits, below 2^64
+abbrev pub moment : List ℕ → Option ℕ
+moment word =
+    if nat_lt 0 (length word) && (nat_le (length word) 20 && (list_all is_ascii_digit word && nat_lt (digits_value 10 word) (2 ^ 64)))
+    then Some (digits_value 10 word) else None
+
+-- the kind of task that a word names
+abbrev pub kind : List ℕ → Option TaskKind
+kind word = if bytes_eq word (codes "spawn") then Some Spawn else (if bytes_eq word (codes "blocking") then Some Blocking else None)
+
+-- one word, which is a number
+abbrev pub one_number : List (List ℕ) → Option ℕ
+one_number (n ∷ []) = moment n
+one_number _ = None
+
+-- two words, which are numbers
+abbrev pub two_numbers : List (List ℕ) → Option (ℕ × ℕ)
+two_numbers (m ∷ n ∷ []) = option_and_then (λ a. option_map (λ b. (a, b)) (moment n)) (moment m)
+two_numbers _ = None
