@@ -15,7 +15,7 @@
 //! | `v` | 1, the version of the format |
 //!
 //! `specs/Lines.antt` says what a line says, and `specs/Spelling.antt` how it is spelled.
-ghost use Rattle.std.specs.Prelude.{◌≡◌, true, false, IfOk, OnOk, if◌then◌else◌, IsTrue};
+ghost use Rattle.std.specs.Prelude.{◌≡◌, true, IfOk, OnOk, if◌then◌else◌, IsTrue};
 ghost use Rattle.serde_json.specs.View.{view, members_view};
 ghost use Rattle.tk_stream.specs.Lines as lines;
 ghost use Rattle.tk_stream.specs.Spelling as spec;
@@ -67,7 +67,9 @@ impl Line {
 
     /// The line numbered `seq` that leads from the old tables to the new ones: the infos of the tasks that are new, the
     /// rows of the tasks that are new or whose row differs, both in the order of the new tables, and the new tables'
-    /// totals and moment. With `snapshot` it is the line that tells of the new tables as a whole.
+    /// totals and moment. `seq` is 1 to 2^63.
+    ///
+    /// With `snapshot` it is the line that tells of the new tables as a whole. Then the old tables must be empty ones.
     ///
     /// Its one error is `Memory`.
     pub fn between(
