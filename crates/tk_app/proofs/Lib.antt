@@ -1,2 +1,7 @@
 pub mod Cuts
 pub mod Moments
+pub mod Published
+pub mod Runs
+pub mod Making
+pub mod Standing
+pub mod Streams

@@ -1,5 +1,5 @@
 -- What a line of a script says.
-use Rattle.std.specs.Prelude.{ℕ, List, [], ◌∷◌, if◌then◌else◌, Option, Some, None, option_map, option_and_then, codes, Bool, true, ◌==◌}
+use Rattle.std.specs.Prelude.{◌≡◌, ℕ, List, [], ◌∷◌, if◌then◌else◌, Option, Some, None, option_map, option_and_then, codes, Bool, true, ◌==◌}
 use Rattle.std.specs.Str.{bytes_eq}
 use Rattle.tk_ids.specs.Names.{is_name}
 use Rattle.tk_ids.specs.declared.spec.TaskKind.{TaskKind}
@@ -15,6 +15,12 @@ pub data Said : Type 0 where
   task : ℕ → TaskKind → List ℕ → Said
   call : ℕ → TaskCall → Said
   publish : ℕ → Said
+
+-- a task that a command makes has a name
+abbrev pub IsNamed : Said → Type 0
+IsNamed (task at of n) = is_name n ≡ true
+IsNamed (call n made) = Unit {0}
+IsNamed (publish at) = Unit {0}
 
 -- a moment, a kind and a name
 abbrev pub task_by : List (List ℕ) → Option Said

@@ -2,7 +2,15 @@
 pub mod Pieces
 pub mod Words
 pub mod Commands
--- Faults
-pub mod Faults
+-- What a script does, line by line
+pub mod Items
+pub mod Refusals
+pub mod Script
+-- What a script without a fault writes
+pub mod Stream
 -- Reading and sending
 pub mod Transfer
+pub mod Faults
+-- Inner: no public clause cites these
+pub mod Rows
+pub mod Runs

@@ -1,5 +1,5 @@
 //! What a line of a script says.
-ghost use Rattle.std.specs.Prelude.{◌≡◌, option_map};
+ghost use Rattle.std.specs.Prelude.{◌≡◌, IfSome, option_map};
 ghost use Rattle.tk_app.specs.Pieces.{pieces_left};
 ghost use Rattle.tk_app.specs.Commands as spec;
 
@@ -18,13 +18,19 @@ pub(crate) enum Command<'a> {
         name: &'a [u8],
     },
     /// A call of the owner of a task, which the script names by its number from 1.
-    Owner { task: u64, call: TaskCall },
+    Owner {
+        task: u64,
+        call: TaskCall,
+    },
     /// A line of the stream.
-    Publish { moment: u64 },
+    Publish {
+        moment: u64,
+    },
 }
 
 fn task_of(words: Pieces<'_>) -> Option<Command<'_>>
-    ensures { option_map spec.view result ≡ spec.task_by (pieces_left words.entry) }
+    ensures said { option_map spec.view result ≡ spec.task_by (pieces_left words.entry) }
+    ensures named { IfSome result (λ c. spec.IsNamed (spec.view c)) }
 {
     let mut words = words;
     let moment = words.next()?;
@@ -43,7 +49,8 @@ fn task_of(words: Pieces<'_>) -> Option<Command<'_>>
 
 /// The command of a line, if the line says one.
 pub(crate) fn command_of(line: &[u8]) -> Option<Command<'_>>
-    ensures { option_map spec.view result ≡ spec.said line.now }
+    ensures said { option_map spec.view result ≡ spec.said line.now }
+    ensures named { IfSome result (λ c. spec.IsNamed (spec.view c)) }
 {
     let mut words = Pieces::new(line, b' ');
     let word = words.next()?;

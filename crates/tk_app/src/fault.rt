@@ -23,7 +23,7 @@ pub enum AppFault {
 
 impl AppFault {
     /// The number of the fault, from 1 on in the order of the variants.
-    pub fn code(&self) -> u64
+    pub fn code(&self) -> u32
         ensures { result ≡ code_of self.now }
     {
         match self {

@@ -4,9 +4,13 @@
 mod command;
 mod fault;
 mod gate;
+mod interpreter;
 mod pieces;
+mod refusal;
+mod script;
 mod transfer;
 mod words;
 
 pub use fault::AppFault;
 pub use gate::{Gate, Open};
+pub use script::run_script;

@@ -22,6 +22,14 @@ number_of (Woken found) = None
 number_of (Shown row) = None
 number_of (Refused refusal) = None
 
+-- the refusal that a reply is, if it is one
+abbrev pub refusal_in : {Row : Type 0} → Reply Row → Option Refusal
+refusal_in (Refused refusal) = Some refusal
+refusal_in Done = None
+refusal_in (Number n) = None
+refusal_in (Woken found) = None
+refusal_in (Shown row) = None
+
 -- the refusal, where there is one, and otherwise the reply
 abbrev pub refused_or : {Row : Type 0} → Option Refusal → Reply Row → Reply Row
 refused_or (Some refusal) reply = Refused refusal

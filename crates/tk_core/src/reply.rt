@@ -38,7 +38,7 @@ impl Refusal {
     ghost use Rattle.tk_core.specs.Codes.{code_of};
 
     /// The number of the refusal, for callers that keep numbers: 1 to 8 in the order of the variants.
-    pub fn code(self) -> u64
+    pub fn code(self) -> u32
         ensures { result ≡ code_of self }
     {
         match self {
@@ -78,4 +78,19 @@ pub enum Reply<Row> {
     Shown(Row),
     /// The call was refused, and changed nothing.
     Refused(Refusal),
+}
+
+impl<Row: Copy> Reply<Row> {
+    ghost use Rattle.std.specs.Prelude.{◌≡◌};
+    ghost use Rattle.tk_core.specs.Fold.{refusal_in};
+
+    /// The refusal that the reply is, if it is one.
+    pub fn refusal(&self) -> Option<Refusal>
+        ensures { result ≡ refusal_in self.now }
+    {
+        match self {
+            Reply::Refused(refusal) => Some(*refusal),
+            Reply::Done | Reply::Number(_) | Reply::Woken(_) | Reply::Shown(_) => None,
+        }
+    }
 }

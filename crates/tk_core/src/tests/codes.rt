@@ -4,7 +4,7 @@ use crate::Refusal;
 use std::test::*;
 
 #[rattlefmt::skip]
-const REFUSALS: [(Refusal, u64, &str); 8] = [
+const REFUSALS: [(Refusal, u32, &str); 8] = [
     (Refusal::AlreadyPolling, 1, "a poll is open"),
     (Refusal::NotPolling, 2, "no poll is open"),
     (Refusal::Closed, 3, "the item is closed"),
