@@ -2,10 +2,11 @@
 use Rattle.std.proofs.Common.{◌≡◌, ◌≢◌, ℕ, zero, suc, ◌+◌, ◌-◌, ◌*◌, ◌^◌, ◌<◌, ◌≤◌, Bool, true, false, cond, List, [], ◌∷◌, ◌++◌, length, Option, Some, None, Result, Ok, Err, refl, sym, ap, ◌∙◌, subst, arith, length-append}
 use Rattle.std.specs.Prelude.{map, ◌==◌, nat_lt, slice_get, is_some, codes, option_map, option_and_then}
 use Rattle.std.proofs.Math.ListN.{set}
-use Rattle.std.proofs.lemmas.List.{map-append}
+use Rattle.std.proofs.lemmas.List.{map-append, length-map}
 use Rattle.std.proofs.lemmas.Bool.{ne_eqb, cases_Bool}
 use Rattle.tk_ids.specs.Ids.{id_of}
 use Rattle.tk_ids.specs.IdBlocks.{next_id, given_after, last_number}
+use Rattle.tk_ids.specs.declared.error.IdError.{IdError}
 use Rattle.tk_ids.specs.declared.error.IdError.TheVariants.{IdsSpent}
 use Rattle.tk_ids.specs.declared.info.TaskInfo.{TaskInfo}
 use Rattle.tk_ids.specs.declared.spec.TaskKind.{TaskKind}
@@ -119,6 +120,10 @@ with_row-map (x ∷ items) zero item next is same =
     λ j. record { info = info j; row = row_of next } ∷ map task_of items
 with_row-map (x ∷ items) (suc i) item next is same = ap (λ ts. task_of x ∷ ts) (with_row-map items i item next is same)
 
+-- there are as many tasks as items
+pub tasks_made : (items : List Item) (tables : TablesView) → tables ≡ tables_at items 0 → length tables.tasks ≡ length items
+tasks_made items tables are = ap (λ (t : TablesView). length t.tasks) are ∙ length-map items task_of
+
 -- ---- ids
 
 pub next_ok : (recorder given id : ℕ) → next_id recorder given ≡ Ok id → ((given == last_number) ≡ false) × (id ≡ id_of recorder (given + 1))
@@ -127,6 +132,14 @@ next_ok recorder given id e = go (given == last_number) refl e
     go : (b : Bool) → (given == last_number) ≡ b → cond b (Err IdsSpent) (Ok (id_of recorder (given + 1))) ≡ Ok id → ((given == last_number) ≡ false) × (id ≡ id_of recorder (given + 1))
     go true is h = absurd cc
     go false is h = (is, cc)
+
+-- where there is no next id, the numbers are spent
+pub next_spent : (recorder given : ℕ) (q : Result ℕ IdError) → q ≡ next_id recorder given → ((id : ℕ) → q ≡ Ok id → ⊥) → (given == last_number) ≡ true
+next_spent recorder given q is none = go (given == last_number) refl is
+  where
+    go : (b : Bool) → (given == last_number) ≡ b → q ≡ cond b (Err IdsSpent) (Ok (id_of recorder (given + 1))) → (given == last_number) ≡ true
+    go true at e = at
+    go false at e = absurd (none (id_of recorder (given + 1)) e)
 
 -- what is told of a task is known by its parts
 pub info_is : (info : TaskInfo) (n line : ℕ) (kind : TaskKind) (name : List ℕ) → info.id ≡ id_of 1 n → info.kind ≡ kind → info.name ≡ name → info.location ≡ (task_info n line kind name).location → info ≡ task_info n line kind name

@@ -1,5 +1,6 @@
 //! The state of a script's run, and what each command does to it.
-ghost use Rattle.std.specs.Prelude.{◌≡◌, true, IfOk};
+ghost use Rattle.std.specs.Prelude.{◌≡◌, ◌≤◌, true, IfOk};
+ghost use Rattle.tk_ids.specs.IdBlocks.{last_number, next_id};
 ghost use Rattle.tk_stream.specs.Lines as lines;
 ghost use Rattle.tk_stream.specs.Spelling.{sent_text};
 ghost use Rattle.tk_app.specs.Rows as rows;
@@ -26,11 +27,19 @@ const NONE_DROPPED: Dropped = Dropped {
 /// What the commands so far have made, and what the last line told of.
 #[derive(Drop)]
 pub(crate) struct Interpreter {
-    ids: IdBlock,
     tables: Tables,
     // The tables of the last line.
     shown: Tables,
     lines: u64,
+}
+
+// The id of the task that recorder 1 makes after so many.
+fn id_after(made: u64) -> Result<TaskId, IdError>
+    requires { made ≤ last_number }
+    ensures { result ≡ next_id 1 made }
+{
+    let mut ids = IdBlock::resume(1, made, 0, 0)?;
+    ids.next_task()
 }
 
 // What is told of a task on a line of the script.
@@ -110,13 +119,9 @@ impl Interpreter {
     pub(crate) fn new(alloc: Global) -> Result<Interpreter, AllocError>
         ensures { IfOk result (λ i. StandsFor i start) }
     {
-        let Ok(ids) = IdBlock::new(1) else {
-            unreachable!();
-        };
         let tables = Tables::new(alloc)?;
         let shown = Tables::new(alloc)?;
         Ok(Interpreter {
-            ids,
             tables,
             shown,
             lines: 0,
@@ -134,9 +139,9 @@ impl Interpreter {
     ) -> Result<(), Stop>
         requires standing { IsStanding self.old }
         requires named { is_name name.now ≡ true }
-        ensures { (s : State) → StandsFor self.old s → Did (does line s (said.task created kind name.now)) self.new result [] }
+        ensures { (s : State) → StandsFor self.old s → Did s (does line s (said.task created kind name.now)) self.new result [] }
     {
-        let Ok(id) = self.ids.next_task() else {
+        let Ok(id) = id_after(self.tables.task_count() as u64) else {
             return Err(Stop::OffersSpent);
         };
         let Ok(info) = info_of(alloc, id, line, kind, name) else {
@@ -150,7 +155,7 @@ impl Interpreter {
 
     // A call of the owner of a task.
     fn call(&mut self, number: u64, call: TaskCall) -> Result<(), Stop>
-        ensures { (line : ℕ) (s : State) → StandsFor self.old s → Did (does line s (said.call number call)) self.new result [] }
+        ensures { (line : ℕ) (s : State) → StandsFor self.old s → Did s (does line s (said.call number call)) self.new result [] }
     {
         let Some(row) = live_row(&self.tables, number) else {
             return Err(Stop::NoSuchItem);

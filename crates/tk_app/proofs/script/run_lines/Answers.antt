@@ -30,7 +30,7 @@ returns-in-Err-clause-run g c =
         did = did.2;
         stop = c.in-Err.stop;
         front = stop.0;
-        stops = stop.1;
+        stops = stop.1.0;
         named = c.name.ensures;
         all = refl;
       },

@@ -18,7 +18,7 @@ returns-in-Some-refusal c line s stands =
     let step = steps_to task_kind c.in-Some.row c.args.call c.step-reply.result c.step-reply.ensures (opening_row there.0.created) there.0.calls there.2 in
     let refused : refusal_in (reply_after task_kind (opening_row there.0.created) there.0.calls c.args.call) ≡ Some c.in-Some-refusal.refusal =
     sym (ap refusal_in step.1) ∙ (sym c.refusal.ensures ∙ c.in-Some-refusal.is) in
-    (rw (there.1, refused) refl, refl)
+    ((rw (there.1, refused) refl, refl), stands)
 
 pub set_task-requires : goal.set_task-requires
 set_task-requires c = live_within c.args.number c.args.self.now.tables.tasks c.in-Some.row (sym c.live_row.ensures ∙ c.in-Some.is)
@@ -41,10 +41,10 @@ returns c line s stands =
       t,
       owner_keeps s c.args.number c.args.call item there.1 accepted,
       record {
-        ids = rw same stands.ids;
         tables = set_row-tables s.items (c.args.number - 1) item next c.args.self.now.tables c.set_task.new.self c.step-reply.result.0 stands.tables c.set_task.ensures step.0 made.0 refl;
         shown = stands.shown;
         lines = stands.lines;
         numbered = AreNumbered-set 1 (c.args.number - 1) s.items item next stands.numbered made.0 refl;
+        few = rw same stands.few;
       },
     )

@@ -18,7 +18,7 @@ returns-in-Err g c line s stands =
     let was : c.args.self.now.shown.now ≡ s.shown.now = ap (λ (t : TablesView). t.now) stands.shown in
     let late : s.shown.now ≤ now = omega (arith, was) in
     let left : s.lines < 2 ^ 63 = omega (arith, stands.lines) in
-    (c.in-Err.ensures.0, ((published s now, wanted), publishes line s now late left, cut), c.in-Err.ensures.2)
+    (c.in-Err.ensures.0, (((published s now, wanted), publishes line s now late left, cut), stands), c.in-Err.ensures.2)
 
 pub returns : goal.returns
 returns g c line s stands =
@@ -34,11 +34,11 @@ returns g c line s stands =
         published s now,
         publishes line s now late left,
         record {
-          ids = stands.ids;
           tables = stands.tables;
           shown = c.in-Ok.ensures.0 ∙ next_by s c.args.self.now.tables now stands.tables;
           lines = ap (λ n. n + 1) stands.lines;
           numbered = stands.numbered;
+          few = stands.few;
         },
       ),
       sent,
