@@ -1,4 +1,4 @@
--- Up to six attribute values, kept in an array.
+-- Up to six attribute values, kept in an array. Inner: no crate above cites it.
 use Rattle.std.specs.Prelude.{◌≡◌, ℕ, ◌-◌, ◌≤◌, List, ◌++◌, length, take, drop, replicate}
 use Rattle.std.proofs.Common.{arith}
 use Rattle.std.proofs.lemmas.List.{length-take, take-append-drop}
@@ -14,9 +14,11 @@ view_of a = take a.count a.values
 abbrev pub padding_of : ℕ → List AttrValue
 padding_of n = replicate n (U64 0)
 
+-- at most six of six places are used, and the rest are zeros
 abbrev pub IsPadded : Inside → Type 0
 IsPadded a = (a.count ≤ 6) × (length a.values ≡ 6) × (drop a.count a.values ≡ padding_of (6 - a.count))
 
+-- the places that hold these values
 abbrev pub fields_of : List AttrValue → Inside
 fields_of vs = record { values = vs ++ padding_of (6 - length vs); count = length vs }
 

@@ -1,5 +1,5 @@
 -- Attributes: what the changes of a value make of it, and which it refuses.
-use Rattle.std.specs.Prelude.{ℕ, ◌+◌, ◌-◌, ◌^◌, Bool, nat_lt, nat_le, if◌then◌else◌, List, [], ◌∷◌, sum_by, Option, Some, None, unwrap_or, is_some, slice_get}
+use Rattle.std.specs.Prelude.{ℕ, ◌+◌, ◌-◌, ◌^◌, Bool, nat_lt, nat_le, if◌then◌else◌, List, [], ◌∷◌, sum_by, Option, Some, None, unwrap_or, is_some}
 use Rattle.std.specs.List.{after_last, filter_map}
 use Rattle.tk_ids.specs.declared.attr.AttrValue.{AttrValue}
 use Rattle.tk_ids.specs.declared.attr.AttrValue.TheVariants as values

@@ -1,4 +1,4 @@
--- The sixteen words of a task's row.
+-- The sixteen words of a task's row. Inner: no crate above cites it.
 use Rattle.std.specs.Prelude.{ℕ, Bool, List, [], ◌∷◌, is_some}
 use Rattle.tk_core.specs.Words.{number_of_bits, word_of}
 use Rattle.tk_core.specs.declared.task.row.TaskRow.{TaskRow}
@@ -7,6 +7,7 @@ use Rattle.tk_core.specs.declared.task.row.TaskRow.{TaskRow}
 abbrev pub flags_of : TaskRow → List Bool
 flags_of row = is_some row.dropped ∷ is_some row.first_poll ∷ is_some row.last_started ∷ is_some row.last_ended ∷ is_some row.last_wake ∷ row.polling ∷ row.scheduled ∷ []
 
+-- the words, in order; an absent moment has the word 0 and its flag bit 0
 unfoldable pub words_of : TaskRow → List ℕ
 words_of row =
     number_of_bits (flags_of row) ∷ row.created ∷ word_of row.dropped ∷ row.polls

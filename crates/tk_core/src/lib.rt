@@ -1,4 +1,16 @@
-//! What a task, a resource or an async operation is: a row, and calls that step it.
+//! What a task, a resource or an async operation is: a row, and calls that step it one at a time.
+//!
+//! Nothing here takes memory, waits or reads a clock. The row of an item is the fold of its history, as
+//! tokio-console's statistics define it; `specs/Lib.antt` gives the definitions in reading order.
+//!
+//! - [`TaskRow`], [`TaskCall`]: a task's statistics, and the calls on it.
+//! - [`ResourceRow`], [`ResourceCall`]: a resource's.
+//! - [`OpRow`], [`OpCall`]: an async operation's.
+//! - [`AttrValues`], [`AttrOp`]: the values of an item's attributes, and their changes.
+//! - [`Reply`], [`Refusal`], [`WakeReply`]: what a call is answered.
+//! - [`Entry`]: an entry of a history: caller, call and reply.
+//! - [`Sequential`]: any object of sixteen words that is stepped by calls.
+//! - [`MOST_HANDLES`]: how many handles an item draws at most.
 #![tactic(auto)]
 
 mod attr_values;

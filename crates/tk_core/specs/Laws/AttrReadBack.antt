@@ -1,6 +1,6 @@
 -- Attribute values are read back from their words.
-use Rattle.std.proofs.Common.{◌≡◌, ℕ, ◌+◌, ◌-◌, ◌*◌, ◌/◌, ◌%◌, ◌^◌, ◌≤◌, Bool, true, false, cond, List, [], ◌∷◌, ◌++◌, length, take, Option, Some, None, refl, arith}
-use Rattle.std.specs.Prelude.{◌==◌, map, replicate, slice_get}
+use Rattle.std.proofs.Common.{◌≡◌, ℕ, ◌+◌, ◌*◌, ◌/◌, ◌%◌, ◌≤◌, Bool, true, false, cond, List, [], ◌∷◌, length, take, Option, Some, None, refl, arith}
+use Rattle.std.specs.Prelude.{◌==◌, map, slice_get}
 use Rattle.tk_core.specs.Words.{number_of_bits}
 use Rattle.tk_core.specs.AttrWords.{attr_word, is_bool, attr_words}
 use Rattle.tk_core.specs.Laws.WordsReadBack.{low_bit, high_bits}

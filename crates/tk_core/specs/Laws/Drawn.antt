@@ -1,11 +1,11 @@
 -- Numbers that calls draw: no number is answered twice. For every kind of object.
-use Rattle.std.proofs.Common.{◌≡◌, ℕ, ◌+◌, ◌^◌, ◌≤◌, ◌≢◌, Bool, true, false, cond, List, [], ◌∷◌, ◌++◌, Option, Some, ap, sym, ◌∙◌, arith}
+use Rattle.std.proofs.Common.{◌≡◌, ℕ, ◌+◌, ◌^◌, ◌≤◌, ◌≢◌, Bool, true, false, cond, List, [], ◌∷◌, ◌++◌, Some, ap, sym, ◌∙◌, arith}
 use Rattle.std.specs.Prelude.{fold}
 use Rattle.std.proofs.lemmas.List.Sums.{fold-append}
 use Rattle.tk_core.specs.declared.history.Entry.{Entry}
 use Rattle.tk_core.specs.declared.reply.Reply.{Reply}
 use Rattle.tk_core.specs.Lists.{capped}
-use Rattle.tk_core.specs.History.{IsAnswered, with_call, history_of, accepted}
+use Rattle.tk_core.specs.History.{with_call, history_of, accepted}
 use Rattle.tk_core.specs.Fold.{Kind, is_accepted, number_of, fold_of, answer_at, answer, HasItsAnswers, reply_after}
 use Rattle.tk_core.specs.Laws.Answered.{IsAnswered-push, IsAnswered-history_of}
 use Rattle.tk_core.specs.Laws.Folded.{after, Grows, fold_of_push, always_holds}

@@ -1,13 +1,11 @@
 -- The row that a history leaves, after one more entry. For every kind of object.
-use Rattle.std.proofs.Common.{◌≡◌, ℕ, ◌^◌, ◌≤◌, true, false, Bool, cond, List, [], ◌∷◌, ◌++◌, refl, sym, ap, ◌∙◌, subst, append_assoc}
-use Rattle.std.specs.List.{AllByRecursion}
+use Rattle.std.proofs.Common.{◌≡◌, ℕ, true, false, Bool, cond, List, [], ◌∷◌, ◌++◌, refl, sym, ap, subst}
 use Rattle.std.proofs.lemmas.List.{append-nil}
 use Rattle.tk_core.specs.declared.history.Entry.{Entry}
 use Rattle.tk_core.specs.declared.reply.Reply.{Reply}
-use Rattle.tk_core.specs.Lists.{each_after}
-use Rattle.tk_core.specs.History.{calls_of, accepted, IsAnswered, with_call, history_of}
+use Rattle.tk_core.specs.History.{calls_of, accepted, with_call, history_of}
 use Rattle.tk_core.specs.Fold.{Kind, is_accepted, fold_of, answer_at, answer, HasItsAnswers, Follows, row_after, reply_after}
-use Rattle.tk_core.specs.Laws.Answered.{accepted_push, calls_of_push, kept, IsAnswered-push, IsAnswered-history_of, history_of_push}
+use Rattle.tk_core.specs.Laws.Answered.{accepted_push, calls_of_push, kept, IsAnswered-history_of, history_of_push}
 
 module _ {Row C : Type 0} (kind : Kind Row C) (changed : Row → C → Row) where
   -- a row after a call

@@ -1,12 +1,11 @@
 -- A legal history has its answers, and its fold is the row after its calls: the meaning of an object and the definitions of its kind agree.
 use Rattle.std.proofs.Common.{◌≡◌, List, [], ◌∷◌, ◌++◌, refl, sym, ap, ◌∙◌, subst, append_assoc}
 use Rattle.std.specs.List.{AllByRecursion}
-use Rattle.std.proofs.lemmas.List.{append-nil}
 use Rattle.tk_core.specs.declared.history.Entry.{Entry}
 use Rattle.tk_core.specs.declared.reply.Reply.{Reply}
 use Rattle.tk_core.specs.Lists.{each_after}
-use Rattle.tk_core.specs.History.{calls_of, IsAnswered}
-use Rattle.tk_core.specs.Fold.{Kind, fold_of, answer_at, answer, HasItsAnswers, row_after, reply_after}
+use Rattle.tk_core.specs.History.{calls_of}
+use Rattle.tk_core.specs.Fold.{Kind, answer_at, answer, HasItsAnswers, row_after, reply_after}
 use Rattle.tk_core.specs.Laws.Answered.{IsAnswered-push}
 use Rattle.tk_core.specs.Laws.Folded.{fold_of-calls}
 

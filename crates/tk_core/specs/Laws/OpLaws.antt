@@ -1,5 +1,5 @@
 -- The laws of an async operation's row as an object that is stepped by calls.
-use Rattle.std.proofs.Common.{◌≡◌, List, ℕ, ◌+◌, ◌^◌, ◌≤◌, length, Some, [], refl, sym, ap, ◌∙◌, arith}
+use Rattle.std.proofs.Common.{◌≡◌, List, ℕ, ◌+◌, ◌^◌, ◌≤◌, length, Some, refl, sym, ap, ◌∙◌, arith}
 use Rattle.std.specs.Prelude.{◌==◌}
 use Rattle.tk_core.specs.Lists.{capped, count_of, first_of, last_of, sum_of}
 use Rattle.tk_core.specs.declared.history.Entry.{Entry}
@@ -10,7 +10,6 @@ use Rattle.tk_core.specs.Legal.{IsLegal}
 use Rattle.tk_core.specs.Meaning.{AreToldApart, BeginsAtOpening, NumbersAreNew}
 use Rattle.tk_core.specs.Op.{change_of, row_of, op_kind}
 use Rattle.tk_core.specs.OpMeaning.{op_meaning}
-use Rattle.tk_core.specs.OpWords.{words_of}
 use Rattle.tk_core.specs.declared.op.row.OpRow.{OpRow}
 use Rattle.tk_core.specs.declared.op.call.OpCall.{OpCall}
 use Rattle.tk_core.specs.declared.op.call.OpCall.TheVariants.{PollStart, PollEnd, Close, SetTask, Attr, Enlist, Read}

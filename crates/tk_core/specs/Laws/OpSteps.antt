@@ -1,11 +1,10 @@
 -- What one more entry does to the row that a history of an async operation leaves.
-use Rattle.std.proofs.Common.{subst, ◌≡◌, ℕ, ◌+◌, ◌-◌, ◌^◌, ◌≤◌, Bool, true, false, cond, List, [], ◌∷◌, ◌++◌, Option, Some, None, refl, lit≤}
+use Rattle.std.proofs.Common.{subst, ◌≡◌, ◌+◌, ◌-◌, ◌^◌, ◌≤◌, true, false, List, [], Some, None, refl, lit≤}
 use Rattle.std.specs.Prelude.{is_some, unwrap_or, not, ◌==◌, ◌&&◌, slice_get}
 use Rattle.std.specs.Option.{option_or}
 use Rattle.tk_core.specs.Lists.{capped, count_of}
-use Rattle.tk_core.specs.Fold.{is_accepted, fold_of, refused_or, answer_at, Follows}
+use Rattle.tk_core.specs.Fold.{is_accepted, fold_of, answer_at, Follows}
 use Rattle.tk_core.specs.Op.{change_of, row_of, wants_open, wants_idle, wants_polling, draws_handle, refused_attr, refusal_of, reply_of, op_kind}
-use Rattle.tk_core.specs.declared.reply.Refusal.{Refusal}
 use Rattle.tk_core.specs.declared.reply.Refusal.TheVariants.{Closed, AlreadyPolling, NotPolling, HandlesSpent}
 use Rattle.tk_core.specs.declared.reply.Reply.{Reply}
 use Rattle.tk_core.specs.declared.reply.Reply.TheVariants.{Number}

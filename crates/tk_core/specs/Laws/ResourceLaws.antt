@@ -1,5 +1,5 @@
 -- The laws of a resource's row as an object that is stepped by calls.
-use Rattle.std.proofs.Common.{◌≡◌, List, ℕ, ◌+◌, ◌^◌, ◌≤◌, length, Some, [], refl, sym, ap, ◌∙◌, arith}
+use Rattle.std.proofs.Common.{◌≡◌, List, ℕ, ◌+◌, ◌^◌, ◌≤◌, length, Some, refl, sym, ap, ◌∙◌, arith}
 use Rattle.std.specs.Prelude.{◌==◌}
 use Rattle.tk_core.specs.Lists.{capped, count_of, last_of}
 use Rattle.tk_core.specs.declared.history.Entry.{Entry}
@@ -10,7 +10,6 @@ use Rattle.tk_core.specs.Legal.{IsLegal}
 use Rattle.tk_core.specs.Meaning.{AreToldApart, BeginsAtOpening, NumbersAreNew}
 use Rattle.tk_core.specs.Resource.{change_of, row_of, resource_kind}
 use Rattle.tk_core.specs.ResourceMeaning.{resource_meaning}
-use Rattle.tk_core.specs.ResourceWords.{words_of}
 use Rattle.tk_core.specs.declared.resource.row.ResourceRow.{ResourceRow}
 use Rattle.tk_core.specs.declared.resource.call.ResourceCall.{ResourceCall}
 use Rattle.tk_core.specs.declared.resource.call.ResourceCall.TheVariants.{Close, Attr, Enlist, Read}

@@ -1,10 +1,9 @@
 -- What one more entry does to the row that a history of a resource leaves.
-use Rattle.std.proofs.Common.{subst, ◌≡◌, ℕ, ◌+◌, ◌^◌, ◌≤◌, Bool, true, false, cond, List, [], ◌∷◌, ◌++◌, Option, Some, None, refl, lit≤}
+use Rattle.std.proofs.Common.{subst, ◌≡◌, ◌+◌, ◌^◌, ◌≤◌, true, List, [], Some, None, refl, lit≤}
 use Rattle.std.specs.Prelude.{is_some, ◌==◌, ◌&&◌, slice_get}
 use Rattle.tk_core.specs.Lists.{capped, count_of}
-use Rattle.tk_core.specs.Fold.{is_accepted, fold_of, refused_or, answer_at, Follows}
+use Rattle.tk_core.specs.Fold.{is_accepted, fold_of, answer_at, Follows}
 use Rattle.tk_core.specs.Resource.{change_of, row_of, wants_open, draws_handle, refused_attr, refusal_of, reply_of, resource_kind}
-use Rattle.tk_core.specs.declared.reply.Refusal.{Refusal}
 use Rattle.tk_core.specs.declared.reply.Refusal.TheVariants.{Closed, HandlesSpent}
 use Rattle.tk_core.specs.declared.reply.Reply.{Reply}
 use Rattle.tk_core.specs.declared.reply.Reply.TheVariants.{Number}

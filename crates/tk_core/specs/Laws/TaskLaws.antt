@@ -1,5 +1,5 @@
 -- The laws of a task's row as an object that is stepped by calls.
-use Rattle.std.proofs.Common.{◌≡◌, List, ℕ, ◌+◌, ◌^◌, ◌≤◌, length, Some, [], refl, sym, ap, ◌∙◌, arith}
+use Rattle.std.proofs.Common.{◌≡◌, List, ℕ, ◌+◌, ◌^◌, ◌≤◌, Some, refl, sym, ap, ◌∙◌, arith}
 use Rattle.std.specs.Prelude.{◌==◌}
 use Rattle.tk_core.specs.Lists.{any_of, any_since, capped, count_of, first_of, last_of, greatest_of, sum_of}
 use Rattle.tk_core.specs.declared.history.Entry.{Entry}
@@ -10,7 +10,6 @@ use Rattle.tk_core.specs.Legal.{IsLegal}
 use Rattle.tk_core.specs.Meaning.{AreToldApart, BeginsAtOpening, NumbersAreNew}
 use Rattle.tk_core.specs.Task.{row_of, task_kind}
 use Rattle.tk_core.specs.TaskMeaning.{task_meaning}
-use Rattle.tk_core.specs.TaskWords.{words_of}
 use Rattle.tk_core.specs.declared.task.row.TaskRow.{TaskRow}
 use Rattle.tk_core.specs.declared.task.call.TaskCall.{TaskCall}
 use Rattle.tk_core.specs.declared.task.call.TaskCall.TheVariants.{PollStart, PollEnd, Close, CloneWaker, WakeVal, WakeRef, Release, Enlist, Read}

@@ -1,12 +1,10 @@
 -- What one more entry does to the row that a history of a task leaves.
-use Rattle.std.proofs.Common.{◌≡◌, ℕ, ◌+◌, ◌-◌, ◌^◌, ◌≤◌, max, true, false, cond, List, [], ◌∷◌, ◌++◌, Some, None, subst, inl, inr, lit≤, arith}
-use Rattle.std.specs.Prelude.{unwrap_or, is_some, not, ◌==◌}
+use Rattle.std.proofs.Common.{◌≡◌, ℕ, ◌+◌, ◌-◌, ◌^◌, ◌≤◌, max, true, false, cond, List, [], ◌∷◌, ◌++◌, Some, subst, lit≤}
+use Rattle.std.specs.Prelude.{unwrap_or, is_some, not}
 use Rattle.std.specs.Option.{option_or}
-use Rattle.std.proofs.lemmas.Bool.{cases_Bool, eqb-false}
 use Rattle.tk_core.specs.Lists.{capped, count_of}
-use Rattle.tk_core.specs.Fold.{is_accepted, fold_of, refused_or, answer_at, Follows}
+use Rattle.tk_core.specs.Fold.{is_accepted, fold_of, answer_at, Follows}
 use Rattle.tk_core.specs.Task.{row_of, task_kind}
-use Rattle.tk_core.specs.declared.reply.Refusal.TheVariants.{HandlesSpent}
 use Rattle.tk_core.specs.declared.reply.Reply.{Reply}
 use Rattle.tk_core.specs.declared.reply.Reply.TheVariants.{Number}
 use Rattle.tk_core.specs.declared.task.row.TaskRow.{TaskRow}
