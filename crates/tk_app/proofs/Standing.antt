@@ -1,11 +1,11 @@
 -- Items, the tables that hold them, and the interpreter that stands for them.
-use Rattle.std.proofs.Common.{◌≡◌, ◌≢◌, ℕ, zero, suc, ◌+◌, ◌-◌, ◌*◌, ◌^◌, ◌<◌, ◌≤◌, Bool, true, false, cond, List, [], ◌∷◌, ◌++◌, length, Option, Some, None, Result, Ok, Err, refl, sym, ap, ◌∙◌, subst, arith, length-append}
-use Rattle.std.specs.Prelude.{map, ◌==◌, nat_lt, slice_get, is_some, codes, option_map, option_and_then}
+use Rattle.std.proofs.Common.{◌≡◌, ℕ, zero, suc, ◌+◌, ◌-◌, ◌<◌, ◌≤◌, Bool, true, false, cond, List, [], ◌∷◌, ◌++◌, length, Option, Some, None, Result, Ok, Err, refl, sym, ap, ◌∙◌, arith}
+use Rattle.std.specs.Prelude.{map, ◌==◌, nat_lt, slice_get, is_some, option_map, option_and_then}
 use Rattle.std.proofs.Math.ListN.{set}
 use Rattle.std.proofs.lemmas.List.{map-append, length-map}
-use Rattle.std.proofs.lemmas.Bool.{ne_eqb, cases_Bool}
+use Rattle.std.proofs.lemmas.Bool.{ne_eqb}
 use Rattle.tk_ids.specs.Ids.{id_of}
-use Rattle.tk_ids.specs.IdBlocks.{next_id, given_after, last_number}
+use Rattle.tk_ids.specs.IdBlocks.{next_id, last_number}
 use Rattle.tk_ids.specs.declared.error.IdError.{IdError}
 use Rattle.tk_ids.specs.declared.error.IdError.TheVariants.{IdsSpent}
 use Rattle.tk_ids.specs.declared.info.TaskInfo.{TaskInfo}
@@ -13,7 +13,7 @@ use Rattle.tk_ids.specs.declared.spec.TaskKind.{TaskKind}
 use Rattle.tk_core.specs.declared.task.row.TaskRow.{TaskRow}
 use Rattle.tk_core.specs.declared.task.call.TaskCall.{TaskCall}
 use Rattle.tk_stream.specs.declared.task.Task.{Task}
-use Rattle.tk_stream.specs.Tables.{TablesView, task_id, item_with, task_with, with_task, with_row}
+use Rattle.tk_stream.specs.Tables.{TablesView, task_with, with_task, with_row}
 use Rattle.tk_core.specs.Task.{task_kind, opening_row}
 use Rattle.tk_core.specs.Fold.{refusal_in, reply_after}
 use Rattle.tk_app.specs.Script.{State, owner_does}

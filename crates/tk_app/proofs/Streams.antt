@@ -1,10 +1,10 @@
 -- What the lines do, one after the other, is the stream of what the script publishes.
-use Rattle.std.proofs.Common.{◌≡◌, ◌≢◌, ℕ, suc, ◌+◌, ◌-◌, ◌^◌, ◌<◌, ◌≤◌, Bool, true, false, cond, List, [], ◌∷◌, ◌++◌, length, Option, Some, None, Ok, Err, refl, ap, sym, ◌∙◌, subst, append_assoc, length-append, arith}
+use Rattle.std.proofs.Common.{◌≡◌, ◌≢◌, ℕ, ◌+◌, ◌-◌, ◌^◌, ◌<◌, Bool, true, false, cond, List, [], ◌∷◌, ◌++◌, length, Option, Some, None, Ok, Err, refl, ap, sym, ◌∙◌, subst, append_assoc, length-append, arith}
 use Rattle.std.specs.Prelude.{fold, ◌==◌, nat_lt, nat_le, option_map}
 use Rattle.std.specs.List.{filter_map, enumerate_from, cons_option}
 use Rattle.std.specs.Option.{option_map_or}
 use Rattle.std.proofs.Math.ListN.{set}
-use Rattle.std.proofs.lemmas.Bool.{ne_eqb, lt-ltb}
+use Rattle.std.proofs.lemmas.Bool.{ne_eqb}
 use Rattle.std.proofs.lemmas.List.{append-nil}
 use Rattle.std.proofs.lemmas.List.Elements.{filter_map-append}
 use Rattle.tk_ids.specs.declared.spec.TaskKind.{TaskKind}
@@ -19,10 +19,10 @@ use Rattle.tk_stream.specs.Tables.{TablesView, empty_tables}
 use Rattle.tk_stream.specs.Lines.{line_between}
 use Rattle.tk_stream.specs.Spelling.{sent_text}
 use Rattle.tk_app.specs.declared.refusal.Stop.{Stop}
-use Rattle.tk_app.specs.declared.refusal.Stop.TheVariants.{BadCommand, NoSuchItem, Call, OffersSpent, Clock, NumbersSpent}
+use Rattle.tk_app.specs.declared.refusal.Stop.TheVariants.{BadCommand, Call, OffersSpent, Clock, NumbersSpent}
 use Rattle.tk_app.specs.Commands.{Said, task, call, publish, said, is_skipped}
 use Rattle.tk_app.specs.Items.{Item, new_item, live_item, called, tables_at}
-use Rattle.tk_app.specs.Script.{State, Doing, start, owner_does, published, does, line_does, with_text, then_line, lines_do}
+use Rattle.tk_app.specs.Script.{State, start, owner_does, published, does, line_does, with_text, then_line, lines_do}
 use Rattle.tk_app.specs.Stream.{Placed, command_in, commands_in, call_on, items_of, tables_by, publications, stream_from}
 use Rattle.tk_app.proofs.Runs.{enumerate_push}
 use Rattle.tk_app.proofs.Standing.{live_made, live_some, length-set}

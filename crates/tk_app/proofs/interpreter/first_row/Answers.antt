@@ -1,5 +1,4 @@
 use Rattle.std.proofs.Common.{◌≡◌, [], refl, sym, ◌∙◌}
-use Rattle.tk_core.specs.declared.task.row.TaskRow.{TaskRow}
 use Rattle.tk_core.specs.declared.task.call.TaskCall.TheVariants.{Enlist}
 use Rattle.tk_core.specs.Fold.{row_after}
 use Rattle.tk_core.specs.Task.{task_kind, opening_row}

@@ -1,11 +1,11 @@
-use Rattle.std.proofs.Common.{◌≡◌, ℕ, ◌-◌, [], ◌∷◌, ◌++◌, length, Some, None, Ok, Err, refl, sym, ap, ◌∙◌, subst, arith}
+use Rattle.std.proofs.Common.{◌≡◌, ◌-◌, [], ◌∷◌, ◌++◌, length, Some, None, refl, sym, ap, ◌∙◌}
 use Rattle.std.specs.Prelude.{map, option_map}
 use Rattle.tk_core.specs.Task.{task_kind, opening_row}
-use Rattle.tk_core.specs.Fold.{refusal_in, reply_after, row_after}
+use Rattle.tk_core.specs.Fold.{refusal_in, reply_after}
 use Rattle.tk_core.specs.Laws.Folded.{steps_to}
 use Rattle.tk_app.specs.Items.{Item, row_of, task_of, live_item, called}
 use Rattle.tk_app.specs.Rows.{live_row}
-use Rattle.tk_app.specs.Script.{State, owner_does}
+use Rattle.tk_app.specs.Script.{State}
 use Rattle.tk_app.proofs.Standing.{live_row-map, live_there, live_made, live_within, length-set, AreNumbered-set, owner_keeps, set_row-tables}
 use Rattle.tk_app.proofs.interpreter.Interpreter.call.Goals as goal
 
