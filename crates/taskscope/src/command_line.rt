@@ -1,0 +1,66 @@
+//! What the words of a command line ask for.
+
+use clap::error::ErrorKind;
+use clap::{Command, Error};
+use std::alloc::Global;
+
+/// What the words of a command line ask for.
+#[derive(Clone, Copy, Debug, PartialEq, Eq)]
+pub(crate) enum Request {
+    /// To run a script.
+    Run,
+}
+
+const ABOUT: &str = "Shows what the tasks of an async program did, as tokio-console would";
+
+const LONG_ABOUT: &str = "Shows what the tasks of an async program did, as tokio-console would.
+
+A script says which tasks there were and when each was polled. The program works out the statistics
+of each task and writes them as a stream, one JSON object a line. docs/FORMATS.md explains both.";
+
+const AFTER_HELP: &str =
+    "The status is 0 if all was done, 1 after a fault (one line on standard error), and 2 after words that
+ask for nothing that the program does.";
+
+const RUN_ABOUT: &str =
+    "Runs a script from standard input and writes its stream to standard output";
+
+const RUN_LONG_ABOUT: &str =
+    "Runs a script from standard input and writes its stream to standard output.
+
+A script has one command a line, its words between single spaces:
+  task MOMENT KIND NAME  makes a task, of kind spawn or blocking; the first task is number 1
+  start TASK MOMENT      starts a poll of the task
+  end TASK MOMENT        ends its poll
+  close TASK MOMENT      closes the task
+  publish MOMENT         writes a line with what is new since the line before
+A moment is a number of nanoseconds. Empty lines and lines that begin with # are skipped.
+
+A script has at most 1,048,576 bytes. It stops at its first fault, and the lines before it stay.";
+
+fn command_line<'a>(alloc: Global) -> Result<Command<'a>, Error> {
+    let run = Command::new(alloc, "run")
+        .about(RUN_ABOUT)
+        .long_about(RUN_LONG_ABOUT);
+    Ok(
+        Command::new(alloc, "taskscope")
+            // Else the usage calls the program by the path that it was started by.
+            .bin_name("taskscope")?
+            .about(ABOUT)
+            .long_about(LONG_ABOUT)
+            .after_help(AFTER_HELP)
+            .subcommand_required(true)
+            .subcommand(run)?,
+    )
+}
+
+/// What the words ask for, the first of which is the program's name. Else a mistake in them, or the help that they ask for.
+pub(crate) fn request_of(alloc: Global, words: &[String]) -> Result<Request, Error> {
+    let mut command = command_line(alloc)?;
+    let matches = command.try_get_matches_from_mut(words)?;
+    match matches.subcommand_name() {
+        Some("run") => Ok(Request::Run),
+        // A command is required, and there is no other.
+        _ => Err(command.error(ErrorKind::MissingSubcommand, "a command is required")?),
+    }
+}

@@ -1,0 +1,69 @@
+//! A run of the program, from its words to its status.
+
+use crate::command_line::{Request, request_of};
+use clap::Error;
+use clap::error::ErrorKind;
+use std::alloc::Global;
+use std::io;
+use std::io::{Read, Write};
+use tk_app::{AppFault, Open, run_script};
+
+/// All was done, which may be to show help.
+const DONE: u8 = 0;
+
+/// There was a fault, and its line went to `faults`.
+const FAULT: u8 = 1;
+
+/// The words ask for nothing that the program does.
+const USAGE: u8 = 2;
+
+// A line that can't be written is let go, since the status tells the outcome.
+fn tell_fault<E: Write>(fault: AppFault, faults: &mut E) -> u8 {
+    let _ = writeln!(faults, "fault: {fault}");
+    FAULT
+}
+
+fn status_of<E: Write>(outcome: Result<(), AppFault>, faults: &mut E) -> u8 {
+    match outcome {
+        Ok(()) => DONE,
+        Err(fault) => tell_fault(fault, faults),
+    }
+}
+
+// What clap answers when it gives no request: help, a mistake in the words, or want of memory.
+fn answer<O: Write, E: Write>(error: Error, output: &mut O, faults: &mut E) -> u8 {
+    if error.kind() == ErrorKind::OutOfMemory {
+        return tell_fault(AppFault::Memory, faults);
+    }
+    if error.use_stderr() {
+        let _ = write!(faults, "{error}");
+        return USAGE;
+    }
+    match write!(output, "{error}") {
+        Ok(()) => DONE,
+        Err(_) => tell_fault(AppFault::Write, faults),
+    }
+}
+
+/// Answers the status where the words of the command line can't be had: one is no text, or there is no memory for them.
+pub(crate) fn refuse_words<E: Write>(kind: io::ErrorKind, faults: &mut E) -> u8 {
+    if kind == io::ErrorKind::OutOfMemory {
+        return tell_fault(AppFault::Memory, faults);
+    }
+    let _ = writeln!(faults, "error: an argument is no text");
+    USAGE
+}
+
+/// Does what the words ask for, the first of which is the program's name, and answers the status.
+pub(crate) fn run_program<I: Read, O: Write, E: Write>(
+    alloc: Global,
+    words: &[String],
+    input: &mut I,
+    output: &mut O,
+    faults: &mut E,
+) -> u8 {
+    match request_of(alloc, words) {
+        Ok(Request::Run) => status_of(run_script(alloc, input, output, &Open), faults),
+        Err(error) => answer(error, output, faults),
+    }
+}

@@ -1,0 +1,299 @@
+//! The program, with its words and its three streams in memory.
+
+use crate::program::{refuse_words, run_program};
+use std::alloc::{AllocError, Global};
+use std::io;
+use std::io::{Read, Write};
+use std::process::Abort;
+use std::test::Fail;
+
+const HELP: &str = "Shows what the tasks of an async program did, as tokio-console would.
+
+A script says which tasks there were and when each was polled. The program works out the statistics
+of each task and writes them as a stream, one JSON object a line. docs/FORMATS.md explains both.
+
+Usage: taskscope <COMMAND>
+
+Commands:
+  run   Runs a script from standard input and writes its stream to standard output
+  help  Print this message or the help of the given subcommand(s)
+
+Options:
+  -h, --help
+          Print help (see a summary with '-h')
+
+The status is 0 if all was done, 1 after a fault (one line on standard error), and 2 after words that
+ask for nothing that the program does.
+";
+
+const SHORT_HELP: &str = "Shows what the tasks of an async program did, as tokio-console would
+
+Usage: taskscope <COMMAND>
+
+Commands:
+  run   Runs a script from standard input and writes its stream to standard output
+  help  Print this message or the help of the given subcommand(s)
+
+Options:
+  -h, --help  Print help (see more with '--help')
+
+The status is 0 if all was done, 1 after a fault (one line on standard error), and 2 after words that
+ask for nothing that the program does.
+";
+
+const RUN_HELP: &str = "Runs a script from standard input and writes its stream to standard output.
+
+A script has one command a line, its words between single spaces:
+  task MOMENT KIND NAME  makes a task, of kind spawn or blocking; the first task is number 1
+  start TASK MOMENT      starts a poll of the task
+  end TASK MOMENT        ends its poll
+  close TASK MOMENT      closes the task
+  publish MOMENT         writes a line with what is new since the line before
+A moment is a number of nanoseconds. Empty lines and lines that begin with # are skipped.
+
+A script has at most 1,048,576 bytes. It stops at its first fault, and the lines before it stay.
+
+Usage: taskscope run
+
+Options:
+  -h, --help
+          Print help (see a summary with '-h')
+";
+
+const NO_WORD: &str = "error: 'taskscope' requires a subcommand but one was not provided
+  [subcommands: run, help]
+
+Usage: taskscope <COMMAND>
+
+For more information, try '--help'.
+";
+
+const VIEW: &str = "error: unrecognized subcommand 'view'
+
+Usage: taskscope <COMMAND>
+
+For more information, try '--help'.
+";
+
+const LINT: &str = "error: unrecognized subcommand 'lint'
+
+Usage: taskscope <COMMAND>
+
+For more information, try '--help'.
+";
+
+const DEMO: &str = "error: unrecognized subcommand 'demo'
+
+Usage: taskscope <COMMAND>
+
+For more information, try '--help'.
+";
+
+const STOP: &str = "error: unrecognized subcommand 'stop'
+
+Usage: taskscope <COMMAND>
+
+For more information, try '--help'.
+";
+
+const WORD_TOO_MANY: &str = "error: unexpected argument 'fast' found
+
+Usage: taskscope run
+
+For more information, try '--help'.
+";
+
+// A script of one task, and its stream.
+const MAIN: &[u8] = b"task 100 spawn main\npublish 200\n";
+
+const MAIN_LINE: &str =
+    "{\"dropped\":[0,0,0],\"new_ops\":[],\"new_resources\":[],\"new_tasks\":[{\"id\":1099511627777,\"kind\":\"spawn\",\"loc\":[\"script\",1,1],\"name\":\"main\"}],\"now\":200,\"op_stats\":[],\"poll_counts\":[],\"resource_stats\":[],\"seq\":1,\"snapshot\":false,\"task_stats\":[{\"busy\":0,\"clones\":0,\"created\":100,\"dropped\":null,\"drops\":0,\"first_poll\":null,\"handles\":1,\"id\":1099511627777,\"last_ended\":null,\"last_started\":null,\"last_wake\":null,\"polling\":false,\"polls\":0,\"sched\":0,\"scheduled\":true,\"self_wakes\":0,\"wakes\":0}],\"v\":1}\n";
+
+// A second start of a poll, and the same behind a line of the stream.
+const STARTED_TWICE: &[u8] = b"task 1 spawn a\nstart 1 2\nstart 1 3\n";
+
+const STOPPED_LATER: &[u8] = b"task 100 spawn main\npublish 200\nend 1 3\n";
+
+// What the program is given, and what it answers.
+struct Call {
+    case: &'static str,
+    words: &'static [&'static str],
+    script: &'static [u8],
+    status: u8,
+    output: &'static str,
+    faults: &'static str,
+}
+
+// Scripts, and their statuses.
+#[rattlefmt::skip]
+const RUNS: [Call; 5] = [
+    Call { case: "a script", words: &["run"], script: MAIN, status: 0, output: MAIN_LINE, faults: "" },
+    Call { case: "an empty script", words: &["run"], script: b"", status: 0, output: "", faults: "" },
+    Call { case: "a fault", words: &["run"], script: STARTED_TWICE, status: 1, output: "", faults: "fault: line 3: AlreadyPolling\n" },
+    Call { case: "a fault behind a line", words: &["run"], script: STOPPED_LATER, status: 1, output: MAIN_LINE, faults: "fault: line 3: NotPolling\n" },
+    Call { case: "no command", words: &["run"], script: b"tusk", status: 1, output: "", faults: "fault: line 1: BadCommand\n" },
+];
+
+// Help goes to the output. No script is read for it.
+#[rattlefmt::skip]
+const HELPS: [Call; 5] = [
+    Call { case: "--help", words: &["--help"], script: MAIN, status: 0, output: HELP, faults: "" },
+    Call { case: "help", words: &["help"], script: MAIN, status: 0, output: HELP, faults: "" },
+    Call { case: "-h", words: &["-h"], script: MAIN, status: 0, output: SHORT_HELP, faults: "" },
+    Call { case: "run --help", words: &["run", "--help"], script: MAIN, status: 0, output: RUN_HELP, faults: "" },
+    Call { case: "help run", words: &["help", "run"], script: MAIN, status: 0, output: RUN_HELP, faults: "" },
+];
+
+// Words that ask for nothing that the program does.
+#[rattlefmt::skip]
+const MISTAKES: [Call; 6] = [
+    Call { case: "no word", words: &[], script: MAIN, status: 2, output: "", faults: NO_WORD },
+    Call { case: "view", words: &["view"], script: MAIN, status: 2, output: "", faults: VIEW },
+    Call { case: "lint", words: &["lint"], script: MAIN, status: 2, output: "", faults: LINT },
+    Call { case: "demo", words: &["demo"], script: MAIN, status: 2, output: "", faults: DEMO },
+    Call { case: "an unknown word", words: &["stop"], script: MAIN, status: 2, output: "", faults: STOP },
+    Call { case: "a word too many", words: &["run", "fast"], script: MAIN, status: 2, output: "", faults: WORD_TOO_MANY },
+];
+
+// The words of a command line, behind the program's name.
+fn words_of(alloc: Global, words: &[&str]) -> Result<Vec<String>, AllocError> {
+    let mut owned = Vec::new(alloc);
+    owned.push("taskscope".to_string(alloc)?)?;
+    for word in words {
+        owned.push(word.to_string(alloc)?)?;
+    }
+    Ok(owned)
+}
+
+fn assert_answers<R: Abort + AllocGlobal>(rt: &R, calls: &[Call]) -> Result<(), Fail> {
+    for call in calls {
+        let words = words_of(rt.alloc(), call.words)?;
+        let mut input = call.script;
+        let mut output = Vec::new(rt.alloc());
+        let mut faults = Vec::new(rt.alloc());
+        let status = run_program(
+            rt.alloc(),
+            words.as_slice(),
+            &mut input,
+            &mut output,
+            &mut faults,
+        );
+        assert_eq!(rt; status, call.status, "{}", call.case);
+        assert_eq!(rt;
+            str::from_utf8(output.as_slice())?,
+            call.output,
+            "{}",
+            call.case
+        );
+        assert_eq!(rt;
+            str::from_utf8(faults.as_slice())?,
+            call.faults,
+            "{}",
+            call.case
+        );
+    }
+    Ok(())
+}
+
+#[test]
+fn runs_scripts(rt: HostRuntime) -> Result<(), Fail> {
+    assert_answers(&rt, RUNS.as_slice())
+}
+
+#[test]
+fn shows_help(rt: HostRuntime) -> Result<(), Fail> {
+    assert_answers(&rt, HELPS.as_slice())
+}
+
+#[test]
+fn refuses_other_words(rt: HostRuntime) -> Result<(), Fail> {
+    assert_answers(&rt, MISTAKES.as_slice())
+}
+
+// Neither reads nor writes.
+#[derive(Drop)]
+struct Broken;
+
+impl Read for Broken {
+    fn read(&mut self, _buf: &mut [u8]) -> io::Result<usize> {
+        Err(io::ErrorKind::Other.into())
+    }
+}
+
+impl Write for Broken {
+    fn write(&mut self, _buf: &[u8]) -> io::Result<usize> {
+        Err(io::ErrorKind::BrokenPipe.into())
+    }
+
+    fn flush(&mut self) -> io::Result<()> {
+        Ok(())
+    }
+}
+
+#[test]
+fn tells_of_broken_streams(rt: HostRuntime) -> Result<(), Fail> {
+    let alloc = rt.alloc();
+    let mut output = Vec::new(alloc);
+    let mut unread = Vec::new(alloc);
+    let run = words_of(alloc, &["run"])?;
+    let status = run_program(alloc, run.as_slice(), &mut Broken, &mut output, &mut unread);
+    assert_eq!(rt; (status, output.len()), (1, 0));
+    assert_eq!(rt; str::from_utf8(unread.as_slice())?, "fault: Read\n");
+
+    let mut unwritten = Vec::new(alloc);
+    let status = run_program(
+        alloc,
+        run.as_slice(),
+        &mut MAIN,
+        &mut Broken,
+        &mut unwritten,
+    );
+    assert_eq!(rt; status, 1);
+    assert_eq!(rt;
+        str::from_utf8(unwritten.as_slice())?,
+        "fault: line 2: WriteFault\n"
+    );
+
+    let help = words_of(alloc, &["help"])?;
+    let mut unshown = Vec::new(alloc);
+    let status = run_program(alloc, help.as_slice(), &mut MAIN, &mut Broken, &mut unshown);
+    assert_eq!(rt; status, 1);
+    assert_eq!(rt; str::from_utf8(unshown.as_slice())?, "fault: Write\n");
+    Ok(())
+}
+
+// The status is told where its text can't be.
+#[test]
+fn faults_that_no_one_reads(rt: HostRuntime) -> Result<(), Fail> {
+    let alloc = rt.alloc();
+    let run = words_of(alloc, &["run"])?;
+    let status = run_program(alloc, run.as_slice(), &mut Broken, &mut Broken, &mut Broken);
+    assert_eq!(rt; status, 1);
+    let view = words_of(alloc, &["view"])?;
+    let status = run_program(
+        alloc,
+        view.as_slice(),
+        &mut Broken,
+        &mut Broken,
+        &mut Broken,
+    );
+    assert_eq!(rt; status, 2);
+    Ok(())
+}
+
+// Words that the system does not give as text, or for want of memory not at all.
+#[rattlefmt::skip]
+const WORDS_REFUSED: [(io::ErrorKind, u8, &str); 2] = [
+    (io::ErrorKind::InvalidData, 2, "error: an argument is no text\n"),
+    (io::ErrorKind::OutOfMemory, 1, "fault: Memory\n"),
+];
+
+#[test]
+fn refuses_words_that_it_cannot_have(rt: HostRuntime) -> Result<(), Fail> {
+    for (kind, status, text) in WORDS_REFUSED {
+        let mut faults = Vec::new(rt.alloc());
+        assert_eq!(rt; refuse_words(kind, &mut faults), status);
+        assert_eq!(rt; str::from_utf8(faults.as_slice())?, text);
+    }
+    Ok(())
+}

@@ -1,0 +1,10 @@
+//! Scripts that are run in memory: what they write, and what they stop at.
+
+mod commands;
+mod faults;
+mod given;
+mod items;
+mod readers;
+mod rows;
+mod streams;
+mod writers;

@@ -1,0 +1,100 @@
+//! Lines that are no command.
+
+use super::given::{assert_runs, run_from};
+use super::readers::Trickle;
+use std::process::Abort;
+use std::test::Fail;
+
+// None of these lines is a command.
+fn assert_are_bad<R: Abort + AllocGlobal>(rt: &R, lines: &[&'static [u8]]) -> Result<(), Fail> {
+    for line in lines {
+        let case = str::from_utf8(line).unwrap_or("a line that is no text");
+        assert_runs(rt, case, line, "line 1: BadCommand", &[])?;
+    }
+    Ok(())
+}
+
+// Commands that scripts do not have yet.
+#[rattlefmt::skip]
+const LATER: [&[u8]; 27] = [
+    b"capacity 16", b"selfwake 1 5", b"clone 1", b"again 1", b"wakeref 1 5", b"wake 1 5", b"release 1",
+    b"resource 1 Sync Semaphore", b"resource 1 Sync Semaphore permits=5", b"radd 1 0 1", b"rsub 1 0 1", b"rset 1 0 1", b"rclose 1 5",
+    b"op 1 1 acquire", b"optask 1 1", b"opstart 1 5", b"opend 1 5", b"opclose 1 5", b"oadd 1 0 1", b"osub 1 0 1", b"oset 1 0 true",
+    b"pollop 1 1 1 acquire ready", b"pollop 1 1 1 acquire pending", b"snapshot 5", b"par", b"1 wakeref 1 5", b"join",
+];
+
+#[test]
+fn later_commands_are_not_there(rt: HostRuntime) -> Result<(), Fail> {
+    assert_are_bad(&rt, LATER.as_slice())
+}
+
+// Words that are no command, and a byte that is no text.
+#[rattlefmt::skip]
+const UNKNOWN: [&[u8]; 7] = [
+    b"tusk 1 spawn a", b"Task 1 spawn a", b"TASK 1 spawn a", b"tas 1 spawn a", b"tasks 1 spawn a", b"publishes 1", b"\xff",
+];
+
+// Too few words and too many.
+#[rattlefmt::skip]
+const WRONG_NUMBER_OF_WORDS: [&[u8]; 16] = [
+    b"task", b"task 1", b"task 1 spawn", b"task 1 spawn a b",
+    b"start", b"start 1", b"start 1 2 3", b"end", b"end 1", b"end 1 2 3", b"close", b"close 1", b"close 1 2 3",
+    b"publish", b"publish 1 2", b"publish 1 main",
+];
+
+#[test]
+fn words_are_known_and_counted(rt: HostRuntime) -> Result<(), Fail> {
+    assert_are_bad(&rt, UNKNOWN.as_slice())?;
+    assert_are_bad(&rt, WRONG_NUMBER_OF_WORDS.as_slice())
+}
+
+// 2^64, signs, 21 digits, and words that are no number.
+#[rattlefmt::skip]
+const NUMBERS: [&[u8]; 14] = [
+    b"publish 18446744073709551616", b"publish 99999999999999999999", b"publish -1", b"publish +1",
+    b"publish 000000000000000000001", b"publish 1a", b"publish 0x1", b"publish 1_000", b"publish 1.0", b"publish \xd9\xa1",
+    b"task -1 spawn a", b"start one 5", b"end 1 five", b"close 18446744073709551616 5",
+];
+
+// Words that are no kind, and names that are empty or have a byte outside 0x20 to 0x7E.
+#[rattlefmt::skip]
+const KINDS_AND_NAMES: [&[u8]; 10] = [
+    b"task 1 Spawn a", b"task 1 spawned a", b"task 1 block a", b"task 1 a spawn", b"task spawn 1 a",
+    b"task 1 spawn ", b"task 1 spawn a\x7f", b"task 1 spawn \x1f", b"task 1 spawn \x00", b"task 1 spawn caf\xc3\xa9",
+];
+
+#[test]
+fn words_are_in_their_range(rt: HostRuntime) -> Result<(), Fail> {
+    assert_are_bad(&rt, NUMBERS.as_slice())?;
+    assert_are_bad(&rt, KINDS_AND_NAMES.as_slice())
+}
+
+// Spaces that are too many, and other bytes that look like one.
+#[rattlefmt::skip]
+const SPACES: [&[u8]; 9] = [
+    b"task  1 spawn a", b"task 1 spawn  a", b" publish 5", b"publish 5 ", b"publish\t5", b"publish 5\r\n", b" ", b" # a", b"\t",
+];
+
+#[test]
+fn words_stand_between_single_spaces(rt: HostRuntime) -> Result<(), Fail> {
+    assert_are_bad(&rt, SPACES.as_slice())
+}
+
+// A name has at most 1,024 bytes.
+#[rattlefmt::skip]
+const LENGTHS: [(usize, &str); 3] = [(1, ""), (1_024, ""), (1_025, "line 1: BadCommand")];
+
+#[test]
+fn a_name_has_at_most_1024_bytes(rt: HostRuntime) -> Result<(), Fail> {
+    for (length, fault) in LENGTHS {
+        let mut reader = Trickle {
+            bytes: b"task 1 spawn ",
+            padding: length,
+            fails: false,
+        };
+        let (told, written) = run_from(rt.alloc(), &mut reader)?;
+        assert_eq!(rt; told.as_str(), fault, "{length} bytes");
+        assert!(rt; written.is_empty());
+    }
+    Ok(())
+}

@@ -1,0 +1,72 @@
+//! Readers that give little, too much, or a fault.
+
+use super::given::{MAIN, MAIN_LINE, run_from, text_of};
+use std::io;
+use std::io::Read;
+use std::test::Fail;
+
+// Gives one byte a read, then as many bytes x as its padding says, and then its end or a fault.
+#[derive(Drop)]
+pub(super) struct Trickle {
+    pub(super) bytes: &'static [u8],
+    pub(super) padding: usize,
+    pub(super) fails: bool,
+}
+
+impl Read for Trickle {
+    fn read(&mut self, buf: &mut [u8]) -> io::Result<usize> {
+        if buf.is_empty() {
+            return Ok(0);
+        }
+        if let Some((byte, rest)) = self.bytes.split_first() {
+            buf[0] = *byte;
+            self.bytes = rest;
+            return Ok(1);
+        }
+        if self.padding > 0 {
+            let n = self.padding.min(buf.len());
+            buf.fill(b'x');
+            self.padding -= n;
+            return Ok(n);
+        }
+        if self.fails {
+            return Err(io::ErrorKind::Other.into());
+        }
+        Ok(0)
+    }
+}
+
+// A task and a line that tells of it, and then the front of a comment.
+const COMMENTED: &[u8] = b"task 100 spawn main\npublish 200\n#";
+
+// How much comes behind it where a script is as long as it may be.
+const ROOM: usize = 1_048_576 - COMMENTED.len();
+
+// What becomes of a script that would write one line, by how its reader goes on behind it.
+#[rattlefmt::skip]
+const READERS: [(&str, &[u8], usize, bool, &str); 7] = [
+    ("it ends",                              MAIN,      0,                        false, ""),
+    ("it fails at its end",                  MAIN,      0,                        true,  "Read"),
+    ("it fails within a line",               b"task 1", 0,                        true,  "Read"),
+    ("it fails before any byte",             b"",       0,                        true,  "Read"),
+    ("it gives as many bytes as it may",     COMMENTED, ROOM,                      false, ""),
+    ("it gives one byte too many",           COMMENTED, ROOM + 1,                  false, "Read"),
+    ("it gives bytes for ever",              COMMENTED, 9_223_372_036_854_775_807, false, "Read"),
+];
+
+#[test]
+fn nothing_is_written_where_a_read_fails(rt: HostRuntime) -> Result<(), Fail> {
+    let line = text_of(rt.alloc(), &[MAIN_LINE])?;
+    for (case, bytes, padding, fails, fault) in READERS {
+        let mut reader = Trickle {
+            bytes,
+            padding,
+            fails,
+        };
+        let (told, written) = run_from(rt.alloc(), &mut reader)?;
+        assert_eq!(rt; told.as_str(), fault, "{case}");
+        let wanted = if fault.is_empty() { line.as_str() } else { "" };
+        assert_eq!(rt; str::from_utf8(written.as_slice())?, wanted, "{case}");
+    }
+    Ok(())
+}
