@@ -3,13 +3,23 @@
 # A run must answer want of memory by its name, with status 1 and only whole lines of the output before it, or it
 # can do without that allocation and writes the whole output. After ten of the latter in a row no allocation is left.
 #
-# Usage: tests/refused_memory.sh [FIRST [LAST]], from allocation FIRST (1) to at most LAST (400), JOBS (2) at a time.
-# Each run is a trial without proof that is compiled anew, so it is slow.
+# Usage: tests/refused_memory.sh [--built] [FIRST [LAST]], from allocation FIRST (1) to at most LAST (400).
+#
+# Each run is a trial without proof that is compiled anew, JOBS (2) at a time. There are 116 allocations, so it takes
+# about half an hour on two processors (14 runs took 187 s where this was written).
+# With --built it runs the program that `rt run` left in crates/taskscope/out, whose allocations a small C library
+# refuses (cc and LD_PRELOAD): all of it in a second.
 
+built=
+if [ "$1" = --built ]; then
+    built=yes
+    shift
+fi
 first=${1:-1}
 last=${2:-400}
 jobs=${JOBS:-2}
 root=$(CDPATH= cd -P -- "$(dirname -- "$0")/.." && pwd) || exit 2
+program=$root/crates/taskscope/out/taskscope
 work=$(mktemp -d) || exit 2
 trap 'rm -rf "$work"' EXIT
 trap 'exit 2' HUP INT TERM
@@ -17,13 +27,51 @@ began=$(date +%s)
 
 printf 'task 100 spawn main\npublish 200\npublish 300\n' > "$work/script"
 
-# Leaves what a trial run wrote, its faults and its status in files of this name.
+if [ "$built" ]; then
+    [ -x "$program" ] || { echo "the program is not built: $program" >&2; exit 2; }
+    cat > "$work/refuse.c" <<'C'
+#define _GNU_SOURCE
+#include <dlfcn.h>
+#include <stdlib.h>
+
+/* Whether this is the call whose number the environment gives, from 1 on. 0 refuses none. */
+static int is_refused(void) {
+    static long left = -1;
+    if (left < 0)
+        left = getenv("REFUSE") ? atol(getenv("REFUSE")) : 0;
+    return left > 0 && --left == 0;
+}
+
+void *malloc(size_t size) {
+    static void *(*next)(size_t);
+    if (!next)
+        next = (void *(*)(size_t))dlsym(RTLD_NEXT, "malloc");
+    return is_refused() ? NULL : next(size);
+}
+
+void *realloc(void *old, size_t size) {
+    static void *(*next)(void *, size_t);
+    if (!next)
+        next = (void *(*)(void *, size_t))dlsym(RTLD_NEXT, "realloc");
+    return is_refused() ? NULL : next(old, size);
+}
+C
+    ${CC:-cc} -shared -fPIC -o "$work/refuse.so" "$work/refuse.c" -ldl || exit 2
+fi
+
+# Runs the program with allocation number $1 refused, and none for 0. Leaves what it wrote, its faults and its status.
 try() {
-    name=$1
-    shift
-    (cd "$root/crates/taskscope" && rt try "$@" -- run) \
-        < "$work/script" > "$work/$name.out" 2> "$work/$name.err"
-    echo $? > "$work/$name.status"
+    if [ "$built" ]; then
+        REFUSE=$1 LD_PRELOAD=$work/refuse.so "$program" run \
+            < "$work/script" > "$work/$1.out" 2> "$work/$1.err"
+    elif [ "$1" = 0 ]; then
+        (cd "$root/crates/taskscope" && rt try -- run) \
+            < "$work/script" > "$work/$1.out" 2> "$work/$1.err"
+    else
+        (cd "$root/crates/taskscope" && rt try --fail-alloc "$1" -- run) \
+            < "$work/script" > "$work/$1.out" 2> "$work/$1.err"
+    fi
+    echo $? > "$work/$1.status"
 }
 
 # Whether a run answered want of memory, behind whole lines of the output.
@@ -32,21 +80,21 @@ is_refused() {
     grep '^fault: ' "$work/$1.err" > "$work/$1.fault"
     [ "$(wc -l < "$work/$1.fault")" -eq 1 ] || return 1
     grep -q -x -e 'fault: Memory' -e 'fault: line [0-9][0-9]*: Memory' "$work/$1.fault" || return 1
-    head -n "$(wc -l < "$work/$1.out")" "$work/plain.out" | cmp -s - "$work/$1.out"
+    head -n "$(wc -l < "$work/$1.out")" "$work/0.out" | cmp -s - "$work/$1.out"
 }
 
-is_plain() {
-    [ "$(cat "$work/$1.status")" = 0 ] && cmp -s "$work/plain.out" "$work/$1.out"
+is_whole() {
+    [ "$(cat "$work/$1.status")" = 0 ] && cmp -s "$work/0.out" "$work/$1.out"
 }
 
 finish() {
-    echo "from allocation $first on, $refused were refused and told, and $spare more were not missed: $(($(date +%s) - began)) s"
+    echo "from allocation $first on, $refused were refused and told, and the run did without $spare more: $(($(date +%s) - began)) s"
     exit "$1"
 }
 
-try plain
-if [ "$(cat "$work/plain.status")" != 0 ]; then
-    cat "$work/plain.err" >&2
+try 0
+if [ "$(cat "$work/0.status")" != 0 ]; then
+    cat "$work/0.err" >&2
     exit 2
 fi
 
@@ -58,7 +106,7 @@ while [ "$n" -le "$last" ]; do
     pids=
     i=$n
     while [ "$i" -lt $((n + jobs)) ]; do
-        try "$i" --fail-alloc "$i" &
+        try "$i" &
         pids="$pids $!"
         i=$((i + 1))
     done
@@ -70,7 +118,7 @@ while [ "$n" -le "$last" ]; do
             spare=$((spare + in_a_row))
             in_a_row=0
             echo "allocation $n: $(cat "$work/$n.fault"), behind $(wc -l < "$work/$n.out") lines"
-        elif is_plain "$n"; then
+        elif is_whole "$n"; then
             in_a_row=$((in_a_row + 1))
             echo "allocation $n: the whole output"
             [ "$in_a_row" -lt 10 ] || finish 0

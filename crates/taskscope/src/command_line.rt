@@ -1,4 +1,8 @@
 //! What the words of a command line ask for.
+ghost use Rattle.std.specs.Prelude.{◌≡◌, IfOk, IfErr, map};
+ghost use Rattle.clap.specs.Simple.{app_of};
+ghost use Rattle.clap.specs.Values.{kind_of};
+ghost use Rattle.taskscope.specs.Requests.{program, IsRun};
 
 use clap::error::ErrorKind;
 use clap::{Command, Error};
@@ -38,7 +42,10 @@ A moment is a number of nanoseconds. Empty lines and lines that begin with # are
 
 A script has at most 1,048,576 bytes. It stops at its first fault, and the lines before it stay.";
 
-fn command_line<'a>(alloc: Global) -> Result<Command<'a>, Error> {
+fn command_line<'a>(alloc: Global) -> Result<Command<'a>, Error>
+    ensures ok { IfOk result (λ c. app_of c ≡ program) }
+    ensures err { IfErr result (λ e. kind_of e ≡ ErrorKind.OutOfMemory) }
+{
     let run = Command::new(alloc, "run")
         .about(RUN_ABOUT)
         .long_about(RUN_LONG_ABOUT);
@@ -55,7 +62,9 @@ fn command_line<'a>(alloc: Global) -> Result<Command<'a>, Error> {
 }
 
 /// What the words ask for, the first of which is the program's name. Else a mistake in them, or the help that they ask for.
-pub(crate) fn request_of(alloc: Global, words: &[String]) -> Result<Request, Error> {
+pub(crate) fn request_of(alloc: Global, words: &[String]) -> Result<Request, Error>
+    ensures { IfErr result (λ e. IsRun (map (λ w. w.bytes.items) words.now) → kind_of e ≡ ErrorKind.OutOfMemory) }
+{
     let mut command = command_line(alloc)?;
     let matches = command.try_get_matches_from_mut(words)?;
     match matches.subcommand_name() {

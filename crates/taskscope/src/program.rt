@@ -1,4 +1,8 @@
 //! A run of the program, from its words to its status.
+ghost use Rattle.std.specs.Prelude.{◌≡◌, ◌≤◌, map};
+ghost use Rattle.clap.specs.Values.{kind_of};
+ghost use Rattle.taskscope.specs.Requests.{IsRun};
+ghost use Rattle.taskscope.specs.Program.{status_of, RunsScript};
 
 use crate::command_line::{Request, request_of};
 use clap::Error;
@@ -18,12 +22,17 @@ const FAULT: u8 = 1;
 const USAGE: u8 = 2;
 
 // A line that can't be written is let go, since the status tells the outcome.
-fn tell_fault<E: Write>(fault: AppFault, faults: &mut E) -> u8 {
+fn tell_fault<E: Write>(fault: AppFault, faults: &mut E) -> u8
+    ensures { result ≡ FAULT }
+{
     let _ = writeln!(faults, "fault: {fault}");
     FAULT
 }
 
-fn status_of<E: Write>(outcome: Result<(), AppFault>, faults: &mut E) -> u8 {
+// The status of a script's run.
+fn tell_outcome<E: Write>(outcome: Result<(), AppFault>, faults: &mut E) -> u8
+    ensures { result ≡ status_of outcome }
+{
     match outcome {
         Ok(()) => DONE,
         Err(fault) => tell_fault(fault, faults),
@@ -31,7 +40,11 @@ fn status_of<E: Write>(outcome: Result<(), AppFault>, faults: &mut E) -> u8 {
 }
 
 // What clap answers when it gives no request: help, a mistake in the words, or want of memory.
-fn answer<O: Write, E: Write>(error: Error, output: &mut O, faults: &mut E) -> u8 {
+fn answer<O: Write, E: Write>(error: Error, output: &mut O, faults: &mut E) -> u8
+    ensures memory { kind_of error ≡ ErrorKind.OutOfMemory → (result ≡ FAULT) × (output.new ≡ output.old) }
+    ensures usage { result ≡ USAGE → output.new ≡ output.old }
+    ensures status { result ≤ USAGE }
+{
     if error.kind() == ErrorKind::OutOfMemory {
         return tell_fault(AppFault::Memory, faults);
     }
@@ -55,15 +68,24 @@ pub(crate) fn refuse_words<E: Write>(kind: io::ErrorKind, faults: &mut E) -> u8 
 }
 
 /// Does what the words ask for, the first of which is the program's name, and answers the status.
+///
+/// What goes to `faults` is only tested.
 pub(crate) fn run_program<I: Read, O: Write, E: Write>(
     alloc: Global,
     words: &[String],
     input: &mut I,
     output: &mut O,
     faults: &mut E,
-) -> u8 {
+) -> u8
+    // A run reads and writes as `run_script` does, and its status is 0 exactly where there was no fault.
+    ensures run { IsRun (map (λ w. w.bytes.items) words.now)
+        → RunsScript (I.remaining input.old) (O.contents output.old) (O.contents output.new) result }
+    // Words that ask for nothing leave the input and the output as they are.
+    ensures usage { result ≡ USAGE → (input.new ≡ input.old) × (output.new ≡ output.old) }
+    ensures status { result ≤ USAGE }
+{
     match request_of(alloc, words) {
-        Ok(Request::Run) => status_of(run_script(alloc, input, output, &Open), faults),
+        Ok(Request::Run) => tell_outcome(run_script(alloc, input, output, &Open), faults),
         Err(error) => answer(error, output, faults),
     }
 }

@@ -1,0 +1,4 @@
+-- What words ask for
+pub mod Requests
+-- What a run of the program does
+pub mod Program
