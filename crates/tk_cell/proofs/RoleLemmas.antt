@@ -10,7 +10,8 @@ use Rattle.tk_core.specs.Meaning.{Meaning, NumbersAreNew}
 use Rattle.tk_core.specs.History.{calls_of}
 use Rattle.tk_core.specs.Legal.{own, maker, may_call, has_ended, IsLegal}
 use Rattle.tk_cell.specs.declared.view.View.{View}
-use Rattle.tk_cell.specs.Views.{times, list_of, Holds, opened, after_split, split_off}
+use Rattle.atomic_table.specs.Seated.{TableId}
+use Rattle.tk_cell.specs.Views.{times, list_of, Holds, opened, after_split, split_off, Known, known}
 use Rattle.tk_cell.specs.Calls.{entry, Calls, Joins}
 use Rattle.tk_cell.specs.Roles.{IsOwner, IsMadeBy}
 use Rattle.tk_cell.proofs.ListLemmas.{not_nil, times-append, times_itself, prefix_self}
@@ -91,6 +92,10 @@ module _ {O C R : Type 0} (m : Meaning O C R) where
             by = subst (λ (l : List (Entry C R)). maker m n l ≡ Some call) (sym k.grows) (maker_last m n before new fresh.1 is);
             going = ap (λ (l : List (Entry C R)). list_any (λ e. m.is_last e.call) l) (k.drawn n is);
           }
+
+      -- the token that is split off makes the calls of that caller
+      pub drawn_token : NumbersAreNew m → (ledger : TableId) (token : Known O C R) → token ≡ known ledger (split_off n w) → IsMadeBy m call token.view
+      drawn_token law ledger token given = subst (λ (t : Known O C R). IsMadeBy m call t.view) (sym given) (drawn_made law)
 
   module _ (v other w : View O C R) (k : Joins m v other w) where
     pub join_begins : IsPrefix v.seen w.seen

@@ -16,3 +16,6 @@ pub use part::{Part, Rule};
 pub use shared::Shared;
 pub use token::Token;
 pub use view::View;
+
+#[cfg(test)]
+mod tests;
