@@ -1,5 +1,5 @@
 -- A call keeps the rule: as a load that changes no word, and as an exchange.
-use Rattle.std.proofs.Common.{◌≡◌, ◌≢◌, ℕ, ◌+◌, ◌<◌, ◌≤◌, Bool, true, false, List, [], ◌∷◌, ◌++◌, set, if◌then◌else◌, eqb, Option, Some, None, refl, ap, sym, ◌∙◌, subst, arith, inl, inr, ◌⊎◌, ⊎_elim, true≢false, nat_eq}
+use Rattle.std.proofs.Common.{◌≡◌, ◌≢◌, ℕ, ◌<◌, ◌≤◌, Bool, true, false, List, [], ◌∷◌, ◌++◌, set, if◌then◌else◌, eqb, Option, Some, None, refl, ap, sym, ◌∙◌, subst, arith, inl, inr, ◌⊎◌, ⊎_elim, true≢false, nat_eq}
 use Rattle.std.proofs.lemmas.List.{map-append}
 use mathlib.Core.Option.{some}
 use lib.ListN.{get_elem?}
@@ -14,11 +14,11 @@ use Rattle.tk_core.specs.Legal.{own, maker, may_call, has_ended, MayFollow, IsLe
 use Rattle.tk_cell.specs.declared.view.View.{View}
 use Rattle.tk_cell.specs.declared.part.Part.{Part}
 use Rattle.tk_cell.specs.declared.part.Part.TheVariants.{One}
-use Rattle.tk_cell.specs.Views.{times, list_of, Holds, IsDistinct, Known, known}
+use Rattle.tk_cell.specs.Views.{times, list_of, IsDistinct, Known, known}
 use Rattle.tk_cell.specs.Calls.{entry, Calls}
 use Rattle.tk_cell.specs.Parts.{total, view_of, holds, IsOne, IsMade, Fits, IsPart, Runs, Kept}
-use Rattle.tk_cell.specs.Steps.{GoesOn, LooksFor, LooksAt, ExchangesFor, ExchangesAt, LeadsTo}
-use Rattle.tk_cell.proofs.ListLemmas.{prefix_self, dec_eq, total_set, total_one, total_none, times-append, times_itself, times_other}
+use Rattle.tk_cell.specs.Steps.{LooksAt, ExchangesAt, LeadsTo}
+use Rattle.tk_cell.proofs.ListLemmas.{prefix_self, dec_eq, total_set, total_none, times-append, times_itself, times_other}
 use Rattle.tk_cell.proofs.HistoryLemmas.{own_mine, own_other, maker_last, may_more, ended_same, legal_snoc, own_unmade, new_number}
 use Rattle.tk_cell.proofs.PartLemmas.{made_more, made_prefix, part_more, unmade_unheld, live_runs, held_once, held_here}
 

@@ -1,5 +1,5 @@
 -- A part takes in another one, and the load after it makes one view of the two.
-use Rattle.std.proofs.Common.{◌≡◌, ◌≢◌, ℕ, ◌+◌, ◌<◌, ◌≤◌, List, [], ◌∷◌, ◌++◌, length, set, Some, refl, ap, sym, ◌∙◌, subst, arith, inl, inr, ◌⊎◌, ⊎_elim}
+use Rattle.std.proofs.Common.{◌≡◌, ◌≢◌, ℕ, ◌<◌, ◌≤◌, List, ◌++◌, length, set, refl, sym, ◌∙◌, subst, arith, inl, inr, ◌⊎◌, ⊎_elim}
 use Rattle.std.proofs.lemmas.Bool.{cases_lt}
 use mathlib.Core.Option.{some}
 use mathlib.Core.List.{IsPrefix}
@@ -13,8 +13,7 @@ use Rattle.tk_cell.specs.declared.view.View.{View}
 use Rattle.tk_cell.specs.declared.part.Part.{Part}
 use Rattle.tk_cell.specs.declared.part.Part.TheVariants.{Unopened, One, Two, Spent}
 use Rattle.tk_cell.specs.Views.{times, Holds}
-use Rattle.tk_cell.specs.Calls.{Joins}
-use Rattle.tk_cell.specs.Parts.{total, view_of, other_of, holds, IsOne, taken_in, Fits, IsPart, Runs, Kept}
+use Rattle.tk_cell.specs.Parts.{view_of, holds, IsOne, taken_in, Fits, IsPart, Runs, Kept}
 use Rattle.tk_cell.specs.Steps.{SettlesAt}
 use Rattle.tk_cell.proofs.ListLemmas.{prefix_self, prefix_shorter, total_set, times-append}
 use Rattle.tk_cell.proofs.HistoryLemmas.{own_between, prefix_is_legal}

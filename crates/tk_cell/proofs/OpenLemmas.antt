@@ -1,15 +1,13 @@
 -- The swap that sets the opening row keeps the rule.
-use Rattle.std.proofs.Common.{◌≡◌, ◌≢◌, ℕ, zero, suc, ◌+◌, ◌<◌, ◌≤◌, List, [], ◌∷◌, ◌++◌, set, Some, refl, ap, sym, ◌∙◌, subst, arith, inl, inr, ◌⊎◌, ⊎_elim}
+use Rattle.std.proofs.Common.{◌≡◌, ◌≢◌, ℕ, zero, suc, ◌<◌, List, [], ◌∷◌, set, Some, refl, ap, sym, ◌∙◌, subst, arith, inl, inr, ⊎_elim}
 use mathlib.Core.Option.{some, some-injective, some-ne-none}
 use lib.ListN.{get_elem?}
 use Rattle.crossbeam_utils.specs.Register.{Turns}
-use Rattle.tk_core.specs.declared.history.Entry.{Entry}
 use Rattle.tk_core.specs.Meaning.{Meaning, BeginsAtOpening}
-use Rattle.tk_cell.specs.declared.view.View.{View}
 use Rattle.tk_cell.specs.declared.part.Part.{Part}
 use Rattle.tk_cell.specs.declared.part.Part.TheVariants.{Unopened, One}
-use Rattle.tk_cell.specs.Views.{times, Holds, opened}
-use Rattle.tk_cell.specs.Parts.{zeros, holds, IsMade, Fits, IsPart, Runs, Kept}
+use Rattle.tk_cell.specs.Views.{times, opened}
+use Rattle.tk_cell.specs.Parts.{zeros, Fits, IsPart, Runs, Kept}
 use Rattle.tk_cell.specs.Steps.{OpensAt}
 use Rattle.tk_cell.proofs.ListLemmas.{not_nil, dec_eq, times_itself, times_other}
 

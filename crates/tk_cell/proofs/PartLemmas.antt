@@ -1,16 +1,16 @@
 -- What the rule says of one part, and of all of them.
-use Rattle.std.proofs.Common.{◌≡◌, ◌≢◌, ℕ, zero, suc, ◌+◌, ◌<◌, ◌≤◌, List, [], ◌∷◌, ◌++◌, set, Option, Some, None, refl, ap, sym, ◌∙◌, subst, arith, inl, inr, ◌⊎◌, ⊎_elim}
+use Rattle.std.proofs.Common.{◌≡◌, ◌≢◌, ℕ, zero, suc, ◌+◌, ◌<◌, ◌≤◌, List, [], ◌∷◌, ◌++◌, Some, refl, sym, ◌∙◌, subst, arith, inl, inr, ⊎_elim}
 use mathlib.Core.Option.{some, some-injective, some-ne-none}
 use mathlib.Core.List.{IsPrefix}
 use lib.ListN.{get_elem?}
 use Rattle.tk_core.specs.declared.history.Entry.{Entry}
 use Rattle.tk_core.specs.Meaning.{Meaning}
-use Rattle.tk_core.specs.Legal.{own, maker}
+use Rattle.tk_core.specs.Legal.{maker}
 use Rattle.tk_cell.specs.declared.view.View.{View}
 use Rattle.tk_cell.specs.declared.part.Part.{Part}
 use Rattle.tk_cell.specs.declared.part.Part.TheVariants.{Unopened, One, Two, Spent}
 use Rattle.tk_cell.specs.Views.{times, Holds}
-use Rattle.tk_cell.specs.Parts.{total, zeros, view_of, holds, IsOne, IsMade, Fits, IsPart, Runs, Kept}
+use Rattle.tk_cell.specs.Parts.{zeros, holds, IsMade, Fits, IsPart, Runs, Kept}
 use Rattle.tk_cell.proofs.ListLemmas.{prefix_more, total_one, total_two}
 use Rattle.tk_cell.proofs.HistoryLemmas.{own_other, maker_more}
 

@@ -1,17 +1,16 @@
 -- A part is cut in two: a number goes to a token of its own, or the whole view is handed on.
-use Rattle.std.proofs.Common.{◌≡◌, ◌≢◌, ℕ, ◌+◌, ◌<◌, ◌≤◌, List, [], ◌∷◌, ◌++◌, set, Some, refl, ap, sym, ◌∙◌, subst, arith, inl, inr, ◌⊎◌, ⊎_elim}
+use Rattle.std.proofs.Common.{◌≡◌, ◌≢◌, ℕ, ◌+◌, List, [], ◌∷◌, ◌++◌, set, Some, ap, sym, subst, arith, inr, ⊎_elim}
 use mathlib.Core.Option.{some}
 use lib.ListN.{get_elem?}
 use Rattle.crossbeam_utils.specs.Register.{Forks}
 use Rattle.atomic_table.proofs.Lists.{at_set, at_snoc}
 use Rattle.atomic_table.specs.Seated.{TableId}
-use Rattle.tk_core.specs.declared.history.Entry.{Entry}
 use Rattle.tk_core.specs.Meaning.{Meaning}
 use Rattle.tk_cell.specs.declared.view.View.{View}
 use Rattle.tk_cell.specs.declared.part.Part.{Part}
 use Rattle.tk_cell.specs.declared.part.Part.TheVariants.{One, Spent}
 use Rattle.tk_cell.specs.Views.{times, without, Holds, after_split, split_off, Known, known}
-use Rattle.tk_cell.specs.Parts.{total, view_of, holds, IsOne, left_of, right_of, Fits, IsPart, Runs, Kept}
+use Rattle.tk_cell.specs.Parts.{view_of, holds, IsOne, left_of, right_of, Fits, IsPart, Runs, Kept}
 use Rattle.tk_cell.proofs.ListLemmas.{total_set, total_snoc, times_itself, times_without, without_other}
 use Rattle.tk_cell.proofs.PartLemmas.{live_runs, held_once}
 

@@ -1,5 +1,5 @@
 -- What a call does to a token, and what a join makes of two.
-use Rattle.std.specs.Prelude.{◌≡◌, ◌≢◌, ℕ, ◌⊎◌, List, [], ◌∷◌, ◌++◌, Option, Some}
+use Rattle.std.specs.Prelude.{◌≡◌, ◌≢◌, ℕ, ◌⊎◌, List, [], ◌∷◌, ◌++◌, Some}
 use mathlib.Core.List.{IsPrefix}
 use Rattle.tk_core.specs.declared.history.Entry.{Entry}
 use Rattle.tk_core.specs.Meaning.{Meaning}

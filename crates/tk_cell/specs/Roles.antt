@@ -1,5 +1,5 @@
 -- As whom a token makes calls: as the owner, or as a caller that a given call made. Its last call is still to come.
-use Rattle.std.specs.Prelude.{◌≡◌, ◌≢◌, false, Option, Some}
+use Rattle.std.specs.Prelude.{◌≡◌, ◌≢◌, false, Some}
 use Rattle.tk_core.specs.Meaning.{Meaning}
 use Rattle.tk_core.specs.Legal.{maker, has_ended}
 use Rattle.tk_cell.specs.declared.view.View.{View}

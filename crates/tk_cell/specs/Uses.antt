@@ -1,7 +1,7 @@
 -- The counts of the tests' own object, a door: how often it was used, and whom its first use makes. Only tests cite this file.
 use Rattle.std.proofs.lemmas.Bool.{ne_eqb}
 use Rattle.std.proofs.lemmas.Option.{none-some}
-use Rattle.std.proofs.Common.{eqb, ◌≡◌, ◌≢◌, ℕ, zero, suc, ◌+◌, ◌-◌, ◌^◌, ◌==◌, Bool, true, false, List, [], ◌∷◌, ◌++◌, length, min, Option, Some, None, if◌then◌else◌, refl, arith}
+use Rattle.std.proofs.Common.{eqb, ◌≡◌, ◌≢◌, ℕ, ◌-◌, ◌^◌, ◌==◌, false, List, [], ◌∷◌, ◌++◌, length, min, Option, Some, None, if◌then◌else◌, arith}
 
 -- a count stays at the greatest u64
 abbrev pub capped : ℕ → ℕ

@@ -1,5 +1,5 @@
 -- What a token knows: its ledger, the caller whose calls it makes, what it has seen, the numbers that it holds, and the opening row.
-use Rattle.std.specs.Prelude.{◌≡◌, ℕ, ◌+◌, ◌<◌, ◌≤◌, ◌==◌, not, filter, List, [], ◌∷◌, Option, Some, None, if◌then◌else◌}
+use Rattle.std.specs.Prelude.{ℕ, ◌+◌, ◌<◌, ◌≤◌, ◌==◌, not, filter, List, [], ◌∷◌, Option, Some, None, if◌then◌else◌}
 use Rattle.atomic_table.specs.Seated.{TableId}
 use Rattle.tk_cell.specs.declared.view.View.{View}
 

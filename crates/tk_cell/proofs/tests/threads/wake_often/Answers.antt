@@ -1,5 +1,5 @@
 use Rattle.std.proofs.Common.{refl, ◌∙◌}
-use Rattle.tk_core.specs.declared.task.call.TaskCall.TheVariants.{CloneWaker, WakeRef}
+use Rattle.tk_core.specs.declared.task.call.TaskCall.TheVariants.{CloneWaker}
 use Rattle.tk_core.specs.TaskMeaning.{task_meaning}
 use Rattle.tk_cell.proofs.RoleLemmas.{made_calls}
 use Rattle.tk_cell.proofs.tests.threads.wake_often.Goals as goal
