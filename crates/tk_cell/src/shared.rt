@@ -1,0 +1,225 @@
+//! The ledger: one object of sixteen words, on which each call is one step.
+//!
+//! A call looks at the words, makes the next row of them, and exchanges them where they are still the same:
+//! then the exchange is its entry. Where the row stays as it is, the look was its entry. Where another call
+//! came between, it tries again.
+ghost use Rattle.std.specs.Prelude.{◌≡◌, ◌≢◌, ◌<◌, [], true, false, Some, IfOk, IfSome, IfNone, MatchBool};
+ghost use Rattle.std.specs.Arc.{arc_value};
+ghost use Rattle.crossbeam_utils.specs.Seq.{cell_view};
+ghost use Rattle.tk_core.specs.Legal.{may_call, has_ended, own};
+ghost use Rattle.tk_cell.specs.Views.{opened, known, Holds, after_split, split_off};
+ghost use Rattle.tk_cell.specs.Calls.{Calls, Joins};
+ghost use Rattle.tk_cell.specs.Parts.{view_of, IsOne};
+ghost use Rattle.tk_cell.specs.Steps.{Plays, LooksFor, LeadsTo};
+
+use crate::part::{Part, Rule};
+use crate::steps::{Both, Exchanges, Looks, OffSplit, Opens, Pick, Settling, Whole};
+use crate::token::Token;
+use crossbeam_utils::atomic::seq_cell::{Pass, RuledSeqCell};
+use std::alloc::{AllocError, Global};
+use std::marker::{Brand, Model};
+use std::sync::{Arc, Wait};
+use tk_core::Sequential;
+
+/// An object that threads share. Contracts see which ledger it is.
+#[derive(Drop)]
+pub struct Shared<O: Sequential> {
+    cell: RuledSeqCell<[u64; 16], Part<O, O::Call, O::Reply>, Rule<O>, 16>,
+}
+
+impl<O: Sequential> Model for Shared<O> {
+    ghost use Rattle.atomic_table.specs.Seated.{TableId};
+
+    ghost Value = { TableId };
+
+    ghost view = { λ s. s.cell.table.shared.table_id };
+}
+
+impl<O: Sequential> Shared<O> {
+    /// A ledger that begins with this row, and the token of its owner, who is caller 0.
+    pub fn new<R: Wait>(
+        rt: &R,
+        alloc: Global,
+        row: O,
+    ) -> Result<(Arc<Shared<O>>, Token<O>), AllocError>
+        requires { O.meaning.IsOpening row }
+        ensures { IfOk result (λ made. made.1 ≡ known (arc_value made.0) (opened row)) }
+    {
+        let (shared, token) = Shared::begin::<Brand, R>(rt, alloc, row)?;
+        Ok((Arc::new(alloc, shared)?, token))
+    }
+
+    fn begin<K: Pick<O>, R: Wait>(
+        rt: &R,
+        alloc: Global,
+        row: O,
+    ) -> Result<(Shared<O>, Token<O>), AllocError>
+        requires picked { K.picked ≡ Some row }
+        requires opening { O.meaning.IsOpening row }
+        ensures { IfOk result (λ made. made.1 ≡ known made.0 (opened row)) }
+    {
+        let (cell, mut pass) = RuledSeqCell::<
+            [u64; 16],
+            Part<O, O::Call, O::Reply>,
+            Rule<O>,
+            16,
+        >::ruled(alloc, [0; 16])?;
+        cell.swap_as::<Opens<O, K>, R>(rt, &mut pass, row.to_words());
+        Ok((Shared { cell }, Token { caller: 0, pass }))
+    }
+
+    /// Makes the call as the token's caller, as one entry of the ledger's history, and gives its reply.
+    ///
+    /// The token has to be of this ledger. Its caller's role has to allow the call: the owner's from the
+    /// start, another's by the call that answered its number. And the caller must not have made its last call.
+    pub fn call<R: Wait>(&self, rt: &R, token: &mut Token<O>, call: O::Call) -> O::Reply
+        requires own { token.old.ledger ≡ self.now }
+        requires role { may_call O.meaning token.old.view.seen token.old.view.caller call ≡ true }
+        requires going { has_ended O.meaning token.old.view.seen token.old.view.caller ≡ false }
+        ensures own { token.new.ledger ≡ token.old.ledger }
+        ensures entry { Calls O.meaning token.old.view call result token.new.view }
+    {
+        for _ in rt.forever() {
+            if let Some(reply) = self.try_call::<Brand, R>(rt, token, call) {
+                return reply;
+            }
+        }
+        unreachable!()
+    }
+
+    // Makes the call, unless another one came between its look and its exchange.
+    fn try_call<K: Pick<O::Call>, R: Wait>(
+        &self,
+        rt: &R,
+        token: &mut Token<O>,
+        call: O::Call,
+    ) -> Option<O::Reply>
+        requires picked { K.picked ≡ Some call }
+        requires own { token.old.ledger ≡ self.now }
+        requires role { may_call O.meaning token.old.view.seen token.old.view.caller call ≡ true }
+        requires going { has_ended O.meaning token.old.view.seen token.old.view.caller ≡ false }
+        ensures own { token.new.ledger ≡ token.old.ledger }
+        ensures some { IfSome result (λ reply. Calls O.meaning token.old.view call reply token.new.view) }
+        ensures none { IfNone result (token.new.view ≡ token.old.view) }
+    {
+        let words = self.look::<K, R>(rt, token, call);
+        let Some(row) = O::from_words(&words) else {
+            unreachable!()
+        };
+        let (next, reply) = row.step(call);
+        let new = next.to_words();
+        if new == words || self.exchange::<K, R>(rt, token, call, words, new) {
+            Some(reply)
+        } else {
+            None
+        }
+    }
+
+    fn look<K: Pick<O::Call>, R: Wait>(
+        &self,
+        rt: &R,
+        token: &mut Token<O>,
+        call: O::Call,
+    ) -> [u64; 16]
+        requires picked { K.picked ≡ Some call }
+        requires own { token.old.ledger ≡ self.now }
+        requires role { may_call O.meaning token.old.view.seen token.old.view.caller call ≡ true }
+        requires going { has_ended O.meaning token.old.view.seen token.old.view.caller ≡ false }
+        ensures own { token.new.ledger ≡ token.old.ledger }
+        ensures looks { LooksFor O.meaning (Some call) token.old.view result result token.new.view }
+    {
+        let _ = call;
+        self.cell.load_as::<Looks<O, K>, R>(rt, &mut token.pass)
+    }
+
+    fn exchange<K: Pick<O::Call>, R: Wait>(
+        &self,
+        rt: &R,
+        token: &mut Token<O>,
+        call: O::Call,
+        current: [u64; 16],
+        new: [u64; 16],
+    ) -> bool
+        requires picked { K.picked ≡ Some call }
+        requires own { token.old.ledger ≡ self.now }
+        requires role { may_call O.meaning token.old.view.seen token.old.view.caller call ≡ true }
+        requires going { has_ended O.meaning token.old.view.seen token.old.view.caller ≡ false }
+        requires other { new ≢ current }
+        requires computed { LeadsTo O.meaning call current new }
+        ensures own { token.new.ledger ≡ token.old.ledger }
+        ensures plays { MatchBool result (Plays O.meaning token.old.view call current new token.new.view) (token.new.view ≡ token.old.view) }
+    {
+        let _ = call;
+        self.cell
+            .compare_exchange_as::<Exchanges<O, K>, R>(rt, &mut token.pass, current, new)
+            .is_ok()
+    }
+
+    /// Splits off the caller of a number that the token holds: a token of its own, which has seen as much.
+    ///
+    /// The token has to be of this ledger. The number must not be its own caller's, and must have no entry in
+    /// what the token has seen: it was drawn by a call of the token, and nobody has called by it yet.
+    pub fn split(&self, token: &mut Token<O>, number: u64) -> Token<O>
+        requires own { token.old.ledger ≡ self.now }
+        requires held { Holds token.old.view number }
+        requires other { number ≢ token.old.view.caller }
+        requires unused { own number token.old.view.seen ≡ [] }
+        ensures kept { token.new ≡ known token.old.ledger (after_split number token.old.view) }
+        ensures given { result ≡ known token.old.ledger (split_off number token.old.view) }
+    {
+        self.split_picked::<Brand>(token, number)
+    }
+
+    fn split_picked<K: Pick<u64>>(&self, token: &mut Token<O>, number: u64) -> Token<O>
+        requires picked { K.picked ≡ Some number }
+        requires own { token.old.ledger ≡ self.now }
+        requires held { Holds token.old.view number }
+        requires other { number ≢ token.old.view.caller }
+        ensures kept { token.new ≡ known token.old.ledger (after_split number token.old.view) }
+        ensures given { result ≡ known token.old.ledger (split_off number token.old.view) }
+    {
+        let pass = self.cell.split_pass::<OffSplit<K>>(&mut token.pass);
+        Token {
+            caller: number,
+            pass,
+        }
+    }
+
+    /// One token that has seen what both have seen, holds the numbers of both, and goes on as the first's caller.
+    ///
+    /// Both have to be of this ledger.
+    pub fn join<R: Wait>(&self, rt: &R, token: Token<O>, other: Token<O>) -> Token<O>
+        requires own { token.ledger ≡ self.now }
+        requires other { other.ledger ≡ self.now }
+        ensures own { result.ledger ≡ token.ledger }
+        ensures joined { Joins O.meaning token.view other.view result.view }
+    {
+        let mut token = token;
+        self.absorb(rt, &mut token, other);
+        token
+    }
+
+    /// As [`Shared::join`], where the first token stays in its place.
+    pub fn absorb<R: Wait>(&self, rt: &R, token: &mut Token<O>, other: Token<O>)
+        requires own { token.old.ledger ≡ self.now }
+        requires other { other.ledger ≡ self.now }
+        ensures own { token.new.ledger ≡ token.old.ledger }
+        ensures joined { Joins O.meaning token.old.view other.view token.new.view }
+    {
+        let theirs = self.hand_over(other);
+        self.cell.join_pass::<Both>(&mut token.pass, theirs);
+        self.cell.load_as::<Settling<O>, R>(rt, &mut token.pass);
+    }
+
+    // A pass with the token's view that has taken no step yet: only such a one can be joined.
+    fn hand_over(&self, token: Token<O>) -> Pass<[u64; 16], Part<O, O::Call, O::Reply>>
+        requires own { token.ledger ≡ self.now }
+        ensures own { result.table_id ≡ self.now }
+        ensures view { view_of (cell_view result) ≡ token.view }
+        ensures one { IsOne (cell_view result) }
+        ensures whole { result.me.1 ≡ [] }
+    {
+        let mut pass = token.pass;
+        self.cell.split_pass::<Whole>(&mut pass)
+    }
+}
