@@ -12,7 +12,6 @@ mod steps;
 mod token;
 mod view;
 
-pub use part::{Part, Rule};
 pub use shared::Shared;
 pub use token::Token;
 pub use view::View;
