@@ -4,3 +4,4 @@ pub mod Keyed
 pub mod Kept
 pub mod RowsLemmas
 pub mod LinesLemmas
+pub mod AppliedLemmas

@@ -3,6 +3,8 @@ pub mod Tables
 -- What a line says
 pub mod Rows
 pub mod Lines
+-- What a line makes of tables
+pub mod Applied
 -- How a line is spelled: its JSON value, and its text
 pub mod Spelling
 -- The numbers of errors

@@ -1,5 +1,6 @@
 //! Tests, one file for each theme.
 
 mod given;
+mod kinds;
 mod lines;
 mod tables;
