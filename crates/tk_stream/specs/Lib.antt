@@ -7,6 +7,9 @@ pub mod Lines
 pub mod Applied
 -- How a line is spelled: its JSON value, and its text
 pub mod Spelling
+-- Which line a text is
+pub mod Outcome
+pub mod Reading
 -- The numbers of errors
 pub mod Errors
 -- Inner: no public clause cites these

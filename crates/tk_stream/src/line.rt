@@ -24,11 +24,15 @@
 ghost use Rattle.std.specs.Prelude.{◌≡◌, true, IfOk, OnOk, if◌then◌else◌, IsTrue};
 ghost use Rattle.serde_json.specs.View.{view, members_view};
 ghost use Rattle.tk_stream.specs.Lines as lines;
+ghost use Rattle.tk_stream.specs.Outcome.{Answers, shaped};
+ghost use Rattle.tk_stream.specs.Reading as reading;
 ghost use Rattle.tk_stream.specs.Spelling as spec;
 ghost use Rattle.tk_stream.specs.Put as inner;
 
 use crate::between::{new_infos, told_stats};
 use crate::error::LineError;
+use crate::reading::{LineParts, json_of};
+use crate::shaped::list_of;
 use crate::spelled::put_list;
 use crate::tables::Tables;
 use serde_json::{Map, Value, json, put};
@@ -37,7 +41,7 @@ use std::marker::Model;
 use tk_core::{OpRow, ResourceRow, TaskRow};
 use tk_ids::{AsyncOpId, Dropped, OpInfo, ResourceId, ResourceInfo, TaskId, TaskInfo};
 
-/// What one line of a stream says. A line is made by [`Line::between`] alone.
+/// What one line of a stream says. A line is made by [`Line::between`] and [`Line::read`] alone.
 #[derive(Debug, Drop)]
 pub struct Line {
     dropped: Dropped,
@@ -80,6 +84,7 @@ impl Model for Line {
 impl Line {
     ghost use Rattle.std.specs.Prelude.{IfErr};
     ghost use Rattle.tk_stream.specs.Tables.{empty_tables};
+    ghost use Rattle.tk_stream.specs.Reading.{line_of_text};
 
     /// The line numbered `seq` that leads from the old tables to the new ones: the infos of the items that are new, the
     /// rows of the items that are new or whose row differs, the poll counts that are new or differ, each list in the order
@@ -114,6 +119,19 @@ impl Line {
             snapshot,
             task_stats: told_stats(alloc, &old.tasks, &new.tasks)?,
         })
+    }
+
+    /// The line of a text: the JSON object that `serde_json` reads, with exactly a line's keys, each with a value of its
+    /// kind. White space between its parts and the order of its keys are free.
+    ///
+    /// - `BadJson`: `serde_json` reads no value. Bytes that are not UTF-8 are such a text, and an empty one.
+    /// - `BadShape`: the value is no line.
+    /// - `Memory`: there is no memory for the value or the line.
+    pub fn read(alloc: Global, bytes: &[u8]) -> Result<Line, LineError>
+        ensures { Answers (λ line. line) result (line_of_text bytes.now) }
+    {
+        let value = json_of(alloc, bytes)?;
+        line_of(alloc, &value)
     }
 
     /// The text of the line: one JSON object, compact, with its keys in byte order and without a line end.
@@ -308,4 +326,33 @@ fn dropped_value(alloc: Global, dropped: Dropped) -> Result<Value, AllocError>
     let resources = dropped.resources;
     let ops = dropped.ops;
     json!(in alloc; [tasks, resources, ops])
+}
+
+#[tactic(auto, unfolding(crate::specs::Reading::line_of))]
+fn line_of(alloc: Global, value: &Value) -> Result<Line, LineError>
+    ensures { Answers (λ line. line) result (shaped (reading.line_of (view value.now))) }
+{
+    let Some(parts) = LineParts::of(value) else {
+        return Err(LineError::BadShape);
+    };
+    let new_ops = list_of(alloc, parts.new_ops)?;
+    let new_resources = list_of(alloc, parts.new_resources)?;
+    let new_tasks = list_of(alloc, parts.new_tasks)?;
+    let op_stats = list_of(alloc, parts.op_stats)?;
+    let poll_counts = list_of(alloc, parts.poll_counts)?;
+    let resource_stats = list_of(alloc, parts.resource_stats)?;
+    let task_stats = list_of(alloc, parts.task_stats)?;
+    Ok(Line {
+        dropped: parts.dropped,
+        new_ops,
+        new_resources,
+        new_tasks,
+        moment: parts.now,
+        op_stats,
+        poll_counts,
+        resource_stats,
+        seq: parts.seq,
+        snapshot: parts.snapshot,
+        task_stats,
+    })
 }

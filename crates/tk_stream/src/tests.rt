@@ -3,4 +3,5 @@
 mod given;
 mod kinds;
 mod lines;
+mod reading;
 mod tables;
