@@ -32,7 +32,7 @@ none_dropped = record { tasks = 0; resources = 0; ops = 0 }
 
 -- the tables that a line of a moment tells of
 abbrev pub tables_at : List Item → ℕ → TablesView
-tables_at items now = record { tasks = map task_of items; dropped = none_dropped; now = now }
+tables_at items now = record { tasks = map task_of items; resources = []; ops = []; counts = []; dropped = none_dropped; now = now }
 
 -- what is told of the n-th task of a script, which stands on a line of the script
 abbrev pub task_info : ℕ → ℕ → TaskKind → List ℕ → TaskInfo

@@ -1,44 +1,68 @@
 -- Entries that stand under their own ids.
-use Rattle.std.proofs.Common.{◌≡◌, ℕ, zero, suc, List, [], ◌∷◌, ◌++◌, cond, nat_eq, map, take, slice_get, Some, refl, ap, ap₂, sym, ◌∙◌}
+use Rattle.std.proofs.Common.{◌≡◌, ℕ, zero, suc, List, [], ◌∷◌, ◌++◌, Bool, true, false, cond, nat_eq, map, take, slice_get, Some, refl, ap, ap₂, sym, ◌∙◌}
+use Rattle.std.specs.List.{AllZip}
+use Rattle.std.proofs.lemmas.Bool.{eqb-true}
 use Rattle.std.proofs.lemmas.Option.{same_Some}
 use Rattle.std.specs.Map.{lookup, keys_of, values_of}
-use Rattle.tk_core.specs.declared.task.row.TaskRow.{TaskRow}
+use Rattle.indexmap.specs.IndexMap.{insert_entry}
 use Rattle.indexmap.specs.Layout.{set_value_at}
-use Rattle.tk_stream.specs.declared.task.Task.{Task}
-use Rattle.tk_stream.specs.Tables.{TablesView, task_id, task_with, with_row}
+use Rattle.tk_stream.specs.Tables.{item_with, changed_at, put_item}
 use Rattle.tk_stream.specs.Entries.{AreKeyed}
 
-pub lookup-task_with : (id : ℕ) (es : List (ℕ × Task)) → AreKeyed es → lookup (nat_eq id) es ≡ task_with id (values_of es)
-lookup-task_with id [] h = refl
-lookup-task_with id (e ∷ es) h = ap₂ (λ k rest. cond (nat_eq id k) (Some e.1) rest) h.0 (lookup-task_with id es h.1)
+module _ {Item : Type 0} (id_of : Item → ℕ) where
+  pub lookup-item_with : (id : ℕ) (es : List (ℕ × Item)) → AreKeyed id_of es → lookup (nat_eq id) es ≡ item_with id_of id (values_of es)
+  lookup-item_with id [] h = refl
+  lookup-item_with id (e ∷ es) h = ap₂ (λ k rest. cond (nat_eq id k) (Some e.1) rest) h.0 (lookup-item_with id es h.1)
 
-pub AreKeyed-push : (es : List (ℕ × Task)) (t : Task) → AreKeyed es → AreKeyed (es ++ (t.info.id, t) ∷ [])
-AreKeyed-push [] t h = (refl, tt)
-AreKeyed-push (e ∷ es) t h = (h.0, AreKeyed-push es t h.1)
+  pub AreKeyed-push : (es : List (ℕ × Item)) (x : Item) → AreKeyed id_of es → AreKeyed id_of (es ++ (id_of x, x) ∷ [])
+  AreKeyed-push [] x h = (refl, tt)
+  AreKeyed-push (e ∷ es) x h = (h.0, AreKeyed-push es x h.1)
 
-pub AreKeyed-take : (n : ℕ) (es : List (ℕ × Task)) → AreKeyed es → AreKeyed (take n es)
-AreKeyed-take zero es h = tt
-AreKeyed-take (suc n) [] h = tt
-AreKeyed-take (suc n) (e ∷ es) h = (h.0, AreKeyed-take n es h.1)
+  pub AreKeyed-take : (n : ℕ) (es : List (ℕ × Item)) → AreKeyed id_of es → AreKeyed id_of (take n es)
+  AreKeyed-take zero es h = tt
+  AreKeyed-take (suc n) [] h = tt
+  AreKeyed-take (suc n) (e ∷ es) h = (h.0, AreKeyed-take n es h.1)
 
-pub AreKeyed-set : (es : List (ℕ × Task)) (i : ℕ) (t : Task) (row : TaskRow) → AreKeyed es → slice_get (values_of es) i ≡ Some t → AreKeyed (set_value_at es i (record t { row = row }))
-AreKeyed-set [] i t row h at = tt
-AreKeyed-set (e ∷ es) zero t row h at = (h.0 ∙ ap (λ (x : Task). x.info.id) (same_Some e.1 t at), h.1)
-AreKeyed-set (e ∷ es) (suc i) t row h at = (h.0, AreKeyed-set es i t row h.1 at)
+  -- the keys are the items' ids
+  pub keys_of-keyed : (es : List (ℕ × Item)) → AreKeyed id_of es → keys_of es ≡ map id_of (values_of es)
+  keys_of-keyed [] h = refl
+  keys_of-keyed (e ∷ es) h = ap₂ (λ k ks. k ∷ ks) h.0 (keys_of-keyed es h.1)
 
-pub values_of-set : (es : List (ℕ × Task)) (i : ℕ) (t : Task) (row : TaskRow) → slice_get (values_of es) i ≡ Some t → values_of (set_value_at es i (record t { row = row })) ≡ with_row (values_of es) i row
-values_of-set [] i t row at = refl
-values_of-set (e ∷ es) zero t row at = ap (λ (x : Task). record x { row = row } ∷ values_of es) (sym (same_Some e.1 t at))
-values_of-set (e ∷ es) (suc i) t row at = ap (λ ts. e.1 ∷ ts) (values_of-set es i t row at)
+  module _ (change : Item → Item) (keeps : (x : Item) → id_of (change x) ≡ id_of x) where
+    pub AreKeyed-set : (es : List (ℕ × Item)) (i : ℕ) (x : Item) → AreKeyed id_of es → slice_get (values_of es) i ≡ Some x → AreKeyed id_of (set_value_at es i (change x))
+    AreKeyed-set [] i x h at = tt
+    AreKeyed-set (e ∷ es) zero x h at = (h.0 ∙ ap id_of (same_Some e.1 x at) ∙ sym (keeps x), h.1)
+    AreKeyed-set (e ∷ es) (suc i) x h at = (h.0, AreKeyed-set es i x h.1 at)
 
--- the keys are the tasks' ids
-pub keys_of-keyed : (es : List (ℕ × Task)) → AreKeyed es → keys_of es ≡ map task_id (values_of es)
-keys_of-keyed [] h = refl
-keys_of-keyed (e ∷ es) h = ap₂ (λ k ks. k ∷ ks) h.0 (keys_of-keyed es h.1)
+pub values_of-set : {Item : Type 0} (change : Item → Item) (es : List (ℕ × Item)) (i : ℕ) (x : Item) → slice_get (values_of es) i ≡ Some x
+    → values_of (set_value_at es i (change x)) ≡ changed_at change (values_of es) i
+values_of-set change [] i x at = refl
+values_of-set change (e ∷ es) zero x at = ap (λ y. change y ∷ values_of es) (sym (same_Some e.1 x at))
+values_of-set change (e ∷ es) (suc i) x at = ap (λ ys. e.1 ∷ ys) (values_of-set change es i x at)
 
-abbrev pub with_tasks : TablesView → List Task → TablesView
-with_tasks v ts = record v { tasks = ts }
+-- entries whose keys and values are copies are the same
+pub copied : {Item : Type 0} (C : Item → Item → Type 0) → ((a b : Item) → C a b → b ≡ a)
+    → (es fs : List (ℕ × Item)) → AllZip (λ p q. (q.0 ≡ p.0) × C p.1 q.1) es fs → fs ≡ es
+copied C h [] [] all = refl
+copied C h [] (f ∷ fs) all = absurd all
+copied C h (e ∷ es) [] all = absurd all
+copied C h (e ∷ es) (f ∷ fs) all = ap₂ (λ x xs. x ∷ xs) (λ i. (all.0.0 i, h e.1 f.1 all.0.1 i)) (copied C h es fs all.1)
 
--- what a call makes of the tables, by what it makes of their tasks
-pub viewed : {v w : TablesView} (f : List Task → List Task) {ts : List Task} → v ≡ w → ts ≡ f v.tasks → with_tasks v ts ≡ with_tasks w (f w.tasks)
-viewed {v} {w} f {ts} e h = ap (with_tasks v) h ∙ ap (λ (u : TablesView). with_tasks u (f u.tasks)) e
+module _ {Item : Type 0} (id_of : Item → ℕ) where
+  -- a key that is not there goes last, and one that is there keeps its place
+  pub AreKeyed-insert : (es : List (ℕ × Item)) (x : Item) → AreKeyed id_of es → AreKeyed id_of (insert_entry nat_eq es (id_of x) x)
+  AreKeyed-insert [] x h = (refl, tt)
+  AreKeyed-insert (e ∷ es) x h = by (nat_eq (id_of x) e.0) refl (AreKeyed-insert es x h.1)
+    where
+      by : (b : Bool) → nat_eq (id_of x) e.0 ≡ b → AreKeyed id_of (insert_entry nat_eq es (id_of x) x) → AreKeyed id_of (cond b ((e.0, x) ∷ es) (e ∷ insert_entry nat_eq es (id_of x) x))
+      by true same rest = (sym (eqb-true (id_of x) e.0 same), h.1)
+      by false other rest = (h.0, rest)
+
+  pub values_of-insert : (es : List (ℕ × Item)) (x : Item) → AreKeyed id_of es → values_of (insert_entry nat_eq es (id_of x) x) ≡ put_item id_of x (values_of es)
+  values_of-insert [] x h = refl
+  values_of-insert (e ∷ es) x h = by (nat_eq (id_of x) e.0) (values_of-insert es x h.1) ∙ ap (λ k. cond (nat_eq (id_of x) k) (x ∷ values_of es) (e.1 ∷ put_item id_of x (values_of es))) h.0
+    where
+      by : (b : Bool) → values_of (insert_entry nat_eq es (id_of x) x) ≡ put_item id_of x (values_of es)
+          → values_of (cond b ((e.0, x) ∷ es) (e ∷ insert_entry nat_eq es (id_of x) x)) ≡ cond b (x ∷ values_of es) (e.1 ∷ put_item id_of x (values_of es))
+      by true rest = refl
+      by false rest = ap (λ xs. e.1 ∷ xs) rest

@@ -3,4 +3,8 @@ pub mod NoEnds
 pub mod Keyed
 pub mod Kept
 pub mod RowsLemmas
+pub mod Lists
+pub mod Values
+pub mod Texts
 pub mod LinesLemmas
+pub mod AppliedLemmas

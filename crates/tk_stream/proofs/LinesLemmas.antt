@@ -1,13 +1,11 @@
--- What is told of all tasks, and of none.
+-- What is told of all items, and of none.
 use Rattle.std.proofs.Common.{◌≡◌, ℕ, List, [], ◌∷◌, Bool, true, false, cond, Some, nat_eq, refl, ap, sym, ◌∙◌}
 use Rattle.std.specs.Prelude.{map, filter, is_none, not}
 use Rattle.std.specs.Option.{option_map_or}
 use Rattle.std.specs.List.{AllByRecursion, IsDistinct}
 use Rattle.std.proofs.lemmas.Bool.{eqb-true, eq-eqb}
-use Rattle.tk_stream.specs.declared.task.Task.{Task}
-use Rattle.tk_stream.specs.Tables.{TablesView, AreFit, task_id, task_with}
-use Rattle.tk_stream.specs.Lines.{is_new, is_told, have_same_row, line_between, snapshot_of}
-use Rattle.tk_stream.proofs.RowsLemmas.{agrees}
+use Rattle.tk_stream.specs.Tables.{item_with}
+use Rattle.tk_stream.specs.Lines.{is_new, is_told, new_infos, told_stats}
 
 -- ---- all
 
@@ -15,11 +13,15 @@ filter-all : {A : Type 0} (p : A → Bool) → ((x : A) → p x ≡ true) → (x
 filter-all p h [] = refl
 filter-all p h (x ∷ xs) = rw (h x, filter-all p h xs) refl
 
-pub all_infos : (tables : TablesView) (seq : ℕ) → (snapshot_of tables seq).new_tasks ≡ map (λ t. t.info) tables.tasks
-all_infos tables seq = ap (map (λ t. t.info)) (filter-all (is_new task_id []) (λ t. refl) tables.tasks)
+pub all_infos : {Item Info : Type 0} (id_of : Item → ℕ) (info_of : Item → Info) (items : List Item) → new_infos id_of info_of [] items ≡ map info_of items
+all_infos id_of info_of items = ap (map info_of) (filter-all (is_new id_of []) (λ t. refl) items)
 
-pub all_rows : (tables : TablesView) (seq : ℕ) → (snapshot_of tables seq).task_stats ≡ map (λ t. (t.info.id, t.row)) tables.tasks
-all_rows tables seq = ap (map (λ t. (t.info.id, t.row))) (filter-all (is_told task_id have_same_row []) (λ t. refl) tables.tasks)
+pub all_stats : {Item Stats : Type 0} (id_of : Item → ℕ) (same : Item → Item → Bool) (stats_of : Item → Stats) (items : List Item) → told_stats id_of same stats_of [] items ≡ map stats_of items
+all_stats id_of same stats_of items = ap (map stats_of) (filter-all (is_told id_of same []) (λ t. refl) items)
+
+pub map-same : {A : Type 0} (xs : List A) → map (λ x. x) xs ≡ xs
+map-same [] = refl
+map-same (x ∷ xs) = ap (λ ys. x ∷ ys) (map-same xs)
 
 -- ---- none
 
@@ -31,40 +33,38 @@ all_by : {A : Type 0} (P Q : A → Type 0) → ((x : A) → P x → Q x) → (xs
 all_by P Q h [] all = tt
 all_by P Q h (x ∷ xs) all = (h x all.0, all_by P Q h xs all.1)
 
-differ : (a b : ℕ) → nat_eq a b ≡ false → nat_eq b a ≡ false
+pub differ : (a b : ℕ) → nat_eq a b ≡ false → nat_eq b a ≡ false
 differ a b h = by (nat_eq b a) refl
   where
     by : (t : Bool) → nat_eq b a ≡ t → t ≡ false
     by true e = sym (eq-eqb a b (sym (eqb-true b a e))) ∙ h
     by false e = refl
 
--- a task is found by its id
-abbrev IsFound : List Task → Task → Type 0
-IsFound tasks t = task_with t.info.id tasks ≡ Some t
+module _ {Item : Type 0} (id_of : Item → ℕ) where
+  -- an item is found by its id
+  abbrev pub IsFound : List Item → Item → Type 0
+  IsFound items x = item_with id_of (id_of x) items ≡ Some x
 
-found_behind : (x : Task) (us ts : List Task) → AllByRecursion (λ id. nat_eq x.info.id id ≡ false) (map task_id us) → AllByRecursion (IsFound ts) us → AllByRecursion (IsFound (x ∷ ts)) us
-found_behind x [] ts apart found = tt
-found_behind x (u ∷ us) ts apart found =
-    (ap (λ b. cond b (Some x) (task_with u.info.id ts)) (differ x.info.id u.info.id apart.0) ∙ found.0, found_behind x us ts apart.1 found.1)
+  found_behind : (x : Item) (us xs : List Item) → AllByRecursion (λ id. nat_eq (id_of x) id ≡ false) (map id_of us) → AllByRecursion (IsFound xs) us → AllByRecursion (IsFound (x ∷ xs)) us
+  found_behind x [] xs apart found = tt
+  found_behind x (u ∷ us) xs apart found =
+      (ap (λ b. cond b (Some x) (item_with id_of (id_of u) xs)) (differ (id_of x) (id_of u) apart.0) ∙ found.0, found_behind x us xs apart.1 found.1)
 
-each_found : (ts : List Task) → IsDistinct nat_eq (map task_id ts) → AllByRecursion (IsFound ts) ts
-unfolding IsDistinct
-each_found [] distinct = tt
-each_found (x ∷ ts) distinct =
-    (ap (λ b. cond b (Some x) (task_with x.info.id ts)) (eq-eqb x.info.id x.info.id refl), found_behind x ts ts distinct.0 (each_found ts distinct.1))
+  pub each_found : (xs : List Item) → IsDistinct nat_eq (map id_of xs) → AllByRecursion (IsFound xs) xs
+  unfolding IsDistinct
+  each_found [] distinct = tt
+  each_found (x ∷ xs) distinct =
+      (ap (λ b. cond b (Some x) (item_with id_of (id_of x) xs)) (eq-eqb (id_of x) (id_of x) refl), found_behind x xs xs distinct.0 (each_found xs distinct.1))
 
-not_new : (ts : List Task) (t : Task) → IsFound ts t → is_new task_id ts t ≡ false
-not_new ts t found = ap is_none found
+  not_new : (xs : List Item) (x : Item) → IsFound xs x → is_new id_of xs x ≡ false
+  not_new xs x found = ap is_none found
 
-not_told : (ts : List Task) (t : Task) → IsFound ts t → is_told task_id have_same_row ts t ≡ false
-not_told ts t found = ap (λ o. option_map_or (λ before. not (have_same_row before t)) o true) found ∙ ap not (agrees t.row)
+  pub no_infos : {Info : Type 0} (info_of : Item → Info) (xs : List Item) → IsDistinct nat_eq (map id_of xs) → new_infos id_of info_of xs xs ≡ []
+  no_infos info_of xs distinct = ap (map info_of) (filter-none (is_new id_of xs) xs (all_by (IsFound xs) _ (not_new xs) xs (each_found xs distinct)))
 
-pub no_infos : (tables : TablesView) (seq : ℕ) → AreFit tables → (line_between tables tables seq).new_tasks ≡ []
-no_infos tables seq fit =
-    let ts : List Task = tables.tasks in
-    ap (map (λ t. t.info)) (filter-none (is_new task_id ts) ts (all_by (IsFound ts) _ (not_new ts) ts (each_found ts fit.tasks)))
+  module _ (same : Item → Item → Bool) (agrees : (x : Item) → same x x ≡ true) where
+    not_told : (xs : List Item) (x : Item) → IsFound xs x → is_told id_of same xs x ≡ false
+    not_told xs x found = ap (λ o. option_map_or (λ before. not (same before x)) o true) found ∙ ap not (agrees x)
 
-pub no_rows : (tables : TablesView) (seq : ℕ) → AreFit tables → (line_between tables tables seq).task_stats ≡ []
-no_rows tables seq fit =
-    let ts : List Task = tables.tasks in
-    ap (map (λ t. (t.info.id, t.row))) (filter-none (is_told task_id have_same_row ts) ts (all_by (IsFound ts) _ (not_told ts) ts (each_found ts fit.tasks)))
+    pub no_stats : {Stats : Type 0} (stats_of : Item → Stats) (xs : List Item) → IsDistinct nat_eq (map id_of xs) → told_stats id_of same stats_of xs xs ≡ []
+    no_stats stats_of xs distinct = ap (map stats_of) (filter-none (is_told id_of same xs) xs (all_by (IsFound xs) _ (not_told xs) xs (each_found xs distinct)))

@@ -1,10 +1,15 @@
 -- Two rows agree in each of their fields exactly where they are equal.
-use Rattle.std.proofs.Common.{◌≡◌, ℕ, Bool, true, false, Option, Some, None, nat_eq, refl, ap, sym, ◌∙◌, ◌↔◌}
+use Rattle.std.proofs.Common.{◌≡◌, ℕ, List, [], ◌∷◌, Bool, true, false, Option, Some, None, nat_eq, refl, ap, ap₂, sym, ◌∙◌, ◌↔◌}
 use Rattle.std.specs.Bool.{beq}
 use Rattle.std.specs.Option.{option_eq}
 use Rattle.std.proofs.lemmas.Bool.{and_parts, eqb-true, eq-eqb}
+use Rattle.tk_core.specs.declared.op.row.OpRow.{OpRow}
+use Rattle.tk_core.specs.declared.resource.row.ResourceRow.{ResourceRow}
 use Rattle.tk_core.specs.declared.task.row.TaskRow.{TaskRow}
-use Rattle.tk_stream.specs.Rows.{same_row}
+use Rattle.tk_ids.specs.declared.attr.AttrValue.{AttrValue}
+use Rattle.tk_ids.specs.declared.attr.AttrValue.TheVariants.{U64, Bool as Flag}
+use Rattle.tk_stream.specs.Tables.{PollCounts}
+use Rattle.tk_stream.specs.Rows.{same_row, same_value, same_values, same_resource_row, same_op_row, same_counts}
 
 flags_agree : (a b : Bool) → beq a b ≡ true → a ≡ b
 flags_agree true true h = refl
@@ -78,3 +83,92 @@ agrees a =
 
 pub same_rows : (a b : TaskRow) → (same_row a b ≡ true) ↔ (a ≡ b)
 same_rows a b = (fields_agree a b, λ e. ap (same_row a) (sym e) ∙ agrees a)
+
+-- ---- resources, async operations and poll counts
+
+value_agrees : (a b : AttrValue) → same_value a b ≡ true → a ≡ b
+value_agrees (U64 m) (U64 n) h = ap U64 (eqb-true m n h)
+value_agrees (U64 m) (Flag c) h = absurd (cc)
+value_agrees (Flag b) (U64 n) h = absurd (cc)
+value_agrees (Flag b) (Flag c) h = ap Flag (flags_agree b c h)
+
+same_one : (a : AttrValue) → same_value a a ≡ true
+same_one (U64 n) = same_number n
+same_one (Flag b) = same_flag b
+
+values_agree : (vs ws : List AttrValue) → same_values vs ws ≡ true → vs ≡ ws
+values_agree [] [] h = refl
+values_agree [] (b ∷ ws) h = absurd (cc)
+values_agree (a ∷ vs) [] h = absurd (cc)
+values_agree (a ∷ vs) (b ∷ ws) h =
+    let p = and_parts (same_value a b) (same_values vs ws) h in
+    ap₂ (λ x xs. x ∷ xs) (value_agrees a b p.0) (values_agree vs ws p.1)
+
+same_list : (vs : List AttrValue) → same_values vs vs ≡ true
+same_list [] = refl
+same_list (a ∷ vs) = rw (same_one a, same_list vs) refl
+
+resource_fields_agree : (a b : ResourceRow) → same_resource_row a b ≡ true → a ≡ b
+resource_fields_agree a b h =
+    let p3 = and_parts _ (same_values a.attrs b.attrs) h in
+    let p2 = and_parts _ (nat_eq a.handles b.handles) p3.0 in
+    let p1 = and_parts (nat_eq a.created b.created) (option_eq nat_eq a.dropped b.dropped) p2.0 in
+    let created : a.created ≡ b.created = eqb-true _ _ p1.0 in
+    let dropped : a.dropped ≡ b.dropped = moments_agree _ _ p1.1 in
+    let handles : a.handles ≡ b.handles = eqb-true _ _ p2.1 in
+    let attrs : a.attrs ≡ b.attrs = values_agree _ _ p3.1 in
+    λ i. record { created = created i; dropped = dropped i; handles = handles i; attrs = attrs i }
+
+pub resource_agrees : (a : ResourceRow) → same_resource_row a a ≡ true
+resource_agrees a = rw (same_number a.created, same_moment a.dropped, same_number a.handles, same_list a.attrs) refl
+
+pub same_resource_rows : (a b : ResourceRow) → (same_resource_row a b ≡ true) ↔ (a ≡ b)
+same_resource_rows a b = (resource_fields_agree a b, λ e. ap (same_resource_row a) (sym e) ∙ resource_agrees a)
+
+op_fields_agree : (a b : OpRow) → same_op_row a b ≡ true → a ≡ b
+op_fields_agree a b h =
+    let p10 = and_parts _ (same_values a.attrs b.attrs) h in
+    let p9 = and_parts _ (beq a.polling b.polling) p10.0 in
+    let p8 = and_parts _ (option_eq nat_eq a.task b.task) p9.0 in
+    let p7 = and_parts _ (nat_eq a.handles b.handles) p8.0 in
+    let p6 = and_parts _ (nat_eq a.busy b.busy) p7.0 in
+    let p5 = and_parts _ (option_eq nat_eq a.last_ended b.last_ended) p6.0 in
+    let p4 = and_parts _ (option_eq nat_eq a.last_started b.last_started) p5.0 in
+    let p3 = and_parts _ (option_eq nat_eq a.first_poll b.first_poll) p4.0 in
+    let p2 = and_parts _ (nat_eq a.polls b.polls) p3.0 in
+    let p1 = and_parts (nat_eq a.created b.created) (option_eq nat_eq a.dropped b.dropped) p2.0 in
+    let created : a.created ≡ b.created = eqb-true _ _ p1.0 in
+    let dropped : a.dropped ≡ b.dropped = moments_agree _ _ p1.1 in
+    let polls : a.polls ≡ b.polls = eqb-true _ _ p2.1 in
+    let first_poll : a.first_poll ≡ b.first_poll = moments_agree _ _ p3.1 in
+    let last_started : a.last_started ≡ b.last_started = moments_agree _ _ p4.1 in
+    let last_ended : a.last_ended ≡ b.last_ended = moments_agree _ _ p5.1 in
+    let busy : a.busy ≡ b.busy = eqb-true _ _ p6.1 in
+    let handles : a.handles ≡ b.handles = eqb-true _ _ p7.1 in
+    let task : a.task ≡ b.task = moments_agree _ _ p8.1 in
+    let polling : a.polling ≡ b.polling = flags_agree _ _ p9.1 in
+    let attrs : a.attrs ≡ b.attrs = values_agree _ _ p10.1 in
+    λ i. record { created = created i; dropped = dropped i; polls = polls i; first_poll = first_poll i; last_started = last_started i; last_ended = last_ended i; busy = busy i; handles = handles i; task = task i; polling = polling i; attrs = attrs i }
+
+pub op_agrees : (a : OpRow) → same_op_row a a ≡ true
+op_agrees a =
+    rw (same_number a.created, same_moment a.dropped, same_number a.polls, same_moment a.first_poll, same_moment a.last_started, same_moment a.last_ended, same_number a.busy, same_number a.handles, same_moment a.task, same_flag a.polling, same_list a.attrs)
+    refl
+
+pub same_op_rows : (a b : OpRow) → (same_op_row a b ≡ true) ↔ (a ≡ b)
+same_op_rows a b = (op_fields_agree a b, λ e. ap (same_op_row a) (sym e) ∙ op_agrees a)
+
+counts_agree : (a b : PollCounts) → same_counts a b ≡ true → a ≡ b
+counts_agree a b h =
+    let p2 = and_parts _ (nat_eq a.2 b.2) h in
+    let p1 = and_parts (nat_eq a.0 b.0) (nat_eq a.1 b.1) p2.0 in
+    let id : a.0 ≡ b.0 = eqb-true _ _ p1.0 in
+    let ready : a.1 ≡ b.1 = eqb-true _ _ p1.1 in
+    let pending : a.2 ≡ b.2 = eqb-true _ _ p2.1 in
+    λ i. (id i, ready i, pending i)
+
+pub all_counts_agree : (a : PollCounts) → same_counts a a ≡ true
+all_counts_agree a = rw (same_number a.0, same_number a.1, same_number a.2) refl
+
+pub same_poll_counts : (a b : PollCounts) → (same_counts a b ≡ true) ↔ (a ≡ b)
+same_poll_counts a b = (counts_agree a b, λ e. ap (same_counts a) (sym e) ∙ all_counts_agree a)

@@ -3,8 +3,13 @@ pub mod Tables
 -- What a line says
 pub mod Rows
 pub mod Lines
+-- What a line makes of tables
+pub mod Applied
 -- How a line is spelled: its JSON value, and its text
 pub mod Spelling
+-- Which line a text is
+pub mod Outcome
+pub mod Reading
 -- The numbers of errors
 pub mod Errors
 -- Inner: no public clause cites these

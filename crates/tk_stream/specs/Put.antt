@@ -1,15 +1,23 @@
 -- How an object is made: a member after the other is put into it. No public clause cites this.
-use Rattle.std.specs.Prelude.{ℕ, List, [], ◌∷◌, map, codes}
+use Rattle.std.specs.Prelude.{ℕ, List, [], ◌∷◌, map, codes, Bool, Option}
 use Rattle.std.specs.Borrow.{Bor}
 use Rattle.serde_json.specs.Data.{Data, boolean, Members, put}
+use Rattle.tk_core.specs.declared.op.row.OpRow.{OpRow}
+use Rattle.tk_core.specs.declared.resource.row.ResourceRow.{ResourceRow}
+use Rattle.tk_core.specs.declared.task.row.TaskRow.{TaskRow}
+use Rattle.tk_ids.specs.declared.info.Dropped.{Dropped}
+use Rattle.tk_ids.specs.declared.info.OpInfo.{OpInfo}
+use Rattle.tk_ids.specs.declared.info.ResourceInfo.{ResourceInfo}
+use Rattle.tk_ids.specs.declared.info.TaskInfo.{TaskInfo}
 use Rattle.tk_stream.specs.declared.spelled.Field.{Field}
-use Rattle.tk_stream.specs.declared.spelled.Field.TheVariants.{Number, Moment, Flag}
-use Rattle.tk_stream.specs.Lines.{LineView, version}
-use Rattle.tk_stream.specs.Spelling.{number_data, moment_data, dropped_data, empty_list}
+use Rattle.tk_stream.specs.declared.spelled.Field.TheVariants.{Number, Optional, Flag}
+use Rattle.tk_stream.specs.Tables.{PollCounts}
+use Rattle.tk_stream.specs.Lines.{version}
+use Rattle.tk_stream.specs.Spelling.{number_data, optional_data, dropped_data, list_data, info_data, resource_data, op_data, stats_data, resource_stats_data, op_stats_data, counts_data}
 
 abbrev pub field_data : Field → Data
 field_data (Number n) = number_data n
-field_data (Moment moment) = moment_data moment
+field_data (Optional n) = optional_data n
 field_data (Flag flag) = boolean flag
 
 -- fields, without where their keys lie
@@ -22,25 +30,25 @@ with_fields [] ms = ms
 with_fields (f ∷ fs) ms = with_fields fs (put f.0 f.1 ms)
 
 -- the members of a line that are no lists of items, put in
-abbrev pub with_totals : LineView → Members → Members
-with_totals l ms =
-    with_fields ((codes "dropped", dropped_data l.dropped) ∷
-    (codes "now", number_data l.now) ∷
-    (codes "seq", number_data l.seq) ∷
-    (codes "snapshot", boolean l.snapshot) ∷
+abbrev pub with_totals : Dropped → ℕ → ℕ → Bool → Members → Members
+with_totals dropped now seq snapshot ms =
+    with_fields ((codes "dropped", dropped_data dropped) ∷
+    (codes "now", number_data now) ∷
+    (codes "seq", number_data seq) ∷
+    (codes "snapshot", boolean snapshot) ∷
     (codes "v", number_data version) ∷ []) ms
 
 -- the lists of new items, put in
-abbrev pub with_new_items : Data → Members → Members
-with_new_items new_tasks ms =
-    with_fields ((codes "new_ops", empty_list) ∷
-    (codes "new_resources", empty_list) ∷
-    (codes "new_tasks", new_tasks) ∷ []) ms
+abbrev pub with_new_items : List OpInfo → List ResourceInfo → List TaskInfo → Members → Members
+with_new_items ops resources tasks ms =
+    with_fields ((codes "new_ops", list_data op_data ops) ∷
+    (codes "new_resources", list_data resource_data resources) ∷
+    (codes "new_tasks", list_data info_data tasks) ∷ []) ms
 
 -- the lists of statistics and counts, put in
-abbrev pub with_stats : Data → Members → Members
-with_stats task_stats ms =
-    with_fields ((codes "op_stats", empty_list) ∷
-    (codes "poll_counts", empty_list) ∷
-    (codes "resource_stats", empty_list) ∷
-    (codes "task_stats", task_stats) ∷ []) ms
+abbrev pub with_stats : List (ℕ × OpRow) → List PollCounts → List (ℕ × ResourceRow) → List (ℕ × TaskRow) → Members → Members
+with_stats ops counts resources tasks ms =
+    with_fields ((codes "op_stats", list_data op_stats_data ops) ∷
+    (codes "poll_counts", list_data counts_data counts) ∷
+    (codes "resource_stats", list_data resource_stats_data resources) ∷
+    (codes "task_stats", list_data stats_data tasks) ∷ []) ms

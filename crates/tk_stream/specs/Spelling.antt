@@ -1,8 +1,17 @@
 -- How a line is spelled: the JSON value that it is, and the text of that. Reading is apart.
 use Rattle.std.specs.Prelude.{ℕ, ◌==◌, List, [], ◌∷◌, ◌++◌, map, codes, Bool, not, Option, Some, None}
 use Rattle.std.specs.List.{list_all}
+use Rattle.tk_core.specs.declared.op.row.OpRow.{OpRow}
+use Rattle.tk_core.specs.declared.resource.row.ResourceRow.{ResourceRow}
 use Rattle.tk_core.specs.declared.task.row.TaskRow.{TaskRow}
+use Rattle.tk_ids.specs.declared.attr.AttrInfo.{AttrInfo}
+use Rattle.tk_ids.specs.declared.attr.AttrKind.{AttrKind}
+use Rattle.tk_ids.specs.declared.attr.AttrKind.TheVariants as kinds
+use Rattle.tk_ids.specs.declared.attr.AttrValue.{AttrValue}
+use Rattle.tk_ids.specs.declared.attr.AttrValue.TheVariants as values
 use Rattle.tk_ids.specs.declared.info.Dropped.{Dropped}
+use Rattle.tk_ids.specs.declared.info.OpInfo.{OpInfo}
+use Rattle.tk_ids.specs.declared.info.ResourceInfo.{ResourceInfo}
 use Rattle.tk_ids.specs.declared.info.TaskInfo.{TaskInfo}
 use Rattle.tk_ids.specs.declared.location.Location.{Location}
 use Rattle.tk_ids.specs.declared.spec.TaskKind.{TaskKind}
@@ -10,6 +19,7 @@ use Rattle.tk_ids.specs.declared.spec.TaskKind.TheVariants.{Spawn, Blocking}
 use Rattle.serde_json.specs.Data.{Data, null, boolean, number, unsigned, string, array, object, Members, no_members, member}
 use Rattle.serde_json.specs.View.{items_of}
 use Rattle.serde_json.specs.Written.{compact_text}
+use Rattle.tk_stream.specs.Tables.{PollCounts}
 use Rattle.tk_stream.specs.Lines.{LineView, version}
 
 -- the members of a list of keys and values, in that order
@@ -29,10 +39,10 @@ list_data spelling xs = array (items_of (map spelling xs))
 abbrev pub number_data : ℕ → Data
 number_data n = number (unsigned n)
 
--- a moment, or null where there is none
-abbrev pub moment_data : Option ℕ → Data
-moment_data None = null
-moment_data (Some moment) = number_data moment
+-- a moment or an id, or null where there is none
+abbrev pub optional_data : Option ℕ → Data
+optional_data None = null
+optional_data (Some n) = number_data n
 
 -- how a kind of task is called
 abbrev pub kind_text : TaskKind → List ℕ
@@ -46,6 +56,33 @@ location_data at = array (items_of (string at.file ∷ number_data at.line ∷ n
 -- the totals of what was dropped, as [tasks, resources, ops]
 abbrev pub dropped_data : Dropped → Data
 dropped_data d = array (items_of (number_data d.tasks ∷ number_data d.resources ∷ number_data d.ops ∷ []))
+
+-- how a kind of attribute is called
+abbrev pub attr_kind_text : AttrKind → List ℕ
+attr_kind_text kinds.U64 = codes "u64"
+attr_kind_text kinds.Bool = codes "bool"
+
+-- a text, or null where there is none
+abbrev pub optional_text : Option (List ℕ) → Data
+optional_text None = null
+optional_text (Some text) = string text
+
+-- an attribute of an item, as [name, unit or null, kind], of a unit that is spelled already
+abbrev pub attr_members : List ℕ → Data → List ℕ → Data
+attr_members name unit kind = array (items_of (string name ∷ unit ∷ string kind ∷ []))
+
+-- an attribute of an item
+abbrev pub attr_data : AttrInfo → Data
+attr_data a = attr_members a.name (optional_text a.unit) (attr_kind_text a.kind)
+
+-- the value of an attribute: a number, or true or false
+abbrev pub value_data : AttrValue → Data
+value_data (values.U64 n) = number_data n
+value_data (values.Bool b) = boolean b
+
+-- the poll counts of a resource, as [resource, ready, pending]
+abbrev pub counts_data : PollCounts → Data
+counts_data c = array (items_of (number_data c.0 ∷ number_data c.1 ∷ number_data c.2 ∷ []))
 
 -- ---- objects, with their keys in byte order
 
@@ -67,14 +104,14 @@ stats_fields s =
     (codes "busy", number_data s.1.busy) ∷
     (codes "clones", number_data s.1.clones) ∷
     (codes "created", number_data s.1.created) ∷
-    (codes "dropped", moment_data s.1.dropped) ∷
+    (codes "dropped", optional_data s.1.dropped) ∷
     (codes "drops", number_data s.1.drops) ∷
-    (codes "first_poll", moment_data s.1.first_poll) ∷
+    (codes "first_poll", optional_data s.1.first_poll) ∷
     (codes "handles", number_data s.1.handles) ∷
     (codes "id", number_data s.0) ∷
-    (codes "last_ended", moment_data s.1.last_ended) ∷
-    (codes "last_started", moment_data s.1.last_started) ∷
-    (codes "last_wake", moment_data s.1.last_wake) ∷
+    (codes "last_ended", optional_data s.1.last_ended) ∷
+    (codes "last_started", optional_data s.1.last_started) ∷
+    (codes "last_wake", optional_data s.1.last_wake) ∷
     (codes "polling", boolean s.1.polling) ∷
     (codes "polls", number_data s.1.polls) ∷
     (codes "sched", number_data s.1.sched) ∷
@@ -86,30 +123,86 @@ stats_fields s =
 abbrev pub stats_data : ℕ × TaskRow → Data
 stats_data s = object_with (stats_fields s)
 
--- nothing stands in a list of items that tables don't hold yet
-abbrev pub empty_list : Data
-empty_list = array (items_of [])
+-- the info of a resource, of attributes and parts that are spelled already. Its type stands under `type`
+abbrev pub resource_members : Data → ℕ → List ℕ → Data → Data → List ℕ → Data
+resource_members attrs id kind location parent concrete = object_with (
+    (codes "attrs", attrs) ∷
+    (codes "id", number_data id) ∷
+    (codes "kind", string kind) ∷
+    (codes "loc", location) ∷
+    (codes "parent", parent) ∷
+    (codes "type", string concrete) ∷ [])
 
--- the members of a line, of lists and totals that are spelled already
-abbrev pub line_members : Data → Data → ℕ → ℕ → Bool → Data → List (List ℕ × Data)
-line_members dropped new_tasks now seq snapshot task_stats =
-    (codes "dropped", dropped) ∷
-    (codes "new_ops", empty_list) ∷
-    (codes "new_resources", empty_list) ∷
-    (codes "new_tasks", new_tasks) ∷
-    (codes "now", number_data now) ∷
-    (codes "op_stats", empty_list) ∷
-    (codes "poll_counts", empty_list) ∷
-    (codes "resource_stats", empty_list) ∷
-    (codes "seq", number_data seq) ∷
-    (codes "snapshot", boolean snapshot) ∷
-    (codes "task_stats", task_stats) ∷
+-- the info of a resource
+abbrev pub resource_data : ResourceInfo → Data
+resource_data r =
+    resource_members (list_data attr_data r.attrs) r.id r.kind (location_data r.location) (optional_data r.parent) r.concrete
+
+-- the members of a resource's statistics
+abbrev pub resource_stats_fields : ℕ × ResourceRow → List (List ℕ × Data)
+resource_stats_fields s =
+    (codes "attrs", list_data value_data s.1.attrs) ∷
+    (codes "created", number_data s.1.created) ∷
+    (codes "dropped", optional_data s.1.dropped) ∷
+    (codes "handles", number_data s.1.handles) ∷
+    (codes "id", number_data s.0) ∷ []
+
+-- a resource's statistics: its id and its row
+abbrev pub resource_stats_data : ℕ × ResourceRow → Data
+resource_stats_data s = object_with (resource_stats_fields s)
+
+-- the info of an async operation, of attributes and parts that are spelled already
+abbrev pub op_members : Data → ℕ → Data → ℕ → List ℕ → Data
+op_members attrs id parent resource source = object_with (
+    (codes "attrs", attrs) ∷
+    (codes "id", number_data id) ∷
+    (codes "parent", parent) ∷
+    (codes "resource", number_data resource) ∷
+    (codes "source", string source) ∷ [])
+
+-- the info of an async operation
+abbrev pub op_data : OpInfo → Data
+op_data o = op_members (list_data attr_data o.attrs) o.id (optional_data o.parent) o.resource o.source
+
+-- the members of an async operation's statistics
+abbrev pub op_stats_fields : ℕ × OpRow → List (List ℕ × Data)
+op_stats_fields s =
+    (codes "attrs", list_data value_data s.1.attrs) ∷
+    (codes "busy", number_data s.1.busy) ∷
+    (codes "created", number_data s.1.created) ∷
+    (codes "dropped", optional_data s.1.dropped) ∷
+    (codes "first_poll", optional_data s.1.first_poll) ∷
+    (codes "handles", number_data s.1.handles) ∷
+    (codes "id", number_data s.0) ∷
+    (codes "last_ended", optional_data s.1.last_ended) ∷
+    (codes "last_started", optional_data s.1.last_started) ∷
+    (codes "polling", boolean s.1.polling) ∷
+    (codes "polls", number_data s.1.polls) ∷
+    (codes "task", optional_data s.1.task) ∷ []
+
+-- an async operation's statistics: its id and its row
+abbrev pub op_stats_data : ℕ × OpRow → Data
+op_stats_data s = object_with (op_stats_fields s)
+
+-- the members of a line
+abbrev pub line_members : LineView → List (List ℕ × Data)
+line_members l =
+    (codes "dropped", dropped_data l.dropped) ∷
+    (codes "new_ops", list_data op_data l.new_ops) ∷
+    (codes "new_resources", list_data resource_data l.new_resources) ∷
+    (codes "new_tasks", list_data info_data l.new_tasks) ∷
+    (codes "now", number_data l.now) ∷
+    (codes "op_stats", list_data op_stats_data l.op_stats) ∷
+    (codes "poll_counts", list_data counts_data l.poll_counts) ∷
+    (codes "resource_stats", list_data resource_stats_data l.resource_stats) ∷
+    (codes "seq", number_data l.seq) ∷
+    (codes "snapshot", boolean l.snapshot) ∷
+    (codes "task_stats", list_data stats_data l.task_stats) ∷
     (codes "v", number_data version) ∷ []
 
 -- a line
 unfoldable pub line_data : LineView → Data
-line_data l = object_with (line_members (dropped_data l.dropped) (list_data info_data l.new_tasks) l.now l.seq l.snapshot
-    (list_data stats_data l.task_stats))
+line_data l = object_with (line_members l)
 
 -- ---- text
 

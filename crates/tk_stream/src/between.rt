@@ -1,81 +1,73 @@
-//! What a line tells of the tasks of new tables.
+//! What a line tells of the items of new tables.
 ghost use Rattle.std.specs.Prelude.{◌≡◌, ◌++◌, IfOk, OnOk};
 ghost use Rattle.tk_stream.specs.Lines as lines;
-ghost use Rattle.tk_stream.specs.Tables.{task_id};
 ghost use Rattle.tk_stream.specs.Kept.{kept};
 
-use crate::rows::same_row;
-use crate::tables::Tables;
-use crate::task::Task;
+use crate::table::Table;
+use crate::told::{Described, Told};
 use std::alloc::{AllocError, Global};
-use tk_core::TaskRow;
-use tk_ids::{TaskId, TaskInfo};
 
-fn is_new(old: &Tables, task: &Task) -> bool
-    ensures { result ≡ lines.is_new task_id old.now.tasks task.now }
+fn is_new<T: Described>(old: &Table<T>, item: &T) -> bool
+    ensures { result ≡ lines.is_new T.id_of old.now item.now }
 {
-    old.task(task.info.id).is_none()
+    old.with_id(item.id()).is_none()
 }
 
-fn is_told(old: &Tables, task: &Task) -> bool
-    ensures { result ≡ lines.is_told task_id lines.have_same_row old.now.tasks task.now }
+fn is_told<T: Told>(old: &Table<T>, item: &T) -> bool
+    ensures { result ≡ lines.is_told T.id_of T.same old.now item.now }
 {
-    match old.task(task.info.id) {
-        Some(before) => !same_row(&before.row, &task.row),
+    match old.with_id(item.id()) {
+        Some(before) => !before.is_same(item),
         None => true,
     }
 }
 
-fn keep_info(list: &mut Vec<TaskInfo>, keeps: bool, info: &TaskInfo) -> Result<(), AllocError>
-    ensures { OnOk result (list.new.items ≡ list.old.items ++ kept keeps info.now) }
+fn keep_info<T: Described>(list: &mut Vec<T::Info>, keeps: bool, item: &T) -> Result<(), AllocError>
+    ensures { OnOk result (list.new.items ≡ list.old.items ++ kept keeps (T.info_of item.now)) }
 {
     if keeps {
-        list.push(info.clone()?)?;
+        list.push(item.copy_info()?)?;
     }
     Ok(())
 }
 
-fn keep_row(
-    list: &mut Vec<(TaskId, TaskRow)>,
-    keeps: bool,
-    stats: (TaskId, TaskRow),
-) -> Result<(), AllocError>
-    ensures { OnOk result (list.new.items ≡ list.old.items ++ kept keeps stats) }
+fn keep_stats<T: Told>(list: &mut Vec<T::Stats>, keeps: bool, item: &T) -> Result<(), AllocError>
+    ensures { OnOk result (list.new.items ≡ list.old.items ++ kept keeps (T.stats_of item.now)) }
 {
     if keeps {
-        list.push(stats)?;
+        list.push(item.stats())?;
     }
     Ok(())
 }
 
-/// The infos of the tasks that are new.
-pub(crate) fn new_infos(
+/// What stays of the items that are new.
+pub(crate) fn new_infos<T: Described>(
     alloc: Global,
-    old: &Tables,
-    new: &Tables,
-) -> Result<Vec<TaskInfo>, AllocError>
-    ensures { IfOk result (λ v. v.items ≡ lines.new_infos old.now.tasks new.now.tasks) }
+    old: &Table<T>,
+    new: &Table<T>,
+) -> Result<Vec<T::Info>, AllocError>
+    ensures { IfOk result (λ v. v.items ≡ lines.new_infos T.id_of T.info_of old.now new.now) }
 {
     let mut list = Vec::new(alloc);
-    for i in 0..new.task_count() {
-        let task = new.task_at(i).unwrap();
-        keep_info(&mut list, is_new(old, task), &task.info)?;
+    for i in 0..new.len() {
+        let item = new.at(i).unwrap();
+        keep_info(&mut list, is_new(old, item), item)?;
     }
     Ok(list)
 }
 
-/// The rows of the tasks that are new or whose row differs.
-pub(crate) fn told_rows(
+/// What changes of the items that are new or not the same.
+pub(crate) fn told_stats<T: Told>(
     alloc: Global,
-    old: &Tables,
-    new: &Tables,
-) -> Result<Vec<(TaskId, TaskRow)>, AllocError>
-    ensures { IfOk result (λ v. v.items ≡ lines.told_rows old.now.tasks new.now.tasks) }
+    old: &Table<T>,
+    new: &Table<T>,
+) -> Result<Vec<T::Stats>, AllocError>
+    ensures { IfOk result (λ v. v.items ≡ lines.told_stats T.id_of T.same T.stats_of old.now new.now) }
 {
     let mut list = Vec::new(alloc);
-    for i in 0..new.task_count() {
-        let task = new.task_at(i).unwrap();
-        keep_row(&mut list, is_told(old, task), (task.info.id, task.row))?;
+    for i in 0..new.len() {
+        let item = new.at(i).unwrap();
+        keep_stats(&mut list, is_told(old, item), item)?;
     }
     Ok(list)
 }

@@ -1,27 +1,36 @@
 //! Laws of the definitions: each is the contract of a function that does nothing.
-ghost use Rattle.std.specs.Prelude.{◌≡◌, ℕ, true, ◌↔◌, map, []};
+ghost use Rattle.std.specs.Prelude.{◌≡◌, ℕ, true, Some, ◌↔◌};
+ghost use Rattle.tk_core.specs.declared.op.row.OpRow.{OpRow};
+ghost use Rattle.tk_core.specs.declared.resource.row.ResourceRow.{ResourceRow};
 ghost use Rattle.tk_core.specs.declared.task.row.TaskRow.{TaskRow};
-ghost use Rattle.tk_stream.specs.Rows.{same_row};
-ghost use Rattle.tk_stream.specs.Tables.{TablesView, AreFit};
-ghost use Rattle.tk_stream.specs.Lines.{line_between, snapshot_of};
+ghost use Rattle.tk_stream.specs.Rows.{same_row, same_resource_row, same_op_row, same_counts};
+ghost use Rattle.tk_stream.specs.Tables.{TablesView, PollCounts, AreDistinct, AreFit, empty_tables};
+ghost use Rattle.tk_stream.specs.Applied.{GoOn, tables_after};
+ghost use Rattle.tk_stream.specs.Lines.{line_between, snapshot_of, TellsAll, TellsNothing};
 
-/// Two rows agree in each of their fields exactly where they are equal.
+/// Two rows agree in each of their fields exactly where they are equal, and so do two poll counts.
 pub fn same_rows_are_equal()
-    ensures { (a b : TaskRow) → (same_row a b ≡ true) ↔ (a ≡ b) }
+    ensures tasks { (a b : TaskRow) → (same_row a b ≡ true) ↔ (a ≡ b) }
+    ensures resources { (a b : ResourceRow) → (same_resource_row a b ≡ true) ↔ (a ≡ b) }
+    ensures ops { (a b : OpRow) → (same_op_row a b ≡ true) ↔ (a ≡ b) }
+    ensures counts { (a b : PollCounts) → (same_counts a b ≡ true) ↔ (a ≡ b) }
 {}
 
-/// A snapshot line has the info and the row of each task.
+/// A snapshot line has the info and the row of each item, and all poll counts.
 pub fn snapshots_tell_all()
-    ensures infos { (tables : TablesView) (seq : ℕ)
-        → (snapshot_of tables seq).new_tasks ≡ map (λ t. t.info) tables.tasks }
-    ensures rows { (tables : TablesView) (seq : ℕ)
-        → (snapshot_of tables seq).task_stats ≡ map (λ t. (t.info.id, t.row)) tables.tasks }
+    ensures { (tables : TablesView) (seq : ℕ) → TellsAll tables (snapshot_of tables seq) }
 {}
 
-/// The line that leads from fit tables to the same tables tells of no task.
-pub fn unchanged_tasks_are_not_told()
-    ensures infos { (tables : TablesView) (seq : ℕ) → AreFit tables
-        → (line_between tables tables seq).new_tasks ≡ [] }
-    ensures rows { (tables : TablesView) (seq : ℕ) → AreFit tables
-        → (line_between tables tables seq).task_stats ≡ [] }
+/// The line that leads from tables to the same tables, in which no item stands twice, tells of no item and no count.
+pub fn unchanged_tables_are_not_told()
+    ensures { (tables : TablesView) (seq : ℕ) → AreDistinct tables → TellsNothing (line_between tables tables seq) }
+{}
+
+/// The line that leads from old tables to new ones makes the new ones of the old ones, and a snapshot line makes them of
+/// empty ones.
+pub fn lines_lead_on()
+    ensures between { (old new : TablesView) (seq : ℕ) → AreFit old → AreFit new → GoOn old new
+        → tables_after old (line_between old new seq) ≡ Some new }
+    ensures snapshot { (tables : TablesView) (seq : ℕ) → AreFit tables
+        → tables_after empty_tables (snapshot_of tables seq) ≡ Some tables }
 {}

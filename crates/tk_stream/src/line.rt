@@ -5,39 +5,54 @@
 //! | Key | Value |
 //! |---|---|
 //! | `dropped` | totals of what was dropped: `[tasks, resources, ops]` |
-//! | `new_ops`, `new_resources` | lists that are empty, since tables hold tasks alone yet |
+//! | `new_ops` | a list of `{"attrs":[A..],"id":N,"parent":N or null,"resource":N,"source":"..."}` |
+//! | `new_resources` | a list of `{"attrs":[A..],"id":N,"kind":"...","loc":[file, line, column],"parent":N or null,"type":"..."}` |
 //! | `new_tasks` | a list of `{"id":N,"kind":"spawn" or "blocking","loc":[file, line, column],"name":"..."}` |
 //! | `now` | the moment, in nanoseconds |
-//! | `op_stats`, `poll_counts`, `resource_stats` | lists that are empty, as above |
+//! | `op_stats` | a list of rows: an object with `id` and the row's 11 fields, each under its name |
+//! | `poll_counts` | a list of `[resource, ready, pending]` |
+//! | `resource_stats` | a list of rows: an object with `id` and the row's 4 fields, each under its name |
 //! | `seq` | the line's number, from 1 to 2^63 |
 //! | `snapshot` | whether the line tells of the tables as a whole |
-//! | `task_stats` | a list of rows: an object with `id` and the row's 16 fields, each under its name; an absent moment is `null` |
+//! | `task_stats` | a list of rows: an object with `id` and the row's 16 fields, each under its name |
 //! | `v` | 1, the version of the format |
+//!
+//! A is `[name, unit or null, "u64" or "bool"]`. In a row `attrs` is a list of values, each a number, `true` or `false`,
+//! and what is absent is `null`.
 //!
 //! `specs/Lines.antt` says what a line says, and `specs/Spelling.antt` how it is spelled.
 ghost use Rattle.std.specs.Prelude.{◌≡◌, true, IfOk, OnOk, if◌then◌else◌, IsTrue};
 ghost use Rattle.serde_json.specs.View.{view, members_view};
 ghost use Rattle.tk_stream.specs.Lines as lines;
+ghost use Rattle.tk_stream.specs.Outcome.{Answers, shaped};
+ghost use Rattle.tk_stream.specs.Reading as reading;
 ghost use Rattle.tk_stream.specs.Spelling as spec;
 ghost use Rattle.tk_stream.specs.Put as inner;
 
-use crate::between::{new_infos, told_rows};
+use crate::between::{new_infos, told_stats};
 use crate::error::LineError;
-use crate::spelled::{array_of, empty_list};
+use crate::reading::{LineParts, json_of};
+use crate::shaped::list_of;
+use crate::spelled::put_list;
 use crate::tables::Tables;
 use serde_json::{Map, Value, json, put};
 use std::alloc::{AllocError, Global};
 use std::marker::Model;
-use tk_core::TaskRow;
-use tk_ids::{Dropped, TaskId, TaskInfo};
+use tk_core::{OpRow, ResourceRow, TaskRow};
+use tk_ids::{AsyncOpId, Dropped, OpInfo, ResourceId, ResourceInfo, TaskId, TaskInfo};
 
-/// What one line of a stream says. A line is made by [`Line::between`] alone.
+/// What one line of a stream says. A line is made by [`Line::between`] and [`Line::read`] alone.
 #[derive(Debug, Drop)]
 pub struct Line {
     dropped: Dropped,
+    new_ops: Vec<OpInfo>,
+    new_resources: Vec<ResourceInfo>,
     new_tasks: Vec<TaskInfo>,
     // The key `now`.
     moment: u64,
+    op_stats: Vec<(AsyncOpId, OpRow)>,
+    poll_counts: Vec<(ResourceId, u64, u64)>,
+    resource_stats: Vec<(ResourceId, ResourceRow)>,
     seq: u64,
     snapshot: bool,
     task_stats: Vec<(TaskId, TaskRow)>,
@@ -51,8 +66,13 @@ impl Model for Line {
 
     ghost view = { λ l. record {
       dropped = l.dropped;
+      new_ops = l.new_ops.items;
+      new_resources = l.new_resources.items;
       new_tasks = l.new_tasks.items;
       now = l.moment;
+      op_stats = l.op_stats.items;
+      poll_counts = l.poll_counts.items;
+      resource_stats = l.resource_stats.items;
       seq = l.seq;
       snapshot = l.snapshot;
       task_stats = l.task_stats.items;
@@ -64,10 +84,11 @@ impl Model for Line {
 impl Line {
     ghost use Rattle.std.specs.Prelude.{IfErr};
     ghost use Rattle.tk_stream.specs.Tables.{empty_tables};
+    ghost use Rattle.tk_stream.specs.Reading.{line_of_text};
 
-    /// The line numbered `seq` that leads from the old tables to the new ones: the infos of the tasks that are new, the
-    /// rows of the tasks that are new or whose row differs, both in the order of the new tables, and the new tables'
-    /// totals and moment. `seq` is 1 to 2^63.
+    /// The line numbered `seq` that leads from the old tables to the new ones: the infos of the items that are new, the
+    /// rows of the items that are new or whose row differs, the poll counts that are new or differ, each list in the order
+    /// of the new tables, and the new tables' totals and moment. `seq` is 1 to 2^63.
     ///
     /// With `snapshot` it is the line that tells of the new tables as a whole. Then the old tables must be empty ones.
     ///
@@ -87,12 +108,30 @@ impl Line {
     {
         Ok(Line {
             dropped: new.dropped(),
-            new_tasks: new_infos(alloc, old, new)?,
+            new_ops: new_infos(alloc, &old.ops, &new.ops)?,
+            new_resources: new_infos(alloc, &old.resources, &new.resources)?,
+            new_tasks: new_infos(alloc, &old.tasks, &new.tasks)?,
             moment: new.now(),
+            op_stats: told_stats(alloc, &old.ops, &new.ops)?,
+            poll_counts: told_stats(alloc, &old.counts, &new.counts)?,
+            resource_stats: told_stats(alloc, &old.resources, &new.resources)?,
             seq,
             snapshot,
-            task_stats: told_rows(alloc, old, new)?,
+            task_stats: told_stats(alloc, &old.tasks, &new.tasks)?,
         })
+    }
+
+    /// The line of a text: the JSON object that `serde_json` reads, with exactly a line's keys, each with a value of its
+    /// kind. White space between its parts and the order of its keys are free.
+    ///
+    /// - `BadJson`: `serde_json` reads no value. Bytes that are not UTF-8 are such a text, and an empty one.
+    /// - `BadShape`: the value is no line.
+    /// - `Memory`: there is no memory for the value or the line.
+    pub fn read(alloc: Global, bytes: &[u8]) -> Result<Line, LineError>
+        ensures { Answers (λ line. line) result (line_of_text bytes.now) }
+    {
+        let value = json_of(alloc, bytes)?;
+        line_of(alloc, &value)
     }
 
     /// The text of the line: one JSON object, compact, with its keys in byte order and without a line end.
@@ -111,39 +150,31 @@ impl Line {
     fn to_value(&self, alloc: Global) -> Result<Value, AllocError>
         ensures { IfOk result (λ v. view v ≡ spec.line_data self.now) }
     {
-        let new_tasks = array_of(alloc, self.new_tasks.as_slice())?;
-        let task_stats = array_of(alloc, self.task_stats.as_slice())?;
-        self.object(alloc, new_tasks, task_stats)
-    }
-
-    // The lists stand apart from how they were spelled.
-    #[tactic(auto, unfolding(crate::specs::Put::with_fields))]
-    fn object(
-        &self,
-        alloc: Global,
-        new_tasks: Value,
-        task_stats: Value,
-    ) -> Result<Value, AllocError>
-        ensures { IfOk result (λ v. view v ≡ spec.object_with (spec.line_members (spec.dropped_data self.now.dropped)
-            (view new_tasks) self.now.now self.now.seq self.now.snapshot (view task_stats))) }
-    {
         let mut map = Map::new(alloc);
-        self.put_totals(alloc, &mut map)?;
-        put_new_items(alloc, &mut map, new_tasks)?;
-        put_stats(alloc, &mut map, task_stats)?;
+        put_totals(
+            alloc,
+            &mut map,
+            self.dropped,
+            self.moment,
+            self.seq,
+            self.snapshot,
+        )?;
+        put_new_items(
+            alloc,
+            &mut map,
+            self.new_ops.as_slice(),
+            self.new_resources.as_slice(),
+            self.new_tasks.as_slice(),
+        )?;
+        put_stats(
+            alloc,
+            &mut map,
+            self.op_stats.as_slice(),
+            self.poll_counts.as_slice(),
+            self.resource_stats.as_slice(),
+            self.task_stats.as_slice(),
+        )?;
         Ok(Value::Object(map))
-    }
-
-    #[tactic(auto, unfolding(crate::specs::Put::with_fields))]
-    fn put_totals(&self, alloc: Global, map: &mut Map<String, Value>) -> Result<(), AllocError>
-        ensures { OnOk result (members_view map.new.entries ≡ inner.with_totals self.now (members_view map.old.entries)) }
-    {
-        put(map, alloc, "dropped", dropped_value(alloc, self.dropped)?)?;
-        put(map, alloc, "now", Value::from(self.moment))?;
-        put(map, alloc, "seq", Value::from(self.seq))?;
-        put(map, alloc, "snapshot", Value::from(self.snapshot))?;
-        put(map, alloc, "v", Value::from(1u64))?;
-        Ok(())
     }
 
     /// How many tasks, resources and async operations were dropped in all.
@@ -151,6 +182,20 @@ impl Line {
         ensures { result ≡ self.now.dropped }
     {
         self.dropped
+    }
+
+    /// The infos of the async operations that are new, in order of arrival.
+    pub fn new_ops(&self) -> &[OpInfo]
+        ensures { result.now ≡ self.now.new_ops }
+    {
+        self.new_ops.as_slice()
+    }
+
+    /// The infos of the resources that are new, in order of arrival.
+    pub fn new_resources(&self) -> &[ResourceInfo]
+        ensures { result.now ≡ self.now.new_resources }
+    {
+        self.new_resources.as_slice()
     }
 
     /// The infos of the tasks that are new, in order of arrival.
@@ -165,6 +210,27 @@ impl Line {
         ensures { result ≡ self.now.now }
     {
         self.moment
+    }
+
+    /// The rows of async operations that the line tells, each with its operation's id, in order of arrival.
+    pub fn op_stats(&self) -> &[(AsyncOpId, OpRow)]
+        ensures { result.now ≡ self.now.op_stats }
+    {
+        self.op_stats.as_slice()
+    }
+
+    /// The poll counts that the line tells, each a resource's ready and pending ones, in order of the first.
+    pub fn poll_counts(&self) -> &[(ResourceId, u64, u64)]
+        ensures { result.now ≡ self.now.poll_counts }
+    {
+        self.poll_counts.as_slice()
+    }
+
+    /// The rows of resources that the line tells, each with its resource's id, in order of arrival.
+    pub fn resource_stats(&self) -> &[(ResourceId, ResourceRow)]
+        ensures { result.now ≡ self.now.resource_stats }
+    {
+        self.resource_stats.as_slice()
     }
 
     /// The number of the line in its stream, from 1 to 2^63.
@@ -182,7 +248,7 @@ impl Line {
         self.snapshot
     }
 
-    /// The rows that the line tells, each with its task's id, in order of arrival.
+    /// The rows of tasks that the line tells, each with its task's id, in order of arrival.
     pub fn task_stats(&self) -> &[(TaskId, TaskRow)]
         ensures { result.now ≡ self.now.task_stats }
     {
@@ -198,17 +264,39 @@ impl Line {
 }
 
 #[tactic(auto, unfolding(crate::specs::Put::with_fields))]
+fn put_totals(
+    alloc: Global,
+    map: &mut Map<String, Value>,
+    dropped: Dropped,
+    now: u64,
+    seq: u64,
+    snapshot: bool,
+) -> Result<(), AllocError>
+    ensures { OnOk result (members_view map.new.entries
+        ≡ inner.with_totals dropped now seq snapshot (members_view map.old.entries)) }
+{
+    put(map, alloc, "dropped", dropped_value(alloc, dropped)?)?;
+    put(map, alloc, "now", Value::from(now))?;
+    put(map, alloc, "seq", Value::from(seq))?;
+    put(map, alloc, "snapshot", Value::from(snapshot))?;
+    put(map, alloc, "v", Value::from(1u64))?;
+    Ok(())
+}
+
+#[tactic(auto, unfolding(crate::specs::Put::with_fields))]
 fn put_new_items(
     alloc: Global,
     map: &mut Map<String, Value>,
-    new_tasks: Value,
+    ops: &[OpInfo],
+    resources: &[ResourceInfo],
+    tasks: &[TaskInfo],
 ) -> Result<(), AllocError>
     ensures { OnOk result (members_view map.new.entries
-        ≡ inner.with_new_items (view new_tasks) (members_view map.old.entries)) }
+        ≡ inner.with_new_items ops.now resources.now tasks.now (members_view map.old.entries)) }
 {
-    put(map, alloc, "new_ops", empty_list(alloc))?;
-    put(map, alloc, "new_resources", empty_list(alloc))?;
-    put(map, alloc, "new_tasks", new_tasks)?;
+    put_list(alloc, map, "new_ops", ops)?;
+    put_list(alloc, map, "new_resources", resources)?;
+    put_list(alloc, map, "new_tasks", tasks)?;
     Ok(())
 }
 
@@ -216,15 +304,18 @@ fn put_new_items(
 fn put_stats(
     alloc: Global,
     map: &mut Map<String, Value>,
-    task_stats: Value,
+    ops: &[(AsyncOpId, OpRow)],
+    counts: &[(ResourceId, u64, u64)],
+    resources: &[(ResourceId, ResourceRow)],
+    tasks: &[(TaskId, TaskRow)],
 ) -> Result<(), AllocError>
     ensures { OnOk result (members_view map.new.entries
-        ≡ inner.with_stats (view task_stats) (members_view map.old.entries)) }
+        ≡ inner.with_stats ops.now counts.now resources.now tasks.now (members_view map.old.entries)) }
 {
-    put(map, alloc, "op_stats", empty_list(alloc))?;
-    put(map, alloc, "poll_counts", empty_list(alloc))?;
-    put(map, alloc, "resource_stats", empty_list(alloc))?;
-    put(map, alloc, "task_stats", task_stats)?;
+    put_list(alloc, map, "op_stats", ops)?;
+    put_list(alloc, map, "poll_counts", counts)?;
+    put_list(alloc, map, "resource_stats", resources)?;
+    put_list(alloc, map, "task_stats", tasks)?;
     Ok(())
 }
 
@@ -235,4 +326,33 @@ fn dropped_value(alloc: Global, dropped: Dropped) -> Result<Value, AllocError>
     let resources = dropped.resources;
     let ops = dropped.ops;
     json!(in alloc; [tasks, resources, ops])
+}
+
+#[tactic(auto, unfolding(crate::specs::Reading::line_of))]
+fn line_of(alloc: Global, value: &Value) -> Result<Line, LineError>
+    ensures { Answers (λ line. line) result (shaped (reading.line_of (view value.now))) }
+{
+    let Some(parts) = LineParts::of(value) else {
+        return Err(LineError::BadShape);
+    };
+    let new_ops = list_of(alloc, parts.new_ops)?;
+    let new_resources = list_of(alloc, parts.new_resources)?;
+    let new_tasks = list_of(alloc, parts.new_tasks)?;
+    let op_stats = list_of(alloc, parts.op_stats)?;
+    let poll_counts = list_of(alloc, parts.poll_counts)?;
+    let resource_stats = list_of(alloc, parts.resource_stats)?;
+    let task_stats = list_of(alloc, parts.task_stats)?;
+    Ok(Line {
+        dropped: parts.dropped,
+        new_ops,
+        new_resources,
+        new_tasks,
+        moment: parts.now,
+        op_stats,
+        poll_counts,
+        resource_stats,
+        seq: parts.seq,
+        snapshot: parts.snapshot,
+        task_stats,
+    })
 }

@@ -1,6 +1,6 @@
 //! What is spelled as JSON, and arrays of it.
-ghost use Rattle.std.specs.Prelude.{◌≡◌, IfOk, OnOk, map};
-ghost use Rattle.serde_json.specs.Data.{Data, object, no_members};
+ghost use Rattle.std.specs.Prelude.{◌≡◌, IfOk, OnOk, map, codes};
+ghost use Rattle.serde_json.specs.Data.{Data, object, no_members, put as json_put};
 ghost use Rattle.serde_json.specs.View.{view, members_view};
 ghost use Rattle.tk_stream.specs.Spelling as spec;
 ghost use Rattle.tk_stream.specs.Put.{with_fields, fields_view, field_data};
@@ -21,7 +21,7 @@ pub(crate) trait Spelled {
 #[derive(Clone, Copy, Debug)]
 pub(crate) enum Field {
     Number(u64),
-    Moment(Option<u64>),
+    Optional(Option<u64>),
     Flag(bool),
 }
 
@@ -32,11 +32,18 @@ pub(crate) fn array_of<T: Spelled>(alloc: Global, list: &[T]) -> Result<Value, A
     Ok(Value::Array(values_of(alloc, list)?))
 }
 
-/// The array of a list that has nothing in it.
-pub(crate) fn empty_list(alloc: Global) -> Value
-    ensures { view result ≡ spec.empty_list }
+/// Puts a list in at a key.
+pub(crate) fn put_list<T: Spelled>(
+    alloc: Global,
+    map: &mut Map<String, Value>,
+    key: &str,
+    list: &[T],
+) -> Result<(), AllocError>
+    ensures { OnOk result (members_view map.new.entries
+        ≡ json_put key.now (spec.list_data T.spelling list.now) (members_view map.old.entries)) }
 {
-    Value::Array(Vec::new(alloc))
+    let list = array_of(alloc, list)?;
+    put(map, alloc, key, list)
 }
 
 fn values_of<T: Spelled>(alloc: Global, list: &[T]) -> Result<Vec<Value>, AllocError>
@@ -49,13 +56,13 @@ fn values_of<T: Spelled>(alloc: Global, list: &[T]) -> Result<Vec<Value>, AllocE
     Ok(values)
 }
 
-fn value_of(field: Field) -> Value
+pub(crate) fn value_of(field: Field) -> Value
     ensures { view result ≡ field_data field }
 {
     match field {
         Field::Number(n) => Value::from(n),
-        Field::Moment(Some(moment)) => Value::from(moment),
-        Field::Moment(None) => Value::Null,
+        Field::Optional(Some(n)) => Value::from(n),
+        Field::Optional(None) => Value::Null,
         Field::Flag(flag) => Value::from(flag),
     }
 }
@@ -65,6 +72,21 @@ pub(crate) fn object_of(alloc: Global, fields: &[(&str, Field)]) -> Result<Value
     ensures { IfOk result (λ v. view v ≡ object (with_fields (fields_view fields.now) no_members)) }
 {
     let mut map = Map::new(alloc);
+    put_fields(alloc, &mut map, fields)?;
+    Ok(Value::Object(map))
+}
+
+/// The object with the values of attributes, and with a member for each field.
+pub(crate) fn object_with_attrs<T: Spelled>(
+    alloc: Global,
+    attrs: &[T],
+    fields: &[(&str, Field)],
+) -> Result<Value, AllocError>
+    ensures { IfOk result (λ v. view v ≡ object (with_fields (fields_view fields.now)
+        (json_put (codes "attrs") (spec.list_data T.spelling attrs.now) no_members))) }
+{
+    let mut map = Map::new(alloc);
+    put_list(alloc, &mut map, "attrs", attrs)?;
     put_fields(alloc, &mut map, fields)?;
     Ok(Value::Object(map))
 }

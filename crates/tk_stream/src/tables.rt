@@ -2,38 +2,49 @@
 //!
 //! Items stand in order of arrival, each found by its place or by its id. `specs/Tables.antt` says what tables hold and
 //! what each call makes of them.
-ghost use Rattle.std.specs.Prelude.{◌≡◌, ◌<◌, length, slice_get, None, IfOk, OnOk, OnErr, IfErr, option_map};
+ghost use Rattle.std.specs.Prelude.{◌≡◌, ◌<◌, length, slice_get, None, IfOk, OnOk, OnErr, IfErr, IsOk, IsSome, option_map};
 
+use crate::op::Op;
+use crate::resource::Resource;
+use crate::table::Table;
 use crate::task::Task;
-use indexmap::IndexMap;
 use std::alloc::{AllocError, Global};
 use std::marker::Model;
-use tk_core::TaskRow;
-use tk_ids::{Dropped, TaskId, TaskInfo};
+use tk_core::{OpRow, ResourceRow, TaskRow};
+use tk_ids::{AsyncOpId, Dropped, OpInfo, ResourceId, ResourceInfo, TaskId, TaskInfo};
 
-/// The tasks that were told of, how many events were dropped, and the moment of the last whole line.
+/// The items that were told of, the counts of poll operations, how many events were dropped, and the moment of the last
+/// whole line.
 #[derive(Debug, Drop)]
 pub struct Tables {
-    tasks: IndexMap<TaskId, Task>,
+    pub(crate) tasks: Table<Task>,
+    pub(crate) resources: Table<Resource>,
+    pub(crate) ops: Table<Op>,
+    // The resource, and how many of its poll operations were ready and how many pending.
+    pub(crate) counts: Table<(ResourceId, u64, u64)>,
     dropped: Dropped,
     // The key `now` of a line.
     moment: u64,
 }
 
 impl Model for Tables {
-    ghost use Rattle.std.specs.Map.{values_of};
     ghost use Rattle.tk_stream.specs.Tables.{TablesView};
-    ghost use Rattle.tk_stream.specs.Entries.{AreKeyed};
 
     ghost Value = { TablesView };
 
-    ghost view = { λ t. record { tasks = values_of t.tasks.entries; dropped = t.dropped; now = t.moment } };
-
-    ghost invariant = { λ t. AreKeyed t.tasks.entries };
+    ghost view = { λ t. record {
+      tasks = t.tasks;
+      resources = t.resources;
+      ops = t.ops;
+      counts = t.counts;
+      dropped = t.dropped;
+      now = t.moment;
+    } };
 }
 
+/// Look-ups.
 impl Tables {
-    ghost use Rattle.tk_stream.specs.Tables.{AreFit, empty_tables, task_with, with_task, with_row, cut_to};
+    ghost use Rattle.tk_stream.specs.Tables.{AreDistinct, empty_tables, task_with, resource_with, op_with, counts_of};
 
     /// Tables without items, whose numbers are 0. Today they take no memory, so there always are such tables.
     pub fn new(alloc: Global) -> Result<Tables, AllocError>
@@ -45,17 +56,23 @@ impl Tables {
             ops: 0,
         };
         Ok(Tables {
-            tasks: IndexMap::new(alloc),
+            tasks: Table::new(alloc),
+            resources: Table::new(alloc),
+            ops: Table::new(alloc),
+            counts: Table::new(alloc),
             dropped,
             moment: 0,
         })
     }
 
-    /// How many tasks there are. No two have the same id.
+    /// How many tasks there are. No item stands twice.
     pub fn task_count(&self) -> usize
         ensures count { result ≡ length self.now.tasks }
-        ensures fit { AreFit self.now }
+        ensures distinct { AreDistinct self.now }
     {
+        self.resources.len();
+        self.ops.len();
+        self.counts.len();
         self.tasks.len()
     }
 
@@ -63,15 +80,73 @@ impl Tables {
     pub fn task_at(&self, i: usize) -> Option<&Task>
         ensures { option_map (λ t. t.now) result ≡ slice_get self.now.tasks i }
     {
-        let (_, task) = self.tasks.get_index(i)?;
-        Some(task)
+        self.tasks.at(i)
     }
 
     /// The task with an id.
     pub fn task(&self, id: TaskId) -> Option<&Task>
         ensures { option_map (λ t. t.now) result ≡ task_with id self.now.tasks }
     {
-        self.tasks.get(&id)
+        self.tasks.with_id(id.value())
+    }
+
+    /// How many resources there are.
+    pub fn resource_count(&self) -> usize
+        ensures { result ≡ length self.now.resources }
+    {
+        self.resources.len()
+    }
+
+    /// The resource at a place, counted from 0 in order of arrival.
+    pub fn resource_at(&self, i: usize) -> Option<&Resource>
+        ensures { option_map (λ r. r.now) result ≡ slice_get self.now.resources i }
+    {
+        self.resources.at(i)
+    }
+
+    /// The resource with an id.
+    pub fn resource(&self, id: ResourceId) -> Option<&Resource>
+        ensures { option_map (λ r. r.now) result ≡ resource_with id self.now.resources }
+    {
+        self.resources.with_id(id.value())
+    }
+
+    /// How many async operations there are.
+    pub fn op_count(&self) -> usize
+        ensures { result ≡ length self.now.ops }
+    {
+        self.ops.len()
+    }
+
+    /// The async operation at a place, counted from 0 in order of arrival.
+    pub fn op_at(&self, i: usize) -> Option<&Op>
+        ensures { option_map (λ o. o.now) result ≡ slice_get self.now.ops i }
+    {
+        self.ops.at(i)
+    }
+
+    /// The async operation with an id.
+    pub fn op(&self, id: AsyncOpId) -> Option<&Op>
+        ensures { option_map (λ o. o.now) result ≡ op_with id self.now.ops }
+    {
+        self.ops.with_id(id.value())
+    }
+
+    /// How many resources have poll counts.
+    pub fn counted(&self) -> usize
+        ensures { result ≡ length self.now.counts }
+    {
+        self.counts.len()
+    }
+
+    /// How many poll operations of a resource were ready, and how many pending. A resource need not be in the tables.
+    pub fn poll_counts(&self, id: ResourceId) -> (u64, u64)
+        ensures { result ≡ counts_of id self.now.counts }
+    {
+        match self.counts.with_id(id.value()) {
+            Some((_, ready, pending)) => (*ready, *pending),
+            None => (0, 0),
+        }
     }
 
     /// How many tasks, resources and async operations were dropped in all.
@@ -88,6 +163,29 @@ impl Tables {
         self.moment
     }
 
+    /// Equal tables.
+    pub fn copy(&self) -> Result<Tables, AllocError>
+        ensures { IfOk result (λ tables. tables ≡ self.now) }
+    {
+        let tasks = self.tasks.copy()?;
+        let resources = self.resources.copy()?;
+        let ops = self.ops.copy()?;
+        let counts = self.counts.copy()?;
+        Ok(Tables {
+            tasks,
+            resources,
+            ops,
+            counts,
+            dropped: self.dropped,
+            moment: self.moment,
+        })
+    }
+}
+
+/// Changes.
+impl Tables {
+    ghost use Rattle.tk_stream.specs.Tables.{task_with, with_task, with_row, resource_with, with_resource, with_resource_row, op_with, with_op, with_op_row, counts_id, item_with, with_counts, cut_to};
+
     /// Puts a task last. Its id must not be there.
     ///
     /// Where there is no memory for it, the tables stay as they are and the info comes back.
@@ -97,12 +195,9 @@ impl Tables {
         ensures err { OnErr result (self.new ≡ self.old) }
         ensures returned { IfErr result (λ e. e.1 ≡ info) }
     {
-        match self.tasks.insert(info.id, Task { info, row }) {
-            Ok(_) => Ok(()),
-            Err(failed) => {
-                let (_, task) = failed.value;
-                Err((AllocError, task.info))
-            }
+        match self.tasks.push(Task { info, row }) {
+            Ok(()) => Ok(()),
+            Err(task) => Err((AllocError, task.info)),
         }
     }
 
@@ -111,7 +206,68 @@ impl Tables {
         requires { i < length self.old.tasks }
         ensures { self.new ≡ record self.old { tasks = with_row self.old.tasks i row } }
     {
-        self.tasks[i].row = row;
+        self.tasks.set(i, row);
+    }
+
+    /// Puts a resource last. Its id must not be there.
+    ///
+    /// Where there is no memory for it, the tables stay as they are and the info comes back.
+    pub fn add_resource(
+        &mut self,
+        info: ResourceInfo,
+        row: ResourceRow,
+    ) -> Result<(), (AllocError, ResourceInfo)>
+        requires { resource_with info.id self.old.resources ≡ None }
+        ensures ok { OnOk result (self.new ≡ with_resource self.old info row) }
+        ensures err { OnErr result (self.new ≡ self.old) }
+        ensures returned { IfErr result (λ e. e.1 ≡ info) }
+    {
+        match self.resources.push(Resource { info, row }) {
+            Ok(()) => Ok(()),
+            Err(resource) => Err((AllocError, resource.info)),
+        }
+    }
+
+    /// Replaces the row of the resource at a place.
+    pub fn set_resource(&mut self, i: usize, row: ResourceRow)
+        requires { i < length self.old.resources }
+        ensures { self.new ≡ record self.old { resources = with_resource_row self.old.resources i row } }
+    {
+        self.resources.set(i, row);
+    }
+
+    /// Puts an async operation last. Its id must not be there.
+    ///
+    /// Where there is no memory for it, the tables stay as they are and the info comes back.
+    pub fn add_op(&mut self, info: OpInfo, row: OpRow) -> Result<(), (AllocError, OpInfo)>
+        requires { op_with info.id self.old.ops ≡ None }
+        ensures ok { OnOk result (self.new ≡ with_op self.old info row) }
+        ensures err { OnErr result (self.new ≡ self.old) }
+        ensures returned { IfErr result (λ e. e.1 ≡ info) }
+    {
+        match self.ops.push(Op { info, row }) {
+            Ok(()) => Ok(()),
+            Err(op) => Err((AllocError, op.info)),
+        }
+    }
+
+    /// Replaces the row of the async operation at a place.
+    pub fn set_op(&mut self, i: usize, row: OpRow)
+        requires { i < length self.old.ops }
+        ensures { self.new ≡ record self.old { ops = with_op_row self.old.ops i row } }
+    {
+        self.ops.set(i, row);
+    }
+
+    /// Replaces the poll counts of a resource. A resource without any goes last.
+    ///
+    /// Where there is no memory for a new one, the tables stay as they are. One that is there takes none.
+    pub fn set_counts(&mut self, id: ResourceId, ready: u64, pending: u64) -> Result<(), AllocError>
+        ensures ok { OnOk result (self.new ≡ with_counts self.old id ready pending) }
+        ensures err { OnErr result (self.new ≡ self.old) }
+        ensures replaced { IsSome (item_with counts_id id self.old.counts) → IsOk result }
+    {
+        self.counts.put((id, ready, pending))
     }
 
     /// Replaces the totals of what was dropped, and the moment of the last whole line, in nanoseconds.
@@ -122,22 +278,13 @@ impl Tables {
         self.moment = now;
     }
 
-    /// Keeps the first so many tasks.
-    pub fn cut(&mut self, tasks: usize)
-        ensures { self.new ≡ cut_to self.old tasks }
+    /// Keeps the first so many of each: tasks, resources, async operations and resources with poll counts.
+    pub fn cut(&mut self, tasks: usize, resources: usize, ops: usize, counted: usize)
+        ensures { self.new ≡ cut_to self.old tasks resources ops counted }
     {
-        self.tasks.truncate(tasks);
-    }
-
-    /// Equal tables.
-    pub fn copy(&self) -> Result<Tables, AllocError>
-        ensures { IfOk result (λ tables. tables ≡ self.now) }
-    {
-        let tasks = self.tasks.clone()?;
-        Ok(Tables {
-            tasks,
-            dropped: self.dropped,
-            moment: self.moment,
-        })
+        self.tasks.cut(tasks);
+        self.resources.cut(resources);
+        self.ops.cut(ops);
+        self.counts.cut(counted);
     }
 }

@@ -1,9 +1,12 @@
 //! A task in tables.
 ghost use Rattle.std.specs.Prelude.{◌≡◌};
 
+use crate::item::Item;
+use crate::rows::same_row;
+use crate::told::{Described, Told};
 use std::alloc::AllocError;
 use tk_core::TaskRow;
-use tk_ids::TaskInfo;
+use tk_ids::{TaskId, TaskInfo};
 
 /// A task in tables: what is told of it once, and its statistics, which change.
 #[derive(Debug, Drop, PartialEq, Eq)]
@@ -23,5 +26,58 @@ impl Clone for Task {
             info,
             row: self.row,
         })
+    }
+}
+
+impl Item for Task {
+    ghost use Rattle.std.proofs.Common.{refl, sym};
+    ghost use Rattle.tk_stream.specs.Tables.{task_id};
+
+    type Row = TaskRow;
+
+    ghost id_of = { task_id };
+
+    ghost with_row = { λ item row. record item { row = row } };
+
+    ghost keeps_id = { λ item row. refl };
+
+    ghost copies = { λ a b e. sym e };
+
+    fn id(&self) -> u64 {
+        self.info.id.value()
+    }
+
+    fn set_row(&mut self, row: TaskRow) {
+        self.row = row;
+    }
+}
+
+impl Told for Task {
+    ghost use Rattle.tk_stream.specs.Lines.{have_same_row, task_stats_of};
+
+    type Stats = (TaskId, TaskRow);
+
+    ghost same = { have_same_row };
+
+    ghost stats_of = { task_stats_of };
+
+    fn is_same(&self, other: &Task) -> bool {
+        same_row(&self.row, &other.row)
+    }
+
+    fn stats(&self) -> (TaskId, TaskRow) {
+        (self.info.id, self.row)
+    }
+}
+
+impl Described for Task {
+    ghost use Rattle.tk_stream.specs.Lines.{task_info};
+
+    type Info = TaskInfo;
+
+    ghost info_of = { task_info };
+
+    fn copy_info(&self) -> Result<TaskInfo, AllocError> {
+        self.info.clone()
     }
 }

@@ -17,7 +17,7 @@ fn kind_text(kind: TaskKind) -> &'static str
     }
 }
 
-fn location_value(alloc: Global, location: &Location) -> Result<Value, AllocError>
+pub(crate) fn location_value(alloc: Global, location: &Location) -> Result<Value, AllocError>
     ensures { IfOk result (λ v. view v ≡ spec.location_data location.now) }
 {
     let file = location.file.as_str();

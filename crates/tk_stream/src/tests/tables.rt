@@ -53,7 +53,7 @@ fn cuts_the_last_tasks(rt: HostRuntime) -> Result<(), Fail> {
         info_of(alloc, OTHER_ID, TaskKind::Spawn, "b")?,
         OPENED,
     )?;
-    tables.cut(1);
+    tables.cut(1, 0, 0, 0);
     assert_eq!(rt; tables.task_count(), 1);
     assert!(rt; tables.task(TaskId::from_value(ID)?).is_some());
     assert!(rt; tables.task(TaskId::from_value(OTHER_ID)?).is_none());

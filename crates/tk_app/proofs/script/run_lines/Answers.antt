@@ -1,10 +1,10 @@
 use Rattle.std.proofs.Common.{◌≡◌, List, ℕ, [], ◌∷◌, ◌++◌, map, length-append, append_assoc, append-nil, refl, ap, sym, ◌∙◌, subst, arith}
 use Rattle.std.proofs.lemmas.List.{map-append, length-map}
 use Rattle.std.specs.Io.KnownBytes.{Appends}
-use Rattle.std.proofs.KnownBytes.{Appends-trans}
+use Rattle.std.proofs.KnownBytes.{Appends-nil, Appends-trans}
 use Rattle.tk_app.specs.Pieces.{pieces_left}
 use Rattle.tk_app.specs.Commands.{lines_of}
-use Rattle.tk_app.specs.Script.{lines_do}
+use Rattle.tk_app.specs.Script.{start, lines_do}
 use Rattle.tk_app.proofs.Runs.{did_more, few_lines}
 use Rattle.tk_app.proofs.Streams.{writes_stream}
 use Rattle.tk_app.proofs.script.run_lines.Goals as goal
@@ -71,3 +71,10 @@ returns-clause-ok g c =
     let whole : lines_of c.args.script.now ≡ before = c.loop-line.invariant.cut ∙ ap (λ p. before ++ p) c.in-None.ensures.steps.0 ∙ append-nil before in
     subst (λ text. Appends (g.W.Write.contents c.args.writer.now) (g.W.Write.contents c.loop-line.writer) text)
     (writes_stream (lines_of c.args.script.now) did.0 did.1 (ap lines_do whole ∙ did.2)) did.4
+
+pub loop-line-init : goal.loop-line-init
+loop-line-init g c = record {
+  counted = refl;
+  cut = sym c.new-line-items.ensures ∙ ap pieces_left (sym c.into_iter-line-iterator.ensures.into_iter_gives);
+  did = (start, [], refl, c.requires.fresh, Appends-nil _);
+}

@@ -3,4 +3,4 @@ use Rattle.tk_stream.specs.Lines.{new_infos}
 use Rattle.tk_stream.proofs.between.new_infos.Given as goal
 
 abbrev pub invariant-loop-i : goal.invariant-loop-i
-invariant-loop-i l = l.list.items ≡ new_infos l.old.tasks (take l.i l.new.tasks)
+invariant-loop-i g l = l.list.items ≡ new_infos g.T.Item.id_of g.T.Described.info_of l.old (take l.i l.new)

@@ -1,15 +1,11 @@
 use Rattle.std.proofs.Common.{ap, ◌∙◌}
-use Rattle.std.proofs.lemmas.Result.{IfOk-weaker}
-use Rattle.tk_stream.specs.Lines.{LineView}
-use Rattle.tk_stream.specs.Spelling.{list_data, info_data, stats_data}
-use Rattle.tk_stream.proofs.Written.{members_are}
+use Rattle.serde_json.specs.View.{members_view}
+use Rattle.serde_json.proofs.Views.{view-Object}
+use Rattle.tk_stream.proofs.Written.{members_put}
 use Rattle.tk_stream.proofs.line.Line.to_value.Goals as goal
 
 pub returns : goal.returns
 returns c =
-    IfOk-weaker c.object.result _ _
-    (λ v e. e
-    ∙ members_are c.args.self.now _ _
-    (c.in_ok-new_tasks.ensures ∙ ap (list_data info_data) (c.as_slice.ensures.value ∙ ap (λ (l : LineView). l.new_tasks) c.self.view_is))
-    (c.in_ok-task_stats.ensures ∙ ap (list_data stats_data) (c.as_slice-2.ensures.value ∙ ap (λ (l : LineView). l.task_stats) c.self.view_is)))
-    c.object.ensures
+    view-Object c.put_stats.new.map
+    ∙ members_put _ c.args.self.now _ _ _ _ _ _ _ _ _ _ _ c.as_slice.ensures.value c.as_slice-2.ensures.value c.as_slice-3.ensures.value c.as_slice-4.ensures.value c.as_slice-5.ensures.value c.as_slice-6.ensures.value c.as_slice-7.ensures.value
+    (ap members_view c.new-map.ensures.empty) c.in_ok-put_totals.ensures c.in_ok-put_new_items.ensures c.in_ok-put_stats.ensures c.self.view_is

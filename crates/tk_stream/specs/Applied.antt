@@ -1,0 +1,111 @@
+-- What a line makes of tables.
+use Rattle.std.specs.Prelude.{◌≡◌, ℕ, List, [], ◌∷◌, ◌++◌, map, filter, Option, Some, None, option_map, option_and_then, unwrap_or}
+use Rattle.std.specs.Option.{option_map_or}
+use Rattle.tk_core.specs.declared.op.row.OpRow.{OpRow}
+use Rattle.tk_core.specs.declared.resource.row.ResourceRow.{ResourceRow}
+use Rattle.tk_core.specs.declared.task.row.TaskRow.{TaskRow}
+use Rattle.tk_ids.specs.declared.info.OpInfo.{OpInfo}
+use Rattle.tk_ids.specs.declared.info.ResourceInfo.{ResourceInfo}
+use Rattle.tk_ids.specs.declared.info.TaskInfo.{TaskInfo}
+use Rattle.tk_stream.specs.declared.op.Op.{Op}
+use Rattle.tk_stream.specs.declared.resource.Resource.{Resource}
+use Rattle.tk_stream.specs.declared.task.Task.{Task}
+use Rattle.tk_stream.specs.Tables.{TablesView, PollCounts, task_id, resource_id, op_id, counts_id, item_with}
+use Rattle.tk_stream.specs.Lines.{LineView, is_new, task_info, resource_info, op_info}
+
+-- a kind of item: its id and what stays of it, the ids of what stays and of what changes, and the item that the two make
+pub record Kind (Item Info Stats : Type 0) : Type 0 where
+  pub id_of : Item → ℕ
+  pub info_of : Item → Info
+  pub info_id : Info → ℕ
+  pub stats_id : Stats → ℕ
+  pub item_of : Info → Stats → Item
+
+-- tasks
+abbrev pub task_kind : Kind Task TaskInfo (ℕ × TaskRow)
+task_kind = record {
+  id_of = task_id;
+  info_of = task_info;
+  info_id = λ t. t.id;
+  stats_id = λ s. s.0;
+  item_of = λ info s. record { info = info; row = s.1 };
+}
+
+-- resources
+abbrev pub resource_kind : Kind Resource ResourceInfo (ℕ × ResourceRow)
+resource_kind = record {
+  id_of = resource_id;
+  info_of = resource_info;
+  info_id = λ r. r.id;
+  stats_id = λ s. s.0;
+  item_of = λ info s. record { info = info; row = s.1 };
+}
+
+-- async operations
+abbrev pub op_kind : Kind Op OpInfo (ℕ × OpRow)
+op_kind = record {
+  id_of = op_id;
+  info_of = op_info;
+  info_id = λ o. o.id;
+  stats_id = λ s. s.0;
+  item_of = λ info s. record { info = info; row = s.1 };
+}
+
+-- poll counts: what stays is the resource's id, and they are told whole
+abbrev pub counts_kind : Kind PollCounts ℕ PollCounts
+counts_kind = record {
+  id_of = counts_id;
+  info_of = counts_id;
+  info_id = λ id. id;
+  stats_id = counts_id;
+  item_of = λ id c. c;
+}
+
+-- an item that was there has what is told of it, and is as it was where nothing is
+abbrev pub told_item : {Item Info Stats : Type 0} → Kind Item Info Stats → List Stats → Item → Item
+told_item k stats item = option_map_or (k.item_of (k.info_of item)) (item_with k.stats_id (k.id_of item) stats) item
+
+-- a new item has what is told of it
+abbrev pub new_item : {Item Info Stats : Type 0} → Kind Item Info Stats → List Stats → Info → Option Item
+new_item k stats info = option_map (k.item_of info) (item_with k.stats_id (k.info_id info) stats)
+
+-- the new items, where something is told of each
+abbrev pub new_items : {Item Info Stats : Type 0} → Kind Item Info Stats → List Stats → List Info → Option (List Item)
+new_items k stats [] = Some []
+new_items k stats (info ∷ infos) =
+    option_and_then (λ item. option_map (λ items. item ∷ items) (new_items k stats infos)) (new_item k stats info)
+
+-- items after a line: those that were there, and behind them the new ones in the line's order
+abbrev pub items_after : {Item Info Stats : Type 0} → Kind Item Info Stats → List Item → List Info → List Stats → Option (List Item)
+items_after k old infos stats = option_map (λ items. map (told_item k stats) old ++ items) (new_items k stats infos)
+
+-- poll counts after a line: those that were there, and behind them the new ones in the line's order
+abbrev pub counts_after : List PollCounts → List PollCounts → List PollCounts
+counts_after old told = map (told_item counts_kind told) old ++ filter (is_new counts_id old) told
+
+-- tables after a line, where it has what changes of each new item. Totals and moment are the line's
+abbrev pub tables_after : TablesView → LineView → Option TablesView
+tables_after old l =
+    option_and_then (λ tasks. option_and_then (λ resources. option_map (λ ops. record {
+      tasks = tasks;
+      resources = resources;
+      ops = ops;
+      counts = counts_after old.counts l.poll_counts;
+      dropped = l.dropped;
+      now = l.now;
+    }) (items_after op_kind old.ops l.new_ops l.op_stats))
+    (items_after resource_kind old.resources l.new_resources l.resource_stats))
+    (items_after task_kind old.tasks l.new_tasks l.task_stats)
+
+-- items that begin with the old ones in order, what changes aside
+abbrev pub BeginWith : {Item Info Stats : Type 0} → Kind Item Info Stats → List Item → List Item → Type 0
+BeginWith k [] new = Unit {0}
+BeginWith k (x ∷ xs) [] = ⊥
+BeginWith k (x ∷ xs) (y ∷ ys) = (k.info_of x ≡ k.info_of y) × BeginWith k xs ys
+
+-- tables whose items and poll counts begin with those of the old ones in order
+pub record GoOn (old new : TablesView) : Type 0 where
+  pub tasks : BeginWith task_kind old.tasks new.tasks
+  pub resources : BeginWith resource_kind old.resources new.resources
+  pub ops : BeginWith op_kind old.ops new.ops
+  pub counts : BeginWith counts_kind old.counts new.counts

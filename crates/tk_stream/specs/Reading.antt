@@ -1,0 +1,385 @@
+-- Which line a text is. Each definition is a partial function of a JSON value: `None` where the value is not of the shape.
+use Rattle.std.specs.Prelude.{◌≡◌, ℕ, ◌^◌, List, [], ◌∷◌, length, codes, Bool, false, ◌==◌, nat_le, nat_lt, Option, Some, None, option_map, option_and_then, if◌then◌else◌, Result, Ok, Err}
+use Rattle.std.specs.Option.{option_map_or}
+use Rattle.std.specs.Str.{is_utf8, bytes_eq}
+use Rattle.tk_core.specs.declared.op.row.OpRow.{OpRow}
+use Rattle.tk_core.specs.declared.resource.row.ResourceRow.{ResourceRow}
+use Rattle.tk_core.specs.declared.task.row.TaskRow.{TaskRow}
+use Rattle.tk_ids.specs.Attributes.{are_attributes, info_names}
+use Rattle.tk_ids.specs.Ids.{is_id}
+use Rattle.tk_ids.specs.Names.{is_name}
+use Rattle.tk_ids.specs.declared.attr.AttrInfo.{AttrInfo}
+use Rattle.tk_ids.specs.declared.attr.AttrKind.{AttrKind}
+use Rattle.tk_ids.specs.declared.attr.AttrKind.TheVariants as kinds
+use Rattle.tk_ids.specs.declared.attr.AttrValue.{AttrValue}
+use Rattle.tk_ids.specs.declared.attr.AttrValue.TheVariants as values
+use Rattle.tk_ids.specs.declared.info.Dropped.{Dropped}
+use Rattle.tk_ids.specs.declared.info.OpInfo.{OpInfo}
+use Rattle.tk_ids.specs.declared.info.ResourceInfo.{ResourceInfo}
+use Rattle.tk_ids.specs.declared.info.TaskInfo.{TaskInfo}
+use Rattle.tk_ids.specs.declared.location.Location.{Location}
+use Rattle.tk_ids.specs.declared.spec.TaskKind.{TaskKind}
+use Rattle.tk_ids.specs.declared.spec.TaskKind.TheVariants.{Spawn, Blocking}
+use Rattle.serde_json.specs.Data.{Data, null, boolean, Items, no_items, item}
+use Rattle.serde_json.specs.Events.{members_len}
+use Rattle.serde_json.specs.Find.{get, as_u64, as_number, as_bool, as_str, as_array, as_object}
+use Rattle.serde_json.specs.Read.{read}
+use Rattle.tk_stream.specs.declared.error.LineError.{LineError}
+use Rattle.tk_stream.specs.declared.error.LineError.TheVariants.{BadJson}
+use Rattle.tk_stream.specs.Tables.{PollCounts}
+use Rattle.tk_stream.specs.Lines.{LineView, is_seq, version}
+use Rattle.tk_stream.specs.Outcome.{shaped, ◌then◌}
+
+infixl 10 ◌>>=◌
+-- the next step, where there is something
+abbrev pub ◌>>=◌ : {A B : Type 0} → Option A → (A → Option B) → Option B
+o >>= f = option_and_then f o
+
+-- ---- parts of a value
+
+-- an object with this many members. An object has no key twice, so with a value at each of as many keys it has these keys
+-- and no others
+abbrev pub has_members : ℕ → Data → Bool
+has_members n d = option_map_or (λ ms. members_len ms == n) (as_object d) false
+
+-- a number that is read as unsigned
+abbrev pub number_of : Data → Option ℕ
+number_of d = option_and_then as_u64 (as_number d)
+
+-- null stands for what is absent
+abbrev pub optional_of : Data → Option (Option ℕ)
+optional_of null = Some None
+optional_of d = option_map Some (number_of d)
+
+-- the value of an id
+abbrev pub id_of : Data → Option ℕ
+id_of d = number_of d >>= λ n. if is_id n then Some n else None
+
+-- the value of an id, or null where there is none
+abbrev pub optional_id_of : Data → Option (Option ℕ)
+optional_id_of null = Some None
+optional_id_of d = option_map Some (id_of d)
+
+-- a text that is a name
+abbrev pub name_of : Data → Option (List ℕ)
+name_of d = as_str d >>= λ s. if is_name s then Some s else None
+
+-- a text that is a name, or null where there is none
+abbrev pub optional_name_of : Data → Option (Option (List ℕ))
+optional_name_of null = Some None
+optional_name_of d = option_map Some (name_of d)
+
+-- a number below 2^32
+abbrev pub small_of : Data → Option ℕ
+small_of d = number_of d >>= λ n. if nat_lt n (2 ^ 32) then Some n else None
+
+-- the values of an array
+abbrev pub values_of : Items → List Data
+values_of no_items = []
+values_of (item d ds) = d ∷ values_of ds
+
+-- the values of an array
+abbrev pub list_of : Data → Option (List Data)
+list_of d = option_map values_of (as_array d)
+
+-- what each of the values is, where each is something
+abbrev pub each_of : {D A : Type 0} → (D → Option A) → List D → Option (List A)
+each_of shape [] = Some []
+each_of shape (d ∷ ds) = shape d >>= λ x. option_map (λ xs. x ∷ xs) (each_of shape ds)
+
+-- ---- what stands at a key
+
+abbrev pub number_at : List ℕ → Data → Option ℕ
+number_at key d = get key d >>= number_of
+
+abbrev pub optional_at : List ℕ → Data → Option (Option ℕ)
+optional_at key d = get key d >>= optional_of
+
+abbrev pub flag_at : List ℕ → Data → Option Bool
+flag_at key d = get key d >>= as_bool
+
+abbrev pub text_at : List ℕ → Data → Option (List ℕ)
+text_at key d = get key d >>= as_str
+
+abbrev pub list_at : List ℕ → Data → Option (List Data)
+list_at key d = option_map values_of (get key d >>= as_array)
+
+abbrev pub id_at : List ℕ → Data → Option ℕ
+id_at key d = get key d >>= id_of
+
+abbrev pub optional_id_at : List ℕ → Data → Option (Option ℕ)
+optional_id_at key d = get key d >>= optional_id_of
+
+abbrev pub name_at : List ℕ → Data → Option (List ℕ)
+name_at key d = get key d >>= name_of
+
+-- ---- attributes and places
+
+-- [file, line, column]
+abbrev pub location_in : List Data → Option Location
+location_in (f ∷ l ∷ c ∷ []) = do
+  file ← name_of f
+  line ← small_of l
+  column ← small_of c
+  Some (record { file = file; line = line; column = column })
+location_in _ = None
+
+abbrev pub location_at : List ℕ → Data → Option Location
+location_at key d = list_at key d >>= location_in
+
+-- the kind of an attribute by what it is called
+abbrev pub attr_kind_of : List ℕ → Option AttrKind
+attr_kind_of s = if bytes_eq s (codes "u64") then Some kinds.U64 else (if bytes_eq s (codes "bool") then Some kinds.Bool else None)
+
+-- [name, unit or null, kind]
+abbrev pub attr_in : List Data → Option AttrInfo
+attr_in (n ∷ u ∷ k ∷ []) = do
+  name ← name_of n
+  unit ← optional_name_of u
+  kind ← as_str k >>= attr_kind_of
+  Some (record { name = name; unit = unit; kind = kind })
+attr_in _ = None
+
+-- an attribute of an item
+abbrev pub attr_of : Data → Option AttrInfo
+attr_of d = list_of d >>= attr_in
+
+-- the attributes of an item: at most 6, and no two of one name
+unfoldable pub attrs_in : List Data → Option (List AttrInfo)
+attrs_in ds = each_of attr_of ds >>= λ attrs. if are_attributes (info_names attrs) then Some attrs else None
+
+-- the value of an attribute: true, false or a number
+abbrev pub value_of : Data → Option AttrValue
+value_of (boolean b) = Some (values.Bool b)
+value_of d = option_map values.U64 (number_of d)
+
+-- the values of an item's attributes: at most 6
+unfoldable pub values_in : List Data → Option (List AttrValue)
+values_in ds = each_of value_of ds >>= λ vs. if nat_le (length vs) 6 then Some vs else None
+
+-- ---- infos
+
+-- a kind of task by what it is called
+abbrev pub kind_of : List ℕ → Option TaskKind
+kind_of s = if bytes_eq s (codes "spawn") then Some Spawn else (if bytes_eq s (codes "blocking") then Some Blocking else None)
+
+-- the info of a task, of exactly these keys
+unfoldable pub info_of : Data → Option TaskInfo
+info_of d = if has_members 4 d then (do
+  id ← id_at (codes "id") d
+  kind ← text_at (codes "kind") d >>= kind_of
+  location ← location_at (codes "loc") d
+  name ← name_at (codes "name") d
+  Some (record { id = id; kind = kind; name = name; location = location }))
+    else None
+
+-- the parts of a resource's info, with its attributes as values
+pub record ResourceView : Type 0 where
+  pub attrs : List Data
+  pub id : ℕ
+  pub kind : List ℕ
+  pub location : Location
+  pub parent : Option ℕ
+  pub concrete : List ℕ
+
+-- exactly these keys
+unfoldable pub resource_parts : Data → Option ResourceView
+resource_parts d = if has_members 6 d then (do
+  attrs ← list_at (codes "attrs") d
+  id ← id_at (codes "id") d
+  kind ← name_at (codes "kind") d
+  location ← location_at (codes "loc") d
+  parent ← optional_id_at (codes "parent") d
+  concrete ← name_at (codes "type") d
+  Some (record { attrs = attrs; id = id; kind = kind; location = location; parent = parent; concrete = concrete }))
+    else None
+
+-- the info of a resource
+unfoldable pub resource_of : Data → Option ResourceInfo
+resource_of d = do
+  p ← resource_parts d
+  attrs ← attrs_in p.attrs
+  Some (record { id = p.id; parent = p.parent; concrete = p.concrete; kind = p.kind; location = p.location; attrs = attrs })
+
+-- the parts of an async operation's info, with its attributes as values
+pub record OpView : Type 0 where
+  pub attrs : List Data
+  pub id : ℕ
+  pub parent : Option ℕ
+  pub resource : ℕ
+  pub source : List ℕ
+
+-- exactly these keys
+unfoldable pub op_parts : Data → Option OpView
+op_parts d = if has_members 5 d then (do
+  attrs ← list_at (codes "attrs") d
+  id ← id_at (codes "id") d
+  parent ← optional_id_at (codes "parent") d
+  resource ← id_at (codes "resource") d
+  source ← name_at (codes "source") d
+  Some (record { attrs = attrs; id = id; parent = parent; resource = resource; source = source }))
+    else None
+
+-- the info of an async operation
+unfoldable pub op_of : Data → Option OpInfo
+op_of d = do
+  p ← op_parts d
+  attrs ← attrs_in p.attrs
+  Some (record { id = p.id; source = p.source; resource = p.resource; parent = p.parent; attrs = attrs })
+
+-- ---- statistics and counts
+
+-- a task's id and row, of exactly these keys
+unfoldable pub stats_of : Data → Option (ℕ × TaskRow)
+stats_of d = if has_members 17 d then (do
+  busy ← number_at (codes "busy") d
+  clones ← number_at (codes "clones") d
+  created ← number_at (codes "created") d
+  dropped ← optional_at (codes "dropped") d
+  drops ← number_at (codes "drops") d
+  first_poll ← optional_at (codes "first_poll") d
+  handles ← number_at (codes "handles") d
+  id ← id_at (codes "id") d
+  last_ended ← optional_at (codes "last_ended") d
+  last_started ← optional_at (codes "last_started") d
+  last_wake ← optional_at (codes "last_wake") d
+  polling ← flag_at (codes "polling") d
+  polls ← number_at (codes "polls") d
+  sched ← number_at (codes "sched") d
+  scheduled ← flag_at (codes "scheduled") d
+  self_wakes ← number_at (codes "self_wakes") d
+  wakes ← number_at (codes "wakes") d
+  Some (id, record { created = created; dropped = dropped; polls = polls; first_poll = first_poll; last_started = last_started; last_ended = last_ended; busy = busy; wakes = wakes; self_wakes = self_wakes; last_wake = last_wake; clones = clones; drops = drops; handles = handles; sched = sched; polling = polling; scheduled = scheduled }))
+    else None
+
+-- a resource's id and row, with attribute values that were read, of exactly these keys and `attrs`
+unfoldable pub resource_stats_with : List AttrValue → Data → Option (ℕ × ResourceRow)
+resource_stats_with attrs d = if has_members 5 d then (do
+  created ← number_at (codes "created") d
+  dropped ← optional_at (codes "dropped") d
+  handles ← number_at (codes "handles") d
+  id ← id_at (codes "id") d
+  Some (id, record { created = created; dropped = dropped; handles = handles; attrs = attrs }))
+    else None
+
+-- a resource's id and row
+unfoldable pub resource_stats_of : Data → Option (ℕ × ResourceRow)
+resource_stats_of d = do
+  list ← list_at (codes "attrs") d
+  attrs ← values_in list
+  resource_stats_with attrs d
+
+-- an async operation's id and row, with attribute values that were read, of exactly these keys and `attrs`
+unfoldable pub op_stats_with : List AttrValue → Data → Option (ℕ × OpRow)
+op_stats_with attrs d = if has_members 12 d then (do
+  busy ← number_at (codes "busy") d
+  created ← number_at (codes "created") d
+  dropped ← optional_at (codes "dropped") d
+  first_poll ← optional_at (codes "first_poll") d
+  handles ← number_at (codes "handles") d
+  id ← id_at (codes "id") d
+  last_ended ← optional_at (codes "last_ended") d
+  last_started ← optional_at (codes "last_started") d
+  polling ← flag_at (codes "polling") d
+  polls ← number_at (codes "polls") d
+  task ← optional_id_at (codes "task") d
+  Some (id, record { created = created; dropped = dropped; polls = polls; first_poll = first_poll; last_started = last_started; last_ended = last_ended; busy = busy; handles = handles; task = task; polling = polling; attrs = attrs }))
+    else None
+
+-- an async operation's id and row
+unfoldable pub op_stats_of : Data → Option (ℕ × OpRow)
+op_stats_of d = do
+  list ← list_at (codes "attrs") d
+  attrs ← values_in list
+  op_stats_with attrs d
+
+-- [resource, ready, pending]
+abbrev pub counts_in : List Data → Option PollCounts
+counts_in (r ∷ y ∷ p ∷ []) = do
+  resource ← id_of r
+  ready ← number_of y
+  pending ← number_of p
+  Some (resource, ready, pending)
+counts_in _ = None
+
+-- the poll counts of a resource
+abbrev pub counts_of : Data → Option PollCounts
+counts_of d = list_of d >>= counts_in
+
+-- ---- a line
+
+-- [tasks, resources, ops]
+abbrev pub dropped_in : List Data → Option Dropped
+dropped_in (t ∷ r ∷ o ∷ []) = do
+  tasks ← number_of t
+  resources ← number_of r
+  ops ← number_of o
+  Some (record { tasks = tasks; resources = resources; ops = ops })
+dropped_in _ = None
+
+-- the number of a line
+abbrev pub seq_at : List ℕ → Data → Option ℕ
+seq_at key d = number_at key d >>= λ n. if is_seq n then Some n else None
+
+-- the version of the format
+abbrev pub version_at : List ℕ → Data → Option ℕ
+version_at key d = number_at key d >>= λ n. if n == version then Some n else None
+
+-- the parts of a line, with its lists as values
+pub record PartsView : Type 0 where
+  pub dropped : Dropped
+  pub new_ops : List Data
+  pub new_resources : List Data
+  pub new_tasks : List Data
+  pub now : ℕ
+  pub op_stats : List Data
+  pub poll_counts : List Data
+  pub resource_stats : List Data
+  pub seq : ℕ
+  pub snapshot : Bool
+  pub task_stats : List Data
+
+-- exactly these keys
+unfoldable pub parts_of : Data → Option PartsView
+parts_of d = if has_members 12 d then (do
+  dropped ← list_at (codes "dropped") d >>= dropped_in
+  new_ops ← list_at (codes "new_ops") d
+  new_resources ← list_at (codes "new_resources") d
+  new_tasks ← list_at (codes "new_tasks") d
+  now ← number_at (codes "now") d
+  op_stats ← list_at (codes "op_stats") d
+  poll_counts ← list_at (codes "poll_counts") d
+  resource_stats ← list_at (codes "resource_stats") d
+  seq ← seq_at (codes "seq") d
+  snapshot ← flag_at (codes "snapshot") d
+  task_stats ← list_at (codes "task_stats") d
+  version ← version_at (codes "v") d
+  Some (record { dropped = dropped; new_ops = new_ops; new_resources = new_resources; new_tasks = new_tasks; now = now; op_stats = op_stats; poll_counts = poll_counts; resource_stats = resource_stats; seq = seq; snapshot = snapshot; task_stats = task_stats }))
+    else None
+
+-- the line that a value is: it has exactly a line's keys, each with a value of its kind
+unfoldable pub line_of : Data → Option LineView
+line_of d = do
+  p ← parts_of d
+  new_ops ← each_of op_of p.new_ops
+  new_resources ← each_of resource_of p.new_resources
+  new_tasks ← each_of info_of p.new_tasks
+  op_stats ← each_of op_stats_of p.op_stats
+  poll_counts ← each_of counts_of p.poll_counts
+  resource_stats ← each_of resource_stats_of p.resource_stats
+  task_stats ← each_of stats_of p.task_stats
+  Some (record { dropped = p.dropped; new_ops = new_ops; new_resources = new_resources; new_tasks = new_tasks; now = p.now; op_stats = op_stats; poll_counts = poll_counts; resource_stats = resource_stats; seq = p.seq; snapshot = p.snapshot; task_stats = task_stats })
+
+-- ---- a text
+
+-- the value that serde_json reads. It reads no bytes that are not UTF-8, and no value that nests deeper than 127
+unfoldable pub json_of : List ℕ → Option Data
+json_of bytes = if is_utf8 bytes then read bytes else None
+
+-- the value that serde_json reads, or that it reads none
+abbrev pub json_or_fault : List ℕ → Result Data LineError
+json_or_fault bytes = option_map_or Ok (json_of bytes) (Err BadJson)
+
+-- what reading these bytes as a line answers
+abbrev pub line_of_text : List ℕ → Result LineView LineError
+line_of_text bytes = json_or_fault bytes then (λ d. shaped (line_of d))

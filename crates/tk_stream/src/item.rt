@@ -1,0 +1,22 @@
+//! What tables hold in order of arrival.
+ghost use Rattle.std.specs.Prelude.{◌≡◌, ℕ};
+
+/// What stands in a table: something with an id, and with a row that changes.
+pub(crate) trait Item: Drop + Clone {
+    /// The part that changes.
+    type Row: Copy;
+
+    ghost id_of: { Self → ℕ };
+
+    ghost with_row: { Self → Self.Row → Self };
+
+    fn id(&self) -> u64
+        ensures { result ≡ id_of self.now };
+
+    fn set_row(&mut self, row: Self::Row)
+        ensures { self.new ≡ with_row self.old row };
+
+    ghost keeps_id: { (item : Self) (row : Self.Row) → id_of (with_row item row) ≡ id_of item };
+
+    ghost copies: { (a b : Self) → Self.is_clone a b → b ≡ a };
+}

@@ -1,0 +1,83 @@
+//! An async operation in tables.
+ghost use Rattle.std.specs.Prelude.{◌≡◌};
+
+use crate::item::Item;
+use crate::rows::same_op_row;
+use crate::told::{Described, Told};
+use std::alloc::AllocError;
+use tk_core::OpRow;
+use tk_ids::{AsyncOpId, OpInfo};
+
+/// An async operation in tables: what is told of it once, and its statistics, which change.
+#[derive(Debug, Drop, PartialEq, Eq)]
+pub struct Op {
+    /// Its id, source, resource and attributes, which stay.
+    pub info: OpInfo,
+    /// Its statistics.
+    pub row: OpRow,
+}
+
+impl Clone for Op {
+    ghost is_clone = { λ a b. a ≡ b };
+
+    fn clone(&self) -> Result<Op, AllocError> {
+        let info = self.info.clone()?;
+        Ok(Op {
+            info,
+            row: self.row,
+        })
+    }
+}
+
+impl Item for Op {
+    ghost use Rattle.std.proofs.Common.{refl, sym};
+    ghost use Rattle.tk_stream.specs.Tables.{op_id};
+
+    type Row = OpRow;
+
+    ghost id_of = { op_id };
+
+    ghost with_row = { λ item row. record item { row = row } };
+
+    ghost keeps_id = { λ item row. refl };
+
+    ghost copies = { λ a b e. sym e };
+
+    fn id(&self) -> u64 {
+        self.info.id.value()
+    }
+
+    fn set_row(&mut self, row: OpRow) {
+        self.row = row;
+    }
+}
+
+impl Told for Op {
+    ghost use Rattle.tk_stream.specs.Lines.{have_same_op_row, op_stats_of};
+
+    type Stats = (AsyncOpId, OpRow);
+
+    ghost same = { have_same_op_row };
+
+    ghost stats_of = { op_stats_of };
+
+    fn is_same(&self, other: &Op) -> bool {
+        same_op_row(&self.row, &other.row)
+    }
+
+    fn stats(&self) -> (AsyncOpId, OpRow) {
+        (self.info.id, self.row)
+    }
+}
+
+impl Described for Op {
+    ghost use Rattle.tk_stream.specs.Lines.{op_info};
+
+    type Info = OpInfo;
+
+    ghost info_of = { op_info };
+
+    fn copy_info(&self) -> Result<OpInfo, AllocError> {
+        self.info.clone()
+    }
+}

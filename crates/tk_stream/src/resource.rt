@@ -1,0 +1,83 @@
+//! A resource in tables.
+ghost use Rattle.std.specs.Prelude.{◌≡◌};
+
+use crate::item::Item;
+use crate::rows::same_resource_row;
+use crate::told::{Described, Told};
+use std::alloc::AllocError;
+use tk_core::ResourceRow;
+use tk_ids::{ResourceId, ResourceInfo};
+
+/// A resource in tables: what is told of it once, and its statistics, which change.
+#[derive(Debug, Drop, PartialEq, Eq)]
+pub struct Resource {
+    /// Its id, type, kind, location and attributes, which stay.
+    pub info: ResourceInfo,
+    /// Its statistics.
+    pub row: ResourceRow,
+}
+
+impl Clone for Resource {
+    ghost is_clone = { λ a b. a ≡ b };
+
+    fn clone(&self) -> Result<Resource, AllocError> {
+        let info = self.info.clone()?;
+        Ok(Resource {
+            info,
+            row: self.row,
+        })
+    }
+}
+
+impl Item for Resource {
+    ghost use Rattle.std.proofs.Common.{refl, sym};
+    ghost use Rattle.tk_stream.specs.Tables.{resource_id};
+
+    type Row = ResourceRow;
+
+    ghost id_of = { resource_id };
+
+    ghost with_row = { λ item row. record item { row = row } };
+
+    ghost keeps_id = { λ item row. refl };
+
+    ghost copies = { λ a b e. sym e };
+
+    fn id(&self) -> u64 {
+        self.info.id.value()
+    }
+
+    fn set_row(&mut self, row: ResourceRow) {
+        self.row = row;
+    }
+}
+
+impl Told for Resource {
+    ghost use Rattle.tk_stream.specs.Lines.{have_same_resource_row, resource_stats_of};
+
+    type Stats = (ResourceId, ResourceRow);
+
+    ghost same = { have_same_resource_row };
+
+    ghost stats_of = { resource_stats_of };
+
+    fn is_same(&self, other: &Resource) -> bool {
+        same_resource_row(&self.row, &other.row)
+    }
+
+    fn stats(&self) -> (ResourceId, ResourceRow) {
+        (self.info.id, self.row)
+    }
+}
+
+impl Described for Resource {
+    ghost use Rattle.tk_stream.specs.Lines.{resource_info};
+
+    type Info = ResourceInfo;
+
+    ghost info_of = { resource_info };
+
+    fn copy_info(&self) -> Result<ResourceInfo, AllocError> {
+        self.info.clone()
+    }
+}

@@ -1,0 +1,108 @@
+//! Items in order of arrival, each found by its place or by its id.
+ghost use Rattle.std.specs.Prelude.{◌≡◌, ◌<◌, ◌++◌, ◌∷◌, [], length, slice_get, nat_eq, map, take, None, IfOk, OnOk, OnErr, IfErr, IsOk, IsSome, option_map};
+ghost use Rattle.std.specs.List.{IsDistinct};
+ghost use Rattle.tk_stream.specs.Tables.{item_with, changed_at, put_item};
+
+use crate::item::Item;
+use indexmap::IndexMap;
+use std::alloc::{AllocError, Global};
+use std::marker::Model;
+
+/// Items in order of arrival. No two have the same id.
+#[derive(Debug, Drop)]
+pub(crate) struct Table<T: Item> {
+    map: IndexMap<u64, T>,
+}
+
+impl<T: Item> Model for Table<T> {
+    ghost use Rattle.std.specs.Prelude.{List};
+    ghost use Rattle.std.specs.Map.{values_of};
+    ghost use Rattle.tk_stream.specs.Entries.{AreKeyed};
+
+    ghost Value = { List T };
+
+    ghost view = { λ t. values_of t.map.entries };
+
+    ghost invariant = { λ t. AreKeyed T.id_of t.map.entries };
+}
+
+impl<T: Item> Table<T> {
+    pub(crate) fn new(alloc: Global) -> Table<T>
+        ensures { result ≡ [] }
+    {
+        Table {
+            map: IndexMap::new(alloc),
+        }
+    }
+
+    pub(crate) fn len(&self) -> usize
+        ensures count { result ≡ length self.now }
+        ensures distinct { IsDistinct nat_eq (map T.id_of self.now) }
+    {
+        self.map.len()
+    }
+
+    pub(crate) fn at(&self, i: usize) -> Option<&T>
+        ensures { option_map (λ t. t.now) result ≡ slice_get self.now i }
+    {
+        let (_, item) = self.map.get_index(i)?;
+        Some(item)
+    }
+
+    pub(crate) fn with_id(&self, id: u64) -> Option<&T>
+        ensures { option_map (λ t. t.now) result ≡ item_with T.id_of id self.now }
+    {
+        self.map.get(&id)
+    }
+
+    /// Puts an item last, or gives it back.
+    pub(crate) fn push(&mut self, item: T) -> Result<(), T>
+        requires { item_with T.id_of (T.id_of item) self.old ≡ None }
+        ensures ok { OnOk result (self.new ≡ self.old ++ item ∷ []) }
+        ensures err { OnErr result (self.new ≡ self.old) }
+        ensures returned { IfErr result (λ back. back ≡ item) }
+    {
+        match self.map.insert(item.id(), item) {
+            Ok(_) => Ok(()),
+            Err(failed) => {
+                let (_, item) = failed.value;
+                Err(item)
+            }
+        }
+    }
+
+    /// Puts an item in the place of the one with its id, or last where there is none.
+    pub(crate) fn put(&mut self, item: T) -> Result<(), AllocError>
+        ensures ok { OnOk result (self.new ≡ put_item T.id_of item self.old) }
+        ensures err { OnErr result (self.new ≡ self.old) }
+        ensures replaced { IsSome (item_with T.id_of (T.id_of item) self.old) → IsOk result }
+    {
+        match self.map.insert(item.id(), item) {
+            Ok(_) => Ok(()),
+            Err(_) => Err(AllocError),
+        }
+    }
+
+    /// Replaces the row of the item at a place.
+    pub(crate) fn set(&mut self, i: usize, row: T::Row)
+        requires { i < length self.old }
+        ensures { self.new ≡ changed_at (λ item. T.with_row item row) self.old i }
+    {
+        self.map[i].set_row(row);
+    }
+
+    /// Keeps the first so many items.
+    pub(crate) fn cut(&mut self, count: usize)
+        ensures { self.new ≡ take count self.old }
+    {
+        self.map.truncate(count);
+    }
+
+    /// Equal items.
+    pub(crate) fn copy(&self) -> Result<Table<T>, AllocError>
+        ensures { IfOk result (λ table. table ≡ self.now) }
+    {
+        let map = self.map.clone()?;
+        Ok(Table { map })
+    }
+}
