@@ -1,0 +1,2 @@
+-- What a caller must believe: what a handle shows, and what its calls do
+pub mod Handles
