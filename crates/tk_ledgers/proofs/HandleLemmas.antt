@@ -10,7 +10,7 @@ use Rattle.tk_cell.specs.declared.view.View.{View}
 use Rattle.tk_cell.specs.Views.{Holds, Known, after_split, split_off}
 use Rattle.tk_cell.specs.Calls.{Calls, Joins}
 use Rattle.tk_cell.proofs.RoleLemmas.{owner_role, made_role, owner_calls, made_calls, owner_after_split, made_after_split, owner_joins, made_joins, drawn_held, drawn_other, drawn_made, call_reply}
-use Rattle.tk_ledgers.specs.Handles.{role_may, HasRole, Draws}
+use Rattle.tk_ledgers.specs.Handles.{role_may, HasRole, Gives, IsDrawing, IsReading, IsWake}
 
 module _ {O C R : Type 0} (m : Meaning O C R) where
   pub allowed : (role : Option C) (v : View O C R) (call : C) → HasRole m role v → role_may m role call ≡ true → may_call m v.seen v.caller call ≡ true
@@ -39,7 +39,7 @@ module _ {O C R : Type 0} (m : Meaning O C R) where
 
 module _ {Row C : Type 0} (m : Meaning Row C (Reply Row)) where
   -- the number that a drawing call is answered is the reply's
-  pub drawn_number : (v : View Row C (Reply Row)) (call : C) (n : ℕ) (w : View Row C (Reply Row)) → Calls m v call (Number n) w → Draws m call → m.number (Number n) ≡ Some n
+  pub drawn_number : (v : View Row C (Reply Row)) (call : C) (n : ℕ) (w : View Row C (Reply Row)) → Calls m v call (Number n) w → Gives m (IsDrawing m) call → m.number (Number n) ≡ Some n
   drawn_number v call n w k draws =
       let is = call_reply m v call (Number n) w k in
       ⊎_elim
@@ -47,3 +47,13 @@ module _ {Row C : Type 0} (m : Meaning Row C (Reply Row)) where
       let same : n ≡ d.0 = cc (is, d.1) in ap m.number is ∙ (d.2 ∙ ap (λ (j : ℕ). Some j) (sym same)))
       (λ (spent : m.reply_after k.opening (calls_of (v.seen ++ k.between)) call ≡ Refused HandlesSpent). absurd cc)
       (draws k.opening (calls_of (v.seen ++ k.between)))
+
+  -- the reply to a call that was made has the form that it has wherever the call is made
+  pub reply_form : (Form : Reply Row → Type 0) (v : View Row C (Reply Row)) (call : C) (reply : Reply Row) (w : View Row C (Reply Row)) → Gives m Form call → Calls m v call reply w → Form reply
+  reply_form Form v call reply w form k = subst Form (sym (call_reply m v call reply w k)) (form k.opening (calls_of (v.seen ++ k.between)))
+
+  pub reads : (v : View Row C (Reply Row)) (call : C) (reply : Reply Row) (w : View Row C (Reply Row)) → Gives m IsReading call → Calls m v call reply w → IsReading reply
+  reads v call reply w form k = reply_form IsReading v call reply w form k
+
+  pub wakes : (v : View Row C (Reply Row)) (call : C) (reply : Reply Row) (w : View Row C (Reply Row)) → Gives m IsWake call → Calls m v call reply w → IsWake reply
+  wakes v call reply w form k = reply_form IsWake v call reply w form k

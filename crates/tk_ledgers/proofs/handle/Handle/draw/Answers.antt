@@ -9,22 +9,22 @@ use Rattle.tk_ledgers.proofs.handle.Handle.draw.Goals as goal
 pub split-token-requires-clause-held : goal.split-token-requires-clause-held
 split-token-requires-clause-held g c =
     let m = g.O.Sequential.meaning in let n = c.in-Number.n in let entry = c.in-Number.ensures.entry in
-    drawn_held m c.self.inside.token.view c.args.call (Number n) c.call.new.token.view entry n (drawn_number m c.self.inside.token.view c.args.call n c.call.new.token.view entry c.requires.draws)
+    drawn_held m c.self.inside.token.view c.args.call (Number n) c.call.new.token.view entry n (drawn_number m c.self.inside.token.view c.args.call n c.call.new.token.view entry c.requires.form)
 
 pub split-token-requires-clause-other : goal.split-token-requires-clause-other
 split-token-requires-clause-other g c =
     let m = g.O.Sequential.meaning in let n = c.in-Number.n in let entry = c.in-Number.ensures.entry in
-    drawn_other m c.self.inside.token.view c.args.call (Number n) c.call.new.token.view entry n (drawn_number m c.self.inside.token.view c.args.call n c.call.new.token.view entry c.requires.draws)
+    drawn_other m c.self.inside.token.view c.args.call (Number n) c.call.new.token.view entry n (drawn_number m c.self.inside.token.view c.args.call n c.call.new.token.view entry c.requires.form)
 
 pub split-token-requires-clause-unused : goal.split-token-requires-clause-unused
 split-token-requires-clause-unused g c =
     let m = g.O.Sequential.meaning in let n = c.in-Number.n in let entry = c.in-Number.ensures.entry in
-    entry.drawn n (drawn_number m c.self.inside.token.view c.args.call n c.call.new.token.view entry c.requires.draws)
+    entry.drawn n (drawn_number m c.self.inside.token.view c.args.call n c.call.new.token.view entry c.requires.form)
 
 pub new-requires-clause-role : goal.new-requires-clause-role
 new-requires-clause-role g c =
     let m = g.O.Sequential.meaning in let n = c.in-Number.n in let entry = c.in-Number.ensures.entry in
-    let number = drawn_number m c.self.inside.token.view c.args.call n c.call.new.token.view entry c.requires.draws in
+    let number = drawn_number m c.self.inside.token.view c.args.call n c.call.new.token.view entry c.requires.form in
     subst (λ (k : Known _ _ _). HasRole m g.D.Role.role k.view) (sym c.split-token.ensures.given)
     (drawn_role m g.D.Role.role c.self.inside.token.view c.args.call (Number n) c.call.new.token.view entry g.met.O.Sequential.numbers_are_new c.requires.role n number)
 
