@@ -1,0 +1,74 @@
+-- What a handle shows, as whom it makes calls, and how further handles are drawn.
+use Rattle.std.specs.Prelude.{◌≡◌, ℕ, ◌⊎◌, Bool, List, Option, Some, None}
+use Rattle.tk_core.specs.declared.reply.Refusal.{Refusal}
+use Rattle.tk_core.specs.declared.reply.Refusal.TheVariants.{Memory, HandlesSpent}
+use Rattle.tk_core.specs.declared.reply.Reply.{Reply}
+use Rattle.tk_core.specs.declared.reply.Reply.TheVariants.{Done, Number, Woken, Shown, Refused}
+use Rattle.tk_core.specs.declared.reply.WakeReply.{WakeReply}
+use Rattle.tk_core.specs.Meaning.{Meaning}
+use Rattle.tk_cell.specs.declared.view.View.{View}
+use Rattle.tk_cell.specs.Views.{Known, known, after_split, split_off}
+use Rattle.tk_cell.specs.Calls.{Calls}
+use Rattle.tk_cell.specs.Roles.{IsOwner, IsMadeBy}
+
+-- what contracts see of a handle, and of a receipt
+pub record Sight (O C R : Type 0) : Type 0 where
+  -- the id of its item
+  pub id : ℕ
+  -- the ledger that its token is of, and what is known by it
+  pub token : Known O C R
+
+-- a handle of this item, with this token
+abbrev pub sight : {O C R : Type 0} → ℕ → Known O C R → Sight O C R
+sight id token = record { id = id; token = token }
+
+module _ {O C R : Type 0} (m : Meaning O C R) where
+  -- the calls of a role: the owner's, or those of a caller whose number was answered to a given call
+  abbrev pub role_may : Option C → C → Bool
+  role_may None call = m.owner_may call
+  role_may (Some made) call = m.made_may made call
+
+  -- a token makes the calls of a role, and goes on
+  abbrev pub HasRole : Option C → View O C R → Type 0
+  HasRole None v = IsOwner m v
+  HasRole (Some made) v = IsMadeBy m made v
+
+-- a call is done or refused
+abbrev pub IsAttempt : {Row : Type 0} → Reply Row → Type 0
+IsAttempt reply = (reply ≡ Done) ⊎ ((refusal : Refusal) × (reply ≡ Refused refusal))
+
+-- a call is done
+abbrev pub IsDone : {Row : Type 0} → Reply Row → Type 0
+IsDone reply = reply ≡ Done
+
+-- a call shows the row
+abbrev pub IsReading : {Row : Type 0} → Reply Row → Type 0
+IsReading {Row = Row} reply = (row : Row) × (reply ≡ Shown row)
+
+-- a call wakes
+abbrev pub IsWake : {Row : Type 0} → Reply Row → Type 0
+IsWake reply = (found : WakeReply) × (reply ≡ Woken found)
+
+module _ {Row C : Type 0} (m : Meaning Row C (Reply Row)) where
+  -- a reply answers a number, or says that none is left
+  abbrev pub IsDrawing : Reply Row → Type 0
+  IsDrawing reply = ((n : ℕ) × (reply ≡ Number n) × (m.number reply ≡ Some n)) ⊎ (reply ≡ Refused HandlesSpent)
+
+  -- the reply to the call has a form, wherever the call is made
+  abbrev pub Gives : (Reply Row → Type 0) → C → Type 0
+  Gives Form call = (opening : Row) (calls : List C) → Form (m.reply_after opening calls call)
+
+  -- a number was drawn by the call, which is one entry, and its caller split off: it has seen as much, and holds itself alone
+  pub record Drew (old : Known Row C (Reply Row)) (call : C) (new made : Known Row C (Reply Row)) : Type 0 where
+    pub number : ℕ
+    -- what is known after the call, before the split
+    pub view : View Row C (Reply Row)
+    pub entry : Calls m old.view call (Number number) view
+    pub kept : new ≡ known old.ledger (after_split number view)
+    pub given : made ≡ known old.ledger (split_off number view)
+
+  -- no number was drawn: without memory nothing was done, and where no number is left the refused call is an entry
+  abbrev pub NotDrawn : Known Row C (Reply Row) → C → Refusal → Known Row C (Reply Row) → Type 0
+  NotDrawn old call Memory new = new ≡ old
+  NotDrawn old call HandlesSpent new = (new.ledger ≡ old.ledger) × Calls m old.view call (Refused HandlesSpent) new.view
+  NotDrawn old call _ new = ⊥

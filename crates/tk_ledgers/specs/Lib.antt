@@ -1,0 +1,4 @@
+-- What a caller must believe: what a handle shows, and what its calls do
+pub mod Handles
+pub mod Sums
+pub mod Tasks

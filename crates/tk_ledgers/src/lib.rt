@@ -1,0 +1,19 @@
+//! The handles of a ledger: who owns an item, who wakes it, changes it or reads it.
+//!
+//! - [`TaskOwner`]: the owner of a task's ledger, who polls it and closes it.
+//! - [`WakerHandle`]: wakes the task; a wake by value and a release are its last call.
+//! - [`TaskInspector`]: reads the task.
+//! - [`TaskReceipt`]: what a handle has seen that makes no more calls.
+//! - [`Origin`]: whence a wake comes.
+//!
+//! A handle holds a share of its ledger and a token of it. What contracts see of it is its `Sight`
+//! (`specs/Handles.antt`): the id of its item, its ledger, and what is known by its token. A call is one entry of
+//! the ledger's history (`Calls` of `tk_cell`). A call that makes a handle takes a share of the ledger first; where
+//! that is refused, it answers `Memory` and does nothing.
+#![tactic(auto)]
+
+mod handle;
+mod role;
+mod task;
+
+pub use task::{Origin, TaskInspector, TaskOwner, TaskReceipt, WakerHandle};

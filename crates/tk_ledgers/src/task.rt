@@ -1,0 +1,13 @@
+//! The handles of a task's ledger.
+
+mod inspector;
+mod origin;
+mod owner;
+mod receipt;
+mod waker;
+
+pub use inspector::TaskInspector;
+pub use origin::Origin;
+pub use owner::TaskOwner;
+pub use receipt::TaskReceipt;
+pub use waker::WakerHandle;

@@ -1,0 +1,108 @@
+//! Those who wake a task.
+ghost use Rattle.std.specs.Prelude.{◌≡◌, ◌≢◌, ◌≤◌, true, false, not, Some, None, is_ok, IfOk, IfErr, OnOk};
+ghost use Rattle.tk_core.specs.declared.task.call.TaskCall.TheVariants.{PollStart, PollEnd, Close, CloneWaker, WakeVal, WakeRef, Release, Enlist, Read};
+ghost use Rattle.tk_core.specs.declared.reply.Reply.TheVariants.{Done, Woken, Shown};
+ghost use Rattle.tk_core.specs.declared.reply.Reply.TheVariants.{Refused as NotDone};
+ghost use Rattle.tk_core.specs.Task.{opening_row};
+ghost use Rattle.tk_core.specs.TaskMeaning.{task_meaning};
+ghost use Rattle.tk_cell.specs.Views.{opened};
+ghost use Rattle.tk_cell.specs.Calls.{Calls, Joins};
+ghost use Rattle.tk_ledgers.specs.Handles.{sight, Drew, NotDrawn};
+ghost use Rattle.tk_ledgers.specs.Tasks.{is_polling, names};
+
+use crate::handle::Handle;
+use crate::role::Waking;
+use crate::task::{Origin, TaskReceipt};
+use std::marker::Model;
+use std::sync::Wait;
+use tk_core::{Refusal, TaskCall, TaskRow, WakeReply};
+use tk_ids::TaskId;
+
+/// Who wakes a task: by reference any number of times, and then once by value, or it is released.
+#[derive(Drop)]
+pub struct WakerHandle {
+    id: TaskId,
+    handle: Handle<TaskRow, Waking>,
+}
+
+impl Model for WakerHandle {
+    ghost use Rattle.tk_ledgers.specs.Handles.{sight};
+    ghost use Rattle.tk_ledgers.specs.Tasks.{TaskSight};
+
+    ghost Value = { TaskSight };
+
+    ghost view = { λ h. sight h.id h.handle };
+}
+
+impl WakerHandle {
+    pub(crate) fn new(id: TaskId, handle: Handle<TaskRow, Waking>) -> WakerHandle
+        ensures { result ≡ sight id handle }
+    {
+        WakerHandle { id, handle }
+    }
+
+    /// The task that it wakes.
+    pub fn task(&self) -> TaskId
+        ensures { result ≡ self.now.id }
+    {
+        self.id
+    }
+
+    /// Its number among the handles of the task.
+    pub fn number(&self) -> u64
+        ensures { result ≡ self.now.token.view.caller }
+    {
+        self.handle.number()
+    }
+
+    /// Makes a further waker. Refused with `Memory`, `HandlesSpent`.
+    #[tactic(auto, using(crate::proofs::TaskLemmas::clone_draws))]
+    pub fn clone_waker<R: Wait>(&mut self, rt: &R) -> Result<WakerHandle, Refusal>
+        ensures id { self.new.id ≡ self.old.id }
+        ensures ledger { self.new.token.ledger ≡ self.old.token.ledger }
+        ensures made_id { IfOk result (λ made. made.id ≡ self.old.id) }
+        ensures made_ledger { IfOk result (λ made. made.token.ledger ≡ self.old.token.ledger) }
+        ensures ok { IfOk result (λ made. Drew task_meaning self.old.token CloneWaker self.new.token made.token) }
+        ensures err { IfErr result (λ refusal. NotDrawn task_meaning self.old.token CloneWaker refusal self.new.token) }
+    {
+        let handle = self.handle.draw::<Waking, R>(rt, TaskCall::CloneWaker)?;
+        Ok(WakerHandle::new(self.id, handle))
+    }
+
+    /// Wakes the task, and uses the waker up: one wake and one drop.
+    #[tactic(auto, using(crate::proofs::TaskLemmas::value_wakes))]
+    pub fn wake<R: Wait>(self, rt: &R, moment: u64, origin: Origin<'_>) -> (WakeReply, TaskReceipt)
+        ensures id { result.1.id ≡ self.id }
+        ensures ledger { result.1.token.ledger ≡ self.token.ledger }
+        ensures entry { Calls task_meaning self.token.view (WakeVal moment (names origin.entry self.id)) (Woken result.0) result.1.token.view }
+    {
+        let from_self = origin.names(self.id);
+        let id = self.id;
+        let (found, token) = self
+            .handle
+            .last_wake(rt, TaskCall::WakeVal(moment, from_self));
+        (found, TaskReceipt::new(id, token))
+    }
+
+    /// Wakes the task.
+    #[tactic(auto, using(crate::proofs::TaskLemmas::reference_wakes))]
+    pub fn wake_by_ref<R: Wait>(&mut self, rt: &R, moment: u64, origin: Origin<'_>) -> WakeReply
+        ensures id { self.new.id ≡ self.old.id }
+        ensures ledger { self.new.token.ledger ≡ self.old.token.ledger }
+        ensures entry { Calls task_meaning self.old.token.view (WakeRef moment (names origin.entry self.old.id)) (Woken result) self.new.token.view }
+    {
+        let from_self = origin.names(self.id);
+        self.handle.wake(rt, TaskCall::WakeRef(moment, from_self))
+    }
+
+    /// Drops the waker without a wake.
+    #[tactic(auto, using(crate::proofs::TaskLemmas::release_done))]
+    pub fn release<R: Wait>(self, rt: &R) -> TaskReceipt
+        ensures id { result.id ≡ self.id }
+        ensures ledger { result.token.ledger ≡ self.token.ledger }
+        ensures entry { Calls task_meaning self.token.view Release Done result.token.view }
+    {
+        let id = self.id;
+        TaskReceipt::new(id, self.handle.last_done(rt, TaskCall::Release))
+    }
+}
