@@ -6,5 +6,7 @@ pub mod RowsLemmas
 pub mod Lists
 pub mod Values
 pub mod Texts
+pub mod Round
+pub mod Decoded
 pub mod LinesLemmas
 pub mod AppliedLemmas

@@ -7,6 +7,8 @@ pub mod Lines
 pub mod Applied
 -- How a line is spelled: its JSON value, and its text
 pub mod Spelling
+-- The ranges of a line's values
+pub mod Ranges
 -- Which line a text is
 pub mod Outcome
 pub mod Reading

@@ -1,12 +1,15 @@
 //! Laws of the definitions: each is the contract of a function that does nothing.
-ghost use Rattle.std.specs.Prelude.{◌≡◌, ℕ, true, Some, ◌↔◌};
+ghost use Rattle.std.specs.Prelude.{◌≡◌, ℕ, true, Some, Ok, ◌↔◌};
 ghost use Rattle.tk_core.specs.declared.op.row.OpRow.{OpRow};
 ghost use Rattle.tk_core.specs.declared.resource.row.ResourceRow.{ResourceRow};
 ghost use Rattle.tk_core.specs.declared.task.row.TaskRow.{TaskRow};
 ghost use Rattle.tk_stream.specs.Rows.{same_row, same_resource_row, same_op_row, same_counts};
 ghost use Rattle.tk_stream.specs.Tables.{TablesView, PollCounts, AreDistinct, AreFit, empty_tables};
 ghost use Rattle.tk_stream.specs.Applied.{GoOn, tables_after};
-ghost use Rattle.tk_stream.specs.Lines.{line_between, snapshot_of, TellsAll, TellsNothing};
+ghost use Rattle.tk_stream.specs.Lines.{LineView, line_between, snapshot_of, TellsAll, TellsNothing};
+ghost use Rattle.tk_stream.specs.Ranges.{IsLine};
+ghost use Rattle.tk_stream.specs.Reading.{line_of_text};
+ghost use Rattle.tk_stream.specs.Spelling.{line_text};
 
 /// Two rows agree in each of their fields exactly where they are equal, and so do two poll counts.
 pub fn same_rows_are_equal()
@@ -33,4 +36,9 @@ pub fn lines_lead_on()
         → tables_after old (line_between old new seq) ≡ Some new }
     ensures snapshot { (tables : TablesView) (seq : ℕ) → AreFit tables
         → tables_after empty_tables (snapshot_of tables seq) ≡ Some tables }
+{}
+
+/// The text of a line reads back as that line, where the line's values are in the ranges of their types.
+pub fn lines_read_back()
+    ensures { (l : LineView) → IsLine l → line_of_text (line_text l) ≡ Ok l }
 {}

@@ -3,7 +3,7 @@
 //! - [`Tables`]: the items in order of arrival, each with its row, and the counts of poll operations.
 //! - [`Task`], [`Resource`], [`Op`]: a task, a resource and an async operation in tables.
 //! - [`Line`]: what one line of a stream says; its text is one JSON object.
-//! - [`LineError`]: why there is no line.
+//! - [`LineError`]: why a line was not made, read or written.
 //! - [`laws`]: what holds of the definitions by themselves.
 #![tactic(auto)]
 
