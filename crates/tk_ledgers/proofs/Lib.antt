@@ -4,3 +4,9 @@ pub mod SumLemmas
 pub mod TaskLemmas
 pub mod TaskPollLemmas
 pub mod TaskSumLemmas
+pub mod ResourceLemmas
+pub mod ResourceCloseLemmas
+pub mod ResourceSumLemmas
+pub mod OpLemmas
+pub mod OpPollLemmas
+pub mod OpSumLemmas

@@ -2,3 +2,5 @@
 pub mod Handles
 pub mod Sums
 pub mod Tasks
+pub mod Resources
+pub mod Ops

@@ -5,6 +5,8 @@
 //! - [`TaskInspector`]: reads the task.
 //! - [`TaskReceipt`]: what a handle has seen that makes no more calls.
 //! - [`Origin`]: whence a wake comes.
+//! - [`ResourceOwner`], [`ResourceUser`], [`ResourceInspector`], [`ResourceReceipt`]: the same of a resource.
+//! - [`OpOwner`], [`OpInspector`], [`OpReceipt`]: the same of an async operation.
 //!
 //! A handle holds a share of its ledger and a token of it. What contracts see of it is its `Sight`
 //! (`specs/Handles.antt`): the id of its item, its ledger, and what is known by its token. A call is one entry of
@@ -13,7 +15,14 @@
 #![tactic(auto)]
 
 mod handle;
+mod op;
+mod resource;
 mod role;
 mod task;
 
+pub use op::{OpInspector, OpOwner, OpReceipt};
+pub use resource::{ResourceInspector, ResourceOwner, ResourceReceipt, ResourceUser};
 pub use task::{Origin, TaskInspector, TaskOwner, TaskReceipt, WakerHandle};
+
+#[cfg(test)]
+mod tests;

@@ -1,0 +1,5 @@
+use Rattle.std.proofs.Common.{◌≡◌}
+use Rattle.tk_ledgers.proofs.tests.threads.wake_and_release.Given as goal
+
+abbrev pub invariant-loop : goal.invariant-loop
+invariant-loop g l = l.waker.token.ledger ≡ l.initial.waker.token.ledger

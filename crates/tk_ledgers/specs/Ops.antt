@@ -1,0 +1,38 @@
+-- What the handles of an async operation show.
+use Rattle.std.specs.Prelude.{◌≡◌, ℕ, ◌≤◌, Bool, List, None}
+use Rattle.tk_core.specs.declared.reply.Reply.{Reply}
+use Rattle.tk_core.specs.declared.op.row.OpRow.{OpRow}
+use Rattle.tk_core.specs.declared.op.call.OpCall.{OpCall}
+use Rattle.tk_core.specs.Lists.{last_of}
+use Rattle.tk_core.specs.History.{accepted}
+use Rattle.tk_core.specs.Legal.{own}
+use Rattle.tk_core.specs.Fold.{is_accepted}
+use Rattle.tk_core.specs.Op.{start_at, end_at, close_at, draws_handle}
+use Rattle.tk_core.specs.Polls as polls
+use Rattle.tk_cell.specs.declared.view.View.{View}
+use Rattle.tk_ledgers.specs.Handles.{Sight}
+use Rattle.tk_ledgers.specs.Sums.{sum_held}
+
+-- what contracts see of an operation's handle
+abbrev pub OpSight : Type 0
+OpSight = Sight OpRow OpCall (Reply OpRow)
+
+-- the owner's calls that were accepted, as far as a handle has seen
+abbrev pub owner_calls : OpSight → List OpCall
+owner_calls h = accepted is_accepted (own 0 h.token.view.seen)
+
+-- a poll is open: of the owner's starts and ends of polls the last is a start
+abbrev pub is_polling : OpSight → Bool
+is_polling h = polls.is_polling start_at end_at (owner_calls h)
+
+-- an owner keeps whether a poll is open, and hasn't closed the operation
+abbrev pub Owns : OpSight → Bool → Type 0
+Owns h polling = (is_polling h ≡ polling) × (last_of close_at (owner_calls h) ≡ None)
+
+-- the counts of a row are the sums over the lists of the callers that a token holds
+abbrev pub CountsAre : View OpRow OpCall (Reply OpRow) → OpRow → Type 0
+CountsAre v row = (row.polls ≡ sum_held (polls.is_start start_at end_at) v) × (row.handles ≡ sum_held draws_handle v)
+
+-- the counts of a row are at least those sums
+abbrev pub CountsReach : View OpRow OpCall (Reply OpRow) → OpRow → Type 0
+CountsReach v row = (sum_held (polls.is_start start_at end_at) v ≤ row.polls) × (sum_held draws_handle v ≤ row.handles)

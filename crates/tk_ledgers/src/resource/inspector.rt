@@ -1,0 +1,104 @@
+//! Those who read a resource.
+ghost use Rattle.std.specs.Prelude.{◌≡◌, ◌≢◌, ◌≤◌, true, false, not, Some, None, is_ok, IfOk, IfErr, OnOk};
+ghost use Rattle.tk_core.specs.declared.resource.call.ResourceCall.TheVariants.{Close, Attr, Enlist, Read};
+ghost use Rattle.tk_core.specs.declared.reply.Reply.TheVariants.{Done, Woken, Shown};
+ghost use Rattle.tk_core.specs.declared.reply.Reply.TheVariants.{Refused as NotDone};
+ghost use Rattle.tk_core.specs.Resource.{opening_row};
+ghost use Rattle.tk_core.specs.ResourceMeaning.{resource_meaning};
+ghost use Rattle.tk_cell.specs.Views.{opened};
+ghost use Rattle.tk_cell.specs.Calls.{Calls, Joins};
+ghost use Rattle.tk_ledgers.specs.Handles.{sight, Drew, NotDrawn};
+ghost use Rattle.tk_ledgers.specs.Sums.{HoldsAll};
+ghost use Rattle.tk_ledgers.specs.Resources.{CountsAre, CountsReach};
+
+use crate::handle::Handle;
+use crate::resource::ResourceReceipt;
+use crate::role::Enlisted;
+use std::marker::Model;
+use std::sync::Wait;
+use tk_core::{Refusal, ResourceCall, ResourceRow};
+use tk_ids::ResourceId;
+
+/// Who reads a resource.
+#[derive(Drop)]
+pub struct ResourceInspector {
+    id: ResourceId,
+    handle: Handle<ResourceRow, Enlisted>,
+}
+
+impl Model for ResourceInspector {
+    ghost use Rattle.tk_ledgers.specs.Handles.{sight};
+    ghost use Rattle.tk_ledgers.specs.Resources.{ResourceSight};
+
+    ghost Value = { ResourceSight };
+
+    ghost view = { λ h. sight h.id h.handle };
+}
+
+impl ResourceInspector {
+    pub(crate) fn new(id: ResourceId, handle: Handle<ResourceRow, Enlisted>) -> ResourceInspector
+        ensures { result ≡ sight id handle }
+    {
+        ResourceInspector { id, handle }
+    }
+
+    /// The resource that it reads.
+    pub fn resource(&self) -> ResourceId
+        ensures { result ≡ self.now.id }
+    {
+        self.id
+    }
+
+    /// Its number among the handles of the resource.
+    pub fn number(&self) -> u64
+        ensures { result ≡ self.now.token.view.caller }
+    {
+        self.handle.number()
+    }
+
+    /// Reads the row.
+    #[tactic(auto, using(crate::proofs::ResourceLemmas::read_reads))]
+    pub fn read<R: Wait>(&mut self, rt: &R) -> ResourceRow
+        ensures id { self.new.id ≡ self.old.id }
+        ensures ledger { self.new.token.ledger ≡ self.old.token.ledger }
+        ensures entry { Calls resource_meaning self.old.token.view Read (Shown result) self.new.token.view }
+
+        // A count is the sum over the lists of its callers, where it has learnt the owner and every caller made in
+        // what it has seen; it is never less.
+        ensures least { CountsReach self.old.token.view result }
+        ensures exact { HoldsAll resource_meaning self.old.token.view → CountsAre self.old.token.view result }
+    {
+        self.handle.read(rt, ResourceCall::Read)
+    }
+
+    /// Makes a further inspector. Refused with `Memory`, `HandlesSpent`.
+    #[tactic(auto, using(crate::proofs::ResourceLemmas::enlist_draws))]
+    pub fn inspect<R: Wait>(&mut self, rt: &R) -> Result<ResourceInspector, Refusal>
+        ensures id { self.new.id ≡ self.old.id }
+        ensures ledger { self.new.token.ledger ≡ self.old.token.ledger }
+        ensures made_id { IfOk result (λ made. made.id ≡ self.old.id) }
+        ensures made_ledger { IfOk result (λ made. made.token.ledger ≡ self.old.token.ledger) }
+        ensures ok { IfOk result (λ made. Drew resource_meaning self.old.token Enlist self.new.token made.token) }
+        ensures err { IfErr result (λ refusal. NotDrawn resource_meaning self.old.token Enlist refusal self.new.token) }
+    {
+        let handle = self.handle.draw::<Enlisted, R>(rt, ResourceCall::Enlist)?;
+        Ok(ResourceInspector::new(self.id, handle))
+    }
+
+    /// Takes in what another handle of the ledger has seen, and its numbers. No entry is made.
+    pub fn learn<R: Wait>(&mut self, rt: &R, receipt: ResourceReceipt)
+        requires { receipt.token.ledger ≡ self.old.token.ledger }
+        ensures id { self.new.id ≡ self.old.id }
+        ensures ledger { self.new.token.ledger ≡ self.old.token.ledger }
+        ensures joined { Joins resource_meaning self.old.token.view receipt.token.view self.new.token.view }
+    {
+        self.handle.learn(rt, receipt.into_token())
+    }
+
+    /// Makes no more calls. No entry is made.
+    pub fn retire(self) -> ResourceReceipt
+        ensures { result ≡ self }
+    {
+        ResourceReceipt::new(self.id, self.handle.retire())
+    }
+}

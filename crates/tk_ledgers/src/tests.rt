@@ -1,0 +1,6 @@
+//! The calls of handles as tables, and handles on two threads.
+
+mod changes;
+mod polls;
+mod threads;
+mod wakes;
