@@ -1,5 +1,5 @@
 -- A line's value is read as that line.
-use Rattle.std.proofs.Common.{◌≡◌, ℕ, ◌/◌, ◌^◌, ◌<◌, ◌≤◌, List, [], ◌∷◌, true, Option, Some, None, Ok, IsUtf8, codes, refl, ap, ◌∙◌, arith, lit<, ltb-true, leb-true}
+use Rattle.std.proofs.Common.{◌≡◌, ℕ, ◌/◌, ◌^◌, ◌<◌, ◌≤◌, List, [], ◌∷◌, true, Option, Some, None, Ok, IsUtf8, codes, refl, ap, ◌∙◌, arith, lit<, leb-true}
 use Rattle.std.specs.Prelude.{map, ◌&&◌, IfSome, nat_lt, nat_le, length}
 use Rattle.std.specs.List.{AllByRecursion, list_all}
 use Rattle.std.specs.Str.{IsAscii}
@@ -34,7 +34,7 @@ use Rattle.tk_stream.specs.Lines.{LineView, is_seq}
 use Rattle.tk_stream.specs.Outcome.{shaped, ◌then◌}
 use Rattle.tk_stream.specs.Reading.{optional_of, optional_id_of, optional_name_of, attr_of, attr_kind_of, value_of, attrs_in, values_in, kind_of, location_in, info_of, resource_parts, resource_of, op_parts, op_of, stats_of, resource_stats_with, resource_stats_of, op_stats_with, op_stats_of, counts_of, parts_of, line_of, each_of, values_of, json_or_fault, line_of_text}
 use Rattle.tk_stream.specs.Spelling.{number_data, optional_data, optional_text, attr_kind_text, attr_data, value_data, kind_text, location_data, info_data, resource_data, op_data, stats_data, resource_stats_data, op_stats_data, counts_data, line_data, line_text}
-use Rattle.tk_stream.specs.Ranges.{IsNumber, IsOptional, IsOptionalId, IsName, IsLocation, IsAttr, IsValue, AreAttrs, AreValues, IsTaskInfo, IsResourceInfo, IsOpInfo, AreTaskStats, AreResourceStats, AreOpStats, AreCounts, IsLine}
+use Rattle.tk_stream.specs.Ranges.{IsOptional, IsOptionalId, IsName, IsLocation, IsAttr, IsValue, AreAttrs, AreValues, IsTaskInfo, IsResourceInfo, IsOpInfo, AreTaskStats, AreResourceStats, AreOpStats, AreCounts, IsLine}
 use Rattle.tk_stream.proofs.Texts.{json_read}
 use Rattle.tk_stream.proofs.Round.{IsWhole, AreWhole, whole_is_text, read-compact_text}
 

@@ -7,7 +7,6 @@ use Rattle.tk_core.specs.declared.task.row.TaskRow.{TaskRow}
 use Rattle.tk_ids.specs.declared.attr.AttrInfo.{AttrInfo}
 use Rattle.tk_ids.specs.declared.attr.AttrValue.{AttrValue}
 use Rattle.tk_ids.specs.declared.attr.AttrValue.TheVariants.{U64, Bool}
-use Rattle.tk_ids.specs.declared.info.Dropped.{Dropped}
 use Rattle.tk_ids.specs.declared.info.OpInfo.{OpInfo}
 use Rattle.tk_ids.specs.declared.info.ResourceInfo.{ResourceInfo}
 use Rattle.tk_ids.specs.declared.info.TaskInfo.{TaskInfo}
@@ -17,7 +16,7 @@ use Rattle.serde_json.specs.Written.{has_float, items_have_float}
 use Rattle.tk_stream.specs.Tables.{PollCounts}
 use Rattle.tk_stream.specs.Lines.{LineView}
 use Rattle.tk_stream.specs.Put.{with_fields, with_totals, with_new_items, with_stats}
-use Rattle.tk_stream.specs.Spelling.{list_data, optional_data, optional_text, attr_data, value_data, info_data, resource_data, op_data, stats_data, resource_stats_data, op_stats_data, counts_data, line_data}
+use Rattle.tk_stream.specs.Spelling.{optional_data, optional_text, attr_data, value_data, info_data, resource_data, op_data, stats_data, resource_stats_data, op_stats_data, counts_data, line_data}
 
 each_has_none : {A : Type 0} (spelling : A → Data) → ((x : A) → has_float (spelling x) ≡ false) → (xs : List A) → items_have_float (items_of (map spelling xs)) ≡ false
 each_has_none spelling h [] = refl

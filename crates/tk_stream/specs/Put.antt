@@ -1,5 +1,5 @@
 -- How an object is made: a member after the other is put into it. No public clause cites this.
-use Rattle.std.specs.Prelude.{ℕ, List, [], ◌∷◌, map, codes, Bool, Option}
+use Rattle.std.specs.Prelude.{ℕ, List, [], ◌∷◌, map, codes, Bool}
 use Rattle.std.specs.Borrow.{Bor}
 use Rattle.serde_json.specs.Data.{Data, boolean, Members, put}
 use Rattle.tk_core.specs.declared.op.row.OpRow.{OpRow}

@@ -1,4 +1,4 @@
-use Rattle.std.proofs.Common.{◌≡◌, ap, ◌∙◌, sym, subst}
+use Rattle.std.proofs.Common.{ap, ◌∙◌, sym, subst}
 use Rattle.std.specs.Map.{values_of}
 use Rattle.tk_stream.specs.Entries.{AreKeyed}
 use Rattle.tk_stream.proofs.Keyed.{copied}

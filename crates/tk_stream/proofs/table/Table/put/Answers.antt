@@ -1,4 +1,4 @@
-use Rattle.std.proofs.Common.{◌≡◌, List, ℕ, nat_eq, is_some, ap, ◌∙◌, sym, subst}
+use Rattle.std.proofs.Common.{◌≡◌, nat_eq, is_some, ap, ◌∙◌, sym, subst}
 use Rattle.std.specs.Map.{lookup, values_of}
 use Rattle.indexmap.specs.IndexMap.{insert_entry}
 use Rattle.tk_stream.specs.Tables.{item_with, put_item}
