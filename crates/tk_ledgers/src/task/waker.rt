@@ -78,9 +78,8 @@ impl WakerHandle {
     {
         let from_self = origin.names(self.id);
         let id = self.id;
-        let (found, token) = self
-            .handle
-            .last_wake(rt, TaskCall::WakeVal(moment, from_self));
+        let handle = self.handle;
+        let (found, token) = handle.last_wake(rt, TaskCall::WakeVal(moment, from_self));
         (found, TaskReceipt::new(id, token))
     }
 

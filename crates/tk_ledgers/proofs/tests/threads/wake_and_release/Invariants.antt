@@ -1,5 +1,5 @@
 use Rattle.std.proofs.Common.{◌≡◌}
 use Rattle.tk_ledgers.proofs.tests.threads.wake_and_release.Given as goal
 
-abbrev pub invariant-loop : goal.invariant-loop
-invariant-loop g l = l.waker.token.ledger ≡ l.initial.waker.token.ledger
+abbrev pub invariant-loop-moment : goal.invariant-loop-moment
+invariant-loop-moment g l = l.waker.token.ledger ≡ l.initial.waker.token.ledger
