@@ -1,5 +1,5 @@
 -- A handle's role: what it allows, and that calls, splits and joins keep it.
-use Rattle.std.proofs.Common.{◌≡◌, ◌≢◌, ℕ, ◌⊎◌, inl, inr, true, false, Option, Some, None, List, ◌++◌, ⊎_elim, refl, ap, sym, ◌∙◌, subst}
+use Rattle.std.proofs.Common.{◌≡◌, ℕ, true, false, Option, Some, None, ◌++◌, ⊎_elim, ap, sym, ◌∙◌, subst}
 use Rattle.tk_core.specs.declared.reply.Refusal.TheVariants.{HandlesSpent}
 use Rattle.tk_core.specs.declared.reply.Reply.{Reply}
 use Rattle.tk_core.specs.declared.reply.Reply.TheVariants.{Number, Refused}
@@ -7,9 +7,9 @@ use Rattle.tk_core.specs.Meaning.{Meaning, NumbersAreNew}
 use Rattle.tk_core.specs.History.{calls_of}
 use Rattle.tk_core.specs.Legal.{may_call, has_ended}
 use Rattle.tk_cell.specs.declared.view.View.{View}
-use Rattle.tk_cell.specs.Views.{Holds, Known, after_split, split_off}
+use Rattle.tk_cell.specs.Views.{after_split, split_off}
 use Rattle.tk_cell.specs.Calls.{Calls, Joins}
-use Rattle.tk_cell.proofs.RoleLemmas.{owner_role, made_role, owner_calls, made_calls, owner_after_split, made_after_split, owner_joins, made_joins, drawn_held, drawn_other, drawn_made, call_reply}
+use Rattle.tk_cell.proofs.RoleLemmas.{owner_role, made_role, owner_calls, made_calls, owner_after_split, made_after_split, owner_joins, made_joins, drawn_made, call_reply}
 use Rattle.tk_ledgers.specs.Handles.{role_may, HasRole, Gives, IsDrawing, IsReading, IsWake}
 
 module _ {O C R : Type 0} (m : Meaning O C R) where

@@ -1,11 +1,10 @@
 -- What the calls on an operation are answered, wherever they are made.
-use Rattle.std.proofs.Common.{◌≡◌, ℕ, ◌+◌, ◌^◌, Bool, true, false, Option, Some, None, List, refl, inl, inr}
+use Rattle.std.proofs.Common.{ℕ, ◌+◌, ◌^◌, Bool, true, false, Option, Some, None, List, refl, inl, inr}
 use Rattle.std.specs.Prelude.{◌==◌, if◌then◌else◌}
 use Rattle.tk_core.specs.declared.attrs.AttrOp.{AttrOp}
 use Rattle.tk_core.specs.declared.reply.Refusal.{Refusal}
 use Rattle.tk_core.specs.declared.reply.Refusal.TheVariants.{HandlesSpent}
-use Rattle.tk_core.specs.declared.reply.Reply.{Reply}
-use Rattle.tk_core.specs.declared.reply.Reply.TheVariants.{Done, Number, Refused}
+use Rattle.tk_core.specs.declared.reply.Reply.TheVariants.{Done, Number}
 use Rattle.tk_core.specs.declared.op.row.OpRow.{OpRow}
 use Rattle.tk_core.specs.declared.op.call.OpCall.{OpCall}
 use Rattle.tk_core.specs.declared.op.call.OpCall.TheVariants.{PollStart, PollEnd, Close, SetTask, Attr, Enlist, Read}

@@ -1,8 +1,7 @@
 -- An operation is polled and closed by its owner alone, so the owner's own list tells what its calls are answered.
-use Rattle.std.proofs.Common.{◌≡◌, ◌≢◌, ℕ, Bool, true, false, cond, if◌then◌else◌, List, [], ◌∷◌, ◌++◌, Option, Some, None, Result, Ok, Err, OnOk, IfErr, refl, ap, sym, ◌∙◌, subst}
+use Rattle.std.proofs.Common.{◌≡◌, ℕ, Bool, true, false, cond, if◌then◌else◌, [], ◌++◌, Option, None, Result, Ok, Err, OnOk, IfErr, refl, ap, sym, ◌∙◌, subst}
 use Rattle.std.specs.Prelude.{unwrap_or}
 use Rattle.std.specs.Option.{option_or}
-use Rattle.tk_core.specs.declared.history.Entry.{Entry}
 use Rattle.tk_core.specs.declared.reply.Refusal.{Refusal}
 use Rattle.tk_core.specs.declared.reply.Refusal.TheVariants.{AlreadyPolling, NotPolling, Closed, HandlesSpent, NoAttribute, WrongKind, OutOfRange, Memory}
 use Rattle.tk_core.specs.declared.reply.Reply.{Reply}
@@ -12,7 +11,7 @@ use Rattle.tk_core.specs.declared.op.call.OpCall.{OpCall}
 use Rattle.tk_core.specs.declared.op.call.OpCall.TheVariants.{PollStart, PollEnd, Close, SetTask, Attr, Enlist, Read}
 use Rattle.tk_core.specs.Lists.{last_of}
 use Rattle.tk_core.specs.Polls.{starts_or_ends, is_polling}
-use Rattle.tk_core.specs.History.{calls_of, accepted}
+use Rattle.tk_core.specs.History.{accepted}
 use Rattle.tk_core.specs.Fold.{is_accepted, fold_of, answer_at, row_after, reply_after}
 use Rattle.tk_core.specs.Legal.{own}
 use Rattle.tk_core.specs.Op.{start_at, end_at, close_at, row_of, op_kind, made_may, inspector_may}

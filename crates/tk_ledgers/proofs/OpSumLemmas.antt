@@ -1,15 +1,14 @@
 -- What a reading of an operation shows.
-use Rattle.std.proofs.Common.{◌≡◌, ℕ, ◌≤◌, Bool, [], ◌∷◌, ◌++◌, ap, sym, ◌∙◌, subst}
+use Rattle.std.proofs.Common.{◌≡◌, [], ◌∷◌, ◌++◌, sym, ◌∙◌, subst}
 use Rattle.tk_core.specs.declared.reply.Reply.{Reply}
 use Rattle.tk_core.specs.declared.reply.Reply.TheVariants.{Shown}
 use Rattle.tk_core.specs.declared.op.row.OpRow.{OpRow}
 use Rattle.tk_core.specs.declared.op.call.OpCall.{OpCall}
 use Rattle.tk_core.specs.declared.op.call.OpCall.TheVariants.{Read}
-use Rattle.tk_core.specs.Lists.{count_of}
 use Rattle.tk_core.specs.Polls.{is_start}
-use Rattle.tk_core.specs.History.{calls_of, accepted}
+use Rattle.tk_core.specs.History.{accepted}
 use Rattle.tk_core.specs.Fold.{is_accepted, fold_of, row_after, reply_after}
-use Rattle.tk_core.specs.Op.{start_at, end_at, draws_handle, row_of, op_kind}
+use Rattle.tk_core.specs.Op.{start_at, end_at, draws_handle, row_of}
 use Rattle.tk_core.specs.OpMeaning.{op_meaning}
 use Rattle.tk_core.specs.Laws.OpLaws.{legal_fold}
 use Rattle.tk_cell.specs.declared.view.View.{View}

@@ -10,7 +10,7 @@ use Rattle.tk_core.specs.declared.resource.row.ResourceRow.{ResourceRow}
 use Rattle.tk_core.specs.declared.resource.call.ResourceCall.{ResourceCall}
 use Rattle.tk_core.specs.declared.resource.call.ResourceCall.TheVariants.{Close, Attr, Enlist, Read}
 use Rattle.tk_core.specs.Lists.{last_of}
-use Rattle.tk_core.specs.History.{calls_of, accepted}
+use Rattle.tk_core.specs.History.{accepted}
 use Rattle.tk_core.specs.Fold.{is_accepted, fold_of, answer_at, row_after, reply_after}
 use Rattle.tk_core.specs.Legal.{own}
 use Rattle.tk_core.specs.Resource.{close_at, row_of, resource_kind, made_may, user_may}

@@ -1,14 +1,13 @@
 -- What a reading of a resource shows.
-use Rattle.std.proofs.Common.{◌≡◌, ℕ, ◌≤◌, Bool, [], ◌∷◌, ◌++◌, ap, sym, ◌∙◌, subst}
+use Rattle.std.proofs.Common.{◌≡◌, [], ◌∷◌, ◌++◌, sym, ◌∙◌, subst}
 use Rattle.tk_core.specs.declared.reply.Reply.{Reply}
 use Rattle.tk_core.specs.declared.reply.Reply.TheVariants.{Shown}
 use Rattle.tk_core.specs.declared.resource.row.ResourceRow.{ResourceRow}
 use Rattle.tk_core.specs.declared.resource.call.ResourceCall.{ResourceCall}
 use Rattle.tk_core.specs.declared.resource.call.ResourceCall.TheVariants.{Read}
-use Rattle.tk_core.specs.Lists.{count_of}
-use Rattle.tk_core.specs.History.{calls_of, accepted}
+use Rattle.tk_core.specs.History.{accepted}
 use Rattle.tk_core.specs.Fold.{is_accepted, fold_of, row_after, reply_after}
-use Rattle.tk_core.specs.Resource.{draws_handle, row_of, resource_kind}
+use Rattle.tk_core.specs.Resource.{draws_handle, row_of}
 use Rattle.tk_core.specs.ResourceMeaning.{resource_meaning}
 use Rattle.tk_core.specs.Laws.ResourceLaws.{legal_fold}
 use Rattle.tk_cell.specs.declared.view.View.{View}

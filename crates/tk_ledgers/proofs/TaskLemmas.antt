@@ -1,14 +1,13 @@
 -- What the calls on a task are answered, wherever they are made.
-use Rattle.std.proofs.Common.{◌≡◌, ℕ, ◌+◌, ◌^◌, Bool, true, false, Option, Some, None, List, refl, inl, inr}
-use Rattle.std.specs.Prelude.{◌==◌, is_some, not, if◌then◌else◌}
+use Rattle.std.proofs.Common.{ℕ, ◌+◌, ◌^◌, Bool, true, false, Option, Some, None, List, refl, inl, inr}
+use Rattle.std.specs.Prelude.{◌==◌, if◌then◌else◌}
 use Rattle.tk_core.specs.declared.reply.Refusal.{Refusal}
 use Rattle.tk_core.specs.declared.reply.Refusal.TheVariants.{HandlesSpent}
-use Rattle.tk_core.specs.declared.reply.Reply.{Reply}
-use Rattle.tk_core.specs.declared.reply.Reply.TheVariants.{Done, Number, Woken, Shown, Refused}
+use Rattle.tk_core.specs.declared.reply.Reply.TheVariants.{Done, Number}
 use Rattle.tk_core.specs.declared.task.row.TaskRow.{TaskRow}
 use Rattle.tk_core.specs.declared.task.call.TaskCall.{TaskCall}
 use Rattle.tk_core.specs.declared.task.call.TaskCall.TheVariants.{PollStart, PollEnd, Close, CloneWaker, WakeVal, WakeRef, Release, Enlist, Read}
-use Rattle.tk_core.specs.Fold.{number_of, refused_or, fold_of, answer, reply_after}
+use Rattle.tk_core.specs.Fold.{refused_or, fold_of, answer, reply_after}
 use Rattle.tk_core.specs.History.{history_of}
 use Rattle.tk_core.specs.Task.{task_kind, found_by_wake}
 use Rattle.tk_core.specs.TaskMeaning.{task_meaning}

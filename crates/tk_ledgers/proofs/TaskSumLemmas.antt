@@ -1,15 +1,14 @@
 -- What a reading of a task shows.
-use Rattle.std.proofs.Common.{◌≡◌, ℕ, ◌≤◌, Bool, [], ◌∷◌, ◌++◌, ap, sym, ◌∙◌, subst}
+use Rattle.std.proofs.Common.{◌≡◌, [], ◌∷◌, ◌++◌, sym, ◌∙◌, subst}
 use Rattle.tk_core.specs.declared.reply.Reply.{Reply}
 use Rattle.tk_core.specs.declared.reply.Reply.TheVariants.{Shown}
 use Rattle.tk_core.specs.declared.task.row.TaskRow.{TaskRow}
 use Rattle.tk_core.specs.declared.task.call.TaskCall.{TaskCall}
 use Rattle.tk_core.specs.declared.task.call.TaskCall.TheVariants.{Read}
-use Rattle.tk_core.specs.Lists.{count_of}
 use Rattle.tk_core.specs.Polls.{is_start}
-use Rattle.tk_core.specs.History.{calls_of, accepted}
+use Rattle.tk_core.specs.History.{accepted}
 use Rattle.tk_core.specs.Fold.{is_accepted, fold_of, row_after, reply_after}
-use Rattle.tk_core.specs.Task.{start_at, end_at, is_wake, is_self_wake, is_clone, is_drop, draws_handle, row_of, task_kind}
+use Rattle.tk_core.specs.Task.{start_at, end_at, is_wake, is_self_wake, is_clone, is_drop, draws_handle, row_of}
 use Rattle.tk_core.specs.TaskMeaning.{task_meaning}
 use Rattle.tk_core.specs.Laws.TaskLaws.{legal_fold}
 use Rattle.tk_cell.specs.declared.view.View.{View}

@@ -1,5 +1,5 @@
 -- What the handles of an async operation show.
-use Rattle.std.specs.Prelude.{◌≡◌, ℕ, ◌≤◌, Bool, List, None}
+use Rattle.std.specs.Prelude.{◌≡◌, ◌≤◌, Bool, List, None}
 use Rattle.tk_core.specs.declared.reply.Reply.{Reply}
 use Rattle.tk_core.specs.declared.op.row.OpRow.{OpRow}
 use Rattle.tk_core.specs.declared.op.call.OpCall.{OpCall}

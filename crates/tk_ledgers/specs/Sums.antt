@@ -1,5 +1,5 @@
 -- What a reading shows, by the lists of the callers that a token holds.
-use Rattle.std.specs.Prelude.{◌≡◌, ℕ, ◌≤◌, Bool, List, ◌+◌, [], ◌∷◌, length, filter, Some}
+use Rattle.std.specs.Prelude.{◌≡◌, ℕ, Bool, List, ◌+◌, [], ◌∷◌, length, filter, Some}
 use Rattle.tk_core.specs.declared.history.Entry.{Entry}
 use Rattle.tk_core.specs.declared.reply.Reply.{Reply}
 use Rattle.tk_core.specs.Lists.{capped}

@@ -1,7 +1,6 @@
 use Rattle.std.proofs.Common.{refl}
 use Rattle.tk_core.specs.declared.attrs.AttrOp.TheVariants.{Override}
 use Rattle.tk_core.specs.declared.op.call.OpCall.TheVariants.{Attr}
-use Rattle.tk_core.specs.declared.op.row.OpRow.{OpRow}
 use Rattle.tk_ledgers.proofs.OpPollLemmas.{kept_attempt}
 use Rattle.tk_ledgers.proofs.op.owner.OpOwner.set.Goals as goal
 
