@@ -30,8 +30,6 @@ mod table;
 mod tables;
 mod task;
 mod tasks;
-#[cfg(test)]
-mod tests;
 mod told;
 
 pub use error::LineError;

@@ -1,7 +1,0 @@
-//! Tests, one file for each theme.
-
-mod given;
-mod kinds;
-mod lines;
-mod reading;
-mod tables;
