@@ -4,6 +4,8 @@ pub mod SumLemmas
 pub mod TaskLemmas
 pub mod TaskPollLemmas
 pub mod TaskSumLemmas
+pub mod WakerLemmas
+pub mod UseLemmas
 pub mod ResourceLemmas
 pub mod ResourceCloseLemmas
 pub mod ResourceSumLemmas

@@ -131,7 +131,7 @@ none_yet Row test = refl
 
 -- how many accepted calls pass a test
 module _ {Row C : Type 0} (test : C → Bool) where
-  abbrev one : Entry C (Reply Row) → ℕ
+  abbrev pub one : Entry C (Reply Row) → ℕ
   one e = length (filter test (cond (is_accepted e.reply) (e.call ∷ []) []))
 
   abbrev kept : List (Entry C (Reply Row)) → List (Entry C (Reply Row))
@@ -144,6 +144,11 @@ module _ {Row C : Type 0} (test : C → Bool) where
       go : (b : Bool) → length (filter test (map (λ (x : Entry C (Reply Row)). x.call) (cond b (e ∷ kept h) (kept h)))) ≡ length (filter test (cond b (e.call ∷ []) [])) + length (filter test (map (λ (x : Entry C (Reply Row)). x.call) (kept h)))
       go true = ap (λ (l : List C). length l) (filter-append test (e.call ∷ []) (map (λ (x : Entry C (Reply Row)). x.call) (kept h))) ∙ length-append (filter test (e.call ∷ [])) (filter test (map (λ (x : Entry C (Reply Row)). x.call) (kept h)))
       go false = omega arith
+
+  pub tally_push : (h : List (Entry C (Reply Row))) (e : Entry C (Reply Row)) → tally test (h ++ e ∷ []) ≡ tally test h + one e
+  tally_push h e =
+      let nothing = none_yet Row test in let last = tally_cons e [] in
+      omega (arith, total-append one (tally test) nothing tally_cons h (e ∷ []), last, nothing)
 
   module _ (m : Meaning Row C (Reply Row)) (v : View Row C (Reply Row)) (call : C) (reply : Reply Row) (w : View Row C (Reply Row)) (k : Calls m v call reply w) where
     pub count_least : sum_held test v ≤ count_of test (accepted is_accepted (v.seen ++ k.between))

@@ -1,6 +1,8 @@
 -- What a caller must believe: what a handle shows, and what its calls do
 pub mod Handles
 pub mod Sums
+pub mod Wakers
 pub mod Tasks
 pub mod Resources
 pub mod Ops
+pub mod Uses

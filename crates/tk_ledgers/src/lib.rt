@@ -15,6 +15,7 @@
 #![tactic(auto)]
 
 mod handle;
+pub mod laws;
 mod op;
 mod resource;
 mod role;

@@ -2,5 +2,6 @@
 
 mod changes;
 mod polls;
+mod readings;
 mod threads;
 mod wakes;

@@ -1,5 +1,6 @@
 //! Two threads that wake one task.
-ghost use Rattle.std.specs.Prelude.{◌≡◌, IfOk};
+ghost use Rattle.std.specs.Prelude.{◌≡◌, ◌≤◌, IfOk};
+ghost use Rattle.tk_ledgers.specs.Uses.{WokeOnce};
 
 use super::polls::FIRST;
 use crate::{Origin, TaskInspector, TaskOwner, TaskReceipt, WakerHandle};
@@ -43,6 +44,42 @@ fn both<R: Wait + Threads + Sync>(
     inspector.read(rt)
 }
 
+// Wakes once, and uses the waker up.
+fn wake_once<R: Wait>(rt: &R, waker: WakerHandle, moment: u64) -> TaskReceipt
+    ensures ledger { result.token.ledger ≡ waker.token.ledger }
+    ensures woke { WokeOnce waker result }
+{
+    waker.wake(rt, moment, Origin::outside()).1
+}
+
+// Two threads wake one task, once each. The inspector learns what both have seen, and its next reading has both wakes,
+// whatever else was going on.
+fn wake_in_two_threads<R: Wait + Threads + Sync>(
+    rt: &R,
+    one: WakerHandle,
+    two: WakerHandle,
+    inspector: &mut TaskInspector,
+) -> TaskRow
+    requires one { one.token.ledger ≡ inspector.old.token.ledger }
+    requires two { two.token.ledger ≡ inspector.old.token.ledger }
+    ensures both { 2 ≤ result.wakes }
+{
+    let (first, second) = join(
+        rt,
+        || -> TaskReceipt
+            ensures ledger { result.token.ledger ≡ one.token.ledger }
+            ensures woke { WokeOnce one result }
+        { wake_once(rt, one, 5) },
+        || -> TaskReceipt
+            ensures ledger { result.token.ledger ≡ two.token.ledger }
+            ensures woke { WokeOnce two result }
+        { wake_once(rt, two, 6) },
+    );
+    inspector.learn(rt, first);
+    inspector.learn(rt, second);
+    inspector.read(rt)
+}
+
 // Wakers 1 and, cloned from it, 2, and inspector 3, of one ledger.
 fn handles<R: Wait>(
     rt: &R,
@@ -67,5 +104,14 @@ fn adds_up_what_two_threads_did(rt: HostRuntime) -> Result<(), Fail> {
     assert_eq!(rt; (row.clones, row.drops, row.handles), (2, 2, 3));
     let mut drawn = inspector.inspect(&rt)?;
     assert_eq!(rt; drawn.read(&rt).handles, 4);
+    Ok(())
+}
+
+#[test]
+fn reads_both_wakes(rt: HostRuntime) -> Result<(), Fail> {
+    let mut owner = TaskOwner::new(&rt, rt.alloc(), TaskId::from_value(FIRST)?, 0)?;
+    let (one, two, mut inspector) = handles(&rt, &mut owner)?;
+    let row = wake_in_two_threads(&rt, one, two, &mut inspector);
+    assert_eq!(rt; (row.wakes, row.drops, row.last_wake), (2, 2, Some(6)));
     Ok(())
 }
