@@ -1,5 +1,5 @@
 -- Wakes that an inspector learnt stand in its reading.
-use Rattle.std.proofs.Common.{◌≡◌, ℕ, ◌+◌, ◌<◌, ◌≤◌, ◌^◌, Bool, true, false, List, [], ◌∷◌, ◌++◌, eqb, ap, sym, ◌∙◌, subst, arith, ⊎_elim}
+use Rattle.std.proofs.Common.{◌≡◌, ◌≢◌, ℕ, ◌+◌, ◌<◌, ◌≤◌, ◌^◌, Bool, true, false, List, [], ◌∷◌, ◌++◌, eqb, ap, sym, ◌∙◌, subst, arith, ⊎_elim}
 use Rattle.std.specs.Prelude.{◌==◌}
 use Rattle.std.proofs.lemmas.Bool.{eq-eqb, ne_eqb}
 use Rattle.std.proofs.lemmas.List.{append-nil}
@@ -38,14 +38,14 @@ added_one : (f : ℕ → ℕ) (n : ℕ) (ns : List ℕ) → 0 < times n ns → f
 added_one f n [] held = absurd (omega (arith, held))
 added_one f n (k ∷ ns) held = ⊎_elim
     (λ (is : k ≡ n). let same : f k ≡ f n = ap f is in omega (arith, same))
-    (λ (isnt). let t : eqb k n ≡ false = ne_eqb k n isnt in let rest : 0 < 0 + times n ns = rw t at held in omega (arith, added_one f n ns (omega (arith, rest))))
+    (λ (isnt : k ≢ n). let t : eqb k n ≡ false = ne_eqb k n isnt in let rest : 0 < 0 + times n ns = rw t at held in omega (arith, added_one f n ns (omega (arith, rest))))
     (dec_eq k n)
 
 -- who woke once has a wake
 woke : (waker receipt : TaskSight) → WokeOnce waker receipt → 1 ≤ wakes_of receipt.token.view waker.token.view.caller
 woke waker receipt w =
     let v = waker.token.view in
-    let e = entry v.caller (WakeVal w.0 w.1) (Woken {Row = TaskRow} w.2) in
+    let reply : Reply TaskRow = Woken w.2 in let e = entry v.caller (WakeVal w.0 w.1) reply in
     let more : wakes_of receipt.token.view v.caller ≡ tally is_wake (own v.caller v.seen ++ e ∷ []) = ap (tally is_wake) w.3.mine in
     let push : tally is_wake (own v.caller v.seen ++ e ∷ []) ≡ tally is_wake (own v.caller v.seen) + 1 = tally_push is_wake (own v.caller v.seen) e in
     omega (arith, more, push)
