@@ -25,31 +25,31 @@ fn poll_task<R: Wait>(rt: &R, mut owner: TaskOwner) -> Option<TaskReceipt>
 }
 
 // Reads the task so many times, and tells whether no reading had fewer polls than one before.
-fn read_task<R: Wait>(rt: &R, inspector: &mut TaskInspector) -> bool
-    ensures { inspector.new.token.ledger ≡ inspector.old.token.ledger }
+fn read_task<R: Wait>(rt: &R, mut inspector: TaskInspector) -> (TaskInspector, bool)
+    ensures { result.0.token.ledger ≡ inspector.token.ledger }
 {
     let mut polls = 0;
     let mut rises = true;
-    for _ in 0..TIMES {
+    for _turn in 0..TIMES {
         let row = inspector.read(rt);
         rises = rises && row.polls >= polls;
         polls = row.polls;
     }
-    rises
+    (inspector, rises)
 }
 
 #[test]
 fn reads_a_task_at_work(rt: HostRuntime) -> Result<(), Fail> {
     let mut owner = TaskOwner::new(&rt, rt.alloc(), TaskId::from_value(FIRST)?, 0)?;
-    let mut inspector = owner.inspect(&rt)?;
-    let (receipt, rises) = join(
+    let inspector = owner.inspect(&rt)?;
+    let (receipt, (mut inspector, rises)) = join(
         &rt,
         || -> Option<TaskReceipt>
             ensures { IfSome result (λ receipt. receipt.token.ledger ≡ owner.token.ledger) }
         { poll_task(&rt, owner) },
-        || -> bool
-            ensures { inspector.new.token.ledger ≡ inspector.old.token.ledger }
-        { read_task(&rt, &mut inspector) },
+        || -> (TaskInspector, bool)
+            ensures { result.0.token.ledger ≡ inspector.token.ledger }
+        { read_task(&rt, inspector) },
     );
     assert!(rt; rises);
     let Some(receipt) = receipt else {
@@ -76,32 +76,32 @@ fn poll_op<R: Wait>(rt: &R, mut owner: OpOwner) -> Option<OpReceipt>
 }
 
 // Reads the operation so many times, and tells whether no reading had fewer polls than one before.
-fn read_op<R: Wait>(rt: &R, inspector: &mut OpInspector) -> bool
-    ensures { inspector.new.token.ledger ≡ inspector.old.token.ledger }
+fn read_op<R: Wait>(rt: &R, mut inspector: OpInspector) -> (OpInspector, bool)
+    ensures { result.0.token.ledger ≡ inspector.token.ledger }
 {
     let mut polls = 0;
     let mut rises = true;
-    for _ in 0..TIMES {
+    for _turn in 0..TIMES {
         let row = inspector.read(rt);
         rises = rises && row.polls >= polls;
         polls = row.polls;
     }
-    rises
+    (inspector, rises)
 }
 
 #[test]
 fn reads_an_operation_at_work(rt: HostRuntime) -> Result<(), Fail> {
     let id = AsyncOpId::from_value(FIRST)?;
     let mut owner = OpOwner::new(&rt, rt.alloc(), id, 0, &[AttrValue::U64(0)])?;
-    let mut inspector = owner.inspect(&rt)?;
-    let (receipt, rises) = join(
+    let inspector = owner.inspect(&rt)?;
+    let (receipt, (mut inspector, rises)) = join(
         &rt,
         || -> Option<OpReceipt>
             ensures { IfSome result (λ receipt. receipt.token.ledger ≡ owner.token.ledger) }
         { poll_op(&rt, owner) },
-        || -> bool
-            ensures { inspector.new.token.ledger ≡ inspector.old.token.ledger }
-        { read_op(&rt, &mut inspector) },
+        || -> (OpInspector, bool)
+            ensures { result.0.token.ledger ≡ inspector.token.ledger }
+        { read_op(&rt, inspector) },
     );
     assert!(rt; rises);
     let Some(receipt) = receipt else {
@@ -120,19 +120,19 @@ fn reads_an_operation_at_work(rt: HostRuntime) -> Result<(), Fail> {
 fn add_on<R: Wait>(rt: &R, mut user: ResourceUser) -> Option<ResourceReceipt>
     ensures { IfSome result (λ receipt. receipt.token.ledger ≡ user.token.ledger) }
 {
-    for _ in 0..TIMES {
+    for _turn in 0..TIMES {
         user.add(rt, 0, AttrValue::U64(1)).ok()?;
     }
     Some(user.retire())
 }
 
 // Reads the resource so many times, and tells whether no reading had less than one before.
-fn read_resource<R: Wait>(rt: &R, inspector: &mut ResourceInspector) -> bool
-    ensures { inspector.new.token.ledger ≡ inspector.old.token.ledger }
+fn read_resource<R: Wait>(rt: &R, mut inspector: ResourceInspector) -> (ResourceInspector, bool)
+    ensures { result.0.token.ledger ≡ inspector.token.ledger }
 {
     let mut value = 0;
     let mut rises = true;
-    for _ in 0..TIMES {
+    for _turn in 0..TIMES {
         let found = match inspector.read(rt).attrs.get(0) {
             Some(AttrValue::U64(n)) => n,
             _ => 0,
@@ -140,7 +140,7 @@ fn read_resource<R: Wait>(rt: &R, inspector: &mut ResourceInspector) -> bool
         rises = rises && found >= value;
         value = found;
     }
-    rises
+    (inspector, rises)
 }
 
 #[test]
@@ -148,15 +148,15 @@ fn reads_a_resource_at_work(rt: HostRuntime) -> Result<(), Fail> {
     let id = ResourceId::from_value(FIRST)?;
     let mut owner = ResourceOwner::new(&rt, rt.alloc(), id, 0, &[AttrValue::U64(0)])?;
     let user = owner.user(&rt)?;
-    let mut inspector = owner.inspect(&rt)?;
-    let (receipt, rises) = join(
+    let inspector = owner.inspect(&rt)?;
+    let (receipt, (mut inspector, rises)) = join(
         &rt,
         || -> Option<ResourceReceipt>
             ensures { IfSome result (λ receipt. receipt.token.ledger ≡ user.token.ledger) }
         { add_on(&rt, user) },
-        || -> bool
-            ensures { inspector.new.token.ledger ≡ inspector.old.token.ledger }
-        { read_resource(&rt, &mut inspector) },
+        || -> (ResourceInspector, bool)
+            ensures { result.0.token.ledger ≡ inspector.token.ledger }
+        { read_resource(&rt, inspector) },
     );
     assert!(rt; rises);
     let Some(receipt) = receipt else {
