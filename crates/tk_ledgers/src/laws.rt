@@ -11,7 +11,6 @@ ghost use Rattle.tk_ledgers.specs.Wakers.{TaskHistory, ClonesLessDropsAreLive, w
 /// of those that made no wake by value and no release.
 ///
 /// That a wake by value is one wake and one drop, and that live wakers are clones minus drops, is tokio-console's.
-#[tactic(auto, using(crate::proofs::WakerLemmas::each_is_distinct, crate::proofs::WakerLemmas::clones_less_drops))]
 pub fn clones_less_drops_are_live_wakers()
     ensures distinct { (opening : TaskRow) (h : TaskHistory) → IsOpening opening → IsLegal task_meaning opening h
         → IsDistinct (wakers h) }
