@@ -54,21 +54,23 @@ abbrev pub IsValue : AttrValue → Type 0
 IsValue (values.U64 n) = IsNumber n
 IsValue (values.Bool b) = Unit {0}
 
--- the attributes of an item
+-- the attributes of an item: at most 6, and no two of one name
 pub record AreAttrs (attrs : List AttrInfo) : Type 0 where
   pub each : AllByRecursion IsAttr attrs
   pub all : are_attributes (info_names attrs) ≡ true
 
--- the values of an item's attributes
+-- the values of an item's attributes: at most 6
 pub record AreValues (vs : List AttrValue) : Type 0 where
   pub each : AllByRecursion IsValue vs
   pub few : length vs ≤ 6
 
+-- what stays of a task
 pub record IsTaskInfo (t : TaskInfo) : Type 0 where
   pub id : IsId t.id
   pub name : IsName t.name
   pub location : IsLocation t.location
 
+-- what stays of a resource
 pub record IsResourceInfo (r : ResourceInfo) : Type 0 where
   pub id : IsId r.id
   pub parent : IsOptionalId r.parent
@@ -77,6 +79,7 @@ pub record IsResourceInfo (r : ResourceInfo) : Type 0 where
   pub location : IsLocation r.location
   pub attrs : AreAttrs r.attrs
 
+-- what stays of an async operation
 pub record IsOpInfo (o : OpInfo) : Type 0 where
   pub id : IsId o.id
   pub source : IsName o.source
@@ -84,6 +87,7 @@ pub record IsOpInfo (o : OpInfo) : Type 0 where
   pub parent : IsOptionalId o.parent
   pub attrs : AreAttrs o.attrs
 
+-- a task's id and row: its counts, sums and moments are numbers of 64 bits
 pub record AreTaskStats (s : ℕ × TaskRow) : Type 0 where
   pub id : IsId s.0
   pub created : IsNumber s.1.created
@@ -101,6 +105,7 @@ pub record AreTaskStats (s : ℕ × TaskRow) : Type 0 where
   pub handles : IsNumber s.1.handles
   pub sched : IsNumber s.1.sched
 
+-- a resource's id and row
 pub record AreResourceStats (s : ℕ × ResourceRow) : Type 0 where
   pub id : IsId s.0
   pub created : IsNumber s.1.created
@@ -108,6 +113,7 @@ pub record AreResourceStats (s : ℕ × ResourceRow) : Type 0 where
   pub handles : IsNumber s.1.handles
   pub attrs : AreValues s.1.attrs
 
+-- an async operation's id and row
 pub record AreOpStats (s : ℕ × OpRow) : Type 0 where
   pub id : IsId s.0
   pub created : IsNumber s.1.created
@@ -121,17 +127,19 @@ pub record AreOpStats (s : ℕ × OpRow) : Type 0 where
   pub task : IsOptionalId s.1.task
   pub attrs : AreValues s.1.attrs
 
+-- a resource's poll counts
 pub record AreCounts (c : PollCounts) : Type 0 where
   pub resource : IsId c.0
   pub ready : IsNumber c.1
   pub pending : IsNumber c.2
 
+-- the totals of what was dropped
 pub record AreTotals (d : Dropped) : Type 0 where
   pub tasks : IsNumber d.tasks
   pub resources : IsNumber d.resources
   pub ops : IsNumber d.ops
 
--- a line whose values are in their ranges
+-- a line whose values are in their ranges. Its flag has no range
 pub record IsLine (l : LineView) : Type 0 where
   pub dropped : AreTotals l.dropped
   pub new_ops : AllByRecursion IsOpInfo l.new_ops

@@ -89,33 +89,41 @@ each_of shape (d ∷ ds) = shape d >>= λ x. option_map (λ xs. x ∷ xs) (each_
 
 -- ---- what stands at a key
 
+-- a number
 abbrev pub number_at : List ℕ → Data → Option ℕ
 number_at key d = get key d >>= number_of
 
+-- a number, or null
 abbrev pub optional_at : List ℕ → Data → Option (Option ℕ)
 optional_at key d = get key d >>= optional_of
 
+-- `true` or `false`
 abbrev pub flag_at : List ℕ → Data → Option Bool
 flag_at key d = get key d >>= as_bool
 
+-- a text
 abbrev pub text_at : List ℕ → Data → Option (List ℕ)
 text_at key d = get key d >>= as_str
 
+-- the values of an array
 abbrev pub list_at : List ℕ → Data → Option (List Data)
 list_at key d = option_map values_of (get key d >>= as_array)
 
+-- an id
 abbrev pub id_at : List ℕ → Data → Option ℕ
 id_at key d = get key d >>= id_of
 
+-- an id, or null
 abbrev pub optional_id_at : List ℕ → Data → Option (Option ℕ)
 optional_id_at key d = get key d >>= optional_id_of
 
+-- a text that is a name
 abbrev pub name_at : List ℕ → Data → Option (List ℕ)
 name_at key d = get key d >>= name_of
 
 -- ---- attributes and places
 
--- [file, line, column]
+-- a place: [file, line, column]
 abbrev pub location_in : List Data → Option Location
 location_in (f ∷ l ∷ c ∷ []) = do
   file ← name_of f
@@ -124,6 +132,7 @@ location_in (f ∷ l ∷ c ∷ []) = do
   Some (record { file = file; line = line; column = column })
 location_in _ = None
 
+-- a place
 abbrev pub location_at : List ℕ → Data → Option Location
 location_at key d = list_at key d >>= location_in
 
@@ -131,7 +140,7 @@ location_at key d = list_at key d >>= location_in
 abbrev pub attr_kind_of : List ℕ → Option AttrKind
 attr_kind_of s = if bytes_eq s (codes "u64") then Some kinds.U64 else (if bytes_eq s (codes "bool") then Some kinds.Bool else None)
 
--- [name, unit or null, kind]
+-- an attribute: [name, unit or null, kind]
 abbrev pub attr_in : List Data → Option AttrInfo
 attr_in (n ∷ u ∷ k ∷ []) = do
   name ← name_of n
@@ -182,7 +191,7 @@ pub record ResourceView : Type 0 where
   pub parent : Option ℕ
   pub concrete : List ℕ
 
--- exactly these keys
+-- the parts of a resource's info, of exactly these keys
 unfoldable pub resource_parts : Data → Option ResourceView
 resource_parts d = if has_members 6 d then (do
   attrs ← list_at (codes "attrs") d
@@ -209,7 +218,7 @@ pub record OpView : Type 0 where
   pub resource : ℕ
   pub source : List ℕ
 
--- exactly these keys
+-- the parts of an async operation's info, of exactly these keys
 unfoldable pub op_parts : Data → Option OpView
 op_parts d = if has_members 5 d then (do
   attrs ← list_at (codes "attrs") d
@@ -262,7 +271,7 @@ resource_stats_with attrs d = if has_members 5 d then (do
   Some (id, record { created = created; dropped = dropped; handles = handles; attrs = attrs }))
     else None
 
--- a resource's id and row
+-- a resource's id and row, of exactly these keys, with its attribute values at `attrs`
 unfoldable pub resource_stats_of : Data → Option (ℕ × ResourceRow)
 resource_stats_of d = do
   list ← list_at (codes "attrs") d
@@ -286,14 +295,14 @@ op_stats_with attrs d = if has_members 12 d then (do
   Some (id, record { created = created; dropped = dropped; polls = polls; first_poll = first_poll; last_started = last_started; last_ended = last_ended; busy = busy; handles = handles; task = task; polling = polling; attrs = attrs }))
     else None
 
--- an async operation's id and row
+-- an async operation's id and row, of exactly these keys, with its attribute values at `attrs`
 unfoldable pub op_stats_of : Data → Option (ℕ × OpRow)
 op_stats_of d = do
   list ← list_at (codes "attrs") d
   attrs ← values_in list
   op_stats_with attrs d
 
--- [resource, ready, pending]
+-- poll counts: [resource, ready, pending]
 abbrev pub counts_in : List Data → Option PollCounts
 counts_in (r ∷ y ∷ p ∷ []) = do
   resource ← id_of r
@@ -308,7 +317,7 @@ counts_of d = list_of d >>= counts_in
 
 -- ---- a line
 
--- [tasks, resources, ops]
+-- the totals of what was dropped: [tasks, resources, ops]
 abbrev pub dropped_in : List Data → Option Dropped
 dropped_in (t ∷ r ∷ o ∷ []) = do
   tasks ← number_of t
@@ -339,7 +348,7 @@ pub record PartsView : Type 0 where
   pub snapshot : Bool
   pub task_stats : List Data
 
--- exactly these keys
+-- the parts of a line, of exactly these keys
 unfoldable pub parts_of : Data → Option PartsView
 parts_of d = if has_members 12 d then (do
   dropped ← list_at (codes "dropped") d >>= dropped_in

@@ -18,6 +18,7 @@ pub mod laws;
 mod line;
 mod op;
 mod op_stats;
+mod ranged;
 mod read_infos;
 mod read_stats;
 mod reading;

@@ -28,9 +28,12 @@ ghost use Rattle.tk_stream.specs.Outcome.{Answers, shaped};
 ghost use Rattle.tk_stream.specs.Reading as reading;
 ghost use Rattle.tk_stream.specs.Spelling as spec;
 ghost use Rattle.tk_stream.specs.Put as inner;
+ghost use Rattle.std.specs.List.{AllByRecursion};
+ghost use Rattle.tk_stream.specs.Ranges as ranges;
 
 use crate::between::{new_infos, told_stats};
 use crate::error::LineError;
+use crate::ranged::{see_all, see_number, see_totals};
 use crate::reading::{LineParts, json_of};
 use crate::shaped::list_of;
 use crate::spelled::put_list;
@@ -60,7 +63,8 @@ pub struct Line {
 
 impl Model for Line {
     ghost use Rattle.std.specs.Prelude.{◌≡◌, true};
-    ghost use Rattle.tk_stream.specs.Lines.{LineView, is_seq};
+    ghost use Rattle.tk_stream.specs.Lines.{LineView};
+    ghost use Rattle.tk_stream.specs.Ranges.{IsLine};
 
     ghost Value = { LineView };
 
@@ -78,11 +82,24 @@ impl Model for Line {
       task_stats = l.task_stats.items;
     } };
 
-    ghost invariant = { λ l. is_seq l.seq ≡ true };
+    ghost invariant = { λ l. IsLine (record {
+      dropped = l.dropped;
+      new_ops = l.new_ops.items;
+      new_resources = l.new_resources.items;
+      new_tasks = l.new_tasks.items;
+      now = l.moment;
+      op_stats = l.op_stats.items;
+      poll_counts = l.poll_counts.items;
+      resource_stats = l.resource_stats.items;
+      seq = l.seq;
+      snapshot = l.snapshot;
+      task_stats = l.task_stats.items;
+    }) };
 }
 
 impl Line {
-    ghost use Rattle.std.specs.Prelude.{IfErr};
+    ghost use Rattle.std.specs.Prelude.{IfErr, Ok};
+    ghost use Rattle.tk_stream.specs.Ranges.{IsLine};
     ghost use Rattle.tk_stream.specs.Tables.{empty_tables};
     ghost use Rattle.tk_stream.specs.Reading.{line_of_text};
 
@@ -106,18 +123,30 @@ impl Line {
             else lines.line_between old.now new.now seq) }
         ensures memory { IfErr result (λ e. e ≡ LineError.Memory) }
     {
+        let dropped = new.dropped();
+        let new_ops = new_infos(alloc, &old.ops, &new.ops)?;
+        let new_resources = new_infos(alloc, &old.resources, &new.resources)?;
+        let new_tasks = new_infos(alloc, &old.tasks, &new.tasks)?;
+        let moment = new.now();
+        let op_stats = told_stats(alloc, &old.ops, &new.ops)?;
+        let poll_counts = told_stats(alloc, &old.counts, &new.counts)?;
+        let resource_stats = told_stats(alloc, &old.resources, &new.resources)?;
+        let task_stats = told_stats(alloc, &old.tasks, &new.tasks)?;
+        see_numbers(dropped, moment);
+        see_new_items(&new_ops, &new_resources, &new_tasks);
+        see_stats(&op_stats, &poll_counts, &resource_stats, &task_stats);
         Ok(Line {
-            dropped: new.dropped(),
-            new_ops: new_infos(alloc, &old.ops, &new.ops)?,
-            new_resources: new_infos(alloc, &old.resources, &new.resources)?,
-            new_tasks: new_infos(alloc, &old.tasks, &new.tasks)?,
-            moment: new.now(),
-            op_stats: told_stats(alloc, &old.ops, &new.ops)?,
-            poll_counts: told_stats(alloc, &old.counts, &new.counts)?,
-            resource_stats: told_stats(alloc, &old.resources, &new.resources)?,
+            dropped,
+            new_ops,
+            new_resources,
+            new_tasks,
+            moment,
+            op_stats,
+            poll_counts,
+            resource_stats,
             seq,
             snapshot,
-            task_stats: told_stats(alloc, &old.tasks, &new.tasks)?,
+            task_stats,
         })
     }
 
@@ -136,11 +165,12 @@ impl Line {
 
     /// The text of the line: one JSON object, compact, with its keys in byte order and without a line end.
     ///
-    /// Its one error is `Memory`.
+    /// It reads back as this line. Its one error is `Memory`.
     pub fn write(&self) -> Result<Vec<u8>, LineError>
         ensures text { IfOk result (λ text. text.items ≡ spec.line_text self.now) }
         ensures one_line { IfOk result (λ text. spec.is_one_line text.items ≡ true) }
         ensures memory { IfErr result (λ e. e ≡ LineError.Memory) }
+        ensures reads_back { IfOk result (λ text. line_of_text text.items ≡ Ok self.now) }
     {
         let alloc = *self.new_tasks.allocator();
         let value = self.to_value(alloc)?;
@@ -255,12 +285,57 @@ impl Line {
         self.task_stats.as_slice()
     }
 
+    /// The line's values are in the ranges of their types. This does nothing.
+    pub fn ranges(&self)
+        ensures { IsLine self.now }
+    {
+        let _dropped = &self.dropped;
+    }
+
     /// The version of the line's format.
     pub fn version(&self) -> u64
         ensures { result ≡ lines.version }
     {
         1
     }
+}
+
+// The numbers of a line are in their ranges.
+fn see_numbers(dropped: Dropped, now: u64)
+    ensures dropped { ranges.AreTotals dropped }
+    ensures now { ranges.IsNumber now }
+{
+    see_totals(dropped);
+    see_number(now);
+}
+
+// So are the infos of a line.
+fn see_new_items(ops: &Vec<OpInfo>, resources: &Vec<ResourceInfo>, tasks: &Vec<TaskInfo>)
+    ensures ops { AllByRecursion ranges.IsOpInfo ops.now.items }
+    ensures resources { AllByRecursion ranges.IsResourceInfo resources.now.items }
+    ensures tasks { AllByRecursion ranges.IsTaskInfo tasks.now.items }
+{
+    see_all(ops);
+    see_all(resources);
+    see_all(tasks);
+}
+
+// And so are its rows and counts.
+fn see_stats(
+    ops: &Vec<(AsyncOpId, OpRow)>,
+    counts: &Vec<(ResourceId, u64, u64)>,
+    resources: &Vec<(ResourceId, ResourceRow)>,
+    tasks: &Vec<(TaskId, TaskRow)>,
+)
+    ensures ops { AllByRecursion ranges.AreOpStats ops.now.items }
+    ensures counts { AllByRecursion ranges.AreCounts counts.now.items }
+    ensures resources { AllByRecursion ranges.AreResourceStats resources.now.items }
+    ensures tasks { AllByRecursion ranges.AreTaskStats tasks.now.items }
+{
+    see_all(ops);
+    see_all(counts);
+    see_all(resources);
+    see_all(tasks);
 }
 
 #[tactic(auto, unfolding(crate::specs::Put::with_fields))]
@@ -342,6 +417,9 @@ fn line_of(alloc: Global, value: &Value) -> Result<Line, LineError>
     let poll_counts = list_of(alloc, parts.poll_counts)?;
     let resource_stats = list_of(alloc, parts.resource_stats)?;
     let task_stats = list_of(alloc, parts.task_stats)?;
+    see_numbers(parts.dropped, parts.now);
+    see_new_items(&new_ops, &new_resources, &new_tasks);
+    see_stats(&op_stats, &poll_counts, &resource_stats, &task_stats);
     Ok(Line {
         dropped: parts.dropped,
         new_ops,

@@ -77,7 +77,8 @@ impl<T: Item> Table<T> {
         ensures err { OnErr result (self.new ≡ self.old) }
         ensures replaced { IsSome (item_with T.id_of (T.id_of item) self.old) → IsOk result }
     {
-        match self.map.insert(item.id(), item) {
+        let key = item.id();
+        match self.map.insert(key, item) {
             Ok(_) => Ok(()),
             Err(_) => Err(AllocError),
         }

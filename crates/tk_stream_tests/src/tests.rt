@@ -1,0 +1,9 @@
+//! Tests, one file for each theme.
+
+mod given;
+mod lines;
+mod many;
+mod reading;
+mod refused;
+mod tables;
+mod texts;

@@ -1,0 +1,69 @@
+//! A line of many tasks.
+
+use super::given::{put_task, writes};
+use super::texts::FIRST;
+use std::alloc::Global;
+use tk_ids::{TaskId, TaskInfo};
+use tk_stream::{Line, Tables};
+
+fn copy_with_id(info: &TaskInfo, id: TaskId) -> Option<TaskInfo> {
+    let copy = info.copy().ok()?;
+    Some(TaskInfo { id, ..copy })
+}
+
+// A task like the line's first, with an id that is so much higher.
+fn put_like(tables: &mut Tables, line: &Line, i: u32) -> Option<()> {
+    let (id, row) = line.task_stats().get(0)?;
+    let id = TaskId::from_value(id.value().checked_add(u64::from(i))?).ok()?;
+    let info = copy_with_id(line.new_tasks().get(0)?, id)?;
+    put_task(tables, info, *row)
+}
+
+fn put_many(tables: &mut Tables, line: &Line, count: u32) -> bool {
+    for i in 0..count {
+        if put_like(tables, line, i).is_none() {
+            return false;
+        }
+    }
+    true
+}
+
+// Whether the text is a line of so many tasks that writes itself so.
+fn reads_back(alloc: Global, text: &[u8], count: u32) -> bool {
+    match Line::read(alloc, text) {
+        Ok(line) => line.new_tasks().len() == count as usize && writes(&line, text),
+        Err(_) => false,
+    }
+}
+
+fn text_reads_back(alloc: Global, line: &Line, count: u32) -> bool {
+    match line.write() {
+        Ok(text) => reads_back(alloc, text.as_slice(), count),
+        Err(_) => false,
+    }
+}
+
+fn line_reads_back(alloc: Global, old: &Tables, new: &Tables, line: &Line, count: u32) -> bool {
+    match Line::between(alloc, old, new, line.seq(), false) {
+        Ok(line) => text_reads_back(alloc, &line, count),
+        Err(_) => false,
+    }
+}
+
+fn tables_read_back(alloc: Global, new: &Tables, line: &Line, count: u32) -> bool {
+    let empty = Tables::new(alloc).unwrap();
+    line_reads_back(alloc, &empty, new, line, count)
+}
+
+fn many_read_back(alloc: Global, line: &Line, count: u32) -> bool {
+    let mut tables = Tables::new(alloc).unwrap();
+    put_many(&mut tables, line, count) && tables_read_back(alloc, &tables, line, count)
+}
+
+#[test]
+fn writes_and_reads_ten_thousand_tasks(rt: HostRuntime) {
+    match Line::read(rt.alloc(), FIRST.as_bytes()) {
+        Ok(line) => assert!(rt; many_read_back(rt.alloc(), &line, 10_000)),
+        Err(_) => assert!(rt; false, "no line"),
+    }
+}

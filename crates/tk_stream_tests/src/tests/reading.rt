@@ -1,0 +1,159 @@
+//! Texts that are lines.
+
+use super::given::{changed, writes};
+use super::texts::{CHANGED, EMPTY, FIRST, FULL, TWO, UNCHANGED};
+use std::alloc::Global;
+use tk_ids::{OpInfo, ResourceInfo, TaskInfo};
+use tk_stream::Line;
+
+// Texts of lines, written as a line writes itself.
+const SAME: [&str; 6] = [EMPTY, FIRST, CHANGED, UNCHANGED, FULL, TWO];
+
+// The line without items in other texts: with white space, in another order, and with keys twice, of which the last counts.
+#[rattlefmt::skip]
+const OTHERS: [&str; 4] = [
+    " {\t\"dropped\" : [ 0 , 0 , 0 ] ,\n\"new_ops\":[ ],\"new_resources\":[],\"new_tasks\":[],\"now\":5,\"op_stats\":[],\"poll_counts\":[],\"resource_stats\":[],\"seq\":1,\"snapshot\":false,\"task_stats\":[],\"v\":1}\r\n",
+    r#"{"v":1,"task_stats":[],"snapshot":false,"seq":1,"resource_stats":[],"poll_counts":[],"op_stats":[],"now":5,"new_tasks":[],"new_resources":[],"new_ops":[],"dropped":[0,0,0]}"#,
+    r#"{"now":7,"dropped":[0,0,0],"new_ops":[],"new_resources":[],"new_tasks":[],"now":5,"op_stats":[],"poll_counts":[],"resource_stats":[],"seq":1,"snapshot":false,"task_stats":[],"v":1}"#,
+    r#"{"now":null,"dropped":[0,0,0],"new_ops":[],"new_resources":[],"new_tasks":[],"now":5,"op_stats":[],"poll_counts":[],"resource_stats":[],"seq":0,"snapshot":false,"task_stats":[],"v":1,"seq":1}"#,
+];
+
+// Whether the text is a line that writes itself so.
+fn reads_as(alloc: Global, text: &str, wanted: &str) -> bool {
+    match Line::read(alloc, text.as_bytes()) {
+        Ok(line) => writes(&line, wanted.as_bytes()),
+        Err(_) => false,
+    }
+}
+
+fn all_read_as_written(alloc: Global, texts: &[&str]) -> bool {
+    for text in texts {
+        if !reads_as(alloc, text, text) {
+            return false;
+        }
+    }
+    true
+}
+
+fn all_read_as(alloc: Global, texts: &[&str], wanted: &str) -> bool {
+    for text in texts {
+        if !reads_as(alloc, text, wanted) {
+            return false;
+        }
+    }
+    true
+}
+
+#[test]
+fn writes_what_it_read(rt: HostRuntime) {
+    assert!(rt; all_read_as_written(rt.alloc(), SAME.as_slice()));
+}
+
+#[test]
+fn reads_other_texts_of_a_line(rt: HostRuntime) {
+    assert!(rt; all_read_as(rt.alloc(), OTHERS.as_slice(), EMPTY));
+}
+
+fn shows_numbers(line: &Line) -> bool {
+    line.dropped().resources == 2
+        && line.snapshot()
+        && line.version() == 1
+        && line.now() == u64::MAX
+}
+
+fn sched_of_task(line: &Line) -> Option<u64> {
+    let (_, row) = line.task_stats().get(0)?;
+    Some(row.sched)
+}
+
+fn busy_of_op(line: &Line) -> Option<u64> {
+    let (_, row) = line.op_stats().get(0)?;
+    Some(row.busy)
+}
+
+fn handles_of_resource(line: &Line) -> Option<u64> {
+    let (_, row) = line.resource_stats().get(0)?;
+    Some(row.handles)
+}
+
+fn counts_of_first(line: &Line) -> Option<(u64, u64)> {
+    let (_, ready, pending) = line.poll_counts().get(0)?;
+    Some((*ready, *pending))
+}
+
+// Each reader shows what stands at its key.
+#[test]
+fn shows_each_key(rt: HostRuntime) {
+    match Line::read(rt.alloc(), FULL.as_bytes()) {
+        Ok(line) => {
+            assert!(rt; shows_numbers(&line));
+            assert!(rt; sched_of_task(&line) == Some(14));
+            assert!(rt; busy_of_op(&line) == Some(5));
+            assert!(rt; handles_of_resource(&line) == Some(2));
+            assert!(rt; counts_of_first(&line) == Some((1, 0)));
+        }
+        Err(_) => assert!(rt; false, "no line"),
+    }
+}
+
+fn copies_task(info: &TaskInfo) -> bool {
+    match info.copy() {
+        Ok(copy) => copy == *info && copy.name.as_str() == "a\"b\\c/ ~",
+        Err(_) => false,
+    }
+}
+
+fn copies_resource(info: &ResourceInfo) -> bool {
+    match info.copy() {
+        Ok(copy) => copy == *info && copy.concrete.as_str() == "Semaphore",
+        Err(_) => false,
+    }
+}
+
+fn copies_op(info: &OpInfo) -> bool {
+    match info.copy() {
+        Ok(copy) => copy == *info && copy.source.as_str() == "Semaphore::acquire",
+        Err(_) => false,
+    }
+}
+
+fn copies_each(line: &Line) -> Option<bool> {
+    let task = copies_task(line.new_tasks().get(0)?);
+    let resource = copies_resource(line.new_resources().get(0)?);
+    let op = copies_op(line.new_ops().get(0)?);
+    Some(task && resource && op)
+}
+
+// Each info's copy is equal to it, and shows its name.
+#[test]
+fn copies_infos(rt: HostRuntime) {
+    match Line::read(rt.alloc(), FULL.as_bytes()) {
+        Ok(line) => assert!(rt; copies_each(&line) == Some(true)),
+        Err(_) => assert!(rt; false, "no line"),
+    }
+}
+
+// A text of so many bytes between quotation marks.
+fn quoted(alloc: Global, length: u32) -> Option<String> {
+    let mut name = String::from_str(alloc, "\"").ok()?;
+    for _i in 0..length {
+        name.push('x').ok()?;
+    }
+    name.push('"').ok()?;
+    Some(name)
+}
+
+// Whether there is a line with a name of so many bytes.
+fn reads_name_of(alloc: Global, length: u32) -> Option<bool> {
+    let name = quoted(alloc, length)?;
+    let text = changed(alloc, FULL, "\"Sync\"", name.as_str())?;
+    Some(Line::read(alloc, text.as_bytes()).is_ok())
+}
+
+#[test]
+fn reads_names_of_up_to_1024_bytes(rt: HostRuntime) {
+    assert!(rt; reads_name_of(rt.alloc(), 0) == Some(false));
+    assert!(rt; reads_name_of(rt.alloc(), 1) == Some(true));
+    assert!(rt; reads_name_of(rt.alloc(), 1024) == Some(true));
+    assert!(rt; reads_name_of(rt.alloc(), 1025) == Some(false));
+}

@@ -1,0 +1,183 @@
+//! Texts that are no lines, and the errors.
+
+use super::given::changed;
+use super::texts::FULL;
+use std::alloc::Global;
+use std::test::Fail;
+use tk_stream::{Line, LineError};
+
+// What `serde_json` does not read: no text, words that are no JSON, no UTF-8, and a bare line end in a text.
+#[rattlefmt::skip]
+const NO_JSON: [&[u8]; 8] = [
+    b"", b" \n", b"line", b"{\"v\":1", b"{\"v\":1,}", b"1 2", b"\"\xFF\"", b"\"a\nb\"",
+];
+
+// Values that are not of a line's kind.
+#[rattlefmt::skip]
+const NO_LINES: [&[u8]; 5] = [
+    b"null", b"1", b"\"line\"", b"[]", b"{}",
+];
+
+// A change of the full line after which it is no line: what stood there, and what stands there then.
+#[rattlefmt::skip]
+const NUMBERS: [(&str, &str); 22] = [
+    ("\"v\":1",                            "\"v\":1,\"w\":1"),
+    (",\"v\":1",                           ""),
+    ("\"v\":1",                            "\"v\":2"),
+    ("\"v\":1",                            "\"v\":\"1\""),
+    ("\"v\":1",                            "\"w\":1"),
+    ("\"seq\":9223372036854775808",        "\"seq\":0"),
+    ("\"seq\":9223372036854775808",        "\"seq\":9223372036854775809"),
+    ("\"snapshot\":true",                  "\"snapshot\":1"),
+    ("\"now\":18446744073709551615",       "\"now\":-1"),
+    ("\"now\":18446744073709551615",       "\"now\":1.0"),
+    ("\"now\":18446744073709551615",       "\"now\":18446744073709551616"),
+    ("\"now\":18446744073709551615",       "\"now\":null"),
+    ("[1,2,18446744073709551615]",         "[1,2]"),
+    ("[1,2,18446744073709551615]",         "[1,2,3,4]"),
+    ("[1,2,18446744073709551615]",         "{\"tasks\":1}"),
+    ("\"poll_counts\":[[1099511627777,1,0]]", "\"poll_counts\":null"),
+    ("[1099511627777,1,0]",                "[1099511627777,1]"),
+    ("[1099511627777,1,0]",                "[1,1,0]"),
+    ("[1099511627777,1,0]",                "[71468255805441,1,0]"),
+    ("[1099511627777,1,0]",                "[1099511627776,1,0]"),
+    ("\"task\":1099511627777",             "\"task\":1"),
+    ("\"task\":1099511627777",             "\"task\":false"),
+];
+
+// The same of infos.
+#[rattlefmt::skip]
+const INFOS: [(&str, &str); 18] = [
+    ("\"blocking\"",                       "\"block\""),
+    ("\"Sync\"",                           "\"\""),
+    ("\"Sync\"",                           "\"a\\tb\""),
+    ("\"Sync\"",                           "\"\\u00e9\""),
+    ("\"Sync\"",                           "null"),
+    ("[\"script\",1,1]",                   "[\"script\",4294967296,1]"),
+    ("[\"script\",1,1]",                   "[\"script\",1,4294967296]"),
+    ("[\"script\",1,1]",                   "[\"script\",1]"),
+    ("\"u64\"",                            "\"u32\""),
+    ("\"count\"",                          "1"),
+    ("\"count\"",                          "\"\""),
+    ("[\"closed\",null,\"bool\"]",         "[\"closed\",\"bool\"]"),
+    ("[\"closed\",null,\"bool\"]",         "[\"permits\",null,\"bool\"]"),
+    ("[\"closed\",null,\"bool\"]",
+     "[\"a\",null,\"bool\"],[\"b\",null,\"bool\"],[\"c\",null,\"bool\"],[\"d\",null,\"bool\"],[\"e\",null,\"bool\"],[\"f\",null,\"bool\"]"),
+    ("\"parent\":1099511627779",           "\"parent\":1"),
+    ("\"parent\":1099511627778",           "\"parent\":\"1099511627778\""),
+    (",\"source\":\"Semaphore::acquire\"", ""),
+    (",\"type\":\"Semaphore\"",            ",\"type\":\"Semaphore\",\"types\":1"),
+];
+
+// The same of rows.
+#[rattlefmt::skip]
+const ROWS: [(&str, &str); 9] = [
+    ("[3,true]",       "[3,true,1,2,3,4,5]"),
+    ("[3,true]",       "[3,\"true\"]"),
+    ("[3,true]",       "[-3,true]"),
+    (",\"wakes\":8",   ""),
+    (",\"wakes\":8",   ",\"wakes\":8,\"woken\":8"),
+    (",\"wakes\":8",   ",\"woken\":8"),
+    (",\"wakes\":8",   ",\"wakes\":null"),
+    (",\"polls\":1",   ""),
+    (",\"handles\":2", ""),
+];
+
+// The error that reading answers, if any.
+fn error_of(alloc: Global, bytes: &[u8]) -> Option<LineError> {
+    match Line::read(alloc, bytes) {
+        Ok(_) => None,
+        Err(e) => Some(e),
+    }
+}
+
+fn all_are(alloc: Global, texts: &[&[u8]], wanted: LineError) -> bool {
+    for text in texts {
+        if error_of(alloc, text) != Some(wanted) {
+            return false;
+        }
+    }
+    true
+}
+
+fn is_bad_shape(alloc: Global, old: &str, new: &str) -> bool {
+    match changed(alloc, FULL, old, new) {
+        Some(text) => error_of(alloc, text.as_bytes()) == Some(LineError::BadShape),
+        None => false,
+    }
+}
+
+fn all_are_bad_shapes(alloc: Global, changes: &[(&str, &str)]) -> bool {
+    for (old, new) in changes {
+        if !is_bad_shape(alloc, old, new) {
+            return false;
+        }
+    }
+    true
+}
+
+#[test]
+fn refuses_what_is_no_json(rt: HostRuntime) {
+    assert!(rt; all_are(rt.alloc(), NO_JSON.as_slice(), LineError::BadJson));
+}
+
+#[test]
+fn refuses_values_of_other_kinds(rt: HostRuntime) {
+    assert!(rt; all_are(rt.alloc(), NO_LINES.as_slice(), LineError::BadShape));
+}
+
+#[test]
+fn refuses_other_numbers(rt: HostRuntime) {
+    assert!(rt; all_are_bad_shapes(rt.alloc(), NUMBERS.as_slice()));
+}
+
+#[test]
+fn refuses_other_infos(rt: HostRuntime) {
+    assert!(rt; all_are_bad_shapes(rt.alloc(), INFOS.as_slice()));
+}
+
+#[test]
+fn refuses_other_rows(rt: HostRuntime) {
+    assert!(rt; all_are_bad_shapes(rt.alloc(), ROWS.as_slice()));
+}
+
+// So many arrays, each in the one before it.
+fn nested(alloc: Global, depth: u32) -> Option<String> {
+    let mut text = String::new(alloc);
+    for _i in 0..depth {
+        text.push('[').ok()?;
+    }
+    for _i in 0..depth {
+        text.push(']').ok()?;
+    }
+    Some(text)
+}
+
+fn error_of_nested(alloc: Global, depth: u32) -> Option<LineError> {
+    let text = nested(alloc, depth)?;
+    error_of(alloc, text.as_bytes())
+}
+
+// `serde_json` reads values that nest 127 deep.
+#[test]
+fn refuses_what_nests_too_deep(rt: HostRuntime) {
+    assert!(rt; error_of_nested(rt.alloc(), 127) == Some(LineError::BadShape));
+    assert!(rt; error_of_nested(rt.alloc(), 128) == Some(LineError::BadJson));
+}
+
+// Each error has its number and its text.
+#[rattlefmt::skip]
+const ERRORS: [(LineError, u32, &str); 3] = [
+    (LineError::Memory,   1, "out of memory"),
+    (LineError::BadJson,  2, "the line is not JSON"),
+    (LineError::BadShape, 3, "the JSON is not a line"),
+];
+
+#[test]
+fn numbers_and_names_errors(rt: HostRuntime) -> Result<(), Fail> {
+    for (error, number, text) in ERRORS {
+        assert_eq!(rt; error.code(), number, "{text}");
+        assert_eq!(rt; format!(in rt.alloc(); "{error}")?.as_str(), text);
+    }
+    Ok(())
+}
