@@ -62,7 +62,6 @@ pub struct Line {
 }
 
 impl Model for Line {
-    ghost use Rattle.std.specs.Prelude.{◌≡◌, true};
     ghost use Rattle.tk_stream.specs.Lines.{LineView};
     ghost use Rattle.tk_stream.specs.Ranges.{IsLine};
 
