@@ -1,0 +1,6 @@
+pub mod Pieces
+pub mod Ends
+pub mod FeedLemmas
+pub mod TakeLemmas
+pub mod CountLemmas
+pub mod WarnLemmas

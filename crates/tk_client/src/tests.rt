@@ -1,0 +1,6 @@
+//! Streams that are fed in memory.
+
+mod faults;
+mod given;
+mod pieces;
+mod rows;
