@@ -4,3 +4,4 @@ pub mod FeedLemmas
 pub mod TakeLemmas
 pub mod CountLemmas
 pub mod WarnLemmas
+pub mod AttrLemmas

@@ -6,13 +6,16 @@ use Rattle.std.specs.Option.{option_map_or}
 use Rattle.std.proofs.lemmas.Option.{same_Some}
 use Rattle.std.proofs.lemmas.Bool.{or_parts}
 use Rattle.std.proofs.lemmas.Bool.Decides.{nat_tests}
-use Rattle.tk_stream.specs.Tables.{TablesView, item_with, changed_at}
+use Rattle.tk_stream.specs.declared.op.Op.{Op}
+use Rattle.tk_stream.specs.declared.resource.Resource.{Resource}
+use Rattle.tk_stream.specs.declared.task.Task.{Task}
+use Rattle.tk_stream.specs.Tables.{TablesView, item_with, counts_id, changed_at}
 use Rattle.tk_stream.specs.Lines.{LineView}
 use Rattle.tk_stream.specs.Applied.{Kind, task_kind, resource_kind, op_kind, told_item, new_item, new_items, items_after, counts_after, tables_after}
 use Rattle.tk_client.specs.declared.fault.Fault.{Fault}
 use Rattle.tk_client.specs.declared.fault.Fault.TheVariants.{Memory, BadJson, BadShape, Gap, UnknownId, Repeated, TooLong, Misfit, Failed}
-use Rattle.tk_client.specs.Taking.{has_twice, has_id, repeats_kind, are_fitting, repeats_id, has_strange_id, line_applied}
-use Rattle.tk_client.specs.Told.{id_by, info_id_by, stats_id_by, made, told_of, has_info, has_told, retold, retold_at, with_new, with_kind, Fails}
+use Rattle.tk_client.specs.Taking.{has_twice, has_id, repeats_kind, are_fitting, fitting, repeats_id, has_strange_id, line_applied}
+use Rattle.tk_client.specs.Told.{id_by, info_id_by, stats_id_by, made, told_of, has_info, has_told, retold, retold_at, with_new, with_kind, or_misfit, Fails}
 
 pub one_step : {X : Type 0} (xs : List X) (i : ℕ) (x : X) → i < length xs → x ≡ get_or xs i x → drop i xs ≡ x ∷ drop (i + 1) xs
 one_step xs i x lt e = rw add-one (drop-cons xs i x lt ∙ ap (λ y. y ∷ drop (suc i) xs) (sym e))
@@ -184,29 +187,27 @@ module _ {Item Info Stats : Type 0} (k : Kind Item Info Stats) where
         by (Some xs) = ap Ok (ap₂ (λ t ys. put t (ys ++ xs)) e now ∙ writes v _ _)
         by None = refl
 
--- ---- outcomes of a kind
+-- ---- a line
 
-pub got : {Item : Type 0} (put : TablesView → List Item → TablesView) (v w : TablesView) (o : Option (List Item)) → with_kind put v o ≡ Ok w → (xs : List Item) × (o ≡ Some xs) × (put v xs ≡ w)
-got put v w (Some xs) e = (xs, refl, (cc))
-got put v w None e = absurd (cc)
+-- a line without a fault
+pub line_fits : (old : TablesView) (l : LineView) (t : TablesView) → repeats_id old l ≡ false → has_strange_id old l ≡ false → or_misfit (tables_after old l) ≡ Ok t → are_fitting t ≡ true → line_applied old l ≡ Ok t
+unfolding line_applied
+line_fits old l t none known after fits = rw (none, known) (by (tables_after old l) after)
+  where
+    by : (o : Option TablesView) → or_misfit o ≡ Ok t → fitting o ≡ Ok t
+    by (Some x) e =
+        let same : x ≡ t = (cc) in
+        rw same (rw fits refl)
+    by None e = absurd (cc)
 
-none_by : {Item : Type 0} (put : TablesView → List Item → TablesView) (v : TablesView) (o : Option (List Item)) → with_kind put v o ≡ Err Misfit → o ≡ None
-none_by put v (Some xs) e = absurd (cc)
-none_by put v None e = refl
-
-only_misfit : {Item : Type 0} (put : TablesView → List Item → TablesView) (v : TablesView) (o : Option (List Item)) (fault : Fault) → (fault ≡ Misfit → ⊥) → with_kind put v o ≡ Err fault → ⊥
-only_misfit put v (Some xs) fault other e = absurd (cc)
-only_misfit put v None fault other e = other (cc)
-
--- a fault of a kind is a fault of the line
-pub fails_too : {Item A : Type 0} (put : TablesView → List Item → TablesView) (v : TablesView) (o : Option (List Item)) (fault : Fault) (wanted : Result A Fault) → (o ≡ None → wanted ≡ Err Misfit)
-    → Fails fault (with_kind put v o) → Fails fault wanted
-fails_too put v o Memory wanted h e = tt
-fails_too put v o BadJson wanted h e = absurd (only_misfit put v o BadJson (λ f. absurd (cc)) e)
-fails_too put v o BadShape wanted h e = absurd (only_misfit put v o BadShape (λ f. absurd (cc)) e)
-fails_too put v o (Gap x y) wanted h e = absurd (only_misfit put v o (Gap x y) (λ f. absurd (cc)) e)
-fails_too put v o UnknownId wanted h e = absurd (only_misfit put v o UnknownId (λ f. absurd (cc)) e)
-fails_too put v o Repeated wanted h e = absurd (only_misfit put v o Repeated (λ f. absurd (cc)) e)
-fails_too put v o TooLong wanted h e = absurd (only_misfit put v o TooLong (λ f. absurd (cc)) e)
-fails_too put v o Misfit wanted h e = h (none_by put v o e)
-fails_too put v o Failed wanted h e = absurd (only_misfit put v o Failed (λ f. absurd (cc)) e)
+-- a line whose rows don't fit their items
+pub line_misfits : (old : TablesView) (l : LineView) (t : TablesView) → repeats_id old l ≡ false → has_strange_id old l ≡ false → or_misfit (tables_after old l) ≡ Ok t → are_fitting t ≡ false
+    → line_applied old l ≡ Err Misfit
+unfolding line_applied
+line_misfits old l t none known after fits = rw (none, known) (by (tables_after old l) after)
+  where
+    by : (o : Option TablesView) → or_misfit o ≡ Ok t → fitting o ≡ Err Misfit
+    by (Some x) e =
+        let same : x ≡ t = (cc) in
+        rw same (rw fits refl)
+    by None e = absurd (cc)

@@ -30,10 +30,13 @@ abbrev pub repeats_kind : {Item Info Stats : Type 0} → Kind Item Info Stats �
 repeats_kind k old infos stats =
     list_any (λ info. has_id k.id_of (k.info_id info) old) infos || (has_twice (map k.info_id infos) || has_twice (map k.stats_id stats))
 
+-- of one kind of item, what is told is of an item that is neither there nor new
+abbrev pub is_strange : {Item Info Stats : Type 0} → Kind Item Info Stats → List Item → List Info → Stats → Bool
+is_strange k old infos s = not (has_id k.id_of (k.stats_id s) old || has_id k.info_id (k.stats_id s) infos)
+
 -- of one kind of item, the line tells of one that is neither there nor new
 abbrev pub strange_kind : {Item Info Stats : Type 0} → Kind Item Info Stats → List Item → List Info → List Stats → Bool
-strange_kind k old infos stats =
-    list_any (λ s. not (has_id k.id_of (k.stats_id s) old || has_id k.info_id (k.stats_id s) infos)) stats
+strange_kind k old infos stats = list_any (is_strange k old infos) stats
 
 -- the line shows an item as new that is there, or has an id twice in one of its lists
 abbrev pub repeats_id : TablesView → LineView → Bool

@@ -76,3 +76,8 @@ with_new put tables old None = Err Misfit
 abbrev pub with_kind : {Item : Type 0} → (TablesView → List Item → TablesView) → TablesView → Option (List Item) → Result TablesView Fault
 with_kind put tables (Some items) = Ok (put tables items)
 with_kind put tables None = Err Misfit
+
+-- tables, or a misfit where there are none
+abbrev pub or_misfit : Option TablesView → Result TablesView Fault
+or_misfit (Some tables) = Ok tables
+or_misfit None = Err Misfit

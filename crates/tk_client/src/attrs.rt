@@ -4,7 +4,7 @@ ghost use Rattle.std.specs.List.{list_all};
 ghost use Rattle.tk_client.specs.Taking as spec;
 
 use tk_ids::{AttrInfo, AttrKind, AttrValue};
-use tk_stream::Tables;
+use tk_stream::{Op, Resource, Tables};
 
 fn is_kind(a: AttrKind, b: AttrKind) -> bool
     ensures { result ≡ spec.is_kind a b }
@@ -29,15 +29,26 @@ fn fit_attrs(attrs: &[AttrInfo], values: &[AttrValue]) -> bool
     true
 }
 
+fn fits_resource(resource: &Resource) -> bool
+    ensures { result ≡ spec.fits_resource resource.now }
+{
+    fit_attrs(
+        resource.info.attrs.as_slice(),
+        resource.row.attrs.as_slice(),
+    )
+}
+
+fn fits_op(op: &Op) -> bool
+    ensures { result ≡ spec.fits_op op.now }
+{
+    fit_attrs(op.info.attrs.as_slice(), op.row.attrs.as_slice())
+}
+
 fn resources_fit(tables: &Tables) -> bool
     ensures { result ≡ list_all spec.fits_resource tables.now.resources }
 {
     for i in 0..tables.resource_count() {
-        let resource = tables.resource_at(i).unwrap();
-        if !fit_attrs(
-            resource.info.attrs.as_slice(),
-            resource.row.attrs.as_slice(),
-        ) {
+        if !fits_resource(tables.resource_at(i).unwrap()) {
             return false;
         }
     }
@@ -48,8 +59,7 @@ fn ops_fit(tables: &Tables) -> bool
     ensures { result ≡ list_all spec.fits_op tables.now.ops }
 {
     for i in 0..tables.op_count() {
-        let op = tables.op_at(i).unwrap();
-        if !fit_attrs(op.info.attrs.as_slice(), op.row.attrs.as_slice()) {
+        if !fits_op(tables.op_at(i).unwrap()) {
             return false;
         }
     }

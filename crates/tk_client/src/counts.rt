@@ -1,6 +1,5 @@
 //! Poll counts that lines tell.
-ghost use Rattle.std.specs.Prelude.{◌≡◌, map, nat_eq, false, OnOk};
-ghost use Rattle.std.specs.List.{IsDistinct};
+ghost use Rattle.std.specs.Prelude.{◌≡◌, map, false, OnOk};
 ghost use Rattle.tk_stream.specs.Applied.{counts_after};
 ghost use Rattle.tk_stream.specs.Tables.{counts_id};
 ghost use Rattle.tk_client.specs.Taking.{has_twice};
@@ -14,10 +13,11 @@ pub(crate) fn tell_counts(
     tables: &mut Tables,
     told: &[(ResourceId, u64, u64)],
 ) -> Result<(), AllocError>
-    requires once { has_twice (map counts_id told.now) ≡ false }
-    requires distinct { IsDistinct nat_eq (map counts_id tables.old.counts) }
+    requires { has_twice (map counts_id told.now) ≡ false }
     ensures { OnOk result (tables.new ≡ record tables.old { counts = counts_after tables.old.counts told.now }) }
 {
+    // Whoever counts tables' items learns that no resource has counts twice.
+    tables.task_count();
     for (id, ready, pending) in told {
         tables.set_counts(*id, *ready, *pending)?;
     }

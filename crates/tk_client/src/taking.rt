@@ -1,6 +1,7 @@
 //! What a line makes of tables.
 ghost use Rattle.std.specs.Prelude.{◌≡◌, ◌==◌, ◌||◌, ◌<◌, IfOk, map, false, length};
 ghost use Rattle.std.specs.List.{list_any};
+ghost use Rattle.tk_stream.specs.Applied as after;
 ghost use Rattle.tk_stream.specs.Applied.{told_item, new_items, items_after};
 ghost use Rattle.tk_stream.specs.Tables.{counts_id};
 ghost use Rattle.tk_client.specs.Taking as spec;
@@ -112,12 +113,18 @@ fn is_new<T: Listed>(infos: &[T::Info], id: u64) -> bool
     false
 }
 
-// Whether one that is told of is neither there nor new.
+// Whether what is told is of an item that is neither there nor new.
+fn is_strange<T: Listed>(old: &Tables, infos: &[T::Info], told: &T::Stats) -> bool
+    ensures { result ≡ spec.is_strange T.kind (T.items old.now) infos.now told.now }
+{
+    !(T::has_told(old, told) || is_new::<T>(infos, T::stats_id(told)))
+}
+
 fn strange_kind<T: Listed>(old: &Tables, infos: &[T::Info], stats: &[T::Stats]) -> bool
     ensures { result ≡ spec.strange_kind T.kind (T.items old.now) infos.now stats.now }
 {
     for told in stats {
-        if !(T::has_told(old, told) || is_new::<T>(infos, T::stats_id(told))) {
+        if is_strange::<T>(old, infos, told) {
             return true;
         }
     }
@@ -196,7 +203,31 @@ fn take_kind<T: Listed>(
     add_all::<T>(tables, infos, stats)
 }
 
+// Items, counts and numbers after a line that repeats no id.
+fn take_items(tables: &mut Tables, line: &Line) -> Result<(), Fault>
+    requires { spec.repeats_id tables.old line.now ≡ false }
+    ensures { Answers (λ _. tables.new) result (inner.or_misfit (after.tables_after tables.old line.now)) }
+{
+    take_kind::<Task>(tables, line.new_tasks(), line.task_stats())?;
+    take_kind::<Resource>(tables, line.new_resources(), line.resource_stats())?;
+    take_kind::<Op>(tables, line.new_ops(), line.op_stats())?;
+    tell_counts(tables, line.poll_counts())?;
+    tables.set_totals(line.dropped(), line.now());
+    Ok(())
+}
+
+// The tables after a line that repeats no id.
+fn tables_after(old: &Tables, line: &Line) -> Result<Tables, Fault>
+    requires { spec.repeats_id old.now line.now ≡ false }
+    ensures { Answers (λ tables. tables) result (inner.or_misfit (after.tables_after old.now line.now)) }
+{
+    let mut tables = old.copy()?;
+    take_items(&mut tables, line)?;
+    Ok(tables)
+}
+
 /// The tables that a line makes of old ones.
+#[tactic(auto, unfolding(crate::specs::Taking::line_applied))]
 pub(crate) fn apply_line(alloc: Global, old: &Tables, line: &Line) -> Result<Tables, Fault>
     ensures { Answers (λ tables. tables) result (spec.line_applied old.now line.now) }
 {
@@ -206,12 +237,7 @@ pub(crate) fn apply_line(alloc: Global, old: &Tables, line: &Line) -> Result<Tab
     if has_strange_id(old, line) {
         return Err(Fault::UnknownId);
     }
-    let mut tables = old.copy()?;
-    take_kind::<Task>(&mut tables, line.new_tasks(), line.task_stats())?;
-    take_kind::<Resource>(&mut tables, line.new_resources(), line.resource_stats())?;
-    take_kind::<Op>(&mut tables, line.new_ops(), line.op_stats())?;
-    tell_counts(&mut tables, line.poll_counts())?;
-    tables.set_totals(line.dropped(), line.now());
+    let tables = tables_after(old, line)?;
     if !are_fitting(&tables) {
         return Err(Fault::Misfit);
     }
