@@ -5,3 +5,4 @@ pub mod TakeLemmas
 pub mod CountLemmas
 pub mod WarnLemmas
 pub mod AttrLemmas
+pub mod StreamLemmas

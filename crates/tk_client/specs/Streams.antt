@@ -36,22 +36,23 @@ tables_sent before (s ∷ ss) = tables_sent s.tables ss
 abbrev pub AreInRange : TablesView → Type 0
 AreInRange tables = IsLine (snapshot_of tables 1)
 
--- tables that may be sent behind others: they are fit, their values are in range, and their items and counts begin with those
--- of the tables before, in order
-pub record MayFollow (before after : TablesView) : Type 0 where
-  pub fit : AreFit after
-  pub in_range : AreInRange after
-  pub on : GoOn before after
+-- what may be sent behind tables: fit tables, whose values are in range and whose items and counts begin with those of the
+-- tables before, in order; and the number of a line
+pub record MaySend (before : TablesView) (s : Sending) : Type 0 where
+  pub fit : AreFit s.tables
+  pub in_range : AreInRange s.tables
+  pub numbered : is_seq s.seq ≡ true
+  pub on : GoOn before s.tables
 
--- lines whose numbers rise by one from the last one, each of tables that may follow those before
+-- lines that may be sent one after the other, whose numbers rise by one from the last one
 abbrev pub GoesOn : TablesView → ℕ → List Sending → Type 0
 GoesOn before last [] = Unit {0}
-GoesOn before last (s ∷ ss) = (s.seq ≡ last + 1) × (is_seq s.seq ≡ true) × MayFollow before s.tables × GoesOn s.tables s.seq ss
+GoesOn before last (s ∷ ss) = (s.seq ≡ last + 1) × MaySend before s × GoesOn s.tables s.seq ss
 
 -- an uninterrupted stream: its first line is a snapshot of any number, or has number 1 and leads there from empty tables
 abbrev pub IsUninterrupted : List Sending → Type 0
 IsUninterrupted [] = Unit {0}
-IsUninterrupted (s ∷ ss) = ((s.snapshot || s.seq == 1) ≡ true) × (is_seq s.seq ≡ true) × MayFollow empty_tables s.tables × GoesOn s.tables s.seq ss
+IsUninterrupted (s ∷ ss) = ((s.snapshot || s.seq == 1) ≡ true) × MaySend empty_tables s × GoesOn s.tables s.seq ss
 
 -- no line has more bytes than a client takes
 abbrev pub AreShort : ℕ → List LineView → Type 0
