@@ -284,7 +284,7 @@ module _ (lead : (old after : TablesView) (seq : ℕ) → AreFit old → AreFit 
         rest.0,
         goes-then max (behind before last) (behind s.tables (Some s.seq)) rest.0 (line_text l ++ 10 ∷ []) (bytes_sent (lines_sent s.tables ss)) 1 (length ss)
             (one_line max before s.tables last (Some s.seq) (line_text l) (text_is_one_line l) short taken) rest.1
-        ∙ ap (goes rest.0) (omega arith),
+            ∙ ap (goes rest.0) (omega arith),
         rest.2,
         rest.3,
       )
@@ -312,6 +312,6 @@ module _ (lead : (old after : TablesView) (seq : ℕ) → AreFit old → AreFit 
       by all (goes t k) e = tt
       by all (stops t k fault used) e =
           let same : meaning max empty_start bytes ≡ stops t k fault used =
-              ap (meaning max empty_start) (sym (take-append-drop n bytes)) ∙ stops-append max empty_start (take n bytes) (drop n bytes) t k used fault e in
+          ap (meaning max empty_start) (sym (take-append-drop n bytes)) ∙ stops-append max empty_start (take n bytes) (drop n bytes) t k used fault e in
           let both : goes all.0 (length sent) ≡ stops t k fault used = sym all.1 ∙ same in
           absurd (cc)

@@ -25,7 +25,7 @@ pub fn faults_stay()
 pub fn streams_are_taken()
     ensures whole { (max : ℕ) (sent : List Sending) → IsUninterrupted sent → AreShort max (lines_sent empty_tables sent)
         → (s : Start) × (meaning max empty_start (bytes_sent (lines_sent empty_tables sent)) ≡ goes s (length sent))
-            × (s.tables ≡ tables_sent empty_tables sent) × (s.part ≡ []) }
+        × (s.tables ≡ tables_sent empty_tables sent) × (s.part ≡ []) }
     ensures fronts { (max : ℕ) (sent : List Sending) (n : ℕ) → IsUninterrupted sent → AreShort max (lines_sent empty_tables sent)
         → HasNoFault (meaning max empty_start (take n (bytes_sent (lines_sent empty_tables sent)))) }
 {

@@ -53,10 +53,7 @@ fn told_ids<T: Listed>(alloc: Global, stats: &[T::Stats]) -> Result<Vec<u64>, Al
     Ok(ids)
 }
 
-fn counted_ids(
-    alloc: Global,
-    counts: &[(ResourceId, u64, u64)],
-) -> Result<Vec<u64>, AllocError>
+fn counted_ids(alloc: Global, counts: &[(ResourceId, u64, u64)]) -> Result<Vec<u64>, AllocError>
     ensures { IfOk result (λ ids. ids.items ≡ map counts_id counts.now) }
 {
     let mut ids = Vec::new(alloc);
@@ -95,8 +92,12 @@ fn repeats_id(alloc: Global, old: &Tables, line: &Line) -> Result<bool, AllocErr
     ensures { IfOk result (λ is. is ≡ spec.repeats_id old.now line.now) }
 {
     let tasks = repeats_kind::<Task>(alloc, old, line.new_tasks(), line.task_stats())?;
-    let resources =
-        repeats_kind::<Resource>(alloc, old, line.new_resources(), line.resource_stats())?;
+    let resources = repeats_kind::<Resource>(
+        alloc,
+        old,
+        line.new_resources(),
+        line.resource_stats(),
+    )?;
     let ops = repeats_kind::<Op>(alloc, old, line.new_ops(), line.op_stats())?;
     let counted = counted_ids(alloc, line.poll_counts())?;
     Ok(tasks || resources || ops || has_twice(&counted))

@@ -5,7 +5,7 @@ use crate::listed::Listed;
 use std::alloc::AllocError;
 use tk_core::TaskRow;
 use tk_ids::{TaskId, TaskInfo};
-use tk_stream::{Task, Tables};
+use tk_stream::{Tables, Task};
 
 impl Listed for Task {
     ghost use Rattle.std.specs.Prelude.{refl};

@@ -1,6 +1,8 @@
 //! Streams with a fault, fed whole and byte by byte.
 
-use super::given::{Came, MAIN, OPENED, both, empty_line, fed, fed_in_pieces, first_line, line_of, text_of};
+use super::given::{
+    Came, MAIN, OPENED, both, empty_line, fed, fed_in_pieces, first_line, line_of, text_of,
+};
 use crate::Client;
 use std::alloc::Global;
 use std::test::Fail;
@@ -22,24 +24,27 @@ fn faults(
     let prepared = fed(&mut good, before);
     let mut client = Client::new(alloc, ALLOWED)?;
     let whole = fed(&mut client, bytes);
-    let stays = text_of(alloc, client.tables())?.as_slice() == text_of(alloc, good.tables())?.as_slice();
+    let stays = text_of(alloc, client.tables())?.as_slice()
+        == text_of(alloc, good.tables())?.as_slice();
     let failed = fed(&mut client, bytes);
     client.restart();
     let bytewise = fed_in_pieces(&mut client, bytes, 1);
     client.restart();
     let again = fed(&mut client, &empty_line(alloc, "1")?);
-    Ok(prepared.code == 0
-        && whole == wanted
-        && stays
-        && failed
-            == Came {
-                code: 9,
-                lines: 0,
-                used: 0,
-            }
-        && bytewise == wanted
-        && again.code == 0
-        && again.lines == 1)
+    Ok(
+        prepared.code == 0
+            && whole == wanted
+            && stays
+            && failed
+                == Came {
+                    code: 9,
+                    lines: 0,
+                    used: 0,
+                }
+            && bytewise == wanted
+            && again.code == 0
+            && again.lines == 1,
+    )
 }
 
 // A line end behind each front of the first line is no JSON.

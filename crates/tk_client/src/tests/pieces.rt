@@ -21,14 +21,7 @@ fn stream_of(alloc: Global, lines: u64) -> Result<Vec<u8>, Fail> {
         let stats = if k % 10 == 0 { row.as_str() } else { "[]" };
         let tasks = if k == 0 || k == 150 { MAIN } else { "[]" };
         let snapshot = if k == 150 { "true" } else { "false" };
-        let line = line_of(
-            alloc,
-            seq.as_str(),
-            snapshot,
-            seq.as_str(),
-            tasks,
-            stats,
-        )?;
+        let line = line_of(alloc, seq.as_str(), snapshot, seq.as_str(), tasks, stats)?;
         bytes.extend_from_slice(&line)?;
     }
     Ok(bytes)

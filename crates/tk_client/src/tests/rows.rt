@@ -19,29 +19,28 @@ fn row_of(
 }
 
 const UNUSED: &str = "\"clones\":0,\"dropped\":null,\"drops\":0";
+
 const RELEASED: &str = "\"clones\":1,\"dropped\":null,\"drops\":1";
+
 const LIVE: &str = "\"clones\":2,\"dropped\":null,\"drops\":1";
+
 const CLOSED: &str = "\"clones\":0,\"dropped\":400,\"drops\":0";
+
 const IDLE: &str = "\"first_poll\":0,\"last_started\":0,\"polling\":false,\"polls\":1";
+
 const FIRST_POLL: &str = "\"first_poll\":0,\"last_started\":0,\"polling\":true,\"polls\":1";
+
 const SECOND_POLL: &str = "\"first_poll\":0,\"last_started\":0,\"polling\":true,\"polls\":2";
+
 const NO_START: &str = "\"first_poll\":null,\"last_started\":null,\"polling\":true,\"polls\":1";
+
 const NOT_WOKEN: &str = "\"self_wakes\":0,\"wakes\":0";
 
 // The warnings of tables with one task of that row, in the order in which they come: 1 for self-wakes, 2 for a lost waker,
 // 3 for a poll that does not yield. Two of them are two digits.
-fn warned(
-    alloc: Global,
-    tasks: &str,
-    row: &str,
-    now: &str,
-    percent: u64,
-) -> Result<u64, Fail> {
+fn warned(alloc: Global, tasks: &str, row: &str, now: &str, percent: u64) -> Result<u64, Fail> {
     let mut client = Client::new(alloc, 2000)?;
-    let came = fed(
-        &mut client,
-        &line_of(alloc, "1", "false", now, tasks, row)?,
-    );
+    let came = fed(&mut client, &line_of(alloc, "1", "false", now, tasks, row)?);
     if came.code != 0 || came.lines != 1 {
         return Err(Fail::from("the line was not taken"));
     }
@@ -104,7 +103,10 @@ fn warns_of_a_poll_that_does_not_yield(rt: HostRuntime) -> Result<(), Fail> {
     assert_eq!(rt; warned(alloc, MAIN, first.as_str(), "999999999", 50)?, 0);
     assert_eq!(rt; warned(alloc, MAIN, first.as_str(), "1000000000", 50)?, 3);
     assert_eq!(rt; warned(alloc, MAIN, second.as_str(), "9000000000", 50)?, 0);
-    assert_eq!(rt; warned(alloc, MAIN, no_start.as_str(), "9000000000", 50)?, 0);
+    assert_eq!(rt;
+        warned(alloc, MAIN, no_start.as_str(), "9000000000", 50)?,
+        0
+    );
     Ok(())
 }
 
@@ -146,7 +148,13 @@ fn a_gap_ends_the_stream_until_a_restart(rt: HostRuntime) -> Result<(), Fail> {
     assert_eq!(rt; client.feed(&snapshot).ok(), Some(1));
     assert_eq!(rt; client.tables().now(), 7);
     assert_eq!(rt; client.feed(&empty_line(alloc, "10")?).ok(), Some(1));
-    assert_eq!(rt; client.feed(&empty_line(alloc, "12")?).err().map(|e| e.fault.code()), Some(4));
+    assert_eq!(rt;
+        client
+            .feed(&empty_line(alloc, "12")?)
+            .err()
+            .map(|e| e.fault.code()),
+        Some(4)
+    );
     Ok(())
 }
 

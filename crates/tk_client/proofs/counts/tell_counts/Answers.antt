@@ -15,4 +15,4 @@ loop-id-preserved c =
     c.in_ok-set_counts.ensures.ok
     ∙ ap (λ (v : TablesView). record v { counts = put_item counts_id item v.counts }) c.loop-id.invariant
     ∙ ap (λ (cs : List PollCounts). record tables { counts = cs })
-        (told_next tables.counts c.args.told.now c.loop-id.id-index item c.task_count.ensures.distinct.counts c.requires c.loop-id-test.true c.loop-id-item.is)
+    (told_next tables.counts c.args.told.now c.loop-id.id-index item c.task_count.ensures.distinct.counts c.requires c.loop-id-test.true c.loop-id-item.is)
