@@ -3,7 +3,8 @@ use Rattle.std.proofs.Common.{◌≡◌, ℕ, zero, suc, ◌+◌, ◌≤◌, ◌
 use Rattle.std.specs.Prelude.{map, filter, is_none, is_some, not, ◌||◌, ◌&&◌}
 use Rattle.std.specs.List.{list_any, list_all, flat_map, AllByRecursion, IsDistinct}
 use Rattle.std.proofs.lemmas.Bool.{eqb-true, eq-eqb, and_parts, le-ltb}
-use Rattle.std.proofs.lemmas.List.{take-append-drop}
+use Rattle.std.proofs.lemmas.List.{take-append-drop, take-append-le}
+use Rattle.std.proofs.Math.Seq.{take-append-add}
 use Rattle.tk_ids.specs.Attributes.{kind_of}
 use Rattle.tk_ids.specs.declared.attr.AttrInfo.{AttrInfo}
 use Rattle.tk_ids.specs.declared.attr.AttrKind.{AttrKind}
@@ -22,14 +23,16 @@ use Rattle.tk_stream.specs.Tables.{TablesView, PollCounts, empty_tables, AreDist
 use Rattle.tk_stream.proofs.LinesLemmas.{all_infos, all_stats, map-same}
 use Rattle.tk_stream.proofs.NoEnds.{text_is_one_line}
 use Rattle.tk_client.specs.declared.fault.Fault.{Fault}
-use Rattle.tk_client.specs.declared.fault.Fault.TheVariants.{Gap}
+use Rattle.tk_client.specs.declared.fault.Fault.TheVariants.{Memory, BadJson, BadShape, Gap, UnknownId, Repeated, TooLong, Misfit, Failed}
+use Rattle.tk_client.specs.declared.fault.FeedError.{FeedError}
+use Rattle.tk_client.specs.Feeding.{ClientView, Took, Stopped, StoppedBy}
 use Rattle.tk_client.specs.Meaning.{Start, Outcome, goes, stops, expected, is_next, behind_line, line_read, line_taken, cut, after as lines_before, too_long, ended, run, empty_start, meaning}
 use Rattle.tk_client.specs.Streams.{Sending, line_sent, lines_sent, bytes_sent, tables_sent, AreInRange, MaySend, GoesOn, IsUninterrupted, AreShort, HasNoFault}
 use Rattle.tk_client.specs.Taking.{has_twice, has_id, repeats_kind, is_strange, strange_kind, repeats_id, has_strange_id, is_kind, fit_attrs, fits_resource, fits_op, are_fitting, line_applied}
 use Rattle.tk_client.specs.Told.{or_misfit}
 use Rattle.tk_client.proofs.Ends.{nothing}
 use Rattle.tk_client.proofs.FeedLemmas.{goes-then}
-use Rattle.tk_client.proofs.Pieces.{stops-append}
+use Rattle.tk_client.proofs.Pieces.{meaning-append, stops-append}
 use Rattle.tk_client.proofs.TakeLemmas.{line_fits}
 
 itself : (n : ℕ) → nat_eq n n ≡ true
@@ -315,3 +318,57 @@ module _ (lead : (old after : TablesView) (seq : ℕ) → AreFit old → AreFit 
           ap (meaning max empty_start) (sym (take-append-drop n bytes)) ∙ stops-append max empty_start (take n bytes) (drop n bytes) t k used fault e in
           let both : goes all.0 (length sent) ≡ stops t k fault used = sym all.1 ∙ same in
           absurd (cc)
+
+  -- ---- what a client is fed
+
+  -- all of a stream
+  pub fed_whole : (old new : ClientView) (sent : List Sending) (lines : ℕ) → old.start ≡ empty_start → IsUninterrupted sent → AreShort old.max_line (lines_sent empty_tables sent)
+      → Took old (bytes_sent (lines_sent empty_tables sent)) lines new → (lines ≡ length sent) × (new.start.tables ≡ tables_sent empty_tables sent)
+  fed_whole old new sent lines empty on short took =
+      let all : Comes old.max_line empty_tables None sent = whole old.max_line sent on short in
+      let same : goes all.0 (length sent) ≡ goes new.start lines =
+      sym all.1 ∙ ap (λ s. meaning old.max_line s (bytes_sent (lines_sent empty_tables sent))) (sym empty) ∙ took.came in
+      let start : all.0 ≡ new.start = (cc) in
+      let count : length sent ≡ lines = (cc) in
+      (sym count, ap (λ (s : Start). s.tables) (sym start) ∙ all.2)
+
+  no_stop : (max : ℕ) (sent : List Sending) (n : ℕ) (x : List ℕ) → IsUninterrupted sent → AreShort max (lines_sent empty_tables sent) → x ≡ take n (bytes_sent (lines_sent empty_tables sent))
+      → (tables : TablesView) (lines : ℕ) (fault : Fault) (used : ℕ) → meaning max empty_start x ≡ stops tables lines fault used → ⊥
+  no_stop max sent n x on short same tables lines fault used e =
+      subst HasNoFault (ap (meaning max empty_start) (sym same) ∙ e) (fronts max sent n on short)
+
+  -- a piece of a stream, behind a front of it
+  pub fed_piece : (first old new : ClientView) (sent : List Sending) (front piece rest : List ℕ) (lines : ℕ) (e : FeedError) → first.start ≡ empty_start → IsUninterrupted sent
+      → AreShort first.max_line (lines_sent empty_tables sent) → bytes_sent (lines_sent empty_tables sent) ≡ front ++ (piece ++ rest) → Took first front lines old → old.max_line ≡ first.max_line
+      → Stopped old piece e new → e.fault ≡ Memory
+  fed_piece first old new sent front piece rest lines e empty on short bytes took limit stopped = by e.fault stopped.by
+    where
+      max : ℕ
+      max = first.max_line
+
+      x : List ℕ
+      x = front ++ take e.used piece
+
+      same : x ≡ take (length front + e.used) (bytes_sent (lines_sent empty_tables sent))
+      same =
+          ap (λ ys. front ++ ys) (sym (take-append-le e.used piece rest stopped.within)) ∙ sym (take-append-add front (piece ++ rest) e.used)
+          ∙ ap (take (length front + e.used)) (sym bytes)
+
+      joined : meaning max empty_start x ≡ lines_before lines (length front) (meaning old.max_line old.start (take e.used piece))
+      joined =
+          ap (λ s. meaning max s x) (sym empty) ∙ meaning-append max first.start old.start front (take e.used piece) lines took.came
+          ∙ ap (λ m. lines_before lines (length front) (meaning m old.start (take e.used piece))) (sym limit)
+
+      none : (fault : Fault) → meaning old.max_line old.start (take e.used piece) ≡ stops new.start.tables e.lines fault e.used → ⊥
+      none fault h = no_stop max sent (length front + e.used) x on short same new.start.tables (lines + e.lines) fault (length front + e.used) (joined ∙ ap (lines_before lines (length front)) h)
+
+      by : (fault : Fault) → StoppedBy fault (meaning old.max_line old.start (take e.used piece)) e new → fault ≡ Memory
+      by Memory h = refl
+      by BadJson h = absurd (none BadJson h.0)
+      by BadShape h = absurd (none BadShape h.0)
+      by (Gap i j) h = absurd (none (Gap i j) h.0)
+      by UnknownId h = absurd (none UnknownId h.0)
+      by Repeated h = absurd (none Repeated h.0)
+      by TooLong h = absurd (none TooLong h.0)
+      by Misfit h = absurd (none Misfit h.0)
+      by Failed h = absurd (none Failed h.0)

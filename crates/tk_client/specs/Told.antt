@@ -19,11 +19,12 @@ abbrev pub Answers : {X A : Type 0} → (X → A) → Result X Fault → Result 
 Answers view (Ok x) wanted = wanted ≡ Ok (view x)
 Answers view (Err fault) wanted = Fails fault wanted
 
--- what a line end did: the line was taken; or there was no memory, and all is as before; or the line has a fault
+-- why a line end was not taken: there was no memory, and all is as before; or the line has a fault
 abbrev pub EndedBy : Fault → ClientView → ClientView → Type 0
 EndedBy Memory old new = new ≡ old
 EndedBy fault old new = (meaning old.max_line old.start (line_end ∷ []) ≡ stops old.start.tables 0 fault 1) × (new ≡ record old { has_failed = true })
 
+-- what a line end did: the line was taken, or not
 abbrev pub Ended : ClientView → Result (Unit {0}) Fault → ClientView → Type 0
 Ended old (Ok done) new = Took old (line_end ∷ []) 1 new
 Ended old (Err fault) new = EndedBy fault old new

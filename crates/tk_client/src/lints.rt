@@ -48,7 +48,7 @@ impl Lints {
         self.percent
     }
 
-    /// How many nanoseconds a first poll may run, less one.
+    /// For how many nanoseconds a first poll runs before its task is warned of.
     pub fn never_yielded_ns(&self) -> u64
         ensures { result ≡ self.now.never_yielded_ns }
     {

@@ -2,5 +2,6 @@
 
 mod faults;
 mod given;
+mod memory;
 mod pieces;
 mod rows;
