@@ -5,3 +5,4 @@ mod given;
 mod memory;
 mod pieces;
 mod rows;
+mod texts;

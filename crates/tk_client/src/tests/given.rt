@@ -1,20 +1,27 @@
 //! Lines that the tests feed, and what comes of them.
 
+use super::texts as text;
 use crate::{Client, FeedError};
 use std::alloc::Global;
 use std::test::Fail;
 use tk_stream::{Line, Tables};
 
-// The first task of recorder 1.
-pub(super) const MAIN: &str =
-    "[{\"id\":1099511627777,\"kind\":\"spawn\",\"loc\":[\"script\",1,1],\"name\":\"main\"}]";
+// The parts one behind the other.
+pub(super) fn joined(alloc: Global, parts: &[&str]) -> Result<Vec<u8>, Fail> {
+    let mut all = Vec::new(alloc);
+    for part in parts {
+        all.extend_from_slice(part.as_bytes())?;
+    }
+    Ok(all)
+}
 
-pub(super) const BLOCKING: &str =
-    "[{\"id\":1099511627777,\"kind\":\"blocking\",\"loc\":[\"script\",1,1],\"name\":\"main\"}]";
-
-// Its row where it was created at 100 and has no call yet.
-pub(super) const OPENED: &str =
-    "[{\"busy\":0,\"clones\":0,\"created\":100,\"dropped\":null,\"drops\":0,\"first_poll\":null,\"handles\":1,\"id\":1099511627777,\"last_ended\":null,\"last_started\":null,\"last_wake\":null,\"polling\":false,\"polls\":0,\"sched\":0,\"scheduled\":true,\"self_wakes\":0,\"wakes\":0}]";
+// One list of bytes behind another.
+pub(super) fn both(alloc: Global, first: &[u8], second: &[u8]) -> Result<Vec<u8>, Fail> {
+    let mut all = Vec::new(alloc);
+    all.extend_from_slice(first)?;
+    all.extend_from_slice(second)?;
+    Ok(all)
+}
 
 // A line with these tasks and statistics and this moment.
 pub(super) fn line_of(
@@ -25,23 +32,22 @@ pub(super) fn line_of(
     tasks: &str,
     stats: &str,
 ) -> Result<Vec<u8>, Fail> {
-    let mut line = Vec::new(alloc);
-    for part in [
-        "{\"dropped\":[0,0,0],\"new_ops\":[],\"new_resources\":[],\"new_tasks\":",
-        tasks,
-        ",\"now\":",
-        now,
-        ",\"op_stats\":[],\"poll_counts\":[],\"resource_stats\":[],\"seq\":",
-        seq,
-        ",\"snapshot\":",
-        snapshot,
-        ",\"task_stats\":",
-        stats,
-        ",\"v\":1}\n",
-    ] {
-        line.extend_from_slice(part.as_bytes())?;
-    }
-    Ok(line)
+    joined(
+        alloc,
+        &[
+            text::before_tasks(),
+            tasks,
+            text::before_now(),
+            now,
+            text::before_seq(),
+            seq,
+            text::before_snapshot(),
+            snapshot,
+            text::before_stats(),
+            stats,
+            text::at_end(),
+        ],
+    )
 }
 
 // A line without items.
@@ -49,17 +55,47 @@ pub(super) fn empty_line(alloc: Global, seq: &str) -> Result<Vec<u8>, Fail> {
     line_of(alloc, seq, "false", "5", "[]", "[]")
 }
 
-// The line of a script that makes one task and publishes it at 200.
-pub(super) fn first_line(alloc: Global) -> Result<Vec<u8>, Fail> {
-    line_of(alloc, "1", "false", "200", MAIN, OPENED)
+// A row of the task: what it has of wakers, polls, states and wakes.
+pub(super) fn row_of(
+    alloc: Global,
+    wakers: &str,
+    polls: &str,
+    state: &str,
+    own: &str,
+    wakes: &str,
+) -> Result<String, Fail> {
+    let mut row = String::new(alloc);
+    for part in [
+        text::row_head(),
+        wakers,
+        polls,
+        state,
+        own,
+        text::before_wakes(),
+        wakes,
+        text::row_end(),
+    ] {
+        row.push_str(part)?;
+    }
+    Ok(row)
 }
 
-// One list of bytes behind another.
-pub(super) fn both(alloc: Global, first: &[u8], second: &[u8]) -> Result<Vec<u8>, Fail> {
-    let mut all = Vec::new(alloc);
-    all.extend_from_slice(first)?;
-    all.extend_from_slice(second)?;
-    Ok(all)
+// The row of a task that has no call yet.
+pub(super) fn opened(alloc: Global) -> Result<String, Fail> {
+    row_of(
+        alloc,
+        text::unused(),
+        text::unpolled(),
+        text::scheduled(),
+        "0",
+        "0",
+    )
+}
+
+// The line of a script that makes one task and publishes it at 200.
+pub(super) fn first_line(alloc: Global) -> Result<Vec<u8>, Fail> {
+    let row = opened(alloc)?;
+    line_of(alloc, "1", "false", "200", text::main_task(), row.as_str())
 }
 
 // What came of feeding: the fault's number, 0 without one, the lines applied and the bytes taken.
@@ -103,8 +139,14 @@ pub(super) fn fed_in_pieces(client: &mut Client, bytes: &[u8], size: usize) -> C
     sum
 }
 
+// Whether a client holds the tables of that text, as a snapshot.
+pub(super) fn holds(alloc: Global, client: &Client, wanted: &[u8]) -> Result<bool, Fail> {
+    Ok(text_of(alloc, client.tables())?.as_slice() == wanted)
+}
+
 // The text of tables as a snapshot.
 pub(super) fn text_of(alloc: Global, tables: &Tables) -> Result<Vec<u8>, Fail> {
-    let line = Line::between(alloc, &Tables::new(alloc)?, tables, 1, true)?;
+    let none = Tables::new(alloc)?;
+    let line = Line::between(alloc, &none, tables, 1, true)?;
     Ok(line.write()?)
 }
