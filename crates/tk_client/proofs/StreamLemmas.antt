@@ -1,0 +1,374 @@
+-- An uninterrupted stream is taken line by line.
+use Rattle.std.proofs.Common.{◌≡◌, ℕ, zero, suc, ◌+◌, ◌≤◌, ◌^◌, List, [], ◌∷◌, ◌++◌, length, take, drop, Bool, true, false, cond, nat_eq, nat_lt, Option, Some, None, Result, Ok, Err, refl, ap, ap₂, sym, subst, ◌∙◌, arith, append-nil}
+use Rattle.std.specs.Prelude.{map, filter, is_none, is_some, not, ◌||◌, ◌&&◌}
+use Rattle.std.specs.List.{list_any, list_all, flat_map, AllByRecursion, IsDistinct}
+use Rattle.std.proofs.lemmas.Bool.{eqb-true, eq-eqb, and_parts, le-ltb}
+use Rattle.std.proofs.lemmas.List.{take-append-drop, take-append-le}
+use Rattle.std.proofs.Math.Seq.{take-append-add}
+use Rattle.tk_ids.specs.Attributes.{kind_of}
+use Rattle.tk_ids.specs.declared.attr.AttrInfo.{AttrInfo}
+use Rattle.tk_ids.specs.declared.attr.AttrKind.{AttrKind}
+use Rattle.tk_ids.specs.declared.attr.AttrKind.TheVariants as kinds
+use Rattle.tk_ids.specs.declared.attr.AttrValue.{AttrValue}
+use Rattle.tk_stream.specs.declared.error.LineError.{LineError}
+use Rattle.tk_stream.specs.declared.op.Op.{Op}
+use Rattle.tk_stream.specs.declared.resource.Resource.{Resource}
+use Rattle.tk_stream.specs.Applied.{Kind, task_kind, resource_kind, op_kind, counts_kind, tables_after, GoOn}
+use Rattle.tk_stream.specs.Lines.{LineView, is_seq, is_new, new_infos, told_stats, line_between, snapshot_of, task_stats_of, resource_stats_of, op_stats_of, all_counts, have_same_row, have_same_resource_row, have_same_op_row, task_info, resource_info, op_info}
+use Rattle.tk_stream.specs.Ranges.{IsLine}
+use Rattle.tk_stream.specs.Reading.{line_of_text}
+use Rattle.tk_stream.specs.Rows.{same_counts}
+use Rattle.tk_stream.specs.Spelling.{line_text, sent_text, is_one_line}
+use Rattle.tk_stream.specs.Tables.{TablesView, PollCounts, empty_tables, AreDistinct, AreFit, HaveKinds, task_id, resource_id, op_id, counts_id, item_with}
+use Rattle.tk_stream.proofs.LinesLemmas.{all_infos, all_stats, map-same}
+use Rattle.tk_stream.proofs.NoEnds.{text_is_one_line}
+use Rattle.tk_client.specs.declared.fault.Fault.{Fault}
+use Rattle.tk_client.specs.declared.fault.Fault.TheVariants.{Memory, BadJson, BadShape, Gap, UnknownId, Repeated, TooLong, Misfit, Failed}
+use Rattle.tk_client.specs.declared.fault.FeedError.{FeedError}
+use Rattle.tk_client.specs.Feeding.{ClientView, Took, Stopped, StoppedBy}
+use Rattle.tk_client.specs.Meaning.{Start, Outcome, goes, stops, expected, is_next, behind_line, line_read, line_taken, cut, after as lines_before, too_long, ended, run, empty_start, meaning}
+use Rattle.tk_client.specs.Streams.{Sending, line_sent, lines_sent, bytes_sent, tables_sent, AreInRange, MaySend, GoesOn, IsUninterrupted, AreShort, HasNoFault}
+use Rattle.tk_client.specs.Taking.{has_twice, has_id, repeats_kind, is_strange, strange_kind, repeats_id, has_strange_id, is_kind, fit_attrs, fits_resource, fits_op, are_fitting, line_applied}
+use Rattle.tk_client.specs.Told.{or_misfit}
+use Rattle.tk_client.proofs.Ends.{nothing}
+use Rattle.tk_client.proofs.FeedLemmas.{goes-then}
+use Rattle.tk_client.proofs.Pieces.{meaning-append, stops-append}
+use Rattle.tk_client.proofs.TakeLemmas.{line_fits}
+
+itself : (n : ℕ) → nat_eq n n ≡ true
+itself n = eq-eqb n n refl
+
+-- ---- ids that stand once stay so where some are left out
+
+module _ {Item Part : Type 0} (id_of : Item → ℕ) (part : Item → Part) (key : Part → ℕ) (same : (x : Item) → key (part x) ≡ id_of x) (p : Item → Bool) where
+  any_kept : (id : ℕ) (xs : List Item) → AllByRecursion (λ n. nat_eq id n ≡ false) (map id_of xs) → list_any (λ m. nat_eq id m) (map key (map part (filter p xs))) ≡ false
+  any_kept id [] apart = refl
+  any_kept id (x ∷ xs) apart = by (p x) (any_kept id xs apart.1)
+    where
+      by : (b : Bool) → list_any (λ m. nat_eq id m) (map key (map part (filter p xs))) ≡ false → list_any (λ m. nat_eq id m) (map key (map part (cond b (x ∷ filter p xs) (filter p xs)))) ≡ false
+      by true e = ap₂ (λ a b. a || b) (ap (nat_eq id) (same x) ∙ apart.0) e
+      by false e = e
+
+  kept_once : (xs : List Item) → IsDistinct nat_eq (map id_of xs) → has_twice (map key (map part (filter p xs))) ≡ false
+  unfolding IsDistinct
+  kept_once [] distinct = refl
+  kept_once (x ∷ xs) distinct =
+      by (p x) (ap (λ id. list_any (λ m. nat_eq id m) (map key (map part (filter p xs)))) (same x) ∙ any_kept (id_of x) xs distinct.0) (kept_once xs distinct.1)
+    where
+      by : (b : Bool) → list_any (λ m. nat_eq (key (part x)) m) (map key (map part (filter p xs))) ≡ false → has_twice (map key (map part (filter p xs))) ≡ false
+          → has_twice (map key (map part (cond b (x ∷ filter p xs) (filter p xs)))) ≡ false
+      by true e f = ap₂ (λ a b. a || b) e f
+      by false e f = f
+
+-- ---- items of one kind
+
+module _ {Item Info Stats : Type 0} (k : Kind Item Info Stats) (stats_of : Item → Stats) (ids : (x : Item) → k.info_id (k.info_of x) ≡ k.id_of x) (keys : (x : Item) → k.stats_id (stats_of x) ≡ k.id_of x)
+    (old : List Item) where
+  abbrev new : Item → Bool
+  new = is_new k.id_of old
+
+  none_there : (xs : List Item) → list_any (λ info. has_id k.id_of (k.info_id info) old) (map k.info_of (filter new xs)) ≡ false
+  none_there [] = refl
+  none_there (x ∷ xs) = by (item_with k.id_of (k.id_of x) old) refl (none_there xs)
+    where
+      by : (o : Option Item) → item_with k.id_of (k.id_of x) old ≡ o → list_any (λ info. has_id k.id_of (k.info_id info) old) (map k.info_of (filter new xs)) ≡ false
+          → list_any (λ info. has_id k.id_of (k.info_id info) old) (map k.info_of (cond (is_none o) (x ∷ filter new xs) (filter new xs))) ≡ false
+      by (Some y) is e = e
+      by None is e = ap₂ (λ a b. a || b) (ap (λ id. is_some (item_with k.id_of id old)) (ids x) ∙ ap is_some is) e
+
+  pub repeats_nothing : (p : Item → Bool) (xs : List Item) → IsDistinct nat_eq (map k.id_of xs) → repeats_kind k old (map k.info_of (filter new xs)) (map stats_of (filter p xs)) ≡ false
+  repeats_nothing p xs distinct =
+      ap₂ (λ a b. a || b) (none_there xs) (ap₂ (λ a b. a || b) (kept_once k.id_of k.info_of k.info_id ids new xs distinct) (kept_once k.id_of stats_of k.stats_id keys p xs distinct))
+
+  -- a new item is among those that are shown
+  abbrev IsShown : List Info → Item → Type 0
+  IsShown infos x = new x ≡ true → has_id k.info_id (k.id_of x) infos ≡ true
+
+  also_shown : (info : Info) (infos : List Info) (id : ℕ) → has_id k.info_id id infos ≡ true → has_id k.info_id id (info ∷ infos) ≡ true
+  also_shown info infos id e = by (nat_eq id (k.info_id info))
+    where
+      by : (b : Bool) → is_some (cond b (Some info) (item_with k.info_id id infos)) ≡ true
+      by true = refl
+      by false = e
+
+  shown_behind : (x : Item) (xs us : List Item) → AllByRecursion (IsShown (map k.info_of (filter new xs))) us → AllByRecursion (IsShown (map k.info_of (filter new (x ∷ xs)))) us
+  shown_behind x xs [] all = tt
+  shown_behind x xs (u ∷ us) all = ((λ n. by (new x) (all.0 n)), shown_behind x xs us all.1)
+    where
+      by : (b : Bool) → has_id k.info_id (k.id_of u) (map k.info_of (filter new xs)) ≡ true → has_id k.info_id (k.id_of u) (map k.info_of (cond b (x ∷ filter new xs) (filter new xs))) ≡ true
+      by true e = also_shown (k.info_of x) (map k.info_of (filter new xs)) (k.id_of u) e
+      by false e = e
+
+  shown_here : (x : Item) (xs : List Item) → IsShown (map k.info_of (filter new (x ∷ xs))) x
+  shown_here x xs n =
+      ap (λ b. has_id k.info_id (k.id_of x) (map k.info_of (cond b (x ∷ filter new xs) (filter new xs)))) n
+      ∙ ap (λ b. is_some (cond b (Some (k.info_of x)) (item_with k.info_id (k.id_of x) (map k.info_of (filter new xs))))) (ap (nat_eq (k.id_of x)) (ids x) ∙ itself (k.id_of x))
+
+  all_shown : (xs : List Item) → AllByRecursion (IsShown (map k.info_of (filter new xs))) xs
+  all_shown [] = tt
+  all_shown (x ∷ xs) = (shown_here x xs, shown_behind x xs xs (all_shown xs))
+
+  known : (infos : List Info) (x : Item) → IsShown infos x → is_strange k old infos (stats_of x) ≡ false
+  known infos x shown = ap (λ id. not (has_id k.id_of id old || has_id k.info_id id infos)) (keys x) ∙ by (item_with k.id_of (k.id_of x) old) refl
+    where
+      by : (o : Option Item) → item_with k.id_of (k.id_of x) old ≡ o → not (is_some o || has_id k.info_id (k.id_of x) infos) ≡ false
+      by (Some y) is = refl
+      by None is = ap not (shown (ap is_none is))
+
+  none_strange : (p : Item → Bool) (infos : List Info) (xs : List Item) → AllByRecursion (IsShown infos) xs → list_any (is_strange k old infos) (map stats_of (filter p xs)) ≡ false
+  none_strange p infos [] all = refl
+  none_strange p infos (x ∷ xs) all = by (p x) (known infos x all.0) (none_strange p infos xs all.1)
+    where
+      by : (b : Bool) → is_strange k old infos (stats_of x) ≡ false → list_any (is_strange k old infos) (map stats_of (filter p xs)) ≡ false
+          → list_any (is_strange k old infos) (map stats_of (cond b (x ∷ filter p xs) (filter p xs))) ≡ false
+      by true e f = ap₂ (λ a b. a || b) e f
+      by false e f = f
+
+  pub knows_all : (p : Item → Bool) (xs : List Item) → strange_kind k old (map k.info_of (filter new xs)) (map stats_of (filter p xs)) ≡ false
+  knows_all p xs = none_strange p (map k.info_of (filter new xs)) xs (all_shown xs)
+
+-- ---- rows
+
+same_kind : (a : AttrKind) → is_kind a a ≡ true
+same_kind kinds.U64 = refl
+same_kind kinds.Bool = refl
+
+kinds_fit : (attrs : List AttrInfo) (values : List AttrValue) → HaveKinds attrs values → fit_attrs attrs values ≡ true
+kinds_fit [] [] e = refl
+kinds_fit [] (v ∷ vs) e = absurd (cc)
+kinds_fit (a ∷ attrs) [] e = absurd (cc)
+kinds_fit (a ∷ attrs) (v ∷ vs) e =
+    let first : kind_of v ≡ a.kind = (cc) in
+    let rest : HaveKinds attrs vs = (cc) in
+    ap₂ (λ x y. x && y) (ap (λ x. is_kind x a.kind) first ∙ same_kind a.kind) (kinds_fit attrs vs rest)
+
+resources_fit : (rs : List Resource) → AllByRecursion (λ r. HaveKinds r.info.attrs r.row.attrs) rs → list_all fits_resource rs ≡ true
+resources_fit [] all = refl
+resources_fit (r ∷ rs) all = ap₂ (λ x y. x && y) (kinds_fit r.info.attrs r.row.attrs all.0) (resources_fit rs all.1)
+
+ops_fit : (os : List Op) → AllByRecursion (λ o. HaveKinds o.info.attrs o.row.attrs) os → list_all fits_op os ≡ true
+ops_fit [] all = refl
+ops_fit (o ∷ os) all = ap₂ (λ x y. x && y) (kinds_fit o.info.attrs o.row.attrs all.0) (ops_fit os all.1)
+
+-- ---- the line between tables
+
+pub no_repeats : (old after : TablesView) (seq : ℕ) → AreDistinct after → repeats_id old (line_between old after seq) ≡ false
+no_repeats old after seq once =
+    ap₂ (λ a b. a || b) (repeats_nothing task_kind task_stats_of (λ x. refl) (λ x. refl) old.tasks _ after.tasks once.tasks)
+    (ap₂ (λ a b. a || b) (repeats_nothing resource_kind resource_stats_of (λ x. refl) (λ x. refl) old.resources _ after.resources once.resources)
+    (ap₂ (λ a b. a || b) (repeats_nothing op_kind op_stats_of (λ x. refl) (λ x. refl) old.ops _ after.ops once.ops)
+    (kept_once counts_id all_counts counts_id (λ x. refl) _ after.counts once.counts)))
+
+pub no_strangers : (old after : TablesView) (seq : ℕ) → has_strange_id old (line_between old after seq) ≡ false
+no_strangers old after seq =
+    ap₂ (λ a b. a || b) (knows_all task_kind task_stats_of (λ x. refl) (λ x. refl) old.tasks _ after.tasks)
+    (ap₂ (λ a b. a || b) (knows_all resource_kind resource_stats_of (λ x. refl) (λ x. refl) old.resources _ after.resources)
+    (knows_all op_kind op_stats_of (λ x. refl) (λ x. refl) old.ops _ after.ops))
+
+fits_all : (after : TablesView) → AreFit after → are_fitting after ≡ true
+fits_all after fit = ap₂ (λ x y. x && y) (resources_fit after.resources fit.resources) (ops_fit after.ops fit.ops)
+
+empty_fit : AreFit empty_tables
+unfolding IsDistinct
+empty_fit = record { distinct = record { tasks = tt; resources = tt; ops = tt; counts = tt }; resources = tt; ops = tt }
+
+-- ---- ranges
+
+few : {X Y : Type 0} (P : Y → Type 0) (f : X → Y) (p : X → Bool) (xs : List X) → AllByRecursion P (map f xs) → AllByRecursion P (map f (filter p xs))
+few P f p [] all = tt
+few P f p (x ∷ xs) all = by (p x) (few P f p xs all.1)
+  where
+    by : (b : Bool) → AllByRecursion P (map f (filter p xs)) → AllByRecursion P (map f (cond b (x ∷ filter p xs) (filter p xs)))
+    by true rest = (all.0, rest)
+    by false rest = rest
+
+infos_in : {Item Info : Type 0} (P : Info → Type 0) (id_of : Item → ℕ) (info_of : Item → Info) (old xs : List Item) → AllByRecursion P (new_infos id_of info_of [] xs) → AllByRecursion P (new_infos id_of info_of old xs)
+infos_in P id_of info_of old xs all = few P info_of (is_new id_of old) xs (subst (AllByRecursion P) (all_infos id_of info_of xs) all)
+
+stats_in : {Item Stats : Type 0} (P : Stats → Type 0) (id_of : Item → ℕ) (same : Item → Item → Bool) (stats_of : Item → Stats) (old xs : List Item) → AllByRecursion P (told_stats id_of same stats_of [] xs)
+    → AllByRecursion P (told_stats id_of same stats_of old xs)
+stats_in P id_of same stats_of old xs all = few P stats_of _ xs (subst (AllByRecursion P) (all_stats id_of same stats_of xs) all)
+
+pub between_in : (old after : TablesView) (seq : ℕ) → AreInRange after → is_seq seq ≡ true → IsLine (line_between old after seq)
+between_in old after seq all numbered = record {
+  dropped = all.dropped;
+  new_ops = infos_in _ op_id op_info old.ops after.ops all.new_ops;
+  new_resources = infos_in _ resource_id resource_info old.resources after.resources all.new_resources;
+  new_tasks = infos_in _ task_id task_info old.tasks after.tasks all.new_tasks;
+  now = all.now;
+  op_stats = stats_in _ op_id have_same_op_row op_stats_of old.ops after.ops all.op_stats;
+  poll_counts = stats_in _ counts_id same_counts all_counts old.counts after.counts all.poll_counts;
+  resource_stats = stats_in _ resource_id have_same_resource_row resource_stats_of old.resources after.resources all.resource_stats;
+  seq = numbered;
+  task_stats = stats_in _ task_id have_same_row task_stats_of old.tasks after.tasks all.task_stats;
+}
+
+pub snapshot_in : (after : TablesView) (seq : ℕ) → AreInRange after → is_seq seq ≡ true → IsLine (snapshot_of after seq)
+snapshot_in after seq all numbered = record {
+  dropped = all.dropped;
+  new_ops = all.new_ops;
+  new_resources = all.new_resources;
+  new_tasks = all.new_tasks;
+  now = all.now;
+  op_stats = all.op_stats;
+  poll_counts = all.poll_counts;
+  resource_stats = all.resource_stats;
+  seq = numbered;
+  task_stats = all.task_stats;
+}
+
+-- ---- one line
+
+cut_line : (bs : List ℕ) → is_one_line bs ≡ true → cut (bs ++ 10 ∷ []) ≡ (bs ∷ [], [])
+cut_line [] h = refl
+cut_line (b ∷ bs) h =
+    let p = and_parts (not (nat_eq b 10)) (is_one_line bs) h in
+    let is : nat_eq b 10 ≡ false = flipped (nat_eq b 10) p.0 in
+    rw (is, cut_line bs p.1) refl
+  where
+    flipped : (b : Bool) → not b ≡ true → b ≡ false
+    flipped true e = absurd (cc)
+    flipped false e = refl
+
+-- where a client stands behind a whole line
+abbrev behind : TablesView → Option ℕ → Start
+behind tables last = record { tables = tables; last = last; part = [] }
+
+one_line : (max : ℕ) (tables after : TablesView) (last next : Option ℕ) (text : List ℕ) → is_one_line text ≡ true → length text ≤ max → line_taken tables last text ≡ Ok (behind after next)
+    → meaning max (behind tables last) (text ++ 10 ∷ []) ≡ goes (behind after next) 1
+one_line max tables after last next text whole short taken =
+    ap (λ (c : List (List ℕ) × List ℕ). run max (behind tables last) c.0 c.1) (cut_line text whole)
+    ∙ ap (λ b. cond b (too_long max (behind tables last)) (ended tables (length text + 1) (line_taken tables last text) (λ u. run max u [] []))) (le-ltb max (length text) short)
+    ∙ ap (λ r. ended tables (length text + 1) r (λ u. run max u [] [])) taken
+    ∙ ap (λ b. lines_before 1 (length text + 1) (cond b (too_long max (behind after next)) (goes (behind after next) 0))) (le-ltb max 0 (omega arith))
+
+-- a line of either kind
+abbrev line_by : Bool → TablesView → TablesView → ℕ → LineView
+line_by b before after seq = cond b (snapshot_of after seq) (line_between before after seq)
+
+next_number : (b : Bool) (before after : TablesView) (seq last : ℕ) → seq ≡ last + 1 → is_next (Some last) (line_by b before after seq) ≡ true
+next_number true before after seq last e = eq-eqb seq (last + 1) e
+next_number false before after seq last e = eq-eqb seq (last + 1) e
+
+first_number : (b : Bool) (before after : TablesView) (seq : ℕ) → (b || nat_eq seq 1) ≡ true → is_next None (line_by b before after seq) ≡ true
+first_number true before after seq e = refl
+first_number false before after seq e = e
+
+-- ---- streams, by the laws of lines
+
+-- what a stream comes to, from tables on and behind a line of that number
+abbrev Comes : ℕ → TablesView → Option ℕ → List Sending → Type 0
+Comes max before last sent =
+    (t : Start) × (meaning max (behind before last) (bytes_sent (lines_sent before sent)) ≡ goes t (length sent)) × (t.tables ≡ tables_sent before sent) × (t.part ≡ [])
+
+module _ (lead : (old after : TablesView) (seq : ℕ) → AreFit old → AreFit after → GoOn old after → tables_after old (line_between old after seq) ≡ Some after)
+    (tell : (tables : TablesView) (seq : ℕ) → AreFit tables → tables_after empty_tables (snapshot_of tables seq) ≡ Some tables)
+    (read : (l : LineView) → IsLine l → line_of_text (line_text l) ≡ Ok l) where
+  taken_by : (b : Bool) (before after : TablesView) (seq : ℕ) (last : Option ℕ) → AreFit before → AreFit after → GoOn before after → AreInRange after → is_seq seq ≡ true
+      → is_next last (line_by b before after seq) ≡ true → line_taken before last (line_text (line_by b before after seq)) ≡ Ok (behind after (Some seq))
+  unfolding line_taken
+  taken_by true before after seq last old fit on all numbered next =
+      let l : LineView = snapshot_of after seq in
+      ap (line_read before last) (read l (snapshot_in after seq all numbered))
+      ∙ ap (λ b. cond b (behind_line l (line_applied empty_tables l)) (Err (Gap (expected last) seq))) next
+      ∙ ap (behind_line l) (line_fits empty_tables l after (no_repeats empty_tables after seq fit.distinct) (no_strangers empty_tables after seq) (ap or_misfit (tell after seq fit)) (fits_all after fit))
+  taken_by false before after seq last old fit on all numbered next =
+      let l : LineView = line_between before after seq in
+      ap (line_read before last) (read l (between_in before after seq all numbered))
+      ∙ ap (λ b. cond b (behind_line l (line_applied before l)) (Err (Gap (expected last) seq))) next
+      ∙ ap (behind_line l) (line_fits before l after (no_repeats before after seq fit.distinct) (no_strangers before after seq) (ap or_misfit (lead before after seq old fit on)) (fits_all after fit))
+
+  -- a line, and what comes behind it
+  line_first : (max : ℕ) (before : TablesView) (last : Option ℕ) (s : Sending) (ss : List Sending) → AreFit before → MaySend before s → is_next last (line_sent before s) ≡ true
+      → length (line_text (line_sent before s)) ≤ max → Comes max s.tables (Some s.seq) ss → Comes max before last (s ∷ ss)
+  line_first max before last s ss old may next short rest =
+      let l : LineView = line_sent before s in
+      let taken : line_taken before last (line_text l) ≡ Ok (behind s.tables (Some s.seq)) = taken_by s.snapshot before s.tables s.seq last old may.fit may.on may.in_range may.numbered next in (
+        rest.0,
+        goes-then max (behind before last) (behind s.tables (Some s.seq)) rest.0 (line_text l ++ 10 ∷ []) (bytes_sent (lines_sent s.tables ss)) 1 (length ss)
+            (one_line max before s.tables last (Some s.seq) (line_text l) (text_is_one_line l) short taken) rest.1
+            ∙ ap (goes rest.0) (omega arith),
+        rest.2,
+        rest.3,
+      )
+
+  later_lines : (max : ℕ) (before : TablesView) (last : ℕ) (ss : List Sending) → AreFit before → GoesOn before last ss → AreShort max (lines_sent before ss) → Comes max before (Some last) ss
+  later_lines max before last [] old on short = (behind before (Some last), nothing max (behind before (Some last)) (omega arith), refl, refl)
+  later_lines max before last (s ∷ ss) old on short =
+      line_first max before (Some last) s ss old on.1 (next_number s.snapshot before s.tables s.seq last on.0) short.0 (later_lines max s.tables s.seq ss on.1.fit on.2 short.1)
+
+  pub whole : (max : ℕ) (sent : List Sending) → IsUninterrupted sent → AreShort max (lines_sent empty_tables sent) → Comes max empty_tables None sent
+  whole max [] on short = (empty_start, nothing max empty_start (omega arith), refl, refl)
+  whole max (s ∷ ss) on short =
+      line_first max empty_tables None s ss empty_fit on.1 (first_number s.snapshot empty_tables s.tables s.seq on.0) short.0 (later_lines max s.tables s.seq ss on.1.fit on.2 short.1)
+
+  -- a front has no fault where the whole has none
+  pub fronts : (max : ℕ) (sent : List Sending) (n : ℕ) → IsUninterrupted sent → AreShort max (lines_sent empty_tables sent)
+      → HasNoFault (meaning max empty_start (take n (bytes_sent (lines_sent empty_tables sent))))
+  fronts max sent n on short =
+      by (whole max sent on short) (meaning max empty_start (take n bytes)) refl
+    where
+      bytes : List ℕ
+      bytes = bytes_sent (lines_sent empty_tables sent)
+
+      by : Comes max empty_tables None sent → (o : Outcome) → meaning max empty_start (take n bytes) ≡ o → HasNoFault o
+      by all (goes t k) e = tt
+      by all (stops t k fault used) e =
+          let same : meaning max empty_start bytes ≡ stops t k fault used =
+          ap (meaning max empty_start) (sym (take-append-drop n bytes)) ∙ stops-append max empty_start (take n bytes) (drop n bytes) t k used fault e in
+          let both : goes all.0 (length sent) ≡ stops t k fault used = sym all.1 ∙ same in
+          absurd (cc)
+
+  -- ---- what a client is fed
+
+  -- all of a stream
+  pub fed_whole : (old new : ClientView) (sent : List Sending) (lines : ℕ) → old.start ≡ empty_start → IsUninterrupted sent → AreShort old.max_line (lines_sent empty_tables sent)
+      → Took old (bytes_sent (lines_sent empty_tables sent)) lines new → (lines ≡ length sent) × (new.start.tables ≡ tables_sent empty_tables sent)
+  fed_whole old new sent lines empty on short took =
+      let all : Comes old.max_line empty_tables None sent = whole old.max_line sent on short in
+      let same : goes all.0 (length sent) ≡ goes new.start lines =
+      sym all.1 ∙ ap (λ s. meaning old.max_line s (bytes_sent (lines_sent empty_tables sent))) (sym empty) ∙ took.came in
+      let start : all.0 ≡ new.start = (cc) in
+      let count : length sent ≡ lines = (cc) in
+      (sym count, ap (λ (s : Start). s.tables) (sym start) ∙ all.2)
+
+  no_stop : (max : ℕ) (sent : List Sending) (n : ℕ) (x : List ℕ) → IsUninterrupted sent → AreShort max (lines_sent empty_tables sent) → x ≡ take n (bytes_sent (lines_sent empty_tables sent))
+      → (tables : TablesView) (lines : ℕ) (fault : Fault) (used : ℕ) → meaning max empty_start x ≡ stops tables lines fault used → ⊥
+  no_stop max sent n x on short same tables lines fault used e =
+      subst HasNoFault (ap (meaning max empty_start) (sym same) ∙ e) (fronts max sent n on short)
+
+  -- a piece of a stream, behind a front of it
+  pub fed_piece : (first old new : ClientView) (sent : List Sending) (front piece rest : List ℕ) (lines : ℕ) (e : FeedError) → first.start ≡ empty_start → IsUninterrupted sent
+      → AreShort first.max_line (lines_sent empty_tables sent) → bytes_sent (lines_sent empty_tables sent) ≡ front ++ (piece ++ rest) → Took first front lines old → old.max_line ≡ first.max_line
+      → Stopped old piece e new → e.fault ≡ Memory
+  fed_piece first old new sent front piece rest lines e empty on short bytes took limit stopped = by e.fault stopped.by
+    where
+      max : ℕ
+      max = first.max_line
+
+      x : List ℕ
+      x = front ++ take e.used piece
+
+      same : x ≡ take (length front + e.used) (bytes_sent (lines_sent empty_tables sent))
+      same =
+          ap (λ ys. front ++ ys) (sym (take-append-le e.used piece rest stopped.within)) ∙ sym (take-append-add front (piece ++ rest) e.used)
+          ∙ ap (take (length front + e.used)) (sym bytes)
+
+      joined : meaning max empty_start x ≡ lines_before lines (length front) (meaning old.max_line old.start (take e.used piece))
+      joined =
+          ap (λ s. meaning max s x) (sym empty) ∙ meaning-append max first.start old.start front (take e.used piece) lines took.came
+          ∙ ap (λ m. lines_before lines (length front) (meaning m old.start (take e.used piece))) (sym limit)
+
+      none : (fault : Fault) → meaning old.max_line old.start (take e.used piece) ≡ stops new.start.tables e.lines fault e.used → ⊥
+      none fault h = no_stop max sent (length front + e.used) x on short same new.start.tables (lines + e.lines) fault (length front + e.used) (joined ∙ ap (lines_before lines (length front)) h)
+
+      by : (fault : Fault) → StoppedBy fault (meaning old.max_line old.start (take e.used piece)) e new → fault ≡ Memory
+      by Memory h = refl
+      by BadJson h = absurd (none BadJson h.0)
+      by BadShape h = absurd (none BadShape h.0)
+      by (Gap i j) h = absurd (none (Gap i j) h.0)
+      by UnknownId h = absurd (none UnknownId h.0)
+      by Repeated h = absurd (none Repeated h.0)
+      by TooLong h = absurd (none TooLong h.0)
+      by Misfit h = absurd (none Misfit h.0)
+      by Failed h = absurd (none Failed h.0)

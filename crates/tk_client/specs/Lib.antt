@@ -1,0 +1,14 @@
+-- Which line a client takes, and what it makes of tables
+pub mod Taking
+-- What bytes mean to a client
+pub mod Meaning
+-- What a client shows, and what a call on it did
+pub mod Feeding
+-- Which warnings tables have
+pub mod Warnings
+-- Which bytes are an uninterrupted stream
+pub mod Streams
+-- The numbers of faults
+pub mod Faults
+-- Inner: no public clause cites this
+pub mod Told

@@ -1,0 +1,96 @@
+-- Which line a client takes, and what it makes of the client's tables.
+use Rattle.std.specs.Prelude.{ℕ, ◌==◌, List, [], ◌∷◌, map, Bool, true, false, ◌&&◌, ◌||◌, not, is_some, Option, Some, None, if◌then◌else◌, Result, Ok, Err}
+use Rattle.std.specs.List.{list_any, list_all}
+use Rattle.tk_ids.specs.Attributes.{kind_of}
+use Rattle.tk_ids.specs.declared.attr.AttrInfo.{AttrInfo}
+use Rattle.tk_ids.specs.declared.attr.AttrKind.{AttrKind}
+use Rattle.tk_ids.specs.declared.attr.AttrKind.TheVariants as kinds
+use Rattle.tk_ids.specs.declared.attr.AttrValue.{AttrValue}
+use Rattle.tk_stream.specs.declared.op.Op.{Op}
+use Rattle.tk_stream.specs.declared.resource.Resource.{Resource}
+use Rattle.tk_stream.specs.Tables.{TablesView, counts_id, item_with}
+use Rattle.tk_stream.specs.Lines.{LineView}
+use Rattle.tk_stream.specs.Applied.{Kind, task_kind, resource_kind, op_kind, tables_after}
+use Rattle.tk_client.specs.declared.fault.Fault.{Fault}
+use Rattle.tk_client.specs.declared.fault.Fault.TheVariants.{UnknownId, Repeated, Misfit}
+
+-- ---- ids
+
+-- some number stands twice
+abbrev pub has_twice : List ℕ → Bool
+has_twice [] = false
+has_twice (n ∷ ns) = list_any (λ m. n == m) ns || has_twice ns
+
+-- one of these has this id
+abbrev pub has_id : {Item : Type 0} → (Item → ℕ) → ℕ → List Item → Bool
+has_id id_of id items = is_some (item_with id_of id items)
+
+-- of one kind of item, a new one is there already, or one is new twice, or is told of twice
+abbrev pub repeats_kind : {Item Info Stats : Type 0} → Kind Item Info Stats → List Item → List Info → List Stats → Bool
+repeats_kind k old infos stats =
+    list_any (λ info. has_id k.id_of (k.info_id info) old) infos || (has_twice (map k.info_id infos) || has_twice (map k.stats_id stats))
+
+-- of one kind of item, what is told is of an item that is neither there nor new
+abbrev pub is_strange : {Item Info Stats : Type 0} → Kind Item Info Stats → List Item → List Info → Stats → Bool
+is_strange k old infos s = not (has_id k.id_of (k.stats_id s) old || has_id k.info_id (k.stats_id s) infos)
+
+-- of one kind of item, the line tells of one that is neither there nor new
+abbrev pub strange_kind : {Item Info Stats : Type 0} → Kind Item Info Stats → List Item → List Info → List Stats → Bool
+strange_kind k old infos stats = list_any (is_strange k old infos) stats
+
+-- the line shows an item as new that is there, or has an id twice in one of its lists
+abbrev pub repeats_id : TablesView → LineView → Bool
+repeats_id old l =
+    repeats_kind task_kind old.tasks l.new_tasks l.task_stats
+    || (repeats_kind resource_kind old.resources l.new_resources l.resource_stats
+    || (repeats_kind op_kind old.ops l.new_ops l.op_stats
+    || has_twice (map counts_id l.poll_counts)))
+
+-- the line tells of an item that is neither there nor new
+abbrev pub has_strange_id : TablesView → LineView → Bool
+has_strange_id old l =
+    strange_kind task_kind old.tasks l.new_tasks l.task_stats
+    || (strange_kind resource_kind old.resources l.new_resources l.resource_stats
+    || strange_kind op_kind old.ops l.new_ops l.op_stats)
+
+-- ---- attributes
+
+-- whether two kinds of attributes are the same
+abbrev pub is_kind : AttrKind → AttrKind → Bool
+is_kind kinds.U64 kinds.U64 = true
+is_kind kinds.U64 kinds.Bool = false
+is_kind kinds.Bool kinds.U64 = false
+is_kind kinds.Bool kinds.Bool = true
+
+-- values are as many as the attributes, and each of its attribute's kind
+abbrev pub fit_attrs : List AttrInfo → List AttrValue → Bool
+fit_attrs [] [] = true
+fit_attrs [] (v ∷ vs) = false
+fit_attrs (a ∷ attrs) [] = false
+fit_attrs (a ∷ attrs) (v ∷ vs) = is_kind (kind_of v) a.kind && fit_attrs attrs vs
+
+-- a resource's row has the attributes of its info
+abbrev pub fits_resource : Resource → Bool
+fits_resource r = fit_attrs r.info.attrs r.row.attrs
+
+-- an async operation's row has the attributes of its info
+abbrev pub fits_op : Op → Bool
+fits_op o = fit_attrs o.info.attrs o.row.attrs
+
+-- each row has the attributes of its item
+abbrev pub are_fitting : TablesView → Bool
+are_fitting tables = list_all fits_resource tables.resources && list_all fits_op tables.ops
+
+-- ---- the line
+
+-- the tables after a line, where each new item has statistics and each row then has the attributes of its item
+abbrev pub fitting : Option TablesView → Result TablesView Fault
+fitting (Some tables) = if are_fitting tables then Ok tables else Err Misfit
+fitting None = Err Misfit
+
+-- what a line makes of tables: the checks in their order, and then the tables after it
+unfoldable pub line_applied : TablesView → LineView → Result TablesView Fault
+line_applied old l =
+    if repeats_id old l then Err Repeated else
+    (if has_strange_id old l then Err UnknownId else
+    fitting (tables_after old l))

@@ -1,0 +1,308 @@
+//! A client, whose tables are those that the lines lead to that it was fed.
+//!
+//! `specs/Meaning.antt` says what bytes mean to a client, and `specs/Feeding.antt` what feeding them does.
+ghost use Rattle.std.specs.Prelude.{◌≡◌, ◌+◌, ◌≤◌, ◌<◌, ◌^◌, ◌==◌, IfOk, IfErr, IfSome, IfNone, Ok, Err, length, take, true, false, Some, [], ◌∷◌, ◌++◌, position};
+ghost use Rattle.tk_stream.specs.Spelling.{line_end, is_one_line};
+ghost use Rattle.tk_client.specs.Meaning as spec;
+ghost use Rattle.tk_client.specs.Taking.{line_applied};
+ghost use Rattle.tk_client.specs.Feeding.{Took, Stopped};
+ghost use Rattle.tk_client.specs.Told.{Answers, Ended};
+
+use crate::fault::{Fault, FeedError};
+use crate::lints::Lints;
+use crate::taking::apply_line;
+use crate::warning::{Warning, warn};
+use std::alloc::Global;
+use std::marker::Model;
+use tk_ids::Dropped;
+use tk_stream::{Line, Tables};
+
+/// A client of a stream.
+#[derive(Drop)]
+pub struct Client {
+    alloc: Global,
+    tables: Tables,
+    last: Option<u64>,
+    // The bytes of a line that hasn't ended.
+    part: Vec<u8>,
+    limit: usize,
+    failed: bool,
+}
+
+impl Model for Client {
+    ghost use Rattle.std.specs.Prelude.{◌≤◌, ◌^◌, length, IfSome};
+    ghost use Rattle.tk_client.specs.Feeding.{ClientView};
+
+    ghost Value = { ClientView };
+
+    ghost view = { λ c. record {
+      start = record { tables = c.tables; last = c.last; part = c.part.items };
+      has_failed = c.failed;
+      max_line = c.limit;
+    } };
+
+    ghost invariant = { λ c. (length c.part.items ≤ c.limit) × IfSome c.last (λ n. n ≤ 2 ^ 63) };
+}
+
+fn find_end(bytes: &[u8]) -> Option<usize>
+    ensures { result ≡ position (λ b. b == line_end) bytes.now }
+{
+    bytes.iter().position(|b| *b == b'\n')
+}
+
+// Where the first line ends.
+fn first_end(bytes: &[u8]) -> Option<usize>
+    ensures within { IfSome result (λ end. end < length bytes.now) }
+    ensures before { IfSome result (λ end. is_one_line (take end bytes.now) ≡ true) }
+    ensures through { IfSome result (λ end. take (end + 1) bytes.now ≡ take end bytes.now ++ line_end ∷ []) }
+    ensures none { IfNone result (is_one_line bytes.now ≡ true) }
+{
+    find_end(bytes)
+}
+
+fn expected(last: Option<u64>) -> u64
+    requires { IfSome last (λ n. n ≤ 2 ^ 63) }
+    ensures { result ≡ spec.expected last }
+{
+    match last {
+        Some(n) => n + 1,
+        None => 1,
+    }
+}
+
+fn is_next(last: Option<u64>, line: &Line) -> bool
+    requires { IfSome last (λ n. n ≤ 2 ^ 63) }
+    ensures { result ≡ spec.is_next last line.now }
+{
+    match last {
+        Some(n) => line.seq() == n + 1,
+        None => line.snapshot() || line.seq() == 1,
+    }
+}
+
+// A snapshot stands for itself.
+fn apply_to(alloc: Global, tables: &Tables, line: &Line) -> Result<Tables, Fault>
+    ensures { Answers (λ t. t) result (line_applied (spec.base_of tables.now line.now) line.now) }
+{
+    if line.snapshot() {
+        apply_line(alloc, &Tables::new(alloc)?, line)
+    } else {
+        apply_line(alloc, tables, line)
+    }
+}
+
+// The tables that a line's text leads to, and its number.
+#[tactic(auto, unfolding(crate::specs::Meaning::line_taken))]
+fn take_line(
+    alloc: Global,
+    tables: &Tables,
+    last: Option<u64>,
+    text: &[u8],
+) -> Result<(Tables, u64), Fault>
+    requires { IfSome last (λ n. n ≤ 2 ^ 63) }
+    ensures taken { Answers (λ p. record { tables = p.0; last = Some p.1; part = [] }) result (spec.line_taken tables.now last text.now) }
+    ensures number { IfOk result (λ p. p.1 ≤ 2 ^ 63) }
+{
+    let line = Line::read(alloc, text)?;
+    let found = line.seq();
+    if !is_next(last, &line) {
+        return Err(Fault::Gap {
+            expected: expected(last),
+            found,
+        });
+    }
+    let tables = apply_to(alloc, tables, &line)?;
+    Ok((tables, found))
+}
+
+impl Client {
+    ghost use Rattle.tk_client.specs.Meaning.{empty_start, meaning, goes};
+    ghost use Rattle.tk_client.specs.Feeding.{Fed};
+    ghost use Rattle.tk_client.specs.Warnings.{warnings_in};
+
+    /// A client with empty tables, whose next line is a first one. It takes lines of at most `max_line` bytes, their ends not
+    /// counted.
+    ///
+    /// Its one error is `Memory`: it makes room for 64 bytes of a line.
+    pub fn new(alloc: Global, max_line: usize) -> Result<Client, Fault>
+        requires { 1 ≤ max_line }
+        ensures ok { IfOk result (λ client. client ≡ record { start = empty_start; has_failed = false; max_line = max_line }) }
+        ensures memory { IfErr result (λ fault. fault ≡ Fault.Memory) }
+    {
+        let tables = Tables::new(alloc)?;
+        let part = Vec::with_capacity(alloc, 64)?;
+        Ok(Client {
+            alloc,
+            tables,
+            last: None,
+            part,
+            limit: max_line,
+            failed: false,
+        })
+    }
+
+    /// The tables that the lines lead to that were applied.
+    pub fn tables(&self) -> &Tables
+        ensures { result.now ≡ self.now.start.tables }
+    {
+        &self.tables
+    }
+
+    /// Forgets tables, numbers, part lines and faults: the next line is a first one. It takes no memory.
+    pub fn restart(&mut self)
+        ensures { self.new ≡ record { start = empty_start; has_failed = false; max_line = self.old.max_line } }
+    {
+        self.tables.cut(0, 0, 0, 0);
+        self.tables.set_totals(
+            Dropped {
+                tasks: 0,
+                resources: 0,
+                ops: 0,
+            },
+            0,
+        );
+        self.last = None;
+        self.part.clear();
+        self.failed = false;
+    }
+
+    // Takes bytes without a line end.
+    fn hold(&mut self, bytes: &[u8]) -> Result<(), FeedError>
+        requires whole { is_one_line bytes.now ≡ true }
+        requires sound { self.old.has_failed ≡ false }
+        ensures held { IfOk result (λ _. Took self.old bytes.now 0 self.new) }
+        ensures stopped { IfErr result (λ e. Stopped self.old bytes.now e self.new) }
+        ensures limit { self.new.max_line ≡ self.old.max_line }
+    {
+        let room = self.limit - self.part.len();
+        if bytes.len() > room {
+            self.failed = true;
+            return Err(FeedError {
+                lines: 0,
+                used: room + 1,
+                fault: Fault::TooLong,
+            });
+        }
+        if let Err(_) = self.part.extend_from_slice(bytes) {
+            return Err(FeedError {
+                lines: 0,
+                used: 0,
+                fault: Fault::Memory,
+            });
+        }
+        Ok(())
+    }
+
+    // Takes a line end.
+    fn end_line(&mut self) -> Result<(), Fault>
+        requires { self.old.has_failed ≡ false }
+        ensures ended { Ended self.old result self.new }
+        ensures limit { self.new.max_line ≡ self.old.max_line }
+    {
+        match take_line(self.alloc, &self.tables, self.last, self.part.as_slice()) {
+            Ok((tables, number)) => {
+                self.tables = tables;
+                self.last = Some(number);
+                self.part.clear();
+                Ok(())
+            }
+            Err(Fault::Memory) => Err(Fault::Memory),
+            Err(fault) => {
+                self.failed = true;
+                Err(fault)
+            }
+        }
+    }
+
+    // Takes the bytes through the first line end, or all of them. It answers the lines applied and the bytes taken.
+    fn step(&mut self, bytes: &[u8]) -> Result<(u64, usize), FeedError>
+        requires some { 0 < length bytes.now }
+        requires sound { self.old.has_failed ≡ false }
+        ensures some { IfOk result (λ p. 0 < p.1) }
+        ensures within { IfOk result (λ p. p.1 ≤ length bytes.now) }
+        ensures few { IfOk result (λ p. p.0 ≤ p.1) }
+        ensures took { IfOk result (λ p. Took self.old (take p.1 bytes.now) p.0 self.new) }
+        ensures stopped { IfErr result (λ e. Stopped self.old bytes.now e self.new) }
+        ensures limit { self.new.max_line ≡ self.old.max_line }
+    {
+        let Some(end) = first_end(bytes) else {
+            self.hold(bytes)?;
+            return Ok((0, bytes.len()));
+        };
+        self.hold(&bytes[..end])?;
+        match self.end_line() {
+            Ok(()) => Ok((1, end + 1)),
+            Err(fault) => {
+                let used = match fault {
+                    Fault::Memory => end,
+                    _ => end + 1,
+                };
+                Err(FeedError {
+                    lines: 0,
+                    used,
+                    fault,
+                })
+            }
+        }
+    }
+
+    /// Takes a piece of the stream: any bytes, wherever they are cut. A line ends at a line feed, byte 0x0A.
+    ///
+    /// It answers how many lines were applied, which is how many ended. Each is checked in this order, and a line with a
+    /// fault is applied in no part: `TooLong` at the first byte too many; `BadJson`, `BadShape`; `Gap`; `Repeated`;
+    /// `UnknownId`; `Misfit`. `used` counts the bytes through the fault.
+    ///
+    /// - `Memory`: the first `used` bytes were taken, and those behind them may be fed again. A whole line that found no
+    ///   memory is applied in no part, and its line end is not taken.
+    /// - `Failed`: the client has failed before, by any fault but `Memory`. Nothing changes, with `lines` 0 and `used` 0,
+    ///   until [`Client::restart`].
+    pub fn feed(&mut self, piece: &[u8]) -> Result<u64, FeedError>
+        ensures fed { self.old.has_failed ≡ false → Fed self.old piece.now result self.new }
+        ensures failed { self.old.has_failed ≡ true → result ≡ Err (record { lines = 0; used = 0; fault = Fault.Failed }) }
+        ensures unchanged { self.old.has_failed ≡ true → self.new ≡ self.old }
+        ensures limit { self.new.max_line ≡ self.old.max_line }
+    {
+        if self.failed {
+            return Err(FeedError {
+                lines: 0,
+                used: 0,
+                fault: Fault::Failed,
+            });
+        }
+        let mut lines = 0;
+        let mut at = 0;
+        while at < piece.len() {
+            match self.step(&piece[at..]) {
+                Ok((more, used)) => {
+                    lines += more;
+                    at += used;
+                }
+                Err(e) => {
+                    return Err(FeedError {
+                        lines: lines + e.lines,
+                        used: at + e.used,
+                        fault: e.fault,
+                    });
+                }
+            }
+        }
+        Ok(lines)
+    }
+
+    /// The warnings of the tables: for each task in table order those that hold, `SelfWakes` before `LostWaker` before
+    /// `NeverYielded`. Only tasks of kind spawn are warned of.
+    ///
+    /// Its one error is `Memory`.
+    pub fn warnings(&self, lints: &Lints) -> Result<Vec<Warning>, Fault>
+        ensures ok { IfOk result (λ list. list.items ≡ warnings_in lints.now self.now.start.tables) }
+        ensures memory { IfErr result (λ fault. fault ≡ Fault.Memory) }
+    {
+        let mut list = Vec::new(self.alloc);
+        let now = self.tables.now();
+        for i in 0..self.tables.task_count() {
+            let task = self.tables.task_at(i).unwrap();
+            warn(&mut list, lints, now, task)?;
+        }
+        Ok(list)
+    }
+}

@@ -1,0 +1,28 @@
+//! A client of a stream: it takes the stream's bytes in any pieces, and keeps the tables that its lines lead to.
+//!
+//! - [`Client`]: tables that are kept up by the lines that are fed.
+//! - [`Fault`]: why a line is not taken. [`FeedError`]: how far feeding came.
+//! - [`Warning`], [`WarningKind`]: what is odd about a task. [`Lints`]: how much is too much.
+//! - [`laws`]: what holds of the definitions by themselves.
+#![tactic(auto)]
+
+mod attrs;
+mod client;
+mod counts;
+mod fault;
+pub mod laws;
+mod lints;
+mod listed;
+mod ops;
+mod resources;
+mod taking;
+mod tasks;
+mod warning;
+
+pub use client::Client;
+pub use fault::{Fault, FeedError};
+pub use lints::Lints;
+pub use warning::{Warning, WarningKind};
+
+#[cfg(test)]
+mod tests;

@@ -1,0 +1,73 @@
+//! Async operations that lines tell of.
+ghost use Rattle.std.specs.Prelude.{◌≡◌};
+
+use crate::listed::Listed;
+use std::alloc::AllocError;
+use tk_core::OpRow;
+use tk_ids::{AsyncOpId, OpInfo};
+use tk_stream::{Op, Tables};
+
+impl Listed for Op {
+    ghost use Rattle.std.specs.Prelude.{refl};
+    ghost use Rattle.tk_stream.specs.Applied.{op_kind};
+
+    type Info = OpInfo;
+
+    type Stats = (AsyncOpId, OpRow);
+
+    ghost kind = { op_kind };
+
+    ghost items = { λ tables. tables.ops };
+
+    ghost with_items = { λ tables items. record tables { ops = items } };
+
+    fn count(tables: &Tables) -> usize {
+        tables.op_count()
+    }
+
+    fn id_at(tables: &Tables, i: usize) -> u64 {
+        tables.op_at(i).unwrap().info.id.value()
+    }
+
+    fn info_id(info: &OpInfo) -> u64 {
+        info.id.value()
+    }
+
+    fn stats_id(stats: &(AsyncOpId, OpRow)) -> u64 {
+        stats.0.value()
+    }
+
+    fn has_info(tables: &Tables, info: &OpInfo) -> bool {
+        tables.op(info.id).is_some()
+    }
+
+    fn has_told(tables: &Tables, stats: &(AsyncOpId, OpRow)) -> bool {
+        tables.op(stats.0).is_some()
+    }
+
+    fn tell(tables: &mut Tables, i: usize, stats: &(AsyncOpId, OpRow)) {
+        tables.set_op(i, stats.1);
+    }
+
+    fn add(
+        tables: &mut Tables,
+        info: &OpInfo,
+        stats: &(AsyncOpId, OpRow),
+    ) -> Result<(), AllocError> {
+        let info = info.clone()?;
+        match tables.add_op(info, stats.1) {
+            Ok(()) => Ok(()),
+            Err((refused, _)) => Err(refused),
+        }
+    }
+
+    ghost same_id = { λ info stats. refl };
+
+    ghost keeps_id = { λ item stats. refl };
+
+    ghost reads = { λ tables items. refl };
+
+    ghost keeps = { λ tables. refl };
+
+    ghost writes = { λ tables items more. refl };
+}

@@ -1,0 +1,73 @@
+//! Tasks that lines tell of.
+ghost use Rattle.std.specs.Prelude.{◌≡◌};
+
+use crate::listed::Listed;
+use std::alloc::AllocError;
+use tk_core::TaskRow;
+use tk_ids::{TaskId, TaskInfo};
+use tk_stream::{Tables, Task};
+
+impl Listed for Task {
+    ghost use Rattle.std.specs.Prelude.{refl};
+    ghost use Rattle.tk_stream.specs.Applied.{task_kind};
+
+    type Info = TaskInfo;
+
+    type Stats = (TaskId, TaskRow);
+
+    ghost kind = { task_kind };
+
+    ghost items = { λ tables. tables.tasks };
+
+    ghost with_items = { λ tables items. record tables { tasks = items } };
+
+    fn count(tables: &Tables) -> usize {
+        tables.task_count()
+    }
+
+    fn id_at(tables: &Tables, i: usize) -> u64 {
+        tables.task_at(i).unwrap().info.id.value()
+    }
+
+    fn info_id(info: &TaskInfo) -> u64 {
+        info.id.value()
+    }
+
+    fn stats_id(stats: &(TaskId, TaskRow)) -> u64 {
+        stats.0.value()
+    }
+
+    fn has_info(tables: &Tables, info: &TaskInfo) -> bool {
+        tables.task(info.id).is_some()
+    }
+
+    fn has_told(tables: &Tables, stats: &(TaskId, TaskRow)) -> bool {
+        tables.task(stats.0).is_some()
+    }
+
+    fn tell(tables: &mut Tables, i: usize, stats: &(TaskId, TaskRow)) {
+        tables.set_task(i, stats.1);
+    }
+
+    fn add(
+        tables: &mut Tables,
+        info: &TaskInfo,
+        stats: &(TaskId, TaskRow),
+    ) -> Result<(), AllocError> {
+        let info = info.clone()?;
+        match tables.add_task(info, stats.1) {
+            Ok(()) => Ok(()),
+            Err((refused, _)) => Err(refused),
+        }
+    }
+
+    ghost same_id = { λ info stats. refl };
+
+    ghost keeps_id = { λ item stats. refl };
+
+    ghost reads = { λ tables items. refl };
+
+    ghost keeps = { λ tables. refl };
+
+    ghost writes = { λ tables items more. refl };
+}

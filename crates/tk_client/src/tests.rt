@@ -1,0 +1,8 @@
+//! Streams that are fed in memory.
+
+mod faults;
+mod given;
+mod memory;
+mod pieces;
+mod rows;
+mod texts;

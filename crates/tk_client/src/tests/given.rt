@@ -1,0 +1,152 @@
+//! Lines that the tests feed, and what comes of them.
+
+use super::texts as text;
+use crate::{Client, FeedError};
+use std::alloc::Global;
+use std::test::Fail;
+use tk_stream::{Line, Tables};
+
+// The parts one behind the other.
+pub(super) fn joined(alloc: Global, parts: &[&str]) -> Result<Vec<u8>, Fail> {
+    let mut all = Vec::new(alloc);
+    for part in parts {
+        all.extend_from_slice(part.as_bytes())?;
+    }
+    Ok(all)
+}
+
+// One list of bytes behind another.
+pub(super) fn both(alloc: Global, first: &[u8], second: &[u8]) -> Result<Vec<u8>, Fail> {
+    let mut all = Vec::new(alloc);
+    all.extend_from_slice(first)?;
+    all.extend_from_slice(second)?;
+    Ok(all)
+}
+
+// A line with these tasks and statistics and this moment.
+pub(super) fn line_of(
+    alloc: Global,
+    seq: &str,
+    snapshot: &str,
+    now: &str,
+    tasks: &str,
+    stats: &str,
+) -> Result<Vec<u8>, Fail> {
+    joined(
+        alloc,
+        &[
+            text::before_tasks(),
+            tasks,
+            text::before_now(),
+            now,
+            text::before_seq(),
+            seq,
+            text::before_snapshot(),
+            snapshot,
+            text::before_stats(),
+            stats,
+            text::at_end(),
+        ],
+    )
+}
+
+// A line without items.
+pub(super) fn empty_line(alloc: Global, seq: &str) -> Result<Vec<u8>, Fail> {
+    line_of(alloc, seq, "false", "5", "[]", "[]")
+}
+
+// A row of the task: what it has of wakers, polls, states and wakes.
+pub(super) fn row_of(
+    alloc: Global,
+    wakers: &str,
+    polls: &str,
+    state: &str,
+    own: &str,
+    wakes: &str,
+) -> Result<String, Fail> {
+    let mut row = String::new(alloc);
+    for part in [
+        text::row_head(),
+        wakers,
+        polls,
+        state,
+        own,
+        text::before_wakes(),
+        wakes,
+        text::row_end(),
+    ] {
+        row.push_str(part)?;
+    }
+    Ok(row)
+}
+
+// The row of a task that has no call yet.
+pub(super) fn opened(alloc: Global) -> Result<String, Fail> {
+    row_of(
+        alloc,
+        text::unused(),
+        text::unpolled(),
+        text::scheduled(),
+        "0",
+        "0",
+    )
+}
+
+// The line of a script that makes one task and publishes it at 200.
+pub(super) fn first_line(alloc: Global) -> Result<Vec<u8>, Fail> {
+    let row = opened(alloc)?;
+    line_of(alloc, "1", "false", "200", text::main_task(), row.as_str())
+}
+
+// What came of feeding: the fault's number, 0 without one, the lines applied and the bytes taken.
+#[derive(Clone, Copy, Debug, PartialEq, Eq)]
+pub(super) struct Came {
+    pub(super) code: u32,
+    pub(super) lines: u64,
+    pub(super) used: usize,
+}
+
+pub(super) fn fed(client: &mut Client, bytes: &[u8]) -> Came {
+    match client.feed(bytes) {
+        Ok(lines) => Came {
+            code: 0,
+            lines,
+            used: bytes.len(),
+        },
+        Err(FeedError { lines, used, fault }) => Came {
+            code: fault.code(),
+            lines,
+            used,
+        },
+    }
+}
+
+// What came of feeding in pieces of a size, up to the first fault.
+pub(super) fn fed_in_pieces(client: &mut Client, bytes: &[u8], size: usize) -> Came {
+    let mut sum = Came {
+        code: 0,
+        lines: 0,
+        used: 0,
+    };
+    for piece in bytes.chunks(size.max(1)) {
+        if sum.code == 0 {
+            let came = fed(client, piece);
+            sum.code = came.code;
+            sum.lines = sum.lines.saturating_add(came.lines);
+            sum.used = sum.used.saturating_add(came.used);
+        }
+    }
+    sum
+}
+
+// Whether a client holds the tables of that text, as a snapshot.
+pub(super) fn holds(alloc: Global, client: &Client, wanted: &[u8]) -> Result<bool, Fail> {
+    Ok(text_of(alloc, client.tables())?.as_slice() == wanted)
+}
+
+// The text of tables as a snapshot.
+pub(super) fn text_of(alloc: Global, tables: &Tables) -> Result<Vec<u8>, Fail> {
+    let none = Tables::new(alloc)?;
+    let line = Line::between(alloc, &none, tables, 1, true)?;
+    Ok(line.write()?)
+}
