@@ -5,3 +5,4 @@ pub mod Runs
 pub mod Making
 pub mod Standing
 pub mod Streams
+pub mod Tasks

@@ -4,6 +4,8 @@ pub mod Words
 pub mod Commands
 -- What a script does, line by line
 pub mod Items
+pub mod Wakers
+pub mod Told
 pub mod Refusals
 pub mod Script
 -- What a script without a fault writes

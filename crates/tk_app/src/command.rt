@@ -8,7 +8,7 @@ use crate::words::{kind_of, moment_of, one_number, two_numbers};
 use tk_core::TaskCall;
 use tk_ids::{TaskKind, is_name};
 
-/// What a line of a script says.
+/// What a line of a script says. It names items by their numbers from 1.
 #[derive(Clone, Copy, Debug)]
 pub(crate) enum Command<'a> {
     /// A task, created at a moment.
@@ -17,14 +17,20 @@ pub(crate) enum Command<'a> {
         kind: TaskKind,
         name: &'a [u8],
     },
-    /// A call of the owner of a task, which the script names by its number from 1.
+    /// A call of the owner of a task.
     Owner {
         task: u64,
         call: TaskCall,
     },
-    /// A line of the stream.
+    /// A call of a waker.
+    Waker {
+        waker: u64,
+        call: TaskCall,
+    },
+    /// A line of the stream, as a snapshot or not.
     Publish {
         moment: u64,
+        whole: bool,
     },
 }
 
@@ -47,13 +53,11 @@ fn task_of(words: Pieces<'_>) -> Option<Command<'_>>
     Some(Command::Task { moment, kind, name })
 }
 
-/// The command of a line, if the line says one.
-pub(crate) fn command_of(line: &[u8]) -> Option<Command<'_>>
-    ensures said { option_map spec.view result ≡ spec.said line.now }
+// A task, or a call of its owner.
+fn task_command<'a>(word: &[u8], words: Pieces<'a>) -> Option<Command<'a>>
+    ensures said { option_map spec.view result ≡ spec.task_said word.now (pieces_left words.entry) }
     ensures named { IfSome result (λ c. spec.IsNamed (spec.view c)) }
 {
-    let mut words = Pieces::new(line, b' ');
-    let word = words.next()?;
     if word == b"task".as_slice() {
         task_of(words)
     } else if word == b"start".as_slice() {
@@ -71,9 +75,83 @@ pub(crate) fn command_of(line: &[u8]) -> Option<Command<'_>>
             task,
             call: TaskCall::Close(moment),
         })
-    } else if word == b"publish".as_slice() {
-        one_number(words).map(|moment| Command::Publish { moment })
+    } else if word == b"selfwake".as_slice() {
+        two_numbers(words).map(|(task, moment)| Command::Owner {
+            task,
+            call: TaskCall::WakeRef(moment, true),
+        })
+    } else if word == b"clone".as_slice() {
+        one_number(words).map(|task| Command::Owner {
+            task,
+            call: TaskCall::CloneWaker,
+        })
     } else {
         None
     }
+}
+
+// A call of a waker.
+fn waker_command<'a>(word: &[u8], words: Pieces<'a>) -> Option<Command<'a>>
+    ensures said { option_map spec.view result ≡ spec.waker_said word.now (pieces_left words.entry) }
+    ensures named { IfSome result (λ c. spec.IsNamed (spec.view c)) }
+{
+    if word == b"again".as_slice() {
+        one_number(words).map(|waker| Command::Waker {
+            waker,
+            call: TaskCall::CloneWaker,
+        })
+    } else if word == b"wakeref".as_slice() {
+        two_numbers(words).map(|(waker, moment)| Command::Waker {
+            waker,
+            call: TaskCall::WakeRef(moment, false),
+        })
+    } else if word == b"wake".as_slice() {
+        two_numbers(words).map(|(waker, moment)| Command::Waker {
+            waker,
+            call: TaskCall::WakeVal(moment, false),
+        })
+    } else if word == b"release".as_slice() {
+        one_number(words).map(|waker| Command::Waker {
+            waker,
+            call: TaskCall::Release,
+        })
+    } else {
+        None
+    }
+}
+
+// A line of the stream.
+fn line_command<'a>(word: &[u8], words: Pieces<'a>) -> Option<Command<'a>>
+    ensures said { option_map spec.view result ≡ spec.line_said word.now (pieces_left words.entry) }
+    ensures named { IfSome result (λ c. spec.IsNamed (spec.view c)) }
+{
+    if word == b"publish".as_slice() {
+        one_number(words).map(|moment| Command::Publish {
+            moment,
+            whole: false,
+        })
+    } else if word == b"snapshot".as_slice() {
+        one_number(words).map(|moment| Command::Publish {
+            moment,
+            whole: true,
+        })
+    } else {
+        None
+    }
+}
+
+/// The command of a line, if the line says one.
+pub(crate) fn command_of(line: &[u8]) -> Option<Command<'_>>
+    ensures said { option_map spec.view result ≡ spec.said line.now }
+    ensures named { IfSome result (λ c. spec.IsNamed (spec.view c)) }
+{
+    let mut words = Pieces::new(line, b' ');
+    let word = words.next()?;
+    if let Some(command) = task_command(word, words) {
+        return Some(command);
+    }
+    if let Some(command) = waker_command(word, words) {
+        return Some(command);
+    }
+    line_command(word, words)
 }

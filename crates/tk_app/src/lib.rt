@@ -9,6 +9,7 @@ mod pieces;
 mod refusal;
 mod script;
 mod transfer;
+mod waker;
 mod words;
 
 pub use fault::AppFault;

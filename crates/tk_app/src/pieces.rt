@@ -3,7 +3,7 @@ ghost use Rattle.std.specs.Iterator.{YieldsFirstRef, item_count};
 ghost use Rattle.tk_app.specs.Pieces.{pieces_at, pieces_left, pieces_of_rest};
 
 /// The pieces of a text that is cut at each of one byte.
-#[derive(Drop)]
+#[derive(Clone, Copy)]
 pub struct Pieces<'a> {
     rest: Option<&'a [u8]>,
     byte: u8,

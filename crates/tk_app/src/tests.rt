@@ -6,5 +6,7 @@ mod given;
 mod items;
 mod readers;
 mod rows;
+mod snapshots;
 mod streams;
+mod wakers;
 mod writers;
