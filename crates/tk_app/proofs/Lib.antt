@@ -4,5 +4,6 @@ pub mod Published
 pub mod Runs
 pub mod Making
 pub mod Standing
+pub mod Resources
 pub mod Streams
 pub mod Tasks

@@ -9,6 +9,8 @@ use Rattle.std.proofs.lemmas.List.Elements.{filter_map-append}
 use Rattle.tk_ids.specs.IdBlocks.{last_number}
 use Rattle.tk_core.specs.declared.reply.Refusal.{Refusal}
 use Rattle.tk_core.specs.declared.task.call.TaskCall.{TaskCall}
+use Rattle.tk_core.specs.declared.resource.call.ResourceCall.{ResourceCall}
+use Rattle.tk_core.specs.Resource.{resource_kind}
 use Rattle.tk_core.specs.Lists.{each_with_before}
 use Rattle.tk_core.specs.Laws.Pushed.{each_push}
 use Rattle.tk_stream.specs.Tables.{TablesView, empty_tables}
@@ -16,10 +18,10 @@ use Rattle.tk_stream.specs.Spelling.{sent_text}
 use Rattle.tk_app.specs.declared.refusal.Stop.{Stop}
 use Rattle.tk_app.specs.declared.refusal.Stop.TheVariants.{BadCommand, NoSuchItem, Call, OffersSpent, Clock, NumbersSpent}
 use Rattle.tk_app.specs.declared.waker.Waker.{Waker}
-use Rattle.tk_app.specs.Commands.{Said, task, task_owner, waker, publish, said, is_skipped}
-use Rattle.tk_app.specs.Items.{made_item, live_item, TaskItem, is_closed_task, new_task, Made, tables_at}
-use Rattle.tk_app.specs.Script.{State, start, call_does, task_refusal, task_called, waker_does, offered, published, does, line_does, with_text, then_line, lines_do}
-use Rattle.tk_app.specs.Stream.{Placed, command_in, commands_in, wakers_of, task_making, task_calling, made_by, tables_by, publications, stream_from}
+use Rattle.tk_app.specs.Commands.{Said, task, task_owner, waker, resource, resource_owner, resource_user, publish, said, is_skipped}
+use Rattle.tk_app.specs.Items.{made_item, live_item, TaskItem, is_closed_task, new_task, ResourceItem, is_closed_resource, new_resource, Made, tables_at}
+use Rattle.tk_app.specs.Script.{State, start, call_does, item_refusal, task_refusal, task_called, resource_called, waker_does, offered, published, does, line_does, with_text, then_line, lines_do}
+use Rattle.tk_app.specs.Stream.{Placed, command_in, commands_in, wakers_of, task_making, task_calling, resource_making, resource_calling, made_by, tables_by, publications, stream_from}
 use Rattle.tk_app.specs.Told.{line_told}
 use Rattle.tk_app.specs.Wakers.{wakers_after, is_spent_waker}
 use Rattle.tk_app.proofs.Runs.{enumerate_push}
@@ -53,6 +55,7 @@ wakers_push commands c = fold-append (λ (ws : List Waker) (d : Placed). wakers_
 -- the items of a state are what commands make
 record Holds (commands : List Placed) (made : Made) : Type 0 where
   pub tasks : AreMade task_making task_calling commands made.tasks
+  pub resources : AreMade resource_making resource_calling commands made.resources
 
 -- a state and a text are what commands leave
 record Leaves (commands : List Placed) (s : State) (text : List ℕ) : Type 0 where
@@ -63,10 +66,10 @@ record Leaves (commands : List Placed) (s : State) (text : List ℕ) : Type 0 wh
   pub sent : text ≡ stream_from 1 empty_tables (publications commands)
 
 leaves_none : Leaves [] start []
-leaves_none = record { made = record { tasks = record { are = refl; early = λ k far. refl } }; wakers = refl; shown = refl; lines = refl; sent = refl }
+leaves_none = record { made = record { tasks = record { are = refl; early = λ k far. refl }; resources = record { are = refl; early = λ k far. refl } }; wakers = refl; shown = refl; lines = refl; sent = refl }
 
 holds_made : (commands : List Placed) (made : Made) → Holds commands made → made ≡ made_by commands
-holds_made commands made holds = λ i. record { tasks = holds.tasks.are i }
+holds_made commands made holds = λ i. record { tasks = holds.tasks.are i; resources = holds.resources.are i }
 
 -- a command that publishes nothing leaves what was published
 unpublished : (commands : List Placed) (line : ℕ) (c : Said) (s : State) (text : List ℕ) (made : Made) → Leaves commands s text → tables_by (commands, (line, c)) ≡ None → Holds (commands ++ (line, c) ∷ []) made
@@ -81,6 +84,14 @@ unpublished commands line c s text made l none holds =
       sent = append-nil text ∙ rw same l.sent;
     }
 
+-- a command of another kind leaves the tasks
+tasks_stay : (commands : List Placed) (line : ℕ) (c : Said) (s : State) {text : List ℕ} → Leaves commands s text → task_making (line, c) ≡ None → task_calling (commands, (line, c)) ≡ None → AreMade task_making task_calling (commands ++ (line, c) ∷ []) s.made.tasks
+tasks_stay commands line c s l none quiet = made_quiet task_making task_calling commands (line, c) s.made.tasks l.made.tasks none quiet
+
+-- and the resources
+resources_stay : (commands : List Placed) (line : ℕ) (c : Said) (s : State) {text : List ℕ} → Leaves commands s text → resource_making (line, c) ≡ None → resource_calling (commands, (line, c)) ≡ None → AreMade resource_making resource_calling (commands ++ (line, c) ∷ []) s.made.resources
+resources_stay commands line c s l none quiet = made_quiet resource_making resource_calling commands (line, c) s.made.resources l.made.resources none quiet
+
 publish_leaves : (commands : List Placed) (s : State) (text : List ℕ) (line now : ℕ) (whole : Bool) → Leaves commands s text
     → Leaves (commands ++ (line, publish now whole) ∷ []) (published s now) (text ++ sent_text (line_told s.shown (tables_at s.made now) (s.lines + 1) whole))
 publish_leaves commands s text line now whole l =
@@ -90,7 +101,7 @@ publish_leaves commands s text line now whole l =
     let next : s.lines + 1 ≡ 1 + length (publications commands) = omega (arith, l.lines) in
     let made = holds_made commands s.made l.made in
     record {
-      made = record { tasks = made_quiet task_making task_calling commands c s.made.tasks l.made.tasks refl refl };
+      made = record { tasks = tasks_stay commands line (publish now whole) s l refl refl; resources = resources_stay commands line (publish now whole) s l refl refl };
       wakers = l.wakers ∙ sym (wakers_push commands c);
       shown = rw (more, shown_push empty_tables (publications commands) new, made) refl;
       lines = rw more (l_length l.lines);
@@ -131,26 +142,52 @@ LeavesBy commands text p = Leaves commands p.0 (text ++ p.1)
 
 -- a call on a task leaves the task with that call
 task_call_leaves : (commands : List Placed) (s : State) (text : List ℕ) (line : ℕ) (c : Said) (n : ℕ) (call : TaskCall) (item : TaskItem) → Leaves commands s text → task_making (line, c) ≡ None → task_calling (commands, (line, c)) ≡ Some (n, call) → tables_by (commands, (line, c)) ≡ None
-    → made_item n s.made.tasks ≡ Some item → Leaves (commands ++ (line, c) ∷ []) (task_called s (wakers_after s.wakers c) n call item) (text ++ [])
-task_call_leaves commands s text line c n call item l none calls unsaid there =
-    unpublished commands line c s text _ l unsaid (record { tasks = made_called task_making task_calling commands (line, c) s.made.tasks n call item l.made.tasks none calls there })
+    → resource_making (line, c) ≡ None → resource_calling (commands, (line, c)) ≡ None → made_item n s.made.tasks ≡ Some item → Leaves (commands ++ (line, c) ∷ []) (task_called s (wakers_after s.wakers c) n call item) (text ++ [])
+task_call_leaves commands s text line c n call item l none calls unsaid unmade quiet there =
+    unpublished commands line c s text _ l unsaid (record {
+      tasks = made_called task_making task_calling commands (line, c) s.made.tasks n call item l.made.tasks none calls there;
+      resources = resources_stay commands line c s l unmade quiet;
+    })
+
+-- a call on a resource leaves the resource with that call
+resource_call_leaves : (commands : List Placed) (s : State) (text : List ℕ) (line : ℕ) (c : Said) (n : ℕ) (call : ResourceCall) (item : ResourceItem) → Leaves commands s text → resource_making (line, c) ≡ None → resource_calling (commands, (line, c)) ≡ Some (n, call) → tables_by (commands, (line, c)) ≡ None
+    → task_making (line, c) ≡ None → task_calling (commands, (line, c)) ≡ None → wakers_after s.wakers c ≡ s.wakers → made_item n s.made.resources ≡ Some item → Leaves (commands ++ (line, c) ∷ []) (resource_called s n call item) (text ++ [])
+resource_call_leaves commands s text line c n call item l none calls unsaid unmade quiet kept there =
+    let next : Made = (resource_called s n call item).made in
+    let to : State → Type 0 = λ t. Leaves (commands ++ (line, c) ∷ []) t (text ++ []) in
+    subst to (λ i. record s { made = next; wakers = kept i }) (unpublished commands line c s text next l unsaid (record {
+      tasks = tasks_stay commands line c s l unmade quiet;
+      resources = made_called resource_making resource_calling commands (line, c) s.made.resources n call item l.made.resources none calls there;
+    }))
 
 command_leaves : (commands : List Placed) (s : State) (text : List ℕ) (line : ℕ) (c : Said) (p : State × List ℕ) → Leaves commands s text → does line s c ≡ Ok p → LeavesBy (commands ++ (line, c) ∷ []) text p
 command_leaves commands s text line (task at kind name) p l h =
     let c : Said = task at kind name in
     let more = made_more task_making task_calling commands (line, c) s.made.tasks (new_task at kind name line) l.made.tasks refl refl in
-    subst (LeavesBy (commands ++ (line, c) ∷ []) text) (room (length s.made.tasks == last_number) _ p h) (unpublished commands line c s text _ l refl (record { tasks = more }))
+    subst (LeavesBy (commands ++ (line, c) ∷ []) text) (room (length s.made.tasks == last_number) _ p h) (unpublished commands line c s text _ l refl (record { tasks = more; resources = resources_stay commands line c s l refl refl }))
 command_leaves commands s text line (task_owner n call) p l h =
     let c : Said = task_owner n call in
     let by = accepted (task_refusal call) (task_called s (wakers_after s.wakers c) n call) (live_item is_closed_task n s.made.tasks) p h in
-    subst (LeavesBy (commands ++ (line, c) ∷ []) text) by.2 (task_call_leaves commands s text line c n call by.0 l refl refl refl (live_made is_closed_task n s.made.tasks by.0 by.1))
+    subst (LeavesBy (commands ++ (line, c) ∷ []) text) by.2 (task_call_leaves commands s text line c n call by.0 l refl refl refl refl refl (live_made is_closed_task n s.made.tasks by.0 by.1))
 command_leaves commands s text line (waker n call) p l h =
     let c : Said = waker n call in
     let used = accepted_waker s n call (live_item is_spent_waker n s.wakers) p h in
     let by = accepted (task_refusal call) (task_called s (wakers_after s.wakers c) used.0.task call) (made_item used.0.task s.made.tasks) p used.2 in
     let drawn : made_item n (wakers_of commands) ≡ Some used.0 = rw (← l.wakers) (live_made is_spent_waker n s.wakers used.0 used.1) in
     let calls : task_calling (commands, (line, c)) ≡ Some (used.0.task, call) = ap (option_map (λ (x : Waker). (x.task, call))) drawn in
-    subst (LeavesBy (commands ++ (line, c) ∷ []) text) by.2 (task_call_leaves commands s text line c used.0.task call by.0 l refl calls refl by.1)
+    subst (LeavesBy (commands ++ (line, c) ∷ []) text) by.2 (task_call_leaves commands s text line c used.0.task call by.0 l refl calls refl refl refl by.1)
+command_leaves commands s text line (resource at kind concrete attrs) p l h =
+    let c : Said = resource at kind concrete attrs in
+    let more = made_more resource_making resource_calling commands (line, c) s.made.resources (new_resource at kind concrete attrs line) l.made.resources refl refl in
+    subst (LeavesBy (commands ++ (line, c) ∷ []) text) (room (length s.made.resources == last_number) _ p h) (unpublished commands line c s text _ l refl (record { tasks = tasks_stay commands line c s l refl refl; resources = more }))
+command_leaves commands s text line (resource_owner n call) p l h =
+    let c : Said = resource_owner n call in
+    let by = accepted (item_refusal resource_kind call) (resource_called s n call) (live_item is_closed_resource n s.made.resources) p h in
+    subst (LeavesBy (commands ++ (line, c) ∷ []) text) by.2 (resource_call_leaves commands s text line c n call by.0 l refl refl refl refl refl refl (live_made is_closed_resource n s.made.resources by.0 by.1))
+command_leaves commands s text line (resource_user n call) p l h =
+    let c : Said = resource_user n call in
+    let by = accepted (item_refusal resource_kind call) (resource_called s n call) (made_item n s.made.resources) p h in
+    subst (LeavesBy (commands ++ (line, c) ∷ []) text) by.2 (resource_call_leaves commands s text line c n call by.0 l refl refl refl refl refl refl by.1)
 command_leaves commands s text line (publish now whole) p l h =
     subst (LeavesBy (commands ++ (line, publish now whole) ∷ []) text) (chosen (nat_lt now s.shown.now) (nat_le (2 ^ 63) s.lines) _ p h) (publish_leaves commands s text line now whole l)
 

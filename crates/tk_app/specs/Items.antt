@@ -2,16 +2,23 @@
 use Rattle.std.specs.Prelude.{ℕ, ◌-◌, List, [], ◌∷◌, ◌++◌, map, codes, Bool, if◌then◌else◌, Option, Some, None, is_some, nat_lt, option_and_then, slice_get, slice_set}
 use Rattle.tk_ids.specs.Ids.{id_of}
 use Rattle.tk_ids.specs.declared.info.Dropped.{Dropped}
+use Rattle.tk_ids.specs.declared.info.ResourceInfo.{ResourceInfo}
 use Rattle.tk_ids.specs.declared.info.TaskInfo.{TaskInfo}
 use Rattle.tk_ids.specs.declared.location.Location.{Location}
 use Rattle.tk_ids.specs.declared.spec.TaskKind.{TaskKind}
 use Rattle.tk_core.specs.declared.task.row.TaskRow.{TaskRow}
 use Rattle.tk_core.specs.declared.task.call.TaskCall.{TaskCall}
 use Rattle.tk_core.specs.declared.task.call.TaskCall.TheVariants.{Enlist}
+use Rattle.tk_core.specs.declared.resource.row.ResourceRow.{ResourceRow}
+use Rattle.tk_core.specs.declared.resource.call.ResourceCall.{ResourceCall}
+use Rattle.tk_core.specs.declared.resource.call.ResourceCall.TheVariants as resource_calls
 use Rattle.tk_core.specs.Fold.{Kind, row_after}
 use Rattle.tk_core.specs.Task.{task_kind, opening_row}
+use Rattle.tk_core.specs.Resource as resource_rules
+use Rattle.tk_stream.specs.declared.resource.Resource.{Resource}
 use Rattle.tk_stream.specs.declared.task.Task.{Task}
 use Rattle.tk_stream.specs.Tables.{TablesView}
+use Rattle.tk_app.specs.Attributes.{Attrs}
 
 -- ---- items of any kind
 
@@ -70,15 +77,41 @@ task_info n line kind name = record { id = id_of 1 n; kind = kind; name = name; 
 abbrev pub new_task : ℕ → TaskKind → List ℕ → ℕ → ℕ → TaskItem
 new_task created kind name line n = record { info = task_info n line kind name; opening = opening_row created; calls = Enlist ∷ [] }
 
+-- ---- resources
+
+abbrev pub ResourceItem : Type 0
+ResourceItem = Item ResourceInfo ResourceRow ResourceCall
+
+-- the owner of a closed resource is spent
+abbrev pub is_closed_resource : ResourceItem → Bool
+is_closed_resource item = is_some (row_of resource_rules.resource_kind item).dropped
+
+-- a resource as tables have it
+abbrev pub resource_of : ResourceItem → Resource
+resource_of item = record { info = item.info; row = row_of resource_rules.resource_kind item }
+
+-- what is told of the n-th resource of a script, which has no parent
+abbrev pub resource_info : ℕ → ℕ → List ℕ → List ℕ → Attrs → ResourceInfo
+resource_info n line kind concrete attrs = record { id = id_of 1 n; parent = None; concrete = concrete; kind = kind; location = place line; attrs = attrs.infos }
+
+-- the n-th resource: an inspector and a user of it are drawn at once
+abbrev pub new_resource : ℕ → List ℕ → List ℕ → Attrs → ℕ → ℕ → ResourceItem
+new_resource created kind concrete attrs line n = record {
+  info = resource_info n line kind concrete attrs;
+  opening = resource_rules.opening_row created attrs.firsts;
+  calls = resource_calls.Enlist ∷ resource_calls.Enlist ∷ [];
+}
+
 -- ---- all of them
 
 -- what a script made, as its lines tell of it
 pub record Made : Type 0 where
   pub tasks : List TaskItem
+  pub resources : List ResourceItem
 
 -- nothing is made yet
 abbrev pub none_made : Made
-none_made = record { tasks = [] }
+none_made = record { tasks = []; resources = [] }
 
 -- nothing is dropped
 abbrev pub none_dropped : Dropped
@@ -88,7 +121,7 @@ none_dropped = record { tasks = 0; resources = 0; ops = 0 }
 abbrev pub tables_at : Made → ℕ → TablesView
 tables_at made now = record {
   tasks = map task_of made.tasks;
-  resources = [];
+  resources = map resource_of made.resources;
   ops = [];
   counts = [];
   dropped = none_dropped;

@@ -1,6 +1,7 @@
 -- A script's text
 pub mod Pieces
 pub mod Words
+pub mod Attributes
 pub mod Commands
 -- What a script does, line by line
 pub mod Items

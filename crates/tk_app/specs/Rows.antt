@@ -1,10 +1,15 @@
 -- Rows of the items in tables. Inner: no public clause cites it.
-use Rattle.std.specs.Prelude.{◌≡◌, ℕ, [], ◌∷◌, Bool, Option, Some, None, is_some, Result, Ok, Err, option_map}
+use Rattle.std.specs.Prelude.{◌≡◌, ℕ, List, [], ◌∷◌, Bool, Option, Some, None, is_some, Result, Ok, Err, option_map}
 use Rattle.tk_core.specs.declared.reply.Refusal.{Refusal}
 use Rattle.tk_core.specs.declared.task.row.TaskRow.{TaskRow}
 use Rattle.tk_core.specs.declared.task.call.TaskCall.TheVariants.{Enlist}
+use Rattle.tk_ids.specs.declared.attr.AttrValue.{AttrValue}
+use Rattle.tk_core.specs.declared.resource.row.ResourceRow.{ResourceRow}
+use Rattle.tk_core.specs.declared.resource.call.ResourceCall.TheVariants as resource_calls
+use Rattle.tk_core.specs.Resource as resource_rules
 use Rattle.tk_core.specs.Fold.{Kind, row_after}
 use Rattle.tk_core.specs.Task.{task_kind, opening_row}
+use Rattle.tk_stream.specs.declared.resource.Resource.{Resource}
 use Rattle.tk_stream.specs.declared.task.Task.{Task}
 use Rattle.tk_app.specs.Items.{Item, row_of, with_call}
 
@@ -19,6 +24,18 @@ row_in t = t.row
 -- a task that is closed
 abbrev pub is_closed : Task → Bool
 is_closed t = is_some t.row.dropped
+
+-- the row of a resource that was just made
+abbrev pub first_resource_row : ℕ → List AttrValue → ResourceRow
+first_resource_row created firsts = row_after resource_rules.resource_kind (resource_rules.opening_row created firsts) (resource_calls.Enlist ∷ resource_calls.Enlist ∷ [])
+
+-- the row of a resource
+abbrev pub resource_row_in : Resource → ResourceRow
+resource_row_in r = r.row
+
+-- a resource that is closed
+abbrev pub is_closed_row : Resource → Bool
+is_closed_row r = is_some r.row.dropped
 
 -- a call on an item gave its next row, or its refusal
 abbrev pub IsCalled : {Info Row C : Type 0} → Kind Row C → (C → Item Info Row C → Option Refusal) → Item Info Row C → C → Result Row Refusal → Type 0

@@ -8,10 +8,12 @@ use Rattle.tk_core.specs.declared.reply.Refusal.TheVariants.{NotPolling}
 use Rattle.tk_core.specs.declared.task.call.TaskCall.{TaskCall}
 use Rattle.tk_core.specs.Fold.{Kind, refusal_in, reply_after}
 use Rattle.tk_core.specs.Task.{task_kind, is_self_wake}
+use Rattle.tk_core.specs.Resource.{resource_kind}
+use Rattle.tk_core.specs.declared.resource.call.ResourceCall.{ResourceCall}
 use Rattle.tk_stream.specs.Tables.{TablesView, empty_tables}
 use Rattle.tk_stream.specs.Spelling.{sent_text}
-use Rattle.tk_app.specs.Commands.{Said, task, task_owner, waker, publish, said, is_skipped, lines_of}
-use Rattle.tk_app.specs.Items.{Item, row_of, with_call, made_item, live_item, with_item, TaskItem, is_closed_task, new_task, Made, none_made, tables_at}
+use Rattle.tk_app.specs.Commands.{Said, task, task_owner, waker, resource, resource_owner, resource_user, publish, said, is_skipped, lines_of}
+use Rattle.tk_app.specs.Items.{Item, row_of, with_call, made_item, live_item, with_item, TaskItem, is_closed_task, new_task, ResourceItem, is_closed_resource, new_resource, Made, none_made, tables_at}
 use Rattle.tk_app.specs.Told.{line_told}
 use Rattle.tk_app.specs.Transfer.{IsCut, IsScript}
 use Rattle.tk_app.specs.Refusals.{stop_name}
@@ -64,6 +66,14 @@ abbrev pub waker_does : State → ℕ → TaskCall → Option Waker → Doing
 waker_does s n call None = Err NoSuchItem
 waker_does s n call (Some used) = task_call_does s (wakers_after s.wakers (waker n call)) used.task call (made_item used.task s.made.tasks)
 
+-- the state behind a call on the n-th resource
+abbrev pub resource_called : State → ℕ → ResourceCall → ResourceItem → State
+resource_called s n call item = record s { made = record s.made { resources = with_item n (with_call item call) s.made.resources } }
+
+-- what a call on the n-th resource does, if this is the resource
+abbrev pub resource_call_does : State → ℕ → ResourceCall → Option ResourceItem → Doing
+resource_call_does s n call found = call_does (item_refusal resource_kind call) (resource_called s n call) found
+
 -- the state with one more item of a kind
 abbrev pub offered : {X : Type 0} → List X → State → Doing
 offered made next = if length made == last_number then Err OffersSpent else Ok (next, [])
@@ -79,6 +89,10 @@ does line s (task at kind name) =
 does line s (task_owner n call) =
     task_call_does s (wakers_after s.wakers (task_owner n call)) n call (live_item is_closed_task n s.made.tasks)
 does line s (waker n call) = waker_does s n call (live_item is_spent_waker n s.wakers)
+does line s (resource at kind concrete attrs) =
+    offered s.made.resources (record s { made = record s.made { resources = s.made.resources ++ new_resource at kind concrete attrs line (length s.made.resources + 1) ∷ [] } })
+does line s (resource_owner n call) = resource_call_does s n call (live_item is_closed_resource n s.made.resources)
+does line s (resource_user n call) = resource_call_does s n call (made_item n s.made.resources)
 does line s (publish now whole) =
     if nat_lt now s.shown.now then Err Clock else
     (if nat_le (2 ^ 63) s.lines then Err NumbersSpent else

@@ -2,11 +2,12 @@
 use Rattle.std.specs.Prelude.{ℕ, ◌+◌, ◌==◌, Bool, List, [], ◌∷◌, ◌++◌, map, fold, if◌then◌else◌, Option, Some, None, option_map}
 use Rattle.std.specs.List.{filter_map, enumerate_from}
 use Rattle.tk_core.specs.declared.task.call.TaskCall.{TaskCall}
+use Rattle.tk_core.specs.declared.resource.call.ResourceCall.{ResourceCall}
 use Rattle.tk_core.specs.Lists.{each_with_before}
 use Rattle.tk_stream.specs.Tables.{TablesView, empty_tables}
 use Rattle.tk_stream.specs.Spelling.{sent_text}
-use Rattle.tk_app.specs.Commands.{Said, task, task_owner, waker, publish, said, is_skipped, lines_of}
-use Rattle.tk_app.specs.Items.{Item, made_item, TaskItem, new_task, Made, tables_at}
+use Rattle.tk_app.specs.Commands.{Said, task, task_owner, waker, resource, resource_owner, resource_user, publish, said, is_skipped, lines_of}
+use Rattle.tk_app.specs.Items.{Item, made_item, TaskItem, new_task, ResourceItem, new_resource, Made, tables_at}
 use Rattle.tk_app.specs.Told.{line_told}
 use Rattle.tk_app.specs.Wakers.{wakers_after}
 use Rattle.tk_app.specs.declared.waker.Waker.{Waker}
@@ -62,11 +63,27 @@ task_calling (before, (line, task_owner n call)) = Some (n, call)
 task_calling (before, (line, waker n call)) = option_map (λ (used : Waker). (used.task, call)) (made_item n (wakers_of before))
 task_calling (before, (line, _)) = None
 
+-- ---- resources
+
+-- the resource that a command makes
+abbrev pub resource_making : Placed → Option (ℕ → ResourceItem)
+resource_making (line, resource at kind concrete attrs) = Some (new_resource at kind concrete attrs line)
+resource_making (line, _) = None
+
+-- the call that a command makes on a resource, by its owner or by its user
+abbrev pub resource_calling : List Placed × Placed → Option (ℕ × ResourceCall)
+resource_calling (before, (line, resource_owner n call)) = Some (n, call)
+resource_calling (before, (line, resource_user n call)) = Some (n, call)
+resource_calling (before, (line, _)) = None
+
 -- ---- the stream
 
 -- what commands make
 abbrev pub made_by : List Placed → Made
-made_by commands = record { tasks = items_by task_making task_calling commands }
+made_by commands = record {
+  tasks = items_by task_making task_calling commands;
+  resources = items_by resource_making resource_calling commands;
+}
 
 -- the tables that a command publishes behind the commands before it, and whether as a snapshot, if it publishes any
 abbrev pub tables_by : List Placed × Placed → Option (TablesView × Bool)

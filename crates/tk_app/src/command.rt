@@ -1,15 +1,17 @@
 //! What a line of a script says.
-ghost use Rattle.std.specs.Prelude.{◌≡◌, IfSome, option_map};
+ghost use Rattle.std.specs.Prelude.{◌≡◌, IfOk, IfSome, option_map};
 ghost use Rattle.tk_app.specs.Pieces.{pieces_left};
 ghost use Rattle.tk_app.specs.Commands as spec;
 
+use crate::attributes::{Attributes, attributes_of, value_of};
 use crate::pieces::Pieces;
 use crate::words::{kind_of, moment_of, one_number, two_numbers};
-use tk_core::TaskCall;
-use tk_ids::{TaskKind, is_name};
+use std::alloc::{AllocError, Global};
+use tk_core::{AttrOp, ResourceCall, TaskCall};
+use tk_ids::{AttrValue, TaskKind, is_name};
 
 /// What a line of a script says. It names items by their numbers from 1.
-#[derive(Clone, Copy, Debug)]
+#[derive(Debug, Drop)]
 pub(crate) enum Command<'a> {
     /// A task, created at a moment.
     Task {
@@ -26,6 +28,23 @@ pub(crate) enum Command<'a> {
     Waker {
         waker: u64,
         call: TaskCall,
+    },
+    /// A resource, created at a moment.
+    Resource {
+        moment: u64,
+        kind: &'a [u8],
+        concrete: &'a [u8],
+        attrs: Attributes,
+    },
+    /// A call of the owner of a resource.
+    ResourceOwner {
+        resource: u64,
+        call: ResourceCall,
+    },
+    /// A call of the user of a resource.
+    ResourceUser {
+        resource: u64,
+        call: ResourceCall,
     },
     /// A line of the stream, as a snapshot or not.
     Publish {
@@ -120,6 +139,76 @@ fn waker_command<'a>(word: &[u8], words: Pieces<'a>) -> Option<Command<'a>>
     }
 }
 
+fn resource_of<'a>(alloc: Global, words: Pieces<'a>) -> Result<Option<Command<'a>>, AllocError>
+    ensures said { IfOk result (λ o. option_map spec.view o ≡ spec.resource_by (pieces_left words.entry)) }
+    ensures named { IfOk result (λ o. IfSome o (λ c. spec.IsNamed (spec.view c))) }
+{
+    let mut words = words;
+    let (Some(moment), Some(kind), Some(concrete)) = (words.next(), words.next(), words.next())
+    else {
+        return Ok(None);
+    };
+    let Some(moment) = moment_of(moment) else {
+        return Ok(None);
+    };
+    if !is_name(kind) || !is_name(concrete) {
+        return Ok(None);
+    }
+    let Some(attrs) = attributes_of(alloc, words)? else {
+        return Ok(None);
+    };
+    Ok(Some(Command::Resource {
+        moment,
+        kind,
+        concrete,
+        attrs,
+    }))
+}
+
+// The number of an item, the index of an attribute, and a value.
+fn change_of(words: Pieces<'_>) -> Option<(u64, u64, AttrValue)>
+    ensures { result ≡ spec.change_by (pieces_left words.entry) }
+{
+    let mut words = words;
+    let number = words.next()?;
+    let index = words.next()?;
+    let value = words.next()?;
+    if words.next().is_some() {
+        return None;
+    }
+    Some((moment_of(number)?, moment_of(index)?, value_of(value)?))
+}
+
+// A change of an attribute by a resource's user, or a close by its owner.
+fn resource_call<'a>(word: &[u8], words: Pieces<'a>) -> Option<Command<'a>>
+    ensures said { option_map spec.view result ≡ spec.resource_call_said word.now (pieces_left words.entry) }
+    ensures named { IfSome result (λ c. spec.IsNamed (spec.view c)) }
+{
+    if word == b"radd".as_slice() {
+        change_of(words).map(|(resource, i, value)| Command::ResourceUser {
+            resource,
+            call: ResourceCall::Attr(i, AttrOp::Add(value)),
+        })
+    } else if word == b"rsub".as_slice() {
+        change_of(words).map(|(resource, i, value)| Command::ResourceUser {
+            resource,
+            call: ResourceCall::Attr(i, AttrOp::Sub(value)),
+        })
+    } else if word == b"rset".as_slice() {
+        change_of(words).map(|(resource, i, value)| Command::ResourceUser {
+            resource,
+            call: ResourceCall::Attr(i, AttrOp::Override(value)),
+        })
+    } else if word == b"rclose".as_slice() {
+        two_numbers(words).map(|(resource, moment)| Command::ResourceOwner {
+            resource,
+            call: ResourceCall::Close(moment),
+        })
+    } else {
+        None
+    }
+}
+
 // A line of the stream.
 fn line_command<'a>(word: &[u8], words: Pieces<'a>) -> Option<Command<'a>>
     ensures said { option_map spec.view result ≡ spec.line_said word.now (pieces_left words.entry) }
@@ -141,17 +230,28 @@ fn line_command<'a>(word: &[u8], words: Pieces<'a>) -> Option<Command<'a>>
 }
 
 /// The command of a line, if the line says one.
-pub(crate) fn command_of(line: &[u8]) -> Option<Command<'_>>
-    ensures said { option_map spec.view result ≡ spec.said line.now }
-    ensures named { IfSome result (λ c. spec.IsNamed (spec.view c)) }
+pub(crate) fn command_of<'a>(
+    alloc: Global,
+    line: &'a [u8],
+) -> Result<Option<Command<'a>>, AllocError>
+    ensures said { IfOk result (λ o. option_map spec.view o ≡ spec.said line.now) }
+    ensures named { IfOk result (λ o. IfSome o (λ c. spec.IsNamed (spec.view c))) }
 {
     let mut words = Pieces::new(line, b' ');
-    let word = words.next()?;
+    let Some(word) = words.next() else {
+        return Ok(None);
+    };
+    if word == b"resource".as_slice() {
+        return resource_of(alloc, words);
+    }
     if let Some(command) = task_command(word, words) {
-        return Some(command);
+        return Ok(Some(command));
     }
     if let Some(command) = waker_command(word, words) {
-        return Some(command);
+        return Ok(Some(command));
     }
-    line_command(word, words)
+    if let Some(command) = resource_call(word, words) {
+        return Ok(Some(command));
+    }
+    Ok(line_command(word, words))
 }

@@ -1,6 +1,7 @@
 //! The state of a script's run, and what each command does to it.
 
 mod lines;
+mod resources;
 mod tasks;
 mod wakers;
 
@@ -57,6 +58,14 @@ impl Interpreter {
             Command::Task { moment, kind, name } => self.make_task(alloc, line, moment, kind, name),
             Command::Owner { task, call } => self.call_owner(task, call),
             Command::Waker { waker, call } => self.call_waker(waker, call),
+            Command::Resource {
+                moment,
+                kind,
+                concrete,
+                attrs,
+            } => self.make_resource(alloc, line, moment, kind, concrete, attrs),
+            Command::ResourceOwner { resource, call } => self.call_resource_owner(resource, call),
+            Command::ResourceUser { resource, call } => self.call_resource_user(resource, call),
             Command::Publish { moment, whole } => self.publish(alloc, moment, whole, writer),
         }
     }

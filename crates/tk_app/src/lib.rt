@@ -1,6 +1,7 @@
 //! What the program does: a script is run, and its stream is written.
 #![tactic(auto)]
 
+mod attributes;
 mod command;
 mod fault;
 mod gate;

@@ -35,7 +35,8 @@ impl<'a> Iterator for Pieces<'a> {
     }
 }
 
-fn find(text: &[u8], byte: u8) -> Option<usize>
+/// Where the byte stands first.
+pub fn find(text: &[u8], byte: u8) -> Option<usize>
     ensures { result ≡ position (λ b. b == byte) text.now }
 {
     text.iter().position(|b| *b == byte)

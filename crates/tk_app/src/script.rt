@@ -44,7 +44,10 @@ fn run_line<W: Write>(
     if is_skipped(line) {
         return Ok(());
     }
-    match command_of(line) {
+    let Ok(said) = command_of(alloc, line) else {
+        return Err(Stop::Memory);
+    };
+    match said {
         Some(command) => interpreter.apply(alloc, number, command, writer),
         None => Err(Stop::BadCommand),
     }

@@ -5,6 +5,7 @@ mod faults;
 mod given;
 mod items;
 mod readers;
+mod resources;
 mod rows;
 mod snapshots;
 mod streams;

@@ -23,8 +23,8 @@ fn id_after(made: u64) -> Result<TaskId, IdError>
     ids.next_task()
 }
 
-// A place on a line of the script.
-fn place_of(alloc: Global, line: u32) -> Result<Location, IdError>
+/// A place on a line of the script.
+pub(super) fn place_of(alloc: Global, line: u32) -> Result<Location, IdError>
     ensures { IfOk result (λ location. location ≡ items.place line) }
 {
     let file = Name::new(alloc, b"script")?;

@@ -13,3 +13,12 @@ returns-in-Waker g c s stands = rw c.in-Waker.is ([], c.call_waker.ensures c.arg
 
 pub returns-in-Publish : goal.returns-in-Publish
 returns-in-Publish g c s stands = rw c.in-Publish.is (c.publish.ensures c.args.line s stands)
+
+pub returns-in-Resource : goal.returns-in-Resource
+returns-in-Resource g c s stands = rw c.in-Resource.is ([], c.make_resource.ensures s stands, Appends-nil _)
+
+pub returns-in-ResourceOwner : goal.returns-in-ResourceOwner
+returns-in-ResourceOwner g c s stands = rw c.in-ResourceOwner.is ([], c.call_resource_owner.ensures c.args.line s stands, Appends-nil _)
+
+pub returns-in-ResourceUser : goal.returns-in-ResourceUser
+returns-in-ResourceUser g c s stands = rw c.in-ResourceUser.is ([], c.call_resource_user.ensures c.args.line s stands, Appends-nil _)

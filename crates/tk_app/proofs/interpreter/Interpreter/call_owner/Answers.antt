@@ -26,5 +26,6 @@ returns c line s stands =
         shown = stands.shown;
         lines = stands.lines;
         tasks = counted_set task_item_id n s.made.tasks item (with_call item call) stands.tasks there refl;
+        resources = stands.resources;
       },
     )

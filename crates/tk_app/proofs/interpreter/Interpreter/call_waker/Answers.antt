@@ -30,5 +30,6 @@ returns c line s stands =
         shown = stands.shown;
         lines = stands.lines;
         tasks = counted_set task_item_id used.task s.made.tasks item (with_call item call) stands.tasks found.1 refl;
+        resources = stands.resources;
       },
     )

@@ -52,5 +52,6 @@ returns c s stands =
         shown = stands.shown;
         lines = stands.lines;
         tasks = counted_push task_item_id s.made.tasks item stands.tasks refl given.0;
+        resources = stands.resources;
       },
     )

@@ -41,6 +41,7 @@ returns g c line s stands =
           shown = c.in-Ok.ensures.0 ∙ next_by s.made c.args.self.now.tables now stands.tables;
           lines = ap (λ n. n + 1) stands.lines;
           tasks = stands.tasks;
+          resources = stands.resources;
         },
       ),
       sent,
