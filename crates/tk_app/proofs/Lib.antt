@@ -3,6 +3,7 @@ pub mod Moments
 pub mod Published
 pub mod Runs
 pub mod Making
+pub mod Ops
 pub mod Standing
 pub mod Resources
 pub mod Streams

@@ -105,6 +105,23 @@ none_numbered id f key same n k (x ∷ xs) numbered far =
     let other : (id_of 1 k == key (f x)) ≡ false = ne_eqb _ _ (λ e. omega (arith, e, same x, numbered.0)) in
     rw other (none_numbered id f key same (n + 1) k xs numbered.1 (omega arith))
 
+-- a number names the item of that number
+numbered_at : {X : Type 0} (id : X → ℕ) (n i : ℕ) (xs : List X) (x : X) → AreNumbered id n xs → slice_get xs i ≡ Some x → id x ≡ id_of 1 (n + i)
+numbered_at id n i [] x numbered e = absurd cc
+numbered_at id n zero (y ∷ xs) x numbered e =
+    let same : y ≡ x = cc in
+    let at : n ≡ n + zero = omega arith in
+    ap id (sym same) ∙ (numbered.0 ∙ ap (id_of 1) at)
+numbered_at id n (suc i) (y ∷ xs) x numbered e =
+    let at : (n + 1) + i ≡ n + suc i = omega arith in
+    numbered_at id (n + 1) i xs x numbered.1 e ∙ ap (id_of 1) at
+
+pub id_at : {X : Type 0} (id : X → ℕ) (n : ℕ) (xs : List X) (x : X) → AreCounted id xs → made_item n xs ≡ Some x → id x ≡ id_of 1 n
+id_at id n xs x counted e =
+    let place = made_within n xs x e in
+    let at : 1 + (n - 1) ≡ n = omega (arith, place.2) in
+    numbered_at id 1 (n - 1) xs x counted.numbered place.0 ∙ ap (id_of 1) at
+
 -- one more item has the next number
 pub counted_push : {X : Type 0} (id : X → ℕ) (xs : List X) (x : X) → AreCounted id xs → id x ≡ id_of 1 (length xs + 1) → (length xs == last_number) ≡ false → AreCounted id (xs ++ x ∷ [])
 counted_push id xs x counted is left =

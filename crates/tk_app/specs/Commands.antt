@@ -9,6 +9,8 @@ use Rattle.tk_core.specs.declared.task.call.TaskCall.TheVariants.{PollStart, Pol
 use Rattle.tk_ids.specs.declared.attr.AttrValue.{AttrValue}
 use Rattle.tk_core.specs.declared.attrs.AttrOp.{AttrOp}
 use Rattle.tk_core.specs.declared.attrs.AttrOp.TheVariants.{Add, Sub, Override}
+use Rattle.tk_core.specs.declared.op.call.OpCall.{OpCall}
+use Rattle.tk_core.specs.declared.op.call.OpCall.TheVariants as op_calls
 use Rattle.tk_core.specs.declared.resource.call.ResourceCall.{ResourceCall}
 use Rattle.tk_core.specs.declared.resource.call.ResourceCall.TheVariants as resource_calls
 use Rattle.tk_app.specs.Attributes.{Attrs, attrs_by, attrs_view, value_of}
@@ -27,6 +29,11 @@ pub data Said : Type 0 where
   resource : ℕ → List ℕ → List ℕ → Attrs → Said
   resource_owner : ℕ → ResourceCall → Said
   resource_user : ℕ → ResourceCall → Said
+  -- an async operation: its creation, its resource and its source, and its attributes
+  op : ℕ → ℕ → List ℕ → Attrs → Said
+  -- from now on a task polls an async operation
+  op_task : ℕ → ℕ → Said
+  op_owner : ℕ → OpCall → Said
   publish : ℕ → Bool → Said
 
 -- an item that a command makes has names, and at most 6 attributes
@@ -37,6 +44,9 @@ IsNamed (waker n made) = Unit {0}
 IsNamed (resource at kind concrete attrs) = (is_name kind ≡ true) × (is_name concrete ≡ true) × (length attrs.firsts ≤ 6)
 IsNamed (resource_owner n made) = Unit {0}
 IsNamed (resource_user n made) = Unit {0}
+IsNamed (op at r source attrs) = (is_name source ≡ true) × (length attrs.firsts ≤ 6)
+IsNamed (op_task n t) = Unit {0}
+IsNamed (op_owner n made) = Unit {0}
 IsNamed (publish at whole) = Unit {0}
 
 -- a moment, a kind and a name
@@ -80,6 +90,23 @@ resource_call_said w words =
     (if bytes_eq w (codes "rset") then option_map (λ p. resource_user p.0 (resource_calls.Attr p.1 (Override p.2))) (change_by words) else
     (if bytes_eq w (codes "rclose") then option_map (λ p. resource_owner p.0 (resource_calls.Close p.1)) (two_numbers words) else None)))
 
+-- a moment, a resource, a source and attributes
+abbrev pub op_by : List (List ℕ) → Option Said
+op_by (m ∷ r ∷ source ∷ words) =
+    option_and_then (λ at. option_and_then (λ n. if is_name source then option_map (op at n source) (attrs_by words) else None) (moment r)) (moment m)
+op_by _ = None
+
+-- a call of the owner of an async operation
+abbrev pub op_call_said : List ℕ → List (List ℕ) → Option Said
+op_call_said w words =
+    if bytes_eq w (codes "optask") then option_map (λ p. op_task p.0 p.1) (two_numbers words) else
+    (if bytes_eq w (codes "opstart") then option_map (λ p. op_owner p.0 (op_calls.PollStart p.1)) (two_numbers words) else
+    (if bytes_eq w (codes "opend") then option_map (λ p. op_owner p.0 (op_calls.PollEnd p.1)) (two_numbers words) else
+    (if bytes_eq w (codes "opclose") then option_map (λ p. op_owner p.0 (op_calls.Close p.1)) (two_numbers words) else
+    (if bytes_eq w (codes "oadd") then option_map (λ p. op_owner p.0 (op_calls.Attr p.1 (Add p.2))) (change_by words) else
+    (if bytes_eq w (codes "osub") then option_map (λ p. op_owner p.0 (op_calls.Attr p.1 (Sub p.2))) (change_by words) else
+    (if bytes_eq w (codes "oset") then option_map (λ p. op_owner p.0 (op_calls.Attr p.1 (Override p.2))) (change_by words) else None))))))
+
 -- a line of the stream
 abbrev pub line_said : List ℕ → List (List ℕ) → Option Said
 line_said w words =
@@ -89,7 +116,7 @@ line_said w words =
 -- by the first word, and then by the rest
 abbrev pub said_by : List (List ℕ) → Option Said
 said_by [] = None
-said_by (w ∷ words) = if bytes_eq w (codes "resource") then resource_by words else option_or (task_said w words) (option_or (waker_said w words) (option_or (resource_call_said w words) (line_said w words)))
+said_by (w ∷ words) = if bytes_eq w (codes "resource") then resource_by words else if bytes_eq w (codes "op") then op_by words else option_or (task_said w words) (option_or (waker_said w words) (option_or (resource_call_said w words) (option_or (op_call_said w words) (line_said w words))))
 
 -- what a line says: its words stand between single spaces
 abbrev pub said : List ℕ → Option Said
@@ -103,6 +130,9 @@ view (commands.Waker number made) = waker number made
 view (commands.Resource moment kind concrete attrs) = resource moment kind.now concrete.now (attrs_view attrs)
 view (commands.ResourceOwner number made) = resource_owner number made
 view (commands.ResourceUser number made) = resource_user number made
+view (commands.Op moment r source attrs) = op moment r source.now (attrs_view attrs)
+view (commands.OpTask number t) = op_task number t
+view (commands.OpOwner number made) = op_owner number made
 view (commands.Publish moment whole) = publish moment whole
 
 -- an empty line says nothing, and a line that begins with `#` is a comment

@@ -2,6 +2,7 @@
 use Rattle.std.specs.Prelude.{ℕ, ◌-◌, List, [], ◌∷◌, ◌++◌, map, codes, Bool, if◌then◌else◌, Option, Some, None, is_some, nat_lt, option_and_then, slice_get, slice_set}
 use Rattle.tk_ids.specs.Ids.{id_of}
 use Rattle.tk_ids.specs.declared.info.Dropped.{Dropped}
+use Rattle.tk_ids.specs.declared.info.OpInfo.{OpInfo}
 use Rattle.tk_ids.specs.declared.info.ResourceInfo.{ResourceInfo}
 use Rattle.tk_ids.specs.declared.info.TaskInfo.{TaskInfo}
 use Rattle.tk_ids.specs.declared.location.Location.{Location}
@@ -9,12 +10,17 @@ use Rattle.tk_ids.specs.declared.spec.TaskKind.{TaskKind}
 use Rattle.tk_core.specs.declared.task.row.TaskRow.{TaskRow}
 use Rattle.tk_core.specs.declared.task.call.TaskCall.{TaskCall}
 use Rattle.tk_core.specs.declared.task.call.TaskCall.TheVariants.{Enlist}
+use Rattle.tk_core.specs.declared.op.row.OpRow.{OpRow}
+use Rattle.tk_core.specs.declared.op.call.OpCall.{OpCall}
+use Rattle.tk_core.specs.declared.op.call.OpCall.TheVariants as op_calls
+use Rattle.tk_core.specs.Op as op_rules
 use Rattle.tk_core.specs.declared.resource.row.ResourceRow.{ResourceRow}
 use Rattle.tk_core.specs.declared.resource.call.ResourceCall.{ResourceCall}
 use Rattle.tk_core.specs.declared.resource.call.ResourceCall.TheVariants as resource_calls
 use Rattle.tk_core.specs.Fold.{Kind, row_after}
 use Rattle.tk_core.specs.Task.{task_kind, opening_row}
 use Rattle.tk_core.specs.Resource as resource_rules
+use Rattle.tk_stream.specs.declared.op.Op.{Op}
 use Rattle.tk_stream.specs.declared.resource.Resource.{Resource}
 use Rattle.tk_stream.specs.declared.task.Task.{Task}
 use Rattle.tk_stream.specs.Tables.{TablesView}
@@ -102,16 +108,38 @@ new_resource created kind concrete attrs line n = record {
   calls = resource_calls.Enlist ∷ resource_calls.Enlist ∷ [];
 }
 
+-- ---- async operations
+
+abbrev pub OpItem : Type 0
+OpItem = Item OpInfo OpRow OpCall
+
+-- the owner of a closed operation is spent
+abbrev pub is_closed_op : OpItem → Bool
+is_closed_op item = is_some (row_of op_rules.op_kind item).dropped
+
+-- an operation as tables have it
+abbrev pub op_of : OpItem → Op
+op_of item = record { info = item.info; row = row_of op_rules.op_kind item }
+
+-- what is told of the n-th operation of a script, on the r-th resource, which has no parent
+abbrev pub op_info : ℕ → ℕ → List ℕ → Attrs → OpInfo
+op_info n r source attrs = record { id = id_of 1 n; source = source; resource = id_of 1 r; parent = None; attrs = attrs.infos }
+
+-- the n-th operation: an inspector of it is drawn at once
+abbrev pub new_op : ℕ → ℕ → List ℕ → Attrs → ℕ → OpItem
+new_op created r source attrs n = record { info = op_info n r source attrs; opening = op_rules.opening_row created attrs.firsts; calls = op_calls.Enlist ∷ [] }
+
 -- ---- all of them
 
 -- what a script made, as its lines tell of it
 pub record Made : Type 0 where
   pub tasks : List TaskItem
   pub resources : List ResourceItem
+  pub ops : List OpItem
 
 -- nothing is made yet
 abbrev pub none_made : Made
-none_made = record { tasks = []; resources = [] }
+none_made = record { tasks = []; resources = []; ops = [] }
 
 -- nothing is dropped
 abbrev pub none_dropped : Dropped
@@ -122,7 +150,7 @@ abbrev pub tables_at : Made → ℕ → TablesView
 tables_at made now = record {
   tasks = map task_of made.tasks;
   resources = map resource_of made.resources;
-  ops = [];
+  ops = map op_of made.ops;
   counts = [];
   dropped = none_dropped;
   now = now;

@@ -3,7 +3,7 @@ use Rattle.std.specs.Prelude.{◌≡◌, ℕ, ◌+◌, ◌≤◌, List, [], ◌�
 use Rattle.std.specs.Io.KnownBytes.{Appends}
 use Rattle.tk_ids.specs.Ids.{id_of}
 use Rattle.tk_ids.specs.IdBlocks.{last_number}
-use Rattle.tk_app.specs.Items.{TaskItem, ResourceItem, tables_at}
+use Rattle.tk_app.specs.Items.{TaskItem, ResourceItem, OpItem, tables_at}
 use Rattle.tk_app.specs.Script.{State, Doing, Stops}
 use Rattle.tk_app.specs.declared.interpreter.Interpreter.{Interpreter}
 use Rattle.tk_app.specs.declared.refusal.Stop.{Stop}
@@ -26,6 +26,10 @@ task_item_id item = item.info.id
 abbrev pub resource_item_id : ResourceItem → ℕ
 resource_item_id item = item.info.id
 
+-- the id of an operation
+abbrev pub op_item_id : OpItem → ℕ
+op_item_id item = item.info.id
+
 -- an interpreter holds what a state says
 pub record StandsFor (i : Interpreter) (s : State) : Type 0 where
   pub tables : i.tables ≡ tables_at s.made 0
@@ -34,6 +38,7 @@ pub record StandsFor (i : Interpreter) (s : State) : Type 0 where
   pub lines : i.lines ≡ s.lines
   pub tasks : AreCounted task_item_id s.made.tasks
   pub resources : AreCounted resource_item_id s.made.resources
+  pub ops : AreCounted op_item_id s.made.ops
 
 -- an interpreter stands for some state
 abbrev pub IsStanding : Interpreter → Type 0

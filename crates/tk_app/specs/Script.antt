@@ -2,18 +2,22 @@
 use Rattle.std.specs.Prelude.{◌≡◌, ℕ, ◌+◌, ◌^◌, Bool, List, [], ◌∷◌, ◌++◌, length, fold, ◌==◌, nat_lt, nat_le, not, ◌&&◌, if◌then◌else◌, Option, None, Some, Result, Ok, Err}
 use Rattle.std.specs.Option.{option_map_or}
 use Rattle.std.specs.List.{enumerate_from}
+use Rattle.tk_ids.specs.Ids.{id_of}
 use Rattle.tk_ids.specs.IdBlocks.{last_number}
 use Rattle.tk_core.specs.declared.reply.Refusal.{Refusal}
 use Rattle.tk_core.specs.declared.reply.Refusal.TheVariants.{NotPolling}
 use Rattle.tk_core.specs.declared.task.call.TaskCall.{TaskCall}
 use Rattle.tk_core.specs.Fold.{Kind, refusal_in, reply_after}
 use Rattle.tk_core.specs.Task.{task_kind, is_self_wake}
+use Rattle.tk_core.specs.Op.{op_kind}
+use Rattle.tk_core.specs.declared.op.call.OpCall.{OpCall}
+use Rattle.tk_core.specs.declared.op.call.OpCall.TheVariants.{SetTask}
 use Rattle.tk_core.specs.Resource.{resource_kind}
 use Rattle.tk_core.specs.declared.resource.call.ResourceCall.{ResourceCall}
 use Rattle.tk_stream.specs.Tables.{TablesView, empty_tables}
 use Rattle.tk_stream.specs.Spelling.{sent_text}
-use Rattle.tk_app.specs.Commands.{Said, task, task_owner, waker, resource, resource_owner, resource_user, publish, said, is_skipped, lines_of}
-use Rattle.tk_app.specs.Items.{Item, row_of, with_call, made_item, live_item, with_item, TaskItem, is_closed_task, new_task, ResourceItem, is_closed_resource, new_resource, Made, none_made, tables_at}
+use Rattle.tk_app.specs.Commands.{Said, task, task_owner, waker, resource, resource_owner, resource_user, op, op_task, op_owner, publish, said, is_skipped, lines_of}
+use Rattle.tk_app.specs.Items.{Item, row_of, with_call, made_item, live_item, with_item, TaskItem, is_closed_task, new_task, ResourceItem, is_closed_resource, new_resource, OpItem, is_closed_op, new_op, Made, none_made, tables_at}
 use Rattle.tk_app.specs.Told.{line_told}
 use Rattle.tk_app.specs.Transfer.{IsCut, IsScript}
 use Rattle.tk_app.specs.Refusals.{stop_name}
@@ -74,6 +78,19 @@ resource_called s n call item = record s { made = record s.made { resources = wi
 abbrev pub resource_call_does : State → ℕ → ResourceCall → Option ResourceItem → Doing
 resource_call_does s n call found = call_does (item_refusal resource_kind call) (resource_called s n call) found
 
+-- the state behind a call on the n-th operation
+abbrev pub op_called : State → ℕ → OpCall → OpItem → State
+op_called s n call item = record s { made = record s.made { ops = with_item n (with_call item call) s.made.ops } }
+
+-- what a call on the n-th operation does, if this is the operation
+abbrev pub op_call_does : State → ℕ → OpCall → Option OpItem → Doing
+op_call_does s n call found = call_does (item_refusal op_kind call) (op_called s n call) found
+
+-- what a command does that also names an item, which has to have been made
+abbrev pub if_made : {X : Type 0} → Option X → Doing → Doing
+if_made None doing = Err NoSuchItem
+if_made (Some x) doing = doing
+
 -- the state with one more item of a kind
 abbrev pub offered : {X : Type 0} → List X → State → Doing
 offered made next = if length made == last_number then Err OffersSpent else Ok (next, [])
@@ -93,6 +110,10 @@ does line s (resource at kind concrete attrs) =
     offered s.made.resources (record s { made = record s.made { resources = s.made.resources ++ new_resource at kind concrete attrs line (length s.made.resources + 1) ∷ [] } })
 does line s (resource_owner n call) = resource_call_does s n call (live_item is_closed_resource n s.made.resources)
 does line s (resource_user n call) = resource_call_does s n call (made_item n s.made.resources)
+does line s (op at r source attrs) =
+    if_made (made_item r s.made.resources) (offered s.made.ops (record s { made = record s.made { ops = s.made.ops ++ new_op at r source attrs (length s.made.ops + 1) ∷ [] } }))
+does line s (op_task n t) = if_made (made_item t s.made.tasks) (op_call_does s n (SetTask (id_of 1 t)) (live_item is_closed_op n s.made.ops))
+does line s (op_owner n call) = op_call_does s n call (live_item is_closed_op n s.made.ops)
 does line s (publish now whole) =
     if nat_lt now s.shown.now then Err Clock else
     (if nat_le (2 ^ 63) s.lines then Err NumbersSpent else

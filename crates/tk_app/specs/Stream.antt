@@ -2,12 +2,15 @@
 use Rattle.std.specs.Prelude.{ℕ, ◌+◌, ◌==◌, Bool, List, [], ◌∷◌, ◌++◌, map, fold, if◌then◌else◌, Option, Some, None, option_map}
 use Rattle.std.specs.List.{filter_map, enumerate_from}
 use Rattle.tk_core.specs.declared.task.call.TaskCall.{TaskCall}
+use Rattle.tk_ids.specs.Ids.{id_of}
+use Rattle.tk_core.specs.declared.op.call.OpCall.{OpCall}
+use Rattle.tk_core.specs.declared.op.call.OpCall.TheVariants.{SetTask}
 use Rattle.tk_core.specs.declared.resource.call.ResourceCall.{ResourceCall}
 use Rattle.tk_core.specs.Lists.{each_with_before}
 use Rattle.tk_stream.specs.Tables.{TablesView, empty_tables}
 use Rattle.tk_stream.specs.Spelling.{sent_text}
-use Rattle.tk_app.specs.Commands.{Said, task, task_owner, waker, resource, resource_owner, resource_user, publish, said, is_skipped, lines_of}
-use Rattle.tk_app.specs.Items.{Item, made_item, TaskItem, new_task, ResourceItem, new_resource, Made, tables_at}
+use Rattle.tk_app.specs.Commands.{Said, task, task_owner, waker, resource, resource_owner, resource_user, op, op_task, op_owner, publish, said, is_skipped, lines_of}
+use Rattle.tk_app.specs.Items.{Item, made_item, TaskItem, new_task, ResourceItem, new_resource, OpItem, new_op, Made, tables_at}
 use Rattle.tk_app.specs.Told.{line_told}
 use Rattle.tk_app.specs.Wakers.{wakers_after}
 use Rattle.tk_app.specs.declared.waker.Waker.{Waker}
@@ -76,6 +79,19 @@ resource_calling (before, (line, resource_owner n call)) = Some (n, call)
 resource_calling (before, (line, resource_user n call)) = Some (n, call)
 resource_calling (before, (line, _)) = None
 
+-- ---- async operations
+
+-- the operation that a command makes
+abbrev pub op_making : Placed → Option (ℕ → OpItem)
+op_making (line, op at r source attrs) = Some (new_op at r source attrs)
+op_making (line, _) = None
+
+-- the call that a command makes on an operation
+abbrev pub op_calling : List Placed × Placed → Option (ℕ × OpCall)
+op_calling (before, (line, op_task n t)) = Some (n, SetTask (id_of 1 t))
+op_calling (before, (line, op_owner n call)) = Some (n, call)
+op_calling (before, (line, _)) = None
+
 -- ---- the stream
 
 -- what commands make
@@ -83,6 +99,7 @@ abbrev pub made_by : List Placed → Made
 made_by commands = record {
   tasks = items_by task_making task_calling commands;
   resources = items_by resource_making resource_calling commands;
+  ops = items_by op_making op_calling commands;
 }
 
 -- the tables that a command publishes behind the commands before it, and whether as a snapshot, if it publishes any

@@ -7,7 +7,7 @@ use crate::attributes::{Attributes, attributes_of, value_of};
 use crate::pieces::Pieces;
 use crate::words::{kind_of, moment_of, one_number, two_numbers};
 use std::alloc::{AllocError, Global};
-use tk_core::{AttrOp, ResourceCall, TaskCall};
+use tk_core::{AttrOp, OpCall, ResourceCall, TaskCall};
 use tk_ids::{AttrValue, TaskKind, is_name};
 
 /// What a line of a script says. It names items by their numbers from 1.
@@ -45,6 +45,23 @@ pub(crate) enum Command<'a> {
     ResourceUser {
         resource: u64,
         call: ResourceCall,
+    },
+    /// An async operation on a resource, created at a moment.
+    Op {
+        moment: u64,
+        resource: u64,
+        source: &'a [u8],
+        attrs: Attributes,
+    },
+    /// From now on a task polls an async operation.
+    OpTask {
+        op: u64,
+        task: u64,
+    },
+    /// A call of the owner of an async operation.
+    OpOwner {
+        op: u64,
+        call: OpCall,
     },
     /// A line of the stream, as a snapshot or not.
     Publish {
@@ -209,6 +226,74 @@ fn resource_call<'a>(word: &[u8], words: Pieces<'a>) -> Option<Command<'a>>
     }
 }
 
+fn op_of<'a>(alloc: Global, words: Pieces<'a>) -> Result<Option<Command<'a>>, AllocError>
+    ensures said { IfOk result (λ o. option_map spec.view o ≡ spec.op_by (pieces_left words.entry)) }
+    ensures named { IfOk result (λ o. IfSome o (λ c. spec.IsNamed (spec.view c))) }
+{
+    let mut words = words;
+    let (Some(moment), Some(resource), Some(source)) = (words.next(), words.next(), words.next())
+    else {
+        return Ok(None);
+    };
+    let (Some(moment), Some(resource)) = (moment_of(moment), moment_of(resource)) else {
+        return Ok(None);
+    };
+    if !is_name(source) {
+        return Ok(None);
+    }
+    let Some(attrs) = attributes_of(alloc, words)? else {
+        return Ok(None);
+    };
+    Ok(Some(Command::Op {
+        moment,
+        resource,
+        source,
+        attrs,
+    }))
+}
+
+// A call of the owner of an async operation.
+fn op_call<'a>(word: &[u8], words: Pieces<'a>) -> Option<Command<'a>>
+    ensures said { option_map spec.view result ≡ spec.op_call_said word.now (pieces_left words.entry) }
+    ensures named { IfSome result (λ c. spec.IsNamed (spec.view c)) }
+{
+    if word == b"optask".as_slice() {
+        two_numbers(words).map(|(op, task)| Command::OpTask { op, task })
+    } else if word == b"opstart".as_slice() {
+        two_numbers(words).map(|(op, moment)| Command::OpOwner {
+            op,
+            call: OpCall::PollStart(moment),
+        })
+    } else if word == b"opend".as_slice() {
+        two_numbers(words).map(|(op, moment)| Command::OpOwner {
+            op,
+            call: OpCall::PollEnd(moment),
+        })
+    } else if word == b"opclose".as_slice() {
+        two_numbers(words).map(|(op, moment)| Command::OpOwner {
+            op,
+            call: OpCall::Close(moment),
+        })
+    } else if word == b"oadd".as_slice() {
+        change_of(words).map(|(op, i, value)| Command::OpOwner {
+            op,
+            call: OpCall::Attr(i, AttrOp::Add(value)),
+        })
+    } else if word == b"osub".as_slice() {
+        change_of(words).map(|(op, i, value)| Command::OpOwner {
+            op,
+            call: OpCall::Attr(i, AttrOp::Sub(value)),
+        })
+    } else if word == b"oset".as_slice() {
+        change_of(words).map(|(op, i, value)| Command::OpOwner {
+            op,
+            call: OpCall::Attr(i, AttrOp::Override(value)),
+        })
+    } else {
+        None
+    }
+}
+
 // A line of the stream.
 fn line_command<'a>(word: &[u8], words: Pieces<'a>) -> Option<Command<'a>>
     ensures said { option_map spec.view result ≡ spec.line_said word.now (pieces_left words.entry) }
@@ -244,6 +329,9 @@ pub(crate) fn command_of<'a>(
     if word == b"resource".as_slice() {
         return resource_of(alloc, words);
     }
+    if word == b"op".as_slice() {
+        return op_of(alloc, words);
+    }
     if let Some(command) = task_command(word, words) {
         return Ok(Some(command));
     }
@@ -251,6 +339,9 @@ pub(crate) fn command_of<'a>(
         return Ok(Some(command));
     }
     if let Some(command) = resource_call(word, words) {
+        return Ok(Some(command));
+    }
+    if let Some(command) = op_call(word, words) {
         return Ok(Some(command));
     }
     Ok(line_command(word, words))

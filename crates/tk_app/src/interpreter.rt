@@ -1,6 +1,7 @@
 //! The state of a script's run, and what each command does to it.
 
 mod lines;
+mod ops;
 mod resources;
 mod tasks;
 mod wakers;
@@ -66,6 +67,14 @@ impl Interpreter {
             } => self.make_resource(alloc, line, moment, kind, concrete, attrs),
             Command::ResourceOwner { resource, call } => self.call_resource_owner(resource, call),
             Command::ResourceUser { resource, call } => self.call_resource_user(resource, call),
+            Command::Op {
+                moment,
+                resource,
+                source,
+                attrs,
+            } => self.make_op(alloc, moment, resource, source, attrs),
+            Command::OpTask { op, task } => self.set_op_task(op, task),
+            Command::OpOwner { op, call } => self.call_op_owner(op, call),
             Command::Publish { moment, whole } => self.publish(alloc, moment, whole, writer),
         }
     }

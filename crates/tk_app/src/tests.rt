@@ -4,6 +4,7 @@ mod commands;
 mod faults;
 mod given;
 mod items;
+mod ops;
 mod readers;
 mod resources;
 mod rows;

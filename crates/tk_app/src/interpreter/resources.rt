@@ -68,6 +68,14 @@ fn made_row(tables: &Tables, number: u64) -> Option<ResourceRow>
     Some(resource.row)
 }
 
+/// The id of the resource that a script names by its number, if the resource was made.
+pub(super) fn made_resource(tables: &Tables, number: u64) -> Option<ResourceId>
+    ensures { result ≡ option_map rows.resource_id_in (items.made_item number tables.now.resources) }
+{
+    let resource = tables.resource_at(number.checked_sub(1)? as usize)?;
+    Some(resource.info.id)
+}
+
 // The row of the resource that a script names by its number, if the resource was made and is not closed.
 fn live_row(tables: &Tables, number: u64) -> Option<ResourceRow>
     ensures { result ≡ option_map rows.resource_row_in (items.live_item rows.is_closed_row number tables.now.resources) }

@@ -73,6 +73,14 @@ pub(super) fn made_row(tables: &Tables, number: u64) -> Option<TaskRow>
     Some(task.row)
 }
 
+/// The id of the task that a script names by its number, if the task was made.
+pub(super) fn made_task(tables: &Tables, number: u64) -> Option<TaskId>
+    ensures { result ≡ option_map rows.id_in (items.made_item number tables.now.tasks) }
+{
+    let task = tables.task_at(number.checked_sub(1)? as usize)?;
+    Some(task.info.id)
+}
+
 // The row of the task that a script names by its number, if the task was made and is not closed.
 fn live_row(tables: &Tables, number: u64) -> Option<TaskRow>
     ensures { result ≡ option_map rows.row_in (items.live_item rows.is_closed number tables.now.tasks) }

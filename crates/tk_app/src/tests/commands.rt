@@ -16,9 +16,8 @@ fn assert_are_bad<R: Abort + AllocGlobal>(rt: &R, lines: &[&'static [u8]]) -> Re
 
 // Commands that scripts do not have yet.
 #[rattlefmt::skip]
-const LATER: [&[u8]; 14] = [
+const LATER: [&[u8]; 6] = [
     b"capacity 16",
-    b"op 1 1 acquire", b"optask 1 1", b"opstart 1 5", b"opend 1 5", b"opclose 1 5", b"oadd 1 0 1", b"osub 1 0 1", b"oset 1 0 true",
     b"pollop 1 1 1 acquire ready", b"pollop 1 1 1 acquire pending", b"par", b"1 wakeref 1 5", b"join",
 ];
 

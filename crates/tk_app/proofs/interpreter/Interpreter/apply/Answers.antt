@@ -22,3 +22,12 @@ returns-in-ResourceOwner g c s stands = rw c.in-ResourceOwner.is ([], c.call_res
 
 pub returns-in-ResourceUser : goal.returns-in-ResourceUser
 returns-in-ResourceUser g c s stands = rw c.in-ResourceUser.is ([], c.call_resource_user.ensures c.args.line s stands, Appends-nil _)
+
+pub returns-in-Op : goal.returns-in-Op
+returns-in-Op g c s stands = rw c.in-Op.is ([], c.make_op.ensures c.args.line s stands, Appends-nil _)
+
+pub returns-in-OpTask : goal.returns-in-OpTask
+returns-in-OpTask g c s stands = rw c.in-OpTask.is ([], c.set_op_task.ensures c.args.line s stands, Appends-nil _)
+
+pub returns-in-OpOwner : goal.returns-in-OpOwner
+returns-in-OpOwner g c s stands = rw c.in-OpOwner.is ([], c.call_op_owner.ensures c.args.line s stands, Appends-nil _)

@@ -27,5 +27,6 @@ returns c line s stands =
         lines = stands.lines;
         tasks = counted_set task_item_id n s.made.tasks item (with_call item call) stands.tasks there refl;
         resources = stands.resources;
+        ops = stands.ops;
       },
     )

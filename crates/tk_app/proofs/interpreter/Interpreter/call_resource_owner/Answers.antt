@@ -26,5 +26,6 @@ returns c line s stands =
         lines = stands.lines;
         tasks = stands.tasks;
         resources = counted_set resource_item_id n s.made.resources item (with_call item call) stands.resources there refl;
+        ops = stands.ops;
       },
     )

@@ -31,5 +31,6 @@ returns c line s stands =
         lines = stands.lines;
         tasks = counted_set task_item_id used.task s.made.tasks item (with_call item call) stands.tasks found.1 refl;
         resources = stands.resources;
+        ops = stands.ops;
       },
     )

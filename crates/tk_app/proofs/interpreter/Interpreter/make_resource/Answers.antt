@@ -59,5 +59,6 @@ returns c s stands =
         lines = stands.lines;
         tasks = stands.tasks;
         resources = counted_push resource_item_id s.made.resources item stands.resources refl given.0;
+        ops = stands.ops;
       },
     )

@@ -53,5 +53,6 @@ returns c s stands =
         lines = stands.lines;
         tasks = counted_push task_item_id s.made.tasks item stands.tasks refl given.0;
         resources = stands.resources;
+        ops = stands.ops;
       },
     )

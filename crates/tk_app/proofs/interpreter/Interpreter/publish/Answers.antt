@@ -42,6 +42,7 @@ returns g c line s stands =
           lines = ap (λ n. n + 1) stands.lines;
           tasks = stands.tasks;
           resources = stands.resources;
+          ops = stands.ops;
         },
       ),
       sent,
