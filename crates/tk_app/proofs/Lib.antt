@@ -1,5 +1,6 @@
 pub mod Cuts
 pub mod Moments
+pub mod Polls
 pub mod Published
 pub mod Runs
 pub mod Making

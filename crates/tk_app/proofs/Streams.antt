@@ -17,15 +17,16 @@ use Rattle.tk_core.specs.declared.resource.call.ResourceCall.{ResourceCall}
 use Rattle.tk_core.specs.Resource.{resource_kind}
 use Rattle.tk_core.specs.Lists.{each_with_before}
 use Rattle.tk_core.specs.Laws.Pushed.{each_push}
-use Rattle.tk_stream.specs.Tables.{TablesView, empty_tables}
+use Rattle.tk_stream.specs.Tables.{TablesView, PollCounts, empty_tables}
 use Rattle.tk_stream.specs.Spelling.{sent_text}
 use Rattle.tk_app.specs.declared.refusal.Stop.{Stop}
 use Rattle.tk_app.specs.declared.refusal.Stop.TheVariants.{BadCommand, NoSuchItem, Call, OffersSpent, Clock, NumbersSpent}
 use Rattle.tk_app.specs.declared.waker.Waker.{Waker}
-use Rattle.tk_app.specs.Commands.{Said, task, task_owner, waker, resource, resource_owner, resource_user, op, op_task, op_owner, publish, said, is_skipped}
+use Rattle.tk_app.specs.Commands.{Said, task, task_owner, waker, resource, resource_owner, resource_user, op, op_task, op_owner, poll_op, publish, said, is_skipped}
+use Rattle.tk_app.specs.Counts.{counted, counts_after}
 use Rattle.tk_app.specs.Items.{made_item, live_item, TaskItem, is_closed_task, new_task, ResourceItem, is_closed_resource, new_resource, OpItem, is_closed_op, new_op, Made, tables_at}
 use Rattle.tk_app.specs.Script.{State, Doing, start, call_does, item_refusal, task_refusal, task_called, resource_called, op_called, op_call_does, if_made, waker_does, offered, published, does, line_does, with_text, then_line, lines_do}
-use Rattle.tk_app.specs.Stream.{Placed, command_in, commands_in, wakers_of, task_making, task_calling, resource_making, resource_calling, op_making, op_calling, made_by, tables_by, publications, stream_from}
+use Rattle.tk_app.specs.Stream.{Placed, command_in, commands_in, wakers_of, task_making, task_calling, resource_making, resource_calling, op_making, op_calling, counts_by, made_by, tables_by, publications, stream_from}
 use Rattle.tk_app.specs.Told.{line_told}
 use Rattle.tk_app.specs.Wakers.{wakers_after, is_spent_waker}
 use Rattle.tk_app.proofs.Runs.{enumerate_push}
@@ -56,11 +57,15 @@ publications_push commands c = ap (filter_map tables_by) (each_push commands c) 
 wakers_push : (commands : List Placed) (c : Placed) → wakers_of (commands ++ c ∷ []) ≡ wakers_after (wakers_of commands) c.1
 wakers_push commands c = fold-append (λ (ws : List Waker) (d : Placed). wakers_after ws d.1) [] commands (c ∷ [])
 
+counts_push : (commands : List Placed) (c : Placed) → counts_by (commands ++ c ∷ []) ≡ counts_after (counts_by commands) c.1
+counts_push commands c = fold-append (λ (cs : List PollCounts) (d : Placed). counts_after cs d.1) [] commands (c ∷ [])
+
 -- the items of a state are what commands make
 record Holds (commands : List Placed) (made : Made) : Type 0 where
   pub tasks : AreMade task_making task_calling commands made.tasks
   pub resources : AreMade resource_making resource_calling commands made.resources
   pub ops : AreMade op_making op_calling commands made.ops
+  pub counts : made.counts ≡ counts_by commands
 
 -- a state and a text are what commands leave
 record Leaves (commands : List Placed) (s : State) (text : List ℕ) : Type 0 where
@@ -71,10 +76,10 @@ record Leaves (commands : List Placed) (s : State) (text : List ℕ) : Type 0 wh
   pub sent : text ≡ stream_from 1 empty_tables (publications commands)
 
 leaves_none : Leaves [] start []
-leaves_none = record { made = record { tasks = record { are = refl; early = λ k far. refl }; resources = record { are = refl; early = λ k far. refl }; ops = record { are = refl; early = λ k far. refl } }; wakers = refl; shown = refl; lines = refl; sent = refl }
+leaves_none = record { made = record { tasks = record { are = refl; early = λ k far. refl }; resources = record { are = refl; early = λ k far. refl }; ops = record { are = refl; early = λ k far. refl }; counts = refl }; wakers = refl; shown = refl; lines = refl; sent = refl }
 
 holds_made : (commands : List Placed) (made : Made) → Holds commands made → made ≡ made_by commands
-holds_made commands made holds = λ i. record { tasks = holds.tasks.are i; resources = holds.resources.are i; ops = holds.ops.are i }
+holds_made commands made holds = λ i. record { tasks = holds.tasks.are i; resources = holds.resources.are i; ops = holds.ops.are i; counts = holds.counts i }
 
 -- a command that publishes nothing leaves what was published
 unpublished : (commands : List Placed) (line : ℕ) (c : Said) (s : State) (text : List ℕ) (made : Made) → Leaves commands s text → tables_by (commands, (line, c)) ≡ None → Holds (commands ++ (line, c) ∷ []) made
@@ -101,6 +106,10 @@ resources_stay commands line c s l none quiet = made_quiet resource_making resou
 ops_stay : (commands : List Placed) (line : ℕ) (c : Said) (s : State) {text : List ℕ} → Leaves commands s text → op_making (line, c) ≡ None → op_calling (commands, (line, c)) ≡ None → AreMade op_making op_calling (commands ++ (line, c) ∷ []) s.made.ops
 ops_stay commands line c s l none quiet = made_quiet op_making op_calling commands (line, c) s.made.ops l.made.ops none quiet
 
+-- and the counts
+counts_stay : (commands : List Placed) (line : ℕ) (c : Said) (s : State) {text : List ℕ} → Leaves commands s text → counts_after (counts_by commands) c ≡ counts_by commands → s.made.counts ≡ counts_by (commands ++ (line, c) ∷ [])
+counts_stay commands line c s l kept = l.made.counts ∙ sym (counts_push commands (line, c) ∙ kept)
+
 publish_leaves : (commands : List Placed) (s : State) (text : List ℕ) (line now : ℕ) (whole : Bool) → Leaves commands s text
     → Leaves (commands ++ (line, publish now whole) ∷ []) (published s now) (text ++ sent_text (line_told s.shown (tables_at s.made now) (s.lines + 1) whole))
 publish_leaves commands s text line now whole l =
@@ -110,7 +119,7 @@ publish_leaves commands s text line now whole l =
     let next : s.lines + 1 ≡ 1 + length (publications commands) = omega (arith, l.lines) in
     let made = holds_made commands s.made l.made in
     record {
-      made = record { tasks = tasks_stay commands line (publish now whole) s l refl refl; resources = resources_stay commands line (publish now whole) s l refl refl; ops = ops_stay commands line (publish now whole) s l refl refl };
+      made = record { tasks = tasks_stay commands line (publish now whole) s l refl refl; resources = resources_stay commands line (publish now whole) s l refl refl; ops = ops_stay commands line (publish now whole) s l refl refl; counts = counts_stay commands line (publish now whole) s l refl };
       wakers = l.wakers ∙ sym (wakers_push commands c);
       shown = rw (more, shown_push empty_tables (publications commands) new, made) refl;
       lines = rw more (l_length l.lines);
@@ -151,37 +160,40 @@ LeavesBy commands text p = Leaves commands p.0 (text ++ p.1)
 
 -- a call on a task leaves the task with that call
 task_call_leaves : (commands : List Placed) (s : State) (text : List ℕ) (line : ℕ) (c : Said) (n : ℕ) (call : TaskCall) (item : TaskItem) → Leaves commands s text → task_making (line, c) ≡ None → task_calling (commands, (line, c)) ≡ Some (n, call) → tables_by (commands, (line, c)) ≡ None
-    → resource_making (line, c) ≡ None → resource_calling (commands, (line, c)) ≡ None → op_making (line, c) ≡ None → op_calling (commands, (line, c)) ≡ None → made_item n s.made.tasks ≡ Some item → Leaves (commands ++ (line, c) ∷ []) (task_called s (wakers_after s.wakers c) n call item) (text ++ [])
-task_call_leaves commands s text line c n call item l none calls unsaid unmade quiet no_op no_op_call there =
+    → resource_making (line, c) ≡ None → resource_calling (commands, (line, c)) ≡ None → op_making (line, c) ≡ None → op_calling (commands, (line, c)) ≡ None → counts_after (counts_by commands) c ≡ counts_by commands → made_item n s.made.tasks ≡ Some item → Leaves (commands ++ (line, c) ∷ []) (task_called s (wakers_after s.wakers c) n call item) (text ++ [])
+task_call_leaves commands s text line c n call item l none calls unsaid unmade quiet no_op no_op_call no_poll there =
     unpublished commands line c s text _ l unsaid (record {
       tasks = made_called task_making task_calling commands (line, c) s.made.tasks n call item l.made.tasks none calls there;
       resources = resources_stay commands line c s l unmade quiet;
       ops = ops_stay commands line c s l no_op no_op_call;
+      counts = counts_stay commands line c s l no_poll;
     })
 
 -- a call on a resource leaves the resource with that call
 resource_call_leaves : (commands : List Placed) (s : State) (text : List ℕ) (line : ℕ) (c : Said) (n : ℕ) (call : ResourceCall) (item : ResourceItem) → Leaves commands s text → resource_making (line, c) ≡ None → resource_calling (commands, (line, c)) ≡ Some (n, call) → tables_by (commands, (line, c)) ≡ None
-    → task_making (line, c) ≡ None → task_calling (commands, (line, c)) ≡ None → op_making (line, c) ≡ None → op_calling (commands, (line, c)) ≡ None → wakers_after s.wakers c ≡ s.wakers → made_item n s.made.resources ≡ Some item → Leaves (commands ++ (line, c) ∷ []) (resource_called s n call item) (text ++ [])
-resource_call_leaves commands s text line c n call item l none calls unsaid unmade quiet no_op no_op_call kept there =
+    → task_making (line, c) ≡ None → task_calling (commands, (line, c)) ≡ None → op_making (line, c) ≡ None → op_calling (commands, (line, c)) ≡ None → counts_after (counts_by commands) c ≡ counts_by commands → wakers_after s.wakers c ≡ s.wakers → made_item n s.made.resources ≡ Some item → Leaves (commands ++ (line, c) ∷ []) (resource_called s n call item) (text ++ [])
+resource_call_leaves commands s text line c n call item l none calls unsaid unmade quiet no_op no_op_call no_poll kept there =
     let next : Made = (resource_called s n call item).made in
     let to : State → Type 0 = λ t. Leaves (commands ++ (line, c) ∷ []) t (text ++ []) in
     subst to (λ i. record s { made = next; wakers = kept i }) (unpublished commands line c s text next l unsaid (record {
       tasks = tasks_stay commands line c s l unmade quiet;
       resources = made_called resource_making resource_calling commands (line, c) s.made.resources n call item l.made.resources none calls there;
       ops = ops_stay commands line c s l no_op no_op_call;
+      counts = counts_stay commands line c s l no_poll;
     }))
 
 -- a call on an operation leaves the operation with that call
 op_call_leaves : (commands : List Placed) (s : State) (text : List ℕ) (line : ℕ) (c : Said) (n : ℕ) (call : OpCall) (item : OpItem) → Leaves commands s text → op_making (line, c) ≡ None → op_calling (commands, (line, c)) ≡ Some (n, call) → tables_by (commands, (line, c)) ≡ None
-    → task_making (line, c) ≡ None → task_calling (commands, (line, c)) ≡ None → resource_making (line, c) ≡ None → resource_calling (commands, (line, c)) ≡ None → wakers_after s.wakers c ≡ s.wakers → made_item n s.made.ops ≡ Some item
+    → task_making (line, c) ≡ None → task_calling (commands, (line, c)) ≡ None → resource_making (line, c) ≡ None → resource_calling (commands, (line, c)) ≡ None → counts_after (counts_by commands) c ≡ counts_by commands → wakers_after s.wakers c ≡ s.wakers → made_item n s.made.ops ≡ Some item
     → Leaves (commands ++ (line, c) ∷ []) (op_called s n call item) (text ++ [])
-op_call_leaves commands s text line c n call item l none calls unsaid no_task no_task_call unmade quiet kept there =
+op_call_leaves commands s text line c n call item l none calls unsaid no_task no_task_call unmade quiet no_poll kept there =
     let next : Made = (op_called s n call item).made in
     let to : State → Type 0 = λ t. Leaves (commands ++ (line, c) ∷ []) t (text ++ []) in
     subst to (λ i. record s { made = next; wakers = kept i }) (unpublished commands line c s text next l unsaid (record {
       tasks = tasks_stay commands line c s l no_task no_task_call;
       resources = resources_stay commands line c s l unmade quiet;
       ops = made_called op_making op_calling commands (line, c) s.made.ops n call item l.made.ops none calls there;
+      counts = counts_stay commands line c s l no_poll;
     }))
 
 -- what was done needed what the command merely named
@@ -189,50 +201,66 @@ was_made : {X : Type 0} (o : Option X) (doing : Doing) (p : State × List ℕ) �
 was_made None doing p h = absurd cc
 was_made (Some x) doing p h = h
 
+did : (q p : State × List ℕ) → ◌≡◌ {A = Doing} (Ok q) (Ok p) → q ≡ p
+did q p h = cc
+
 command_leaves : (commands : List Placed) (s : State) (text : List ℕ) (line : ℕ) (c : Said) (p : State × List ℕ) → Leaves commands s text → does line s c ≡ Ok p → LeavesBy (commands ++ (line, c) ∷ []) text p
 command_leaves commands s text line (task at kind name) p l h =
     let c : Said = task at kind name in
     let more = made_more task_making task_calling commands (line, c) s.made.tasks (new_task at kind name line) l.made.tasks refl refl in
-    subst (LeavesBy (commands ++ (line, c) ∷ []) text) (room (length s.made.tasks == last_number) _ p h) (unpublished commands line c s text _ l refl (record { tasks = more; resources = resources_stay commands line c s l refl refl; ops = ops_stay commands line c s l refl refl }))
+    subst (LeavesBy (commands ++ (line, c) ∷ []) text) (room (length s.made.tasks == last_number) _ p h) (unpublished commands line c s text _ l refl (record { tasks = more; resources = resources_stay commands line c s l refl refl; ops = ops_stay commands line c s l refl refl; counts = counts_stay commands line c s l refl }))
 command_leaves commands s text line (task_owner n call) p l h =
     let c : Said = task_owner n call in
     let by = accepted (task_refusal call) (task_called s (wakers_after s.wakers c) n call) (live_item is_closed_task n s.made.tasks) p h in
-    subst (LeavesBy (commands ++ (line, c) ∷ []) text) by.2 (task_call_leaves commands s text line c n call by.0 l refl refl refl refl refl refl refl (live_made is_closed_task n s.made.tasks by.0 by.1))
+    subst (LeavesBy (commands ++ (line, c) ∷ []) text) by.2 (task_call_leaves commands s text line c n call by.0 l refl refl refl refl refl refl refl refl (live_made is_closed_task n s.made.tasks by.0 by.1))
 command_leaves commands s text line (waker n call) p l h =
     let c : Said = waker n call in
     let used = accepted_waker s n call (live_item is_spent_waker n s.wakers) p h in
     let by = accepted (task_refusal call) (task_called s (wakers_after s.wakers c) used.0.task call) (made_item used.0.task s.made.tasks) p used.2 in
     let drawn : made_item n (wakers_of commands) ≡ Some used.0 = rw (← l.wakers) (live_made is_spent_waker n s.wakers used.0 used.1) in
     let calls : task_calling (commands, (line, c)) ≡ Some (used.0.task, call) = ap (option_map (λ (x : Waker). (x.task, call))) drawn in
-    subst (LeavesBy (commands ++ (line, c) ∷ []) text) by.2 (task_call_leaves commands s text line c used.0.task call by.0 l refl calls refl refl refl refl refl by.1)
+    subst (LeavesBy (commands ++ (line, c) ∷ []) text) by.2 (task_call_leaves commands s text line c used.0.task call by.0 l refl calls refl refl refl refl refl refl by.1)
 command_leaves commands s text line (resource at kind concrete attrs) p l h =
     let c : Said = resource at kind concrete attrs in
     let more = made_more resource_making resource_calling commands (line, c) s.made.resources (new_resource at kind concrete attrs line) l.made.resources refl refl in
-    subst (LeavesBy (commands ++ (line, c) ∷ []) text) (room (length s.made.resources == last_number) _ p h) (unpublished commands line c s text _ l refl (record { tasks = tasks_stay commands line c s l refl refl; resources = more; ops = ops_stay commands line c s l refl refl }))
+    subst (LeavesBy (commands ++ (line, c) ∷ []) text) (room (length s.made.resources == last_number) _ p h) (unpublished commands line c s text _ l refl (record { tasks = tasks_stay commands line c s l refl refl; resources = more; ops = ops_stay commands line c s l refl refl; counts = counts_stay commands line c s l refl }))
 command_leaves commands s text line (resource_owner n call) p l h =
     let c : Said = resource_owner n call in
     let by = accepted (item_refusal resource_kind call) (resource_called s n call) (live_item is_closed_resource n s.made.resources) p h in
-    subst (LeavesBy (commands ++ (line, c) ∷ []) text) by.2 (resource_call_leaves commands s text line c n call by.0 l refl refl refl refl refl refl refl refl (live_made is_closed_resource n s.made.resources by.0 by.1))
+    subst (LeavesBy (commands ++ (line, c) ∷ []) text) by.2 (resource_call_leaves commands s text line c n call by.0 l refl refl refl refl refl refl refl refl refl (live_made is_closed_resource n s.made.resources by.0 by.1))
 command_leaves commands s text line (resource_user n call) p l h =
     let c : Said = resource_user n call in
     let by = accepted (item_refusal resource_kind call) (resource_called s n call) (made_item n s.made.resources) p h in
-    subst (LeavesBy (commands ++ (line, c) ∷ []) text) by.2 (resource_call_leaves commands s text line c n call by.0 l refl refl refl refl refl refl refl refl by.1)
+    subst (LeavesBy (commands ++ (line, c) ∷ []) text) by.2 (resource_call_leaves commands s text line c n call by.0 l refl refl refl refl refl refl refl refl refl by.1)
 command_leaves commands s text line (op at r source attrs) p l h =
     let c : Said = op at r source attrs in
     let more = made_more op_making op_calling commands (line, c) s.made.ops (new_op at r source attrs) l.made.ops refl refl in
     let offer = offered s.made.ops (record s { made = record s.made { ops = s.made.ops ++ new_op at r source attrs (length s.made.ops + 1) ∷ [] } }) in
     subst (LeavesBy (commands ++ (line, c) ∷ []) text) (room (length s.made.ops == last_number) _ p (was_made (made_item r s.made.resources) offer p h))
-    (unpublished commands line c s text _ l refl (record { tasks = tasks_stay commands line c s l refl refl; resources = resources_stay commands line c s l refl refl; ops = more }))
+    (unpublished commands line c s text _ l refl (record { tasks = tasks_stay commands line c s l refl refl; resources = resources_stay commands line c s l refl refl; ops = more; counts = counts_stay commands line c s l refl }))
 command_leaves commands s text line (op_task n t) p l h =
     let c : Said = op_task n t in
     let call : OpCall = SetTask (id_of 1 t) in
     let found = live_item is_closed_op n s.made.ops in
     let by = accepted (item_refusal op_kind call) (op_called s n call) found p (was_made (made_item t s.made.tasks) (op_call_does s n call found) p h) in
-    subst (LeavesBy (commands ++ (line, c) ∷ []) text) by.2 (op_call_leaves commands s text line c n call by.0 l refl refl refl refl refl refl refl refl (live_made is_closed_op n s.made.ops by.0 by.1))
+    subst (LeavesBy (commands ++ (line, c) ∷ []) text) by.2 (op_call_leaves commands s text line c n call by.0 l refl refl refl refl refl refl refl refl refl (live_made is_closed_op n s.made.ops by.0 by.1))
 command_leaves commands s text line (op_owner n call) p l h =
     let c : Said = op_owner n call in
     let by = accepted (item_refusal op_kind call) (op_called s n call) (live_item is_closed_op n s.made.ops) p h in
-    subst (LeavesBy (commands ++ (line, c) ∷ []) text) by.2 (op_call_leaves commands s text line c n call by.0 l refl refl refl refl refl refl refl refl (live_made is_closed_op n s.made.ops by.0 by.1))
+    subst (LeavesBy (commands ++ (line, c) ∷ []) text) by.2 (op_call_leaves commands s text line c n call by.0 l refl refl refl refl refl refl refl refl refl (live_made is_closed_op n s.made.ops by.0 by.1))
+command_leaves commands s text line (poll_op r o t ready) p l h =
+    let c : Said = poll_op r o t ready in
+    let next : Made = record s.made { counts = counted (id_of 1 r) ready s.made.counts } in
+    let q : State × List ℕ = (record s { made = next }, []) in
+    let third : Doing = if_made (made_item t s.made.tasks) (Ok q) in
+    let second : Doing = if_made (made_item o s.made.ops) third in
+    let e = did q p (was_made (made_item t s.made.tasks) (Ok q) p (was_made (made_item o s.made.ops) third p (was_made (made_item r s.made.resources) second p h))) in
+    subst (LeavesBy (commands ++ (line, c) ∷ []) text) e (unpublished commands line c s text next l refl (record {
+      tasks = tasks_stay commands line c s l refl refl;
+      resources = resources_stay commands line c s l refl refl;
+      ops = ops_stay commands line c s l refl refl;
+      counts = ap (counted (id_of 1 r) ready) l.made.counts ∙ sym (counts_push commands (line, c));
+    }))
 command_leaves commands s text line (publish now whole) p l h =
     subst (LeavesBy (commands ++ (line, publish now whole) ∷ []) text) (chosen (nat_lt now s.shown.now) (nat_le (2 ^ 63) s.lines) _ p h) (publish_leaves commands s text line now whole l)
 

@@ -15,7 +15,7 @@ use Rattle.tk_core.specs.declared.resource.call.ResourceCall.{ResourceCall}
 use Rattle.tk_core.specs.declared.resource.call.ResourceCall.TheVariants as resource_calls
 use Rattle.tk_app.specs.Attributes.{Attrs, attrs_by, attrs_view, value_of}
 use Rattle.tk_app.specs.Pieces.{pieces_at}
-use Rattle.tk_app.specs.Words.{moment, kind, one_number, two_numbers}
+use Rattle.tk_app.specs.Words.{moment, kind, readiness, one_number, two_numbers}
 use Rattle.tk_app.specs.declared.command.Command.{Command}
 use Rattle.tk_app.specs.declared.command.Command.TheVariants as commands
 
@@ -34,6 +34,8 @@ pub data Said : Type 0 where
   -- from now on a task polls an async operation
   op_task : ℕ → ℕ → Said
   op_owner : ℕ → OpCall → Said
+  -- a poll operation on a resource, by an async operation and a task: whether it was ready
+  poll_op : ℕ → ℕ → ℕ → Bool → Said
   publish : ℕ → Bool → Said
 
 -- an item that a command makes has names, and at most 6 attributes
@@ -47,6 +49,7 @@ IsNamed (resource_user n made) = Unit {0}
 IsNamed (op at r source attrs) = (is_name source ≡ true) × (length attrs.firsts ≤ 6)
 IsNamed (op_task n t) = Unit {0}
 IsNamed (op_owner n made) = Unit {0}
+IsNamed (poll_op r o t ready) = Unit {0}
 IsNamed (publish at whole) = Unit {0}
 
 -- a moment, a kind and a name
@@ -107,6 +110,12 @@ op_call_said w words =
     (if bytes_eq w (codes "osub") then option_map (λ p. op_owner p.0 (op_calls.Attr p.1 (Sub p.2))) (change_by words) else
     (if bytes_eq w (codes "oset") then option_map (λ p. op_owner p.0 (op_calls.Attr p.1 (Override p.2))) (change_by words) else None))))))
 
+-- a resource, an operation, a task, the name of the poll operation, and how it ended
+abbrev pub poll_op_by : List (List ℕ) → Option Said
+poll_op_by (r ∷ o ∷ t ∷ name ∷ end ∷ []) =
+    option_and_then (λ on. option_and_then (λ by. option_and_then (λ of. if is_name name then option_map (poll_op on by of) (readiness end) else None) (moment t)) (moment o)) (moment r)
+poll_op_by _ = None
+
 -- a line of the stream
 abbrev pub line_said : List ℕ → List (List ℕ) → Option Said
 line_said w words =
@@ -116,7 +125,7 @@ line_said w words =
 -- by the first word, and then by the rest
 abbrev pub said_by : List (List ℕ) → Option Said
 said_by [] = None
-said_by (w ∷ words) = if bytes_eq w (codes "resource") then resource_by words else if bytes_eq w (codes "op") then op_by words else option_or (task_said w words) (option_or (waker_said w words) (option_or (resource_call_said w words) (option_or (op_call_said w words) (line_said w words))))
+said_by (w ∷ words) = if bytes_eq w (codes "resource") then resource_by words else if bytes_eq w (codes "op") then op_by words else option_or (task_said w words) (option_or (waker_said w words) (option_or (resource_call_said w words) (option_or (op_call_said w words) (if bytes_eq w (codes "pollop") then poll_op_by words else line_said w words))))
 
 -- what a line says: its words stand between single spaces
 abbrev pub said : List ℕ → Option Said
@@ -133,6 +142,7 @@ view (commands.ResourceUser number made) = resource_user number made
 view (commands.Op moment r source attrs) = op moment r source.now (attrs_view attrs)
 view (commands.OpTask number t) = op_task number t
 view (commands.OpOwner number made) = op_owner number made
+view (commands.PollOp r o t ready) = poll_op r o t ready
 view (commands.Publish moment whole) = publish moment whole
 
 -- an empty line says nothing, and a line that begins with `#` is a comment

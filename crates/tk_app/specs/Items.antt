@@ -23,7 +23,7 @@ use Rattle.tk_core.specs.Resource as resource_rules
 use Rattle.tk_stream.specs.declared.op.Op.{Op}
 use Rattle.tk_stream.specs.declared.resource.Resource.{Resource}
 use Rattle.tk_stream.specs.declared.task.Task.{Task}
-use Rattle.tk_stream.specs.Tables.{TablesView}
+use Rattle.tk_stream.specs.Tables.{TablesView, PollCounts}
 use Rattle.tk_app.specs.Attributes.{Attrs}
 
 -- ---- items of any kind
@@ -136,10 +136,11 @@ pub record Made : Type 0 where
   pub tasks : List TaskItem
   pub resources : List ResourceItem
   pub ops : List OpItem
+  pub counts : List PollCounts
 
 -- nothing is made yet
 abbrev pub none_made : Made
-none_made = record { tasks = []; resources = []; ops = [] }
+none_made = record { tasks = []; resources = []; ops = []; counts = [] }
 
 -- nothing is dropped
 abbrev pub none_dropped : Dropped
@@ -151,7 +152,7 @@ tables_at made now = record {
   tasks = map task_of made.tasks;
   resources = map resource_of made.resources;
   ops = map op_of made.ops;
-  counts = [];
+  counts = made.counts;
   dropped = none_dropped;
   now = now;
 }

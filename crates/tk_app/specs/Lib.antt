@@ -6,6 +6,7 @@ pub mod Commands
 -- What a script does, line by line
 pub mod Items
 pub mod Wakers
+pub mod Counts
 pub mod Told
 pub mod Refusals
 pub mod Script

@@ -57,6 +57,10 @@ first_op_row created firsts = row_after op_rules.op_kind (op_rules.opening_row c
 abbrev pub op_row_in : Op → OpRow
 op_row_in o = o.row
 
+-- the id of an operation
+abbrev pub op_id_in : Op → ℕ
+op_id_in o = o.info.id
+
 -- an operation that is closed
 abbrev pub is_closed_op_row : Op → Bool
 is_closed_op_row o = is_some o.row.dropped

@@ -16,7 +16,8 @@ use Rattle.tk_core.specs.Resource.{resource_kind}
 use Rattle.tk_core.specs.declared.resource.call.ResourceCall.{ResourceCall}
 use Rattle.tk_stream.specs.Tables.{TablesView, empty_tables}
 use Rattle.tk_stream.specs.Spelling.{sent_text}
-use Rattle.tk_app.specs.Commands.{Said, task, task_owner, waker, resource, resource_owner, resource_user, op, op_task, op_owner, publish, said, is_skipped, lines_of}
+use Rattle.tk_app.specs.Commands.{Said, task, task_owner, waker, resource, resource_owner, resource_user, op, op_task, op_owner, poll_op, publish, said, is_skipped, lines_of}
+use Rattle.tk_app.specs.Counts.{counted}
 use Rattle.tk_app.specs.Items.{Item, row_of, with_call, made_item, live_item, with_item, TaskItem, is_closed_task, new_task, ResourceItem, is_closed_resource, new_resource, OpItem, is_closed_op, new_op, Made, none_made, tables_at}
 use Rattle.tk_app.specs.Told.{line_told}
 use Rattle.tk_app.specs.Transfer.{IsCut, IsScript}
@@ -114,6 +115,9 @@ does line s (op at r source attrs) =
     if_made (made_item r s.made.resources) (offered s.made.ops (record s { made = record s.made { ops = s.made.ops ++ new_op at r source attrs (length s.made.ops + 1) ∷ [] } }))
 does line s (op_task n t) = if_made (made_item t s.made.tasks) (op_call_does s n (SetTask (id_of 1 t)) (live_item is_closed_op n s.made.ops))
 does line s (op_owner n call) = op_call_does s n call (live_item is_closed_op n s.made.ops)
+does line s (poll_op r o t ready) =
+    if_made (made_item r s.made.resources) (if_made (made_item o s.made.ops) (if_made (made_item t s.made.tasks)
+    (Ok (record s { made = record s.made { counts = counted (id_of 1 r) ready s.made.counts } }, []))))
 does line s (publish now whole) =
     if nat_lt now s.shown.now then Err Clock else
     (if nat_le (2 ^ 63) s.lines then Err NumbersSpent else

@@ -7,9 +7,10 @@ use Rattle.tk_core.specs.declared.op.call.OpCall.{OpCall}
 use Rattle.tk_core.specs.declared.op.call.OpCall.TheVariants.{SetTask}
 use Rattle.tk_core.specs.declared.resource.call.ResourceCall.{ResourceCall}
 use Rattle.tk_core.specs.Lists.{each_with_before}
-use Rattle.tk_stream.specs.Tables.{TablesView, empty_tables}
+use Rattle.tk_stream.specs.Tables.{TablesView, PollCounts, empty_tables}
 use Rattle.tk_stream.specs.Spelling.{sent_text}
 use Rattle.tk_app.specs.Commands.{Said, task, task_owner, waker, resource, resource_owner, resource_user, op, op_task, op_owner, publish, said, is_skipped, lines_of}
+use Rattle.tk_app.specs.Counts.{counts_after}
 use Rattle.tk_app.specs.Items.{Item, made_item, TaskItem, new_task, ResourceItem, new_resource, OpItem, new_op, Made, tables_at}
 use Rattle.tk_app.specs.Told.{line_told}
 use Rattle.tk_app.specs.Wakers.{wakers_after}
@@ -92,6 +93,12 @@ op_calling (before, (line, op_task n t)) = Some (n, SetTask (id_of 1 t))
 op_calling (before, (line, op_owner n call)) = Some (n, call)
 op_calling (before, (line, _)) = None
 
+-- ---- poll operations
+
+-- how many poll operations of each resource commands make
+abbrev pub counts_by : List Placed → List PollCounts
+counts_by commands = fold (λ counts c. counts_after counts c.1) [] commands
+
 -- ---- the stream
 
 -- what commands make
@@ -100,6 +107,7 @@ made_by commands = record {
   tasks = items_by task_making task_calling commands;
   resources = items_by resource_making resource_calling commands;
   ops = items_by op_making op_calling commands;
+  counts = counts_by commands;
 }
 
 -- the tables that a command publishes behind the commands before it, and whether as a snapshot, if it publishes any

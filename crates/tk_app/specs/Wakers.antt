@@ -3,7 +3,7 @@ use Rattle.std.specs.Prelude.{ℕ, List, [], ◌∷◌, ◌++◌, Bool, true, fa
 use Rattle.std.specs.Option.{option_map_or}
 use Rattle.tk_core.specs.declared.task.call.TaskCall.{TaskCall}
 use Rattle.tk_core.specs.Task.{is_clone, is_last}
-use Rattle.tk_app.specs.Commands.{Said, task, task_owner, waker, resource, resource_owner, resource_user, op, op_task, op_owner, publish}
+use Rattle.tk_app.specs.Commands.{Said, task, task_owner, waker, resource, resource_owner, resource_user, op, op_task, op_owner, poll_op, publish}
 use Rattle.tk_app.specs.Items.{made_item, with_item}
 use Rattle.tk_app.specs.declared.waker.Waker.{Waker}
 
@@ -26,6 +26,7 @@ wakers_after wakers (resource_user n made) = wakers
 wakers_after wakers (op at r source attrs) = wakers
 wakers_after wakers (op_task n t) = wakers
 wakers_after wakers (op_owner n made) = wakers
+wakers_after wakers (poll_op r o t ready) = wakers
 wakers_after wakers (publish at whole) = wakers
 
 -- a spent waker makes no more calls

@@ -5,7 +5,7 @@ ghost use Rattle.tk_app.specs.Commands as spec;
 
 use crate::attributes::{Attributes, attributes_of, value_of};
 use crate::pieces::Pieces;
-use crate::words::{kind_of, moment_of, one_number, two_numbers};
+use crate::words::{kind_of, moment_of, one_number, readiness_of, two_numbers};
 use std::alloc::{AllocError, Global};
 use tk_core::{AttrOp, OpCall, ResourceCall, TaskCall};
 use tk_ids::{AttrValue, TaskKind, is_name};
@@ -62,6 +62,13 @@ pub(crate) enum Command<'a> {
     OpOwner {
         op: u64,
         call: OpCall,
+    },
+    /// A poll operation on a resource, by an async operation and a task.
+    PollOp {
+        resource: u64,
+        op: u64,
+        task: u64,
+        ready: bool,
     },
     /// A line of the stream, as a snapshot or not.
     Publish {
@@ -294,6 +301,34 @@ fn op_call<'a>(word: &[u8], words: Pieces<'a>) -> Option<Command<'a>>
     }
 }
 
+fn poll_op_of(words: Pieces<'_>) -> Option<Command<'_>>
+    ensures said { option_map spec.view result ≡ spec.poll_op_by (pieces_left words.entry) }
+    ensures named { IfSome result (λ c. spec.IsNamed (spec.view c)) }
+{
+    let mut words = words;
+    let resource = words.next()?;
+    let op = words.next()?;
+    let task = words.next()?;
+    let label = words.next()?;
+    let end = words.next()?;
+    if words.next().is_some() {
+        return None;
+    }
+    let resource = moment_of(resource)?;
+    let op = moment_of(op)?;
+    let task = moment_of(task)?;
+    if !is_name(label) {
+        return None;
+    }
+    let ready = readiness_of(end)?;
+    Some(Command::PollOp {
+        resource,
+        op,
+        task,
+        ready,
+    })
+}
+
 // A line of the stream.
 fn line_command<'a>(word: &[u8], words: Pieces<'a>) -> Option<Command<'a>>
     ensures said { option_map spec.view result ≡ spec.line_said word.now (pieces_left words.entry) }
@@ -343,6 +378,9 @@ pub(crate) fn command_of<'a>(
     }
     if let Some(command) = op_call(word, words) {
         return Ok(Some(command));
+    }
+    if word == b"pollop".as_slice() {
+        return Ok(poll_op_of(words));
     }
     Ok(line_command(word, words))
 }

@@ -2,6 +2,7 @@
 
 mod lines;
 mod ops;
+mod polls;
 mod resources;
 mod tasks;
 mod wakers;
@@ -75,6 +76,12 @@ impl Interpreter {
             } => self.make_op(alloc, moment, resource, source, attrs),
             Command::OpTask { op, task } => self.set_op_task(op, task),
             Command::OpOwner { op, call } => self.call_op_owner(op, call),
+            Command::PollOp {
+                resource,
+                op,
+                task,
+                ready,
+            } => self.poll_op(resource, op, task, ready),
             Command::Publish { moment, whole } => self.publish(alloc, moment, whole, writer),
         }
     }

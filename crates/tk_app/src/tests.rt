@@ -5,6 +5,7 @@ mod faults;
 mod given;
 mod items;
 mod ops;
+mod polls;
 mod readers;
 mod resources;
 mod rows;

@@ -56,6 +56,14 @@ fn first_row(created: u64, firsts: &[AttrValue]) -> OpRow
     row
 }
 
+/// The id of the operation that a script names by its number, if the operation was made.
+pub(super) fn made_op(tables: &Tables, number: u64) -> Option<AsyncOpId>
+    ensures { result ≡ option_map rows.op_id_in (items.made_item number tables.now.ops) }
+{
+    let op = tables.op_at(number.checked_sub(1)? as usize)?;
+    Some(op.info.id)
+}
+
 // The row of the operation that a script names by its number, if the operation was made and is not closed.
 fn live_row(tables: &Tables, number: u64) -> Option<OpRow>
     ensures { result ≡ option_map rows.op_row_in (items.live_item rows.is_closed_op_row number tables.now.ops) }

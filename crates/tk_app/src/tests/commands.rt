@@ -16,9 +16,9 @@ fn assert_are_bad<R: Abort + AllocGlobal>(rt: &R, lines: &[&'static [u8]]) -> Re
 
 // Commands that scripts do not have yet.
 #[rattlefmt::skip]
-const LATER: [&[u8]; 6] = [
+const LATER: [&[u8]; 4] = [
     b"capacity 16",
-    b"pollop 1 1 1 acquire ready", b"pollop 1 1 1 acquire pending", b"par", b"1 wakeref 1 5", b"join",
+    b"par", b"1 wakeref 1 5", b"join",
 ];
 
 #[test]

@@ -31,3 +31,6 @@ returns-in-OpTask g c s stands = rw c.in-OpTask.is ([], c.set_op_task.ensures c.
 
 pub returns-in-OpOwner : goal.returns-in-OpOwner
 returns-in-OpOwner g c s stands = rw c.in-OpOwner.is ([], c.call_op_owner.ensures c.args.line s stands, Appends-nil _)
+
+pub returns-in-PollOp : goal.returns-in-PollOp
+returns-in-PollOp g c s stands = rw c.in-PollOp.is ([], c.poll_op.ensures c.args.line s stands, Appends-nil _)
