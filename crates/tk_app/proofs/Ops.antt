@@ -1,5 +1,5 @@
 -- Async operations in the tables, and those of a state.
-use Rattle.std.proofs.Common.{◌≡◌, ℕ, ◌+◌, ◌-◌, List, [], ◌∷◌, ◌++◌, length, Option, None, Some, refl, ap, ◌∙◌}
+use Rattle.std.proofs.Common.{◌≡◌, ℕ, ◌+◌, ◌-◌, List, [], ◌∷◌, ◌++◌, length, None, Some, refl, ap, ◌∙◌}
 use Rattle.std.specs.Prelude.{map}
 use Rattle.std.proofs.lemmas.List.{map-append, length-map}
 use Rattle.tk_ids.specs.Ids.{id_of}
@@ -10,7 +10,7 @@ use Rattle.tk_core.specs.Op.{op_kind}
 use Rattle.tk_stream.specs.declared.op.Op.{Op}
 use Rattle.tk_stream.specs.Tables.{TablesView, with_op, with_op_row}
 use Rattle.tk_app.specs.Attributes.{Attrs}
-use Rattle.tk_app.specs.Items.{row_of, with_call, made_item, with_item, place, OpItem, op_of, op_info, new_op, Made, tables_at}
+use Rattle.tk_app.specs.Items.{row_of, with_call, made_item, with_item, OpItem, op_of, op_info, new_op, Made, tables_at}
 use Rattle.tk_app.specs.Rows.{first_op_row}
 use Rattle.tk_app.proofs.Standing.{changed-map, made_within}
 

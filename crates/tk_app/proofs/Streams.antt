@@ -1,5 +1,5 @@
 -- What the lines do, one after the other, is the stream of what the script publishes.
-use Rattle.std.proofs.Common.{◌≡◌, ℕ, ◌+◌, ◌^◌, ◌<◌, Bool, true, false, cond, List, [], ◌∷◌, ◌++◌, length, Option, Some, None, Ok, Err, refl, ap, sym, ◌∙◌, subst, append_assoc, length-append, arith}
+use Rattle.std.proofs.Common.{◌≡◌, ℕ, ◌+◌, ◌^◌, Bool, true, false, cond, List, [], ◌∷◌, ◌++◌, length, Option, Some, None, Ok, Err, refl, ap, sym, ◌∙◌, subst, append_assoc, length-append, arith}
 use Rattle.std.specs.Prelude.{fold, ◌==◌, nat_lt, nat_le, option_map}
 use Rattle.std.specs.List.{filter_map, enumerate_from, cons_option}
 use Rattle.std.specs.Option.{option_map_or}
@@ -20,7 +20,7 @@ use Rattle.tk_core.specs.Laws.Pushed.{each_push}
 use Rattle.tk_stream.specs.Tables.{TablesView, PollCounts, empty_tables}
 use Rattle.tk_stream.specs.Spelling.{sent_text}
 use Rattle.tk_app.specs.declared.refusal.Stop.{Stop}
-use Rattle.tk_app.specs.declared.refusal.Stop.TheVariants.{BadCommand, NoSuchItem, Call, OffersSpent, Clock, NumbersSpent}
+use Rattle.tk_app.specs.declared.refusal.Stop.TheVariants.{BadCommand, Call, OffersSpent, Clock, NumbersSpent}
 use Rattle.tk_app.specs.declared.waker.Waker.{Waker}
 use Rattle.tk_app.specs.Commands.{Said, task, task_owner, waker, resource, resource_owner, resource_user, op, op_task, op_owner, poll_op, publish, said, is_skipped}
 use Rattle.tk_app.specs.Counts.{counted, counts_after}

@@ -7,7 +7,6 @@ use Rattle.tk_ids.specs.declared.spec.TaskKind.{TaskKind}
 use Rattle.tk_core.specs.declared.task.call.TaskCall.{TaskCall}
 use Rattle.tk_core.specs.declared.task.call.TaskCall.TheVariants.{PollStart, PollEnd, Close, CloneWaker, WakeVal, WakeRef, Release}
 use Rattle.tk_ids.specs.declared.attr.AttrValue.{AttrValue}
-use Rattle.tk_core.specs.declared.attrs.AttrOp.{AttrOp}
 use Rattle.tk_core.specs.declared.attrs.AttrOp.TheVariants.{Add, Sub, Override}
 use Rattle.tk_core.specs.declared.op.call.OpCall.{OpCall}
 use Rattle.tk_core.specs.declared.op.call.OpCall.TheVariants as op_calls

@@ -1,5 +1,5 @@
 -- Rows of the items in tables. Inner: no public clause cites it.
-use Rattle.std.specs.Prelude.{◌≡◌, ℕ, List, [], ◌∷◌, Bool, Option, Some, None, is_some, Result, Ok, Err, option_map}
+use Rattle.std.specs.Prelude.{◌≡◌, ℕ, List, [], ◌∷◌, Bool, Option, Some, None, is_some, Result, Ok, Err}
 use Rattle.tk_core.specs.declared.reply.Refusal.{Refusal}
 use Rattle.tk_core.specs.declared.task.row.TaskRow.{TaskRow}
 use Rattle.tk_core.specs.declared.task.call.TaskCall.TheVariants.{Enlist}

@@ -1,6 +1,6 @@
-use Rattle.std.proofs.Common.{◌≡◌, List, ℕ, ◌++◌, map, Some, vec_len}
+use Rattle.std.proofs.Common.{◌≡◌, ◌++◌, map, Some, vec_len}
 use Rattle.std.specs.Prelude.{fold}
-use Rattle.tk_app.specs.Attributes.{Attrs, no_attrs, and_word}
+use Rattle.tk_app.specs.Attributes.{no_attrs, and_word}
 use Rattle.tk_app.specs.Pieces.{pieces_left}
 use Rattle.tk_app.proofs.attributes.attributes_of.Given as goal
 

@@ -1,4 +1,4 @@
-use Rattle.std.proofs.Common.{◌≡◌, refl, sym, ap, ◌∙◌}
+use Rattle.std.proofs.Common.{refl, sym, ◌∙◌}
 use Rattle.tk_app.specs.Items.{with_call, is_closed_op, op_of}
 use Rattle.tk_app.specs.Rows.{op_row_in, is_closed_op_row}
 use Rattle.tk_app.specs.Runs.{op_item_id}

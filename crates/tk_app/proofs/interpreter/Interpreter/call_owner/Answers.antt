@@ -1,4 +1,4 @@
-use Rattle.std.proofs.Common.{◌≡◌, refl, sym, ap, ◌∙◌}
+use Rattle.std.proofs.Common.{refl, sym, ap, ◌∙◌}
 use Rattle.tk_app.specs.Items.{with_call, is_closed_task, task_of}
 use Rattle.tk_app.specs.Rows.{row_in, is_closed}
 use Rattle.tk_app.specs.Runs.{task_item_id}

@@ -1,4 +1,4 @@
-use Rattle.std.proofs.Common.{◌≡◌, refl, sym, ap, ◌∙◌}
+use Rattle.std.proofs.Common.{refl, sym, ◌∙◌}
 use Rattle.tk_app.specs.Items.{with_call, resource_of}
 use Rattle.tk_app.specs.Rows.{resource_row_in}
 use Rattle.tk_app.specs.Runs.{resource_item_id}

@@ -1,14 +1,13 @@
-use Rattle.std.proofs.Common.{◌≡◌, ◌+◌, [], ◌∷◌, ◌++◌, length, true, None, Ok, refl, sym, ap, ◌∙◌, arith}
-use Rattle.std.specs.Prelude.{◌==◌}
+use Rattle.std.proofs.Common.{◌≡◌, ◌+◌, [], ◌∷◌, ◌++◌, length, None, Ok, refl, sym, ap, ◌∙◌, arith}
 use Rattle.tk_ids.specs.Ids.{id_of}
-use Rattle.tk_ids.specs.IdBlocks.{next_id, last_number}
+use Rattle.tk_ids.specs.IdBlocks.{next_id}
 use Rattle.tk_stream.specs.Tables.{TablesView, op_id, op_with}
 use Rattle.tk_app.specs.Items.{resource_of, op_of, op_info, new_op, Made}
 use Rattle.tk_app.specs.Attributes.{attrs_view}
 use Rattle.tk_app.specs.Rows.{first_op_row, resource_id_in}
 use Rattle.tk_app.specs.Runs.{op_item_id, resource_item_id}
 use Rattle.tk_app.specs.Script.{State}
-use Rattle.tk_app.proofs.Standing.{id_at, made_found, counted_push, next_free, next_ok, next_spent}
+use Rattle.tk_app.proofs.Standing.{id_at, made_found, counted_push, next_free, next_ok}
 use Rattle.tk_app.proofs.Resources.{resources_in}
 use Rattle.tk_app.proofs.Ops.{ops_made, op_info_is, op_added}
 use Rattle.tk_app.proofs.interpreter.Interpreter.make_op.Goals as goal

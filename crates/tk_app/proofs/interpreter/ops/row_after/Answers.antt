@@ -1,6 +1,6 @@
-use Rattle.std.proofs.Common.{◌≡◌, None, Some, sym, ap, ◌∙◌}
+use Rattle.std.proofs.Common.{sym, ap, ◌∙◌}
 use Rattle.tk_core.specs.Op.{op_kind}
-use Rattle.tk_core.specs.Fold.{refusal_in, reply_after}
+use Rattle.tk_core.specs.Fold.{refusal_in}
 use Rattle.tk_core.specs.Laws.Folded.{steps_to}
 use Rattle.tk_app.proofs.interpreter.ops.row_after.Goals as goal
 

@@ -1,6 +1,6 @@
-use Rattle.std.proofs.Common.{◌≡◌, None, Some, sym, ap, ◌∙◌}
+use Rattle.std.proofs.Common.{sym, ap, ◌∙◌}
 use Rattle.tk_core.specs.Resource.{resource_kind}
-use Rattle.tk_core.specs.Fold.{refusal_in, reply_after}
+use Rattle.tk_core.specs.Fold.{refusal_in}
 use Rattle.tk_core.specs.Laws.Folded.{steps_to}
 use Rattle.tk_app.proofs.interpreter.resources.row_after.Goals as goal
 
