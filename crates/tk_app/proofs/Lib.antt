@@ -1,7 +1,11 @@
 pub mod Cuts
 pub mod Moments
+pub mod Polls
 pub mod Published
 pub mod Runs
 pub mod Making
+pub mod Ops
 pub mod Standing
+pub mod Resources
 pub mod Streams
+pub mod Tasks

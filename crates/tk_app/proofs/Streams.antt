@@ -1,123 +1,133 @@
 -- What the lines do, one after the other, is the stream of what the script publishes.
-use Rattle.std.proofs.Common.{◌≡◌, ◌≢◌, ℕ, ◌+◌, ◌-◌, ◌^◌, ◌<◌, Bool, true, false, cond, List, [], ◌∷◌, ◌++◌, length, Option, Some, None, Ok, Err, refl, ap, sym, ◌∙◌, subst, append_assoc, length-append, arith}
+use Rattle.std.proofs.Common.{◌≡◌, ℕ, ◌+◌, ◌^◌, Bool, true, false, cond, List, [], ◌∷◌, ◌++◌, length, Option, Some, None, Ok, Err, refl, ap, sym, ◌∙◌, subst, append_assoc, length-append, arith}
 use Rattle.std.specs.Prelude.{fold, ◌==◌, nat_lt, nat_le, option_map}
 use Rattle.std.specs.List.{filter_map, enumerate_from, cons_option}
 use Rattle.std.specs.Option.{option_map_or}
-use Rattle.std.proofs.Math.ListN.{set}
-use Rattle.std.proofs.lemmas.Bool.{ne_eqb}
 use Rattle.std.proofs.lemmas.List.{append-nil}
+use Rattle.std.proofs.lemmas.List.Sums.{fold-append}
 use Rattle.std.proofs.lemmas.List.Elements.{filter_map-append}
-use Rattle.tk_ids.specs.declared.spec.TaskKind.{TaskKind}
 use Rattle.tk_ids.specs.IdBlocks.{last_number}
 use Rattle.tk_core.specs.declared.reply.Refusal.{Refusal}
 use Rattle.tk_core.specs.declared.task.call.TaskCall.{TaskCall}
+use Rattle.tk_ids.specs.Ids.{id_of}
+use Rattle.tk_core.specs.declared.op.call.OpCall.{OpCall}
+use Rattle.tk_core.specs.declared.op.call.OpCall.TheVariants.{SetTask}
+use Rattle.tk_core.specs.Op.{op_kind}
+use Rattle.tk_core.specs.declared.resource.call.ResourceCall.{ResourceCall}
+use Rattle.tk_core.specs.Resource.{resource_kind}
 use Rattle.tk_core.specs.Lists.{each_with_before}
-use Rattle.tk_core.specs.Fold.{refusal_in, reply_after}
-use Rattle.tk_core.specs.Task.{task_kind, opening_row}
 use Rattle.tk_core.specs.Laws.Pushed.{each_push}
-use Rattle.tk_stream.specs.Tables.{TablesView, empty_tables}
-use Rattle.tk_stream.specs.Lines.{line_between}
+use Rattle.tk_stream.specs.Tables.{TablesView, PollCounts, empty_tables}
 use Rattle.tk_stream.specs.Spelling.{sent_text}
 use Rattle.tk_app.specs.declared.refusal.Stop.{Stop}
 use Rattle.tk_app.specs.declared.refusal.Stop.TheVariants.{BadCommand, Call, OffersSpent, Clock, NumbersSpent}
-use Rattle.tk_app.specs.Commands.{Said, task, call, publish, said, is_skipped}
-use Rattle.tk_app.specs.Items.{Item, new_item, live_item, called, tables_at}
-use Rattle.tk_app.specs.Script.{State, start, owner_does, published, does, line_does, with_text, then_line, lines_do}
-use Rattle.tk_app.specs.Stream.{Placed, command_in, commands_in, call_on, items_of, tables_by, publications, stream_from}
+use Rattle.tk_app.specs.declared.waker.Waker.{Waker}
+use Rattle.tk_app.specs.Commands.{Said, task, task_owner, waker, resource, resource_owner, resource_user, op, op_task, op_owner, poll_op, publish, said, is_skipped}
+use Rattle.tk_app.specs.Counts.{counted, counts_after}
+use Rattle.tk_app.specs.Items.{made_item, live_item, TaskItem, is_closed_task, new_task, ResourceItem, is_closed_resource, new_resource, OpItem, is_closed_op, new_op, Made, tables_at}
+use Rattle.tk_app.specs.Script.{State, Doing, start, call_does, item_refusal, task_refusal, task_called, resource_called, op_called, op_call_does, if_made, waker_does, offered, published, does, line_does, with_text, then_line, lines_do}
+use Rattle.tk_app.specs.Stream.{Placed, command_in, commands_in, wakers_of, task_making, task_calling, resource_making, resource_calling, op_making, op_calling, counts_by, made_by, tables_by, publications, stream_from}
+use Rattle.tk_app.specs.Told.{line_told}
+use Rattle.tk_app.specs.Wakers.{wakers_after, is_spent_waker}
 use Rattle.tk_app.proofs.Runs.{enumerate_push}
-use Rattle.tk_app.proofs.Standing.{live_made, live_some, length-set}
-use Rattle.tk_app.proofs.Making.{calls_same, items_made, items_of-called, items_published}
+use Rattle.tk_app.proofs.Standing.{live_made}
+use Rattle.tk_app.proofs.Making.{AreMade, made_quiet, made_more, made_called}
 
 -- the last tables, or those before all
-abbrev shown_after : TablesView → List TablesView → TablesView
+abbrev shown_after : TablesView → List (TablesView × Bool) → TablesView
 shown_after old [] = old
-shown_after old (t ∷ ts) = shown_after t ts
+shown_after old (t ∷ ts) = shown_after t.0 ts
 
-stream_push : (n : ℕ) (old : TablesView) (ts : List TablesView) (t : TablesView) → stream_from n old (ts ++ t ∷ []) ≡ stream_from n old ts ++ sent_text (line_between (shown_after old ts) t (n + length ts))
+stream_push : (n : ℕ) (old : TablesView) (ts : List (TablesView × Bool)) (t : TablesView × Bool) → stream_from n old (ts ++ t ∷ []) ≡ stream_from n old ts ++ sent_text (line_told (shown_after old ts) t.0 (n + length ts) t.1)
 stream_push n old [] t =
     let e : n ≡ n + 0 = omega arith in
-    append-nil (sent_text (line_between old t n)) ∙ ap (λ m. sent_text (line_between old t m)) e
+    append-nil (sent_text (line_told old t.0 n t.1)) ∙ ap (λ m. sent_text (line_told old t.0 m t.1)) e
 stream_push n old (x ∷ ts) t =
     let e : (n + 1) + length ts ≡ n + length (x ∷ ts) = omega arith in
-    ap (λ rest. sent_text (line_between old x n) ++ rest) (stream_push (n + 1) x ts t ∙ ap (λ m. stream_from (n + 1) x ts ++ sent_text (line_between (shown_after x ts) t m)) e)
-    ∙ sym (append_assoc (sent_text (line_between old x n)) (stream_from (n + 1) x ts) (sent_text (line_between (shown_after x ts) t (n + length (x ∷ ts)))))
+    ap (λ rest. sent_text (line_told old x.0 n x.1) ++ rest) (stream_push (n + 1) x.0 ts t ∙ ap (λ m. stream_from (n + 1) x.0 ts ++ sent_text (line_told (shown_after x.0 ts) t.0 m t.1)) e)
+    ∙ sym (append_assoc (sent_text (line_told old x.0 n x.1)) (stream_from (n + 1) x.0 ts) (sent_text (line_told (shown_after x.0 ts) t.0 (n + length (x ∷ ts)) t.1)))
 
-shown_push : (old : TablesView) (ts : List TablesView) (t : TablesView) → shown_after old (ts ++ t ∷ []) ≡ t
+shown_push : (old : TablesView) (ts : List (TablesView × Bool)) (t : TablesView × Bool) → shown_after old (ts ++ t ∷ []) ≡ t.0
 shown_push old [] t = refl
-shown_push old (x ∷ ts) t = shown_push x ts t
+shown_push old (x ∷ ts) t = shown_push x.0 ts t
 
 publications_push : (commands : List Placed) (c : Placed) → publications (commands ++ c ∷ []) ≡ publications commands ++ cons_option (tables_by (commands, c)) []
 publications_push commands c = ap (filter_map tables_by) (each_push commands c) ∙ filter_map-append tables_by (each_with_before commands) ((commands, c) ∷ [])
 
+wakers_push : (commands : List Placed) (c : Placed) → wakers_of (commands ++ c ∷ []) ≡ wakers_after (wakers_of commands) c.1
+wakers_push commands c = fold-append (λ (ws : List Waker) (d : Placed). wakers_after ws d.1) [] commands (c ∷ [])
+
+counts_push : (commands : List Placed) (c : Placed) → counts_by (commands ++ c ∷ []) ≡ counts_after (counts_by commands) c.1
+counts_push commands c = fold-append (λ (cs : List PollCounts) (d : Placed). counts_after cs d.1) [] commands (c ∷ [])
+
+-- the items of a state are what commands make
+record Holds (commands : List Placed) (made : Made) : Type 0 where
+  pub tasks : AreMade task_making task_calling commands made.tasks
+  pub resources : AreMade resource_making resource_calling commands made.resources
+  pub ops : AreMade op_making op_calling commands made.ops
+  pub counts : made.counts ≡ counts_by commands
+
 -- a state and a text are what commands leave
 record Leaves (commands : List Placed) (s : State) (text : List ℕ) : Type 0 where
-  pub items : s.items ≡ items_of commands
+  pub made : Holds commands s.made
+  pub wakers : s.wakers ≡ wakers_of commands
   pub shown : s.shown ≡ shown_after empty_tables (publications commands)
   pub lines : s.lines ≡ length (publications commands)
   pub sent : text ≡ stream_from 1 empty_tables (publications commands)
-  -- no command calls a task before it is made
-  pub early : (k : ℕ) → length (items_of commands) < k → filter_map (call_on k) commands ≡ []
 
 leaves_none : Leaves [] start []
-leaves_none = record { items = refl; shown = refl; lines = refl; sent = refl; early = λ k far. refl }
+leaves_none = record { made = record { tasks = record { are = refl; early = λ k far. refl }; resources = record { are = refl; early = λ k far. refl }; ops = record { are = refl; early = λ k far. refl }; counts = refl }; wakers = refl; shown = refl; lines = refl; sent = refl }
 
--- the text stays where nothing is published
-unpublished : (commands : List Placed) (c : Placed) → tables_by (commands, c) ≡ None → publications (commands ++ c ∷ []) ≡ publications commands
-unpublished commands c none = publications_push commands c ∙ rw (none, append-nil)
+holds_made : (commands : List Placed) (made : Made) → Holds commands made → made ≡ made_by commands
+holds_made commands made holds = λ i. record { tasks = holds.tasks.are i; resources = holds.resources.are i; ops = holds.ops.are i; counts = holds.counts i }
 
-task_leaves : (commands : List Placed) (s : State) (text : List ℕ) (line at : ℕ) (kind : TaskKind) (name : List ℕ) → Leaves commands s text
-    → Leaves (commands ++ (line, task at kind name) ∷ []) (record s { items = s.items ++ new_item (length s.items + 1) line at kind name ∷ [] }) (text ++ [])
-task_leaves commands s text line at kind name l =
-    let c : Placed = (line, task at kind name) in
-    let same = unpublished commands c refl in
-    let made = items_made commands line at kind name (l.early (length (items_of commands) + 1) (omega arith)) in
+-- a command that publishes nothing leaves what was published
+unpublished : (commands : List Placed) (line : ℕ) (c : Said) (s : State) (text : List ℕ) (made : Made) → Leaves commands s text → tables_by (commands, (line, c)) ≡ None → Holds (commands ++ (line, c) ∷ []) made
+    → Leaves (commands ++ (line, c) ∷ []) (record s { made = made; wakers = wakers_after s.wakers c }) (text ++ [])
+unpublished commands line c s text made l none holds =
+    let same : publications (commands ++ (line, c) ∷ []) ≡ publications commands = publications_push commands (line, c) ∙ rw (none, append-nil) refl in
     record {
-      items = rw l.items (sym made);
+      made = holds;
+      wakers = ap (λ ws. wakers_after ws c) l.wakers ∙ sym (wakers_push commands (line, c));
       shown = rw same l.shown;
       lines = rw same l.lines;
       sent = append-nil text ∙ rw same l.sent;
-      early = λ k far. calls_same k commands c refl ∙ l.early k (omega (arith, ap length made, length-append (items_of commands) (new_item (length (items_of commands) + 1) line at kind name ∷ [])));
     }
 
-call_leaves : (commands : List Placed) (s : State) (text : List ℕ) (line n : ℕ) (made : TaskCall) (item : Item) → live_item n s.items ≡ Some item → Leaves commands s text
-    → Leaves (commands ++ (line, call n made) ∷ []) (record s { items = called s.items n item made }) (text ++ [])
-call_leaves commands s text line n made item live l =
-    let c : Placed = (line, call n made) in
-    let same = unpublished commands c refl in
-    let there = live_made n s.items item live in
-    let some = live_some n s.items item live in
-    let items : items_of (commands ++ c ∷ []) ≡ set (items_of commands) (n - 1) (record item { calls = item.calls ++ made ∷ [] }) =
-    items_of-called commands line n made item some (rw (← l.items) there.0) in
-    let long : length (items_of (commands ++ c ∷ [])) ≡ length (items_of commands) = ap length items ∙ length-set (items_of commands) (n - 1) (record item { calls = item.calls ++ made ∷ [] }) in
-    record {
-      items = rw l.items (sym items);
-      shown = rw same l.shown;
-      lines = rw same l.lines;
-      sent = append-nil text ∙ rw same l.sent;
-      early = λ k far.
-          let other : n ≢ k = λ e. omega (arith, e, far, long, there.1, ap length l.items, some) in
-          let misses : (n == k) ≡ false = ne_eqb n k other in
-          let none : call_on k c ≡ None = rw misses refl in
-          calls_same k commands c none ∙ l.early k (omega (arith, far, long));
-    }
+-- a command of another kind leaves the tasks
+tasks_stay : (commands : List Placed) (line : ℕ) (c : Said) (s : State) {text : List ℕ} → Leaves commands s text → task_making (line, c) ≡ None → task_calling (commands, (line, c)) ≡ None → AreMade task_making task_calling (commands ++ (line, c) ∷ []) s.made.tasks
+tasks_stay commands line c s l none quiet = made_quiet task_making task_calling commands (line, c) s.made.tasks l.made.tasks none quiet
 
-publish_leaves : (commands : List Placed) (s : State) (text : List ℕ) (line now : ℕ) → Leaves commands s text
-    → Leaves (commands ++ (line, publish now) ∷ []) (published s now) (text ++ sent_text (line_between s.shown (tables_at s.items now) (s.lines + 1)))
-publish_leaves commands s text line now l =
-    let c : Placed = (line, publish now) in
-    let new = tables_at (items_of commands) now in
+-- and the resources
+resources_stay : (commands : List Placed) (line : ℕ) (c : Said) (s : State) {text : List ℕ} → Leaves commands s text → resource_making (line, c) ≡ None → resource_calling (commands, (line, c)) ≡ None → AreMade resource_making resource_calling (commands ++ (line, c) ∷ []) s.made.resources
+resources_stay commands line c s l none quiet = made_quiet resource_making resource_calling commands (line, c) s.made.resources l.made.resources none quiet
+
+-- and the operations
+ops_stay : (commands : List Placed) (line : ℕ) (c : Said) (s : State) {text : List ℕ} → Leaves commands s text → op_making (line, c) ≡ None → op_calling (commands, (line, c)) ≡ None → AreMade op_making op_calling (commands ++ (line, c) ∷ []) s.made.ops
+ops_stay commands line c s l none quiet = made_quiet op_making op_calling commands (line, c) s.made.ops l.made.ops none quiet
+
+-- and the counts
+counts_stay : (commands : List Placed) (line : ℕ) (c : Said) (s : State) {text : List ℕ} → Leaves commands s text → counts_after (counts_by commands) c ≡ counts_by commands → s.made.counts ≡ counts_by (commands ++ (line, c) ∷ [])
+counts_stay commands line c s l kept = l.made.counts ∙ sym (counts_push commands (line, c) ∙ kept)
+
+publish_leaves : (commands : List Placed) (s : State) (text : List ℕ) (line now : ℕ) (whole : Bool) → Leaves commands s text
+    → Leaves (commands ++ (line, publish now whole) ∷ []) (published s now) (text ++ sent_text (line_told s.shown (tables_at s.made now) (s.lines + 1) whole))
+publish_leaves commands s text line now whole l =
+    let c : Placed = (line, publish now whole) in
+    let new : TablesView × Bool = (tables_at (made_by commands) now, whole) in
     let more : publications (commands ++ c ∷ []) ≡ publications commands ++ new ∷ [] = publications_push commands c in
     let next : s.lines + 1 ≡ 1 + length (publications commands) = omega (arith, l.lines) in
+    let made = holds_made commands s.made l.made in
     record {
-      items = l.items ∙ sym (items_published commands line now);
-      shown = rw (more, shown_push empty_tables (publications commands) new, l.items) refl;
+      made = record { tasks = tasks_stay commands line (publish now whole) s l refl refl; resources = resources_stay commands line (publish now whole) s l refl refl; ops = ops_stay commands line (publish now whole) s l refl refl; counts = counts_stay commands line (publish now whole) s l refl };
+      wakers = l.wakers ∙ sym (wakers_push commands c);
+      shown = rw (more, shown_push empty_tables (publications commands) new, made) refl;
       lines = rw more (l_length l.lines);
-      sent = rw (more, stream_push 1 empty_tables (publications commands) new, l.items, l.shown, next, l.sent) refl;
-      early = λ k far. calls_same k commands c refl ∙ l.early k (subst (λ m. m < k) (ap length (items_published commands line now)) far);
+      sent = rw (more, stream_push 1 empty_tables (publications commands) new, made, l.shown, next, l.sent) refl;
     }
   where
-    l_length : s.lines ≡ length (publications commands) → s.lines + 1 ≡ length (publications commands ++ tables_at (items_of commands) now ∷ [])
-    l_length e = omega (arith, e, length-append (publications commands) (tables_at (items_of commands) now ∷ []))
+    l_length : s.lines ≡ length (publications commands) → s.lines + 1 ≡ length (publications commands ++ (tables_at (made_by commands) now, whole) ∷ [])
+    l_length e = omega (arith, e, length-append (publications commands) ((tables_at (made_by commands) now, whole) ∷ []))
 
 -- ---- one line
 
@@ -126,31 +136,133 @@ chosen true d q p h = absurd cc
 chosen false true q p h = absurd cc
 chosen false false q p h = cc
 
-made : (b : Bool) (q p : State × List ℕ) → cond b (Err OffersSpent) (Ok q) ≡ Ok p → q ≡ p
-made true q p h = absurd cc
-made false q p h = cc
+room : (b : Bool) (q p : State × List ℕ) → cond b (Err OffersSpent) (Ok q) ≡ Ok p → q ≡ p
+room true q p h = absurd cc
+room false q p h = cc
 
--- a call that was accepted was made on an item
-accepted : (s : State) (n : ℕ) (c : TaskCall) (o : Option Item) (p : State × List ℕ) → owner_does s n c o ≡ Ok p → (item : Item) × (o ≡ Some item) × ◌≡◌ {A = State × List ℕ} (record s { items = called s.items n item c }, []) p
-accepted s n c None p h = absurd cc
-accepted s n c (Some item) p h = go (refusal_in (reply_after task_kind (opening_row item.created) item.calls c)) h
+-- a call that was accepted was made on what it names
+accepted : {X : Type 0} (refusal : X → Option Refusal) (next : X → State) (o : Option X) (p : State × List ℕ) → call_does refusal next o ≡ Ok p → (x : X) × (o ≡ Some x) × ◌≡◌ {A = State × List ℕ} (next x, []) p
+accepted refusal next None p h = absurd cc
+accepted {X} refusal next (Some x) p h = go (refusal x) h
   where
-    go : (r : Option Refusal) → option_map_or (λ refusal. Err (Call refusal)) r (Ok (record s { items = called s.items n item c }, [])) ≡ Ok p
-        → (x : Item) × (Some item ≡ Some x) × ◌≡◌ {A = State × List ℕ} (record s { items = called s.items n x c }, []) p
-    go None e = (item, refl, cc)
+    go : (r : Option Refusal) → option_map_or (λ refused. Err (Call refused)) r (Ok (next x, [])) ≡ Ok p
+        → (y : X) × (Some x ≡ Some y) × ◌≡◌ {A = State × List ℕ} (next y, []) p
+    go None e = (x, refl, cc)
     go (Some r) e = absurd cc
+
+-- a call by a waker that was accepted was made by a waker that is there
+accepted_waker : (s : State) (n : ℕ) (call : TaskCall) (o : Option Waker) (p : State × List ℕ) → waker_does s n call o ≡ Ok p → (used : Waker) × (o ≡ Some used) × (waker_does s n call (Some used) ≡ Ok p)
+accepted_waker s n call None p h = absurd cc
+accepted_waker s n call (Some used) p h = (used, refl, h)
 
 abbrev LeavesBy : List Placed → List ℕ → State × List ℕ → Type 0
 LeavesBy commands text p = Leaves commands p.0 (text ++ p.1)
 
+-- a call on a task leaves the task with that call
+task_call_leaves : (commands : List Placed) (s : State) (text : List ℕ) (line : ℕ) (c : Said) (n : ℕ) (call : TaskCall) (item : TaskItem) → Leaves commands s text → task_making (line, c) ≡ None → task_calling (commands, (line, c)) ≡ Some (n, call) → tables_by (commands, (line, c)) ≡ None
+    → resource_making (line, c) ≡ None → resource_calling (commands, (line, c)) ≡ None → op_making (line, c) ≡ None → op_calling (commands, (line, c)) ≡ None → counts_after (counts_by commands) c ≡ counts_by commands → made_item n s.made.tasks ≡ Some item → Leaves (commands ++ (line, c) ∷ []) (task_called s (wakers_after s.wakers c) n call item) (text ++ [])
+task_call_leaves commands s text line c n call item l none calls unsaid unmade quiet no_op no_op_call no_poll there =
+    unpublished commands line c s text _ l unsaid (record {
+      tasks = made_called task_making task_calling commands (line, c) s.made.tasks n call item l.made.tasks none calls there;
+      resources = resources_stay commands line c s l unmade quiet;
+      ops = ops_stay commands line c s l no_op no_op_call;
+      counts = counts_stay commands line c s l no_poll;
+    })
+
+-- a call on a resource leaves the resource with that call
+resource_call_leaves : (commands : List Placed) (s : State) (text : List ℕ) (line : ℕ) (c : Said) (n : ℕ) (call : ResourceCall) (item : ResourceItem) → Leaves commands s text → resource_making (line, c) ≡ None → resource_calling (commands, (line, c)) ≡ Some (n, call) → tables_by (commands, (line, c)) ≡ None
+    → task_making (line, c) ≡ None → task_calling (commands, (line, c)) ≡ None → op_making (line, c) ≡ None → op_calling (commands, (line, c)) ≡ None → counts_after (counts_by commands) c ≡ counts_by commands → wakers_after s.wakers c ≡ s.wakers → made_item n s.made.resources ≡ Some item → Leaves (commands ++ (line, c) ∷ []) (resource_called s n call item) (text ++ [])
+resource_call_leaves commands s text line c n call item l none calls unsaid unmade quiet no_op no_op_call no_poll kept there =
+    let next : Made = (resource_called s n call item).made in
+    let to : State → Type 0 = λ t. Leaves (commands ++ (line, c) ∷ []) t (text ++ []) in
+    subst to (λ i. record s { made = next; wakers = kept i }) (unpublished commands line c s text next l unsaid (record {
+      tasks = tasks_stay commands line c s l unmade quiet;
+      resources = made_called resource_making resource_calling commands (line, c) s.made.resources n call item l.made.resources none calls there;
+      ops = ops_stay commands line c s l no_op no_op_call;
+      counts = counts_stay commands line c s l no_poll;
+    }))
+
+-- a call on an operation leaves the operation with that call
+op_call_leaves : (commands : List Placed) (s : State) (text : List ℕ) (line : ℕ) (c : Said) (n : ℕ) (call : OpCall) (item : OpItem) → Leaves commands s text → op_making (line, c) ≡ None → op_calling (commands, (line, c)) ≡ Some (n, call) → tables_by (commands, (line, c)) ≡ None
+    → task_making (line, c) ≡ None → task_calling (commands, (line, c)) ≡ None → resource_making (line, c) ≡ None → resource_calling (commands, (line, c)) ≡ None → counts_after (counts_by commands) c ≡ counts_by commands → wakers_after s.wakers c ≡ s.wakers → made_item n s.made.ops ≡ Some item
+    → Leaves (commands ++ (line, c) ∷ []) (op_called s n call item) (text ++ [])
+op_call_leaves commands s text line c n call item l none calls unsaid no_task no_task_call unmade quiet no_poll kept there =
+    let next : Made = (op_called s n call item).made in
+    let to : State → Type 0 = λ t. Leaves (commands ++ (line, c) ∷ []) t (text ++ []) in
+    subst to (λ i. record s { made = next; wakers = kept i }) (unpublished commands line c s text next l unsaid (record {
+      tasks = tasks_stay commands line c s l no_task no_task_call;
+      resources = resources_stay commands line c s l unmade quiet;
+      ops = made_called op_making op_calling commands (line, c) s.made.ops n call item l.made.ops none calls there;
+      counts = counts_stay commands line c s l no_poll;
+    }))
+
+-- what was done needed what the command merely named
+was_made : {X : Type 0} (o : Option X) (doing : Doing) (p : State × List ℕ) → if_made o doing ≡ Ok p → doing ≡ Ok p
+was_made None doing p h = absurd cc
+was_made (Some x) doing p h = h
+
+did : (q p : State × List ℕ) → ◌≡◌ {A = Doing} (Ok q) (Ok p) → q ≡ p
+did q p h = cc
+
 command_leaves : (commands : List Placed) (s : State) (text : List ℕ) (line : ℕ) (c : Said) (p : State × List ℕ) → Leaves commands s text → does line s c ≡ Ok p → LeavesBy (commands ++ (line, c) ∷ []) text p
 command_leaves commands s text line (task at kind name) p l h =
-    subst (LeavesBy (commands ++ (line, task at kind name) ∷ []) text) (made (length s.items == last_number) _ p h) (task_leaves commands s text line at kind name l)
-command_leaves commands s text line (call n m) p l h =
-    let by = accepted s n m (live_item n s.items) p h in
-    subst (LeavesBy (commands ++ (line, call n m) ∷ []) text) by.2 (call_leaves commands s text line n m by.0 by.1 l)
-command_leaves commands s text line (publish now) p l h =
-    subst (LeavesBy (commands ++ (line, publish now) ∷ []) text) (chosen (nat_lt now s.shown.now) (nat_le (2 ^ 63) s.lines) _ p h) (publish_leaves commands s text line now l)
+    let c : Said = task at kind name in
+    let more = made_more task_making task_calling commands (line, c) s.made.tasks (new_task at kind name line) l.made.tasks refl refl in
+    subst (LeavesBy (commands ++ (line, c) ∷ []) text) (room (length s.made.tasks == last_number) _ p h) (unpublished commands line c s text _ l refl (record { tasks = more; resources = resources_stay commands line c s l refl refl; ops = ops_stay commands line c s l refl refl; counts = counts_stay commands line c s l refl }))
+command_leaves commands s text line (task_owner n call) p l h =
+    let c : Said = task_owner n call in
+    let by = accepted (task_refusal call) (task_called s (wakers_after s.wakers c) n call) (live_item is_closed_task n s.made.tasks) p h in
+    subst (LeavesBy (commands ++ (line, c) ∷ []) text) by.2 (task_call_leaves commands s text line c n call by.0 l refl refl refl refl refl refl refl refl (live_made is_closed_task n s.made.tasks by.0 by.1))
+command_leaves commands s text line (waker n call) p l h =
+    let c : Said = waker n call in
+    let used = accepted_waker s n call (live_item is_spent_waker n s.wakers) p h in
+    let by = accepted (task_refusal call) (task_called s (wakers_after s.wakers c) used.0.task call) (made_item used.0.task s.made.tasks) p used.2 in
+    let drawn : made_item n (wakers_of commands) ≡ Some used.0 = rw (← l.wakers) (live_made is_spent_waker n s.wakers used.0 used.1) in
+    let calls : task_calling (commands, (line, c)) ≡ Some (used.0.task, call) = ap (option_map (λ (x : Waker). (x.task, call))) drawn in
+    subst (LeavesBy (commands ++ (line, c) ∷ []) text) by.2 (task_call_leaves commands s text line c used.0.task call by.0 l refl calls refl refl refl refl refl refl by.1)
+command_leaves commands s text line (resource at kind concrete attrs) p l h =
+    let c : Said = resource at kind concrete attrs in
+    let more = made_more resource_making resource_calling commands (line, c) s.made.resources (new_resource at kind concrete attrs line) l.made.resources refl refl in
+    subst (LeavesBy (commands ++ (line, c) ∷ []) text) (room (length s.made.resources == last_number) _ p h) (unpublished commands line c s text _ l refl (record { tasks = tasks_stay commands line c s l refl refl; resources = more; ops = ops_stay commands line c s l refl refl; counts = counts_stay commands line c s l refl }))
+command_leaves commands s text line (resource_owner n call) p l h =
+    let c : Said = resource_owner n call in
+    let by = accepted (item_refusal resource_kind call) (resource_called s n call) (live_item is_closed_resource n s.made.resources) p h in
+    subst (LeavesBy (commands ++ (line, c) ∷ []) text) by.2 (resource_call_leaves commands s text line c n call by.0 l refl refl refl refl refl refl refl refl refl (live_made is_closed_resource n s.made.resources by.0 by.1))
+command_leaves commands s text line (resource_user n call) p l h =
+    let c : Said = resource_user n call in
+    let by = accepted (item_refusal resource_kind call) (resource_called s n call) (made_item n s.made.resources) p h in
+    subst (LeavesBy (commands ++ (line, c) ∷ []) text) by.2 (resource_call_leaves commands s text line c n call by.0 l refl refl refl refl refl refl refl refl refl by.1)
+command_leaves commands s text line (op at r source attrs) p l h =
+    let c : Said = op at r source attrs in
+    let more = made_more op_making op_calling commands (line, c) s.made.ops (new_op at r source attrs) l.made.ops refl refl in
+    let offer = offered s.made.ops (record s { made = record s.made { ops = s.made.ops ++ new_op at r source attrs (length s.made.ops + 1) ∷ [] } }) in
+    subst (LeavesBy (commands ++ (line, c) ∷ []) text) (room (length s.made.ops == last_number) _ p (was_made (made_item r s.made.resources) offer p h))
+    (unpublished commands line c s text _ l refl (record { tasks = tasks_stay commands line c s l refl refl; resources = resources_stay commands line c s l refl refl; ops = more; counts = counts_stay commands line c s l refl }))
+command_leaves commands s text line (op_task n t) p l h =
+    let c : Said = op_task n t in
+    let call : OpCall = SetTask (id_of 1 t) in
+    let found = live_item is_closed_op n s.made.ops in
+    let by = accepted (item_refusal op_kind call) (op_called s n call) found p (was_made (made_item t s.made.tasks) (op_call_does s n call found) p h) in
+    subst (LeavesBy (commands ++ (line, c) ∷ []) text) by.2 (op_call_leaves commands s text line c n call by.0 l refl refl refl refl refl refl refl refl refl (live_made is_closed_op n s.made.ops by.0 by.1))
+command_leaves commands s text line (op_owner n call) p l h =
+    let c : Said = op_owner n call in
+    let by = accepted (item_refusal op_kind call) (op_called s n call) (live_item is_closed_op n s.made.ops) p h in
+    subst (LeavesBy (commands ++ (line, c) ∷ []) text) by.2 (op_call_leaves commands s text line c n call by.0 l refl refl refl refl refl refl refl refl refl (live_made is_closed_op n s.made.ops by.0 by.1))
+command_leaves commands s text line (poll_op r o t ready) p l h =
+    let c : Said = poll_op r o t ready in
+    let next : Made = record s.made { counts = counted (id_of 1 r) ready s.made.counts } in
+    let q : State × List ℕ = (record s { made = next }, []) in
+    let third : Doing = if_made (made_item t s.made.tasks) (Ok q) in
+    let second : Doing = if_made (made_item o s.made.ops) third in
+    let e = did q p (was_made (made_item t s.made.tasks) (Ok q) p (was_made (made_item o s.made.ops) third p (was_made (made_item r s.made.resources) second p h))) in
+    subst (LeavesBy (commands ++ (line, c) ∷ []) text) e (unpublished commands line c s text next l refl (record {
+      tasks = tasks_stay commands line c s l refl refl;
+      resources = resources_stay commands line c s l refl refl;
+      ops = ops_stay commands line c s l refl refl;
+      counts = ap (counted (id_of 1 r) ready) l.made.counts ∙ sym (counts_push commands (line, c));
+    }))
+command_leaves commands s text line (publish now whole) p l h =
+    subst (LeavesBy (commands ++ (line, publish now whole) ∷ []) text) (chosen (nat_lt now s.shown.now) (nat_le (2 ^ 63) s.lines) _ p h) (publish_leaves commands s text line now whole l)
 
 abbrev placed : ℕ → Option Said → Option Placed
 placed number o = option_map (λ c. (number, c)) o

@@ -1,9 +1,13 @@
 -- A script's text
 pub mod Pieces
 pub mod Words
+pub mod Attributes
 pub mod Commands
 -- What a script does, line by line
 pub mod Items
+pub mod Wakers
+pub mod Counts
+pub mod Told
 pub mod Refusals
 pub mod Script
 -- What a script without a fault writes

@@ -1,5 +1,5 @@
 -- The words of a command: numbers, and kinds of tasks.
-use Rattle.std.specs.Prelude.{ℕ, ◌^◌, List, [], ◌∷◌, length, ◌&&◌, nat_lt, nat_le, if◌then◌else◌, Option, Some, None, option_map, option_and_then, codes}
+use Rattle.std.specs.Prelude.{ℕ, ◌^◌, List, [], ◌∷◌, length, ◌&&◌, Bool, true, false, nat_lt, nat_le, if◌then◌else◌, Option, Some, None, option_map, option_and_then, codes}
 use Rattle.std.specs.List.{list_all}
 use Rattle.std.specs.Char.{is_ascii_digit}
 use Rattle.std.specs.Str.{bytes_eq}
@@ -16,6 +16,10 @@ moment word =
 -- the kind of task that a word names
 abbrev pub kind : List ℕ → Option TaskKind
 kind word = if bytes_eq word (codes "spawn") then Some Spawn else (if bytes_eq word (codes "blocking") then Some Blocking else None)
+
+-- whether a poll operation was ready or pending
+abbrev pub readiness : List ℕ → Option Bool
+readiness word = if bytes_eq word (codes "ready") then Some true else (if bytes_eq word (codes "pending") then Some false else None)
 
 -- one word, which is a number
 abbrev pub one_number : List (List ℕ) → Option ℕ

@@ -1,15 +1,17 @@
 //! What a line of a script says.
-ghost use Rattle.std.specs.Prelude.{◌≡◌, IfSome, option_map};
+ghost use Rattle.std.specs.Prelude.{◌≡◌, IfOk, IfSome, option_map};
 ghost use Rattle.tk_app.specs.Pieces.{pieces_left};
 ghost use Rattle.tk_app.specs.Commands as spec;
 
+use crate::attributes::{Attributes, attributes_of, value_of};
 use crate::pieces::Pieces;
-use crate::words::{kind_of, moment_of, one_number, two_numbers};
-use tk_core::TaskCall;
-use tk_ids::{TaskKind, is_name};
+use crate::words::{kind_of, moment_of, one_number, readiness_of, two_numbers};
+use std::alloc::{AllocError, Global};
+use tk_core::{AttrOp, OpCall, ResourceCall, TaskCall};
+use tk_ids::{AttrValue, TaskKind, is_name};
 
-/// What a line of a script says.
-#[derive(Clone, Copy, Debug)]
+/// What a line of a script says. It names items by their numbers from 1.
+#[derive(Debug, Drop)]
 pub(crate) enum Command<'a> {
     /// A task, created at a moment.
     Task {
@@ -17,14 +19,61 @@ pub(crate) enum Command<'a> {
         kind: TaskKind,
         name: &'a [u8],
     },
-    /// A call of the owner of a task, which the script names by its number from 1.
+    /// A call of the owner of a task.
     Owner {
         task: u64,
         call: TaskCall,
     },
-    /// A line of the stream.
+    /// A call of a waker.
+    Waker {
+        waker: u64,
+        call: TaskCall,
+    },
+    /// A resource, created at a moment.
+    Resource {
+        moment: u64,
+        kind: &'a [u8],
+        concrete: &'a [u8],
+        attrs: Attributes,
+    },
+    /// A call of the owner of a resource.
+    ResourceOwner {
+        resource: u64,
+        call: ResourceCall,
+    },
+    /// A call of the user of a resource.
+    ResourceUser {
+        resource: u64,
+        call: ResourceCall,
+    },
+    /// An async operation on a resource, created at a moment.
+    Op {
+        moment: u64,
+        resource: u64,
+        source: &'a [u8],
+        attrs: Attributes,
+    },
+    /// From now on a task polls an async operation.
+    OpTask {
+        op: u64,
+        task: u64,
+    },
+    /// A call of the owner of an async operation.
+    OpOwner {
+        op: u64,
+        call: OpCall,
+    },
+    /// A poll operation on a resource, by an async operation and a task.
+    PollOp {
+        resource: u64,
+        op: u64,
+        task: u64,
+        ready: bool,
+    },
+    /// A line of the stream, as a snapshot or not.
     Publish {
         moment: u64,
+        whole: bool,
     },
 }
 
@@ -47,13 +96,11 @@ fn task_of(words: Pieces<'_>) -> Option<Command<'_>>
     Some(Command::Task { moment, kind, name })
 }
 
-/// The command of a line, if the line says one.
-pub(crate) fn command_of(line: &[u8]) -> Option<Command<'_>>
-    ensures said { option_map spec.view result ≡ spec.said line.now }
+// A task, or a call of its owner.
+fn task_command<'a>(word: &[u8], words: Pieces<'a>) -> Option<Command<'a>>
+    ensures said { option_map spec.view result ≡ spec.task_said word.now (pieces_left words.entry) }
     ensures named { IfSome result (λ c. spec.IsNamed (spec.view c)) }
 {
-    let mut words = Pieces::new(line, b' ');
-    let word = words.next()?;
     if word == b"task".as_slice() {
         task_of(words)
     } else if word == b"start".as_slice() {
@@ -71,9 +118,269 @@ pub(crate) fn command_of(line: &[u8]) -> Option<Command<'_>>
             task,
             call: TaskCall::Close(moment),
         })
-    } else if word == b"publish".as_slice() {
-        one_number(words).map(|moment| Command::Publish { moment })
+    } else if word == b"selfwake".as_slice() {
+        two_numbers(words).map(|(task, moment)| Command::Owner {
+            task,
+            call: TaskCall::WakeRef(moment, true),
+        })
+    } else if word == b"clone".as_slice() {
+        one_number(words).map(|task| Command::Owner {
+            task,
+            call: TaskCall::CloneWaker,
+        })
     } else {
         None
     }
+}
+
+// A call of a waker.
+fn waker_command<'a>(word: &[u8], words: Pieces<'a>) -> Option<Command<'a>>
+    ensures said { option_map spec.view result ≡ spec.waker_said word.now (pieces_left words.entry) }
+    ensures named { IfSome result (λ c. spec.IsNamed (spec.view c)) }
+{
+    if word == b"again".as_slice() {
+        one_number(words).map(|waker| Command::Waker {
+            waker,
+            call: TaskCall::CloneWaker,
+        })
+    } else if word == b"wakeref".as_slice() {
+        two_numbers(words).map(|(waker, moment)| Command::Waker {
+            waker,
+            call: TaskCall::WakeRef(moment, false),
+        })
+    } else if word == b"wake".as_slice() {
+        two_numbers(words).map(|(waker, moment)| Command::Waker {
+            waker,
+            call: TaskCall::WakeVal(moment, false),
+        })
+    } else if word == b"release".as_slice() {
+        one_number(words).map(|waker| Command::Waker {
+            waker,
+            call: TaskCall::Release,
+        })
+    } else {
+        None
+    }
+}
+
+fn resource_of<'a>(alloc: Global, words: Pieces<'a>) -> Result<Option<Command<'a>>, AllocError>
+    ensures said { IfOk result (λ o. option_map spec.view o ≡ spec.resource_by (pieces_left words.entry)) }
+    ensures named { IfOk result (λ o. IfSome o (λ c. spec.IsNamed (spec.view c))) }
+{
+    let mut words = words;
+    let (Some(moment), Some(kind), Some(concrete)) = (words.next(), words.next(), words.next())
+    else {
+        return Ok(None);
+    };
+    let Some(moment) = moment_of(moment) else {
+        return Ok(None);
+    };
+    if !is_name(kind) || !is_name(concrete) {
+        return Ok(None);
+    }
+    let Some(attrs) = attributes_of(alloc, words)? else {
+        return Ok(None);
+    };
+    Ok(Some(Command::Resource {
+        moment,
+        kind,
+        concrete,
+        attrs,
+    }))
+}
+
+// The number of an item, the index of an attribute, and a value.
+fn change_of(words: Pieces<'_>) -> Option<(u64, u64, AttrValue)>
+    ensures { result ≡ spec.change_by (pieces_left words.entry) }
+{
+    let mut words = words;
+    let number = words.next()?;
+    let index = words.next()?;
+    let value = words.next()?;
+    if words.next().is_some() {
+        return None;
+    }
+    Some((moment_of(number)?, moment_of(index)?, value_of(value)?))
+}
+
+// A change of an attribute by a resource's user, or a close by its owner.
+fn resource_call<'a>(word: &[u8], words: Pieces<'a>) -> Option<Command<'a>>
+    ensures said { option_map spec.view result ≡ spec.resource_call_said word.now (pieces_left words.entry) }
+    ensures named { IfSome result (λ c. spec.IsNamed (spec.view c)) }
+{
+    if word == b"radd".as_slice() {
+        change_of(words).map(|(resource, i, value)| Command::ResourceUser {
+            resource,
+            call: ResourceCall::Attr(i, AttrOp::Add(value)),
+        })
+    } else if word == b"rsub".as_slice() {
+        change_of(words).map(|(resource, i, value)| Command::ResourceUser {
+            resource,
+            call: ResourceCall::Attr(i, AttrOp::Sub(value)),
+        })
+    } else if word == b"rset".as_slice() {
+        change_of(words).map(|(resource, i, value)| Command::ResourceUser {
+            resource,
+            call: ResourceCall::Attr(i, AttrOp::Override(value)),
+        })
+    } else if word == b"rclose".as_slice() {
+        two_numbers(words).map(|(resource, moment)| Command::ResourceOwner {
+            resource,
+            call: ResourceCall::Close(moment),
+        })
+    } else {
+        None
+    }
+}
+
+fn op_of<'a>(alloc: Global, words: Pieces<'a>) -> Result<Option<Command<'a>>, AllocError>
+    ensures said { IfOk result (λ o. option_map spec.view o ≡ spec.op_by (pieces_left words.entry)) }
+    ensures named { IfOk result (λ o. IfSome o (λ c. spec.IsNamed (spec.view c))) }
+{
+    let mut words = words;
+    let (Some(moment), Some(resource), Some(source)) = (words.next(), words.next(), words.next())
+    else {
+        return Ok(None);
+    };
+    let (Some(moment), Some(resource)) = (moment_of(moment), moment_of(resource)) else {
+        return Ok(None);
+    };
+    if !is_name(source) {
+        return Ok(None);
+    }
+    let Some(attrs) = attributes_of(alloc, words)? else {
+        return Ok(None);
+    };
+    Ok(Some(Command::Op {
+        moment,
+        resource,
+        source,
+        attrs,
+    }))
+}
+
+// A call of the owner of an async operation.
+fn op_call<'a>(word: &[u8], words: Pieces<'a>) -> Option<Command<'a>>
+    ensures said { option_map spec.view result ≡ spec.op_call_said word.now (pieces_left words.entry) }
+    ensures named { IfSome result (λ c. spec.IsNamed (spec.view c)) }
+{
+    if word == b"optask".as_slice() {
+        two_numbers(words).map(|(op, task)| Command::OpTask { op, task })
+    } else if word == b"opstart".as_slice() {
+        two_numbers(words).map(|(op, moment)| Command::OpOwner {
+            op,
+            call: OpCall::PollStart(moment),
+        })
+    } else if word == b"opend".as_slice() {
+        two_numbers(words).map(|(op, moment)| Command::OpOwner {
+            op,
+            call: OpCall::PollEnd(moment),
+        })
+    } else if word == b"opclose".as_slice() {
+        two_numbers(words).map(|(op, moment)| Command::OpOwner {
+            op,
+            call: OpCall::Close(moment),
+        })
+    } else if word == b"oadd".as_slice() {
+        change_of(words).map(|(op, i, value)| Command::OpOwner {
+            op,
+            call: OpCall::Attr(i, AttrOp::Add(value)),
+        })
+    } else if word == b"osub".as_slice() {
+        change_of(words).map(|(op, i, value)| Command::OpOwner {
+            op,
+            call: OpCall::Attr(i, AttrOp::Sub(value)),
+        })
+    } else if word == b"oset".as_slice() {
+        change_of(words).map(|(op, i, value)| Command::OpOwner {
+            op,
+            call: OpCall::Attr(i, AttrOp::Override(value)),
+        })
+    } else {
+        None
+    }
+}
+
+fn poll_op_of(words: Pieces<'_>) -> Option<Command<'_>>
+    ensures said { option_map spec.view result ≡ spec.poll_op_by (pieces_left words.entry) }
+    ensures named { IfSome result (λ c. spec.IsNamed (spec.view c)) }
+{
+    let mut words = words;
+    let resource = words.next()?;
+    let op = words.next()?;
+    let task = words.next()?;
+    let label = words.next()?;
+    let end = words.next()?;
+    if words.next().is_some() {
+        return None;
+    }
+    let resource = moment_of(resource)?;
+    let op = moment_of(op)?;
+    let task = moment_of(task)?;
+    if !is_name(label) {
+        return None;
+    }
+    let ready = readiness_of(end)?;
+    Some(Command::PollOp {
+        resource,
+        op,
+        task,
+        ready,
+    })
+}
+
+// A line of the stream.
+fn line_command<'a>(word: &[u8], words: Pieces<'a>) -> Option<Command<'a>>
+    ensures said { option_map spec.view result ≡ spec.line_said word.now (pieces_left words.entry) }
+    ensures named { IfSome result (λ c. spec.IsNamed (spec.view c)) }
+{
+    if word == b"publish".as_slice() {
+        one_number(words).map(|moment| Command::Publish {
+            moment,
+            whole: false,
+        })
+    } else if word == b"snapshot".as_slice() {
+        one_number(words).map(|moment| Command::Publish {
+            moment,
+            whole: true,
+        })
+    } else {
+        None
+    }
+}
+
+/// The command of a line, if the line says one.
+pub(crate) fn command_of<'a>(
+    alloc: Global,
+    line: &'a [u8],
+) -> Result<Option<Command<'a>>, AllocError>
+    ensures said { IfOk result (λ o. option_map spec.view o ≡ spec.said line.now) }
+    ensures named { IfOk result (λ o. IfSome o (λ c. spec.IsNamed (spec.view c))) }
+{
+    let mut words = Pieces::new(line, b' ');
+    let Some(word) = words.next() else {
+        return Ok(None);
+    };
+    if word == b"resource".as_slice() {
+        return resource_of(alloc, words);
+    }
+    if word == b"op".as_slice() {
+        return op_of(alloc, words);
+    }
+    if let Some(command) = task_command(word, words) {
+        return Ok(Some(command));
+    }
+    if let Some(command) = waker_command(word, words) {
+        return Ok(Some(command));
+    }
+    if let Some(command) = resource_call(word, words) {
+        return Ok(Some(command));
+    }
+    if let Some(command) = op_call(word, words) {
+        return Ok(Some(command));
+    }
+    if word == b"pollop".as_slice() {
+        return Ok(poll_op_of(words));
+    }
+    Ok(line_command(word, words))
 }

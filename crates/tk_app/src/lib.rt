@@ -1,6 +1,7 @@
 //! What the program does: a script is run, and its stream is written.
 #![tactic(auto)]
 
+mod attributes;
 mod command;
 mod fault;
 mod gate;
@@ -9,6 +10,7 @@ mod pieces;
 mod refusal;
 mod script;
 mod transfer;
+mod waker;
 mod words;
 
 pub use fault::AppFault;

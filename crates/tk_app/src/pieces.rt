@@ -3,7 +3,7 @@ ghost use Rattle.std.specs.Iterator.{YieldsFirstRef, item_count};
 ghost use Rattle.tk_app.specs.Pieces.{pieces_at, pieces_left, pieces_of_rest};
 
 /// The pieces of a text that is cut at each of one byte.
-#[derive(Drop)]
+#[derive(Clone, Copy)]
 pub struct Pieces<'a> {
     rest: Option<&'a [u8]>,
     byte: u8,
@@ -35,7 +35,8 @@ impl<'a> Iterator for Pieces<'a> {
     }
 }
 
-fn find(text: &[u8], byte: u8) -> Option<usize>
+/// Where the byte stands first.
+pub fn find(text: &[u8], byte: u8) -> Option<usize>
     ensures { result ≡ position (λ b. b == byte) text.now }
 {
     text.iter().position(|b| *b == byte)

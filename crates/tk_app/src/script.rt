@@ -44,7 +44,10 @@ fn run_line<W: Write>(
     if is_skipped(line) {
         return Ok(());
     }
-    match command_of(line) {
+    let Ok(said) = command_of(alloc, line) else {
+        return Err(Stop::Memory);
+    };
+    match said {
         Some(command) => interpreter.apply(alloc, number, command, writer),
         None => Err(Stop::BadCommand),
     }
@@ -85,8 +88,8 @@ fn run_lines<W: Write>(
 /// - `Memory`: the script could not be kept, or the run not begun, for want of memory. Nothing was written.
 /// - `Read`: the reader failed, gave no end within 2^32 reads, or gave more than 1,048,576 bytes. Nothing was written.
 /// - `Script`: a line was refused, and what the lines before it published stands. Its name is `BadCommand`
-///   (no command), `NoSuchItem` (a task that was not made, or is closed), the name of the refused call's
-///   refusal, `OffersSpent` (2^40 - 1 tasks were made), `Clock` (a moment below the last line's),
+///   (no command), `NoSuchItem` (an item that was not made, or is spent), the name of the refused call's
+///   refusal, `OffersSpent` (2^40 - 1 items of a kind were made), `Clock` (a moment below the last line's),
 ///   `NumbersSpent` (2^63 lines were written), `Memory`, or `WriteFault` (a proper front of the next line went out).
 pub fn run_script<R: Read, W: Write, G: Gate>(
     alloc: Global,

@@ -40,6 +40,19 @@ pub(crate) fn kind_of(word: &[u8]) -> Option<TaskKind>
     }
 }
 
+/// Whether a poll operation was ready or pending.
+pub(crate) fn readiness_of(word: &[u8]) -> Option<bool>
+    ensures { result ≡ spec.readiness word.now }
+{
+    if word == b"ready".as_slice() {
+        Some(true)
+    } else if word == b"pending".as_slice() {
+        Some(false)
+    } else {
+        None
+    }
+}
+
 /// The number that stands alone in the words.
 pub(crate) fn one_number(words: Pieces<'_>) -> Option<u64>
     ensures { result ≡ spec.one_number (pieces_left words.entry) }

@@ -16,11 +16,9 @@ fn assert_are_bad<R: Abort + AllocGlobal>(rt: &R, lines: &[&'static [u8]]) -> Re
 
 // Commands that scripts do not have yet.
 #[rattlefmt::skip]
-const LATER: [&[u8]; 27] = [
-    b"capacity 16", b"selfwake 1 5", b"clone 1", b"again 1", b"wakeref 1 5", b"wake 1 5", b"release 1",
-    b"resource 1 Sync Semaphore", b"resource 1 Sync Semaphore permits=5", b"radd 1 0 1", b"rsub 1 0 1", b"rset 1 0 1", b"rclose 1 5",
-    b"op 1 1 acquire", b"optask 1 1", b"opstart 1 5", b"opend 1 5", b"opclose 1 5", b"oadd 1 0 1", b"osub 1 0 1", b"oset 1 0 true",
-    b"pollop 1 1 1 acquire ready", b"pollop 1 1 1 acquire pending", b"snapshot 5", b"par", b"1 wakeref 1 5", b"join",
+const LATER: [&[u8]; 4] = [
+    b"capacity 16",
+    b"par", b"1 wakeref 1 5", b"join",
 ];
 
 #[test]
@@ -36,10 +34,12 @@ const UNKNOWN: [&[u8]; 7] = [
 
 // Too few words and too many.
 #[rattlefmt::skip]
-const WRONG_NUMBER_OF_WORDS: [&[u8]; 16] = [
+const WRONG_NUMBER_OF_WORDS: [&[u8]; 34] = [
     b"task", b"task 1", b"task 1 spawn", b"task 1 spawn a b",
     b"start", b"start 1", b"start 1 2 3", b"end", b"end 1", b"end 1 2 3", b"close", b"close 1", b"close 1 2 3",
-    b"publish", b"publish 1 2", b"publish 1 main",
+    b"publish", b"publish 1 2", b"publish 1 main", b"snapshot", b"snapshot 1 2",
+    b"selfwake", b"selfwake 1", b"selfwake 1 2 3", b"clone", b"clone 1 2", b"again", b"again 1 2",
+    b"wakeref", b"wakeref 1", b"wakeref 1 2 3", b"wake", b"wake 1", b"wake 1 2 3", b"release", b"release 1 2", b"release 1 x",
 ];
 
 #[test]
@@ -50,10 +50,11 @@ fn words_are_known_and_counted(rt: HostRuntime) -> Result<(), Fail> {
 
 // 2^64, signs, 21 digits, and words that are no number.
 #[rattlefmt::skip]
-const NUMBERS: [&[u8]; 14] = [
+const NUMBERS: [&[u8]; 20] = [
     b"publish 18446744073709551616", b"publish 99999999999999999999", b"publish -1", b"publish +1",
     b"publish 000000000000000000001", b"publish 1a", b"publish 0x1", b"publish 1_000", b"publish 1.0", b"publish \xd9\xa1",
     b"task -1 spawn a", b"start one 5", b"end 1 five", b"close 18446744073709551616 5",
+    b"snapshot -1", b"selfwake 1 -1", b"clone one", b"again 0x1", b"wake 1 18446744073709551616", b"release +1",
 ];
 
 // Words that are no kind, and names that are empty or have a byte outside 0x20 to 0x7E.

@@ -92,7 +92,7 @@ close 1 180
 publish 200",            POLLED_AND_CLOSED),
 ];
 
-fn line_of(alloc: Global, row: &str) -> Result<String, Fail> {
+pub(super) fn line_of(alloc: Global, row: &str) -> Result<String, Fail> {
     Ok(format!(in alloc; "{HEAD}{row}{TAIL}")?)
 }
 

@@ -4,7 +4,7 @@ use Rattle.tk_core.specs.Fold.{row_after}
 use Rattle.tk_core.specs.Task.{task_kind, opening_row}
 use Rattle.tk_core.specs.Laws.TaskLaws.{begins}
 use Rattle.tk_core.specs.Laws.Folded.{steps_to}
-use Rattle.tk_app.proofs.interpreter.first_row.Goals as goal
+use Rattle.tk_app.proofs.interpreter.tasks.first_row.Goals as goal
 
 pub returns : goal.returns
 returns c =

@@ -1,0 +1,88 @@
+//! Resources, as lines tell them, and the calls of their owners and users.
+
+use super::given::assert_runs;
+use std::test::Fail;
+
+// A resource with two attributes, of which its user changed one.
+const NEW: &str =
+    r#"{"dropped":[0,0,0],"new_ops":[],"new_resources":[{"attrs":[["permits",null,"u64"],["closed",null,"bool"]],"id":1099511627777,"kind":"Sync","loc":["script",1,1],"parent":null,"type":"Semaphore"}],"new_tasks":[],"now":50,"op_stats":[],"poll_counts":[],"resource_stats":[{"attrs":[3,false],"created":20,"dropped":null,"handles":2,"id":1099511627777}],"seq":1,"snapshot":false,"task_stats":[],"v":1}"#;
+
+// Its user changed the other one too, and its owner closed it.
+const CHANGED: &str =
+    r#"{"dropped":[0,0,0],"new_ops":[],"new_resources":[],"new_tasks":[],"now":60,"op_stats":[],"poll_counts":[],"resource_stats":[{"attrs":[3,true],"created":20,"dropped":55,"handles":2,"id":1099511627777}],"seq":2,"snapshot":false,"task_stats":[],"v":1}"#;
+
+// A resource without attributes.
+const PLAIN: &str =
+    r#"{"dropped":[0,0,0],"new_ops":[],"new_resources":[{"attrs":[],"id":1099511627777,"kind":"Sync","loc":["script",1,1],"parent":null,"type":"Notify"}],"new_tasks":[],"now":50,"op_stats":[],"poll_counts":[],"resource_stats":[{"attrs":[],"created":20,"dropped":null,"handles":2,"id":1099511627777}],"seq":1,"snapshot":false,"task_stats":[],"v":1}"#;
+
+// As many attributes as there may be, each at an end of its range.
+const SIX: &str =
+    r#"{"dropped":[0,0,0],"new_ops":[],"new_resources":[{"attrs":[["a",null,"u64"],["b",null,"u64"],["c",null,"u64"],["d",null,"u64"],["e",null,"u64"],["f",null,"u64"]],"id":1099511627777,"kind":"K","loc":["script",1,1],"parent":null,"type":"T"}],"new_tasks":[],"now":50,"op_stats":[],"poll_counts":[],"resource_stats":[{"attrs":[0,1,2,3,4,18446744073709551615],"created":1,"dropped":null,"handles":2,"id":1099511627777}],"seq":1,"snapshot":false,"task_stats":[],"v":1}"#;
+
+const CALLED: &[u8] =
+    b"resource 20 Sync Semaphore permits=5 closed=false\nrsub 1 0 2\npublish 50\nrset 1 1 true\nradd 1 0 1\nrsub 1 0 1\nrclose 1 55\npublish 60\n";
+
+#[rattlefmt::skip]
+const LINES: [(&str, &[u8], &[&str]); 3] = [
+    ("a resource and its calls", CALLED, &[NEW, CHANGED]),
+    ("no attributes",            b"resource 20 Sync Notify\npublish 50\n", &[PLAIN]),
+    ("six attributes",           b"resource 1 K T a=0 b=1 c=2 d=3 e=4 f=18446744073709551615\npublish 50\n", &[SIX]),
+];
+
+#[test]
+fn resources_are_told(rt: HostRuntime) -> Result<(), Fail> {
+    for (case, script, lines) in LINES {
+        assert_runs(&rt, case, script, "", lines)?;
+    }
+    Ok(())
+}
+
+// Each script stops at its last line.
+#[rattlefmt::skip]
+const REFUSED: [(&str, &[u8], &str); 18] = [
+    ("a change behind a close",      b"resource 1 Sync S a=1\nrclose 1 2\nradd 1 0 1\n",           "line 3: Closed"),
+    ("a second close",               b"resource 1 Sync S a=1\nrclose 1 2\nrclose 1 3\n",           "line 3: NoSuchItem"),
+    ("no resource was made",         b"rclose 1 2\n",                                               "line 1: NoSuchItem"),
+    ("one resource was made",        b"resource 1 Sync S a=1\nradd 2 0 1\n",                        "line 2: NoSuchItem"),
+    ("a close of resource 0",        b"resource 1 Sync S a=1\nrclose 0 1\n",                        "line 2: NoSuchItem"),
+    ("a change of resource 0",       b"resource 1 Sync S a=1\nrset 0 0 1\n",                        "line 2: NoSuchItem"),
+    ("no attribute at all",          b"resource 1 Sync S\nradd 1 0 1\n",                            "line 2: NoAttribute"),
+    ("an attribute behind the last", b"resource 1 Sync S a=1\nrset 1 1 1\n",                        "line 2: NoAttribute"),
+    ("the greatest index",           b"resource 1 Sync S a=1\nrset 1 18446744073709551615 1\n",     "line 2: NoAttribute"),
+    ("a number for a flag",          b"resource 1 Sync S a=true\nrset 1 0 1\n",                     "line 2: WrongKind"),
+    ("a flag for a number",          b"resource 1 Sync S a=1\nrset 1 0 true\n",                     "line 2: WrongKind"),
+    ("a flag is added",              b"resource 1 Sync S a=true\nradd 1 0 true\n",                  "line 2: WrongKind"),
+    ("a flag is taken away",         b"resource 1 Sync S a=true\nrsub 1 0 true\n",                  "line 2: WrongKind"),
+    ("below 0",                      b"resource 1 Sync S a=5\nrsub 1 0 6\n",                        "line 2: OutOfRange"),
+    ("above the greatest",           b"resource 1 Sync S a=1\nradd 1 0 18446744073709551615\n",     "line 2: OutOfRange"),
+    ("a missing word comes first",   b"rclose 1\n",                                                 "line 1: BadCommand"),
+    ("the resource comes first",     b"resource 1 Sync S a=1\nradd 2 9 true\n",                     "line 2: NoSuchItem"),
+    ("the close comes first",        b"resource 1 Sync S a=1\nrclose 1 2\nradd 1 9 true\n",         "line 3: Closed"),
+];
+
+#[test]
+fn a_resource_is_there_and_takes_the_change(rt: HostRuntime) -> Result<(), Fail> {
+    for (case, script, fault) in REFUSED {
+        assert_runs(&rt, case, script, fault, &[])?;
+    }
+    Ok(())
+}
+
+// Lines that are no command: words that are missing, too many or out of range, and attributes.
+#[rattlefmt::skip]
+const BAD: [&[u8]; 32] = [
+    b"resource", b"resource 1", b"resource 1 Sync", b"resource one Sync S", b"resource 1 \x7f S", b"resource 1 Sync \x7f", b"resource 1  S a=1",
+    b"resource 1 Sync S ", b"resource 1 Sync S a", b"resource 1 Sync S =1", b"resource 1 Sync S a=", b"resource 1 Sync S a=True", b"resource 1 Sync S a=-1",
+    b"resource 1 Sync S a=18446744073709551616", b"resource 1 Sync S a=b=1", b"resource 1 Sync S a=1=", b"resource 1 Sync S a=1 a=2", b"resource 1 Sync S a=1 b=2 a=true",
+    b"resource 1 Sync S a=1 b=1 c=1 d=1 e=1 f=1 g=1", b"resource 1 Sync S \x1f=1",
+    b"radd", b"radd 1 0", b"radd 1 0 1 2", b"radd one 0 1", b"radd 1 -1 1", b"radd 1 0 yes", b"rsub 1 0", b"rsub 1 0 TRUE", b"rset 1 0", b"rset 1 0 ", b"rclose", b"rclose 1 2 3",
+];
+
+#[test]
+fn resources_have_their_words(rt: HostRuntime) -> Result<(), Fail> {
+    for line in BAD {
+        let case = str::from_utf8(line).unwrap_or("a line that is no text");
+        assert_runs(&rt, case, line, "line 1: BadCommand", &[])?;
+    }
+    Ok(())
+}
