@@ -1,0 +1,4 @@
+//! Scripts whose streams a client is fed.
+
+mod scripts;
+mod streams;
