@@ -6,21 +6,25 @@ use std::alloc::Global;
 use std::test::Fail;
 use tk_stream::{Line, Tables};
 
-// The parts one behind the other.
-pub(super) fn joined(alloc: Global, parts: &[&str]) -> Result<Vec<u8>, Fail> {
-    let mut all = Vec::new(alloc);
-    for part in parts {
-        all.extend_from_slice(part.as_bytes())?;
-    }
-    Ok(all)
-}
-
 // One list of bytes behind another.
 pub(super) fn both(alloc: Global, first: &[u8], second: &[u8]) -> Result<Vec<u8>, Fail> {
     let mut all = Vec::new(alloc);
     all.extend_from_slice(first)?;
     all.extend_from_slice(second)?;
     Ok(all)
+}
+
+// Two texts more.
+fn add(line: &mut Vec<u8>, first: &str, second: &str) -> Result<(), Fail> {
+    line.extend_from_slice(first.as_bytes())?;
+    line.extend_from_slice(second.as_bytes())?;
+    Ok(())
+}
+
+fn write(row: &mut String, first: &str, second: &str) -> Result<(), Fail> {
+    row.push_str(first)?;
+    row.push_str(second)?;
+    Ok(())
 }
 
 // A line with these tasks and statistics and this moment.
@@ -32,22 +36,14 @@ pub(super) fn line_of(
     tasks: &str,
     stats: &str,
 ) -> Result<Vec<u8>, Fail> {
-    joined(
-        alloc,
-        &[
-            text::before_tasks(),
-            tasks,
-            text::before_now(),
-            now,
-            text::before_seq(),
-            seq,
-            text::before_snapshot(),
-            snapshot,
-            text::before_stats(),
-            stats,
-            text::at_end(),
-        ],
-    )
+    let mut line = Vec::new(alloc);
+    add(&mut line, text::before_tasks(), tasks)?;
+    add(&mut line, text::before_now(), now)?;
+    add(&mut line, text::before_seq(), seq)?;
+    add(&mut line, text::before_snapshot(), snapshot)?;
+    add(&mut line, text::before_stats(), stats)?;
+    add(&mut line, text::at_end(), "")?;
+    Ok(line)
 }
 
 // A line without items.
@@ -65,18 +61,10 @@ pub(super) fn row_of(
     wakes: &str,
 ) -> Result<String, Fail> {
     let mut row = String::new(alloc);
-    for part in [
-        text::row_head(),
-        wakers,
-        polls,
-        state,
-        own,
-        text::before_wakes(),
-        wakes,
-        text::row_end(),
-    ] {
-        row.push_str(part)?;
-    }
+    write(&mut row, text::row_head(), wakers)?;
+    write(&mut row, polls, state)?;
+    write(&mut row, own, text::before_wakes())?;
+    write(&mut row, wakes, text::row_end())?;
     Ok(row)
 }
 
