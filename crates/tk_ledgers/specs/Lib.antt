@@ -4,3 +4,4 @@ pub mod Sums
 pub mod Tasks
 pub mod Resources
 pub mod Ops
+pub mod Scopes

@@ -2,5 +2,6 @@
 
 mod changes;
 mod polls;
+mod scopes;
 mod threads;
 mod wakes;
