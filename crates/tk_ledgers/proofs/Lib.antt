@@ -3,6 +3,7 @@ pub mod OwnerLemmas
 pub mod SumLemmas
 pub mod TaskLemmas
 pub mod TaskPollLemmas
+pub mod ScopeLemmas
 pub mod TaskSumLemmas
 pub mod WakerLemmas
 pub mod UseLemmas

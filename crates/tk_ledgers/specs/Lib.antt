@@ -5,4 +5,5 @@ pub mod Wakers
 pub mod Tasks
 pub mod Resources
 pub mod Ops
+pub mod Scopes
 pub mod Uses

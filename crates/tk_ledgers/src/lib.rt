@@ -4,7 +4,8 @@
 //! - [`WakerHandle`]: wakes the task; a wake by value and a release are its last call.
 //! - [`TaskInspector`]: reads the task.
 //! - [`TaskReceipt`]: what a handle has seen that makes no more calls.
-//! - [`Origin`]: whence a wake comes.
+//! - [`PollScope`]: the time of one poll, which holds the owner.
+//! - [`Origin`]: whence a wake comes: from within a poll, or from outside.
 //! - [`ResourceOwner`], [`ResourceUser`], [`ResourceInspector`], [`ResourceReceipt`]: the same of a resource.
 //! - [`OpOwner`], [`OpInspector`], [`OpReceipt`]: the same of an async operation.
 //!
@@ -23,7 +24,7 @@ mod task;
 
 pub use op::{OpInspector, OpOwner, OpReceipt};
 pub use resource::{ResourceInspector, ResourceOwner, ResourceReceipt, ResourceUser};
-pub use task::{Origin, TaskInspector, TaskOwner, TaskReceipt, WakerHandle};
+pub use task::{Origin, PollScope, TaskInspector, TaskOwner, TaskReceipt, WakerHandle};
 
 #[cfg(test)]
 mod tests;

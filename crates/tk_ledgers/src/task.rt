@@ -4,10 +4,12 @@ mod inspector;
 mod origin;
 mod owner;
 mod receipt;
+mod scope;
 mod waker;
 
 pub use inspector::TaskInspector;
 pub use origin::Origin;
 pub use owner::TaskOwner;
 pub use receipt::TaskReceipt;
+pub use scope::PollScope;
 pub use waker::WakerHandle;

@@ -3,5 +3,6 @@
 mod changes;
 mod polls;
 mod readings;
+mod scopes;
 mod threads;
 mod wakes;

@@ -1,17 +1,18 @@
 //! Whence a wake comes.
-ghost use Rattle.std.specs.Prelude.{◌≡◌, None};
+ghost use Rattle.std.specs.Prelude.{◌≡◌, Some, None};
 ghost use Rattle.tk_ledgers.specs.Tasks.{names};
 
-use crate::task::TaskOwner;
+use crate::task::PollScope;
 use std::marker::{Model, PhantomData};
 use tk_ids::TaskId;
 
-/// Where a wake comes from: from within a poll of a task, or from outside of all. A wake is a self-wake exactly
-/// where its origin names the task that it wakes. Contracts see the task, if there is one.
+/// Where a wake comes from: from within a poll of a task ([`PollScope::origin`]), or from outside of all. A wake is a
+/// self-wake exactly where its origin names the task that it wakes. An origin borrows its scope, so it can't outlive the
+/// poll. Contracts see the task, if there is one.
 #[derive(Drop)]
 pub struct Origin<'a> {
     task: Option<TaskId>,
-    poll: PhantomData<&'a TaskOwner>,
+    scope: PhantomData<&'a PollScope>,
 }
 
 impl<'a> Model for Origin<'a> {
@@ -29,7 +30,17 @@ impl<'a> Origin<'a> {
     {
         Origin {
             task: None,
-            poll: PhantomData,
+            scope: PhantomData,
+        }
+    }
+
+    /// The origin of a wake within a poll of this task.
+    pub(crate) fn of(task: TaskId) -> Origin<'a>
+        ensures { result ≡ Some task }
+    {
+        Origin {
+            task: Some(task),
+            scope: PhantomData,
         }
     }
 

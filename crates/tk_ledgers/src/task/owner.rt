@@ -13,7 +13,7 @@ ghost use Rattle.tk_core.specs.declared.reply.Refusal.TheVariants.{AlreadyPollin
 
 use crate::handle::Handle;
 use crate::role::{Enlisted, Owning, Waking};
-use crate::task::{Origin, TaskInspector, TaskReceipt, WakerHandle};
+use crate::task::{Origin, PollScope, TaskInspector, TaskReceipt, WakerHandle};
 use std::alloc::{AllocError, Global};
 use std::marker::Model;
 use std::sync::Wait;
@@ -110,6 +110,22 @@ impl TaskOwner {
                 Ok(())
             }
             Err(refusal) => Err(refusal),
+        }
+    }
+
+    /// A scope of the open poll, at this moment. Refused with `NotPolling`: the owner is then handed back. No entry is
+    /// made.
+    pub fn scope(self, moment: u64) -> Result<PollScope, (Refusal, TaskOwner)>
+        ensures exact { is_ok result ≡ is_polling self }
+        ensures held { IfOk result (λ scope. scope.owner ≡ self) }
+        ensures moment { IfOk result (λ scope. scope.moment ≡ moment) }
+        ensures not_polling { IfErr result (λ back. back.0 ≡ NotPolling) }
+        ensures back { IfErr result (λ back. back.1 ≡ self) }
+    {
+        if self.is_polling() {
+            Ok(PollScope::new(self, moment))
+        } else {
+            Err((Refusal::NotPolling, self))
         }
     }
 

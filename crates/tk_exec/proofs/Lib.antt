@@ -1,0 +1,4 @@
+pub mod PollLemmas
+pub mod PlaceLemmas
+pub mod TurnLemmas
+pub mod SoughtLemmas

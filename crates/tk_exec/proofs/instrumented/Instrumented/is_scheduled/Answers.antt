@@ -1,0 +1,14 @@
+use Rattle.std.proofs.Common.{sym, ◌∙◌}
+use Rattle.tk_core.specs.declared.reply.Reply.TheVariants.{Shown}
+use Rattle.tk_core.specs.declared.task.call.TaskCall.TheVariants.{Read}
+use Rattle.tk_ledgers.proofs.ScopeLemmas.{grows_by_call}
+use Rattle.tk_exec.proofs.PollLemmas.{at_rest, rests, polling_read}
+use Rattle.tk_exec.proofs.instrumented.Instrumented.is_scheduled.Goals as goal
+
+pub invariant_of-self-2 : goal.invariant_of-self-2
+invariant_of-self-2 g c =
+    let was = sym c.take.ensures.value ∙ c.in-Some.is in
+    let rest = at_rest c.self.inside.id c.in-Some.owner c.self.inside.owner c.self.inside.receipt was c.self.invariant in
+    let e = c.read-row.ensures in
+    let grown = grows_by_call c.in-Some.owner c.read-row.new.self Read (Shown c.read-row.result) e.id e.ledger e.caller e.entry in
+    rests c.self.inside.id c.read-row.new.self c.self.inside.receipt rest.0 (e.id ∙ rest.1) (polling_read c.in-Some.owner c.read-row.new.self c.read-row.result grown ∙ rest.2)

@@ -1,0 +1,7 @@
+-- What a caller must believe: what works give, what their polls leave in the ledgers of their tasks, and what an executor does
+pub mod Works
+pub mod Polls
+pub mod Places
+pub mod Seats
+pub mod Turns
+pub mod Errors

@@ -1,0 +1,175 @@
+//! Tasks that are polled in turn.
+ghost use Rattle.std.specs.Prelude.{◌≡◌, ◌≢◌, ◌+◌, ◌<◌, ◌≤◌, ◌⊎◌, true, false, None, [], ◌∷◌, ◌++◌, length, is_some, IfOk, IfErr, OnOk, IfSome, IfNone};
+ghost use Rattle.std.specs.List.{slice_get};
+ghost use Rattle.tk_exec.specs.Seats.{ChangesAt, LookedAt, is_sought};
+ghost use Rattle.tk_exec.specs.Turns.{TurnDoes, PollsAt, Passed, Found, HoldsId, RefusedFor, NoneSought, NoneFinished, Takes};
+
+use crate::error::ExecError;
+use crate::instrumented::Instrumented;
+use crate::slot::Slot;
+use crate::work::{Clock, Work};
+use slab::Slab;
+use std::alloc::Global;
+use std::marker::Model;
+use std::sync::Wait;
+use tk_ids::TaskId;
+use tk_ledgers::TaskReceipt;
+
+/// What a turn did.
+#[derive(Clone, Copy, Debug, PartialEq, Eq)]
+pub enum Turn {
+    /// This task was polled, and its work was ready or not.
+    Polled(TaskId, bool),
+    /// No task was scheduled.
+    Idle,
+}
+
+/// Works that are polled in turn, each one where its task is scheduled.
+///
+/// The tasks are kept in a slab; `order` has their keys in order of spawn, and `next` is the place in it that the next
+/// turn begins at: after the task that was polled last.
+#[derive(Drop)]
+pub struct Executor<W: Work> {
+    tasks: Slab<Slot<W>>,
+    order: Vec<usize>,
+    next: usize,
+}
+
+impl<W: Work> Model for Executor<W> {
+    ghost use Rattle.std.specs.Prelude.{◌≤◌, length};
+    ghost use Rattle.tk_exec.specs.Places.{values_at, AreKept};
+    ghost use Rattle.tk_exec.specs.Seats.{Tasks};
+
+    ghost Value = { Tasks W W.Out };
+
+    ghost view = { λ e. record { seats = values_at e.tasks.slots e.order.items; next = e.next } };
+
+    ghost invariant = { λ e. AreKept e.tasks.slots e.order.items × (e.next ≤ length e.order.items) };
+}
+
+// The place that the next turn begins at, once another place is gone: that of the same task as before.
+fn next_without(next: usize, place: usize) -> usize
+    ensures { ((place < next) × (result + 1 ≡ next)) ⊎ ((next ≤ place) × (result ≡ next)) }
+{
+    if place < next { next - 1 } else { next }
+}
+
+impl<W: Work> Executor<W> {
+    /// An executor without tasks, with room for 16.
+    pub fn new(alloc: Global) -> Result<Executor<W>, ExecError>
+        ensures { IfOk result (λ made. (made.seats ≡ []) × (made.next ≡ 0)) }
+    {
+        Ok(Executor {
+            tasks: Slab::with_capacity(alloc, 16)?,
+            order: Vec::with_capacity(alloc, 16)?,
+            next: 0,
+        })
+    }
+
+    // The first place of the task of this id, where only finished ones are sought of a finished one.
+    fn place_of(&self, id: TaskId, finished: bool) -> Option<usize>
+        ensures within { IfSome result (λ place. place < length self.now.seats) }
+        ensures found { IfSome result (λ place. IfSome (slice_get self.now.seats place) (λ seat. is_sought id finished seat ≡ true)) }
+        ensures absent { IfNone result (NoneSought id finished (length self.now.seats) self.now.seats) }
+    {
+        for place in 0..self.order.len() {
+            let key = self.order[place];
+            if self.tasks[key].is_sought(id, finished) {
+                return Some(place);
+            }
+        }
+        None
+    }
+
+    /// Takes in a task, which stands last in the order of spawn. Refused with `Repeated` where a task of its id is held,
+    /// or else `Memory`: the task is then handed back.
+    pub fn spawn(&mut self, task: Instrumented<W>) -> Result<(), (ExecError, Instrumented<W>)>
+        requires { is_some task.receipt ≡ false }
+        ensures ok { OnOk result (self.new ≡ record self.old { seats = self.old.seats ++ record { task = task; out = None } ∷ [] }) }
+        ensures fresh { OnOk result (HoldsId self.old.seats task.id → ⊥) }
+        ensures refused { IfErr result (λ back. RefusedFor back.0 self.old.seats task.id) }
+        ensures back { IfErr result (λ back. (back.1 ≡ task) × (self.new ≡ self.old)) }
+    {
+        if self.place_of(task.id(), false).is_some() {
+            return Err((ExecError::Repeated, task));
+        }
+        if self.order.reserve(1).is_err() {
+            return Err((ExecError::Memory, task));
+        }
+        match self.tasks.insert(Slot::new(task)) {
+            Ok(key) => {
+                self.order.push_reserved(key);
+                Ok(())
+            }
+            Err(refused) => Err((ExecError::Memory, refused.value.into_task())),
+        }
+    }
+
+    /// The output and the receipt of the task of this id, which leaves the executor, if it is finished.
+    pub fn take(&mut self, id: TaskId) -> Option<(W::Out, TaskReceipt)>
+        ensures some { IfSome result (λ answer. Takes self.old self.new id answer.0 answer.1) }
+        ensures none { IfNone result (NoneFinished self.old.seats id × (self.new ≡ self.old)) }
+    {
+        let place = self.place_of(id, true)?;
+        let key = self.order.remove(place);
+        let slot = self.tasks.remove(key);
+        self.next = next_without(self.next, place);
+        slot.into_answer()
+    }
+
+    // Looks at one place: its owner reads.
+    fn look_at<R: Wait>(&mut self, rt: &R, place: usize) -> bool
+        requires { place < length self.old.seats }
+        ensures next { self.new.next ≡ self.old.next }
+        ensures looked { (change : ChangesAt place self.old.seats self.new.seats) × LookedAt change.before result change.after }
+    {
+        let key = self.order[place];
+        self.tasks[key].look(rt)
+    }
+
+    // Polls the task at one place, after which the next turn begins.
+    fn poll_at<R: Wait, C: Clock>(&mut self, rt: &R, clock: &mut C, place: usize) -> Turn
+        requires within { place < length self.old.seats }
+        requires going { IfSome (slice_get self.old.seats place) (λ seat. is_some seat.task.owner ≡ true) }
+        ensures next { self.new.next ≡ place + 1 }
+        ensures polled { PollsAt C.reads W.gives place self.old.seats result self.new.seats clock.old clock.new }
+    {
+        let key = self.order[place];
+        let id = self.tasks[key].id();
+        let ready = self.tasks[key].poll(rt, clock);
+        self.next = place + 1;
+        Turn::Polled(id, ready)
+    }
+
+    // The first place of these that shows scheduled. Those before it are looked at, and none behind it.
+    fn scheduled_between<R: Wait>(&mut self, rt: &R, first: usize, last: usize) -> Option<usize>
+        requires order { first ≤ last }
+        requires within { last ≤ length self.old.seats }
+        ensures next { self.new.next ≡ self.old.next }
+        ensures none { IfNone result (Passed first last self.old.seats self.new.seats) }
+        ensures some { IfSome result (λ place. Found first last place self.old.seats self.new.seats) }
+    {
+        for place in first..last {
+            if self.look_at(rt, place) {
+                return Some(place);
+            }
+        }
+        None
+    }
+
+    /// Goes through the unfinished tasks in order of spawn, beginning after the task that was polled last and ending
+    /// with it. Each owner reads once, until one shows scheduled; that task alone is polled.
+    pub fn turn<R: Wait, C: Clock>(&mut self, rt: &R, clock: &mut C) -> Turn
+        ensures { TurnDoes C.reads W.gives self.old result self.new clock.old clock.new }
+    {
+        let next = self.next;
+        let last = self.order.len();
+        if let Some(place) = self.scheduled_between(rt, next, last) {
+            return self.poll_at(rt, clock, place);
+        }
+        if let Some(place) = self.scheduled_between(rt, 0, next) {
+            return self.poll_at(rt, clock, place);
+        }
+        Turn::Idle
+    }
+}

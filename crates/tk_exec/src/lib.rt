@@ -1,0 +1,22 @@
+//! Works that are polled by hand, in polls that the ledgers of their tasks record.
+//!
+//! - [`Work`]: a future written by hand; [`Clock`]: what tells the moments of polls.
+//! - [`Instrumented`]: a work and the owner of its task. Each poll of the work is a poll of the task.
+//! - [`YieldTimes`], [`HoldWaker`], [`LoseWaker`], [`BusyUntil`], and [`Example`]: works to show what a task may do.
+#![tactic(auto)]
+
+mod error;
+mod executor;
+mod instrumented;
+mod slot;
+mod work;
+mod works;
+
+pub use error::ExecError;
+pub use executor::{Executor, Turn};
+pub use instrumented::Instrumented;
+pub use work::{Clock, Work};
+pub use works::{BusyUntil, Example, HoldWaker, LoseWaker, YieldTimes};
+
+#[cfg(test)]
+mod tests;

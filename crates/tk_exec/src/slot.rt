@@ -1,0 +1,96 @@
+//! Inner: a task of an executor.
+ghost use Rattle.std.specs.Prelude.{◌≡◌, true, false, Some, None, is_some, IfSome};
+ghost use Rattle.tk_exec.specs.Seats.{LookedAt, PolledAt, is_sought};
+
+use crate::instrumented::Instrumented;
+use crate::work::{Clock, Work};
+use futures::task::Poll;
+use std::marker::Model;
+use std::sync::Wait;
+use tk_ids::TaskId;
+use tk_ledgers::TaskReceipt;
+
+/// A task, and its output once it is finished.
+#[derive(Drop)]
+pub struct Slot<W: Work> {
+    task: Instrumented<W>,
+    out: Option<W::Out>,
+}
+
+impl<W: Work> Model for Slot<W> {
+    ghost use Rattle.std.specs.Prelude.{◌≡◌, is_some};
+    ghost use Rattle.tk_exec.specs.Seats.{Seat};
+
+    ghost Value = { Seat W W.Out };
+
+    ghost view = { λ s. record { task = s.task; out = s.out } };
+
+    ghost invariant = { λ s. is_some s.out ≡ is_some s.task.receipt };
+}
+
+impl<W: Work> Slot<W> {
+    /// A task that is not finished.
+    pub fn new(task: Instrumented<W>) -> Slot<W>
+        requires { is_some task.receipt ≡ false }
+        ensures task { result.task ≡ task }
+        ensures out { result.out ≡ None }
+    {
+        Slot { task, out: None }
+    }
+
+    /// The task.
+    pub fn id(&self) -> TaskId
+        ensures { result ≡ self.now.task.id }
+    {
+        self.task.id()
+    }
+
+    /// Whether it is the task of this id, and finished, where only finished ones are sought.
+    pub fn is_sought(&self, id: TaskId, finished: bool) -> bool
+        ensures { result ≡ is_sought id finished self.now }
+    {
+        self.task.id() == id && (self.out.is_some() || !finished)
+    }
+
+    /// The output and the receipt of a task that is finished.
+    pub fn into_answer(self) -> Option<(W::Out, TaskReceipt)>
+        ensures exact { is_some result ≡ is_some self.out }
+        ensures out { IfSome result (λ answer. self.out ≡ Some answer.0) }
+        ensures receipt { IfSome result (λ answer. self.task.receipt ≡ Some answer.1) }
+    {
+        let receipt = self.task.into_receipt();
+        match (self.out, receipt) {
+            (Some(out), Some(receipt)) => Some((out, receipt)),
+            _ => None,
+        }
+    }
+
+    /// Gives the task back.
+    pub fn into_task(self) -> Instrumented<W>
+        ensures { result ≡ self.task }
+    {
+        self.task
+    }
+
+    /// Whether the task is scheduled, by a reading of its owner. A finished one isn't.
+    pub fn look<R: Wait>(&mut self, rt: &R) -> bool
+        ensures { LookedAt self.old result self.new }
+    {
+        self.task.is_scheduled(rt)
+    }
+
+    /// Polls the task once, and keeps its output.
+    pub fn poll<R: Wait, C: Clock>(&mut self, rt: &R, clock: &mut C) -> bool
+        requires { is_some self.old.task.owner ≡ true }
+        ensures { PolledAt C.reads W.gives self.old result self.new clock.old clock.new }
+    {
+        match self.task.poll_once(rt, clock) {
+            Ok(Poll::Ready(out)) => {
+                self.out = Some(out);
+                true
+            }
+            Ok(Poll::Pending) => false,
+            Err(_) => unreachable!(),
+        }
+    }
+}

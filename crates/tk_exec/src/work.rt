@@ -1,0 +1,35 @@
+//! What is polled, and by which clock.
+ghost use Rattle.std.specs.Prelude.{ℕ};
+ghost use Rattle.futures.specs.Poll.{IfReady, OnPending};
+ghost use Rattle.tk_ledgers.specs.Scopes.{ScopeGrows};
+
+use futures::task::Poll;
+use std::sync::Wait;
+use tk_ledgers::PollScope;
+
+/// A future that is written by hand: a state with a poll.
+///
+/// A poll is handed the scope of its task's poll, which it uses by the scope's calls alone. A ready answer is an output
+/// that the work gives, and a pending poll leaves a work that gives nothing that it didn't give before.
+pub trait Work: Drop {
+    type Out: Drop;
+
+    // Holds of each output that the work may give.
+    ghost gives: { Self → Self.Out → Type 0 };
+
+    /// Polls it once.
+    fn poll<R: Wait>(&mut self, rt: &R, scope: &mut PollScope) -> Poll<Self::Out>
+        ensures scoped { ScopeGrows scope.old scope.new }
+        ensures value { IfReady result (gives self.old) }
+        ensures same { OnPending result ((x : _) → gives self.new x → gives self.old x) };
+}
+
+/// Tells moments.
+pub trait Clock {
+    // Holds of the clock before a reading, the moment that was read, and the clock after it.
+    ghost reads: { Self → ℕ → Self → Type 0 };
+
+    /// Reads the moment.
+    fn now(&mut self) -> u64
+        ensures { reads self.old result self.new };
+}
