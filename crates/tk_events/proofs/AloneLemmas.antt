@@ -3,7 +3,7 @@ use Rattle.std.proofs.Common.{◌≡◌, ℕ, zero, suc, refl, ◌+◌, ◌<◌,
 use Rattle.std.specs.List.{All}
 use Rattle.std.proofs.lemmas.List.{length-map}
 use Rattle.std.proofs.lemmas.List.Elements.{filter-append, All-push, All-nil}
-use Rattle.tk_events.specs.declared.item.Item.{Item}
+use Rattle.tk_events.specs.Offers.{Item}
 use Rattle.tk_events.specs.declared.item.Offer.{Offer}
 use Rattle.tk_events.specs.declared.buffer.view.View.{View}
 use Rattle.tk_events.specs.Offers.{by, offer_of, offers_of}

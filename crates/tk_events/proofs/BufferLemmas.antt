@@ -8,7 +8,7 @@ use mathlib.Core.Option.{some, some-injective, some-ne-none}
 use lib.ListN.{get_elem?}
 use Rattle.atomic_table.proofs.Lists.{at_set, at_snoc, set_here}
 use Rattle.crossbeam_queue.specs.Fifo.{Pushes, Pops, Forks, Merges, Learns}
-use Rattle.tk_events.specs.declared.item.Item.{Item}
+use Rattle.tk_events.specs.Offers.{Item}
 use Rattle.tk_events.specs.declared.item.Offer.{Offer}
 use Rattle.tk_events.specs.declared.buffer.view.Role.{Role}
 use Rattle.tk_events.specs.declared.buffer.view.Role.TheVariants.{Takes, Records, Spent}

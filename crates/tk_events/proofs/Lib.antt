@@ -5,3 +5,7 @@ pub mod CountTotalLemmas
 pub mod AloneLemmas
 pub mod FinishLemmas
 pub mod DropLemmas
+pub mod NewItemLemmas
+pub mod IdLemmas
+pub mod AttrLemmas
+pub mod RecordLemmas

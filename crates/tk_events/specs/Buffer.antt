@@ -3,7 +3,7 @@ use Rattle.std.specs.Prelude.{◌≡◌, ℕ, ◌+◌, ◌<◌, ◌≤◌, ◌==
 use mathlib.Core.Option.{some}
 use lib.ListN.{get_elem?}
 use Rattle.tk_events.specs.Lists.{times, total}
-use Rattle.tk_events.specs.declared.item.Item.{Item}
+use Rattle.tk_events.specs.Offers.{Item}
 use Rattle.tk_events.specs.declared.item.Offer.{Offer}
 use Rattle.tk_events.specs.declared.buffer.view.Role.{Role}
 use Rattle.tk_events.specs.declared.buffer.view.Role.TheVariants.{Takes, Records, Spent}

@@ -9,14 +9,15 @@ use Rattle.tk_events.specs.Counts.{total_of}
 use Rattle.crossbeam_queue.specs.declared.array_queue.Doing.{Doing}
 use Rattle.crossbeam_queue.specs.declared.array_queue.Slotted.{Slotted}
 use Rattle.crossbeam_queue.specs.Passes.{Pass, view, ruled_capacity, IsPassOf}
-use Rattle.tk_events.specs.declared.item.Item.{Item}
+use Rattle.tk_events.specs.Offers.{Item}
 use Rattle.tk_events.specs.declared.item.Offer.{Offer}
 use Rattle.tk_events.specs.declared.event.Shown.{Shown}
 use Rattle.tk_events.specs.declared.limits.Limits.{Limits}
 use Rattle.tk_events.specs.declared.buffer.view.Role.TheVariants.{Takes, Records}
 use Rattle.tk_events.specs.declared.buffer.view.Returned.{Returned}
 use Rattle.tk_events.specs.declared.buffer.view.View.{View}
-use Rattle.tk_events.specs.Offers.{by, offers_of, drops_of, dropped_of}
+use Rattle.tk_ids.specs.Ids.{id_of}
+use Rattle.tk_events.specs.Offers.{by, offers_of, dropped_of, tasks_in, resources_in, ops_in}
 use Rattle.tk_events.specs.Buffer.{numbers_known, returned, IsBalanced, IsNamed}
 use Rattle.tk_events.specs.Lists.{times}
 
@@ -25,6 +26,7 @@ pub record Place : Type 0 where
   pub buffer : TableId
   pub counts : TableId
 
+-- the console with this buffer and these counts
 abbrev pub place : TableId → TableId → Place
 place buffer counts = record { buffer = buffer; counts = counts }
 
@@ -75,13 +77,27 @@ offers_made r = length r.kept + length r.refused
 abbrev pub next_offer : Recording → Shown → Offer
 next_offer r event = record { recorder = r.number; number = offers_made r + 1; event = event }
 
--- a recorder with one more offer, which was kept or refused
+-- the id of the recorder's next task: the number of its offer among those of tasks, kept or dropped
+abbrev pub next_task_id : Recording → ℕ
+next_task_id r = id_of r.number (tasks_in r.kept + tasks_in r.refused + 1)
+
+-- the id of the recorder's next resource
+abbrev pub next_resource_id : Recording → ℕ
+next_resource_id r = id_of r.number (resources_in r.kept + resources_in r.refused + 1)
+
+-- the id of the recorder's next operation
+abbrev pub next_op_id : Recording → ℕ
+next_op_id r = id_of r.number (ops_in r.kept + ops_in r.refused + 1)
+
+-- a recorder with one more offer, which was kept
 abbrev pub with_kept : Recording → Offer → Recording
 with_kept r o = record r { kept = r.kept ++ o ∷ [] }
 
+-- a recorder with one more offer, which was refused
 abbrev pub with_refused : Recording → Offer → Recording
 with_refused r o = record r { refused = r.refused ++ o ∷ [] }
 
+-- a taker that took one more
 abbrev pub with_taken : Taking → Offer → Taking
 with_taken t o = record t { taken = t.taken ++ o ∷ [] }
 

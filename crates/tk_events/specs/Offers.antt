@@ -1,11 +1,10 @@
 -- Events, what is seen of them, and offers.
-use Rattle.std.specs.Prelude.{ℕ, ◌<◌, ◌==◌, List, [], ◌∷◌, map, count_by}
+use Rattle.std.specs.Prelude.{ℕ, ◌<◌, ◌==◌, Bool, true, false, List, [], ◌∷◌, map, count_by}
 use Rattle.std.specs.List.{filter, AllPairs}
 use Rattle.tk_events.specs.declared.event.Event.{Event}
 use Rattle.tk_events.specs.declared.event.Event.TheVariants.{Task, Resource, Op, Poll}
 use Rattle.tk_events.specs.declared.event.Shown.{Shown}
 use Rattle.tk_events.specs.declared.event.Shown.TheVariants.{MadeTask, MadeResource, MadeOp, Polled}
-use Rattle.tk_events.specs.declared.item.Item.{Item}
 use Rattle.tk_events.specs.declared.item.Offer.{Offer}
 
 -- what is seen of an event: its info or its poll, and of an inspector the ledger and the caller
@@ -14,6 +13,16 @@ shown (Task info inspector) = MadeTask info inspector.token.ledger inspector.tok
 shown (Resource info inspector) = MadeResource info inspector.token.ledger inspector.token.view.caller
 shown (Op info inspector) = MadeOp info inspector.token.ledger inspector.token.view.caller
 shown (Poll op) = Polled op
+
+-- an item of the buffer: an event with its recorder and the number of its offer
+pub record Item : Type 0 where
+  pub recorder : ℕ
+  pub number : ℕ
+  pub event : Event
+
+-- the item of this event
+abbrev pub item : ℕ → ℕ → Event → Item
+item recorder number event = record { recorder = recorder; number = number; event = event }
 
 -- the offer that an item of the buffer is
 abbrev pub offer_of : Item → Offer
@@ -45,3 +54,36 @@ dropped_of k offers = count_by (λ o. kind_of o.event == k) offers
 -- how many of the offers have each kind
 abbrev pub drops_of : List Offer → List ℕ
 drops_of offers = dropped_of 0 offers ∷ dropped_of 1 offers ∷ dropped_of 2 offers ∷ []
+
+-- an offer of a new task
+abbrev pub is_task : Shown → Bool
+is_task (MadeTask info ledger caller) = true
+is_task (MadeResource info ledger caller) = false
+is_task (MadeOp info ledger caller) = false
+is_task (Polled op) = false
+
+-- an offer of a new resource
+abbrev pub is_resource : Shown → Bool
+is_resource (MadeTask info ledger caller) = false
+is_resource (MadeResource info ledger caller) = true
+is_resource (MadeOp info ledger caller) = false
+is_resource (Polled op) = false
+
+-- an offer of a new operation
+abbrev pub is_op : Shown → Bool
+is_op (MadeTask info ledger caller) = false
+is_op (MadeResource info ledger caller) = false
+is_op (MadeOp info ledger caller) = true
+is_op (Polled op) = false
+
+-- how many of the offers are of new tasks
+abbrev pub tasks_in : List Offer → ℕ
+tasks_in offers = count_by (λ o. is_task o.event) offers
+
+-- how many of the offers are of new resources
+abbrev pub resources_in : List Offer → ℕ
+resources_in offers = count_by (λ o. is_resource o.event) offers
+
+-- how many of the offers are of new operations
+abbrev pub ops_in : List Offer → ℕ
+ops_in offers = count_by (λ o. is_op o.event) offers

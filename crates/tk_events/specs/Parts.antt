@@ -1,5 +1,5 @@
 -- Inner: what a recorder and a taker keep in their passes and seats, and what is shown of it. No public clause cites this file.
-use Rattle.std.specs.Prelude.{◌≡◌, ℕ, zero, suc, ◌+◌, ◌-◌, ◌*◌, ◌^◌, ◌<◌, ◌≤◌, Bool, true, false, List, [], ◌∷◌, ◌++◌, length, map, All, Option}
+use Rattle.std.specs.Prelude.{if◌then◌else◌, ◌≡◌, ℕ, zero, suc, ◌+◌, ◌-◌, ◌*◌, ◌^◌, ◌<◌, ◌≤◌, Bool, true, false, List, [], ◌∷◌, ◌++◌, length, map, All, Option}
 use Rattle.atomic_table.specs.Seated.{TableId}
 use Rattle.atomic_table.specs.declared.shared.Seat.{Seat}
 use Rattle.tk_events.specs.declared.counts.view.View.{View as Count}
@@ -9,14 +9,15 @@ use Rattle.tk_events.specs.Counts.{total_of}
 use Rattle.crossbeam_queue.specs.declared.array_queue.Doing.{Doing}
 use Rattle.crossbeam_queue.specs.declared.array_queue.Slotted.{Slotted}
 use Rattle.crossbeam_queue.specs.Passes.{Pass, view, ruled_capacity, IsPassOf}
-use Rattle.tk_events.specs.declared.item.Item.{Item}
+use Rattle.tk_events.specs.Offers.{Item}
 use Rattle.tk_events.specs.declared.item.Offer.{Offer}
 use Rattle.tk_events.specs.declared.event.Shown.{Shown}
 use Rattle.tk_events.specs.declared.limits.Limits.{Limits}
 use Rattle.tk_events.specs.declared.buffer.view.Role.TheVariants.{Takes, Records}
 use Rattle.tk_events.specs.declared.buffer.view.Returned.{Returned}
 use Rattle.tk_events.specs.declared.buffer.view.View.{View}
-use Rattle.tk_events.specs.Offers.{by, offers_of, drops_of, dropped_of}
+use Rattle.tk_ids.specs.IdBlocks.{Given}
+use Rattle.tk_events.specs.Offers.{offers_of, drops_of, tasks_in, resources_in, ops_in, is_task, is_resource, is_op}
 use Rattle.tk_events.specs.Buffer.{numbers_known, returned, IsBalanced, IsNamed}
 use Rattle.tk_events.specs.Lists.{times}
 use Rattle.tk_events.specs.Handles.{place, Totals, Recording, Retiring, Taking, IsWhole}
@@ -40,6 +41,19 @@ tally_of r = record { number = r.number; counts = drops_of r.refused }
 -- the totals of what was read last of the words
 abbrev pub totals_of : ℕ → List ℕ → Totals
 totals_of n words = record { tasks = total_of 0 n words; resources = total_of 1 n words; ops = total_of 2 n words }
+
+-- the ids that a recorder has given out
+abbrev pub given : Recording → Given
+given r = record { recorder = r.number; tasks = tasks_in r.kept + tasks_in r.refused; resources = resources_in r.kept + resources_in r.refused; ops = ops_in r.kept + ops_in r.refused }
+
+-- the ids that it has given out with one more event
+abbrev pub given_with : Recording → Shown → Given
+given_with r e = record {
+  recorder = r.number;
+  tasks = tasks_in r.kept + tasks_in r.refused + (if is_task e then 1 else 0);
+  resources = resources_in r.kept + resources_in r.refused + (if is_resource e then 1 else 0);
+  ops = ops_in r.kept + ops_in r.refused + (if is_op e then 1 else 0);
+}
 
 -- the seat counts what the pass was refused
 pub record IsAdding (counts : TableId) (s : Seat ℕ Count) (v : View) : Type 0 where
@@ -70,12 +84,12 @@ module _ {Q A : Type 0} where
   abbrev pub taking : Slotted (Option Item) (Doing Item View) Q A → TableId → Pass Item View → Seat ℕ Count → Bool → Taking
   taking q counts p s finished = record { console = place q.table.shared.table_id counts; capacity = ruled_capacity q; recorders = (view p).recorders; taken = (view p).taken; known = (view p).known; last = totals_of (view p).recorders s.me.0.seen; finished = finished }
 
-  pub record IsRecording (q : Slotted (Option Item) (Doing Item View) Q A) (counts : TableId) (p : Pass Item View) (s : Seat ℕ Count) (number made limit : ℕ) : Type 0 where
+  pub record IsRecording (q : Slotted (Option Item) (Doing Item View) Q A) (counts : TableId) (p : Pass Item View) (s : Seat ℕ Count) (ids : Given) (made limit : ℕ) : Type 0 where
     pub own : IsPassOf q p
     pub role : (view p).role ≡ Records
-    pub number_is : (view p).number ≡ number
-    pub low : 0 < number
-    pub high : number ≤ (view p).recorders
+    pub ids_are : ids ≡ given (recording q counts p limit)
+    pub low : 0 < (view p).number
+    pub high : (view p).number ≤ (view p).recorders
     pub made_is : length (view p).kept + length (view p).refused ≡ made
     pub below : All (λ o. o.number ≤ made) (view p).kept
     pub room : made ≤ limit

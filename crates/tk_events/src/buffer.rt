@@ -7,7 +7,7 @@ ghost use Rattle.std.specs.Arc.{arc_value};
 ghost use Rattle.crossbeam_queue.specs.Fifo.{Held};
 ghost use Rattle.crossbeam_queue.specs.Passes.{view, IsSamePass, IsPassOf, ruled_capacity};
 ghost use Rattle.tk_events.specs.declared.buffer.view.Role.TheVariants.{Takes, Records};
-ghost use Rattle.tk_events.specs.declared.item.Item.{Item};
+ghost use Rattle.tk_events.specs.Offers.{Item};
 ghost use Rattle.tk_events.specs.declared.recorder.Recorded.TheVariants.{Kept, DroppedFull};
 ghost use Rattle.tk_events.specs.Offers.{offer_of, offers_of};
 ghost use Rattle.tk_events.specs.Buffer.{first, limits as limited, keeps, notes, takes, makes, newborn, takes_in, IsContentFor, IsBalanced};

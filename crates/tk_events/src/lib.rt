@@ -20,6 +20,7 @@ mod error;
 mod event;
 mod item;
 mod limits;
+mod new_item;
 mod recorder;
 mod retired;
 mod taker;

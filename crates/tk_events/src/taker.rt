@@ -7,6 +7,7 @@ ghost use Rattle.tk_events.specs.declared.buffer.view.Role.TheVariants.{Takes};
 ghost use Rattle.tk_events.specs.declared.error.FinishError.TheVariants.{Missing, Finished};
 ghost use Rattle.tk_events.specs.declared.item.Offer.{Offer};
 ghost use Rattle.tk_events.specs.Offers.{shown, offers_of, Rises};
+ghost use Rattle.tk_events.specs.Items.{Agrees};
 ghost use Rattle.tk_events.specs.Buffer.{first, limits as limited};
 ghost use Rattle.tk_events.specs.Handles.{new_taking, with_taken, offers_of_all, finished_with, IsWhole, AreLeft, AllTaken, place, AreExact};
 ghost use Rattle.tk_events.specs.Parts.{making, knowing, IsReading, totals_of};
@@ -121,6 +122,7 @@ impl Taker {
     /// The front event, unless the buffer was empty at a moment of the call.
     pub fn take<R: Wait>(&mut self, rt: &R) -> Option<Event>
         ensures some { IfSome result (λ event. (recorder number : ℕ) × (self.new ≡ with_taken self.old (record { recorder = recorder; number = number; event = shown event }))) }
+        ensures agrees { IfSome result (λ event. Agrees event) }
         ensures none { IfNone result (self.new ≡ self.old) }
         ensures empty { IfNone result (Held 0 (λ items. AreLeft self.old (offers_of items))) }
         ensures nothing_left { IfNone result (AllTaken self.old) }
@@ -128,12 +130,7 @@ impl Taker {
         ensures left { (left : List Offer) × AreLeft self.new left }
     {
         let item = pop(rt, &self.buffer, &mut self.pass)?;
-        let Item {
-            recorder: _,
-            number: _,
-            event,
-        } = item;
-        Some(event)
+        Some(item.into_event())
     }
 
     /// Takes in what all recorders of the console had offered.
