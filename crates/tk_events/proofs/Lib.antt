@@ -1,0 +1,11 @@
+pub mod ListLemmas
+pub mod BufferLemmas
+pub mod CountRuleLemmas
+pub mod CountTotalLemmas
+pub mod AloneLemmas
+pub mod FinishLemmas
+pub mod DropLemmas
+pub mod NewItemLemmas
+pub mod IdLemmas
+pub mod AttrLemmas
+pub mod RecordLemmas

@@ -1,0 +1,9 @@
+use Rattle.std.proofs.Common.{◌≡◌, ◌≤◌, length, ap, sym, ◌∙◌, subst, ℕ, List}
+use Rattle.std.proofs.lemmas.List.{length-map}
+use Rattle.tk_ids.specs.declared.attr.AttrSpec.{AttrSpec}
+use Rattle.tk_ids.specs.declared.attr.AttrValue.{AttrValue}
+use Rattle.tk_events.proofs.AttrLemmas.{at_most_six, taken_values}
+use Rattle.tk_events.proofs.new_item.first_values.Goals as goal
+
+pub returns-clause-few : goal.returns-clause-few
+returns-clause-few c = taken_values c.args.attrs.now c.as_slice-attr-items.result.now c.loop-attr.attr-index c.loop-attr.values.items c.as_slice-attr-items.ensures.list c.as_slice-attr-items.ensures.attrs c.loop-attr.invariant

@@ -1,0 +1,23 @@
+use Rattle.std.proofs.Common.{◌≡◌, List, ap, sym, ◌∙◌}
+use Rattle.tk_ids.specs.declared.attr.AttrInfo.{AttrInfo}
+use Rattle.tk_ids.specs.declared.attr.AttrValue.{AttrValue}
+use Rattle.tk_core.specs.declared.op.call.OpCall.{OpCall}
+use Rattle.tk_core.specs.declared.op.row.OpRow.{OpRow}
+use Rattle.tk_core.specs.declared.reply.Reply.{Reply}
+use Rattle.tk_core.specs.Op.{opening_row}
+use Rattle.tk_cell.specs.declared.view.View.{View}
+use Rattle.tk_events.specs.Items.{first_values, kinds_of, kinds_told}
+use Rattle.tk_events.proofs.AttrLemmas.{same_kinds}
+use Rattle.tk_events.proofs.new_item.new_op.Goals as goal
+
+pub returns-clause-agrees : goal.returns-clause-agrees
+returns-clause-agrees g c =
+    let row = opening_row c.args.created c.as_slice.result.now in
+    let values : c.as_slice.result.now ≡ first_values c.args.spec.attrs = c.as_slice.ensures.value ∙ c.in-Some.ensures.values in (
+      c.in-Some-op_ledger.ensures.ids.1,
+      (
+        row,
+        ap (λ (v : View OpRow OpCall (Reply OpRow)). v.opening) c.in-Some-op_ledger.ensures.inspector,
+        ap (λ (l : List AttrValue). kinds_of l) values ∙ (same_kinds c.args.spec.attrs ∙ sym (ap (λ (l : List AttrInfo). kinds_told l) c.in-Some.ensures.infos)),
+      ),
+    )

@@ -1,0 +1,69 @@
+-- What a new item is: its info, what its owner and its inspector have seen, and what agrees in its event.
+use Rattle.std.specs.Prelude.{◌≡◌, ℕ, List, [], ◌∷◌, map, Some}
+use Rattle.tk_ids.specs.declared.attr.AttrInfo.{AttrInfo}
+use Rattle.tk_ids.specs.declared.attr.AttrKind.{AttrKind}
+use Rattle.tk_ids.specs.declared.attr.AttrSpec.{AttrSpec}
+use Rattle.tk_ids.specs.declared.attr.AttrValue.{AttrValue}
+use Rattle.tk_ids.specs.declared.info.OpInfo.{OpInfo}
+use Rattle.tk_ids.specs.declared.info.ResourceInfo.{ResourceInfo}
+use Rattle.tk_ids.specs.declared.info.TaskInfo.{TaskInfo}
+use Rattle.tk_ids.specs.declared.spec.OpSpec.{OpSpec}
+use Rattle.tk_ids.specs.declared.spec.ResourceSpec.{ResourceSpec}
+use Rattle.tk_ids.specs.declared.spec.TaskSpec.{TaskSpec}
+use Rattle.tk_ids.specs.Attributes.{kind_of}
+use Rattle.tk_core.specs.declared.op.row.OpRow.{OpRow}
+use Rattle.tk_core.specs.declared.reply.Reply.{Reply}
+use Rattle.tk_core.specs.declared.reply.Reply.TheVariants.{Number}
+use Rattle.tk_core.specs.declared.resource.row.ResourceRow.{ResourceRow}
+use Rattle.tk_cell.specs.declared.view.View.{View}
+use Rattle.tk_cell.specs.Calls.{entry}
+use Rattle.tk_events.specs.declared.event.Event.{Event}
+use Rattle.tk_events.specs.declared.event.Event.TheVariants.{Task, Resource, Op, Poll}
+
+-- what stays of an attribute that is declared so
+abbrev pub info_of : AttrSpec → AttrInfo
+info_of attr = record { name = attr.name; unit = attr.unit; kind = kind_of attr.first }
+
+-- what stays of the attributes that are declared so
+abbrev pub infos_of : List AttrSpec → List AttrInfo
+infos_of attrs = map info_of attrs
+
+-- the values that attributes have first
+abbrev pub first_values : List AttrSpec → List AttrValue
+first_values attrs = map (λ (attr : AttrSpec). attr.first) attrs
+
+-- the info of a task with this id
+abbrev pub task_info : ℕ → TaskSpec → TaskInfo
+task_info id spec = record { id = id; kind = spec.kind; name = spec.name; location = spec.location }
+
+-- the info of a resource with this id
+abbrev pub resource_info : ℕ → ResourceSpec → ResourceInfo
+resource_info id spec = record { id = id; parent = spec.parent; concrete = spec.concrete; kind = spec.kind; location = spec.location; attrs = infos_of spec.attrs }
+
+-- the info of an operation with this id
+abbrev pub op_info : ℕ → OpSpec → OpInfo
+op_info id spec = record { id = id; source = spec.source; resource = spec.resource; parent = spec.parent; attrs = infos_of spec.attrs }
+
+module _ {Row C : Type 0} where
+  -- what the owner of a new ledger knows, whose list is one `Enlist` that was answered 1
+  abbrev pub owner_view : C → Row → View Row C (Reply Row)
+  owner_view enlist row = record { caller = 0; seen = entry 0 enlist (Number 1) ∷ []; held = 0 ∷ []; opening = Some row }
+
+  -- what the inspector knows that this `Enlist` made: it is caller 1
+  abbrev pub inspector_view : C → Row → View Row C (Reply Row)
+  inspector_view enlist row = record { caller = 1; seen = entry 0 enlist (Number 1) ∷ []; held = 1 ∷ []; opening = Some row }
+
+-- the kinds of values
+abbrev pub kinds_of : List AttrValue → List AttrKind
+kinds_of values = map kind_of values
+
+-- the kinds that infos tell
+abbrev pub kinds_told : List AttrInfo → List AttrKind
+kinds_told infos = map (λ (info : AttrInfo). info.kind) infos
+
+-- info and ledger agree in the id, and in number and kinds of the attributes that the ledger began with
+abbrev pub Agrees : Event → Type 0
+Agrees (Task info inspector) = inspector.id ≡ info.id
+Agrees (Resource info inspector) = (inspector.id ≡ info.id) × ((row : ResourceRow) × (inspector.token.view.opening ≡ Some row) × (kinds_of row.attrs ≡ kinds_told info.attrs))
+Agrees (Op info inspector) = (inspector.id ≡ info.id) × ((row : OpRow) × (inspector.token.view.opening ≡ Some row) × (kinds_of row.attrs ≡ kinds_told info.attrs))
+Agrees (Poll op) = op ≡ op

@@ -1,0 +1,10 @@
+-- What a caller must believe: errors, offers, and what the handles show
+pub mod Errors
+pub mod Offers
+pub mod Items
+pub mod Handles
+-- Inner: the rules of the buffer and of the counts, and what the handles keep. Of these public clauses cite `times` alone
+pub mod Lists
+pub mod Buffer
+pub mod Counts
+pub mod Parts
