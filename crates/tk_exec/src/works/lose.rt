@@ -7,14 +7,12 @@ use tk_ledgers::PollScope;
 
 /// Clones a waker and releases it, in each poll, and is never ready. Where a clone is refused it releases none.
 #[derive(Drop)]
-pub struct LoseWaker {
-    polls: u64,
-}
+pub struct LoseWaker {}
 
 impl LoseWaker {
-    /// One that was not polled yet.
+    /// One that loses its first waker in its first poll.
     pub fn new() -> LoseWaker {
-        LoseWaker { polls: 0 }
+        LoseWaker {}
     }
 }
 
@@ -26,7 +24,6 @@ impl Work for LoseWaker {
     ghost gives = { lose_gives };
 
     fn poll<R: Wait>(&mut self, rt: &R, scope: &mut PollScope) -> Poll<u64> {
-        self.polls = self.polls.saturating_add(1);
         if let Ok(waker) = scope.clone_waker(rt) {
             waker.release(rt);
         }
