@@ -1,5 +1,1 @@
-//! What no clause says: that calls return their happy answers with ample memory, and counts over threads.
-
-mod kept;
-mod ring;
-mod threads;
+//! Tests of what no clause says.
