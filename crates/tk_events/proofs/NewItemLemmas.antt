@@ -1,12 +1,10 @@
 -- What the first call on a new ledger is answered, and what its owner and the caller that it made know then.
-use Rattle.std.proofs.Common.{suc, length, length-append, ◌≡◌, ◌≢◌, ℕ, ◌+◌, Bool, true, List, [], ◌∷◌, ◌++◌, eqb, Option, Some, refl, ap, sym, ◌∙◌, subst, arith, ⊎_elim}
+use Rattle.std.proofs.Common.{suc, length, length-append, ◌≡◌, ◌≢◌, ℕ, ◌+◌, Bool, true, List, [], ◌∷◌, ◌++◌, Option, Some, refl, ap, sym, ◌∙◌, subst, arith, ⊎_elim}
 use Rattle.std.specs.Prelude.{◌==◌}
 use Rattle.std.proofs.lemmas.Bool.{eq-eqb}
 use Rattle.std.proofs.lemmas.List.Elements.{filter-append}
 use Rattle.tk_core.specs.declared.history.Entry.{Entry}
 use Rattle.tk_core.specs.declared.op.call.OpCall.TheVariants.{Enlist as EnlistOp}
-use Rattle.tk_core.specs.declared.op.row.OpRow.{OpRow}
-use Rattle.tk_core.specs.declared.op.call.OpCall.{OpCall}
 use Rattle.tk_core.specs.declared.reply.Refusal.{Refusal}
 use Rattle.tk_core.specs.declared.reply.Refusal.TheVariants.{Memory, HandlesSpent, AlreadyPolling, NotPolling, Closed, NoAttribute, WrongKind, OutOfRange}
 use Rattle.tk_core.specs.declared.reply.Reply.{Reply}

@@ -6,7 +6,7 @@ use Rattle.atomic_table.specs.Seated.{TableId}
 use Rattle.atomic_table.specs.declared.shared.Seat.{Seat}
 use Rattle.crossbeam_queue.specs.declared.array_queue.Doing.{Doing}
 use Rattle.crossbeam_queue.specs.declared.array_queue.Slotted.{Slotted}
-use Rattle.crossbeam_queue.specs.Passes.{Pass, view, IsSamePass, IsPassOf}
+use Rattle.crossbeam_queue.specs.Passes.{Pass, view, IsSamePass}
 use Rattle.tk_ids.specs.IdBlocks.{Given}
 use Rattle.tk_events.specs.declared.buffer.view.View.{View}
 use Rattle.tk_events.specs.declared.counts.view.View.{View as Count}
@@ -15,7 +15,7 @@ use Rattle.tk_events.specs.declared.recorder.Recorded.{Recorded}
 use Rattle.tk_events.specs.declared.recorder.Recorded.TheVariants.{Kept, DroppedFull}
 use Rattle.tk_events.specs.Offers.{Item, tasks_in, resources_in, ops_in}
 use Rattle.tk_events.specs.Buffer.{keeps, notes}
-use Rattle.tk_events.specs.Parts.{given, given_with, recording, IsRecording, IsAdding}
+use Rattle.tk_events.specs.Parts.{given_with, recording, IsRecording, IsAdding}
 use Rattle.tk_events.proofs.IdLemmas.{given_kept, given_refused}
 
 -- the ids that a view tells of

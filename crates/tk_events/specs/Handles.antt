@@ -1,24 +1,14 @@
 -- What a recorder, one that is retired and the taker show.
-use Rattle.std.specs.Prelude.{◌≡◌, ℕ, zero, suc, ◌+◌, ◌-◌, ◌*◌, ◌^◌, ◌<◌, ◌≤◌, Bool, true, false, List, [], ◌∷◌, ◌++◌, length, map, All, Option}
+use Rattle.std.specs.Prelude.{◌≡◌, ℕ, zero, suc, ◌+◌, ◌-◌, ◌^◌, ◌<◌, ◌≤◌, Bool, true, false, List, [], ◌∷◌, ◌++◌, length, map, All}
 use Rattle.atomic_table.specs.Seated.{TableId}
-use Rattle.atomic_table.specs.declared.shared.Seat.{Seat}
-use Rattle.tk_events.specs.declared.counts.view.View.{View as Count}
-use Rattle.tk_events.specs.declared.counts.view.Tally.{Tally}
-use Rattle.tk_events.specs.declared.counts.view.Role.TheVariants.{Reads as ReadsRole, Adds as AddsRole}
-use Rattle.tk_events.specs.Counts.{total_of}
-use Rattle.crossbeam_queue.specs.declared.array_queue.Doing.{Doing}
-use Rattle.crossbeam_queue.specs.declared.array_queue.Slotted.{Slotted}
-use Rattle.crossbeam_queue.specs.Passes.{Pass, view, ruled_capacity, IsPassOf}
 use Rattle.tk_events.specs.Offers.{Item}
 use Rattle.tk_events.specs.declared.item.Offer.{Offer}
 use Rattle.tk_events.specs.declared.event.Shown.{Shown}
 use Rattle.tk_events.specs.declared.limits.Limits.{Limits}
-use Rattle.tk_events.specs.declared.buffer.view.Role.TheVariants.{Takes, Records}
 use Rattle.tk_events.specs.declared.buffer.view.Returned.{Returned}
-use Rattle.tk_events.specs.declared.buffer.view.View.{View}
 use Rattle.tk_ids.specs.Ids.{id_of}
 use Rattle.tk_events.specs.Offers.{by, offers_of, dropped_of, tasks_in, resources_in, ops_in}
-use Rattle.tk_events.specs.Buffer.{numbers_known, returned, IsBalanced, IsNamed}
+use Rattle.tk_events.specs.Buffer.{numbers_known, IsNamed}
 use Rattle.tk_events.specs.Lists.{times}
 
 -- a console: its buffer and its counts

@@ -1,5 +1,5 @@
 -- Inner: what a recorder and a taker keep in their passes and seats, and what is shown of it. No public clause cites this file.
-use Rattle.std.specs.Prelude.{if◌then◌else◌, ◌≡◌, ℕ, zero, suc, ◌+◌, ◌-◌, ◌*◌, ◌^◌, ◌<◌, ◌≤◌, Bool, true, false, List, [], ◌∷◌, ◌++◌, length, map, All, Option}
+use Rattle.std.specs.Prelude.{if◌then◌else◌, ◌≡◌, ℕ, ◌+◌, ◌-◌, ◌*◌, ◌^◌, ◌<◌, ◌≤◌, Bool, true, false, List, [], ◌++◌, length, map, All, Option}
 use Rattle.atomic_table.specs.Seated.{TableId}
 use Rattle.atomic_table.specs.declared.shared.Seat.{Seat}
 use Rattle.tk_events.specs.declared.counts.view.View.{View as Count}
@@ -10,16 +10,13 @@ use Rattle.crossbeam_queue.specs.declared.array_queue.Doing.{Doing}
 use Rattle.crossbeam_queue.specs.declared.array_queue.Slotted.{Slotted}
 use Rattle.crossbeam_queue.specs.Passes.{Pass, view, ruled_capacity, IsPassOf}
 use Rattle.tk_events.specs.Offers.{Item}
-use Rattle.tk_events.specs.declared.item.Offer.{Offer}
 use Rattle.tk_events.specs.declared.event.Shown.{Shown}
-use Rattle.tk_events.specs.declared.limits.Limits.{Limits}
 use Rattle.tk_events.specs.declared.buffer.view.Role.TheVariants.{Takes, Records}
 use Rattle.tk_events.specs.declared.buffer.view.Returned.{Returned}
 use Rattle.tk_events.specs.declared.buffer.view.View.{View}
 use Rattle.tk_ids.specs.IdBlocks.{Given}
 use Rattle.tk_events.specs.Offers.{offers_of, drops_of, tasks_in, resources_in, ops_in, is_task, is_resource, is_op}
-use Rattle.tk_events.specs.Buffer.{numbers_known, returned, IsBalanced, IsNamed}
-use Rattle.tk_events.specs.Lists.{times}
+use Rattle.tk_events.specs.Buffer.{returned, IsBalanced}
 use Rattle.tk_events.specs.Handles.{place, Totals, Recording, Retiring, Taking, IsWhole}
 
 -- a view of the taker that made n recorders

@@ -1,8 +1,4 @@
-use Rattle.std.proofs.Common.{◌≡◌, ◌≤◌, length, ap, sym, ◌∙◌, subst, ℕ, List}
-use Rattle.std.proofs.lemmas.List.{length-map}
-use Rattle.tk_ids.specs.declared.attr.AttrSpec.{AttrSpec}
-use Rattle.tk_ids.specs.declared.attr.AttrValue.{AttrValue}
-use Rattle.tk_events.proofs.AttrLemmas.{at_most_six, taken_values}
+use Rattle.tk_events.proofs.AttrLemmas.{taken_values}
 use Rattle.tk_events.proofs.new_item.first_values.Goals as goal
 
 pub returns-clause-few : goal.returns-clause-few
