@@ -24,8 +24,6 @@ mod new_item;
 mod recorder;
 mod retired;
 mod taker;
-#[cfg(test)]
-mod tests;
 
 pub use console::Console;
 pub use error::{FinishError, OpenError, RecordError};

@@ -1,1 +1,0 @@
-//! Tests of what no clause says.
