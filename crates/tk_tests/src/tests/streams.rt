@@ -1,12 +1,16 @@
 //! The stream of each script is taken by a client, whole and in pieces, and leads it to the tables that the script's last line
 //! tells of.
+ghost use Rattle.std.specs.Prelude.{◌≡◌};
+ghost use Rattle.tk_stream.specs.Tables.{empty_tables};
 
 use super::scripts as script;
 use std::alloc::Global;
 use std::test::*;
 use tk_app::{Open, run_script};
-use tk_client::{Client, Lints, WarningKind};
+use tk_client::{Client, Lints, Warning, WarningKind};
 use tk_stream::{Line, Tables};
+
+// Each helper owns one of these at most, and lends it to the next: so their proofs stay short.
 
 // What a script writes, if it has no fault.
 fn stream_of(alloc: Global, script: &'static [u8]) -> Option<Vec<u8>> {
@@ -30,78 +34,134 @@ fn lines_taken(client: &mut Client, bytes: &[u8], size: usize) -> Option<u64> {
     Some(lines)
 }
 
-// Whether the bytes end with the snapshot line of tables that has this number, and its line end.
-fn end_with(alloc: Global, bytes: &[u8], tables: &Tables, number: u64) -> Result<bool, Fail> {
-    if number < 1 || number > 100 {
-        return Ok(false);
+// Whether the bytes end with this text and a line end.
+fn end_with_text(bytes: &[u8], text: &[u8]) -> bool {
+    bytes.len() > text.len()
+        && bytes.ends_with(b"\n")
+        && bytes[..bytes.len() - 1].ends_with(text)
+}
+
+fn end_with_line(bytes: &[u8], line: &Line) -> bool {
+    match line.write() {
+        Ok(text) => end_with_text(bytes, text.as_slice()),
+        Err(_) => false,
     }
-    let none = Tables::new(alloc)?;
-    let line = Line::between(alloc, &none, tables, number, true)?;
-    let mut text = line.write()?;
-    text.push(b'\n')?;
-    Ok(bytes.ends_with(text.as_slice()))
+}
+
+fn end_with_snapshot(
+    alloc: Global,
+    bytes: &[u8],
+    none: &Tables,
+    tables: &Tables,
+    number: u64,
+) -> bool
+    requires { none.now ≡ empty_tables }
+{
+    if number < 1 || number > 100 {
+        return false;
+    }
+    match Line::between(alloc, none, tables, number, true) {
+        Ok(line) => end_with_line(bytes, &line),
+        Err(_) => false,
+    }
+}
+
+// Whether the bytes end with the snapshot line of tables that has this number.
+fn end_with(alloc: Global, bytes: &[u8], tables: &Tables, number: u64) -> bool {
+    match Tables::new(alloc) {
+        Ok(none) => end_with_snapshot(alloc, bytes, &none, tables, number),
+        Err(_) => false,
+    }
 }
 
 // Whether a client takes the stream in pieces of a size: all of its lines, of which the last is the snapshot of its tables.
-fn takes(alloc: Global, bytes: &[u8], size: usize, lines: u64) -> Result<bool, Fail> {
-    let mut client = Client::new(alloc, 100_000)?;
-    if lines_taken(&mut client, bytes, size) != Some(lines) {
-        return Ok(false);
+fn is_taken_by(client: &mut Client, alloc: Global, bytes: &[u8], size: usize, lines: u64) -> bool {
+    lines_taken(client, bytes, size) == Some(lines)
+        && end_with(alloc, bytes, client.tables(), lines)
+}
+
+fn is_taken_by_size(alloc: Global, bytes: &[u8], size: usize, lines: u64) -> bool {
+    match Client::new(alloc, 100_000) {
+        Ok(mut client) => is_taken_by(&mut client, alloc, bytes, size, lines),
+        Err(_) => false,
     }
-    end_with(alloc, bytes, client.tables(), lines)
+}
+
+fn is_taken_by_all_sizes(alloc: Global, bytes: &[u8], lines: u64) -> bool {
+    let mut all = true;
+    for size in [1, 2, 7, 64, 1_000, 100_000] {
+        all = all && is_taken_by_size(alloc, bytes, size, lines);
+    }
+    all
 }
 
 // Whether a script ends without a fault, and a client takes its stream of so many lines in pieces of any size.
-fn is_taken(alloc: Global, script: &'static [u8], lines: u64) -> Result<bool, Fail> {
-    let Some(bytes) = stream_of(alloc, script) else {
-        return Ok(false);
-    };
-    for size in [1, 2, 7, 64, 1_000, 100_000] {
-        if !takes(alloc, bytes.as_slice(), size, lines)? {
-            return Ok(false);
-        }
+fn is_taken(alloc: Global, script: &'static [u8], lines: u64) -> bool {
+    match stream_of(alloc, script) {
+        Some(bytes) => is_taken_by_all_sizes(alloc, bytes.as_slice(), lines),
+        None => false,
     }
-    Ok(true)
 }
 
 #[test]
 fn examples_are_taken(rt: HostRuntime) -> Result<(), Fail> {
     let alloc = rt.alloc();
-    assert!(rt; is_taken(alloc, script::first(), 3)?, "first");
-    assert!(rt; is_taken(alloc, script::long_poll(), 4)?, "long-poll");
-    assert!(rt; is_taken(alloc, script::never_woken(), 2)?, "never-woken");
-    assert!(rt; is_taken(alloc, script::wakes_itself(), 5)?, "wakes-itself");
-    assert!(rt; is_taken(alloc, script::semaphore(), 3)?, "semaphore");
-    assert!(rt; is_taken(alloc, script::lost_waker(), 3)?, "lost-waker");
+    assert!(rt; is_taken(alloc, script::first(), 3), "first");
+    assert!(rt; is_taken(alloc, script::long_poll(), 4), "long-poll");
+    assert!(rt; is_taken(alloc, script::never_woken(), 2), "never-woken");
+    assert!(rt; is_taken(alloc, script::wakes_itself(), 5), "wakes-itself");
+    assert!(rt; is_taken(alloc, script::semaphore(), 3), "semaphore");
+    assert!(rt; is_taken(alloc, script::lost_waker(), 3), "lost-waker");
     Ok(())
 }
 
 #[test]
 fn every_command_is_taken(rt: HostRuntime) -> Result<(), Fail> {
-    assert!(rt; is_taken(rt.alloc(), script::every_command(), 4)?);
+    assert!(rt; is_taken(rt.alloc(), script::every_command(), 4));
     Ok(())
 }
 
-// The tasks that a client warns of behind a script's stream: the number of each in its recorder, and of which kind.
-fn warned(alloc: Global, script: &'static [u8]) -> Result<Vec<(u64, WarningKind)>, Fail> {
-    let mut list = Vec::new(alloc);
-    let mut client = Client::new(alloc, 100_000)?;
-    let Some(bytes) = stream_of(alloc, script) else {
-        return Ok(list);
-    };
-    let _ = lines_taken(&mut client, bytes.as_slice(), 64);
-    let lints = Lints::default();
-    for warning in client.warnings(&lints)? {
-        list.push((warning.task.parts().1, warning.kind))?;
+// Whether there is one warning: of this kind, of the task of this number.
+fn is_one(warnings: &[Warning], number: u64, kind: WarningKind) -> bool {
+    match warnings {
+        [warning] => warning.task.parts().1 == number && warning.kind == kind,
+        _ => false,
     }
-    Ok(list)
+}
+
+fn warns_once(client: &Client, number: u64, kind: WarningKind) -> bool {
+    match client.warnings(&Lints::default()) {
+        Ok(warnings) => is_one(warnings.as_slice(), number, kind),
+        Err(_) => false,
+    }
+}
+
+fn feeds_and_warns(client: &mut Client, bytes: &[u8], number: u64, kind: WarningKind) -> bool {
+    match lines_taken(client, bytes, 64) {
+        Some(_) => warns_once(client, number, kind),
+        None => false,
+    }
+}
+
+fn client_warns(alloc: Global, bytes: &[u8], number: u64, kind: WarningKind) -> bool {
+    match Client::new(alloc, 100_000) {
+        Ok(mut client) => feeds_and_warns(&mut client, bytes, number, kind),
+        Err(_) => false,
+    }
+}
+
+// Whether a client that took the stream of a script warns once: of the task of this number.
+fn warns(alloc: Global, script: &'static [u8], number: u64, kind: WarningKind) -> bool {
+    match stream_of(alloc, script) {
+        Some(bytes) => client_warns(alloc, bytes.as_slice(), number, kind),
+        None => false,
+    }
 }
 
 #[test]
 fn warns_of_what_the_examples_show(rt: HostRuntime) -> Result<(), Fail> {
-    let spins = warned(rt.alloc(), script::wakes_itself())?;
-    assert_eq!(rt; spins.as_slice(), [(1, WarningKind::SelfWakes)].as_slice());
-    let lost = warned(rt.alloc(), script::lost_waker())?;
-    assert_eq!(rt; lost.as_slice(), [(1, WarningKind::LostWaker)].as_slice());
+    let alloc = rt.alloc();
+    assert!(rt; warns(alloc, script::wakes_itself(), 1, WarningKind::SelfWakes));
+    assert!(rt; warns(alloc, script::lost_waker(), 1, WarningKind::LostWaker));
     Ok(())
 }
