@@ -71,7 +71,7 @@ both_wakes one two first second v0 v1 v2 row w1 w2 j1 j2 reach =
     let a2 = added_one f n2 second.token.view.held h2 in
     let held : v2.held ≡ (v0.held ++ first.token.view.held) ++ second.token.view.held = j2.now_held ∙ ap (λ (l : List ℕ). l ++ second.token.view.held) j1.now_held in
     let sum : added f v2.held ≡ (added f v0.held + added f first.token.view.held) + added f second.token.view.held =
-        ap (added f) held ∙ (added-append f (v0.held ++ first.token.view.held) second.token.view.held ∙ ap (λ (k : ℕ). k + added f second.token.view.held) (added-append f v0.held first.token.view.held)) in
+    ap (added f) held ∙ (added-append f (v0.held ++ first.token.view.held) second.token.view.held ∙ ap (λ (k : ℕ). k + added f second.token.view.held) (added-append f v0.held first.token.view.held)) in
     let least : 2 ≤ added f v2.held = omega (arith, sum, a1, a2, one_wake, two_wakes) in
     let shown : capped (added f v2.held) ≤ row.wakes = reach.1 in
     omega (arith, least, shown)

@@ -37,7 +37,7 @@ module _ {O C R : Type 0} (m : Meaning O C R) where
     where
       go : (b : Bool) → maker m n (h ++ e ∷ []) ≡ maker m n h
           → option_map (λ (y : Entry C R). y.call) (cond b (Some x) (find (λ y. answers m n y.reply) (h ++ e ∷ [])))
-              ≡ option_map (λ (y : Entry C R). y.call) (cond b (Some x) (find (λ y. answers m n y.reply) h))
+          ≡ option_map (λ (y : Entry C R). y.call) (cond b (Some x) (find (λ y. answers m n y.reply) h))
       go true later = refl
       go false later = later
 
@@ -92,7 +92,7 @@ module _ (h : TaskHistory) (e : Entry TaskCall (Reply TaskRow)) where
       → ((n : ℕ) → times n (wakers h) ≡ was_cloned (maker task_meaning n h)) → (n : ℕ) → times n (wakers longer) ≡ was_cloned (maker task_meaning n longer)
   cloned_push fresh before n =
       let all : times n (wakers longer) ≡ times n (wakers h) + cond (answers task_meaning n e.reply) (cond (is_clone e.call) 1 0) 0 =
-          ap (λ (l : List ℕ). times n l) wakers_push ∙ (times-append n (wakers h) (cons_option (new_waker e) []) ∙ ap (λ (k : ℕ). times n (wakers h) + k) (times_new n (is_clone e.call) (number_of e.reply))) in
+      ap (λ (l : List ℕ). times n l) wakers_push ∙ (times-append n (wakers h) (cons_option (new_waker e) []) ∙ ap (λ (k : ℕ). times n (wakers h) + k) (times_new n (is_clone e.call) (number_of e.reply))) in
       go (answers task_meaning n e.reply) refl all
     where
       go : (b : Bool) → answers task_meaning n e.reply ≡ b → times n (wakers longer) ≡ times n (wakers h) + cond b (cond (is_clone e.call) 1 0) 0 → times n (wakers longer) ≡ was_cloned (maker task_meaning n longer)
@@ -216,7 +216,7 @@ module _ (opening : TaskRow) (h : TaskHistory) (e : Entry TaskCall (Reply TaskRo
       let old : filter test (wakers h) ≡ live_wakers h = filter_same test (λ n. not (has_ended task_meaning h n)) (wakers h) (λ n. ap not (goes_on h e n keeps)) in
       let new : filter test (cons_option (new_waker e) []) ≡ cons_option (new_waker e) [] = lives (is_clone e.call) (number_of e.reply) (λ n is. ap not (goes_on h e n keeps ∙ ap (λ (l : TaskHistory). list_any (λ x. is_last x.call) l) (fresh n is))) in
       let all : live_wakers (h ++ e ∷ []) ≡ live_wakers h ++ cons_option (new_waker e) [] =
-          ap (λ (l : List ℕ). filter test l) (wakers_push h e) ∙ (filter-append test (wakers h) (cons_option (new_waker e) []) ∙ (ap (λ (l : List ℕ). l ++ filter test (cons_option (new_waker e) [])) old ∙ ap (λ (l : List ℕ). live_wakers h ++ l) new)) in
+      ap (λ (l : List ℕ). filter test l) (wakers_push h e) ∙ (filter-append test (wakers h) (cons_option (new_waker e) []) ∙ (ap (λ (l : List ℕ). l ++ filter test (cons_option (new_waker e) [])) old ∙ ap (λ (l : List ℕ). live_wakers h ++ l) new)) in
       let count : length (live_wakers (h ++ e ∷ [])) ≡ length (live_wakers h) + length (cons_option (new_waker e) []) = ap (λ (l : List ℕ). length l) all ∙ length-append (live_wakers h) (cons_option (new_waker e) []) in
       let clones = tally_push is_clone h e in let drops = tally_push is_drop h e in
       let no_drop : one is_drop e ≡ 0 = none_of (is_accepted e.reply) keeps in
@@ -264,8 +264,8 @@ module _ (opening : TaskRow) (h : TaskHistory) (e : Entry TaskCall (Reply TaskRo
       let may : made_may allowed.0 e.call ≡ true = by_role e.call allowed.0 allowed.1 not_owner follows.role in
       let once : times e.caller (wakers h) ≡ 1 = made ∙ (ap was_cloned allowed.1 ∙ ap (λ (b : Bool). cond b 1 0) (by_waker e.call allowed.0 is may)) in
       let fewer : length (live_wakers h) ≡ times e.caller (wakers h) + length (filter (λ n. not (has_ended task_meaning (h ++ e ∷ []) n)) (wakers h)) =
-          one_less (λ n. not (has_ended task_meaning h n)) (λ n. not (has_ended task_meaning (h ++ e ∷ []) n)) e.caller (wakers h)
-              (λ n isnt. ap not (sym (other_goes_on h e n isnt))) (ap not follows.going) (ap not (ends h e is follows.going)) in
+      one_less (λ n. not (has_ended task_meaning h n)) (λ n. not (has_ended task_meaning (h ++ e ∷ []) n)) e.caller (wakers h)
+      (λ n isnt. ap not (sym (other_goes_on h e n isnt))) (ap not follows.going) (ap not (ends h e is follows.going)) in
       let now : length (live_wakers (h ++ e ∷ [])) ≡ length (filter (λ n. not (has_ended task_meaning (h ++ e ∷ []) n)) (wakers h)) = ap (λ (l : List ℕ). length (filter (λ n. not (has_ended task_meaning (h ++ e ∷ []) n)) l)) same in
       let clones = tally_push is_clone h e in let drops = tally_push is_drop h e in
       let one_drop : one is_drop e ≡ 1 = rw (accepts, is) refl in
@@ -284,7 +284,7 @@ module _ (opening : TaskRow) (opens : IsOpening opening) where
   counted_push : (h : TaskHistory) (e : Entry TaskCall (Reply TaskRow)) → IsLegal task_meaning opening h → MayFollow task_meaning opening h e → Counted h → Counted (h ++ e ∷ [])
   counted_push h e legal follows before =
       let fresh : (n : ℕ) → number_of e.reply ≡ Some n → (n ≢ 0) × (maker task_meaning n h ≡ None) =
-          λ n is. new_number task_meaning opening numbers_are_new opens h legal e.call n (ap number_of (sym follows.reply) ∙ is) in
+      λ n is. new_number task_meaning opening numbers_are_new opens h legal e.call n (ap number_of (sym follows.reply) ∙ is) in
       record {
         made = cloned_push h e (λ n is. (fresh n is).1) before.made;
         live = go (is_drop e.call) refl fresh;

@@ -2,8 +2,10 @@
 ghost use Rattle.std.specs.Prelude.{◌≡◌, IfSome};
 
 use super::polls::FIRST;
-use crate::{OpInspector, OpOwner, OpReceipt, ResourceInspector, ResourceOwner, ResourceReceipt};
-use crate::{ResourceUser, TaskInspector, TaskOwner, TaskReceipt};
+use crate::{
+    OpInspector, OpOwner, OpReceipt, ResourceInspector, ResourceOwner, ResourceReceipt,
+    ResourceUser, TaskInspector, TaskOwner, TaskReceipt,
+};
 use std::sync::Wait;
 use std::test::*;
 use std::thread::join;
@@ -57,7 +59,10 @@ fn reads_a_task_at_work(rt: HostRuntime) -> Result<(), Fail> {
     };
     inspector.learn(&rt, receipt);
     let row = inspector.read(&rt);
-    assert_eq!(rt; (row.polls, row.handles, row.dropped), (TIMES, 1, Some(TIMES)));
+    assert_eq!(rt;
+        (row.polls, row.handles, row.dropped),
+        (TIMES, 1, Some(TIMES))
+    );
     Ok(())
 }
 
@@ -109,7 +114,10 @@ fn reads_an_operation_at_work(rt: HostRuntime) -> Result<(), Fail> {
     };
     inspector.learn(&rt, receipt);
     let row = inspector.read(&rt);
-    assert_eq!(rt; (row.polls, row.handles, row.dropped), (TIMES, 1, Some(TIMES)));
+    assert_eq!(rt;
+        (row.polls, row.handles, row.dropped),
+        (TIMES, 1, Some(TIMES))
+    );
     assert_eq!(rt; row.attrs.get(0), Some(AttrValue::U64(TIMES)));
     Ok(())
 }

@@ -36,9 +36,7 @@ fn lines_taken(client: &mut Client, bytes: &[u8], size: usize) -> Option<u64> {
 
 // Whether the bytes end with this text and a line end.
 fn end_with_text(bytes: &[u8], text: &[u8]) -> bool {
-    bytes.len() > text.len()
-        && bytes.ends_with(b"\n")
-        && bytes[..bytes.len() - 1].ends_with(text)
+    bytes.len() > text.len() && bytes.ends_with(b"\n") && bytes[..bytes.len() - 1].ends_with(text)
 }
 
 fn end_with_line(bytes: &[u8], line: &Line) -> bool {
