@@ -1,5 +1,5 @@
 -- Values that are kept under keys, in the order of a list of keys.
-use Rattle.std.proofs.Common.{◌≡◌, ◌≢◌, ℕ, zero, suc, ◌+◌, ◌<◌, ◌≤◌, ◌⊎◌, List, [], ◌∷◌, ◌++◌, length, get_or, set, Option, Some, None, refl, ap, sym, ◌∙◌, subst, inl, inr, arith, true≢false}
+use Rattle.std.proofs.Common.{◌≡◌, ◌≢◌, ℕ, zero, suc, ◌+◌, ◌<◌, ◌≤◌, ◌⊎◌, List, [], ◌∷◌, ◌++◌, length, Option, Some, None, refl, ap, sym, ◌∙◌, subst, inl, inr, arith, true≢false}
 use Rattle.std.specs.Prelude.{IsSome, IfSome, slice_set, slice_index_or}
 use Rattle.std.specs.List.{slice_get, cons_option, remove, SameBelow, ShiftedDown}
 use Rattle.std.proofs.lemmas.Bool.{cases_lt, cases_eq}

@@ -1,7 +1,5 @@
 -- One poll, from its parts.
-use Rattle.std.proofs.Common.{◌≡◌, ℕ, Bool, true, false, not, List, [], ◌∷◌, ◌++◌, Option, Some, None, subst, refl, ap, sym, ◌∙◌}
-use Rattle.std.specs.Prelude.{is_some}
-use Rattle.futures.specs.declared.task.Poll.{Poll}
+use Rattle.std.proofs.Common.{◌≡◌, ℕ, false, [], ◌∷◌, Option, Some, None, subst, refl, ap, sym, ◌∙◌}
 use Rattle.futures.specs.declared.task.Poll.TheVariants.{Ready, Pending}
 use Rattle.tk_core.specs.declared.reply.Reply.TheVariants.{Done, Shown}
 use Rattle.tk_core.specs.declared.task.call.TaskCall.TheVariants.{PollStart, PollEnd, Close, Read}
@@ -11,7 +9,7 @@ use Rattle.tk_cell.specs.Calls.{entry}
 use Rattle.tk_ledgers.specs.Tasks.{TaskSight, is_polling}
 use Rattle.tk_ledgers.specs.Scopes.{TaskEntries, Scoped, Grows, ScopeGrows}
 use Rattle.tk_ledgers.proofs.ScopeLemmas.{grows_more, polling_stays}
-use Rattle.tk_exec.specs.Polls.{IsAtRest, poll_entries, closing}
+use Rattle.tk_exec.specs.Polls.{IsAtRest, poll_entries}
 
 -- with an owner there is no receipt
 pub at_rest : (id : ℕ) (owner : TaskSight) (o r : Option TaskSight) → o ≡ Some owner → IsAtRest id o r → (r ≡ None) × (owner.id ≡ id) × (is_polling owner ≡ false)

@@ -1,11 +1,11 @@
 -- A turn, from its two searches and its poll.
-use Rattle.std.proofs.Common.{◌≡◌, ◌≢◌, ℕ, zero, suc, ◌+◌, ◌<◌, ◌≤◌, ◌⊎◌, Bool, true, false, List, length, Option, Some, None, refl, ap, sym, ◌∙◌, subst, inl, inr, arith, true≢false}
+use Rattle.std.proofs.Common.{◌≡◌, ◌≢◌, ℕ, ◌+◌, ◌<◌, ◌≤◌, ◌⊎◌, true, false, List, length, Option, Some, None, refl, ap, sym, ◌∙◌, subst, inl, inr, arith, true≢false}
 use Rattle.std.specs.Prelude.{is_some, IfSome}
 use Rattle.std.specs.List.{slice_get}
 use Rattle.std.proofs.lemmas.Bool.{cases_lt, cases_eq}
 use Rattle.tk_ledgers.specs.Tasks.{TaskSight}
 use Rattle.tk_exec.specs.Seats.{OwnerReads, Seat, Tasks, LookedAt, PolledAt, ChangesAt}
-use Rattle.tk_exec.specs.Turns.{ComesBefore, PassedOver, Passed, Found, PollsAt, TurnPolls, TurnIdles, TurnDoes}
+use Rattle.tk_exec.specs.Turns.{ComesBefore, PassedOver, Passed, Found, PollsAt, TurnIdles, TurnDoes}
 use Rattle.tk_exec.specs.declared.executor.Turn.{Turn}
 use Rattle.tk_exec.specs.declared.executor.Turn.TheVariants as turns
 

@@ -4,4 +4,5 @@ pub mod Polls
 pub mod Places
 pub mod Seats
 pub mod Turns
+pub mod Drives
 pub mod Errors

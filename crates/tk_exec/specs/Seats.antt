@@ -1,5 +1,5 @@
 -- The tasks that an executor holds, and what happens to one of them.
-use Rattle.std.specs.Prelude.{◌≡◌, ◌≢◌, ℕ, Bool, true, false, List, [], ◌∷◌, length, Option, Some, None, is_some, not, ◌==◌, ◌&&◌, ◌||◌}
+use Rattle.std.specs.Prelude.{◌≡◌, ◌≢◌, ℕ, Bool, true, false, List, [], ◌∷◌, length, filter, filter_map, Option, Some, None, is_some, not, ◌==◌, ◌&&◌, ◌||◌}
 use Rattle.std.specs.List.{slice_get}
 use Rattle.futures.specs.declared.task.Poll.{Poll}
 use Rattle.futures.specs.declared.task.Poll.TheVariants.{Ready, Pending}
@@ -49,14 +49,23 @@ module _ {W A : Type 0} where
   abbrev pub is_sought : ℕ → Bool → Seat W A → Bool
   is_sought id finished seat = (seat.task.id == id) && (is_some seat.out || not finished)
 
+  -- how many tasks are not finished
+  abbrev pub unfinished : List (Seat W A) → ℕ
+  unfinished seats = length (filter (λ seat. not (is_some seat.out)) seats)
+
+  -- the outputs of those that are finished, in their order
+  abbrev pub outputs_of : List (Seat W A) → List A
+  outputs_of seats = filter_map (λ seat. seat.out) seats
+
   -- a task was looked at
   abbrev pub LookedAt : Seat W A → Bool → Seat W A → Type 0
   LookedAt old scheduled new = IsRead old.task scheduled new.task × (new.out ≡ old.out)
 
-  -- a task was polled once: where its work is ready the output is kept, which the work gives
+  -- a task that isn't finished was polled once: where its work is ready the output is kept, which the work gives
   pub record PolledAt {C : Type 0} (reads : C → ℕ → C → Type 0) (gives : W → A → Type 0) (old : Seat W A) (ready : Bool) (new : Seat W A) (clock clock' : C) : Type 0 where
     pub answer : Poll A
     pub polled : Polled reads answer old.task new.task clock clock'
+    pub unfinished : old.out ≡ None
     pub is : ready ≡ is_ready answer
     pub out : new.out ≡ output_or answer old.out
     pub value : IfReady answer (gives old.task.work)

@@ -1,7 +1,8 @@
 //! Tasks that are polled in turn.
 ghost use Rattle.std.specs.Prelude.{◌≡◌, ◌≢◌, ◌+◌, ◌<◌, ◌≤◌, ◌⊎◌, true, false, None, [], ◌∷◌, ◌++◌, length, is_some, IfOk, IfErr, OnOk, IfSome, IfNone};
 ghost use Rattle.std.specs.List.{slice_get};
-ghost use Rattle.tk_exec.specs.Seats.{ChangesAt, LookedAt, is_sought};
+ghost use Rattle.std.specs.Vec.{vec_len, vec_capacity};
+ghost use Rattle.tk_exec.specs.Seats.{ChangesAt, LookedAt, is_sought, unfinished, outputs_of};
 ghost use Rattle.tk_exec.specs.Turns.{TurnDoes, PollsAt, Passed, Found, HoldsId, RefusedFor, NoneSought, NoneFinished, Takes};
 
 use crate::error::ExecError;
@@ -171,5 +172,41 @@ impl<W: Work> Executor<W> {
             return self.poll_at(rt, clock, place);
         }
         Turn::Idle
+    }
+
+    /// How many tasks are held.
+    pub fn len(&self) -> usize
+        ensures { result ≡ length self.now.seats }
+    {
+        self.order.len()
+    }
+
+    /// How many of the tasks that are held are not finished.
+    pub fn unfinished(&self) -> usize
+        ensures { result ≡ unfinished self.now.seats }
+    {
+        let mut count = 0;
+        for place in 0..self.order.len() {
+            let key = self.order[place];
+            if !self.tasks[key].is_finished() {
+                count += 1;
+            }
+        }
+        count
+    }
+
+    /// Puts the outputs of the finished tasks behind others, in order of spawn.
+    pub(crate) fn into_outputs(self, outputs: Vec<W::Out>) -> Vec<W::Out>
+        requires { vec_len outputs + length self.seats ≤ vec_capacity outputs }
+        ensures { result.items ≡ outputs.items ++ outputs_of self.seats }
+    {
+        let mut tasks = self.tasks;
+        let mut outputs = outputs;
+        for key in self.order {
+            if let Some(output) = tasks.remove(key).into_output() {
+                outputs.push_reserved(output);
+            }
+        }
+        outputs
     }
 }

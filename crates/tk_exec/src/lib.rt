@@ -5,13 +5,16 @@
 //! - [`YieldTimes`], [`HoldWaker`], [`LoseWaker`], [`BusyUntil`], and [`Example`]: works to show what a task may do.
 #![tactic(auto)]
 
+mod driver;
 mod error;
 mod executor;
 mod instrumented;
+mod run;
 mod slot;
 mod work;
 mod works;
 
+pub use driver::{Driver, Ran};
 pub use error::ExecError;
 pub use executor::{Executor, Turn};
 pub use instrumented::Instrumented;

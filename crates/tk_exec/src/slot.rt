@@ -52,6 +52,20 @@ impl<W: Work> Slot<W> {
         self.task.id() == id && (self.out.is_some() || !finished)
     }
 
+    /// Whether the task is finished.
+    pub fn is_finished(&self) -> bool
+        ensures { result ≡ is_some self.now.out }
+    {
+        self.out.is_some()
+    }
+
+    /// The output of a task that is finished.
+    pub fn into_output(self) -> Option<W::Out>
+        ensures { result ≡ self.out }
+    {
+        self.out
+    }
+
     /// The output and the receipt of a task that is finished.
     pub fn into_answer(self) -> Option<(W::Out, TaskReceipt)>
         ensures exact { is_some result ≡ is_some self.out }

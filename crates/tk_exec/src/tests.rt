@@ -1,5 +1,6 @@
-//! Works polled to their ends, executors turn by turn, and a poll that another thread's reading lasts through.
+//! Works polled to their ends, executors turn by turn, drivers to their answers, and a poll that is read through.
 
+mod drives;
 mod given;
 mod turns;
 mod waits;

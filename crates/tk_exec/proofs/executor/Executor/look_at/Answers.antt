@@ -1,8 +1,7 @@
-use Rattle.std.proofs.Common.{◌≡◌, ◌<◌, ℕ, length, subst, sym, ◌∙◌, arith, Bool, Some}
-use Rattle.std.specs.Prelude.{slice_index_or, slice_set}
+use Rattle.std.proofs.Common.{◌≡◌, ◌∙◌, arith}
+use Rattle.std.specs.Prelude.{slice_index_or}
 use Rattle.std.proofs.lemmas.List.{get_or_default}
-use Rattle.tk_exec.specs.Places.{values_at}
-use Rattle.tk_exec.specs.Seats.{Seat, Tasks, ChangesAt, LookedAt}
+use Rattle.tk_exec.specs.Seats.{Seat, LookedAt}
 use Rattle.tk_exec.proofs.PlaceLemmas.{within, key_kept, write_there}
 use Rattle.tk_exec.proofs.executor.Executor.look_at.Goals as goal
 

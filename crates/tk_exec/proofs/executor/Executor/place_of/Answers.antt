@@ -1,9 +1,9 @@
-use Rattle.std.proofs.Common.{◌≡◌, ◌<◌, ℕ, length, subst, sym, ap, ◌∙◌, arith, true, Some}
+use Rattle.std.proofs.Common.{◌≡◌, ◌<◌, ℕ, length, subst, sym, ◌∙◌, arith, true}
 use Rattle.std.specs.Prelude.{slice_index_or}
 use Rattle.std.proofs.lemmas.List.{get_or_default}
 use Rattle.tk_exec.specs.Seats.{Seat, Tasks, is_sought}
 use Rattle.tk_exec.specs.Turns.{NoneSought}
-use Rattle.tk_exec.proofs.PlaceLemmas.{whole, some_there, key_stands, as_many}
+use Rattle.tk_exec.proofs.PlaceLemmas.{whole, some_there, key_stands}
 use Rattle.tk_exec.proofs.SoughtLemmas.{none_more}
 use Rattle.tk_exec.proofs.executor.Executor.place_of.Goals as goal
 

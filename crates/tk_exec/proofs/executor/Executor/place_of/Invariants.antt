@@ -1,4 +1,4 @@
-use Rattle.std.proofs.Common.{◌≡◌, ◌≤◌, length}
+use Rattle.std.proofs.Common.{◌≤◌, length}
 use Rattle.tk_exec.specs.Turns.{NoneSought}
 use Rattle.tk_exec.specs.Places.{values_at}
 use Rattle.tk_exec.proofs.executor.Executor.place_of.Given as goal

@@ -1,10 +1,8 @@
-use Rattle.std.proofs.Common.{◌≡◌, ◌<◌, ℕ, length, subst, sym, ap, refl, ◌∙◌, arith, rules, Bool, true, Some}
-use Rattle.std.specs.Prelude.{slice_index_or, slice_set, is_some}
+use Rattle.std.proofs.Common.{◌≡◌, sym, ap, ◌∙◌, arith, rules, true}
+use Rattle.std.specs.Prelude.{slice_index_or, is_some}
 use Rattle.std.specs.List.{slice_get}
 use Rattle.std.proofs.lemmas.List.{get_or_default}
-use Rattle.tk_exec.specs.Places.{values_at}
-use Rattle.tk_exec.specs.Seats.{Seat, Tasks, ChangesAt, PolledAt}
-use Rattle.tk_exec.specs.Turns.{PollsAt}
+use Rattle.tk_exec.specs.Seats.{Seat, Tasks, PolledAt}
 use Rattle.tk_exec.proofs.PlaceLemmas.{within, key_kept, of_key, write_kept, write_there}
 use Rattle.tk_exec.proofs.executor.Executor.poll_at.Goals as goal
 

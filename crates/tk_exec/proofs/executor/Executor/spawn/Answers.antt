@@ -1,8 +1,8 @@
-use Rattle.std.proofs.Common.{◌≡◌, ◌≤◌, ℕ, length, List, [], ◌∷◌, ◌++◌, Option, Some, None, subst, sym, ap, ◌∙◌, refl, arith, rules, true, false}
-use Rattle.std.specs.Prelude.{is_some, IfSome, IfNone}
+use Rattle.std.proofs.Common.{◌≡◌, ◌≤◌, ℕ, length, List, [], ◌∷◌, ◌++◌, None, subst, sym, ap, ◌∙◌, true, false}
+use Rattle.std.specs.Prelude.{IfSome, IfNone}
 use Rattle.std.specs.List.{slice_get}
-use Rattle.tk_exec.specs.Seats.{Seat, Tasks, is_sought}
-use Rattle.tk_exec.specs.Turns.{HoldsId, NoneSought}
+use Rattle.tk_exec.specs.Seats.{is_sought}
+use Rattle.tk_exec.specs.Turns.{NoneSought}
 use Rattle.tk_exec.specs.Places.{AreKept}
 use Rattle.tk_exec.proofs.PlaceLemmas.{push_kept, push_values, longer, spawned}
 use Rattle.tk_exec.proofs.SoughtLemmas.{sought_holds, sought_none, seat_is}

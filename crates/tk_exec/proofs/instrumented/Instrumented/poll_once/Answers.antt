@@ -1,8 +1,6 @@
-use Rattle.std.proofs.Common.{◌≡◌, ℕ, true, false, not, Some, None, refl, ap, sym, ◌∙◌, true≢false}
+use Rattle.std.proofs.Common.{not, refl, ap, sym, ◌∙◌, true≢false}
 use Rattle.tk_core.specs.declared.reply.Reply.TheVariants.{Done}
 use Rattle.tk_core.specs.declared.task.call.TaskCall.TheVariants.{PollStart, PollEnd, Close}
-use Rattle.tk_ledgers.specs.Tasks.{TaskSight, is_polling}
-use Rattle.tk_ledgers.specs.Scopes.{Scoped}
 use Rattle.tk_ledgers.proofs.ScopeLemmas.{grows_by_call, polling_started, polling_ended}
 use Rattle.tk_exec.specs.Polls.{Tracked}
 use Rattle.tk_exec.proofs.PollLemmas.{at_rest, rests, pending_entries, ready_entries, grew_in}
