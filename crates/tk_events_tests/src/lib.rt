@@ -1,4 +1,5 @@
-//! Tests of `tk_events` through its public calls, in a crate above it: so its own proof is made once, without them.
+//! Tests of `tk_events` through its public calls, in a crate above it: so its own proof is made once,
+//! without them.
 #![tactic(auto)]
 
 #[cfg(test)]

@@ -3,5 +3,6 @@
 mod given;
 mod items;
 mod limits;
+mod memory;
 mod ring;
 mod threads;

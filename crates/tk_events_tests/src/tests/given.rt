@@ -1,6 +1,7 @@
 //! What several tests begin with: sizes, and what is offered.
 //!
-//! Each function owns at most one recorder, taker or list, and lends it to the next: that keeps the proofs short.
+//! Each function owns at most one recorder, taker or list, and lends it to the next: that keeps the
+//! proofs short.
 ghost use Rattle.std.specs.Prelude.{◌≡◌, All, IfOk, IfSome};
 
 use std::alloc::Global;

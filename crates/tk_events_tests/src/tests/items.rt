@@ -32,9 +32,7 @@ fn offer_task<R: Wait>(
     recorder: &mut Recorder,
     name: &[u8],
     id: u64,
-) -> Option<Recorded>
-    ensures { recorder.new.console ≡ recorder.old.console }
-{
+) -> Option<Recorded> {
     let spec = task(alloc, name)?;
     let (owner, recorded) = recorder.task(rt, alloc, spec, 4).ok()?;
     if !task_starts(rt, owner, id) {
@@ -53,9 +51,7 @@ fn offer_resource<R: Wait>(
     alloc: Global,
     recorder: &mut Recorder,
     id: u64,
-) -> Option<Recorded>
-    ensures { recorder.new.console ≡ recorder.old.console }
-{
+) -> Option<Recorded> {
     let spec = resource(alloc)?;
     let (owner, recorded) = recorder.resource(rt, alloc, spec, 4).ok()?;
     if !resource_is_used(rt, owner, id) {
@@ -69,9 +65,7 @@ fn op_starts<R: Wait>(rt: &R, mut owner: OpOwner, id: u64) -> bool {
 }
 
 // What became of an operation that got this id and starts a poll.
-fn offer_op<R: Wait>(rt: &R, alloc: Global, recorder: &mut Recorder, id: u64) -> Option<Recorded>
-    ensures { recorder.new.console ≡ recorder.old.console }
-{
+fn offer_op<R: Wait>(rt: &R, alloc: Global, recorder: &mut Recorder, id: u64) -> Option<Recorded> {
     let spec = op(alloc)?;
     let (owner, recorded) = recorder.async_op(rt, alloc, spec, 4).ok()?;
     if !op_starts(rt, owner, id) {
@@ -80,9 +74,12 @@ fn offer_op<R: Wait>(rt: &R, alloc: Global, recorder: &mut Recorder, id: u64) ->
     Some(recorded)
 }
 
-// Whether it is a spec of a task of this name.
-fn is_named(spec: &TaskSpec, name: &[u8]) -> bool {
-    spec.name.as_bytes() == name
+// Whether it is the spec of the task of this name.
+fn is_spec_of(alloc: Global, spec: &TaskSpec, name: &[u8]) -> bool {
+    match task(alloc, name) {
+        Some(wanted) => *spec == wanted,
+        None => false,
+    }
 }
 
 // Why no task of this name is made. Its spec comes back.
@@ -91,12 +88,10 @@ fn refused_task<R: Wait>(
     alloc: Global,
     recorder: &mut Recorder,
     name: &[u8],
-) -> Option<RecordError>
-    ensures { recorder.new.console ≡ recorder.old.console }
-{
+) -> Option<RecordError> {
     let spec = task(alloc, name)?;
     let (why, back) = recorder.task(rt, alloc, spec, 4).err()?;
-    if !is_named(&back, name) {
+    if !is_spec_of(alloc, &back, name) {
         return None;
     }
     Some(why)
@@ -108,9 +103,7 @@ fn is_polling<R: Wait>(rt: &R, mut inspector: TaskInspector) -> bool {
 }
 
 // Whether the next event is of a task of this name, which has an open poll.
-fn takes_task<R: Wait>(rt: &R, taker: &mut Taker, name: &[u8]) -> bool
-    ensures { taker.new.console ≡ taker.old.console }
-{
+fn takes_task<R: Wait>(rt: &R, taker: &mut Taker, name: &[u8]) -> bool {
     match taker.take(rt) {
         Some(Event::Task(info, inspector)) => {
             info.name.as_bytes() == name && is_polling(rt, inspector)
@@ -119,51 +112,24 @@ fn takes_task<R: Wait>(rt: &R, taker: &mut Taker, name: &[u8]) -> bool
     }
 }
 
-fn is_of_resource(event: &Event, id: u64) -> bool {
-    match event {
-        Event::Resource(info, _) => info.id.value() == id,
+fn takes_resource<R: Wait>(rt: &R, taker: &mut Taker, id: u64) -> bool {
+    match taker.take(rt) {
+        Some(Event::Resource(info, _)) => info.id.value() == id,
         _ => false,
     }
 }
 
-fn takes_resource<R: Wait>(rt: &R, taker: &mut Taker, id: u64) -> bool
-    ensures { taker.new.console ≡ taker.old.console }
-{
+fn takes_op<R: Wait>(rt: &R, taker: &mut Taker, id: u64) -> bool {
     match taker.take(rt) {
-        Some(event) => is_of_resource(&event, id),
-        None => false,
-    }
-}
-
-fn is_of_op(event: &Event, id: u64) -> bool {
-    match event {
-        Event::Op(info, _) => info.id.value() == id,
+        Some(Event::Op(info, _)) => info.id.value() == id,
         _ => false,
     }
 }
 
-fn takes_op<R: Wait>(rt: &R, taker: &mut Taker, id: u64) -> bool
-    ensures { taker.new.console ≡ taker.old.console }
-{
+fn takes_poll<R: Wait>(rt: &R, taker: &mut Taker, op: u64) -> bool {
     match taker.take(rt) {
-        Some(event) => is_of_op(&event, id),
-        None => false,
-    }
-}
-
-fn is_poll_of(event: &Event, op: u64) -> bool {
-    match event {
-        Event::Poll(poll) => poll.op.value() == op && poll.ready,
+        Some(Event::Poll(poll)) => poll.op.value() == op && poll.ready,
         _ => false,
-    }
-}
-
-fn takes_poll<R: Wait>(rt: &R, taker: &mut Taker, op: u64) -> bool
-    ensures { taker.new.console ≡ taker.old.console }
-{
-    match taker.take(rt) {
-        Some(event) => is_poll_of(&event, op),
-        None => false,
     }
 }
 
@@ -199,9 +165,7 @@ fn takes_two_tasks<R: Wait>(rt: &R, taker: &mut Taker) -> bool {
     takes_task(rt, taker, b"a") && takes_task(rt, taker, b"b") && taker.take(rt).is_none()
 }
 
-fn has_dropped(taker: &mut Taker, tasks: u64, resources: u64, ops: u64) -> bool
-    ensures { taker.new.console ≡ taker.old.console }
-{
+fn has_dropped(taker: &mut Taker, tasks: u64, resources: u64, ops: u64) -> bool {
     taker.dropped()
         == Dropped {
             tasks,
