@@ -1,0 +1,8 @@
+//! Tests, one file for each theme.
+
+mod given;
+mod items;
+mod limits;
+mod memory;
+mod ring;
+mod threads;
