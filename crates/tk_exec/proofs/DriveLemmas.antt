@@ -10,7 +10,7 @@ use Rattle.tk_exec.specs.Places.{value_at, values_at, AreKept}
 use Rattle.futures.specs.Poll.{IfReady, OnPending}
 use Rattle.tk_exec.specs.Seats.{Seat, Tasks, unfinished, outputs_of, output_or, LookedAt, PolledAt}
 use Rattle.tk_exec.specs.Turns.{ComesBefore, PassedOver, TurnPolls, TurnDoes}
-use Rattle.tk_exec.specs.Drives.{Driving, idle_after, EndsIdle, IsOutput, Gives, GaveAll, Stalls, RanGives, DriverGives}
+use Rattle.tk_exec.specs.Drives.{Driving, idle_after, EndsPolled, EndsIdle, IsOutput, Gives, GaveAll, Stalls, RanGives, DriverGives}
 use Rattle.tk_exec.specs.declared.driver.Ran.{Ran}
 use Rattle.tk_exec.specs.declared.driver.Ran.TheVariants.{Finished, Stalled}
 use Rattle.tk_exec.specs.declared.executor.Turn.{Turn}
@@ -120,6 +120,16 @@ one_idle (suc n) answers = ap (λ (l : List Turn). turns.Idle ∷ l) (one_idle n
 idles_before : (n : ℕ) (answers : List Turn) → replicate n turns.Idle ++ turns.Idle ∷ answers ≡ replicate (n + 1) turns.Idle ++ answers
 idles_before n answers = one_idle n answers ∙ ap (λ (m : ℕ). replicate m turns.Idle ++ answers) (one_more n)
 
+behind_poll : (id : ℕ) (ready : Bool) (earlier : List Turn) → EndsPolled earlier → EndsPolled (turns.Polled id ready ∷ earlier)
+behind_poll id ready [] p = tt
+behind_poll id ready (answer ∷ earlier) p = p
+
+-- what ends in a turn that polled a task also ends so behind idle turns
+behind_idle : (n : ℕ) (answer : Turn) (earlier : List Turn) → EndsPolled (answer ∷ earlier) → EndsPolled (replicate n turns.Idle ++ answer ∷ earlier)
+behind_idle zero answer earlier p = p
+behind_idle (suc zero) answer earlier p = p
+behind_idle (suc (suc n)) answer earlier p = behind_idle (suc n) answer earlier p
+
 module _ {W A C : Type 0} (reads : C → ℕ → C → Type 0) (gives : W → A → Type 0) where
   -- the task that stands at a place afterwards gives nothing that the one before didn't give
   abbrev NarrowsAt : Option (Seat W A) → Option (Seat W A) → Type 0
@@ -199,7 +209,11 @@ module _ {W A C : Type 0} (reads : C → ℕ → C → Type 0) (gives : W → A 
           left = new;
           clock' = clock';
           turned = (new, clock', t, (refl, refl));
-          idles = ([], idles_before idle [] ∙ (append-nil (replicate (idle + 1) turns.Idle) ∙ ap (λ (m : ℕ). replicate m turns.Idle) (sym whole)));
+          idles = record {
+            earlier = [];
+            polled = tt;
+            ends = idles_before idle [] ∙ (append-nil (replicate (idle + 1) turns.Idle) ∙ ap (λ (m : ℕ). replicate m turns.Idle) (sym whole));
+          };
           number = number;
           waits = omega (arith, number, same, some);
         }
@@ -217,11 +231,12 @@ module _ {W A C : Type 0} (reads : C → ℕ → C → Type 0) (gives : W → A 
     }
       where
         ends : (answer : Turn) → EndsIdle (idle_after idle answer) s.answers max_idle → EndsIdle idle (answer ∷ s.answers) max_idle
-        ends (turns.Polled id ready) e = (
-          replicate idle turns.Idle ++ turns.Polled id ready ∷ e.0,
-          ap (λ (l : List Turn). replicate idle turns.Idle ++ turns.Polled id ready ∷ l) e.1 ∙ sym (append_assoc (replicate idle turns.Idle) (turns.Polled id ready ∷ e.0) (replicate max_idle turns.Idle)),
-        )
-        ends turns.Idle e = (e.0, idles_before idle s.answers ∙ e.1)
+        ends (turns.Polled id ready) e = record {
+          earlier = replicate idle turns.Idle ++ turns.Polled id ready ∷ e.earlier;
+          polled = behind_idle idle (turns.Polled id ready) e.earlier (behind_poll id ready e.earlier e.polled);
+          ends = ap (λ (l : List Turn). replicate idle turns.Idle ++ turns.Polled id ready ∷ l) e.ends ∙ sym (append_assoc (replicate idle turns.Idle) (turns.Polled id ready ∷ e.earlier) (replicate max_idle turns.Idle));
+        }
+        ends turns.Idle e = record { earlier = e.earlier; polled = e.polled; ends = idles_before idle s.answers ∙ e.ends }
 
   -- what the tasks of a driver may give
   pub driver_gives : (run : Option (Tasks W A)) (tasks : Tasks W A) (clock : C) (idle max_idle : ℕ) (driver : Driving W A C) (ran : Ran A)

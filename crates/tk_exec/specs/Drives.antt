@@ -1,5 +1,5 @@
 -- What a driver answers, after which turns.
-use Rattle.std.specs.Prelude.{◌≡◌, ℕ, ◌+◌, ◌<◌, List, [], ◌∷◌, ◌++◌, length, replicate, Option, Some, None}
+use Rattle.std.specs.Prelude.{◌≡◌, ℕ, ◌+◌, ◌<◌, List, [], ◌∷◌, ◌++◌, length, replicate, Option, Some, None, ⊤}
 use Rattle.std.specs.List.{slice_get}
 use Rattle.tk_exec.specs.Seats.{Seat, Tasks, unfinished}
 use Rattle.tk_exec.specs.Turns.{TurnDoes}
@@ -20,9 +20,18 @@ abbrev pub idle_after : ℕ → Turn → ℕ
 idle_after idle turns.Idle = idle + 1
 idle_after idle (turns.Polled id ready) = 0
 
--- behind so many idle turns, turns that were answered this end in so many idle ones in a row
-abbrev pub EndsIdle : ℕ → List Turn → ℕ → Type 0
-EndsIdle before answers idle = (earlier : List Turn) × (replicate before turns.Idle ++ answers ≡ earlier ++ replicate idle turns.Idle)
+-- no turn was made, or the last one polled a task
+abbrev pub EndsPolled : List Turn → Type 0
+EndsPolled [] = ⊤
+EndsPolled (turns.Idle ∷ []) = ⊥
+EndsPolled (turns.Polled id ready ∷ []) = ⊤
+EndsPolled (answer ∷ next ∷ answers) = EndsPolled (next ∷ answers)
+
+-- behind so many idle turns, turns that were answered this end in so many idle ones in a row, and no more
+pub record EndsIdle (before : ℕ) (answers : List Turn) (idle : ℕ) : Type 0 where
+  pub earlier : List Turn
+  pub polled : EndsPolled earlier
+  pub ends : replicate before turns.Idle ++ answers ≡ earlier ++ replicate idle turns.Idle
 
 -- the output that there is, or where there is none one of which this holds
 abbrev pub IsOutput : {A : Type 0} → Option A → (A → Type 0) → A → Type 0
