@@ -2,6 +2,7 @@ pub mod HandleLemmas
 pub mod OwnerLemmas
 pub mod SumLemmas
 pub mod TaskLemmas
+pub mod PollLemmas
 pub mod TaskPollLemmas
 pub mod ScopeLemmas
 pub mod TaskSumLemmas

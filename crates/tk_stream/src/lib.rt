@@ -30,7 +30,7 @@ mod spelled;
 mod table;
 mod tables;
 mod task;
-mod tasks;
+mod task_stats;
 mod told;
 
 pub use error::LineError;
