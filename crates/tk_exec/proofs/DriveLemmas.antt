@@ -16,12 +16,10 @@ use Rattle.tk_exec.specs.declared.driver.Ran.TheVariants.{Finished, Stalled}
 use Rattle.tk_exec.specs.declared.executor.Turn.{Turn}
 use Rattle.tk_exec.specs.declared.executor.Turn.TheVariants as turns
 use Rattle.tk_exec.proofs.PlaceLemmas.{taken_values, taken_kept}
+use Rattle.tk_exec.proofs.TurnLemmas.{some_same}
 
 one_more : (n : ℕ) → suc n ≡ n + 1
 one_more n = omega arith
-
-some_same : {X : Type 0} (a b : X) → Some a ≡ Some b → a ≡ b
-some_same a b e = cc
 
 pub output_behind : {A : Type 0} (before rest whole : List A) (o : Option A) (x : A) → o ≡ Some x → before ++ cons_option o rest ≡ whole → (before ++ x ∷ []) ++ rest ≡ whole
 output_behind {A} before rest whole o x is e = append_assoc before (x ∷ []) rest ∙ (ap (λ (p : Option A). before ++ cons_option p rest) (sym is) ∙ e)

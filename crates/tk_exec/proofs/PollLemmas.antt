@@ -6,8 +6,8 @@ use Rattle.tk_core.specs.declared.task.call.TaskCall.TheVariants.{PollStart, Pol
 use Rattle.tk_core.specs.declared.task.row.TaskRow.{TaskRow}
 use Rattle.tk_core.specs.History.{accepted}
 use Rattle.tk_cell.specs.Calls.{entry}
-use Rattle.tk_ledgers.specs.Tasks.{TaskSight, is_polling}
-use Rattle.tk_ledgers.specs.Scopes.{TaskEntries, Scoped, Grows, ScopeGrows}
+use Rattle.tk_ledgers.specs.Tasks.{TaskSight, TaskEntries, is_polling}
+use Rattle.tk_ledgers.specs.Scopes.{Scoped, Grows, ScopeGrows}
 use Rattle.tk_ledgers.proofs.ScopeLemmas.{grows_more, polling_stays}
 use Rattle.tk_exec.specs.Polls.{IsAtRest, poll_entries}
 

@@ -14,6 +14,9 @@ read_owner : (o n : Option TaskSight) → OwnerReads o true n → is_some n ≡ 
 read_owner None n is = absurd (true≢false is.0)
 read_owner (Some owner) n is = ap (λ (x : Option TaskSight). is_some x) is.2
 
+pub some_same : {X : Type 0} (a b : X) → Some a ≡ Some b → a ≡ b
+some_same a b e = cc
+
 module _ {W A : Type 0} where
   carry : {o n o' n' : Option (Seat W A)} → PassedOver o n → o' ≡ o → n' ≡ n → PassedOver o' n'
   carry p e f = record { before = p.before; after = p.after; stood = e ∙ p.stood; stands = f ∙ p.stands; looked = p.looked }
@@ -121,9 +124,6 @@ module _ {W A : Type 0} where
           next = next;
         }
       where
-        some_same : (a b : Seat W A) → Some a ≡ Some b → a ≡ b
-        some_same a b e = cc
-
         not_after : (i : ℕ) → ComesBefore old.next i place → i ≢ place
         not_after i (inl (from, inl behind)) is = absurd (omega (arith, is))
         not_after i (inl (from, inr first)) is = absurd (omega (arith, is))

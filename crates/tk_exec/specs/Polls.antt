@@ -5,8 +5,8 @@ use Rattle.futures.specs.declared.task.Poll.TheVariants.{Ready, Pending}
 use Rattle.tk_core.specs.declared.reply.Reply.TheVariants.{Done}
 use Rattle.tk_core.specs.declared.task.call.TaskCall.TheVariants.{PollStart, PollEnd, Close}
 use Rattle.tk_cell.specs.Calls.{entry}
-use Rattle.tk_ledgers.specs.Tasks.{TaskSight, is_polling}
-use Rattle.tk_ledgers.specs.Scopes.{TaskEntries, Grows, AreOfScope}
+use Rattle.tk_ledgers.specs.Tasks.{TaskSight, TaskEntries, is_polling}
+use Rattle.tk_ledgers.specs.Scopes.{Grows, AreOfScope}
 
 -- what contracts see of an instrumented work: its task, its owner until it is finished and its receipt from then on, and the work
 pub record Tracked (W : Type 0) : Type 0 where

@@ -22,8 +22,8 @@ use Rattle.tk_core.specs.Laws.Pushed.{last_or_push}
 use Rattle.tk_cell.specs.Views.{Known}
 use Rattle.tk_cell.specs.Calls.{entry, Calls}
 use Rattle.tk_ledgers.specs.Handles.{Drew, NotDrawn}
-use Rattle.tk_ledgers.specs.Tasks.{TaskSight, is_polling}
-use Rattle.tk_ledgers.specs.Scopes.{TaskEntries, Scoped, owner_list, Grows, is_scope_call, AreOfScope, ScopeGrows}
+use Rattle.tk_ledgers.specs.Tasks.{TaskSight, TaskEntries, is_polling}
+use Rattle.tk_ledgers.specs.Scopes.{Scoped, owner_list, Grows, is_scope_call, AreOfScope, ScopeGrows}
 use Rattle.tk_ledgers.proofs.TaskPollLemmas.{poll_of}
 
 -- ---- lists that grow

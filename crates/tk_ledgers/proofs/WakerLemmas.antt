@@ -27,7 +27,8 @@ use Rattle.tk_cell.proofs.ListLemmas.{dec_eq, times-append, times_itself, times_
 use Rattle.tk_cell.proofs.HistoryLemmas.{some_answers, own_mine, own_other, own_unmade, maker_more, maker_last, may_made, new_number, prefix_is_legal}
 use Rattle.tk_ledgers.proofs.SumLemmas.{one, tally_push}
 use Rattle.tk_ledgers.specs.Sums.{tally}
-use Rattle.tk_ledgers.specs.Wakers.{TaskHistory, ClonesLessDropsAreLive, new_waker, wakers, live_wakers}
+use Rattle.tk_ledgers.specs.Tasks.{TaskEntries}
+use Rattle.tk_ledgers.specs.Wakers.{ClonesLessDropsAreLive, new_waker, wakers, live_wakers}
 
 -- a number that a further reply does not answer is made as before
 module _ {O C R : Type 0} (m : Meaning O C R) where
@@ -81,8 +82,8 @@ abbrev was_cloned : Option TaskCall → ℕ
 was_cloned None = 0
 was_cloned (Some call) = cond (is_clone call) 1 0
 
-module _ (h : TaskHistory) (e : Entry TaskCall (Reply TaskRow)) where
-  abbrev longer : TaskHistory
+module _ (h : TaskEntries) (e : Entry TaskCall (Reply TaskRow)) where
+  abbrev longer : TaskEntries
   longer = h ++ e ∷ []
 
   wakers_push : wakers longer ≡ wakers h ++ cons_option (new_waker e) []
@@ -108,7 +109,7 @@ module _ (h : TaskHistory) (e : Entry TaskCall (Reply TaskRow)) where
   ended_push : (n : ℕ) → has_ended task_meaning longer n ≡ (has_ended task_meaning h n || cond (e.caller == n) (is_last e.call || false) false)
   ended_push n =
       let both : own n longer ≡ own n h ++ cond (e.caller == n) (e ∷ []) [] = filter-append (λ (x : Entry TaskCall (Reply TaskRow)). x.caller == n) h (e ∷ []) in
-      ap (λ (l : TaskHistory). list_any (λ x. is_last x.call) l) both ∙ (list_any-append (λ x. is_last x.call) (own n h) (cond (e.caller == n) (e ∷ []) []) ∙ ap (λ (b : Bool). has_ended task_meaning h n || b) (go (e.caller == n)))
+      ap (λ (l : TaskEntries). list_any (λ x. is_last x.call) l) both ∙ (list_any-append (λ x. is_last x.call) (own n h) (cond (e.caller == n) (e ∷ []) []) ∙ ap (λ (b : Bool). has_ended task_meaning h n || b) (go (e.caller == n)))
     where
       go : (b : Bool) → list_any (λ x. is_last x.call) (cond b (e ∷ []) []) ≡ cond b (is_last e.call || false) false
       go true = refl
@@ -202,7 +203,7 @@ no_clone (WakeRef m from_self) is = absurd cc
 no_clone Enlist is = absurd cc
 no_clone Read is = absurd cc
 
-module _ (opening : TaskRow) (h : TaskHistory) (e : Entry TaskCall (Reply TaskRow)) where
+module _ (opening : TaskRow) (h : TaskEntries) (e : Entry TaskCall (Reply TaskRow)) where
   -- the reply is the answer in some row
   answered : MayFollow task_meaning opening h e → (row : TaskRow) × (e.reply ≡ answer_at task_kind row e.call)
   unfolding reply_after
@@ -214,7 +215,7 @@ module _ (opening : TaskRow) (h : TaskHistory) (e : Entry TaskCall (Reply TaskRo
   live_stays follows fresh keeps before =
       let test : ℕ → Bool = λ n. not (has_ended task_meaning (h ++ e ∷ []) n) in
       let old : filter test (wakers h) ≡ live_wakers h = filter_same test (λ n. not (has_ended task_meaning h n)) (wakers h) (λ n. ap not (goes_on h e n keeps)) in
-      let new : filter test (cons_option (new_waker e) []) ≡ cons_option (new_waker e) [] = lives (is_clone e.call) (number_of e.reply) (λ n is. ap not (goes_on h e n keeps ∙ ap (λ (l : TaskHistory). list_any (λ x. is_last x.call) l) (fresh n is))) in
+      let new : filter test (cons_option (new_waker e) []) ≡ cons_option (new_waker e) [] = lives (is_clone e.call) (number_of e.reply) (λ n is. ap not (goes_on h e n keeps ∙ ap (λ (l : TaskEntries). list_any (λ x. is_last x.call) l) (fresh n is))) in
       let all : live_wakers (h ++ e ∷ []) ≡ live_wakers h ++ cons_option (new_waker e) [] =
       ap (λ (l : List ℕ). filter test l) (wakers_push h e) ∙ (filter-append test (wakers h) (cons_option (new_waker e) []) ∙ (ap (λ (l : List ℕ). l ++ filter test (cons_option (new_waker e) [])) old ∙ ap (λ (l : List ℕ). live_wakers h ++ l) new)) in
       let count : length (live_wakers (h ++ e ∷ [])) ≡ length (live_wakers h) + length (cons_option (new_waker e) []) = ap (λ (l : List ℕ). length l) all ∙ length-append (live_wakers h) (cons_option (new_waker e) []) in
@@ -276,12 +277,12 @@ module _ (opening : TaskRow) (h : TaskHistory) (e : Entry TaskCall (Reply TaskRo
       by_role call made is ne may = rw (ne_eqb e.caller 0 ne, is) at may
 
 -- what is known of a history, entry by entry
-record Counted (h : TaskHistory) : Type 0 where
+record Counted (h : TaskEntries) : Type 0 where
   made : (n : ℕ) → times n (wakers h) ≡ was_cloned (maker task_meaning n h)
   live : ClonesLessDropsAreLive h
 
 module _ (opening : TaskRow) (opens : IsOpening opening) where
-  counted_push : (h : TaskHistory) (e : Entry TaskCall (Reply TaskRow)) → IsLegal task_meaning opening h → MayFollow task_meaning opening h e → Counted h → Counted (h ++ e ∷ [])
+  counted_push : (h : TaskEntries) (e : Entry TaskCall (Reply TaskRow)) → IsLegal task_meaning opening h → MayFollow task_meaning opening h e → Counted h → Counted (h ++ e ∷ [])
   counted_push h e legal follows before =
       let fresh : (n : ℕ) → number_of e.reply ≡ Some n → (n ≢ 0) × (maker task_meaning n h ≡ None) =
       λ n is. new_number task_meaning opening numbers_are_new opens h legal e.call n (ap number_of (sym follows.reply) ∙ is) in
@@ -294,19 +295,19 @@ module _ (opening : TaskRow) (opens : IsOpening opening) where
       go true is fresh = live_falls opening h e follows (before.made e.caller) is before.live
       go false isnt fresh = live_stays opening h e follows (λ n is. own_unmade task_meaning opening n h legal (fresh n is).0 (fresh n is).1) isnt before.live
 
-  counted_on : (h rest : TaskHistory) → IsLegal task_meaning opening (h ++ rest) → Counted h → Counted (h ++ rest)
-  counted_on h [] legal before = subst (λ (l : TaskHistory). Counted l) (sym (append-nil h)) before
+  counted_on : (h rest : TaskEntries) → IsLegal task_meaning opening (h ++ rest) → Counted h → Counted (h ++ rest)
+  counted_on h [] legal before = subst (λ (l : TaskEntries). Counted l) (sym (append-nil h)) before
   counted_on h (e ∷ rest) legal before =
       let same : (h ++ e ∷ []) ++ rest ≡ h ++ e ∷ rest = append_assoc h (e ∷ []) rest in
       let here : IsLegal task_meaning opening h = prefix_is_legal task_meaning opening h (h ++ e ∷ rest) (e ∷ rest, refl) legal in
-      subst (λ (l : TaskHistory). Counted l) same
-      (counted_on (h ++ e ∷ []) rest (subst (λ (l : TaskHistory). IsLegal task_meaning opening l) (sym same) legal) (counted_push h e here (legal h rest e refl) before))
+      subst (λ (l : TaskEntries). Counted l) same
+      (counted_on (h ++ e ∷ []) rest (subst (λ (l : TaskEntries). IsLegal task_meaning opening l) (sym same) legal) (counted_push h e here (legal h rest e refl) before))
 
-  counted : (h : TaskHistory) → IsLegal task_meaning opening h → Counted h
+  counted : (h : TaskEntries) → IsLegal task_meaning opening h → Counted h
   unfolding accepted
   counted h legal = counted_on [] h legal (record { made = λ n. refl; live = refl })
 
-pub each_is_distinct : (opening : TaskRow) (h : TaskHistory) → IsOpening opening → IsLegal task_meaning opening h → IsDistinct (wakers h)
+pub each_is_distinct : (opening : TaskRow) (h : TaskEntries) → IsOpening opening → IsLegal task_meaning opening h → IsDistinct (wakers h)
 each_is_distinct opening h opens legal n = go (maker task_meaning n h) ((counted opening opens h legal).made n)
   where
     go : (o : Option TaskCall) → times n (wakers h) ≡ was_cloned o → times n (wakers h) ≤ 1
@@ -317,5 +318,5 @@ each_is_distinct opening h opens legal n = go (maker task_meaning n h) ((counted
         one_at_most true at_one = omega (arith, at_one)
         one_at_most false at_none = omega (arith, at_none)
 
-pub clones_less_drops : (opening : TaskRow) (h : TaskHistory) → IsOpening opening → IsLegal task_meaning opening h → ClonesLessDropsAreLive h
+pub clones_less_drops : (opening : TaskRow) (h : TaskEntries) → IsOpening opening → IsLegal task_meaning opening h → ClonesLessDropsAreLive h
 clones_less_drops opening h opens legal = (counted opening opens h legal).live

@@ -7,11 +7,7 @@ use Rattle.tk_core.specs.declared.task.row.TaskRow.{TaskRow}
 use Rattle.tk_core.specs.declared.task.call.TaskCall.{TaskCall}
 use Rattle.tk_core.specs.declared.task.call.TaskCall.TheVariants.{CloneWaker, WakeRef}
 use Rattle.tk_core.specs.Legal.{own}
-use Rattle.tk_ledgers.specs.Tasks.{TaskSight}
-
--- entries of a task's ledger
-abbrev pub TaskEntries : Type 0
-TaskEntries = List (Entry TaskCall (Reply TaskRow))
+use Rattle.tk_ledgers.specs.Tasks.{TaskSight, TaskEntries}
 
 -- what contracts see of a scope: the owner that it holds, and the moment that it was opened at
 pub record Scoped : Type 0 where

@@ -1,5 +1,6 @@
 -- What the handles of a task show.
 use Rattle.std.specs.Prelude.{◌≡◌, ℕ, ◌≤◌, ◌==◌, Bool, false, List, Option, Some, None}
+use Rattle.tk_core.specs.declared.history.Entry.{Entry}
 use Rattle.tk_core.specs.declared.reply.Reply.{Reply}
 use Rattle.tk_core.specs.declared.task.row.TaskRow.{TaskRow}
 use Rattle.tk_core.specs.declared.task.call.TaskCall.{TaskCall}
@@ -16,6 +17,10 @@ use Rattle.tk_ledgers.specs.Sums.{sum_held}
 -- what contracts see of a task's handle
 abbrev pub TaskSight : Type 0
 TaskSight = Sight TaskRow TaskCall (Reply TaskRow)
+
+-- entries of a task's ledger, the oldest first
+abbrev pub TaskEntries : Type 0
+TaskEntries = List (Entry TaskCall (Reply TaskRow))
 
 -- the owner's calls that were accepted, as far as a handle has seen
 abbrev pub owner_calls : TaskSight → List TaskCall

@@ -10,23 +10,20 @@ use Rattle.tk_core.specs.Legal.{has_ended}
 use Rattle.tk_core.specs.Task.{is_clone, is_drop}
 use Rattle.tk_core.specs.TaskMeaning.{task_meaning}
 use Rattle.tk_ledgers.specs.Sums.{tally}
-
--- a history of a task
-abbrev pub TaskHistory : Type 0
-TaskHistory = List (Entry TaskCall (Reply TaskRow))
+use Rattle.tk_ledgers.specs.Tasks.{TaskEntries}
 
 -- the number that an entry gave a new waker, if it gave one
 abbrev pub new_waker : Entry TaskCall (Reply TaskRow) → Option ℕ
 new_waker e = if is_clone e.call then number_of e.reply else None
 
 -- the wakers that were made, by their numbers
-abbrev pub wakers : TaskHistory → List ℕ
+abbrev pub wakers : TaskEntries → List ℕ
 wakers h = filter_map new_waker h
 
 -- the live wakers: those without a wake by value and without a release
-abbrev pub live_wakers : TaskHistory → List ℕ
+abbrev pub live_wakers : TaskEntries → List ℕ
 live_wakers h = filter (λ n. not (has_ended task_meaning h n)) (wakers h)
 
 -- clones minus drops is the number of live wakers
-abbrev pub ClonesLessDropsAreLive : TaskHistory → Type 0
+abbrev pub ClonesLessDropsAreLive : TaskEntries → Type 0
 ClonesLessDropsAreLive h = tally is_clone h ≡ tally is_drop h + length (live_wakers h)
