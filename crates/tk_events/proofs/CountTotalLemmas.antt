@@ -5,8 +5,8 @@ use Rattle.std.proofs.lemmas.List.{get_or-set_other}
 use Rattle.std.proofs.lemmas.List.Elements.{All-head, All-tail}
 use Rattle.tk_events.specs.declared.counts.view.Tally.{Tally}
 use Rattle.tk_events.specs.Counts.{numbers_known, word_of, total_of, counted_of, IsWhole}
-use Rattle.tk_events.specs.Lists.{times}
-use Rattle.tk_events.proofs.ListLemmas.{dec_eq, times_itself, times_other}
+use Rattle.tk_cell.specs.Views.{times}
+use Rattle.tk_cell.proofs.ListLemmas.{dec_eq, times_itself, times_other}
 
 -- a write above does not change a total
 pub total_above : (k n i x : ℕ) (xs : List ℕ) → k < 3 → 3 * n ≤ i → total_of k n (set xs i x) ≡ total_of k n xs

@@ -3,7 +3,7 @@ use Rattle.std.proofs.Common.{◌≡◌, ℕ, zero, suc, replicate, ◌*◌, ◌
 use Rattle.std.proofs.lemmas.List.Elements.{All-map}
 use Rattle.tk_events.specs.declared.counts.view.Tally.{Tally}
 use Rattle.tk_events.specs.Counts.{numbers_known as numbers_counted, counted_of, total_of, IsWhole as IsCountedWhole}
-use Rattle.tk_events.specs.Lists.{times}
+use Rattle.tk_cell.specs.Views.{times}
 use Rattle.tk_events.specs.declared.item.Offer.{Offer}
 use Rattle.tk_events.specs.declared.buffer.view.Returned.{Returned}
 use Rattle.tk_events.specs.declared.buffer.view.View.{View}

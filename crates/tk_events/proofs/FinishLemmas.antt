@@ -6,9 +6,9 @@ use Rattle.tk_events.specs.declared.item.Offer.{Offer}
 use Rattle.tk_events.specs.declared.buffer.view.Returned.{Returned}
 use Rattle.tk_events.specs.declared.buffer.view.View.{View}
 use Rattle.tk_events.specs.Buffer.{numbers_known, IsKnown, IsBalanced}
-use Rattle.tk_events.specs.Lists.{times}
+use Rattle.tk_cell.specs.Views.{times}
 use Rattle.tk_events.specs.Handles.{IsWhole}
-use Rattle.tk_events.proofs.ListLemmas.{dec_eq, times_itself, times_other}
+use Rattle.tk_cell.proofs.ListLemmas.{dec_eq, times_itself, times_other}
 
 -- how often the numbers from 1 to n stand in the list, together
 below : ℕ → List ℕ → ℕ

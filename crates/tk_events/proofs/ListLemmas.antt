@@ -4,28 +4,15 @@ use Rattle.std.specs.List.{All, AllPairs}
 use Rattle.std.proofs.lemmas.List.{get_or_append_left}
 use Rattle.std.proofs.lemmas.List.Elements.{All-head, All-tail}
 use Rattle.std.proofs.lemmas.Bool.{eq-eqb, ne_eqb}
-use mathlib.Core.Option.{some, some-injective, some-ne-none}
-use native.Mathlib.Decide.{ℕ_discrete}
+use mathlib.Core.Option.{some, some-ne-none}
 use lib.ListN.{get_elem?}
 use Rattle.atomic_table.proofs.Lists.{at_set}
 use Rattle.tk_events.specs.declared.item.Offer.{Offer}
 use Rattle.tk_events.specs.declared.buffer.view.Returned.{Returned}
 use Rattle.tk_events.specs.Offers.{by}
 use Rattle.tk_events.specs.Buffer.{numbers_known}
-use Rattle.tk_events.specs.Lists.{times, total}
-
-pub dec_eq : (n k : ℕ) → (n ≡ k) ⊎ (n ≢ k)
-dec_eq n k = elim (ℕ_discrete n k) [ yes e ↦ inl e | no ne ↦ inr ne ]
-
-pub times-append : (n : ℕ) (xs ys : List ℕ) → times n (xs ++ ys) ≡ times n xs + times n ys
-times-append n [] ys = omega arith
-times-append n (x ∷ xs) ys = omega (arith, times-append n xs ys)
-
-pub times_itself : (n : ℕ) → times n (n ∷ []) ≡ 1
-times_itself n = rw (eq-eqb n n refl) refl
-
-pub times_other : (n k : ℕ) → n ≢ k → times k (n ∷ []) ≡ 0
-times_other n k ne = rw (ne_eqb n k ne) refl
+use Rattle.tk_cell.specs.Views.{times}
+use Rattle.tk_cell.proofs.ListLemmas.{dec_eq, times_itself, times_other}
 
 pub times_one : (n k : ℕ) → times n (k ∷ []) ≤ 1
 times_one n k = ⊎_elim (λ (e : k ≡ n). let t : times n (k ∷ []) ≡ 1 = subst (λ (j : ℕ). times n (j ∷ []) ≡ 1) (sym e) (times_itself n) in omega (arith, t)) (λ (ne : k ≢ n). let t = times_other k n ne in omega (arith, t)) (dec_eq k n)
@@ -37,32 +24,6 @@ times_at (r ∷ rs) zero d lt = let t = times_itself r.number in omega (arith, t
 times_at (r ∷ rs) (suc k) d lt = let t = times_at rs k d (omega arith) in omega (arith, t)
 
 module _ {V : Type 0} where
-  -- a total after a change of one part
-  pub total_set : (f : V → ℕ) (vs : List V) (i : ℕ) (v w : V) → get_elem? vs i ≡ some v → total f (set vs i w) + f v ≡ total f vs + f w
-  total_set f [] i v w e = absurd (some-ne-none v (sym e))
-  total_set f (x ∷ vs) zero v w e = let same : f x ≡ f v = ap f (some-injective x v e) in omega arith
-  total_set f (x ∷ vs) (suc i) v w e = omega (arith, total_set f vs i v w e)
-
-  pub total_snoc : (f : V → ℕ) (vs : List V) (w : V) → total f (vs ++ w ∷ []) ≡ total f vs + f w
-  total_snoc f [] w = omega arith
-  total_snoc f (x ∷ vs) w = omega (arith, total_snoc f vs w)
-
-  pub total_one : (f : V → ℕ) (vs : List V) (i : ℕ) (v : V) → get_elem? vs i ≡ some v → f v ≤ total f vs
-  total_one f [] i v e = absurd (some-ne-none v (sym e))
-  total_one f (x ∷ vs) zero v e = let same : f x ≡ f v = ap f (some-injective x v e) in omega arith
-  total_one f (x ∷ vs) (suc i) v e = omega (arith, total_one f vs i v e)
-
-  pub total_two : (f : V → ℕ) (vs : List V) (i j : ℕ) (v w : V) → i ≢ j → get_elem? vs i ≡ some v → get_elem? vs j ≡ some w → f v + f w ≤ total f vs
-  total_two f [] i j v w n e d = absurd (some-ne-none v (sym e))
-  total_two f (x ∷ vs) zero zero v w n e d = absurd (n refl)
-  total_two f (x ∷ vs) zero (suc j) v w n e d = let same : f x ≡ f v = ap f (some-injective x v e) in omega (arith, total_one f vs j w d)
-  total_two f (x ∷ vs) (suc i) zero v w n e d = let same : f x ≡ f w = ap f (some-injective x w d) in omega (arith, total_one f vs i v e)
-  total_two f (x ∷ vs) (suc i) (suc j) v w n e d = omega (arith, total_two f vs i j v w (λ s. n (ap suc s)) e d)
-
-  pub total_none : (f : V → ℕ) (vs : List V) → ((i : ℕ) (v : V) → get_elem? vs i ≡ some v → f v ≡ 0) → total f vs ≡ 0
-  total_none f [] h = refl
-  total_none f (x ∷ vs) h = omega (arith, h 0 x refl, total_none f vs (λ i v e. h (suc i) v e))
-
   -- what holds of a view that was set and of the others holds of all
   pub each_set : (F : V → Type 0) (views : List V) (i : ℕ) (w : V) → F w → ((j : ℕ) (u : V) → j ≢ i → get_elem? views j ≡ some u → F u) → (j : ℕ) (u : V) → get_elem? (set views i w) j ≡ some u → F u
   each_set F views i w mine others j u e = ⊎_elim

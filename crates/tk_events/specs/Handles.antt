@@ -9,7 +9,7 @@ use Rattle.tk_events.specs.declared.buffer.view.Returned.{Returned}
 use Rattle.tk_ids.specs.Ids.{id_of}
 use Rattle.tk_events.specs.Offers.{by, offers_of, dropped_of, tasks_in, resources_in, ops_in}
 use Rattle.tk_events.specs.Buffer.{numbers_known, IsNamed}
-use Rattle.tk_events.specs.Lists.{times}
+use Rattle.tk_cell.specs.Views.{times}
 
 -- a console: its buffer and its counts
 pub record Place : Type 0 where

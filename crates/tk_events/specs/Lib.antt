@@ -3,8 +3,7 @@ pub mod Errors
 pub mod Offers
 pub mod Items
 pub mod Handles
--- Inner: the rules of the buffer and of the counts, and what the handles keep. Of these public clauses cite `times` alone
-pub mod Lists
+-- Inner: the rules of the buffer and of the counts, and what the handles keep
 pub mod Buffer
 pub mod Counts
 pub mod Parts
