@@ -1,14 +1,13 @@
 //! No lock is held while a work is polled: a work waits inside its poll until an inspector in another thread has read.
 
-use super::given::{Ticks, id};
-use crate::{Instrumented, Work};
+use super::given::{Ticks, owner};
 use futures::task::Poll;
 use std::sync::Wait;
 use std::sync::atomic::{AtomicBool, Ordering};
-use std::test::*;
 use std::thread;
 use std::thread::{Threads, join};
 use tk_core::TaskRow;
+use tk_exec::{Instrumented, Work};
 use tk_ledgers::{PollScope, TaskInspector, TaskOwner};
 
 // How often each side looks for the other.
@@ -80,20 +79,45 @@ fn both<R: Wait + Threads + Sync>(
     join(rt, || poll(rt, tracked), || read(rt, inspector, flags))
 }
 
+fn is_read_through<R: Wait + Threads + Sync>(
+    rt: &R,
+    tracked: Instrumented<Waits<'_>>,
+    inspector: TaskInspector,
+    flags: &Flags,
+) -> bool {
+    let (met, row) = both(rt, tracked, inspector, flags);
+    met && row.polling
+}
+
+// Makes this owner's task of the work, if it has no open poll.
+fn is_polled_through<R: Wait + Threads + Sync>(
+    rt: &R,
+    owner: TaskOwner,
+    inspector: TaskInspector,
+    flags: &Flags,
+) -> bool {
+    if owner.is_polling() {
+        return false;
+    }
+    let tracked = Instrumented::new(owner, Waits { flags });
+    is_read_through(rt, tracked, inspector, flags)
+}
+
+fn is_inspected<R: Wait + Threads + Sync>(rt: &R, mut owner: TaskOwner, flags: &Flags) -> bool {
+    match owner.inspect(rt) {
+        Ok(inspector) => is_polled_through(rt, owner, inspector, flags),
+        Err(_) => false,
+    }
+}
+
 #[test]
-fn a_row_is_read_while_its_work_is_polled(rt: HostRuntime) -> Result<(), Fail> {
+fn a_row_is_read_while_its_work_is_polled(rt: HostRuntime) {
     let flags = Flags {
         begun: AtomicBool::new(false),
         read: AtomicBool::new(false),
     };
-    let mut owner = TaskOwner::new(&rt, rt.alloc(), id(1)?, 0)?;
-    let inspector = owner.inspect(&rt)?;
-    if owner.is_polling() {
-        return Err(Fail::from("a new task has an open poll"));
+    match owner(&rt, rt.alloc(), 1) {
+        Some(owner) => assert!(rt; is_inspected(&rt, owner, &flags)),
+        None => assert!(rt; false, "no task"),
     }
-    let tracked = Instrumented::new(owner, Waits { flags: &flags });
-    let (met, row) = both(&rt, tracked, inspector, &flags);
-    assert!(rt; met);
-    assert!(rt; row.polling);
-    Ok(())
 }
