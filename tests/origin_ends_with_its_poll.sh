@@ -23,7 +23,7 @@ done
 cp "$root/HANDLES" "$work/" || exit 2
 grep -E '^(tk_ids|tk_core|tk_cell|tk_ledgers)[ :]' "$root/crates.txt" > "$work/crates.txt" || exit 2
 
-rm -r "$work/crates/tk_ledgers/src/tests" || exit 2
+printf '\n#[cfg(test)]\nmod tests;\n' >> "$work/crates/tk_ledgers/src/lib.rt" || exit 2
 
 # The body, with its last two lines in this order.
 try_body() {

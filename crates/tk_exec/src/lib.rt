@@ -20,6 +20,3 @@ pub use executor::{Executor, Turn};
 pub use instrumented::Instrumented;
 pub use work::{Clock, Work};
 pub use works::{BusyUntil, Example, HoldWaker, LoseWaker, YieldTimes};
-
-#[cfg(test)]
-mod tests;

@@ -7,7 +7,6 @@ pub mod TaskPollLemmas
 pub mod ScopeLemmas
 pub mod TaskSumLemmas
 pub mod WakerLemmas
-pub mod UseLemmas
 pub mod ResourceLemmas
 pub mod ResourceCloseLemmas
 pub mod ResourceSumLemmas

@@ -6,4 +6,3 @@ pub mod Tasks
 pub mod Resources
 pub mod Ops
 pub mod Scopes
-pub mod Uses

@@ -25,6 +25,3 @@ mod task;
 pub use op::{OpInspector, OpOwner, OpReceipt};
 pub use resource::{ResourceInspector, ResourceOwner, ResourceReceipt, ResourceUser};
 pub use task::{Origin, PollScope, TaskInspector, TaskOwner, TaskReceipt, WakerHandle};
-
-#[cfg(test)]
-mod tests;

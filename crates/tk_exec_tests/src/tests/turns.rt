@@ -1,0 +1,166 @@
+//! Executors, turn by turn.
+
+use super::given::{Ticks, id, spawns, task};
+use std::alloc::Global;
+use std::sync::Wait;
+use tk_exec::{Example, ExecError, Executor, Instrumented, LoseWaker, Turn, Work, YieldTimes};
+use tk_ledgers::TaskReceipt;
+
+fn is_idle<R: Wait, W: Work>(rt: &R, executor: &mut Executor<W>, clock: &mut Ticks) -> bool {
+    executor.turn(rt, clock) == Turn::Idle
+}
+
+fn polls<R: Wait, W: Work>(
+    rt: &R,
+    executor: &mut Executor<W>,
+    clock: &mut Ticks,
+    n: u64,
+    ready: bool,
+) -> bool {
+    match id(n) {
+        Some(id) => executor.turn(rt, clock) == Turn::Polled(id, ready),
+        None => false,
+    }
+}
+
+fn takes_none<W: Work>(executor: &mut Executor<W>, n: u64) -> bool {
+    match id(n) {
+        Some(id) => executor.take(id).is_none(),
+        None => false,
+    }
+}
+
+fn is_of(receipt: &TaskReceipt, n: u64) -> bool {
+    Some(receipt.task()) == id(n)
+}
+
+fn takes_polls(executor: &mut Executor<YieldTimes>, n: u64, polls: u64) -> bool {
+    let Some(id) = id(n) else {
+        return false;
+    };
+    match executor.take(id) {
+        Some((out, receipt)) => out == polls && is_of(&receipt, n),
+        None => false,
+    }
+}
+
+fn polls_one_twice<R: Wait>(
+    rt: &R,
+    alloc: Global,
+    executor: &mut Executor<YieldTimes>,
+    clock: &mut Ticks,
+) -> bool {
+    is_idle(rt, executor, clock)
+        && spawns(rt, alloc, executor, 1, YieldTimes::new(1))
+        && takes_none(executor, 1)
+        && polls(rt, executor, clock, 1, false)
+        && polls(rt, executor, clock, 1, true)
+        && is_idle(rt, executor, clock)
+}
+
+fn takes_one_once<R: Wait>(rt: &R, executor: &mut Executor<YieldTimes>, clock: &mut Ticks) -> bool {
+    takes_polls(executor, 1, 2) && takes_none(executor, 1) && is_idle(rt, executor, clock)
+}
+
+#[test]
+fn one_task_that_yields_once(rt: HostRuntime) {
+    let mut clock = Ticks::new();
+    match Executor::new(rt.alloc()) {
+        Ok(mut executor) => {
+            assert!(rt; polls_one_twice(&rt, rt.alloc(), &mut executor, &mut clock));
+            assert!(rt; takes_one_once(&rt, &mut executor, &mut clock));
+        }
+        Err(_) => assert!(rt; false, "no executor"),
+    }
+}
+
+fn is_handed_back(back: &Instrumented<YieldTimes>) -> bool {
+    Some(back.id()) == id(1)
+}
+
+fn is_refused<R: Wait>(rt: &R, alloc: Global, executor: &mut Executor<YieldTimes>) -> bool {
+    let Some(task) = task(rt, alloc, 1, YieldTimes::new(0)) else {
+        return false;
+    };
+    match executor.spawn(task) {
+        Ok(()) => false,
+        Err((error, back)) => {
+            error == ExecError::Repeated && error.code() == 2 && is_handed_back(&back)
+        }
+    }
+}
+
+#[test]
+fn an_id_is_taken_in_once(rt: HostRuntime) {
+    match Executor::new(rt.alloc()) {
+        Ok(mut executor) => {
+            assert!(rt; spawns(&rt, rt.alloc(), &mut executor, 1, YieldTimes::new(0)));
+            assert!(rt; is_refused(&rt, rt.alloc(), &mut executor));
+            assert!(rt; ExecError::Memory.code() == 1);
+        }
+        Err(_) => assert!(rt; false, "no executor"),
+    }
+}
+
+fn spawns_yielding<R: Wait>(
+    rt: &R,
+    alloc: Global,
+    executor: &mut Executor<Example>,
+    n: u64,
+    times: u64,
+) -> bool {
+    spawns(
+        rt,
+        alloc,
+        executor,
+        n,
+        Example::Yield(YieldTimes::new(times)),
+    )
+}
+
+fn spawns_three<R: Wait>(rt: &R, alloc: Global, executor: &mut Executor<Example>) -> bool {
+    spawns_yielding(rt, alloc, executor, 1, 0)
+        && spawns(rt, alloc, executor, 2, Example::Lose(LoseWaker::new()))
+        && spawns_yielding(rt, alloc, executor, 3, 1)
+}
+
+fn takes_some(executor: &mut Executor<Example>, n: u64) -> bool {
+    match id(n) {
+        Some(id) => executor.take(id).is_some(),
+        None => false,
+    }
+}
+
+fn takes_the_first<R: Wait>(rt: &R, executor: &mut Executor<Example>, clock: &mut Ticks) -> bool {
+    polls(rt, executor, clock, 1, true)
+        && takes_some(executor, 1)
+        && polls(rt, executor, clock, 2, false)
+}
+
+fn passes_over_the_second<R: Wait>(
+    rt: &R,
+    executor: &mut Executor<Example>,
+    clock: &mut Ticks,
+) -> bool {
+    polls(rt, executor, clock, 3, false)
+        && polls(rt, executor, clock, 4, true)
+        && polls(rt, executor, clock, 3, true)
+        && is_idle(rt, executor, clock)
+        && takes_none(executor, 2)
+}
+
+// Three tasks are polled one after the other; the one that lost its wakers is passed over from then on, and a turn goes
+// on behind the task that was polled last, also where a task before it was taken.
+#[test]
+fn tasks_are_polled_in_turn(rt: HostRuntime) {
+    let mut clock = Ticks::new();
+    match Executor::new(rt.alloc()) {
+        Ok(mut executor) => {
+            assert!(rt; spawns_three(&rt, rt.alloc(), &mut executor));
+            assert!(rt; takes_the_first(&rt, &mut executor, &mut clock));
+            assert!(rt; spawns_yielding(&rt, rt.alloc(), &mut executor, 4, 0));
+            assert!(rt; passes_over_the_second(&rt, &mut executor, &mut clock));
+        }
+        Err(_) => assert!(rt; false, "no executor"),
+    }
+}

@@ -1,5 +1,0 @@
-use Rattle.std.proofs.Common.{◌≡◌}
-use Rattle.tk_ledgers.proofs.tests.readings.poll_op.Given as goal
-
-abbrev pub invariant-loop-moment : goal.invariant-loop-moment
-invariant-loop-moment g l = l.owner.token.ledger ≡ l.initial.owner.token.ledger

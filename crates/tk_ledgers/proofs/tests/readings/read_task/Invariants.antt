@@ -1,5 +1,0 @@
-use Rattle.std.proofs.Common.{◌≡◌}
-use Rattle.tk_ledgers.proofs.tests.readings.read_task.Given as goal
-
-abbrev pub invariant-loop-turn : goal.invariant-loop-turn
-invariant-loop-turn g l = l.inspector.token.ledger ≡ l.initial.inspector.token.ledger

@@ -1,5 +1,0 @@
-use Rattle.std.proofs.Common.{◌≡◌}
-use Rattle.tk_ledgers.proofs.tests.threads.wake_and_release.Given as goal
-
-abbrev pub invariant-loop-moment : goal.invariant-loop-moment
-invariant-loop-moment g l = l.waker.token.ledger ≡ l.initial.waker.token.ledger

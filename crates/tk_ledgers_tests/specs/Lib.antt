@@ -1,0 +1,2 @@
+-- What contracts of tests say of their steps
+pub mod Uses

@@ -1,0 +1,16 @@
+//! What several tests begin with: an owner, and what it hands out.
+//!
+//! Each function owns at most one handle, and lends it to the next: that keeps the proofs short.
+
+use std::alloc::Global;
+use std::sync::Wait;
+use tk_ids::TaskId;
+use tk_ledgers::TaskOwner;
+
+/// The first task of the first recorder.
+pub(super) const FIRST: u64 = 1099511627777;
+
+pub(super) fn task<R: Wait>(rt: &R, alloc: Global, id: u64, created: u64) -> Option<TaskOwner> {
+    let id = TaskId::from_value(id).ok()?;
+    TaskOwner::new(rt, alloc, id, created).ok()
+}

@@ -1,0 +1,125 @@
+//! Wakers, and what their calls count.
+
+use super::given::{FIRST, task};
+use std::alloc::Global;
+use std::sync::Wait;
+use tk_core::WakeReply;
+use tk_ledgers::{Origin, TaskInspector, TaskOwner, WakerHandle};
+
+fn polls_once<R: Wait>(rt: &R, owner: &mut TaskOwner) -> bool {
+    owner.start_poll(rt, 150) == Ok(()) && owner.end_poll(rt, 170) == Ok(())
+}
+
+// A task created at 100 that was polled once, from 150 to 170.
+fn polled_once<R: Wait>(rt: &R, alloc: Global) -> Option<TaskOwner> {
+    let mut owner = task(rt, alloc, FIRST, 100)?;
+    if !polls_once(rt, &mut owner) {
+        return None;
+    }
+    Some(owner)
+}
+
+fn wakes_once<R: Wait>(rt: &R, waker: WakerHandle, owner: &TaskOwner) -> bool {
+    let named = waker.number() == 1 && waker.task() == owner.id();
+    let (found, _receipt) = waker.wake(rt, 300, Origin::outside());
+    named && found == WakeReply::Scheduled
+}
+
+fn counts_one_wake_by_value<R: Wait>(rt: &R, owner: &mut TaskOwner) -> bool {
+    let row = owner.read(rt);
+    row.clones == 1 && row.drops == 1 && row.wakes == 1 && row.self_wakes == 0
+}
+
+fn is_woken_by_value<R: Wait>(rt: &R, owner: &mut TaskOwner) -> bool {
+    match owner.clone_waker(rt) {
+        Ok(waker) => wakes_once(rt, waker, owner) && counts_one_wake_by_value(rt, owner),
+        Err(_) => false,
+    }
+}
+
+#[test]
+fn wakes_by_value(rt: HostRuntime) {
+    match polled_once(&rt, rt.alloc()) {
+        Some(mut owner) => assert!(rt; is_woken_by_value(&rt, &mut owner)),
+        None => assert!(rt; false, "no polled task"),
+    }
+}
+
+fn wakes_as<R: Wait>(rt: &R, waker: &mut WakerHandle, moment: u64, found: WakeReply) -> bool {
+    waker.wake_by_ref(rt, moment, Origin::outside()) == found
+}
+
+fn wakes_twice<R: Wait>(rt: &R, waker: &mut WakerHandle) -> bool {
+    wakes_as(rt, waker, 300, WakeReply::Scheduled) && wakes_as(rt, waker, 310, WakeReply::Already)
+}
+
+fn closes<R: Wait>(rt: &R, owner: TaskOwner) -> bool {
+    owner.close(rt, 400).is_ok()
+}
+
+fn is_woken_thrice<R: Wait>(rt: &R, owner: TaskOwner, waker: &mut WakerHandle) -> bool {
+    let woken = wakes_twice(rt, waker);
+    closes(rt, owner) && woken && wakes_as(rt, waker, 500, WakeReply::Gone)
+}
+
+fn counts_three_wakes<R: Wait>(rt: &R, inspector: &mut TaskInspector) -> bool {
+    let row = inspector.read(rt);
+    row.wakes == 3 && row.last_wake == Some(500)
+}
+
+fn is_woken_and_read<R: Wait>(rt: &R, mut owner: TaskOwner, waker: &mut WakerHandle) -> bool {
+    match owner.inspect(rt) {
+        Ok(mut inspector) => {
+            is_woken_thrice(rt, owner, waker) && counts_three_wakes(rt, &mut inspector)
+        }
+        Err(_) => false,
+    }
+}
+
+fn is_woken_by_reference<R: Wait>(rt: &R, mut owner: TaskOwner) -> bool {
+    match owner.clone_waker(rt) {
+        Ok(mut waker) => is_woken_and_read(rt, owner, &mut waker),
+        Err(_) => false,
+    }
+}
+
+#[test]
+fn wakes_by_reference(rt: HostRuntime) {
+    match polled_once(&rt, rt.alloc()) {
+        Some(owner) => assert!(rt; is_woken_by_reference(&rt, owner)),
+        None => assert!(rt; false, "no polled task"),
+    }
+}
+
+fn releases_second<R: Wait>(rt: &R, second: WakerHandle) -> bool {
+    let number = second.number();
+    let _receipt = second.release(rt);
+    number == 2
+}
+
+fn counts_one_release<R: Wait>(rt: &R, owner: &mut TaskOwner) -> bool {
+    let row = owner.read(rt);
+    row.clones == 2 && row.drops == 1 && row.wakes == 0 && row.handles == 2
+}
+
+fn clone_is_released<R: Wait>(rt: &R, waker: &mut WakerHandle) -> bool {
+    match waker.clone_waker(rt) {
+        Ok(second) => releases_second(rt, second),
+        Err(_) => false,
+    }
+}
+
+fn is_released<R: Wait>(rt: &R, owner: &mut TaskOwner) -> bool {
+    match owner.clone_waker(rt) {
+        Ok(mut waker) => clone_is_released(rt, &mut waker) && counts_one_release(rt, owner),
+        Err(_) => false,
+    }
+}
+
+#[test]
+fn releases(rt: HostRuntime) {
+    match polled_once(&rt, rt.alloc()) {
+        Some(mut owner) => assert!(rt; is_released(&rt, &mut owner)),
+        None => assert!(rt; false, "no polled task"),
+    }
+}
