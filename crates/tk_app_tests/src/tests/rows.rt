@@ -1,8 +1,7 @@
 //! The statistics of a task behind its owner's calls, as a line tells them.
 
-use super::given::assert_runs;
+use super::given::runs;
 use std::alloc::Global;
-use std::test::Fail;
 
 // A line that tells of one new task, up to the task's statistics and behind them.
 const HEAD: &str =
@@ -92,15 +91,17 @@ close 1 180
 publish 200",            POLLED_AND_CLOSED),
 ];
 
-pub(super) fn line_of(alloc: Global, row: &str) -> Result<String, Fail> {
-    Ok(format!(in alloc; "{HEAD}{row}{TAIL}")?)
+// Whether the script's one line tells of a task with these statistics.
+pub(super) fn tells_row(alloc: Global, script: &'static [u8], row: &str) -> bool {
+    match format!(in alloc; "{HEAD}{row}{TAIL}") {
+        Ok(line) => runs(alloc, script, "", &[line.as_str()]),
+        Err(_) => false,
+    }
 }
 
 #[test]
-fn calls_change_the_statistics(rt: HostRuntime) -> Result<(), Fail> {
+fn calls_change_the_statistics(rt: HostRuntime) {
     for (case, script, row) in ROWS {
-        let line = line_of(rt.alloc(), row)?;
-        assert_runs(&rt, case, script, "", &[line.as_str()])?;
+        assert!(rt; tells_row(rt.alloc(), script, row), "{case}");
     }
-    Ok(())
 }

@@ -1,8 +1,8 @@
 //! What a script stops at, by the number of its line and its name, and the lines before it.
 
 use super::given::{MAIN_LINE, assert_runs};
-use crate::AppFault;
 use std::test::Fail;
+use tk_app::AppFault;
 
 // What a call of the owner is refused with.
 #[rattlefmt::skip]
@@ -15,11 +15,10 @@ const CALLS: [(&str, &[u8], &str); 5] = [
 ];
 
 #[test]
-fn refused_calls_stop_a_script(rt: HostRuntime) -> Result<(), Fail> {
+fn refused_calls_stop_a_script(rt: HostRuntime) {
     for (case, script, fault) in CALLS {
-        assert_runs(&rt, case, script, fault, &[])?;
+        assert_runs(&rt, case, script, fault, &[]);
     }
-    Ok(())
 }
 
 // Where a fault stands, and what was written before it.
@@ -36,11 +35,10 @@ const PLACES: [(&str, &[u8], &str, &[&str]); 8] = [
 ];
 
 #[test]
-fn a_fault_is_told_by_its_line(rt: HostRuntime) -> Result<(), Fail> {
+fn a_fault_is_told_by_its_line(rt: HostRuntime) {
     for (case, script, fault, lines) in PLACES {
-        assert_runs(&rt, case, script, fault, lines)?;
+        assert_runs(&rt, case, script, fault, lines);
     }
-    Ok(())
 }
 
 // The number and the text of each fault.

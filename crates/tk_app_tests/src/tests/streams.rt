@@ -1,7 +1,6 @@
 //! What a script without a fault writes.
 
 use super::given::{MAIN, MAIN_LINE, assert_runs};
-use std::test::Fail;
 
 const FIRST_EMPTY_LINE: &str =
     r#"{"dropped":[0,0,0],"new_ops":[],"new_resources":[],"new_tasks":[],"now":5,"op_stats":[],"poll_counts":[],"resource_stats":[],"seq":1,"snapshot":false,"task_stats":[],"v":1}"#;
@@ -39,11 +38,10 @@ const LINES: [(&str, &[u8], &[&str]); 5] = [
 ];
 
 #[test]
-fn a_line_tells_what_is_new(rt: HostRuntime) -> Result<(), Fail> {
+fn a_line_tells_what_is_new(rt: HostRuntime) {
     for (case, script, lines) in LINES {
-        assert_runs(&rt, case, script, "", lines)?;
+        assert_runs(&rt, case, script, "", lines);
     }
-    Ok(())
 }
 
 // A task of line 4.
@@ -63,11 +61,10 @@ const LAYOUTS: [(&str, &[u8], &[&str]); 7] = [
 ];
 
 #[test]
-fn a_script_may_have_other_lines(rt: HostRuntime) -> Result<(), Fail> {
+fn a_script_may_have_other_lines(rt: HostRuntime) {
     for (case, script, lines) in LAYOUTS {
-        assert_runs(&rt, case, script, "", lines)?;
+        assert_runs(&rt, case, script, "", lines);
     }
-    Ok(())
 }
 
 const ESCAPED_LINE: &str =
@@ -86,9 +83,8 @@ const ENDS: [(&str, &[u8], &[&str]); 2] = [
 ];
 
 #[test]
-fn names_and_moments_reach_their_ends(rt: HostRuntime) -> Result<(), Fail> {
+fn names_and_moments_reach_their_ends(rt: HostRuntime) {
     for (case, script, lines) in ENDS {
-        assert_runs(&rt, case, script, "", lines)?;
+        assert_runs(&rt, case, script, "", lines);
     }
-    Ok(())
 }
