@@ -1,16 +1,7 @@
 //! Lines that are no command.
 
-use super::given::{assert_runs, runs_from};
+use super::given::{assert_are_bad, runs_from};
 use super::readers::Trickle;
-use std::process::Abort;
-
-// None of these lines is a command.
-fn assert_are_bad<R: Abort + AllocGlobal>(rt: &R, lines: &[&'static [u8]]) {
-    for line in lines {
-        let case = str::from_utf8(line).unwrap_or("a line that is no text");
-        assert_runs(rt, case, line, "line 1: BadCommand", &[]);
-    }
-}
 
 // Commands that scripts do not have yet.
 #[rattlefmt::skip]

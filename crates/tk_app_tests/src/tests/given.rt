@@ -1,6 +1,7 @@
 //! Scripts that are run in memory, and what comes of them.
 //!
-//! Each function owns at most one text, and lends it to the next: that keeps the proofs short.
+//! Each function owns at most one text, and lends it to the next, and long tables are gone through here and not in the tests:
+//! that keeps the proofs short.
 
 use std::alloc::Global;
 use std::io::{Read, Write};
@@ -14,7 +15,8 @@ pub(super) const MAIN: &[u8] = b"task 100 spawn main\npublish 200\n";
 pub(super) const MAIN_LINE: &str =
     r#"{"dropped":[0,0,0],"new_ops":[],"new_resources":[],"new_tasks":[{"id":1099511627777,"kind":"spawn","loc":["script",1,1],"name":"main"}],"now":200,"op_stats":[],"poll_counts":[],"resource_stats":[],"seq":1,"snapshot":false,"task_stats":[{"busy":0,"clones":0,"created":100,"dropped":null,"drops":0,"first_poll":null,"handles":1,"id":1099511627777,"last_ended":null,"last_started":null,"last_wake":null,"polling":false,"polls":0,"sched":0,"scheduled":true,"self_wakes":0,"wakes":0}],"v":1}"#;
 
-fn is_text_of(alloc: Global, fault: AppFault, text: &str) -> bool {
+// Whether the fault has this text.
+pub(super) fn is_text_of(alloc: Global, fault: AppFault, text: &str) -> bool {
     match format!(in alloc; "{fault}") {
         Ok(told) => told.as_str() == text,
         Err(_) => false,
@@ -68,4 +70,42 @@ pub(super) fn assert_runs<R: Abort + AllocGlobal>(
     lines: &[&str],
 ) {
     assert!(rt; runs(rt.alloc(), script, fault, lines), "{case}");
+}
+
+// Each script stops at its fault, or at none where its text is empty, and has written its lines.
+pub(super) fn assert_all_run<R: Abort + AllocGlobal>(
+    rt: &R,
+    cases: &[(&str, &'static [u8], &str, &[&str])],
+) {
+    for (case, script, fault, lines) in cases {
+        assert_runs(rt, case, script, fault, lines);
+    }
+}
+
+// Each script stops at its fault, and has written nothing.
+pub(super) fn assert_all_stop<R: Abort + AllocGlobal>(
+    rt: &R,
+    cases: &[(&str, &'static [u8], &str)],
+) {
+    for (case, script, fault) in cases {
+        assert_runs(rt, case, script, fault, &[]);
+    }
+}
+
+// Each script has no fault, and has written its lines.
+pub(super) fn assert_all_write<R: Abort + AllocGlobal>(
+    rt: &R,
+    cases: &[(&str, &'static [u8], &[&str])],
+) {
+    for (case, script, lines) in cases {
+        assert_runs(rt, case, script, "", lines);
+    }
+}
+
+// None of these lines is a command.
+pub(super) fn assert_are_bad<R: Abort + AllocGlobal>(rt: &R, lines: &[&'static [u8]]) {
+    for line in lines {
+        let case = str::from_utf8(line).unwrap_or("a line that is no text");
+        assert_runs(rt, case, line, "line 1: BadCommand", &[]);
+    }
 }

@@ -1,6 +1,6 @@
 //! Tasks that a script calls by a number under which there is none.
 
-use super::given::assert_runs;
+use super::given::{assert_all_stop, assert_runs};
 
 // Each script stops at its last line, since the task was not made, or is closed.
 #[rattlefmt::skip]
@@ -18,9 +18,7 @@ const NONE_THERE: [(&str, &[u8], &str); 9] = [
 
 #[test]
 fn a_call_needs_its_task(rt: HostRuntime) {
-    for (case, script, fault) in NONE_THERE {
-        assert_runs(&rt, case, script, fault, &[]);
-    }
+    assert_all_stop(&rt, NONE_THERE.as_slice());
 }
 
 // A closed task keeps its number, and the others can be called.

@@ -1,6 +1,6 @@
 //! Async operations, as lines tell them, and the calls of their owners.
 
-use super::given::assert_runs;
+use super::given::{assert_all_stop, assert_are_bad, assert_runs};
 
 // A task, a resource and an operation on it, of which nothing was called.
 const NEW: &str =
@@ -63,9 +63,7 @@ const REFUSED: [(&str, &[u8], &str); 19] = [
 
 #[test]
 fn an_operation_is_there_and_takes_the_call(rt: HostRuntime) {
-    for (case, script, fault) in REFUSED {
-        assert_runs(&rt, case, script, fault, &[]);
-    }
+    assert_all_stop(&rt, REFUSED.as_slice());
 }
 
 // Lines that are no command: words that are missing, too many or out of range, and attributes.
@@ -78,8 +76,5 @@ const BAD: [&[u8]; 24] = [
 
 #[test]
 fn operations_have_their_words(rt: HostRuntime) {
-    for line in BAD {
-        let case = str::from_utf8(line).unwrap_or("a line that is no text");
-        assert_runs(&rt, case, line, "line 1: BadCommand", &[]);
-    }
+    assert_are_bad(&rt, BAD.as_slice());
 }

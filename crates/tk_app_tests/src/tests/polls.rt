@@ -1,6 +1,6 @@
 //! Poll operations, and a script with an item of each kind.
 
-use super::given::assert_runs;
+use super::given::{assert_all_stop, assert_are_bad, assert_runs};
 
 const WORKED: &[u8] =
     b"task 10 spawn worker\nresource 20 Sync Semaphore permits=5 closed=false\nop 30 1 Semaphore::acquire\noptask 1 1\nopstart 1 40\nrsub 1 0 2\nopend 1 45\npollop 1 1 1 poll_acquire ready\npublish 50\n";
@@ -45,9 +45,7 @@ const REFUSED: [(&str, &[u8], &str); 7] = [
 
 #[test]
 fn what_a_poll_operation_names_was_made(rt: HostRuntime) {
-    for (case, script, fault) in REFUSED {
-        assert_runs(&rt, case, script, fault, &[]);
-    }
+    assert_all_stop(&rt, REFUSED.as_slice());
 }
 
 // Lines that are no command.
@@ -59,8 +57,5 @@ const BAD: [&[u8]; 9] = [
 
 #[test]
 fn poll_operations_have_their_words(rt: HostRuntime) {
-    for line in BAD {
-        let case = str::from_utf8(line).unwrap_or("a line that is no text");
-        assert_runs(&rt, case, line, "line 1: BadCommand", &[]);
-    }
+    assert_are_bad(&rt, BAD.as_slice());
 }

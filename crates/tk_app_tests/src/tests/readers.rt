@@ -4,6 +4,7 @@ use super::given::{MAIN, MAIN_LINE, runs_from, text_of};
 use std::alloc::Global;
 use std::io;
 use std::io::Read;
+use std::process::Abort;
 
 // Gives one byte a read, then as many bytes x as its padding says, and then its end or a fault.
 #[derive(Drop)]
@@ -65,14 +66,21 @@ fn comes_to(alloc: Global, reader: &mut Trickle, fault: &str) -> bool {
     }
 }
 
-#[test]
-fn nothing_is_written_where_a_read_fails(rt: HostRuntime) {
-    for (case, bytes, padding, fails, fault) in READERS {
+fn assert_all_come_to<R: Abort + AllocGlobal>(
+    rt: &R,
+    cases: &[(&str, &'static [u8], usize, bool, &str)],
+) {
+    for (case, bytes, padding, fails, fault) in cases {
         let mut reader = Trickle {
             bytes,
-            padding,
-            fails,
+            padding: *padding,
+            fails: *fails,
         };
         assert!(rt; comes_to(rt.alloc(), &mut reader, fault), "{case}");
     }
+}
+
+#[test]
+fn nothing_is_written_where_a_read_fails(rt: HostRuntime) {
+    assert_all_come_to(&rt, READERS.as_slice());
 }

@@ -1,6 +1,6 @@
 //! Resources, as lines tell them, and the calls of their owners and users.
 
-use super::given::assert_runs;
+use super::given::{assert_all_stop, assert_all_write, assert_are_bad};
 
 // A resource with two attributes, of which its user changed one.
 const NEW: &str =
@@ -30,9 +30,7 @@ const LINES: [(&str, &[u8], &[&str]); 3] = [
 
 #[test]
 fn resources_are_told(rt: HostRuntime) {
-    for (case, script, lines) in LINES {
-        assert_runs(&rt, case, script, "", lines);
-    }
+    assert_all_write(&rt, LINES.as_slice());
 }
 
 // Each script stops at its last line.
@@ -60,9 +58,7 @@ const REFUSED: [(&str, &[u8], &str); 18] = [
 
 #[test]
 fn a_resource_is_there_and_takes_the_change(rt: HostRuntime) {
-    for (case, script, fault) in REFUSED {
-        assert_runs(&rt, case, script, fault, &[]);
-    }
+    assert_all_stop(&rt, REFUSED.as_slice());
 }
 
 // Lines that are no command: words that are missing, too many or out of range, and attributes.
@@ -77,8 +73,5 @@ const BAD: [&[u8]; 32] = [
 
 #[test]
 fn resources_have_their_words(rt: HostRuntime) {
-    for line in BAD {
-        let case = str::from_utf8(line).unwrap_or("a line that is no text");
-        assert_runs(&rt, case, line, "line 1: BadCommand", &[]);
-    }
+    assert_are_bad(&rt, BAD.as_slice());
 }

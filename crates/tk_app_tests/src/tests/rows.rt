@@ -2,6 +2,7 @@
 
 use super::given::runs;
 use std::alloc::Global;
+use std::process::Abort;
 
 // A line that tells of one new task, up to the task's statistics and behind them.
 const HEAD: &str =
@@ -92,16 +93,24 @@ publish 200",            POLLED_AND_CLOSED),
 ];
 
 // Whether the script's one line tells of a task with these statistics.
-pub(super) fn tells_row(alloc: Global, script: &'static [u8], row: &str) -> bool {
+fn tells_row(alloc: Global, script: &'static [u8], row: &str) -> bool {
     match format!(in alloc; "{HEAD}{row}{TAIL}") {
         Ok(line) => runs(alloc, script, "", &[line.as_str()]),
         Err(_) => false,
     }
 }
 
-#[test]
-fn calls_change_the_statistics(rt: HostRuntime) {
-    for (case, script, row) in ROWS {
+// Each script's one line tells of a task with its statistics.
+pub(super) fn assert_all_tell<R: Abort + AllocGlobal>(
+    rt: &R,
+    cases: &[(&str, &'static [u8], &str)],
+) {
+    for (case, script, row) in cases {
         assert!(rt; tells_row(rt.alloc(), script, row), "{case}");
     }
+}
+
+#[test]
+fn calls_change_the_statistics(rt: HostRuntime) {
+    assert_all_tell(&rt, ROWS.as_slice());
 }

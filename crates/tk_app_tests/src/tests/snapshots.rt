@@ -1,6 +1,6 @@
 //! Snapshots, which go on in the same stream.
 
-use super::given::assert_runs;
+use super::given::assert_all_run;
 
 // The task as it was made.
 const NEW: &str =
@@ -38,7 +38,5 @@ const SNAPSHOTS: [(&str, &[u8], &str, &[&str]); 4] = [
 
 #[test]
 fn a_snapshot_tells_all_and_takes_the_next_number(rt: HostRuntime) {
-    for (case, script, fault, lines) in SNAPSHOTS {
-        assert_runs(&rt, case, script, fault, lines);
-    }
+    assert_all_run(&rt, SNAPSHOTS.as_slice());
 }

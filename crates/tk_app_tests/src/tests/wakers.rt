@@ -1,7 +1,7 @@
 //! The statistics of a task behind calls of its wakers, and from within its polls, as a line tells them.
 
-use super::given::assert_runs;
-use super::rows::tells_row;
+use super::given::{assert_all_stop, assert_runs};
+use super::rows::assert_all_tell;
 
 // A waker is out.
 const CLONED: &str =
@@ -45,9 +45,7 @@ const ROWS: [(&str, &[u8], &str); 7] = [
 
 #[test]
 fn wakers_change_the_statistics(rt: HostRuntime) {
-    for (case, script, row) in ROWS {
-        assert!(rt; tells_row(rt.alloc(), script, row), "{case}");
-    }
+    assert_all_tell(&rt, ROWS.as_slice());
 }
 
 // Wakers are numbered over the whole script: the second one is of the second task.
@@ -80,7 +78,5 @@ const REFUSED: [(&str, &[u8], &str); 14] = [
 
 #[test]
 fn a_waker_is_there_and_a_wake_from_within_is_in_a_poll(rt: HostRuntime) {
-    for (case, script, fault) in REFUSED {
-        assert_runs(&rt, case, script, fault, &[]);
-    }
+    assert_all_stop(&rt, REFUSED.as_slice());
 }
