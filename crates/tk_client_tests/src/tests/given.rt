@@ -98,7 +98,7 @@ pub(super) fn first_line(alloc: Global) -> Option<Vec<u8>> {
 }
 
 // What came of feeding: the fault's number, 0 without one, the lines applied and the bytes taken.
-#[derive(Clone, Copy, Debug, PartialEq, Eq)]
+#[derive(Clone, Copy, PartialEq, Eq)]
 pub(super) struct Came {
     pub(super) code: u32,
     pub(super) lines: u64,

@@ -122,13 +122,15 @@ fn percent_of(percent: u64) -> Option<u64> {
     Some(Lints::new(percent, 1_000_000_000)?.self_wake_percent())
 }
 
+fn are_of(lints: &Lints, percent: u64, ns: u64) -> bool {
+    lints.self_wake_percent() == percent && lints.never_yielded_ns() == ns
+}
+
 #[test]
 fn lints_have_limits(rt: HostRuntime) {
     assert!(rt; Lints::new(101, 7).is_none());
     assert!(rt; percent_of(100) == Some(100));
-    let usual = Lints::default();
-    assert_eq!(rt; usual.self_wake_percent(), 50);
-    assert_eq!(rt; usual.never_yielded_ns(), 1_000_000_000);
+    assert!(rt; are_of(&Lints::default(), 50, 1_000_000_000));
 }
 
 fn add_line(alloc: Global, lines: &mut Vec<u8>, seq: &str) -> bool {
@@ -200,12 +202,16 @@ fn has_gaps(alloc: Global, client: &mut Client) -> bool {
         && client.tables().now() == 5
 }
 
+fn new_client_has_gaps(alloc: Global) -> bool {
+    match Client::new(alloc, 300) {
+        Ok(mut client) => has_gaps(alloc, &mut client),
+        Err(_) => false,
+    }
+}
+
 #[test]
 fn a_gap_ends_the_stream_until_a_restart(rt: HostRuntime) {
-    match Client::new(rt.alloc(), 300) {
-        Ok(mut client) => assert!(rt; has_gaps(rt.alloc(), &mut client)),
-        Err(_) => assert!(rt; false, "no client"),
-    }
+    assert!(rt; new_client_has_gaps(rt.alloc()));
 }
 
 // Whether a line comes to its task in pieces of a size, and to nothing without its end.
