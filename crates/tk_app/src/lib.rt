@@ -16,6 +16,3 @@ mod words;
 pub use fault::AppFault;
 pub use gate::{Gate, Open};
 pub use script::run_script;
-
-#[cfg(test)]
-mod tests;

@@ -23,6 +23,3 @@ pub use client::Client;
 pub use fault::{Fault, FeedError};
 pub use lints::Lints;
 pub use warning::{Warning, WarningKind};
-
-#[cfg(test)]
-mod tests;

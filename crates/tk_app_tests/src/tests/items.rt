@@ -1,7 +1,6 @@
 //! Tasks that a script calls by a number under which there is none.
 
-use super::given::assert_runs;
-use std::test::Fail;
+use super::given::{assert_all_stop, assert_runs};
 
 // Each script stops at its last line, since the task was not made, or is closed.
 #[rattlefmt::skip]
@@ -18,17 +17,14 @@ const NONE_THERE: [(&str, &[u8], &str); 9] = [
 ];
 
 #[test]
-fn a_call_needs_its_task(rt: HostRuntime) -> Result<(), Fail> {
-    for (case, script, fault) in NONE_THERE {
-        assert_runs(&rt, case, script, fault, &[])?;
-    }
-    Ok(())
+fn a_call_needs_its_task(rt: HostRuntime) {
+    assert_all_stop(&rt, NONE_THERE.as_slice());
 }
 
 // A closed task keeps its number, and the others can be called.
 #[test]
-fn a_close_leaves_the_other_tasks(rt: HostRuntime) -> Result<(), Fail> {
+fn a_close_leaves_the_other_tasks(rt: HostRuntime) {
     let script =
         b"task 1 spawn a\ntask 2 spawn b\nclose 1 3\nstart 2 4\nend 2 5\nclose 2 6\ntask 7 spawn c\nstart 3 8\n";
-    assert_runs(&rt, "three tasks", script.as_slice(), "", &[])
+    assert_runs(&rt, "three tasks", script.as_slice(), "", &[]);
 }

@@ -1,7 +1,6 @@
 //! What a script without a fault writes.
 
-use super::given::{MAIN, MAIN_LINE, assert_runs};
-use std::test::Fail;
+use super::given::{MAIN, MAIN_LINE, assert_all_write};
 
 const FIRST_EMPTY_LINE: &str =
     r#"{"dropped":[0,0,0],"new_ops":[],"new_resources":[],"new_tasks":[],"now":5,"op_stats":[],"poll_counts":[],"resource_stats":[],"seq":1,"snapshot":false,"task_stats":[],"v":1}"#;
@@ -39,11 +38,8 @@ const LINES: [(&str, &[u8], &[&str]); 5] = [
 ];
 
 #[test]
-fn a_line_tells_what_is_new(rt: HostRuntime) -> Result<(), Fail> {
-    for (case, script, lines) in LINES {
-        assert_runs(&rt, case, script, "", lines)?;
-    }
-    Ok(())
+fn a_line_tells_what_is_new(rt: HostRuntime) {
+    assert_all_write(&rt, LINES.as_slice());
 }
 
 // A task of line 4.
@@ -63,11 +59,8 @@ const LAYOUTS: [(&str, &[u8], &[&str]); 7] = [
 ];
 
 #[test]
-fn a_script_may_have_other_lines(rt: HostRuntime) -> Result<(), Fail> {
-    for (case, script, lines) in LAYOUTS {
-        assert_runs(&rt, case, script, "", lines)?;
-    }
-    Ok(())
+fn a_script_may_have_other_lines(rt: HostRuntime) {
+    assert_all_write(&rt, LAYOUTS.as_slice());
 }
 
 const ESCAPED_LINE: &str =
@@ -86,9 +79,6 @@ const ENDS: [(&str, &[u8], &[&str]); 2] = [
 ];
 
 #[test]
-fn names_and_moments_reach_their_ends(rt: HostRuntime) -> Result<(), Fail> {
-    for (case, script, lines) in ENDS {
-        assert_runs(&rt, case, script, "", lines)?;
-    }
-    Ok(())
+fn names_and_moments_reach_their_ends(rt: HostRuntime) {
+    assert_all_write(&rt, ENDS.as_slice());
 }

@@ -1,9 +1,10 @@
 //! Readers that give little, too much, or a fault.
 
-use super::given::{MAIN, MAIN_LINE, run_from, text_of};
+use super::given::{MAIN, MAIN_LINE, runs_from, text_of};
+use std::alloc::Global;
 use std::io;
 use std::io::Read;
-use std::test::Fail;
+use std::process::Abort;
 
 // Gives one byte a read, then as many bytes x as its padding says, and then its end or a fault.
 #[derive(Drop)]
@@ -54,19 +55,32 @@ const READERS: [(&str, &[u8], usize, bool, &str); 7] = [
     ("it gives bytes for ever",              COMMENTED, 9_223_372_036_854_775_807, false, "Read"),
 ];
 
-#[test]
-fn nothing_is_written_where_a_read_fails(rt: HostRuntime) -> Result<(), Fail> {
-    let line = text_of(rt.alloc(), &[MAIN_LINE])?;
-    for (case, bytes, padding, fails, fault) in READERS {
+// Whether running stops at this fault and has written nothing, or at none and has written the line.
+fn comes_to(alloc: Global, reader: &mut Trickle, fault: &str) -> bool {
+    if !fault.is_empty() {
+        return runs_from(alloc, reader, fault, "");
+    }
+    match text_of(alloc, &[MAIN_LINE]) {
+        Some(line) => runs_from(alloc, reader, fault, line.as_str()),
+        None => false,
+    }
+}
+
+fn assert_all_come_to<R: Abort + AllocGlobal>(
+    rt: &R,
+    cases: &[(&str, &'static [u8], usize, bool, &str)],
+) {
+    for (case, bytes, padding, fails, fault) in cases {
         let mut reader = Trickle {
             bytes,
-            padding,
-            fails,
+            padding: *padding,
+            fails: *fails,
         };
-        let (told, written) = run_from(rt.alloc(), &mut reader)?;
-        assert_eq!(rt; told.as_str(), fault, "{case}");
-        let wanted = if fault.is_empty() { line.as_str() } else { "" };
-        assert_eq!(rt; str::from_utf8(written.as_slice())?, wanted, "{case}");
+        assert!(rt; comes_to(rt.alloc(), &mut reader, fault), "{case}");
     }
-    Ok(())
+}
+
+#[test]
+fn nothing_is_written_where_a_read_fails(rt: HostRuntime) {
+    assert_all_come_to(&rt, READERS.as_slice());
 }

@@ -3,15 +3,14 @@
 //! With `rt try --test --fail-alloc N` the N-th allocation is refused.
 
 use super::given::{both, first_line, line_of};
-use crate::{Client, Lints};
 use std::alloc::Global;
-use std::test::Fail;
+use tk_client::{Client, Lints};
 
 // A client, asked for again where the first one found no memory.
-fn client_of(alloc: Global) -> Result<Client, Fail> {
+fn client_of(alloc: Global) -> Option<Client> {
     match Client::new(alloc, 1000) {
-        Ok(client) => Ok(client),
-        Err(_) => Ok(Client::new(alloc, 1000)?),
+        Ok(client) => Some(client),
+        Err(_) => Client::new(alloc, 1000).ok(),
     }
 }
 
@@ -42,18 +41,37 @@ fn warned(client: &Client, lints: &Lints) -> usize {
     }
 }
 
-#[test]
-fn what_found_no_memory_is_fed_again(rt: HostRuntime) -> Result<(), Fail> {
-    let alloc = rt.alloc();
-    let second = line_of(alloc, "2", "false", "9000000000", "[]", "[]")?;
-    let bytes = both(alloc, &first_line(alloc)?, &second)?;
+fn takes_both(client: &mut Client, bytes: &[u8]) -> bool {
     let lints = Lints::default();
-    let mut client = client_of(alloc)?;
-    let lines = fed_on(&mut client, &bytes);
-    let tasks = client.tables().task_count();
-    let warnings = warned(&client, &lints);
-    assert_eq!(rt; lines, 2);
-    assert_eq!(rt; tasks, 1);
-    assert_eq!(rt; warnings, 0);
-    Ok(())
+    let lines = fed_on(client, bytes);
+    lines == 2 && client.tables().task_count() == 1 && warned(client, &lints) == 0
+}
+
+fn client_takes_both(alloc: Global, bytes: &[u8]) -> bool {
+    match client_of(alloc) {
+        Some(mut client) => takes_both(&mut client, bytes),
+        None => false,
+    }
+}
+
+fn with_second(alloc: Global, first: &[u8]) -> Option<Vec<u8>> {
+    match line_of(alloc, "2", "false", "9000000000", "[]", "[]") {
+        Some(second) => both(alloc, first, &second),
+        None => None,
+    }
+}
+
+fn two_lines(alloc: Global) -> Option<Vec<u8>> {
+    match first_line(alloc) {
+        Some(first) => with_second(alloc, &first),
+        None => None,
+    }
+}
+
+#[test]
+fn what_found_no_memory_is_fed_again(rt: HostRuntime) {
+    match two_lines(rt.alloc()) {
+        Some(bytes) => assert!(rt; client_takes_both(rt.alloc(), &bytes)),
+        None => assert!(rt; false, "no lines"),
+    }
 }

@@ -1,8 +1,8 @@
 //! What a script stops at, by the number of its line and its name, and the lines before it.
 
-use super::given::{MAIN_LINE, assert_runs};
-use crate::AppFault;
-use std::test::Fail;
+use super::given::{MAIN_LINE, assert_all_run, assert_all_stop, is_text_of};
+use std::alloc::Global;
+use tk_app::AppFault;
 
 // What a call of the owner is refused with.
 #[rattlefmt::skip]
@@ -15,11 +15,8 @@ const CALLS: [(&str, &[u8], &str); 5] = [
 ];
 
 #[test]
-fn refused_calls_stop_a_script(rt: HostRuntime) -> Result<(), Fail> {
-    for (case, script, fault) in CALLS {
-        assert_runs(&rt, case, script, fault, &[])?;
-    }
-    Ok(())
+fn refused_calls_stop_a_script(rt: HostRuntime) {
+    assert_all_stop(&rt, CALLS.as_slice());
 }
 
 // Where a fault stands, and what was written before it.
@@ -36,11 +33,8 @@ const PLACES: [(&str, &[u8], &str, &[&str]); 8] = [
 ];
 
 #[test]
-fn a_fault_is_told_by_its_line(rt: HostRuntime) -> Result<(), Fail> {
-    for (case, script, fault, lines) in PLACES {
-        assert_runs(&rt, case, script, fault, lines)?;
-    }
-    Ok(())
+fn a_fault_is_told_by_its_line(rt: HostRuntime) {
+    assert_all_run(&rt, PLACES.as_slice());
 }
 
 // The number and the text of each fault.
@@ -52,12 +46,13 @@ const CODES: [(AppFault, u32, &str); 4] = [
     (AppFault::Script { line: 3, name: "NotPolling" }, 4, "line 3: NotPolling"),
 ];
 
+fn has(alloc: Global, fault: AppFault, code: u32, text: &str) -> bool {
+    fault.code() == code && is_text_of(alloc, fault, text)
+}
+
 #[test]
-fn each_fault_has_its_number_and_text(rt: HostRuntime) -> Result<(), Fail> {
+fn each_fault_has_its_number_and_text(rt: HostRuntime) {
     for (fault, code, text) in CODES {
-        assert_eq!(rt; fault.code(), code, "{text}");
-        let told = format!(in rt.alloc(); "{fault}")?;
-        assert_eq!(rt; told.as_str(), text);
+        assert!(rt; has(rt.alloc(), fault, code, text), "{text}");
     }
-    Ok(())
 }

@@ -1,18 +1,7 @@
 //! Lines that are no command.
 
-use super::given::{assert_runs, run_from};
+use super::given::{assert_are_bad, runs_from};
 use super::readers::Trickle;
-use std::process::Abort;
-use std::test::Fail;
-
-// None of these lines is a command.
-fn assert_are_bad<R: Abort + AllocGlobal>(rt: &R, lines: &[&'static [u8]]) -> Result<(), Fail> {
-    for line in lines {
-        let case = str::from_utf8(line).unwrap_or("a line that is no text");
-        assert_runs(rt, case, line, "line 1: BadCommand", &[])?;
-    }
-    Ok(())
-}
 
 // Commands that scripts do not have yet.
 #[rattlefmt::skip]
@@ -22,8 +11,8 @@ const LATER: [&[u8]; 4] = [
 ];
 
 #[test]
-fn later_commands_are_not_there(rt: HostRuntime) -> Result<(), Fail> {
-    assert_are_bad(&rt, LATER.as_slice())
+fn later_commands_are_not_there(rt: HostRuntime) {
+    assert_are_bad(&rt, LATER.as_slice());
 }
 
 // Words that are no command, and a byte that is no text.
@@ -43,9 +32,9 @@ const WRONG_NUMBER_OF_WORDS: [&[u8]; 34] = [
 ];
 
 #[test]
-fn words_are_known_and_counted(rt: HostRuntime) -> Result<(), Fail> {
-    assert_are_bad(&rt, UNKNOWN.as_slice())?;
-    assert_are_bad(&rt, WRONG_NUMBER_OF_WORDS.as_slice())
+fn words_are_known_and_counted(rt: HostRuntime) {
+    assert_are_bad(&rt, UNKNOWN.as_slice());
+    assert_are_bad(&rt, WRONG_NUMBER_OF_WORDS.as_slice());
 }
 
 // 2^64, signs, 21 digits, and words that are no number.
@@ -65,9 +54,9 @@ const KINDS_AND_NAMES: [&[u8]; 10] = [
 ];
 
 #[test]
-fn words_are_in_their_range(rt: HostRuntime) -> Result<(), Fail> {
-    assert_are_bad(&rt, NUMBERS.as_slice())?;
-    assert_are_bad(&rt, KINDS_AND_NAMES.as_slice())
+fn words_are_in_their_range(rt: HostRuntime) {
+    assert_are_bad(&rt, NUMBERS.as_slice());
+    assert_are_bad(&rt, KINDS_AND_NAMES.as_slice());
 }
 
 // Spaces that are too many, and other bytes that look like one.
@@ -77,8 +66,8 @@ const SPACES: [&[u8]; 9] = [
 ];
 
 #[test]
-fn words_stand_between_single_spaces(rt: HostRuntime) -> Result<(), Fail> {
-    assert_are_bad(&rt, SPACES.as_slice())
+fn words_stand_between_single_spaces(rt: HostRuntime) {
+    assert_are_bad(&rt, SPACES.as_slice());
 }
 
 // A name has at most 1,024 bytes.
@@ -86,16 +75,16 @@ fn words_stand_between_single_spaces(rt: HostRuntime) -> Result<(), Fail> {
 const LENGTHS: [(usize, &str); 3] = [(1, ""), (1_024, ""), (1_025, "line 1: BadCommand")];
 
 #[test]
-fn a_name_has_at_most_1024_bytes(rt: HostRuntime) -> Result<(), Fail> {
+fn a_name_has_at_most_1024_bytes(rt: HostRuntime) {
     for (length, fault) in LENGTHS {
         let mut reader = Trickle {
             bytes: b"task 1 spawn ",
             padding: length,
             fails: false,
         };
-        let (told, written) = run_from(rt.alloc(), &mut reader)?;
-        assert_eq!(rt; told.as_str(), fault, "{length} bytes");
-        assert!(rt; written.is_empty());
+        assert!(rt;
+            runs_from(rt.alloc(), &mut reader, fault, ""),
+            "{length} bytes"
+        );
     }
-    Ok(())
 }

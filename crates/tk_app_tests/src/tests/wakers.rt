@@ -1,8 +1,7 @@
 //! The statistics of a task behind calls of its wakers, and from within its polls, as a line tells them.
 
-use super::given::assert_runs;
-use super::rows::line_of;
-use std::test::Fail;
+use super::given::{assert_all_stop, assert_runs};
+use super::rows::assert_all_tell;
 
 // A waker is out.
 const CLONED: &str =
@@ -45,12 +44,8 @@ const ROWS: [(&str, &[u8], &str); 7] = [
 ];
 
 #[test]
-fn wakers_change_the_statistics(rt: HostRuntime) -> Result<(), Fail> {
-    for (case, script, row) in ROWS {
-        let line = line_of(rt.alloc(), row)?;
-        assert_runs(&rt, case, script, "", &[line.as_str()])?;
-    }
-    Ok(())
+fn wakers_change_the_statistics(rt: HostRuntime) {
+    assert_all_tell(&rt, ROWS.as_slice());
 }
 
 // Wakers are numbered over the whole script: the second one is of the second task.
@@ -58,8 +53,8 @@ const TWO_TASKS: &[u8] =
     b"task 1 spawn a\ntask 1 spawn b\nclone 1\nclone 2\nagain 1\nwake 2 5\nrelease 3\nwakeref 1 6\n";
 
 #[test]
-fn wakers_are_numbered_over_the_script(rt: HostRuntime) -> Result<(), Fail> {
-    assert_runs(&rt, "two tasks", TWO_TASKS, "", &[])
+fn wakers_are_numbered_over_the_script(rt: HostRuntime) {
+    assert_runs(&rt, "two tasks", TWO_TASKS, "", &[]);
 }
 
 // Each script stops at its last line.
@@ -82,9 +77,6 @@ const REFUSED: [(&str, &[u8], &str); 14] = [
 ];
 
 #[test]
-fn a_waker_is_there_and_a_wake_from_within_is_in_a_poll(rt: HostRuntime) -> Result<(), Fail> {
-    for (case, script, fault) in REFUSED {
-        assert_runs(&rt, case, script, fault, &[])?;
-    }
-    Ok(())
+fn a_waker_is_there_and_a_wake_from_within_is_in_a_poll(rt: HostRuntime) {
+    assert_all_stop(&rt, REFUSED.as_slice());
 }

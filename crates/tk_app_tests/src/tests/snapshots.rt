@@ -1,7 +1,6 @@
 //! Snapshots, which go on in the same stream.
 
-use super::given::assert_runs;
-use std::test::Fail;
+use super::given::assert_all_run;
 
 // The task as it was made.
 const NEW: &str =
@@ -38,9 +37,6 @@ const SNAPSHOTS: [(&str, &[u8], &str, &[&str]); 4] = [
 ];
 
 #[test]
-fn a_snapshot_tells_all_and_takes_the_next_number(rt: HostRuntime) -> Result<(), Fail> {
-    for (case, script, fault, lines) in SNAPSHOTS {
-        assert_runs(&rt, case, script, fault, lines)?;
-    }
-    Ok(())
+fn a_snapshot_tells_all_and_takes_the_next_number(rt: HostRuntime) {
+    assert_all_run(&rt, SNAPSHOTS.as_slice());
 }

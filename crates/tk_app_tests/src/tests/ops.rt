@@ -1,7 +1,6 @@
 //! Async operations, as lines tell them, and the calls of their owners.
 
-use super::given::assert_runs;
-use std::test::Fail;
+use super::given::{assert_all_stop, assert_are_bad, assert_runs};
 
 // A task, a resource and an operation on it, of which nothing was called.
 const NEW: &str =
@@ -19,14 +18,14 @@ const CALLED: &[u8] =
     b"task 1 spawn a\nresource 2 K T\nop 3 1 T::wait n=7 b=true\npublish 50\noptask 1 1\nopstart 1 51\noadd 1 0 5\nosub 1 0 3\noset 1 1 false\nopend 1 56\npublish 60\nopstart 1 61\nopend 1 62\nopclose 1 69\npublish 70\n";
 
 #[test]
-fn operations_are_told(rt: HostRuntime) -> Result<(), Fail> {
+fn operations_are_told(rt: HostRuntime) {
     assert_runs(
         &rt,
         "an operation and its calls",
         CALLED,
         "",
         &[NEW, POLLED, CLOSED],
-    )
+    );
 }
 
 // What `op` and `optask` merely name may be closed.
@@ -34,8 +33,8 @@ const NAMED: &[u8] =
     b"task 1 spawn a\nresource 2 K T\nclose 1 3\nrclose 1 4\nop 5 1 wait\noptask 1 1\n";
 
 #[test]
-fn what_is_merely_named_may_be_closed(rt: HostRuntime) -> Result<(), Fail> {
-    assert_runs(&rt, "a closed task and a closed resource", NAMED, "", &[])
+fn what_is_merely_named_may_be_closed(rt: HostRuntime) {
+    assert_runs(&rt, "a closed task and a closed resource", NAMED, "", &[]);
 }
 
 // Each script stops at its last line.
@@ -63,11 +62,8 @@ const REFUSED: [(&str, &[u8], &str); 19] = [
 ];
 
 #[test]
-fn an_operation_is_there_and_takes_the_call(rt: HostRuntime) -> Result<(), Fail> {
-    for (case, script, fault) in REFUSED {
-        assert_runs(&rt, case, script, fault, &[])?;
-    }
-    Ok(())
+fn an_operation_is_there_and_takes_the_call(rt: HostRuntime) {
+    assert_all_stop(&rt, REFUSED.as_slice());
 }
 
 // Lines that are no command: words that are missing, too many or out of range, and attributes.
@@ -79,10 +75,6 @@ const BAD: [&[u8]; 24] = [
 ];
 
 #[test]
-fn operations_have_their_words(rt: HostRuntime) -> Result<(), Fail> {
-    for line in BAD {
-        let case = str::from_utf8(line).unwrap_or("a line that is no text");
-        assert_runs(&rt, case, line, "line 1: BadCommand", &[])?;
-    }
-    Ok(())
+fn operations_have_their_words(rt: HostRuntime) {
+    assert_are_bad(&rt, BAD.as_slice());
 }

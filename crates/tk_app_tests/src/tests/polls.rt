@@ -1,7 +1,6 @@
 //! Poll operations, and a script with an item of each kind.
 
-use super::given::assert_runs;
-use std::test::Fail;
+use super::given::{assert_all_stop, assert_are_bad, assert_runs};
 
 const WORKED: &[u8] =
     b"task 10 spawn worker\nresource 20 Sync Semaphore permits=5 closed=false\nop 30 1 Semaphore::acquire\noptask 1 1\nopstart 1 40\nrsub 1 0 2\nopend 1 45\npollop 1 1 1 poll_acquire ready\npublish 50\n";
@@ -10,8 +9,8 @@ const WORKED_LINE: &str =
     r#"{"dropped":[0,0,0],"new_ops":[{"attrs":[],"id":1099511627777,"parent":null,"resource":1099511627777,"source":"Semaphore::acquire"}],"new_resources":[{"attrs":[["permits",null,"u64"],["closed",null,"bool"]],"id":1099511627777,"kind":"Sync","loc":["script",2,1],"parent":null,"type":"Semaphore"}],"new_tasks":[{"id":1099511627777,"kind":"spawn","loc":["script",1,1],"name":"worker"}],"now":50,"op_stats":[{"attrs":[],"busy":5,"created":30,"dropped":null,"first_poll":40,"handles":1,"id":1099511627777,"last_ended":45,"last_started":40,"polling":false,"polls":1,"task":1099511627777}],"poll_counts":[[1099511627777,1,0]],"resource_stats":[{"attrs":[3,false],"created":20,"dropped":null,"handles":2,"id":1099511627777}],"seq":1,"snapshot":false,"task_stats":[{"busy":0,"clones":0,"created":10,"dropped":null,"drops":0,"first_poll":null,"handles":1,"id":1099511627777,"last_ended":null,"last_started":null,"last_wake":null,"polling":false,"polls":0,"sched":0,"scheduled":true,"self_wakes":0,"wakes":0}],"v":1}"#;
 
 #[test]
-fn an_item_of_each_kind_is_told(rt: HostRuntime) -> Result<(), Fail> {
-    assert_runs(&rt, "an item of each kind", WORKED, "", &[WORKED_LINE])
+fn an_item_of_each_kind_is_told(rt: HostRuntime) {
+    assert_runs(&rt, "an item of each kind", WORKED, "", &[WORKED_LINE]);
 }
 
 // Two resources: the second is polled first, so its counts stand first. What is closed is polled all the same.
@@ -28,8 +27,8 @@ const THIRD: &str =
     r#"{"dropped":[0,0,0],"new_ops":[],"new_resources":[],"new_tasks":[],"now":8,"op_stats":[],"poll_counts":[],"resource_stats":[],"seq":3,"snapshot":false,"task_stats":[],"v":1}"#;
 
 #[test]
-fn poll_operations_are_counted(rt: HostRuntime) -> Result<(), Fail> {
-    assert_runs(&rt, "two resources", COUNTED, "", &[FIRST, SECOND, THIRD])
+fn poll_operations_are_counted(rt: HostRuntime) {
+    assert_runs(&rt, "two resources", COUNTED, "", &[FIRST, SECOND, THIRD]);
 }
 
 // Each script stops at its last line.
@@ -45,11 +44,8 @@ const REFUSED: [(&str, &[u8], &str); 7] = [
 ];
 
 #[test]
-fn what_a_poll_operation_names_was_made(rt: HostRuntime) -> Result<(), Fail> {
-    for (case, script, fault) in REFUSED {
-        assert_runs(&rt, case, script, fault, &[])?;
-    }
-    Ok(())
+fn what_a_poll_operation_names_was_made(rt: HostRuntime) {
+    assert_all_stop(&rt, REFUSED.as_slice());
 }
 
 // Lines that are no command.
@@ -60,10 +56,6 @@ const BAD: [&[u8]; 9] = [
 ];
 
 #[test]
-fn poll_operations_have_their_words(rt: HostRuntime) -> Result<(), Fail> {
-    for line in BAD {
-        let case = str::from_utf8(line).unwrap_or("a line that is no text");
-        assert_runs(&rt, case, line, "line 1: BadCommand", &[])?;
-    }
-    Ok(())
+fn poll_operations_have_their_words(rt: HostRuntime) {
+    assert_are_bad(&rt, BAD.as_slice());
 }

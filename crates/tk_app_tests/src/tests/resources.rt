@@ -1,7 +1,6 @@
 //! Resources, as lines tell them, and the calls of their owners and users.
 
-use super::given::assert_runs;
-use std::test::Fail;
+use super::given::{assert_all_stop, assert_all_write, assert_are_bad};
 
 // A resource with two attributes, of which its user changed one.
 const NEW: &str =
@@ -30,11 +29,8 @@ const LINES: [(&str, &[u8], &[&str]); 3] = [
 ];
 
 #[test]
-fn resources_are_told(rt: HostRuntime) -> Result<(), Fail> {
-    for (case, script, lines) in LINES {
-        assert_runs(&rt, case, script, "", lines)?;
-    }
-    Ok(())
+fn resources_are_told(rt: HostRuntime) {
+    assert_all_write(&rt, LINES.as_slice());
 }
 
 // Each script stops at its last line.
@@ -61,11 +57,8 @@ const REFUSED: [(&str, &[u8], &str); 18] = [
 ];
 
 #[test]
-fn a_resource_is_there_and_takes_the_change(rt: HostRuntime) -> Result<(), Fail> {
-    for (case, script, fault) in REFUSED {
-        assert_runs(&rt, case, script, fault, &[])?;
-    }
-    Ok(())
+fn a_resource_is_there_and_takes_the_change(rt: HostRuntime) {
+    assert_all_stop(&rt, REFUSED.as_slice());
 }
 
 // Lines that are no command: words that are missing, too many or out of range, and attributes.
@@ -79,10 +72,6 @@ const BAD: [&[u8]; 32] = [
 ];
 
 #[test]
-fn resources_have_their_words(rt: HostRuntime) -> Result<(), Fail> {
-    for line in BAD {
-        let case = str::from_utf8(line).unwrap_or("a line that is no text");
-        assert_runs(&rt, case, line, "line 1: BadCommand", &[])?;
-    }
-    Ok(())
+fn resources_have_their_words(rt: HostRuntime) {
+    assert_are_bad(&rt, BAD.as_slice());
 }

@@ -1,0 +1,247 @@
+//! Streams with a fault, fed whole and byte by byte.
+
+use super::given::{
+    Came, both, empty_line, fed, fed_in_pieces, first_line, holds, line_of, opened_line, text_of,
+};
+use super::texts as text;
+use std::alloc::Global;
+use tk_client::Client;
+
+const ALLOWED: usize = 16_777_216;
+
+// Whether the bytes come to this, whole and byte by byte, whether the tables are then those of that text, whether the client
+// then answers `Failed`, and whether it takes line 1 after a restart.
+fn comes(
+    alloc: Global,
+    client: &mut Client,
+    bytes: &[u8],
+    wanted: Came,
+    tables: &[u8],
+    first: &[u8],
+) -> bool {
+    let whole = fed(client, bytes);
+    let stays = holds(alloc, client, tables);
+    let failed = fed(client, bytes);
+    client.restart();
+    let bytewise = fed_in_pieces(client, bytes, 1);
+    client.restart();
+    let again = fed(client, first);
+    whole == wanted
+        && bytewise == wanted
+        && stays
+        && failed.code == 9
+        && failed.lines == 0
+        && failed.used == 0
+        && again.code == 0
+        && again.lines == 1
+}
+
+fn new_client_comes(
+    alloc: Global,
+    bytes: &[u8],
+    wanted: Came,
+    tables: &[u8],
+    first: &[u8],
+) -> bool {
+    match Client::new(alloc, ALLOWED) {
+        Ok(mut client) => comes(alloc, &mut client, bytes, wanted, tables, first),
+        Err(_) => false,
+    }
+}
+
+fn comes_to_tables(alloc: Global, bytes: &[u8], wanted: Came, tables: &[u8]) -> bool {
+    match empty_line(alloc, "1") {
+        Some(first) => new_client_comes(alloc, bytes, wanted, tables, &first),
+        None => false,
+    }
+}
+
+// The text of the tables of these lines.
+fn tables_of(alloc: Global, lines: &[u8]) -> Option<Vec<u8>> {
+    match Client::new(alloc, ALLOWED) {
+        Ok(mut client) => {
+            let _came = fed(&mut client, lines);
+            text_of(alloc, client.tables())
+        }
+        Err(_) => None,
+    }
+}
+
+fn comes_behind(alloc: Global, bytes: &[u8], wanted: Came, before: &[u8]) -> bool {
+    match tables_of(alloc, before) {
+        Some(tables) => comes_to_tables(alloc, bytes, wanted, &tables),
+        None => false,
+    }
+}
+
+// Whether these bytes come to this fault, with the tables of the lines before it.
+fn faults(alloc: Global, bytes: Option<Vec<u8>>, code: u32, lines: u64, before: &[u8]) -> bool {
+    match bytes {
+        Some(bytes) => {
+            let wanted = Came {
+                code,
+                lines,
+                used: bytes.len(),
+            };
+            comes_behind(alloc, &bytes, wanted, before)
+        }
+        None => false,
+    }
+}
+
+fn is_no_json(client: &mut Client, bytes: &[u8]) -> bool {
+    let wanted = Came {
+        code: 2,
+        lines: 0,
+        used: bytes.len(),
+    };
+    client.restart();
+    let whole = fed(client, bytes);
+    client.restart();
+    let bytewise = fed_in_pieces(client, bytes, 1);
+    whole == wanted && bytewise == wanted
+}
+
+fn front_is_no_json(alloc: Global, client: &mut Client, front: &[u8]) -> bool {
+    match both(alloc, front, b"\n") {
+        Some(bytes) => is_no_json(client, &bytes),
+        None => false,
+    }
+}
+
+// Whether a line end behind each front of a line is no JSON.
+fn no_front_is_json(alloc: Global, client: &mut Client, line: &[u8]) -> bool {
+    for n in 0..line.len() {
+        if n + 1 < line.len() && !front_is_no_json(alloc, client, &line[..n]) {
+            return false;
+        }
+    }
+    true
+}
+
+fn new_client_finds_no_json(alloc: Global, line: &[u8]) -> bool {
+    match Client::new(alloc, ALLOWED) {
+        Ok(mut client) => no_front_is_json(alloc, &mut client, line),
+        Err(_) => false,
+    }
+}
+
+#[test]
+fn fronts_are_no_json(rt: HostRuntime) {
+    match first_line(rt.alloc()) {
+        Some(line) => assert!(rt; new_client_finds_no_json(rt.alloc(), &line)),
+        None => assert!(rt; false, "no line"),
+    }
+}
+
+// Line 2 behind a front of a line.
+fn with_second(alloc: Global, front: &[u8]) -> Option<Vec<u8>> {
+    match empty_line(alloc, "2") {
+        Some(second) => both(alloc, front, &second),
+        None => None,
+    }
+}
+
+fn without_end_between(alloc: Global) -> Option<Vec<u8>> {
+    match empty_line(alloc, "1") {
+        Some(first) => with_second(alloc, &first[..first.len().saturating_sub(1)]),
+        None => None,
+    }
+}
+
+#[test]
+fn lines_that_run_together_are_no_json(rt: HostRuntime) {
+    let bytes = without_end_between(rt.alloc());
+    assert!(rt; faults(rt.alloc(), bytes, 2, 0, b""));
+}
+
+fn of_version_3(alloc: Global) -> Option<Vec<u8>> {
+    match empty_line(alloc, "1") {
+        Some(first) => both(alloc, &first[..first.len().saturating_sub(3)], b"3}\n"),
+        None => None,
+    }
+}
+
+#[test]
+fn other_shapes_are_no_lines(rt: HostRuntime) {
+    let alloc = rt.alloc();
+    assert!(rt; faults(alloc, empty_line(alloc, "0"), 3, 0, b""));
+    assert!(rt; faults(alloc, empty_line(alloc, "1,\"x\":0"), 3, 0, b""));
+    assert!(rt; faults(alloc, of_version_3(alloc), 3, 0, b""));
+}
+
+// Whether the first line twice comes to a gap.
+fn repeated_line_is_gap(alloc: Global, first: &[u8]) -> bool {
+    faults(alloc, both(alloc, first, first), 4, 1, first)
+}
+
+// The number comes before the ids: the late line also tells of an unknown item.
+#[test]
+fn gaps_are_faults(rt: HostRuntime) {
+    let alloc = rt.alloc();
+    match first_line(alloc) {
+        Some(first) => assert!(rt; repeated_line_is_gap(alloc, &first)),
+        None => assert!(rt; false, "no line"),
+    }
+    let late = opened_line(alloc, "3", "false", "5", "[]");
+    assert!(rt; faults(alloc, late, 4, 0, b""));
+}
+
+// Line 2, which makes the first line's task again, behind that.
+fn with_task_again(alloc: Global, first: &[u8]) -> Option<Vec<u8>> {
+    match opened_line(alloc, "2", "false", "200", text::main_task()) {
+        Some(again) => both(alloc, first, &again),
+        None => None,
+    }
+}
+
+fn repeats_task(alloc: Global, first: &[u8]) -> bool {
+    faults(alloc, with_task_again(alloc, first), 6, 1, first)
+}
+
+#[test]
+fn ids_and_statistics_must_fit(rt: HostRuntime) {
+    let alloc = rt.alloc();
+    match first_line(alloc) {
+        Some(first) => assert!(rt; repeats_task(alloc, &first)),
+        None => assert!(rt; false, "no line"),
+    }
+    let unknown = opened_line(alloc, "1", "false", "200", "[]");
+    assert!(rt; faults(alloc, unknown, 5, 0, b""));
+    let misfit = line_of(alloc, "1", "false", "200", text::main_task(), "[]");
+    assert!(rt; faults(alloc, misfit, 8, 0, b""));
+}
+
+// Whether each of these comes to the eleventh byte, and leaves empty tables. A restart keeps the limit.
+fn are_too_long(client: &mut Client, line: &[u8]) -> bool {
+    let wanted = Came {
+        code: 7,
+        lines: 0,
+        used: 11,
+    };
+    let whole = fed(client, b"aaaaaaaaaaa");
+    client.restart();
+    let bytewise = fed_in_pieces(client, b"aaaaaaaaaaa", 1);
+    client.restart();
+    let again = fed(client, line);
+    whole == wanted
+        && bytewise == wanted
+        && again == wanted
+        && client.tables().task_count() == 0
+        && client.tables().now() == 0
+}
+
+fn are_too_long_for_new_client(alloc: Global, line: &[u8]) -> bool {
+    match Client::new(alloc, 10) {
+        Ok(mut client) => are_too_long(&mut client, line),
+        Err(_) => false,
+    }
+}
+
+#[test]
+fn long_lines_stop_at_the_first_byte_too_many(rt: HostRuntime) {
+    match empty_line(rt.alloc(), "1") {
+        Some(line) => assert!(rt; are_too_long_for_new_client(rt.alloc(), &line)),
+        None => assert!(rt; false, "no line"),
+    }
+}
