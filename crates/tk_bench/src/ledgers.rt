@@ -215,15 +215,19 @@ pub(crate) fn on_own_tasks<R: Wait + Threads + Clock + Sync>(
     time_of(rt, jobs_alone(rt, alloc, call, threads)?, times)
 }
 
-/// The nanoseconds of so many wakes of a row alone, which no one shares.
+/// The nanoseconds of so many wakes of a row alone, which no one shares, at moments that no compiler foresees.
 pub(crate) fn on_a_row<R: Clock>(rt: &R, times: u64) -> Result<u64, BenchError> {
     let start = Instant::now(rt)?;
     let mut row = TaskRow::opening(0);
-    for moment in 0..times {
-        row = row.step(TaskCall::WakeRef(moment, false)).0;
+    let mut moment = 1u64;
+    for _ in 0..times {
+        moment = moment
+            .wrapping_mul(6364136223846793005)
+            .wrapping_add(1442695040888963407);
+        row = row.step(TaskCall::WakeRef(moment, moment % 3 == 0)).0;
     }
     let nanos = nanos_since(rt, &start)?;
-    if row.wakes == times {
+    if row.wakes == times && row.self_wakes < times && row.last_wake > Some(times) {
         Ok(nanos)
     } else {
         Err(BenchError::Refused)
