@@ -1,0 +1,317 @@
+//! Lines of a stream: made, written, and fed to a client.
+
+use crate::error::BenchError;
+use crate::rounds::{ROUNDS, nanos_since};
+use serde_json::Value;
+use std::alloc::Global;
+use std::time::{Clock, Instant};
+use tk_client::Client;
+use tk_core::{TaskCall, TaskRow};
+use tk_ids::{Location, Name, TaskId, TaskInfo, TaskKind};
+use tk_stream::{Line, Tables};
+
+// The id of the first task.
+const FIRST: u64 = 1099511627777;
+
+// Longer than any line here.
+const MAX_LINE: usize = 1 << 30;
+
+/// A part of a line's way.
+#[derive(Clone, Copy, Drop, PartialEq, Eq)]
+pub(crate) enum Part {
+    /// The tables are compared.
+    Between,
+    /// The text is made.
+    Write,
+    /// The text is made of a JSON value, by the library alone.
+    JsonWrite,
+    /// A client takes the text.
+    Feed,
+    /// A JSON value is read of the text, by the library alone.
+    JsonRead,
+}
+
+impl Part {
+    pub(crate) fn name(self) -> &'static str {
+        match self {
+            Part::Between => "made",
+            Part::Write => "written",
+            Part::JsonWrite => "written as JSON alone",
+            Part::Feed => "fed",
+            Part::JsonRead => "read as JSON alone",
+        }
+    }
+}
+
+/// What the parts of a line's way took, in nanoseconds, and how long its text is.
+#[derive(Clone, Copy, Drop)]
+pub(crate) struct LineTimes {
+    pub(crate) bytes: u64,
+    between: u64,
+    write: u64,
+    json_write: u64,
+    feed: u64,
+    json_read: u64,
+}
+
+impl LineTimes {
+    pub(crate) fn of(&self, part: Part) -> u64 {
+        match part {
+            Part::Between => self.between,
+            Part::Write => self.write,
+            Part::JsonWrite => self.json_write,
+            Part::Feed => self.feed,
+            Part::JsonRead => self.json_read,
+        }
+    }
+}
+
+fn name_of(alloc: Global, bytes: &[u8]) -> Result<Name, BenchError> {
+    match Name::new(alloc, bytes) {
+        Ok(name) => Ok(name),
+        Err(_) => Err(BenchError::Memory),
+    }
+}
+
+fn location(alloc: Global) -> Result<Location, BenchError> {
+    Ok(Location {
+        file: name_of(alloc, b"src/server/connection.rs")?,
+        line: 120,
+        column: 17,
+    })
+}
+
+fn info_of(alloc: Global, id: TaskId) -> Result<TaskInfo, BenchError> {
+    let name = name_of(alloc, b"connection")?;
+    let location = location(alloc)?;
+    Ok(TaskInfo {
+        id,
+        kind: TaskKind::Spawn,
+        name,
+        location,
+    })
+}
+
+fn id_above(above: u64) -> Result<TaskId, BenchError> {
+    match TaskId::from_value(FIRST.saturating_add(above)) {
+        Ok(id) => Ok(id),
+        Err(_) => Err(BenchError::Refused),
+    }
+}
+
+// A task that was woken and polled once, by moments of a server that runs for a day.
+fn row_of(created: u64) -> TaskRow {
+    let row = TaskRow::opening(created);
+    let row = row.step(TaskCall::WakeRef(86_400_000_000_000, false)).0;
+    let row = row.step(TaskCall::PollStart(86_400_000_010_000)).0;
+    row.step(TaskCall::PollEnd(86_400_000_350_000)).0
+}
+
+fn put_task(alloc: Global, tables: &mut Tables, above: u64) -> Result<(), BenchError> {
+    let info = info_of(alloc, id_above(above)?)?;
+    if tables.task(info.id).is_some() {
+        return Err(BenchError::Refused);
+    }
+    match tables.add_task(info, row_of(above)) {
+        Ok(()) => Ok(()),
+        Err(_) => Err(BenchError::Memory),
+    }
+}
+
+/// Tables with so many tasks.
+pub(crate) fn tables_of(alloc: Global, tasks: u64) -> Result<Tables, BenchError> {
+    let mut tables = Tables::new(alloc)?;
+    for above in 0..tasks {
+        put_task(alloc, &mut tables, above)?;
+    }
+    Ok(tables)
+}
+
+// Changes one row of so many.
+fn change(tables: &mut Tables, every: usize) {
+    for i in 0..tables.task_count() {
+        if every != 0 && i % every == 0 && i < tables.task_count() {
+            tables.set_task(i, row_of(u64::MAX / 2));
+        }
+    }
+}
+
+/// The tables with one row of so many changed.
+pub(crate) fn changed(old: &Tables, every: usize) -> Result<Tables, BenchError> {
+    match old.copy() {
+        Ok(mut tables) => {
+            change(&mut tables, every);
+            Ok(tables)
+        }
+        Err(_) => Err(BenchError::Memory),
+    }
+}
+
+fn line_between(alloc: Global, old: &Tables, new: &Tables, seq: u64) -> Result<Line, BenchError> {
+    if seq == 0 || seq > 1 << 63 {
+        return Err(BenchError::Refused);
+    }
+    match Line::between(alloc, old, new, seq, false) {
+        Ok(line) => Ok(line),
+        Err(_) => Err(BenchError::Memory),
+    }
+}
+
+fn ended(mut text: Vec<u8>) -> Result<Vec<u8>, BenchError> {
+    match text.push(b'\n') {
+        Ok(()) => Ok(text),
+        Err(_) => Err(BenchError::Memory),
+    }
+}
+
+// The text of a line and its end.
+fn ended_text(line: &Line) -> Result<Vec<u8>, BenchError> {
+    match line.write() {
+        Ok(text) => ended(text),
+        Err(_) => Err(BenchError::Memory),
+    }
+}
+
+fn text_between(
+    alloc: Global,
+    old: &Tables,
+    new: &Tables,
+    seq: u64,
+) -> Result<Vec<u8>, BenchError> {
+    match line_between(alloc, old, new, seq) {
+        Ok(line) => ended_text(&line),
+        Err(error) => Err(error),
+    }
+}
+
+fn first_text(alloc: Global, tables: &Tables) -> Result<Vec<u8>, BenchError> {
+    match Tables::new(alloc) {
+        Ok(empty) => text_between(alloc, &empty, tables, 1),
+        Err(_) => Err(BenchError::Memory),
+    }
+}
+
+// The nanoseconds in which the value is written. Its text is shorter than a line by the line end.
+fn json_write_time<R: Clock>(
+    rt: &R,
+    alloc: Global,
+    value: &Value,
+    bytes: usize,
+) -> Result<u64, BenchError> {
+    let start = Instant::now(rt)?;
+    let text = value.to_vec(alloc)?;
+    let nanos = nanos_since(rt, &start)?;
+    if text.len() < bytes {
+        Ok(nanos)
+    } else {
+        Err(BenchError::Refused)
+    }
+}
+
+// The nanoseconds in which a JSON value is read of the text, and in which it is written.
+fn json_times<R: Clock>(rt: &R, alloc: Global, text: &[u8]) -> Result<(u64, u64), BenchError> {
+    let start = Instant::now(rt)?;
+    let Ok(value) = Value::from_slice(alloc, text) else {
+        return Err(BenchError::Refused);
+    };
+    let read = nanos_since(rt, &start)?;
+    let write = json_write_time(rt, alloc, &value, text.len())?;
+    Ok((read, write))
+}
+
+/// A client, and the number of the next line.
+#[derive(Drop)]
+pub(crate) struct Stream {
+    client: Client,
+    seq: u64,
+}
+
+impl Stream {
+    fn new(alloc: Global) -> Result<Stream, BenchError> {
+        match Client::new(alloc, MAX_LINE) {
+            Ok(client) => Ok(Stream { client, seq: 2 }),
+            Err(_) => Err(BenchError::Memory),
+        }
+    }
+
+    // A stream whose client has taken the text of a first line, its bytes, and the nanoseconds of the feed.
+    fn fed<R: Clock>(rt: &R, alloc: Global, text: &[u8]) -> Result<(Stream, u64, u64), BenchError> {
+        let mut stream = Stream::new(alloc)?;
+        let feed = stream.feed(rt, text)?;
+        Ok((stream, text.len() as u64, feed))
+    }
+
+    /// A client that has taken a first line with all of the tables, the line's bytes, and the nanoseconds of the feed.
+    pub(crate) fn of<R: Clock>(
+        rt: &R,
+        alloc: Global,
+        tables: &Tables,
+    ) -> Result<(Stream, u64, u64), BenchError> {
+        match first_text(alloc, tables) {
+            Ok(text) => Stream::fed(rt, alloc, &text),
+            Err(error) => Err(error),
+        }
+    }
+
+    fn feed<R: Clock>(&mut self, rt: &R, text: &[u8]) -> Result<u64, BenchError> {
+        let start = Instant::now(rt)?;
+        if self.client.feed(text).is_err() {
+            return Err(BenchError::Refused);
+        }
+        nanos_since(rt, &start)
+    }
+
+    // Makes the line between the tables, writes it and feeds it.
+    fn line<R: Clock>(
+        &mut self,
+        rt: &R,
+        alloc: Global,
+        old: &Tables,
+        new: &Tables,
+    ) -> Result<LineTimes, BenchError> {
+        let start = Instant::now(rt)?;
+        let line = line_between(alloc, old, new, self.seq)?;
+        let between = nanos_since(rt, &start)?;
+        self.seq = self.seq.saturating_add(1);
+        self.write(rt, alloc, &line, between)
+    }
+
+    fn write<R: Clock>(
+        &mut self,
+        rt: &R,
+        alloc: Global,
+        line: &Line,
+        between: u64,
+    ) -> Result<LineTimes, BenchError> {
+        let start = Instant::now(rt)?;
+        let text = ended_text(line)?;
+        let write = nanos_since(rt, &start)?;
+        let (json_read, json_write) = json_times(rt, alloc, &text)?;
+        let feed = self.feed(rt, &text)?;
+        Ok(LineTimes {
+            bytes: text.len() as u64,
+            between,
+            write,
+            json_write,
+            feed,
+            json_read,
+        })
+    }
+
+    /// Lines from the old tables to the new and back, the first of which isn't told, so that the client ends where it began.
+    pub(crate) fn rounds<R: Clock>(
+        &mut self,
+        rt: &R,
+        alloc: Global,
+        old: &Tables,
+        new: &Tables,
+    ) -> Result<[LineTimes; ROUNDS], BenchError> {
+        self.line(rt, alloc, old, new)?;
+        let first = self.line(rt, alloc, new, old)?;
+        let second = self.line(rt, alloc, old, new)?;
+        let third = self.line(rt, alloc, new, old)?;
+        let fourth = self.line(rt, alloc, old, new)?;
+        let fifth = self.line(rt, alloc, new, old)?;
+        Ok([first, second, third, fourth, fifth])
+    }
+}

@@ -1,0 +1,338 @@
+//! What is measured, and the tables that tell of it.
+
+use crate::error::BenchError;
+use crate::ledgers::{Call, on_a_row, on_one_task, on_own_tasks};
+use crate::lines::{LineTimes, Part, Stream, changed, tables_of};
+use crate::rounds::{ROUNDS, Rounds};
+use crate::scripts::{script_of, time_of};
+use std::alloc::Global;
+use std::io::Write;
+use std::sync::Wait;
+use std::thread::Threads;
+use std::time::Clock;
+use tk_stream::Tables;
+
+/// Calls of tasks that are measured.
+#[derive(Clone, Copy, Drop, PartialEq, Eq)]
+enum Measure {
+    Wakes,
+    WakesOfOneTask,
+    Polls,
+    Clones,
+    ClonesOfOneTask,
+}
+
+const MEASURES: [Measure; 5] = [
+    Measure::Wakes,
+    Measure::WakesOfOneTask,
+    Measure::Polls,
+    Measure::Clones,
+    Measure::ClonesOfOneTask,
+];
+
+impl Measure {
+    fn name(self) -> &'static str {
+        match self {
+            Measure::Wakes => "a wake, each thread its own task",
+            Measure::WakesOfOneTask => "a wake, all threads one task",
+            Measure::Polls => "a poll, its start and its end, each thread its own task",
+            Measure::Clones => "a waker's clone and release, each thread its own task",
+            Measure::ClonesOfOneTask => "a waker's clone and release, all threads one task",
+        }
+    }
+
+    // The nanoseconds in which so many threads do it so often each.
+    fn nanos<R: Wait + Threads + Clock + Sync>(
+        self,
+        rt: &R,
+        alloc: Global,
+        threads: u64,
+        times: u64,
+    ) -> Result<u64, BenchError> {
+        match self {
+            Measure::Wakes => on_own_tasks(rt, alloc, Some(Call::Wake), threads, times),
+            Measure::WakesOfOneTask => on_one_task(rt, alloc, Call::Wake, threads, times),
+            Measure::Polls => on_own_tasks(rt, alloc, None, threads, times),
+            Measure::Clones => on_own_tasks(rt, alloc, Some(Call::Clone), threads, times),
+            Measure::ClonesOfOneTask => on_one_task(rt, alloc, Call::Clone, threads, times),
+        }
+    }
+
+    fn rounds<R: Wait + Threads + Clock + Sync>(
+        self,
+        rt: &R,
+        alloc: Global,
+        threads: u64,
+        times: u64,
+    ) -> Result<Rounds, BenchError> {
+        let mut nanos = [0u64; ROUNDS];
+        for round in &mut nanos {
+            *round = self.nanos(rt, alloc, threads, times)?;
+        }
+        Ok(Rounds::new(nanos))
+    }
+}
+
+// A quotient, and its first digit behind the point.
+fn tenths(above: u64, below: u64) -> (u64, u64) {
+    let all = above.saturating_mul(10).checked_div(below).unwrap_or(0);
+    (all / 10, all % 10)
+}
+
+fn row_rounds<R: Clock>(rt: &R, times: u64) -> Result<Rounds, BenchError> {
+    let mut nanos = [0u64; ROUNDS];
+    for round in &mut nanos {
+        *round = on_a_row(rt, times)?;
+    }
+    Ok(Rounds::new(nanos))
+}
+
+// One row of the table of calls: nanoseconds of a call, and how often that of a row alone they are.
+fn write_calls<W: Write>(
+    out: &mut W,
+    name: &str,
+    threads: u64,
+    rounds: &Rounds,
+    times: u64,
+    alone: u64,
+) -> Result<(), BenchError> {
+    let (least, least_tenth) = tenths(rounds.least(), times);
+    let (median, median_tenth) = tenths(rounds.median(), times);
+    let (most, most_tenth) = tenths(rounds.most(), times);
+    let (ratio, ratio_tenth) = tenths(rounds.median(), alone);
+    writeln!(
+        out,
+        "| {name} | {threads} | {least}.{least_tenth} | {median}.{median_tenth} | {most}.{most_tenth} | {ratio}.{ratio_tenth} |"
+    )?;
+    Ok(())
+}
+
+fn calls<R: Wait + Threads + Clock + Sync, W: Write>(
+    rt: &R,
+    alloc: Global,
+    out: &mut W,
+    times: u64,
+) -> Result<(), BenchError> {
+    writeln!(
+        out,
+        "| nanoseconds of | threads | least | median | most | times a row's |"
+    )?;
+    writeln!(out, "|---|---|---|---|---|---|")?;
+    let row = row_rounds(rt, times)?;
+    let alone = row.median();
+    write_calls(out, "a wake of a row alone", 1, &row, times, alone)?;
+    for measure in MEASURES {
+        for threads in [1u64, 2, 4] {
+            let rounds = measure.rounds(rt, alloc, threads, times)?;
+            write_calls(out, measure.name(), threads, &rounds, times, alone)?;
+        }
+    }
+    Ok(())
+}
+
+// Megabytes in a second.
+fn rate(bytes: u64, nanos: u64) -> (u64, u64) {
+    tenths(bytes.saturating_mul(1000), nanos)
+}
+
+fn write_rate<W: Write>(
+    out: &mut W,
+    what: &str,
+    tasks: usize,
+    every: usize,
+    bytes: u64,
+    rounds: &Rounds,
+) -> Result<(), BenchError> {
+    let (least, least_tenth) = rate(bytes, rounds.most());
+    let (median, median_tenth) = rate(bytes, rounds.median());
+    let (most, most_tenth) = rate(bytes, rounds.least());
+    let (millis, millis_tenth) = tenths(rounds.median(), 1_000_000);
+    writeln!(
+        out,
+        "| {what} | {tasks} | {every} | {bytes} | {millis}.{millis_tenth} | {least}.{least_tenth} | {median}.{median_tenth} | {most}.{most_tenth} |"
+    )?;
+    Ok(())
+}
+
+// A round's nanoseconds for each part of a line's way.
+fn part_rounds(times: &[LineTimes; ROUNDS], part: Part) -> Rounds {
+    let mut nanos = [0u64; ROUNDS];
+    for (i, round) in nanos.iter_mut().enumerate() {
+        if let Some(each) = times.get(i) {
+            *round = each.of(part);
+        }
+    }
+    Rounds::new(nanos)
+}
+
+const PARTS: [Part; 5] = [
+    Part::Between,
+    Part::Write,
+    Part::JsonWrite,
+    Part::Feed,
+    Part::JsonRead,
+];
+
+// Lines between tables that differ in one row of so many.
+fn lines_between<R: Clock, W: Write>(
+    rt: &R,
+    alloc: Global,
+    out: &mut W,
+    stream: &mut Stream,
+    old: &Tables,
+    new: &Tables,
+    every: usize,
+) -> Result<(), BenchError> {
+    let times = stream.rounds(rt, alloc, old, new)?;
+    let bytes = times[0].bytes;
+    for part in PARTS {
+        let rounds = part_rounds(&times, part);
+        write_rate(out, part.name(), old.task_count(), every, bytes, &rounds)?;
+    }
+    Ok(())
+}
+
+fn lines_to_changed<R: Clock, W: Write>(
+    rt: &R,
+    alloc: Global,
+    out: &mut W,
+    stream: &mut Stream,
+    old: &Tables,
+    every: usize,
+) -> Result<(), BenchError> {
+    match changed(old, every) {
+        Ok(new) => lines_between(rt, alloc, out, stream, old, &new, every),
+        Err(error) => Err(error),
+    }
+}
+
+fn lines_of<R: Clock, W: Write>(
+    rt: &R,
+    alloc: Global,
+    out: &mut W,
+    tables: &Tables,
+) -> Result<(), BenchError> {
+    let (mut stream, bytes, feed) = Stream::of(rt, alloc, tables)?;
+    let once = Rounds::new([feed; ROUNDS]);
+    write_rate(
+        out,
+        "fed, all new, once",
+        tables.task_count(),
+        1,
+        bytes,
+        &once,
+    )?;
+    lines_to_changed(rt, alloc, out, &mut stream, tables, 1)?;
+    lines_to_changed(rt, alloc, out, &mut stream, tables, 100)
+}
+
+fn lines<R: Clock, W: Write>(
+    rt: &R,
+    alloc: Global,
+    out: &mut W,
+    tasks: u64,
+) -> Result<(), BenchError> {
+    match tables_of(alloc, tasks) {
+        Ok(tables) => lines_of(rt, alloc, out, &tables),
+        Err(error) => Err(error),
+    }
+}
+
+fn write_head<W: Write>(out: &mut W) -> Result<(), BenchError> {
+    writeln!(out)?;
+    writeln!(
+        out,
+        "| a line is | tasks | one row changed of | bytes | milliseconds, median | MB/s, least | median | most |"
+    )?;
+    writeln!(out, "|---|---|---|---|---|---|---|---|")?;
+    Ok(())
+}
+
+fn scripts<R: Clock, W: Write>(
+    rt: &R,
+    alloc: Global,
+    out: &mut W,
+    polls: u64,
+) -> Result<(), BenchError> {
+    let script = script_of(alloc, polls)?;
+    let mut nanos = [0u64; ROUNDS];
+    for round in &mut nanos {
+        *round = time_of(rt, alloc, &script)?.0;
+    }
+    let rounds = Rounds::new(nanos);
+    let commands = polls.saturating_mul(2).saturating_add(2);
+    writeln!(out)?;
+    writeln!(out, "| nanoseconds of | commands | least | median | most |")?;
+    writeln!(out, "|---|---|---|---|---|")?;
+    let (least, least_tenth) = tenths(rounds.least(), commands);
+    let (median, median_tenth) = tenths(rounds.median(), commands);
+    let (most, most_tenth) = tenths(rounds.most(), commands);
+    writeln!(
+        out,
+        "| a command of a script | {commands} | {least}.{least_tenth} | {median}.{median_tenth} | {most}.{most_tenth} |"
+    )?;
+    Ok(())
+}
+
+/// Measures all, and writes the tables.
+pub(crate) fn all<R: Wait + Threads + Clock + Sync, W: Write>(
+    rt: &R,
+    alloc: Global,
+    out: &mut W,
+) -> Result<(), BenchError> {
+    calls(rt, alloc, out, 200_000)?;
+    write_head(out)?;
+    lines(rt, alloc, out, 1_000)?;
+    lines(rt, alloc, out, 100_000)?;
+    scripts(rt, alloc, out, 49_999)
+}
+
+/// Does each thing once in a small size, and writes what was done.
+pub(crate) fn small<R: Wait + Threads + Clock + Sync, W: Write>(
+    rt: &R,
+    alloc: Global,
+    out: &mut W,
+) -> Result<(), BenchError> {
+    for measure in MEASURES {
+        for threads in [1u64, 2, 4] {
+            measure.nanos(rt, alloc, threads, 100)?;
+            writeln!(out, "{}, threads {threads}: 100", measure.name())?;
+        }
+    }
+    small_line(rt, alloc, out)?;
+    let script = script_of(alloc, 5)?;
+    let (_, bytes) = time_of(rt, alloc, &script)?;
+    writeln!(out, "a script of 12 commands: {bytes} bytes")?;
+    Ok(())
+}
+
+fn small_change<R: Clock, W: Write>(
+    rt: &R,
+    alloc: Global,
+    out: &mut W,
+    stream: &mut Stream,
+    tables: &Tables,
+) -> Result<(), BenchError> {
+    let new = changed(tables, 5)?;
+    let times = stream.rounds(rt, alloc, tables, &new)?;
+    writeln!(out, "a line of 2 changed tasks: {} bytes", times[0].bytes)?;
+    Ok(())
+}
+
+fn small_lines<R: Clock, W: Write>(
+    rt: &R,
+    alloc: Global,
+    out: &mut W,
+    tables: &Tables,
+) -> Result<(), BenchError> {
+    let (mut stream, bytes, _) = Stream::of(rt, alloc, tables)?;
+    writeln!(out, "a line of 10 new tasks: {bytes} bytes")?;
+    small_change(rt, alloc, out, &mut stream, tables)
+}
+
+fn small_line<R: Clock, W: Write>(rt: &R, alloc: Global, out: &mut W) -> Result<(), BenchError> {
+    match tables_of(alloc, 10) {
+        Ok(tables) => small_lines(rt, alloc, out, &tables),
+        Err(error) => Err(error),
+    }
+}
