@@ -1,15 +1,14 @@
 //! A run of the program, from its words to its status.
-ghost use Rattle.std.specs.Prelude.{◌≡◌, ◌≤◌, map};
+ghost use Rattle.std.specs.Prelude.{◌≡◌, ◌≢◌, ◌≤◌, ◌⊎◌, true, []};
 ghost use Rattle.clap.specs.Values.{kind_of};
-ghost use Rattle.taskscope.specs.Requests.{IsRun};
+ghost use Rattle.taskscope.specs.Requests.{AsksForHelp, AsksForRun, IsMistake, IsRun, is_mistake, refusals, texts};
 ghost use Rattle.taskscope.specs.Program.{status_of, RunsScript};
 
 use crate::command_line::{Request, request_of};
 use clap::Error;
 use clap::error::ErrorKind;
 use std::alloc::Global;
-use std::io;
-use std::io::{Read, Write};
+use std::io::{ErrorKind as IoErrorKind, Read, Write};
 use tk_app::{AppFault, Open, run_script};
 
 /// All was done, which may be to show help.
@@ -42,6 +41,8 @@ fn tell_outcome<E: Write>(outcome: Result<(), AppFault>, faults: &mut E) -> u8
 // What clap answers when it gives no request: help, a mistake in the words, or want of memory.
 fn answer<O: Write, E: Write>(error: Error, output: &mut O, faults: &mut E) -> u8
     ensures memory { kind_of error ≡ ErrorKind.OutOfMemory → (result ≡ FAULT) × (output.new ≡ output.old) }
+    ensures mistake { is_mistake (kind_of error) ≡ true → (result ≡ USAGE) × (output.new ≡ output.old) }
+    ensures help { kind_of error ≡ ErrorKind.DisplayHelp → result ≤ FAULT }
     ensures usage { result ≡ USAGE → output.new ≡ output.old }
     ensures status { result ≤ USAGE }
 {
@@ -59,8 +60,11 @@ fn answer<O: Write, E: Write>(error: Error, output: &mut O, faults: &mut E) -> u
 }
 
 /// Answers the status where the words of the command line can't be had: one is no text, or there is no memory for them.
-pub(crate) fn refuse_words<E: Write>(kind: io::ErrorKind, faults: &mut E) -> u8 {
-    if kind == io::ErrorKind::OutOfMemory {
+pub(crate) fn refuse_words<E: Write>(kind: IoErrorKind, faults: &mut E) -> u8
+    ensures memory { kind ≡ IoErrorKind.OutOfMemory → result ≡ FAULT }
+    ensures usage { kind ≢ IoErrorKind.OutOfMemory → result ≡ USAGE }
+{
+    if kind == IoErrorKind::OutOfMemory {
         return tell_fault(AppFault::Memory, faults);
     }
     let _ = writeln!(faults, "error: an argument is no text");
@@ -78,9 +82,16 @@ pub(crate) fn run_program<I: Read, O: Write, E: Write>(
     faults: &mut E,
 ) -> u8
     // A run reads and writes as `run_script` does, and its status is 0 exactly where there was no fault.
-    ensures run { IsRun (map (λ w. w.bytes.items) words.now)
+    ensures run { AsksForRun (texts words.now)
         → RunsScript (I.remaining input.old) (O.contents output.old) (O.contents output.new) result }
-    // Words that ask for nothing leave the input and the output as they are.
+    ensures plain { IsRun (texts words.now) → AsksForRun (texts words.now) }
+    // Other words leave the input as it is.
+    ensures unread { refusals (texts words.now) ≢ [] → input.new ≡ input.old }
+    // A mistake writes nothing to the output. Its status is 2, or 1 where memory ran out.
+    ensures mistake { IsMistake (texts words.now)
+        → (output.new ≡ output.old) × ((result ≡ USAGE) ⊎ (result ≡ FAULT)) }
+    // Help is no mistake.
+    ensures help { AsksForHelp (texts words.now) → result ≤ FAULT }
     ensures usage { result ≡ USAGE → (input.new ≡ input.old) × (output.new ≡ output.old) }
     ensures status { result ≤ USAGE }
 {

@@ -9,8 +9,9 @@ use std::test::Fail;
 
 const HELP: &str = "Shows what the tasks of an async program did, as tokio-console would.
 
-A script says which tasks there were and when each was polled. The program works out the statistics
-of each task and writes them as a stream, one JSON object a line. docs/FORMATS.md explains both.
+A script says which tasks, resources and async operations there were and what was done to each. The
+program works out their statistics and writes them as a stream, one JSON object a line.
+docs/FORMATS.md explains both.
 
 Usage: taskscope <COMMAND>
 
@@ -44,11 +45,21 @@ ask for nothing that the program does.
 const RUN_HELP: &str = "Runs a script from standard input and writes its stream to standard output.
 
 A script has one command a line, its words between single spaces:
-  task MOMENT KIND NAME  makes a task, of kind spawn or blocking; the first task is number 1
+  task MOMENT KIND NAME  makes a task, of kind spawn or blocking
   start TASK MOMENT      starts a poll of the task
+  selfwake TASK MOMENT   wakes the task from within its poll
   end TASK MOMENT        ends its poll
   close TASK MOMENT      closes the task
+  clone TASK             draws a waker from the task
+  again WAKER            draws a waker from a waker
+  wakeref WAKER MOMENT   wakes the waker's task, and keeps the waker
+  wake WAKER MOMENT      wakes it, and uses the waker up
+  release WAKER          drops the waker without a wake
   publish MOMENT         writes a line with what is new since the line before
+  snapshot MOMENT        writes a line that tells of all
+Resources have the commands resource, radd, rsub, rset and rclose, async operations op, optask,
+opstart, opend, opclose, oadd, osub, oset and pollop: docs/FORMATS.md has their words.
+Items are numbered from 1 in the order in which they are made, each kind by itself, and so are wakers.
 A moment is a number of nanoseconds. Empty lines and lines that begin with # are skipped.
 
 A script has at most 1,048,576 bytes. It stops at its first fault, and the lines before it stay.
@@ -126,8 +137,9 @@ struct Call {
 
 // Scripts, and their statuses.
 #[rattlefmt::skip]
-const RUNS: [Call; 5] = [
+const RUNS: [Call; 6] = [
     Call { case: "a script", words: &["run"], script: MAIN, status: 0, output: MAIN_LINE, faults: "" },
+    Call { case: "an end of the words", words: &["run", "--"], script: MAIN, status: 0, output: MAIN_LINE, faults: "" },
     Call { case: "an empty script", words: &["run"], script: b"", status: 0, output: "", faults: "" },
     Call { case: "a fault", words: &["run"], script: STARTED_TWICE, status: 1, output: "", faults: "fault: line 3: AlreadyPolling\n" },
     Call { case: "a fault behind a line", words: &["run"], script: STOPPED_LATER, status: 1, output: MAIN_LINE, faults: "fault: line 3: NotPolling\n" },
