@@ -1,17 +1,14 @@
 //! Calls on the ledgers of tasks, made by several threads at once.
 
 use crate::error::BenchError;
+use crate::ids::id_above;
 use crate::rounds::nanos_since;
 use std::alloc::Global;
 use std::sync::Wait;
 use std::thread::{Threads, map_vec};
 use std::time::{Clock, Instant};
 use tk_core::{TaskCall, TaskRow};
-use tk_ids::TaskId;
 use tk_ledgers::{Origin, TaskOwner, WakerHandle};
-
-// The id of the first task.
-const FIRST: u64 = 1099511627777;
 
 /// What a thread does over and over.
 #[derive(Clone, Copy, Drop, PartialEq, Eq)]
@@ -71,10 +68,7 @@ impl Job {
 }
 
 fn owner_of<R: Wait>(rt: &R, alloc: Global, above: u64) -> Result<TaskOwner, BenchError> {
-    let Ok(id) = TaskId::from_value(FIRST.saturating_add(above)) else {
-        return Err(BenchError::Refused);
-    };
-    match TaskOwner::new(rt, alloc, id, 0) {
+    match TaskOwner::new(rt, alloc, id_above(above)?, 0) {
         Ok(owner) => Ok(owner),
         Err(_) => Err(BenchError::Memory),
     }

@@ -1,6 +1,7 @@
 //! Lines of a stream: made, written, and fed to a client.
 
 use crate::error::BenchError;
+use crate::ids::id_above;
 use crate::rounds::{ROUNDS, nanos_since};
 use serde_json::Value;
 use std::alloc::Global;
@@ -9,9 +10,6 @@ use tk_client::Client;
 use tk_core::{TaskCall, TaskRow};
 use tk_ids::{Location, Name, TaskId, TaskInfo, TaskKind};
 use tk_stream::{Line, Tables};
-
-// The id of the first task.
-const FIRST: u64 = 1099511627777;
 
 // Longer than any line here.
 const MAX_LINE: usize = 1 << 30;
@@ -90,13 +88,6 @@ fn info_of(alloc: Global, id: TaskId) -> Result<TaskInfo, BenchError> {
         name,
         location,
     })
-}
-
-fn id_above(above: u64) -> Result<TaskId, BenchError> {
-    match TaskId::from_value(FIRST.saturating_add(above)) {
-        Ok(id) => Ok(id),
-        Err(_) => Err(BenchError::Refused),
-    }
 }
 
 // A task that was woken and polled once, by moments of a server that runs for a day.

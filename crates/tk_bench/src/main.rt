@@ -5,6 +5,7 @@
 #![tactic(auto)]
 
 mod error;
+mod ids;
 mod ledgers;
 mod lines;
 mod report;

@@ -9,11 +9,11 @@ pub(crate) const ROUNDS: usize = 5;
 /// How long each round took, in nanoseconds, the shortest first.
 #[derive(Clone, Copy, Drop)]
 pub(crate) struct Rounds {
-    nanos: [u64; 5],
+    nanos: [u64; ROUNDS],
 }
 
 impl Rounds {
-    pub(crate) fn new(mut nanos: [u64; 5]) -> Rounds {
+    pub(crate) fn new(mut nanos: [u64; ROUNDS]) -> Rounds {
         nanos.sort_unstable();
         Rounds { nanos }
     }

@@ -1,5 +1,5 @@
 -- What a new item is: its info, what its owner and its inspector have seen, and what agrees in its event.
-use Rattle.std.specs.Prelude.{◌≡◌, ℕ, List, [], ◌∷◌, map, Some}
+use Rattle.std.specs.Prelude.{◌≡◌, ℕ, List, [], ◌∷◌, map, Some, ⊤}
 use Rattle.tk_ids.specs.declared.attr.AttrInfo.{AttrInfo}
 use Rattle.tk_ids.specs.declared.attr.AttrKind.{AttrKind}
 use Rattle.tk_ids.specs.declared.attr.AttrSpec.{AttrSpec}
@@ -66,4 +66,4 @@ abbrev pub Agrees : Event → Type 0
 Agrees (Task info inspector) = inspector.id ≡ info.id
 Agrees (Resource info inspector) = (inspector.id ≡ info.id) × ((row : ResourceRow) × (inspector.token.view.opening ≡ Some row) × (kinds_of row.attrs ≡ kinds_told info.attrs))
 Agrees (Op info inspector) = (inspector.id ≡ info.id) × ((row : OpRow) × (inspector.token.view.opening ≡ Some row) × (kinds_of row.attrs ≡ kinds_told info.attrs))
-Agrees (Poll op) = op ≡ op
+Agrees (Poll op) = ⊤

@@ -77,8 +77,7 @@ impl<T: Item> Table<T> {
         ensures err { OnErr result (self.new ≡ self.old) }
         ensures replaced { IsSome (item_with T.id_of (T.id_of item) self.old) → IsOk result }
     {
-        let key = item.id();
-        match self.map.insert(key, item) {
+        match self.map.insert(item.id(), item) {
             Ok(_) => Ok(()),
             Err(_) => Err(AllocError),
         }

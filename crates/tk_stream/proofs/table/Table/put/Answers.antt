@@ -8,7 +8,7 @@ use Rattle.tk_stream.proofs.table.Table.put.Given.{Over}
 use Rattle.tk_stream.proofs.table.Table.put.Goals as goal
 
 entries_are : (g : Over) (c : goal.Joined-insert-2 g) → c.insert.new.self.entries ≡ insert_entry nat_eq c.self.inside.map.entries (g.T.Item.id_of c.args.item) c.args.item
-entries_are g c = c.in-Ok.ensures.entries ∙ ap (λ k. insert_entry nat_eq c.self.inside.map.entries k c.args.item) c.id-key.ensures
+entries_are g c = c.in-Ok.ensures.entries ∙ ap (λ k. insert_entry nat_eq c.self.inside.map.entries k c.args.item) c.id.ensures
 
 pub invariant_of-self : goal.invariant_of-self
 invariant_of-self g c =
@@ -24,4 +24,4 @@ returns-clause-replaced g c there =
     let id_of = g.T.Item.id_of in
     let es = c.self.inside.map.entries in
     let found = lookup-item_with id_of (id_of c.args.item) es c.self.invariant ∙ ap (item_with id_of (id_of c.args.item)) c.self.view_is in
-    sym (ap is_some (sym found ∙ ap (λ k. lookup (nat_eq k) es) (sym c.id-key.ensures) ∙ c.in-Err.ensures.absent)) ∙ there
+    sym (ap is_some (sym found ∙ ap (λ k. lookup (nat_eq k) es) (sym c.id.ensures) ∙ c.in-Err.ensures.absent)) ∙ there
