@@ -15,12 +15,12 @@ const BEFORE: u64 = 1099511627776;
 
 /// Tells 1, 2, 3 and so on.
 #[derive(Drop)]
-pub struct Ticks {
+pub(super) struct Ticks {
     at: u64,
 }
 
 impl Ticks {
-    pub fn new() -> Ticks {
+    pub(super) fn new() -> Ticks {
         Ticks { at: 0 }
     }
 }
@@ -37,12 +37,12 @@ impl Clock for Ticks {
 }
 
 /// The id of the n-th task.
-pub fn id(n: u64) -> Option<TaskId> {
+pub(super) fn id(n: u64) -> Option<TaskId> {
     TaskId::from_value(BEFORE.saturating_add(n)).ok()
 }
 
 /// The owner of the n-th task, created at 0.
-pub fn owner<R: Wait>(rt: &R, alloc: Global, n: u64) -> Option<TaskOwner> {
+pub(super) fn owner<R: Wait>(rt: &R, alloc: Global, n: u64) -> Option<TaskOwner> {
     let id = id(n)?;
     TaskOwner::new(rt, alloc, id, 0).ok()
 }
@@ -58,7 +58,12 @@ fn at_rest<W: Work>(owner: TaskOwner, work: W) -> Option<Instrumented<W>>
 }
 
 /// The n-th task, created at 0, with this work.
-pub fn task<R: Wait, W: Work>(rt: &R, alloc: Global, n: u64, work: W) -> Option<Instrumented<W>>
+pub(super) fn task<R: Wait, W: Work>(
+    rt: &R,
+    alloc: Global,
+    n: u64,
+    work: W,
+) -> Option<Instrumented<W>>
     ensures { IfSome result (λ t. is_some t.receipt ≡ false) }
 {
     match owner(rt, alloc, n) {
@@ -68,7 +73,7 @@ pub fn task<R: Wait, W: Work>(rt: &R, alloc: Global, n: u64, work: W) -> Option<
 }
 
 /// Whether the n-th task, with this work, is taken in.
-pub fn spawns<R: Wait, W: Work>(
+pub(super) fn spawns<R: Wait, W: Work>(
     rt: &R,
     alloc: Global,
     executor: &mut Executor<W>,
