@@ -72,6 +72,7 @@ impl<O: Sequential> Shared<O> {
     ///
     /// The token has to be of this ledger. Its caller's role has to allow the call: the owner's from the
     /// start, another's by the call that answered its number. And the caller must not have made its last call.
+    #[inline(always)]
     pub fn call<R: Wait>(&self, rt: &R, token: &mut Token<O>, call: O::Call) -> O::Reply
         requires own { token.old.ledger ≡ self.now }
         requires role { may_call O.meaning token.old.view.seen token.old.view.caller call ≡ true }
@@ -88,6 +89,7 @@ impl<O: Sequential> Shared<O> {
     }
 
     // Makes the call, unless another one came between its look and its exchange.
+    #[inline(always)]
     fn try_call<K: Pick<O::Call>, R: Wait>(
         &self,
         rt: &R,
@@ -115,6 +117,7 @@ impl<O: Sequential> Shared<O> {
         }
     }
 
+    #[inline(always)]
     fn look<K: Pick<O::Call>, R: Wait>(
         &self,
         rt: &R,
@@ -132,6 +135,7 @@ impl<O: Sequential> Shared<O> {
         self.cell.load_as::<Looks<O, K>, R>(rt, &mut token.pass)
     }
 
+    #[inline(always)]
     fn exchange<K: Pick<O::Call>, R: Wait>(
         &self,
         rt: &R,

@@ -1,13 +1,15 @@
 -- Poll counts that are told one after the other.
 use Rattle.std.proofs.Common.{◌≡◌, ℕ, zero, suc, ◌+◌, ◌<◌, List, [], ◌∷◌, ◌++◌, length, get_or, take, drop, Bool, true, false, cond, nat_eq, Option, Some, None, refl, ap, ap₂, sym, ◌∙◌, append_assoc, append-nil, add-one, arith}
-use Rattle.std.specs.Prelude.{map, filter, is_none, ◌||◌}
-use Rattle.std.specs.List.{list_any, IsDistinct, AllByRecursion}
+use Rattle.std.specs.Prelude.{map, filter, is_none, is_some, position, IsSome, ◌||◌, ◌&&◌}
+use Rattle.std.specs.List.{list_any, list_all, IsDistinct, AllByRecursion}
 use Rattle.std.specs.Option.{option_map_or}
-use Rattle.std.proofs.lemmas.Bool.{or_parts, eqb-true, eq-eqb}
+use Rattle.std.proofs.lemmas.Bool.{or_parts, and_parts, eqb-true, eq-eqb}
 use Rattle.tk_stream.specs.Tables.{PollCounts, counts_id, item_with, put_item}
 use Rattle.tk_stream.specs.Lines.{is_new}
 use Rattle.tk_stream.specs.Applied.{counts_kind, told_item, counts_after}
 use Rattle.tk_client.specs.Taking.{has_twice}
+use Rattle.tk_client.specs.Told.{count_added, AreCounted}
+use Rattle.tk_client.proofs.IdLemmas.{own, distinct-once, none-at}
 
 -- the counts of an id
 abbrev counted : ℕ → List PollCounts → Option PollCounts
@@ -181,3 +183,143 @@ none_told old = append-nil (map (told []) old) ∙ same old
     same : (cs : List PollCounts) → map (told []) cs ≡ cs
     same [] = refl
     same (c ∷ cs) = ap (λ ds. c ∷ ds) (same cs)
+
+-- ---- growth: new counts go last, and then all that are told are there
+
+some-front : (id : ℕ) (xs ys : List PollCounts) → is_some (counted id xs) ≡ true → is_some (counted id (xs ++ ys)) ≡ true
+some-front id [] ys h = absurd (cc)
+some-front id (x ∷ xs) ys h = by (nat_eq id x.0) h (some-front id xs ys)
+  where
+    by : (b : Bool) → is_some (cond b (Some x) (counted id xs)) ≡ true → (is_some (counted id xs) ≡ true → is_some (counted id (xs ++ ys)) ≡ true) → is_some (cond b (Some x) (counted id (xs ++ ys))) ≡ true
+    by true g rest = refl
+    by false g rest = rest g
+
+some-back : (id : ℕ) (xs ys : List PollCounts) → is_some (counted id ys) ≡ true → is_some (counted id (xs ++ ys)) ≡ true
+some-back id [] ys h = h
+some-back id (x ∷ xs) ys h = by (nat_eq id x.0) (some-back id xs ys h)
+  where
+    by : (b : Bool) → is_some (counted id (xs ++ ys)) ≡ true → is_some (cond b (Some x) (counted id (xs ++ ys))) ≡ true
+    by true g = refl
+    by false g = g
+
+-- one more that goes last, where there is none
+pub added-next : (old front : List PollCounts) (c : PollCounts) → IsApart c.0 front
+    → count_added c (old ++ filter (is_new counts_id old) front) ≡ old ++ filter (is_new counts_id old) (front ++ c ∷ [])
+added-next old front c away = by (counted c.0 old) refl
+  where
+    grown : List PollCounts
+    grown = old ++ filter (is_new counts_id old) front
+
+    by : (o : Option PollCounts) → counted c.0 old ≡ o → count_added c (old ++ filter (is_new counts_id old) front) ≡ old ++ filter (is_new counts_id old) (front ++ c ∷ [])
+    by None is =
+        let none : counted c.0 grown ≡ None = apart-none c.0 grown (apart-append c.0 old (filter (is_new counts_id old) front) (none-apart c.0 old is) (apart-kept c.0 (is_new counts_id old) front away)) in
+        let new : filter (is_new counts_id old) (c ∷ []) ≡ c ∷ [] = ap (λ o. cond (is_none o) (c ∷ []) []) is in
+        ap (λ o. cond (is_some o) grown (grown ++ c ∷ [])) none
+        ∙ append_assoc old (filter (is_new counts_id old) front) (c ∷ [])
+        ∙ ap (λ cs. old ++ cs) (ap (λ cs. filter (is_new counts_id old) front ++ cs) (sym new) ∙ sym (filter-last (is_new counts_id old) front c))
+    by (Some y) is =
+        let some : is_some (counted c.0 grown) ≡ true = some-front c.0 old (filter (is_new counts_id old) front) (ap is_some is) in
+        let none : filter (is_new counts_id old) (c ∷ []) ≡ [] = ap (λ o. cond (is_none o) (c ∷ []) []) is in
+        ap (λ b. cond b grown (grown ++ c ∷ [])) some
+        ∙ ap (λ cs. old ++ cs) (sym (append-nil (filter (is_new counts_id old) front)) ∙ ap (λ cs. filter (is_new counts_id old) front ++ cs) (sym none) ∙ sym (filter-last (is_new counts_id old) front c))
+
+pub grows-next : (old cs : List PollCounts) (i : ℕ) (c : PollCounts) → has_twice (map counts_id cs) ≡ false → i < length cs → c ≡ get_or cs i c
+    → count_added c (old ++ filter (is_new counts_id old) (take i cs)) ≡ old ++ filter (is_new counts_id old) (take (i + 1) cs)
+grows-next old cs i c once h e =
+    added-next old (take i cs) c (apart_before (take i cs) c (drop (suc i) cs) (ap (λ xs. has_twice (map counts_id xs)) (sym (split_at cs i c h e)) ∙ once))
+    ∙ ap (λ front. old ++ filter (is_new counts_id old) front) (sym (take-last cs i c h e) ∙ ap (λ n. take n cs) (sym (add-one i)))
+
+-- counts that are there are still there
+pub still-there : (id : ℕ) (old front : List PollCounts) → is_some (counted id old) ≡ true → IsSome (counted id (counts_after old front))
+still-there id old front h = some-front id (map (told front) old) (filter (is_new counts_id old) front) (there old h)
+  where
+    there : (xs : List PollCounts) → is_some (counted id xs) ≡ true → is_some (counted id (map (told front) xs)) ≡ true
+    there [] g = g
+    there (x ∷ xs) g = rw (told_id front x) (by (nat_eq id x.0) g (there xs))
+      where
+        by : (b : Bool) → is_some (cond b (Some x) (counted id xs)) ≡ true → (is_some (counted id xs) ≡ true → is_some (counted id (map (told front) xs)) ≡ true)
+            → is_some (cond b (Some (told front x)) (counted id (map (told front) xs))) ≡ true
+        by true k rest = refl
+        by false k rest = rest k
+
+pub all-at : {X : Type 0} (p : X → Bool) (xs : List X) (i : ℕ) (x : X) → list_all p xs ≡ true → i < length xs → x ≡ get_or xs i x → p x ≡ true
+all-at p [] i x all lt e = absurd (omega arith)
+all-at p (y ∷ ys) zero x all lt e = ap p e ∙ (and_parts (p y) (list_all p ys) all).0
+all-at p (y ∷ ys) (suc i) x all lt e = all-at p ys i x (and_parts (p y) (list_all p ys) all).1 (omega arith) e
+
+-- all that are told are there once new ones stand behind the others
+pub are-counted : (old cs : List PollCounts) → AreCounted (old ++ filter (is_new counts_id old) cs) cs
+are-counted old cs = each cs (kept cs)
+  where
+    p : PollCounts → Bool
+    p = is_new counts_id old
+
+    kept : (xs : List PollCounts) → AllByRecursion (λ c. p c ≡ true → is_some (counted c.0 (filter p xs)) ≡ true) xs
+    kept [] = tt
+    kept (x ∷ xs) = (λ is. ap (λ b. is_some (counted x.0 (cond b (x ∷ filter p xs) (filter p xs)))) is ∙ ap (λ b. is_some (cond b (Some x) (counted x.0 (filter p xs)))) (itself x.0), wider xs (kept xs))
+      where
+        one : (c : PollCounts) (b : Bool) → is_some (counted c.0 (filter p xs)) ≡ true → is_some (counted c.0 (cond b (x ∷ filter p xs) (filter p xs))) ≡ true
+        one c true h = some-back c.0 (x ∷ []) (filter p xs) h
+        one c false h = h
+
+        wider : (ys : List PollCounts) → AllByRecursion (λ c. p c ≡ true → is_some (counted c.0 (filter p xs)) ≡ true) ys
+            → AllByRecursion (λ c. p c ≡ true → is_some (counted c.0 (filter p (x ∷ xs))) ≡ true) ys
+        wider [] all = tt
+        wider (y ∷ ys) all = (λ is. one y (p x) (all.0 is), wider ys all.1)
+
+    here : (c : PollCounts) → (p c ≡ true → is_some (counted c.0 (filter p cs)) ≡ true) → is_some (counted c.0 (old ++ filter p cs)) ≡ true
+    here c h = by (counted c.0 old) refl
+      where
+        by : (o : Option PollCounts) → counted c.0 old ≡ o → is_some (counted c.0 (old ++ filter p cs)) ≡ true
+        by (Some y) is = some-front c.0 old (filter p cs) (ap is_some is)
+        by None is = some-back c.0 old (filter p cs) (h (ap is_none is))
+
+    each : (xs : List PollCounts) → AllByRecursion (λ c. p c ≡ true → is_some (counted c.0 (filter p cs)) ≡ true) xs → list_all (λ c. is_some (counted c.0 (old ++ filter p cs))) xs ≡ true
+    each [] all = refl
+    each (x ∷ xs) all = ap₂ (λ a b. a && b) (here x all.0) (each xs all.1)
+
+-- telling the counts that went in comes to telling all
+pub counts-grown : (old cs : List PollCounts) → has_twice (map counts_id cs) ≡ false → counts_after (old ++ filter (is_new counts_id old) cs) cs ≡ counts_after old cs
+counts-grown old cs once =
+    ap₂ (λ xs ys. xs ++ ys) (map-append old (filter p cs)) (none-new cs (are-counted old cs))
+    ∙ append-nil _ ∙ ap (λ xs. map (told cs) old ++ xs) (same cs (own counts_id cs (distinct-once (map counts_id cs) once)))
+  where
+    p : PollCounts → Bool
+    p = is_new counts_id old
+
+    map-append : (xs ys : List PollCounts) → map (told cs) (xs ++ ys) ≡ map (told cs) xs ++ map (told cs) ys
+    map-append [] ys = refl
+    map-append (x ∷ xs) ys = ap (λ zs. told cs x ∷ zs) (map-append xs ys)
+
+    none-new : (xs : List PollCounts) → list_all (λ c. is_some (counted c.0 (old ++ filter p cs))) xs ≡ true → filter (is_new counts_id (old ++ filter p cs)) xs ≡ []
+    none-new [] all = refl
+    none-new (x ∷ xs) all =
+        let q = and_parts (is_some (counted x.0 (old ++ filter p cs))) (list_all (λ c. is_some (counted c.0 (old ++ filter p cs))) xs) all in
+        by (counted x.0 (old ++ filter p cs)) q.0 (none-new xs q.1)
+      where
+        by : (o : Option PollCounts) → is_some o ≡ true → filter (is_new counts_id (old ++ filter p cs)) xs ≡ []
+            → cond (is_none o) (x ∷ filter (is_new counts_id (old ++ filter p cs)) xs) (filter (is_new counts_id (old ++ filter p cs)) xs) ≡ []
+        by (Some y) is rest = rest
+        by None is rest = absurd (cc)
+
+    same : (xs : List PollCounts) → AllByRecursion (λ c. counted c.0 cs ≡ Some c) xs → map (told cs) (filter p xs) ≡ filter p xs
+    same [] all = refl
+    same (x ∷ xs) all = by (p x) (ap (λ o. option_map_or (λ (d : PollCounts). d) o x) all.0) (same xs all.1)
+      where
+        by : (b : Bool) → told cs x ≡ x → map (told cs) (filter p xs) ≡ filter p xs → map (told cs) (cond b (x ∷ filter p xs) (filter p xs)) ≡ cond b (x ∷ filter p xs) (filter p xs)
+        by true e rest = ap₂ (λ y ys. y ∷ ys) e rest
+        by false e rest = rest
+
+-- a resource that has counts, and one that has none
+pub added-old : (c : PollCounts) (cs : List PollCounts) → is_some (counted c.0 cs) ≡ true → cs ≡ count_added c cs
+added-old c cs h = sym (ap (λ b. cond b cs (cs ++ c ∷ [])) h)
+
+pub added-new : (c : PollCounts) (cs : List PollCounts) → is_some (counted c.0 cs) ≡ false → put_item counts_id c cs ≡ count_added c cs
+added-new c cs h = put_last c cs (none-apart c.0 cs (none (counted c.0 cs) h)) ∙ sym (ap (λ b. cond b cs (cs ++ c ∷ [])) h)
+  where
+    none : (o : Option PollCounts) → is_some o ≡ false → o ≡ None
+    none (Some x) e = absurd (cc)
+    none None e = refl
+
+pub none_added : (old : List PollCounts) → old ≡ old ++ filter (is_new counts_id old) []
+none_added old = sym (append-nil old)

@@ -6,3 +6,12 @@ pub mod CountLemmas
 pub mod WarnLemmas
 pub mod AttrLemmas
 pub mod StreamLemmas
+pub mod IdLemmas
+pub mod TellLemmas
+pub mod CutLemmas
+pub mod FitLemmas
+pub mod LineLemmas
+pub mod WholeLemmas
+pub mod PlaceLemmas
+pub mod LengthLemmas
+pub mod MergeLemmas

@@ -12,3 +12,5 @@ pub mod Streams
 pub mod Faults
 -- Inner: no public clause cites this
 pub mod Told
+-- Inner: which tasks can be warned of
+pub mod Candidates

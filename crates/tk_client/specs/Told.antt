@@ -1,13 +1,19 @@
 -- What the parts of a client answer, and what each makes of tables. No public clause cites this.
-use Rattle.std.specs.Prelude.{◌≡◌, ℕ, List, [], ◌∷◌, ◌++◌, Bool, true, false, Option, Some, None, Result, Ok, Err}
-use Rattle.tk_stream.specs.Applied.{Kind}
+use Rattle.std.specs.Prelude.{◌≡◌, ℕ, ◌+◌, ◌==◌, List, [], ◌∷◌, ◌++◌, length, Bool, true, false, ◌||◌, not, nat_eq, is_some, if◌then◌else◌, map, filter, Option, Some, None, option_map, option_and_then, Result, Ok, Err, refl}
+use Rattle.std.specs.List.{list_any, list_all, IsDistinct}
+use Rattle.std.specs.Option.{option_map_or}
+use Rattle.tk_stream.specs.Applied.{Kind, task_kind, resource_kind, op_kind, told_item, new_items, counts_after}
+use Rattle.tk_stream.specs.Lines.{LineView, is_new}
+use Rattle.tk_stream.specs.Places.{place_with}
 use Rattle.tk_stream.specs.Spelling.{line_end}
-use Rattle.tk_stream.specs.Tables.{TablesView, item_with, changed_at}
+use Rattle.tk_stream.specs.Tables.{TablesView, PollCounts, counts_id, item_with, changed_at}
 use Rattle.tk_client.specs.declared.fault.Fault.{Fault}
 use Rattle.tk_client.specs.declared.fault.Fault.TheVariants.{Memory, Misfit}
 use Rattle.tk_client.specs.Feeding.{ClientView, Took}
 use Rattle.tk_client.specs.Meaning.{goes, stops, meaning}
-use Rattle.tk_client.specs.Taking.{has_id}
+use Rattle.tk_client.specs.Taking.{has_id, has_twice}
+use Rattle.tk_client.specs.declared.taking.Finding.{Finding}
+use Rattle.tk_client.specs.declared.taking.Finding.TheVariants.{Sound, Strange, Repeats}
 
 -- a fault that was to be answered is answered, unless memory ran out
 abbrev pub Fails : {A : Type 0} → Fault → Result A Fault → Type 0
@@ -28,6 +34,17 @@ EndedBy fault old new = (meaning old.max_line old.start (line_end ∷ []) ≡ st
 abbrev pub Ended : ClientView → Result (Unit {0}) Fault → ClientView → Type 0
 Ended old (Ok done) new = Took old (line_end ∷ []) 1 new
 Ended old (Err fault) new = EndedBy fault old new
+
+-- why a whole line and its end were not taken: there was no memory, and all is as before; or the line has a fault
+abbrev pub EndedWholeBy : Fault → ClientView → List ℕ → ClientView → Type 0
+EndedWholeBy Memory old line new = new ≡ old
+EndedWholeBy fault old line new =
+    (meaning old.max_line old.start (line ++ line_end ∷ []) ≡ stops old.start.tables 0 fault (length line + 1)) × (new ≡ record old { has_failed = true })
+
+-- what a whole line and its end did
+abbrev pub EndedWhole : ClientView → List ℕ → Result (Unit {0}) Fault → ClientView → Type 0
+EndedWhole old line (Ok done) new = Took old (line ++ line_end ∷ []) 1 new
+EndedWhole old line (Err fault) new = EndedWholeBy fault old line new
 
 -- ---- items of one kind
 
@@ -82,3 +99,98 @@ with_kind put tables None = Err Misfit
 abbrev pub or_misfit : Option TablesView → Result TablesView Fault
 or_misfit (Some tables) = Ok tables
 or_misfit None = Err Misfit
+
+-- the place of the item of which something is told
+abbrev pub place_by : {Item Info Stats : Type 0} → Kind Item Info Stats → List Item → Stats → Option ℕ
+place_by k items s = place_with k.id_of (k.stats_id s) items
+
+-- what is told is of an item that is neither there nor among these ids
+abbrev pub is_stranger : {Item Info Stats : Type 0} → Kind Item Info Stats → List Item → List ℕ → Stats → Bool
+is_stranger k items ids s = not (has_told k items s || list_any (λ n. k.stats_id s == n) ids)
+
+-- items with what is told of one of them, where it is there
+abbrev pub retold_by : {Item Info Stats : Type 0} → Kind Item Info Stats → List Item → Stats → List Item
+retold_by k items s = option_map_or (λ i. changed_at (retold k s) items i) (place_by k items s) items
+
+-- no item stands twice
+abbrev pub HaveOneId : {Item Info Stats : Type 0} → Kind Item Info Stats → List Item → Type 0
+HaveOneId k items = IsDistinct nat_eq (map k.id_of items)
+
+-- what is told of an item fits it, if the item is there
+abbrev pub fits_told : {Item Info Stats : Type 0} → Kind Item Info Stats → (Item → Bool) → List Item → Stats → Bool
+fits_told k fits items s = option_map_or (λ item. fits (retold k s item)) (item_with k.id_of (k.stats_id s) items) true
+
+-- ---- growth
+
+-- a list that begins with another one
+abbrev pub Begins : {A : Type 0} → List A → List A → Type 0
+Begins [] ys = Unit {0}
+Begins (x ∷ xs) [] = ⊥
+Begins (x ∷ xs) (y ∷ ys) = (y ≡ x) × Begins xs ys
+
+pub begins_same : {A : Type 0} (xs : List A) → Begins xs xs
+begins_same [] = tt
+begins_same (x ∷ xs) = (refl, begins_same xs)
+
+-- tables with more items and counts behind the old ones, and nothing else
+pub record Grown (old new : TablesView) : Type 0 where
+  pub tasks : Begins old.tasks new.tasks
+  pub resources : Begins old.resources new.resources
+  pub ops : Begins old.ops new.ops
+  pub counts : Begins old.counts new.counts
+  pub dropped : new.dropped ≡ old.dropped
+  pub now : new.now ≡ old.now
+
+-- the tables with the new items of a line behind the old ones, each with what is told of it, and with its new counts
+abbrev pub tables_grown : TablesView → LineView → Option TablesView
+tables_grown old l =
+    option_and_then (λ tasks. option_and_then (λ resources. option_map (λ ops. record old {
+      tasks = old.tasks ++ tasks;
+      resources = old.resources ++ resources;
+      ops = old.ops ++ ops;
+      counts = old.counts ++ filter (is_new counts_id old.counts) l.poll_counts;
+    }) (new_items op_kind l.op_stats l.new_ops))
+    (new_items resource_kind l.resource_stats l.new_resources))
+    (new_items task_kind l.task_stats l.new_tasks)
+
+-- ---- the parts of a line
+
+-- counts with these behind them, where their resource has none
+abbrev pub count_added : PollCounts → List PollCounts → List PollCounts
+count_added c counts = if is_some (item_with counts_id c.0 counts) then counts else counts ++ c ∷ []
+
+-- each resource whose counts are told has some
+abbrev pub AreCounted : List PollCounts → List PollCounts → Type 0
+AreCounted counts told = list_all (λ c. is_some (item_with counts_id c.0 counts)) told ≡ true
+
+-- in none of its lists does a line tell of an id twice
+pub record TellsOnce (l : LineView) : Type 0 where
+  pub tasks : has_twice (map (stats_id_by task_kind) l.task_stats) ≡ false
+  pub resources : has_twice (map (stats_id_by resource_kind) l.resource_stats) ≡ false
+  pub ops : has_twice (map (stats_id_by op_kind) l.op_stats) ≡ false
+  pub counts : has_twice (map counts_id l.poll_counts) ≡ false
+
+-- tables whose items take what a line tells of them
+abbrev pub tables_told : TablesView → LineView → TablesView
+tables_told old l = record {
+  tasks = map (told_item task_kind l.task_stats) old.tasks;
+  resources = map (told_item resource_kind l.resource_stats) old.resources;
+  ops = map (told_item op_kind l.op_stats) old.ops;
+  counts = counts_after old.counts l.poll_counts;
+  dropped = l.dropped;
+  now = l.now;
+}
+
+-- what is found, where an id is repeated or not, and where an item that is told of is strange or not
+abbrev pub finding : Bool → Bool → Finding
+finding true strange = Repeats
+finding false true = Strange
+finding false false = Sound
+
+-- of two findings the one that is answered first
+abbrev pub worse : Finding → Finding → Finding
+worse Repeats b = Repeats
+worse Strange Repeats = Repeats
+worse Strange Strange = Strange
+worse Strange Sound = Strange
+worse Sound b = b

@@ -1,27 +1,25 @@
 //! A client, whose tables are those that the lines lead to that it was fed.
 //!
 //! `specs/Meaning.antt` says what bytes mean to a client, and `specs/Feeding.antt` what feeding them does.
-ghost use Rattle.std.specs.Prelude.{◌≡◌, ◌+◌, ◌≤◌, ◌<◌, ◌^◌, ◌==◌, IfOk, IfErr, IfSome, IfNone, Ok, Err, length, take, true, false, Some, [], ◌∷◌, ◌++◌, position};
+ghost use Rattle.std.specs.Prelude.{◌≡◌, ◌+◌, ◌≤◌, ◌<◌, ◌^◌, ◌==◌, IfOk, IfErr, OnErr, IfSome, IfNone, Ok, Err, length, take, true, false, Some, [], ◌∷◌, ◌++◌, position};
 ghost use Rattle.tk_stream.specs.Spelling.{line_end, is_one_line};
 ghost use Rattle.tk_client.specs.Meaning as spec;
-ghost use Rattle.tk_client.specs.Taking.{line_applied};
 ghost use Rattle.tk_client.specs.Feeding.{Took, Stopped};
-ghost use Rattle.tk_client.specs.Told.{Answers, Ended};
+ghost use Rattle.tk_client.specs.Told.{Answers, Ended, EndedWhole};
 
 use crate::fault::{Fault, FeedError};
 use crate::lints::Lints;
-use crate::taking::apply_line;
-use crate::warning::{Warning, warn};
+use crate::shown::Shown;
+use crate::warning::Warning;
 use std::alloc::Global;
 use std::marker::Model;
-use tk_ids::Dropped;
 use tk_stream::{Line, Tables};
 
 /// A client of a stream.
 #[derive(Drop)]
 pub struct Client {
     alloc: Global,
-    tables: Tables,
+    shown: Shown,
     last: Option<u64>,
     // The bytes of a line that hasn't ended.
     part: Vec<u8>,
@@ -36,7 +34,7 @@ impl Model for Client {
     ghost Value = { ClientView };
 
     ghost view = { λ c. record {
-      start = record { tables = c.tables; last = c.last; part = c.part.items };
+      start = record { tables = c.shown; last = c.last; part = c.part.items };
       has_failed = c.failed;
       max_line = c.limit;
     } };
@@ -80,28 +78,18 @@ fn is_next(last: Option<u64>, line: &Line) -> bool
     }
 }
 
-// A snapshot stands for itself.
-fn apply_to(alloc: Global, tables: &Tables, line: &Line) -> Result<Tables, Fault>
-    ensures { Answers (λ t. t) result (line_applied (spec.base_of tables.now line.now) line.now) }
-{
-    if line.snapshot() {
-        apply_line(alloc, &Tables::new(alloc)?, line)
-    } else {
-        apply_line(alloc, tables, line)
-    }
-}
-
-// The tables that a line's text leads to, and its number.
+// Applies a line's text, or leaves the tables as they are. It answers the line's number.
 #[tactic(auto, unfolding(crate::specs::Meaning::line_taken))]
 fn take_line(
     alloc: Global,
-    tables: &Tables,
+    shown: &mut Shown,
     last: Option<u64>,
     text: &[u8],
-) -> Result<(Tables, u64), Fault>
+) -> Result<u64, Fault>
     requires { IfSome last (λ n. n ≤ 2 ^ 63) }
-    ensures taken { Answers (λ p. record { tables = p.0; last = Some p.1; part = [] }) result (spec.line_taken tables.now last text.now) }
-    ensures number { IfOk result (λ p. p.1 ≤ 2 ^ 63) }
+    ensures taken { Answers (λ n. record { tables = shown.new; last = Some n; part = [] }) result (spec.line_taken shown.old last text.now) }
+    ensures kept { OnErr result (shown.new ≡ shown.old) }
+    ensures number { IfOk result (λ n. n ≤ 2 ^ 63) }
 {
     let line = Line::read(alloc, text)?;
     let found = line.seq();
@@ -111,8 +99,8 @@ fn take_line(
             found,
         });
     }
-    let tables = apply_to(alloc, tables, &line)?;
-    Ok((tables, found))
+    shown.apply(alloc, &line)?;
+    Ok(found)
 }
 
 impl Client {
@@ -129,11 +117,11 @@ impl Client {
         ensures ok { IfOk result (λ client. client ≡ record { start = empty_start; has_failed = false; max_line = max_line }) }
         ensures memory { IfErr result (λ fault. fault ≡ Fault.Memory) }
     {
-        let tables = Tables::new(alloc)?;
+        let shown = Shown::new(alloc)?;
         let part = Vec::with_capacity(alloc, 64)?;
         Ok(Client {
             alloc,
-            tables,
+            shown,
             last: None,
             part,
             limit: max_line,
@@ -145,22 +133,14 @@ impl Client {
     pub fn tables(&self) -> &Tables
         ensures { result.now ≡ self.now.start.tables }
     {
-        &self.tables
+        self.shown.tables()
     }
 
     /// Forgets tables, numbers, part lines and faults: the next line is a first one. It takes no memory.
     pub fn restart(&mut self)
         ensures { self.new ≡ record { start = empty_start; has_failed = false; max_line = self.old.max_line } }
     {
-        self.tables.cut(0, 0, 0, 0);
-        self.tables.set_totals(
-            Dropped {
-                tasks: 0,
-                resources: 0,
-                ops: 0,
-            },
-            0,
-        );
+        self.shown.clear();
         self.last = None;
         self.part.clear();
         self.failed = false;
@@ -193,15 +173,14 @@ impl Client {
         Ok(())
     }
 
-    // Takes a line end.
+    // Takes a line end behind the part line.
     fn end_line(&mut self) -> Result<(), Fault>
         requires { self.old.has_failed ≡ false }
         ensures ended { Ended self.old result self.new }
         ensures limit { self.new.max_line ≡ self.old.max_line }
     {
-        match take_line(self.alloc, &self.tables, self.last, self.part.as_slice()) {
-            Ok((tables, number)) => {
-                self.tables = tables;
+        match take_line(self.alloc, &mut self.shown, self.last, self.part.as_slice()) {
+            Ok(number) => {
                 self.last = Some(number);
                 self.part.clear();
                 Ok(())
@@ -210,6 +189,91 @@ impl Client {
             Err(fault) => {
                 self.failed = true;
                 Err(fault)
+            }
+        }
+    }
+
+    // Takes a whole line and its end, where no part line stands before it. It is read where it lies.
+    fn take_whole(&mut self, line: &[u8]) -> Result<(), Fault>
+        requires sound { self.old.has_failed ≡ false }
+        requires empty { self.old.start.part ≡ [] }
+        requires whole { is_one_line line.now ≡ true }
+        requires short { length line.now ≤ self.old.max_line }
+        ensures ended { EndedWhole self.old line.now result self.new }
+        ensures limit { self.new.max_line ≡ self.old.max_line }
+    {
+        match take_line(self.alloc, &mut self.shown, self.last, line) {
+            Ok(number) => {
+                self.last = Some(number);
+                Ok(())
+            }
+            Err(fault) => match fault {
+                Fault::Memory => Err(fault),
+                _ => {
+                    self.failed = true;
+                    Err(fault)
+                }
+            },
+        }
+    }
+
+    // Takes a whole line in place: its bytes and its end, or none of them where there is no memory.
+    fn step_whole(&mut self, bytes: &[u8], end: usize) -> Result<(u64, usize), FeedError>
+        requires sound { self.old.has_failed ≡ false }
+        requires empty { self.old.start.part ≡ [] }
+        requires inside { end < length bytes.now }
+        requires short { end ≤ self.old.max_line }
+        requires before { is_one_line (take end bytes.now) ≡ true }
+        requires through { take (end + 1) bytes.now ≡ take end bytes.now ++ line_end ∷ [] }
+        ensures some { IfOk result (λ p. 0 < p.1) }
+        ensures within { IfOk result (λ p. p.1 ≤ length bytes.now) }
+        ensures few { IfOk result (λ p. p.0 ≤ p.1) }
+        ensures took { IfOk result (λ p. Took self.old (take p.1 bytes.now) p.0 self.new) }
+        ensures stopped { IfErr result (λ e. Stopped self.old bytes.now e self.new) }
+        ensures limit { self.new.max_line ≡ self.old.max_line }
+    {
+        match self.take_whole(&bytes[..end]) {
+            Ok(()) => Ok((1, end + 1)),
+            Err(fault) => {
+                let used = match fault {
+                    Fault::Memory => 0,
+                    _ => end + 1,
+                };
+                Err(FeedError {
+                    lines: 0,
+                    used,
+                    fault,
+                })
+            }
+        }
+    }
+
+    // Takes the rest of a line behind its part, and its end.
+    fn step_rest(&mut self, bytes: &[u8], end: usize) -> Result<(u64, usize), FeedError>
+        requires sound { self.old.has_failed ≡ false }
+        requires inside { end < length bytes.now }
+        requires before { is_one_line (take end bytes.now) ≡ true }
+        requires through { take (end + 1) bytes.now ≡ take end bytes.now ++ line_end ∷ [] }
+        ensures some { IfOk result (λ p. 0 < p.1) }
+        ensures within { IfOk result (λ p. p.1 ≤ length bytes.now) }
+        ensures few { IfOk result (λ p. p.0 ≤ p.1) }
+        ensures took { IfOk result (λ p. Took self.old (take p.1 bytes.now) p.0 self.new) }
+        ensures stopped { IfErr result (λ e. Stopped self.old bytes.now e self.new) }
+        ensures limit { self.new.max_line ≡ self.old.max_line }
+    {
+        self.hold(&bytes[..end])?;
+        match self.end_line() {
+            Ok(()) => Ok((1, end + 1)),
+            Err(fault) => {
+                let used = match fault {
+                    Fault::Memory => end,
+                    _ => end + 1,
+                };
+                Err(FeedError {
+                    lines: 0,
+                    used,
+                    fault,
+                })
             }
         }
     }
@@ -229,20 +293,10 @@ impl Client {
             self.hold(bytes)?;
             return Ok((0, bytes.len()));
         };
-        self.hold(&bytes[..end])?;
-        match self.end_line() {
-            Ok(()) => Ok((1, end + 1)),
-            Err(fault) => {
-                let used = match fault {
-                    Fault::Memory => end,
-                    _ => end + 1,
-                };
-                Err(FeedError {
-                    lines: 0,
-                    used,
-                    fault,
-                })
-            }
+        if self.part.is_empty() && end <= self.limit {
+            self.step_whole(bytes, end)
+        } else {
+            self.step_rest(bytes, end)
         }
     }
 
@@ -297,12 +351,7 @@ impl Client {
         ensures ok { IfOk result (λ list. list.items ≡ warnings_in lints.now self.now.start.tables) }
         ensures memory { IfErr result (λ fault. fault ≡ Fault.Memory) }
     {
-        let mut list = Vec::new(self.alloc);
-        let now = self.tables.now();
-        for i in 0..self.tables.task_count() {
-            let task = self.tables.task_at(i).unwrap();
-            warn(&mut list, lints, now, task)?;
-        }
+        let list = self.shown.warnings(self.alloc, lints)?;
         Ok(list)
     }
 }

@@ -7,14 +7,17 @@
 #![tactic(auto)]
 
 mod attrs;
+mod candidates;
 mod client;
 mod counts;
 mod fault;
+mod ids;
 pub mod laws;
 mod lints;
 mod listed;
 mod ops;
 mod resources;
+mod shown;
 mod taking;
 mod tasks;
 mod warning;

@@ -1,5 +1,5 @@
 //! A kind of item that tables list, and that lines tell of.
-ghost use Rattle.std.specs.Prelude.{◌≡◌, ◌<◌, ◌++◌, ◌∷◌, [], List, length, map, slice_get, Some, None, IfOk, OnOk, option_map, false};
+ghost use Rattle.std.specs.Prelude.{◌≡◌, ◌<◌, ◌++◌, ◌∷◌, [], List, length, map, slice_get, Some, None, IfOk, OnOk, OnErr, option_map, false};
 ghost use Rattle.std.specs.List.{list_any};
 ghost use Rattle.tk_stream.specs.Applied.{Kind, told_item, new_items};
 ghost use Rattle.tk_stream.specs.Tables.{TablesView};
@@ -25,13 +25,6 @@ pub(crate) trait Listed: Drop {
 
     ghost with_items: { TablesView → List Self → TablesView };
 
-    fn count(tables: &Tables) -> usize
-        ensures { result ≡ length (items tables.now) };
-
-    fn id_at(tables: &Tables, i: usize) -> u64
-        requires { i < length (items tables.now) }
-        ensures { Some result ≡ option_map (λ item. inner.id_by kind item) (slice_get (items tables.now) i) };
-
     fn info_id(info: &Self::Info) -> u64
         ensures { result ≡ inner.info_id_by kind info.now };
 
@@ -44,13 +37,19 @@ pub(crate) trait Listed: Drop {
     fn has_told(tables: &Tables, stats: &Self::Stats) -> bool
         ensures { result ≡ inner.has_told kind (items tables.now) stats.now };
 
+    fn place(tables: &Tables, stats: &Self::Stats) -> Option<usize>
+        ensures { result ≡ inner.place_by kind (items tables.now) stats.now };
+
     fn tell(tables: &mut Tables, i: usize, stats: &Self::Stats)
         requires { i < length (items tables.old) }
         ensures { tables.new ≡ with_items tables.old (inner.retold_at kind (items tables.old) i (Some stats.now)) };
 
     fn add(tables: &mut Tables, info: &Self::Info, stats: &Self::Stats) -> Result<(), AllocError>
         requires { inner.has_info kind (items tables.old) info.now ≡ false }
-        ensures { OnOk result (tables.new ≡ with_items tables.old (items tables.old ++ inner.made kind info.now stats.now ∷ [])) };
+        ensures ok { OnOk result (tables.new ≡ with_items tables.old (items tables.old ++ inner.made kind info.now stats.now ∷ [])) }
+        ensures err { OnErr result (tables.new ≡ tables.old) };
+
+    ghost grows: { (t : TablesView) (xs : List Self) → inner.Begins (items t) xs → inner.Grown t (with_items t xs) };
 
     ghost same_id: { (info : Self.Info) (stats : Self.Stats) → inner.id_by kind (inner.made kind info stats) ≡ inner.info_id_by kind info };
 

@@ -9,6 +9,7 @@ use tk_stream::{Op, Tables};
 
 impl Listed for Op {
     ghost use Rattle.std.specs.Prelude.{refl};
+    ghost use Rattle.tk_client.specs.Told.{begins_same};
     ghost use Rattle.tk_stream.specs.Applied.{op_kind};
 
     type Info = OpInfo;
@@ -20,14 +21,6 @@ impl Listed for Op {
     ghost items = { λ tables. tables.ops };
 
     ghost with_items = { λ tables items. record tables { ops = items } };
-
-    fn count(tables: &Tables) -> usize {
-        tables.op_count()
-    }
-
-    fn id_at(tables: &Tables, i: usize) -> u64 {
-        tables.op_at(i).unwrap().info.id.value()
-    }
 
     fn info_id(info: &OpInfo) -> u64 {
         info.id.value()
@@ -45,6 +38,10 @@ impl Listed for Op {
         tables.op(stats.0).is_some()
     }
 
+    fn place(tables: &Tables, stats: &(AsyncOpId, OpRow)) -> Option<usize> {
+        tables.op_place(stats.0)
+    }
+
     fn tell(tables: &mut Tables, i: usize, stats: &(AsyncOpId, OpRow)) {
         tables.set_op(i, stats.1);
     }
@@ -60,6 +57,8 @@ impl Listed for Op {
             Err((refused, _)) => Err(refused),
         }
     }
+
+    ghost grows = { λ t xs b. record { tasks = begins_same t.tasks; resources = begins_same t.resources; ops = b; counts = begins_same t.counts; dropped = refl; now = refl } };
 
     ghost same_id = { λ info stats. refl };
 

@@ -9,6 +9,7 @@ use tk_stream::{Resource, Tables};
 
 impl Listed for Resource {
     ghost use Rattle.std.specs.Prelude.{refl};
+    ghost use Rattle.tk_client.specs.Told.{begins_same};
     ghost use Rattle.tk_stream.specs.Applied.{resource_kind};
 
     type Info = ResourceInfo;
@@ -20,14 +21,6 @@ impl Listed for Resource {
     ghost items = { λ tables. tables.resources };
 
     ghost with_items = { λ tables items. record tables { resources = items } };
-
-    fn count(tables: &Tables) -> usize {
-        tables.resource_count()
-    }
-
-    fn id_at(tables: &Tables, i: usize) -> u64 {
-        tables.resource_at(i).unwrap().info.id.value()
-    }
 
     fn info_id(info: &ResourceInfo) -> u64 {
         info.id.value()
@@ -45,6 +38,10 @@ impl Listed for Resource {
         tables.resource(stats.0).is_some()
     }
 
+    fn place(tables: &Tables, stats: &(ResourceId, ResourceRow)) -> Option<usize> {
+        tables.resource_place(stats.0)
+    }
+
     fn tell(tables: &mut Tables, i: usize, stats: &(ResourceId, ResourceRow)) {
         tables.set_resource(i, stats.1);
     }
@@ -60,6 +57,8 @@ impl Listed for Resource {
             Err((refused, _)) => Err(refused),
         }
     }
+
+    ghost grows = { λ t xs b. record { tasks = begins_same t.tasks; resources = b; ops = begins_same t.ops; counts = begins_same t.counts; dropped = refl; now = refl } };
 
     ghost same_id = { λ info stats. refl };
 

@@ -1,42 +1,39 @@
-//! What a line makes of tables.
-ghost use Rattle.std.specs.Prelude.{◌≡◌, ◌==◌, ◌||◌, ◌<◌, IfOk, map, false, length};
+//! What a line makes of tables, in place.
+//!
+//! A line is checked in the order of its faults. Then its new items and counts go in behind the others, which may want memory;
+//! then rows and counts that are there are replaced, which wants none. What went in is cut off again where the line isn't taken.
+ghost use Rattle.std.specs.Prelude.{◌≡◌, ◌==◌, ◌||◌, IfOk, OnOk, OnErr, IfSome, IfNone, map, true, false};
 ghost use Rattle.std.specs.List.{list_any};
-ghost use Rattle.tk_stream.specs.Applied as after;
-ghost use Rattle.tk_stream.specs.Applied.{told_item, new_items, items_after};
-ghost use Rattle.tk_stream.specs.Tables.{counts_id};
+ghost use Rattle.tk_stream.specs.Applied.{told_item, new_items};
+ghost use Rattle.tk_stream.specs.Tables.{counts_id, AreDistinct};
 ghost use Rattle.tk_client.specs.Taking as spec;
 ghost use Rattle.tk_client.specs.Told as inner;
 ghost use Rattle.tk_client.specs.Told.{Answers};
 
-use crate::attrs::are_fitting;
-use crate::counts::tell_counts;
+use crate::attrs::rows_fit;
+use crate::counts::{add_counts, tell_counts};
 use crate::fault::Fault;
+use crate::ids::Ids;
 use crate::listed::Listed;
 use std::alloc::{AllocError, Global};
 use tk_ids::ResourceId;
 use tk_stream::{Line, Op, Resource, Tables, Task};
 
-fn has_id(ids: &[u64], id: u64) -> bool
-    ensures { result ≡ list_any (λ m. id == m) ids.now }
-{
-    ids.iter().any(|m| id == *m)
-}
-
-fn has_twice(ids: &[u64]) -> bool
-    ensures { result ≡ spec.has_twice ids.now }
-{
-    for (i, id) in ids.iter().enumerate() {
-        if has_id(&ids[i + 1..], *id) {
-            return true;
-        }
-    }
-    false
+/// What is found in a line's lists of one kind of item.
+#[derive(Clone, Copy, PartialEq, Eq)]
+pub(crate) enum Finding {
+    /// No id is repeated, and each item that is told of is there or new.
+    Sound,
+    /// No id is repeated, and an item that is told of is neither there nor new.
+    Strange,
+    /// An id is repeated.
+    Repeats,
 }
 
 fn info_ids<T: Listed>(alloc: Global, infos: &[T::Info]) -> Result<Vec<u64>, AllocError>
     ensures { IfOk result (λ ids. ids.items ≡ map (inner.info_id_by T.kind) infos.now) }
 {
-    let mut ids = Vec::new(alloc);
+    let mut ids = Vec::with_capacity(alloc, infos.len())?;
     for info in infos {
         ids.push(T::info_id(info))?;
     }
@@ -46,7 +43,7 @@ fn info_ids<T: Listed>(alloc: Global, infos: &[T::Info]) -> Result<Vec<u64>, All
 fn told_ids<T: Listed>(alloc: Global, stats: &[T::Stats]) -> Result<Vec<u64>, AllocError>
     ensures { IfOk result (λ ids. ids.items ≡ map (inner.stats_id_by T.kind) stats.now) }
 {
-    let mut ids = Vec::new(alloc);
+    let mut ids = Vec::with_capacity(alloc, stats.len())?;
     for told in stats {
         ids.push(T::stats_id(told))?;
     }
@@ -56,7 +53,7 @@ fn told_ids<T: Listed>(alloc: Global, stats: &[T::Stats]) -> Result<Vec<u64>, Al
 fn counted_ids(alloc: Global, counts: &[(ResourceId, u64, u64)]) -> Result<Vec<u64>, AllocError>
     ensures { IfOk result (λ ids. ids.items ≡ map counts_id counts.now) }
 {
-    let mut ids = Vec::new(alloc);
+    let mut ids = Vec::with_capacity(alloc, counts.len())?;
     for (id, _, _) in counts {
         ids.push(id.value())?;
     }
@@ -75,172 +72,283 @@ fn has_any<T: Listed>(old: &Tables, infos: &[T::Info]) -> bool
     false
 }
 
-fn repeats_kind<T: Listed>(
+fn is_told_twice<T: Listed>(alloc: Global, stats: &[T::Stats]) -> Result<bool, AllocError>
+    ensures { IfOk result (λ is. is ≡ spec.has_twice (map (inner.stats_id_by T.kind) stats.now)) }
+{
+    let ids = told_ids::<T>(alloc, stats)?;
+    Ok(Ids::new(alloc, &ids)?.is_none())
+}
+
+// What is found of poll counts, whose resources need not be there.
+fn look_at_counts(
+    alloc: Global,
+    counts: &[(ResourceId, u64, u64)],
+) -> Result<Finding, AllocError>
+    ensures { IfOk result (λ f. f ≡ inner.finding (spec.has_twice (map counts_id counts.now)) false) }
+{
+    let ids = counted_ids(alloc, counts)?;
+    match Ids::new(alloc, &ids)? {
+        Some(_) => Ok(Finding::Sound),
+        None => Ok(Finding::Repeats),
+    }
+}
+
+// Whether what is told is of an item that is neither there nor new.
+fn is_stranger<T: Listed>(old: &Tables, new: &Ids, told: &T::Stats) -> bool
+    ensures { result ≡ inner.is_stranger T.kind (T.items old.now) new.now told.now }
+{
+    !(T::has_told(old, told) || new.has(T::stats_id(told)))
+}
+
+fn has_stranger<T: Listed>(old: &Tables, new: &Ids, stats: &[T::Stats]) -> bool
+    ensures { result ≡ list_any (inner.is_stranger T.kind (T.items old.now) new.now) stats.now }
+{
+    for told in stats {
+        if is_stranger::<T>(old, new, told) {
+            return true;
+        }
+    }
+    false
+}
+
+// What is found where the new ids are these.
+fn look_beside<T: Listed>(alloc: Global, old: &Tables, ids: &[u64], stats: &[T::Stats]) -> Result<Finding, AllocError>
+    ensures { IfOk result (λ f. f ≡ inner.finding (spec.has_twice ids.now) (list_any (inner.is_stranger T.kind (T.items old.now) ids.now) stats.now)) }
+{
+    match Ids::new(alloc, ids)? {
+        Some(new) => {
+            if has_stranger::<T>(old, &new, stats) {
+                Ok(Finding::Strange)
+            } else {
+                Ok(Finding::Sound)
+            }
+        }
+        None => Ok(Finding::Repeats),
+    }
+}
+
+// What is found of one kind.
+fn look<T: Listed>(
     alloc: Global,
     old: &Tables,
     infos: &[T::Info],
     stats: &[T::Stats],
-) -> Result<bool, AllocError>
-    ensures { IfOk result (λ is. is ≡ spec.repeats_kind T.kind (T.items old.now) infos.now stats.now) }
+) -> Result<Finding, AllocError>
+    ensures { IfOk result (λ f. f ≡ inner.finding (spec.repeats_kind T.kind (T.items old.now) infos.now stats.now) (spec.strange_kind T.kind (T.items old.now) infos.now stats.now)) }
 {
-    let new = info_ids::<T>(alloc, infos)?;
-    let told = told_ids::<T>(alloc, stats)?;
-    Ok(has_any::<T>(old, infos) || has_twice(&new) || has_twice(&told))
-}
-
-fn repeats_id(alloc: Global, old: &Tables, line: &Line) -> Result<bool, AllocError>
-    ensures { IfOk result (λ is. is ≡ spec.repeats_id old.now line.now) }
-{
-    let tasks = repeats_kind::<Task>(alloc, old, line.new_tasks(), line.task_stats())?;
-    let resources = repeats_kind::<Resource>(
-        alloc,
-        old,
-        line.new_resources(),
-        line.resource_stats(),
-    )?;
-    let ops = repeats_kind::<Op>(alloc, old, line.new_ops(), line.op_stats())?;
-    let counted = counted_ids(alloc, line.poll_counts())?;
-    Ok(tasks || resources || ops || has_twice(&counted))
-}
-
-fn is_new<T: Listed>(infos: &[T::Info], id: u64) -> bool
-    ensures { result ≡ spec.has_id (inner.info_id_by T.kind) id infos.now }
-{
-    for info in infos {
-        if id == T::info_id(info) {
-            return true;
-        }
+    if has_any::<T>(old, infos) || is_told_twice::<T>(alloc, stats)? {
+        return Ok(Finding::Repeats);
     }
-    false
+    let ids = info_ids::<T>(alloc, infos)?;
+    look_beside::<T>(alloc, old, &ids, stats)
 }
 
-// Whether what is told is of an item that is neither there nor new.
-fn is_strange<T: Listed>(old: &Tables, infos: &[T::Info], told: &T::Stats) -> bool
-    ensures { result ≡ spec.is_strange T.kind (T.items old.now) infos.now told.now }
+fn worse(a: Finding, b: Finding) -> Finding
+    ensures { result ≡ inner.worse a b }
 {
-    !(T::has_told(old, told) || is_new::<T>(infos, T::stats_id(told)))
-}
-
-fn strange_kind<T: Listed>(old: &Tables, infos: &[T::Info], stats: &[T::Stats]) -> bool
-    ensures { result ≡ spec.strange_kind T.kind (T.items old.now) infos.now stats.now }
-{
-    for told in stats {
-        if is_strange::<T>(old, infos, told) {
-            return true;
-        }
+    match (a, b) {
+        (Finding::Repeats, _) | (_, Finding::Repeats) => Finding::Repeats,
+        (Finding::Strange, _) | (_, Finding::Strange) => Finding::Strange,
+        (Finding::Sound, Finding::Sound) => Finding::Sound,
     }
-    false
 }
 
-fn has_strange_id(old: &Tables, line: &Line) -> bool
-    ensures { result ≡ spec.has_strange_id old.now line.now }
+// What is found in a line.
+fn look_at(alloc: Global, old: &Tables, line: &Line) -> Result<Finding, AllocError>
+    ensures { IfOk result (λ f. f ≡ inner.finding (spec.repeats_id old.now line.now) (spec.has_strange_id old.now line.now)) }
 {
-    strange_kind::<Task>(old, line.new_tasks(), line.task_stats())
-        || strange_kind::<Resource>(old, line.new_resources(), line.resource_stats())
-        || strange_kind::<Op>(old, line.new_ops(), line.op_stats())
+    let tasks = look::<Task>(alloc, old, line.new_tasks(), line.task_stats())?;
+    let resources = look::<Resource>(alloc, old, line.new_resources(), line.resource_stats())?;
+    let ops = look::<Op>(alloc, old, line.new_ops(), line.op_stats())?;
+    let counts = look_at_counts(alloc, line.poll_counts())?;
+    Ok(worse(tasks, worse(resources, worse(ops, counts))))
 }
 
-fn told_of<T: Listed>(stats: &[T::Stats], id: u64) -> Option<T::Stats>
+fn told_of<T: Listed>(told: &Ids, stats: &[T::Stats], id: u64) -> Option<T::Stats>
+    requires { told.now ≡ map (inner.stats_id_by T.kind) stats.now }
     ensures { result ≡ inner.told_of T.kind stats.now id }
 {
-    for told in stats {
-        if id == T::stats_id(told) {
-            return Some(*told);
-        }
-    }
-    None
-}
-
-fn tell_at<T: Listed>(tables: &mut Tables, i: usize, told: Option<T::Stats>)
-    requires { i < length (T.items tables.old) }
-    ensures { tables.new ≡ T.with_items tables.old (inner.retold_at T.kind (T.items tables.old) i told) }
-{
-    if let Some(told) = told {
-        T::tell(tables, i, &told);
+    match told.place(id) {
+        Some(i) => Some(stats[i]),
+        None => None,
     }
 }
 
-// Each item takes what is told of it.
-fn tell_all<T: Listed>(tables: &mut Tables, stats: &[T::Stats])
-    ensures { tables.new ≡ T.with_items tables.old (map (told_item T.kind stats.now) (T.items tables.old)) }
-{
-    for i in 0..T::count(tables) {
-        let id = T::id_at(tables, i);
-        tell_at::<T>(tables, i, told_of::<T>(stats, id));
-    }
-}
-
-// The new items go last, each with what is told of it.
-fn add_all<T: Listed>(
+// The new items go last, each with what is told of it, which is found by these ids.
+fn add_each<T: Listed>(
     tables: &mut Tables,
+    told: &Ids,
     infos: &[T::Info],
     stats: &[T::Stats],
 ) -> Result<(), Fault>
-    requires absent { list_any (inner.has_info T.kind (T.items tables.old)) infos.now ≡ false }
-    requires once { spec.has_twice (map (inner.info_id_by T.kind) infos.now) ≡ false }
-    ensures { Answers (λ _. tables.new) result
+    requires ids { told.now ≡ map (inner.stats_id_by T.kind) stats.now }
+    requires once { spec.repeats_kind T.kind (T.items tables.old) infos.now stats.now ≡ false }
+    ensures added { Answers (λ _. tables.new) result
         (inner.with_new T.with_items tables.old (T.items tables.old) (new_items T.kind stats.now infos.now)) }
+    ensures grown { inner.Grown tables.old tables.new }
 {
     for info in infos {
-        let Some(told) = told_of::<T>(stats, T::info_id(info)) else {
+        let Some(own) = told_of::<T>(told, stats, T::info_id(info)) else {
             return Err(Fault::Misfit);
         };
-        T::add(tables, info, &told)?;
+        T::add(tables, info, &own)?;
     }
     Ok(())
 }
 
-// Items of one kind after a line.
-fn take_kind<T: Listed>(
+// The new items go last, each with what is told of it.
+fn add_all<T: Listed>(
+    alloc: Global,
     tables: &mut Tables,
     infos: &[T::Info],
     stats: &[T::Stats],
 ) -> Result<(), Fault>
     requires { spec.repeats_kind T.kind (T.items tables.old) infos.now stats.now ≡ false }
-    ensures { Answers (λ _. tables.new) result (inner.with_kind T.with_items tables.old
-        (items_after T.kind (T.items tables.old) infos.now stats.now)) }
+    ensures added { Answers (λ _. tables.new) result
+        (inner.with_new T.with_items tables.old (T.items tables.old) (new_items T.kind stats.now infos.now)) }
+    ensures grown { inner.Grown tables.old tables.new }
 {
-    tell_all::<T>(tables, stats);
-    add_all::<T>(tables, infos, stats)
+    let ids = told_ids::<T>(alloc, stats)?;
+    match Ids::new(alloc, &ids)? {
+        Some(told) => add_each::<T>(tables, &told, infos, stats),
+        None => unreachable!(),
+    }
 }
 
-// Items, counts and numbers after a line that repeats no id.
-fn take_items(tables: &mut Tables, line: &Line) -> Result<(), Fault>
-    requires { spec.repeats_id tables.old line.now ≡ false }
-    ensures { Answers (λ _. tables.new) result (inner.or_misfit (after.tables_after tables.old line.now)) }
+// New items of one kind, if there are any, go last.
+fn add_new<T: Listed>(
+    alloc: Global,
+    tables: &mut Tables,
+    infos: &[T::Info],
+    stats: &[T::Stats],
+) -> Result<(), Fault>
+    requires { spec.repeats_kind T.kind (T.items tables.old) infos.now stats.now ≡ false }
+    ensures added { Answers (λ _. tables.new) result
+        (inner.with_new T.with_items tables.old (T.items tables.old) (new_items T.kind stats.now infos.now)) }
+    ensures grown { inner.Grown tables.old tables.new }
 {
-    take_kind::<Task>(tables, line.new_tasks(), line.task_stats())?;
-    take_kind::<Resource>(tables, line.new_resources(), line.resource_stats())?;
-    take_kind::<Op>(tables, line.new_ops(), line.op_stats())?;
-    tell_counts(tables, line.poll_counts())?;
-    tables.set_totals(line.dropped(), line.now());
+    if infos.is_empty() {
+        Ok(())
+    } else {
+        add_all::<T>(alloc, tables, infos, stats)
+    }
+}
+
+// New items and new counts go last.
+fn grow(alloc: Global, tables: &mut Tables, line: &Line) -> Result<(), Fault>
+    requires { spec.repeats_id tables.old line.now ≡ false }
+    ensures added { Answers (λ _. tables.new) result (inner.or_misfit (inner.tables_grown tables.old line.now)) }
+    ensures grown { inner.Grown tables.old tables.new }
+{
+    add_new::<Task>(alloc, tables, line.new_tasks(), line.task_stats())?;
+    add_new::<Resource>(alloc, tables, line.new_resources(), line.resource_stats())?;
+    add_new::<Op>(alloc, tables, line.new_ops(), line.op_stats())?;
+    add_counts(tables, line.poll_counts())?;
     Ok(())
 }
 
-// The tables after a line that repeats no id.
-fn tables_after(old: &Tables, line: &Line) -> Result<Tables, Fault>
-    requires { spec.repeats_id old.now line.now ≡ false }
-    ensures { Answers (λ tables. tables) result (inner.or_misfit (after.tables_after old.now line.now)) }
+fn tell_at<T: Listed>(tables: &mut Tables, told: &T::Stats)
+    ensures { tables.new ≡ T.with_items tables.old (inner.retold_by T.kind (T.items tables.old) told.now) }
 {
-    let mut tables = old.copy()?;
-    take_items(&mut tables, line)?;
-    Ok(tables)
+    if let Some(i) = T::place(tables, told) {
+        T::tell(tables, i, told);
+    }
 }
 
-/// The tables that a line makes of old ones.
-#[tactic(auto, unfolding(crate::specs::Taking::line_applied))]
-pub(crate) fn apply_line(alloc: Global, old: &Tables, line: &Line) -> Result<Tables, Fault>
-    ensures { Answers (λ tables. tables) result (spec.line_applied old.now line.now) }
+// The items of which something is told take it.
+fn tell_all<T: Listed>(tables: &mut Tables, stats: &[T::Stats])
+    requires distinct { inner.HaveOneId T.kind (T.items tables.old) }
+    requires once { spec.has_twice (map (inner.stats_id_by T.kind) stats.now) ≡ false }
+    ensures { tables.new ≡ T.with_items tables.old (map (told_item T.kind stats.now) (T.items tables.old)) }
 {
-    if repeats_id(alloc, old, line)? {
-        return Err(Fault::Repeated);
+    for told in stats {
+        tell_at::<T>(tables, told);
     }
-    if has_strange_id(old, line) {
-        return Err(Fault::UnknownId);
+}
+
+// Rows, counts and numbers that are told take the place of those that are there.
+fn tell_line(tables: &mut Tables, line: &Line)
+    requires once { inner.TellsOnce line.now }
+    requires counted { inner.AreCounted tables.old.counts line.now.poll_counts }
+    ensures { tables.new ≡ inner.tables_told tables.old line.now }
+{
+    tables.task_count();
+    tell_all::<Task>(tables, line.task_stats());
+    tell_all::<Resource>(tables, line.resource_stats());
+    tell_all::<Op>(tables, line.op_stats());
+    tell_counts(tables, line.poll_counts());
+    tables.set_totals(line.dropped(), line.now());
+}
+
+// What goes in behind the others, where the line then has no fault.
+fn grow_fitting(alloc: Global, tables: &mut Tables, line: &Line) -> Result<(), Fault>
+    requires once { spec.repeats_id tables.old line.now ≡ false }
+    requires known { spec.has_strange_id tables.old line.now ≡ false }
+    requires fit { spec.are_fitting tables.old ≡ true }
+    ensures applied { Answers (λ _. inner.tables_told tables.new line.now) result (spec.line_applied tables.old line.now) }
+    ensures counted { OnOk result (inner.AreCounted tables.new.counts line.now.poll_counts) }
+    ensures grown { inner.Grown tables.old tables.new }
+{
+    match grow(alloc, tables, line) {
+        Ok(()) => {
+            if rows_fit(tables, line) {
+                Ok(())
+            } else {
+                Err(Fault::Misfit)
+            }
+        }
+        Err(fault) => Err(fault),
     }
-    let tables = tables_after(old, line)?;
-    if !are_fitting(&tables) {
-        return Err(Fault::Misfit);
+}
+
+// Grows the tables, or leaves them as they are.
+fn grow_or_cut(alloc: Global, tables: &mut Tables, line: &Line) -> Result<(), Fault>
+    requires once { spec.repeats_id tables.old line.now ≡ false }
+    requires known { spec.has_strange_id tables.old line.now ≡ false }
+    requires fit { spec.are_fitting tables.old ≡ true }
+    ensures applied { Answers (λ _. inner.tables_told tables.new line.now) result (spec.line_applied tables.old line.now) }
+    ensures counted { OnOk result (inner.AreCounted tables.new.counts line.now.poll_counts) }
+    ensures kept { OnErr result (tables.new ≡ tables.old) }
+{
+    let tasks = tables.task_count();
+    let resources = tables.resource_count();
+    let ops = tables.op_count();
+    let counted = tables.counted();
+    let grown = grow_fitting(alloc, tables, line);
+    if grown.is_err() {
+        tables.cut(tasks, resources, ops, counted);
     }
-    Ok(tables)
+    grown
+}
+
+// Applies a line without a repeated or a strange id.
+fn apply_sound(alloc: Global, tables: &mut Tables, line: &Line) -> Result<(), Fault>
+    requires once { spec.repeats_id tables.old line.now ≡ false }
+    requires known { spec.has_strange_id tables.old line.now ≡ false }
+    requires fit { spec.are_fitting tables.old ≡ true }
+    ensures applied { Answers (λ _. tables.new) result (spec.line_applied tables.old line.now) }
+    ensures kept { OnErr result (tables.new ≡ tables.old) }
+{
+    match grow_or_cut(alloc, tables, line) {
+        Ok(()) => {
+            tell_line(tables, line);
+            Ok(())
+        }
+        Err(fault) => Err(fault),
+    }
+}
+
+/// Makes of tables what a line makes of them, or leaves them as they are.
+#[tactic(auto, unfolding(crate::specs::Taking::line_applied))]
+pub(crate) fn apply_line(alloc: Global, tables: &mut Tables, line: &Line) -> Result<(), Fault>
+    requires fit { spec.are_fitting tables.old ≡ true }
+    ensures applied { Answers (λ _. tables.new) result (spec.line_applied tables.old line.now) }
+    ensures kept { OnErr result (tables.new ≡ tables.old) }
+    ensures fit { spec.are_fitting tables.new ≡ true }
+{
+    match look_at(alloc, tables, line)? {
+        Finding::Repeats => Err(Fault::Repeated),
+        Finding::Strange => Err(Fault::UnknownId),
+        Finding::Sound => apply_sound(alloc, tables, line),
+    }
 }

@@ -9,6 +9,7 @@ use tk_stream::{Tables, Task};
 
 impl Listed for Task {
     ghost use Rattle.std.specs.Prelude.{refl};
+    ghost use Rattle.tk_client.specs.Told.{begins_same};
     ghost use Rattle.tk_stream.specs.Applied.{task_kind};
 
     type Info = TaskInfo;
@@ -20,14 +21,6 @@ impl Listed for Task {
     ghost items = { λ tables. tables.tasks };
 
     ghost with_items = { λ tables items. record tables { tasks = items } };
-
-    fn count(tables: &Tables) -> usize {
-        tables.task_count()
-    }
-
-    fn id_at(tables: &Tables, i: usize) -> u64 {
-        tables.task_at(i).unwrap().info.id.value()
-    }
 
     fn info_id(info: &TaskInfo) -> u64 {
         info.id.value()
@@ -45,6 +38,10 @@ impl Listed for Task {
         tables.task(stats.0).is_some()
     }
 
+    fn place(tables: &Tables, stats: &(TaskId, TaskRow)) -> Option<usize> {
+        tables.task_place(stats.0)
+    }
+
     fn tell(tables: &mut Tables, i: usize, stats: &(TaskId, TaskRow)) {
         tables.set_task(i, stats.1);
     }
@@ -60,6 +57,8 @@ impl Listed for Task {
             Err((refused, _)) => Err(refused),
         }
     }
+
+    ghost grows = { λ t xs b. record { tasks = b; resources = begins_same t.resources; ops = begins_same t.ops; counts = begins_same t.counts; dropped = refl; now = refl } };
 
     ghost same_id = { λ info stats. refl };
 

@@ -31,7 +31,7 @@ pub struct Warning {
     pub kind: WarningKind,
 }
 
-fn is_spawn(kind: TaskKind) -> bool
+pub(crate) fn is_spawn(kind: TaskKind) -> bool
     ensures { result ≡ spec.is_spawn kind }
 {
     match kind {
@@ -50,7 +50,7 @@ fn wakes_itself(percent: u64, row: &TaskRow) -> bool
     wakes > 0 && 100 * own > u128::from(percent) * wakes
 }
 
-fn has_lost_waker(row: &TaskRow) -> bool
+pub(crate) fn has_lost_waker(row: &TaskRow) -> bool
     ensures { result ≡ spec.has_lost_waker row.now }
 {
     row.dropped.is_none() && !row.polling && !row.scheduled && row.clones == row.drops
@@ -86,7 +86,7 @@ fn push_if(
     Ok(())
 }
 
-/// Adds the warnings of a task in tables of this moment.
+// Adds the warnings of a task in tables of this moment.
 pub(crate) fn warn(
     list: &mut Vec<Warning>,
     lints: &Lints,

@@ -19,7 +19,7 @@ use Rattle.tk_events.specs.Buffer.{first, spent, keeps, notes, takes, limits, ma
 use Rattle.tk_cell.specs.Views.{times}
 use Rattle.tk_cell.specs.Parts.{total}
 use Rattle.tk_cell.proofs.ListLemmas.{dec_eq, times-append, times_itself, times_other, total_set, total_snoc, total_one, total_two, total_none}
-use Rattle.tk_events.proofs.ListLemmas.{times_one, times_at, each_set, at_below, by_mine, by_other, by_none, all_right, pairs_left}
+use Rattle.tk_events.proofs.ListLemmas.{times_one, times_at, each_set, at_below, by_mine, by_other, by_none, all_left, all_right, pairs_left}
 
 -- how a view with a role answers for a number
 holds_recorder : (n : ℕ) (v : View) → v.role ≡ Records → holds n v ≡ times n (v.number ∷ [])
@@ -166,6 +166,7 @@ balances pass v role items views k at =
     record {
       known = subst (λ (t : ℕ × List Offer). All (IsKnown t.0 (t.1 ++ offers_of items)) v.known) (λ i. (sym mine.made' i, sym mine.taken' i)) mine.known;
       once = λ n. let t = total_one (holds n) views pass v at in let a = holds_taker n v role in let o = k.once n in omega (arith, t, a, o);
+      named = subst (λ (t : ℕ × List Offer). All (IsNamed t.0) (t.1 ++ offers_of items)) (λ i. (sym mine.made' i, sym mine.taken' i)) k.named;
       rises = subst (λ (l : List Offer). Rises (l ++ offers_of items)) (sym mine.taken') k.rises;
     }
 
@@ -446,3 +447,7 @@ merges pass v other u takes' records items views k at two at' = j_kept pass v ot
 pub rises_taken : (v : View) (left : List Offer) → IsBalanced v left → Rises v.taken
 rises_taken v left b p = pairs_left (λ (x y : Offer). x.number < y.number) (by p v.taken) (by p left)
     (subst (λ (l : List Offer). AllPairs (λ x y. x.number < y.number) l) (filter-append (λ (x : Offer). Rattle.std.specs.Prelude.nat_eq x.recorder p) v.taken left) (b.rises p))
+
+-- what was taken is of recorders that were made
+pub named_taken : (v : View) (left : List Offer) → IsBalanced v left → All (IsNamed v.made) v.taken
+named_taken v left b = all_left (IsNamed v.made) v.taken left b.named

@@ -113,4 +113,5 @@ pub record IsContentFor (v : View) (items : List Item) : Type 0 where
 pub record IsBalanced (v : View) (left : List Offer) : Type 0 where
   pub known : All (IsKnown v.made (v.taken ++ left)) v.known
   pub once : (n : ℕ) → times n (numbers_known v.known) ≤ 1
+  pub named : All (IsNamed v.made) (v.taken ++ left)
   pub rises : Rises (v.taken ++ left)

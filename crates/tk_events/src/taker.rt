@@ -8,7 +8,7 @@ ghost use Rattle.tk_events.specs.declared.error.FinishError.TheVariants.{Missing
 ghost use Rattle.tk_events.specs.declared.item.Offer.{Offer};
 ghost use Rattle.tk_events.specs.Offers.{shown, offers_of, Rises};
 ghost use Rattle.tk_events.specs.Items.{Agrees};
-ghost use Rattle.tk_events.specs.Buffer.{first, limits as limited};
+ghost use Rattle.tk_events.specs.Buffer.{first, limits as limited, IsNamed};
 ghost use Rattle.tk_events.specs.Handles.{new_taking, with_taken, offers_of_all, finished_with, IsWhole, AreLeft, AllTaken, place, AreExact};
 ghost use Rattle.tk_events.specs.Parts.{making, knowing, IsReading, totals_of};
 
@@ -142,6 +142,7 @@ impl Taker {
         ensures ok { OnOk result (self.new ≡ finished_with self.old retired.items) }
         ensures whole { OnOk result (IsWhole self.new.recorders self.new.known) }
         ensures left { OnOk result ((left : List Offer) × AreLeft self.new left) }
+        ensures named { OnOk result (All (IsNamed self.new.recorders) self.new.taken) }
         ensures rises { Rises self.new.taken }
         ensures ok_only { OnOk result ((self.old.finished ≡ false) × (self.old.recorders ≤ length retired.items)) }
         ensures finished { IfErr result (λ e. e.0 ≡ Finished → self.old.finished ≡ true) }

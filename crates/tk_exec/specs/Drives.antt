@@ -73,3 +73,14 @@ module _ {W A C : Type 0} (reads : C → ℕ → C → Type 0) (gives : W → A 
   -- what a driver may answer
   abbrev pub DriverGives : Driving W A C → Ran A → Type 0
   DriverGives driver ran = RanGives driver.tasks driver.clock driver.idle driver.max_idle ran
+
+  -- exactly one turn was made, behind which the driver goes on
+  pub record OneTurn (old new : Driving W A C) : Type 0 where
+    pub before : Tasks W A
+    pub after : Tasks W A
+    pub answer : Turn
+    pub stood : old.tasks ≡ Some before
+    pub stands : new.tasks ≡ Some after
+    pub turned : TurnDoes reads gives before answer after old.clock new.clock
+    pub idle : new.idle ≡ idle_after old.idle answer
+    pub most : new.max_idle ≡ old.max_idle

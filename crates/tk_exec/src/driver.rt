@@ -86,13 +86,21 @@ impl<'a, R: Wait, W: Work, C: Clock + Drop> Driver<'a, R, W, C> {
 }
 
 impl<R: Wait, W: Work, C: Clock + Drop> Future for Driver<'_, R, W, C> {
-    ghost use Rattle.tk_exec.specs.Drives.{DriverGives};
+    ghost use Rattle.futures.specs.Poll.{IfReady, OnPending};
+    ghost use Rattle.futures.specs.Task.{Covers, Keeps};
+    ghost use Rattle.tk_exec.specs.Drives.{DriverGives, OneTurn};
 
     type Output = Ran<W::Out>;
 
     ghost gives = { λ driver ran. DriverGives C.reads W.gives driver ran };
 
-    fn poll(&mut self, cx: &mut Context<'_>) -> Poll<Ran<W::Out>> {
+    fn poll(&mut self, cx: &mut Context<'_>) -> Poll<Ran<W::Out>>
+        ensures value { IfReady result (DriverGives C.reads W.gives self.old) }
+        ensures same { OnPending result ((x : _) → DriverGives C.reads W.gives self.new x → DriverGives C.reads W.gives self.old x) }
+        ensures turned { OnPending result (OneTurn C.reads W.gives self.old self.new) }
+        ensures registered { OnPending result (Covers cx.new (λ _. ⊥)) }
+        ensures kept { Keeps cx.old cx.new }
+    {
         let Some(mut run) = self.run.take() else {
             return Poll::Ready(Ran::Stalled(0));
         };

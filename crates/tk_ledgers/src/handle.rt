@@ -56,6 +56,7 @@ impl<O: Sequential, K: Role<O::Call>> Handle<O, K> {
     }
 
     /// Makes a call that isn't the caller's last.
+    #[inline(always)]
     pub fn call<R: Wait>(&mut self, rt: &R, call: O::Call) -> O::Reply
         requires may { role_may O.meaning K.role call ≡ true }
         requires goes_on { O.meaning.is_last call ≡ false }
@@ -67,6 +68,7 @@ impl<O: Sequential, K: Role<O::Call>> Handle<O, K> {
     }
 
     /// Makes a call, and no more after it.
+    #[inline(always)]
     pub fn last_call<R: Wait>(self, rt: &R, call: O::Call) -> (O::Reply, Token<O>)
         requires may { role_may O.meaning K.role call ≡ true }
         ensures own { result.1.ledger ≡ self.ledger }
@@ -98,6 +100,7 @@ impl<O: Sequential, K: Role<O::Call>> Handle<O, K> {
 
 impl<O: Sequential<Reply = Reply<O>>, K: Role<O::Call>> Handle<O, K> {
     /// Makes a call that is done or refused.
+    #[inline(always)]
     pub fn attempt<R: Wait>(&mut self, rt: &R, call: O::Call) -> Result<(), Refusal>
         requires may { role_may O.meaning K.role call ≡ true }
         requires goes_on { O.meaning.is_last call ≡ false }
@@ -115,6 +118,7 @@ impl<O: Sequential<Reply = Reply<O>>, K: Role<O::Call>> Handle<O, K> {
     }
 
     /// Makes a call that shows the row.
+    #[inline(always)]
     pub fn read<R: Wait>(&mut self, rt: &R, call: O::Call) -> O
         requires may { role_may O.meaning K.role call ≡ true }
         requires goes_on { O.meaning.is_last call ≡ false }
@@ -130,6 +134,7 @@ impl<O: Sequential<Reply = Reply<O>>, K: Role<O::Call>> Handle<O, K> {
     }
 
     /// Makes a call that wakes, and isn't the caller's last.
+    #[inline(always)]
     pub fn wake<R: Wait>(&mut self, rt: &R, call: O::Call) -> WakeReply
         requires may { role_may O.meaning K.role call ≡ true }
         requires goes_on { O.meaning.is_last call ≡ false }
@@ -145,6 +150,7 @@ impl<O: Sequential<Reply = Reply<O>>, K: Role<O::Call>> Handle<O, K> {
     }
 
     /// Makes a call that wakes, and no more after it.
+    #[inline(always)]
     pub fn last_wake<R: Wait>(self, rt: &R, call: O::Call) -> (WakeReply, Token<O>)
         requires may { role_may O.meaning K.role call ≡ true }
         requires form { Gives O.meaning IsWake call }
@@ -160,6 +166,7 @@ impl<O: Sequential<Reply = Reply<O>>, K: Role<O::Call>> Handle<O, K> {
     }
 
     /// Makes a call that is done, and no more after it.
+    #[inline(always)]
     pub fn last_done<R: Wait>(self, rt: &R, call: O::Call) -> Token<O>
         requires may { role_may O.meaning K.role call ≡ true }
         requires form { Gives O.meaning IsDone call }
@@ -174,6 +181,7 @@ impl<O: Sequential<Reply = Reply<O>>, K: Role<O::Call>> Handle<O, K> {
 
     /// Draws a number by a call, and splits off its caller. The share of the ledger is taken first: where there
     /// is no memory for it, nothing is done.
+    #[inline(always)]
     pub fn draw<D: Role<O::Call>, R: Wait>(
         &mut self,
         rt: &R,

@@ -1,6 +1,6 @@
 -- Entries that stand under their own ids.
 use Rattle.std.proofs.Common.{◌≡◌, ℕ, zero, suc, List, [], ◌∷◌, ◌++◌, Bool, true, false, cond, nat_eq, map, take, slice_get, Some, refl, ap, ap₂, sym, ◌∙◌}
-use Rattle.std.specs.List.{AllZip}
+use Rattle.std.specs.List.{AllZip, AllByRecursion}
 use Rattle.std.proofs.lemmas.Bool.{eqb-true}
 use Rattle.std.proofs.lemmas.Option.{same_Some}
 use Rattle.std.specs.Map.{lookup, keys_of, values_of}
@@ -66,3 +66,28 @@ module _ {Item : Type 0} (id_of : Item → ℕ) where
           → values_of (cond b ((e.0, x) ∷ es) (e ∷ insert_entry nat_eq es (id_of x) x)) ≡ cond b (x ∷ values_of es) (e.1 ∷ put_item id_of x (values_of es))
       by true rest = refl
       by false rest = ap (λ xs. e.1 ∷ xs) rest
+
+-- ---- what holds of all items of entries
+
+module _ {Item : Type 0} (P : Item → Type 0) where
+  pub all-push : (es : List (ℕ × Item)) (k : ℕ) (x : Item) → AllByRecursion P (values_of es) → P x → AllByRecursion P (values_of (es ++ (k, x) ∷ []))
+  all-push [] k x all p = (p, tt)
+  all-push (e ∷ es) k x all p = (all.0, all-push es k x all.1 p)
+
+  pub all-take : (n : ℕ) (es : List (ℕ × Item)) → AllByRecursion P (values_of es) → AllByRecursion P (values_of (take n es))
+  all-take zero es all = tt
+  all-take (suc n) [] all = tt
+  all-take (suc n) (e ∷ es) all = (all.0, all-take n es all.1)
+
+  pub all-set : (es : List (ℕ × Item)) (i : ℕ) (x : Item) → AllByRecursion P (values_of es) → P x → AllByRecursion P (values_of (set_value_at es i x))
+  all-set [] i x all p = tt
+  all-set (e ∷ es) zero x all p = (p, all.1)
+  all-set (e ∷ es) (suc i) x all p = (all.0, all-set es i x all.1 p)
+
+  pub all-insert : (es : List (ℕ × Item)) (k : ℕ) (x : Item) → AllByRecursion P (values_of es) → P x → AllByRecursion P (values_of (insert_entry nat_eq es k x))
+  all-insert [] k x all p = (p, tt)
+  all-insert (e ∷ es) k x all p = by (nat_eq k e.0) (all-insert es k x all.1 p)
+    where
+      by : (b : Bool) → AllByRecursion P (values_of (insert_entry nat_eq es k x)) → AllByRecursion P (values_of (cond b ((e.0, x) ∷ es) (e ∷ insert_entry nat_eq es k x)))
+      by true rest = (p, all.1)
+      by false rest = (all.0, rest)

@@ -1,4 +1,3 @@
-pub mod Written
 pub mod NoEnds
 pub mod Keyed
 pub mod Kept
@@ -10,3 +9,16 @@ pub mod Round
 pub mod Decoded
 pub mod LinesLemmas
 pub mod AppliedLemmas
+pub mod Behind
+pub mod FrontLemmas
+pub mod ReadingLemmas
+pub mod RangeLemmas
+pub mod SendLemmas
+pub mod KindLemmas
+pub mod HandleLemmas
+pub mod StandingLemmas
+pub mod RefreshLemmas
+pub mod TakeInLemmas
+pub mod GatherLemmas
+pub mod FollowLemmas
+pub mod LaterLemmas

@@ -15,6 +15,17 @@ pub mod Reading
 -- The numbers of errors
 pub mod Errors
 -- Inner: no public clause cites these
-pub mod Put
 pub mod Entries
 pub mod Kept
+pub mod Behind
+-- Where an item stands in its list
+pub mod Places
+pub mod Fronts
+-- An aggregator
+pub mod Sent
+pub mod Streams
+pub mod Readings
+pub mod Absorbing
+pub mod Aggregates
+pub mod StreamErrors
+pub mod Standing

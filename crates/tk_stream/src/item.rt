@@ -1,8 +1,10 @@
 //! What tables hold in order of arrival.
 ghost use Rattle.std.specs.Prelude.{◌≡◌, ℕ};
 
+use crate::ranged::Ranged;
+
 /// What stands in a table: something with an id, and with a row that changes.
-pub(crate) trait Item: Drop + Clone {
+pub(crate) trait Item: Drop + Clone + Ranged {
     /// The part that changes.
     type Row: Copy;
 
@@ -10,13 +12,20 @@ pub(crate) trait Item: Drop + Clone {
 
     ghost with_row: { Self → Self.Row → Self };
 
+    ghost row_of: { Self → Self.Row };
+
     fn id(&self) -> u64
         ensures { result ≡ id_of self.now };
+
+    fn row(&self) -> Self::Row
+        ensures { result ≡ row_of self.now };
 
     fn set_row(&mut self, row: Self::Row)
         ensures { self.new ≡ with_row self.old row };
 
     ghost keeps_id: { (item : Self) (row : Self.Row) → id_of (with_row item row) ≡ id_of item };
+
+    ghost own_row: { (item : Self) → with_row item (row_of item) ≡ item };
 
     ghost copies: { (a b : Self) → Self.is_clone a b → b ≡ a };
 }

@@ -7,35 +7,46 @@
 //! - [`laws`]: what holds of the definitions by themselves.
 #![tactic(auto)]
 
-mod attrs;
+mod aggregator;
 mod between;
 mod counts;
 mod error;
 mod fields;
-mod infos;
 mod item;
+mod ledgered;
 pub mod laws;
 mod line;
 mod op;
-mod op_stats;
+mod pieces;
+mod putting;
 mod ranged;
 mod read_infos;
 mod read_stats;
 mod reading;
 mod resource;
-mod resource_stats;
 mod rows;
+mod sent;
 mod shaped;
-mod spelled;
+mod stream_error;
 mod table;
 mod tables;
+mod take_infos;
+mod take_stats;
+mod takes;
+mod taking;
 mod task;
-mod task_stats;
 mod told;
+mod write_infos;
+mod write_stats;
+mod told_rows;
+mod told_tables;
 
+pub use aggregator::Aggregator;
 pub use error::LineError;
 pub use line::Line;
 pub use op::Op;
 pub use resource::Resource;
+pub use sent::{Unsent, send};
+pub use stream_error::StreamError;
 pub use tables::Tables;
 pub use task::Task;

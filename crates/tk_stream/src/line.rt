@@ -21,24 +21,29 @@
 //! and what is absent is `null`.
 //!
 //! `specs/Lines.antt` says what a line says, and `specs/Spelling.antt` how it is spelled.
-ghost use Rattle.std.specs.Prelude.{◌≡◌, true, IfOk, OnOk, if◌then◌else◌, IsTrue};
-ghost use Rattle.serde_json.specs.View.{view, members_view};
+ghost use Rattle.std.specs.Prelude.{◌≡◌, ◌++◌, [], true, IfOk, IfSome, OnOk, if◌then◌else◌, IsTrue};
+ghost use Rattle.serde_json.specs.View.{view};
+ghost use Rattle.serde_json.specs.Written.{compact_text};
 ghost use Rattle.tk_stream.specs.Lines as lines;
 ghost use Rattle.tk_stream.specs.Outcome.{Answers, shaped};
 ghost use Rattle.tk_stream.specs.Reading as reading;
 ghost use Rattle.tk_stream.specs.Spelling as spec;
-ghost use Rattle.tk_stream.specs.Put as inner;
+ghost use Rattle.tk_stream.specs.Behind.{Puts, Takes};
 ghost use Rattle.std.specs.List.{AllByRecursion};
 ghost use Rattle.tk_stream.specs.Ranges as ranges;
 
-use crate::between::{new_infos, told_stats};
+use crate::between::{infos_behind, new_infos, stats_beside, told_stats};
 use crate::error::LineError;
+use crate::pieces::{put_flag, put_number, put_text};
+use crate::putting::put_list;
 use crate::ranged::{see_all, see_number, see_totals};
 use crate::reading::{LineParts, json_of};
 use crate::shaped::list_of;
-use crate::spelled::put_list;
 use crate::tables::Tables;
-use serde_json::{Map, Value, json, put};
+use crate::takes::{take_flag, take_number, take_text};
+use crate::taking::{some_of, take_list};
+use crate::told_tables::ToldTables;
+use serde_json::Value;
 use std::alloc::{AllocError, Global};
 use std::marker::Model;
 use tk_core::{OpRow, ResourceRow, TaskRow};
@@ -101,6 +106,7 @@ impl Line {
     ghost use Rattle.tk_stream.specs.Ranges.{IsLine};
     ghost use Rattle.tk_stream.specs.Tables.{empty_tables};
     ghost use Rattle.tk_stream.specs.Reading.{line_of_text};
+    ghost use Rattle.tk_stream.specs.Fronts.{FitsIn, told_tables};
 
     /// The line numbered `seq` that leads from the old tables to the new ones: the infos of the items that are new, the
     /// rows of the items that are new or whose row differs, the poll counts that are new or differ, each list in the order
@@ -149,6 +155,47 @@ impl Line {
         })
     }
 
+    /// The line numbered `seq` that leads from the tables that were told to the tables at a moment, or, where nothing was
+    /// told, their snapshot.
+    pub(crate) fn behind(
+        alloc: Global,
+        told: &ToldTables,
+        tables: &Tables,
+        now: u64,
+        seq: u64,
+        snapshot: bool,
+    ) -> Result<Line, LineError>
+        requires numbered { lines.is_seq seq ≡ true }
+        requires fits { FitsIn told.now tables.now }
+        ensures ok { IfOk result (λ line. line ≡ record (lines.line_between (told_tables told.now tables.now) (record tables.now { now = now }) seq) { snapshot = snapshot }) }
+        ensures memory { IfErr result (λ e. e ≡ LineError.Memory) }
+    {
+        let dropped = tables.dropped();
+        let new_ops = infos_behind(alloc, &told.ops, &tables.ops)?;
+        let new_resources = infos_behind(alloc, &told.resources, &tables.resources)?;
+        let new_tasks = infos_behind(alloc, &told.tasks, &tables.tasks)?;
+        let op_stats = stats_beside(alloc, &told.ops, &tables.ops)?;
+        let poll_counts = stats_beside(alloc, &told.counts, &tables.counts)?;
+        let resource_stats = stats_beside(alloc, &told.resources, &tables.resources)?;
+        let task_stats = stats_beside(alloc, &told.tasks, &tables.tasks)?;
+        see_numbers(dropped, now);
+        see_new_items(&new_ops, &new_resources, &new_tasks);
+        see_stats(&op_stats, &poll_counts, &resource_stats, &task_stats);
+        Ok(Line {
+            dropped,
+            new_ops,
+            new_resources,
+            new_tasks,
+            moment: now,
+            op_stats,
+            poll_counts,
+            resource_stats,
+            seq,
+            snapshot,
+            task_stats,
+        })
+    }
+
     /// The line of a text: the JSON object that `serde_json` reads, with exactly a line's keys, each with a value of its
     /// kind. White space between its parts and the order of its keys are free.
     ///
@@ -158,6 +205,10 @@ impl Line {
     pub fn read(alloc: Global, bytes: &[u8]) -> Result<Line, LineError>
         ensures { Answers (λ line. line) result (line_of_text bytes.now) }
     {
+        if let Some(line) = take_line(alloc, bytes)? {
+            line.ranges();
+            return Ok(line);
+        }
         let value = json_of(alloc, bytes)?;
         line_of(alloc, &value)
     }
@@ -171,39 +222,28 @@ impl Line {
         ensures memory { IfErr result (λ e. e ≡ LineError.Memory) }
         ensures reads_back { IfOk result (λ text. line_of_text text.items ≡ Ok self.now) }
     {
-        let alloc = *self.new_tasks.allocator();
-        let value = self.to_value(alloc)?;
-        Ok(value.to_vec(alloc)?)
+        let mut out = Vec::new(*self.new_tasks.allocator());
+        self.put(&mut out)?;
+        Ok(out)
     }
 
-    fn to_value(&self, alloc: Global) -> Result<Value, AllocError>
-        ensures { IfOk result (λ v. view v ≡ spec.line_data self.now) }
+    fn put(&self, out: &mut Vec<u8>) -> Result<(), AllocError>
+        ensures { OnOk result (Puts out.old.items out.new.items (spec.line_text self.now)) }
     {
-        let mut map = Map::new(alloc);
-        put_totals(
-            alloc,
-            &mut map,
-            self.dropped,
-            self.moment,
-            self.seq,
-            self.snapshot,
-        )?;
-        put_new_items(
-            alloc,
-            &mut map,
-            self.new_ops.as_slice(),
-            self.new_resources.as_slice(),
-            self.new_tasks.as_slice(),
-        )?;
-        put_stats(
-            alloc,
-            &mut map,
-            self.op_stats.as_slice(),
-            self.poll_counts.as_slice(),
-            self.resource_stats.as_slice(),
-            self.task_stats.as_slice(),
-        )?;
-        Ok(Value::Object(map))
+        put_dropped(out, b"{\"dropped\":", self.dropped)?;
+        put_list(out, b",\"new_ops\":", self.new_ops.as_slice())?;
+        put_list(out, b",\"new_resources\":", self.new_resources.as_slice())?;
+        put_list(out, b",\"new_tasks\":", self.new_tasks.as_slice())?;
+        put_number(out, b",\"now\":", self.moment)?;
+        put_list(out, b",\"op_stats\":", self.op_stats.as_slice())?;
+        put_list(out, b",\"poll_counts\":", self.poll_counts.as_slice())?;
+        put_list(out, b",\"resource_stats\":", self.resource_stats.as_slice())?;
+        put_number(out, b",\"seq\":", self.seq)?;
+        put_flag(out, b",\"snapshot\":", self.snapshot)?;
+        put_list(out, b",\"task_stats\":", self.task_stats.as_slice())?;
+        put_number(out, b",\"v\":", 1)?;
+        put_text(out, b"}")?;
+        Ok(())
     }
 
     /// How many tasks, resources and async operations were dropped in all.
@@ -337,69 +377,16 @@ fn see_stats(
     see_all(tasks);
 }
 
-#[tactic(auto, unfolding(crate::specs::Put::with_fields))]
-fn put_totals(
-    alloc: Global,
-    map: &mut Map<String, Value>,
-    dropped: Dropped,
-    now: u64,
-    seq: u64,
-    snapshot: bool,
-) -> Result<(), AllocError>
-    ensures { OnOk result (members_view map.new.entries
-        ≡ inner.with_totals dropped now seq snapshot (members_view map.old.entries)) }
+fn put_dropped(out: &mut Vec<u8>, before: &[u8], dropped: Dropped) -> Result<(), AllocError>
+    ensures { OnOk result (Puts out.old.items out.new.items
+        (before.now ++ compact_text (spec.dropped_data dropped))) }
 {
-    put(map, alloc, "dropped", dropped_value(alloc, dropped)?)?;
-    put(map, alloc, "now", Value::from(now))?;
-    put(map, alloc, "seq", Value::from(seq))?;
-    put(map, alloc, "snapshot", Value::from(snapshot))?;
-    put(map, alloc, "v", Value::from(1u64))?;
+    put_text(out, before)?;
+    put_number(out, b"[", dropped.tasks)?;
+    put_number(out, b",", dropped.resources)?;
+    put_number(out, b",", dropped.ops)?;
+    put_text(out, b"]")?;
     Ok(())
-}
-
-#[tactic(auto, unfolding(crate::specs::Put::with_fields))]
-fn put_new_items(
-    alloc: Global,
-    map: &mut Map<String, Value>,
-    ops: &[OpInfo],
-    resources: &[ResourceInfo],
-    tasks: &[TaskInfo],
-) -> Result<(), AllocError>
-    ensures { OnOk result (members_view map.new.entries
-        ≡ inner.with_new_items ops.now resources.now tasks.now (members_view map.old.entries)) }
-{
-    put_list(alloc, map, "new_ops", ops)?;
-    put_list(alloc, map, "new_resources", resources)?;
-    put_list(alloc, map, "new_tasks", tasks)?;
-    Ok(())
-}
-
-#[tactic(auto, unfolding(crate::specs::Put::with_fields))]
-fn put_stats(
-    alloc: Global,
-    map: &mut Map<String, Value>,
-    ops: &[(AsyncOpId, OpRow)],
-    counts: &[(ResourceId, u64, u64)],
-    resources: &[(ResourceId, ResourceRow)],
-    tasks: &[(TaskId, TaskRow)],
-) -> Result<(), AllocError>
-    ensures { OnOk result (members_view map.new.entries
-        ≡ inner.with_stats ops.now counts.now resources.now tasks.now (members_view map.old.entries)) }
-{
-    put_list(alloc, map, "op_stats", ops)?;
-    put_list(alloc, map, "poll_counts", counts)?;
-    put_list(alloc, map, "resource_stats", resources)?;
-    put_list(alloc, map, "task_stats", tasks)?;
-    Ok(())
-}
-
-fn dropped_value(alloc: Global, dropped: Dropped) -> Result<Value, AllocError>
-    ensures { IfOk result (λ v. view v ≡ spec.dropped_data dropped) }
-{
-    let tasks = dropped.tasks;
-    let resources = dropped.resources;
-    let ops = dropped.ops;
-    json!(in alloc; [tasks, resources, ops])
 }
 
 #[tactic(auto, unfolding(crate::specs::Reading::line_of))]
@@ -432,4 +419,67 @@ fn line_of(alloc: Global, value: &Value) -> Result<Line, LineError>
         snapshot: parts.snapshot,
         task_stats,
     })
+}
+
+fn take_dropped<'a>(bytes: &'a [u8], before: &[u8]) -> Option<(Dropped, &'a [u8])>
+    ensures { IfSome result (λ x. Takes bytes.now
+        (before.now ++ compact_text (spec.dropped_data x.0)) x.1.now) }
+{
+    let rest = take_text(bytes, before)?;
+    let (tasks, rest) = take_number(rest, b"[")?;
+    let (resources, rest) = take_number(rest, b",")?;
+    let (ops, rest) = take_number(rest, b",")?;
+    let rest = take_text(rest, b"]")?;
+    let dropped = Dropped {
+        tasks,
+        resources,
+        ops,
+    };
+    Some((dropped, rest))
+}
+
+// The line, where its text is spelled as it is written.
+fn take_line(alloc: Global, bytes: &[u8]) -> Result<Option<Line>, AllocError>
+    ensures { IfOk result (λ o. IfSome o (λ line. Takes bytes.now (spec.line_text line) [])) }
+{
+    let (dropped, rest) = some_of!(take_dropped(bytes, b"{\"dropped\":"));
+    let (new_ops, rest) = some_of!(take_list(alloc, rest, b",\"new_ops\":[")?);
+    let (new_resources, rest) = some_of!(take_list(alloc, rest, b",\"new_resources\":[")?);
+    let (new_tasks, rest) = some_of!(take_list(alloc, rest, b",\"new_tasks\":[")?);
+    let (moment, rest) = some_of!(take_number(rest, b",\"now\":"));
+    let (op_stats, rest) = some_of!(take_list(alloc, rest, b",\"op_stats\":[")?);
+    let (poll_counts, rest) = some_of!(take_list(alloc, rest, b",\"poll_counts\":[")?);
+    let (resource_stats, rest) = some_of!(take_list(alloc, rest, b",\"resource_stats\":[")?);
+    let (seq, rest) = some_of!(take_number(rest, b",\"seq\":"));
+    let (snapshot, rest) = some_of!(take_flag(rest, b",\"snapshot\":"));
+    let (task_stats, rest) = some_of!(take_list(alloc, rest, b",\"task_stats\":[")?);
+    let rest = some_of!(take_text(rest, b",\"v\":1}"));
+    if rest.len() > 0 {
+        return Ok(None);
+    }
+    if !is_seq(seq) {
+        return Ok(None);
+    }
+    see_numbers(dropped, moment);
+    see_new_items(&new_ops, &new_resources, &new_tasks);
+    see_stats(&op_stats, &poll_counts, &resource_stats, &task_stats);
+    Ok(Some(Line {
+        dropped,
+        new_ops,
+        new_resources,
+        new_tasks,
+        moment,
+        op_stats,
+        poll_counts,
+        resource_stats,
+        seq,
+        snapshot,
+        task_stats,
+    }))
+}
+
+fn is_seq(seq: u64) -> bool
+    ensures { result ≡ lines.is_seq seq }
+{
+    1 <= seq && seq <= 1 << 63
 }

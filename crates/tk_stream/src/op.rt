@@ -2,6 +2,7 @@
 ghost use Rattle.std.specs.Prelude.{◌≡◌};
 
 use crate::item::Item;
+use crate::ranged::Ranged;
 use crate::rows::same_op_row;
 use crate::told::{Described, Told};
 use std::alloc::AllocError;
@@ -32,14 +33,19 @@ impl Clone for Op {
 impl Item for Op {
     ghost use Rattle.std.proofs.Common.{refl, sym};
     ghost use Rattle.tk_stream.specs.Tables.{op_id};
+    ghost use Rattle.tk_stream.specs.Fronts.{op_at};
 
     type Row = OpRow;
 
     ghost id_of = { op_id };
 
-    ghost with_row = { λ item row. record item { row = row } };
+    ghost with_row = { op_at };
+
+    ghost row_of = { λ item. item.row };
 
     ghost keeps_id = { λ item row. refl };
+
+    ghost own_row = { λ item. refl };
 
     ghost copies = { λ a b e. sym e };
 
@@ -47,8 +53,24 @@ impl Item for Op {
         self.info.id.value()
     }
 
+    fn row(&self) -> OpRow {
+        self.row
+    }
+
     fn set_row(&mut self, row: OpRow) {
         self.row = row;
+    }
+}
+
+/// Its info and its row are in their ranges.
+impl Ranged for Op {
+    ghost use Rattle.tk_stream.specs.Ranges.{IsOpInfo, AreOpStats};
+
+    ghost in_range = { λ item. IsOpInfo item.info × AreOpStats (item.info.id, item.row) };
+
+    fn see(&self) {
+        self.info.see();
+        (self.info.id, self.row).see();
     }
 }
 
@@ -63,6 +85,10 @@ impl Told for Op {
 
     fn is_same(&self, other: &Op) -> bool {
         same_op_row(&self.row, &other.row)
+    }
+
+    fn has_row(&self, row: &OpRow) -> bool {
+        same_op_row(row, &self.row)
     }
 
     fn stats(&self) -> (AsyncOpId, OpRow) {

@@ -2,6 +2,7 @@
 ghost use Rattle.std.specs.Prelude.{◌≡◌};
 
 use crate::item::Item;
+use crate::ranged::Ranged;
 use crate::rows::same_resource_row;
 use crate::told::{Described, Told};
 use std::alloc::AllocError;
@@ -32,14 +33,19 @@ impl Clone for Resource {
 impl Item for Resource {
     ghost use Rattle.std.proofs.Common.{refl, sym};
     ghost use Rattle.tk_stream.specs.Tables.{resource_id};
+    ghost use Rattle.tk_stream.specs.Fronts.{resource_at};
 
     type Row = ResourceRow;
 
     ghost id_of = { resource_id };
 
-    ghost with_row = { λ item row. record item { row = row } };
+    ghost with_row = { resource_at };
+
+    ghost row_of = { λ item. item.row };
 
     ghost keeps_id = { λ item row. refl };
+
+    ghost own_row = { λ item. refl };
 
     ghost copies = { λ a b e. sym e };
 
@@ -47,8 +53,24 @@ impl Item for Resource {
         self.info.id.value()
     }
 
+    fn row(&self) -> ResourceRow {
+        self.row
+    }
+
     fn set_row(&mut self, row: ResourceRow) {
         self.row = row;
+    }
+}
+
+/// Its info and its row are in their ranges.
+impl Ranged for Resource {
+    ghost use Rattle.tk_stream.specs.Ranges.{IsResourceInfo, AreResourceStats};
+
+    ghost in_range = { λ item. IsResourceInfo item.info × AreResourceStats (item.info.id, item.row) };
+
+    fn see(&self) {
+        self.info.see();
+        (self.info.id, self.row).see();
     }
 }
 
@@ -63,6 +85,10 @@ impl Told for Resource {
 
     fn is_same(&self, other: &Resource) -> bool {
         same_resource_row(&self.row, &other.row)
+    }
+
+    fn has_row(&self, row: &ResourceRow) -> bool {
+        same_resource_row(row, &self.row)
     }
 
     fn stats(&self) -> (ResourceId, ResourceRow) {

@@ -1,7 +1,8 @@
 //! Items in order of arrival, each found by its place or by its id.
 ghost use Rattle.std.specs.Prelude.{◌≡◌, ◌<◌, ◌++◌, ◌∷◌, [], length, slice_get, nat_eq, map, take, None, IfOk, OnOk, OnErr, IfErr, IsOk, IsSome, option_map};
-ghost use Rattle.std.specs.List.{IsDistinct};
+ghost use Rattle.std.specs.List.{IsDistinct, AllByRecursion};
 ghost use Rattle.tk_stream.specs.Tables.{item_with, changed_at, put_item};
+ghost use Rattle.tk_stream.specs.Places.{place_with};
 
 use crate::item::Item;
 use indexmap::IndexMap;
@@ -17,13 +18,14 @@ pub(crate) struct Table<T: Item> {
 impl<T: Item> Model for Table<T> {
     ghost use Rattle.std.specs.Prelude.{List};
     ghost use Rattle.std.specs.Map.{values_of};
+    ghost use Rattle.std.specs.List.{AllByRecursion};
     ghost use Rattle.tk_stream.specs.Entries.{AreKeyed};
 
     ghost Value = { List T };
 
     ghost view = { λ t. values_of t.map.entries };
 
-    ghost invariant = { λ t. AreKeyed T.id_of t.map.entries };
+    ghost invariant = { λ t. AreKeyed T.id_of t.map.entries × AllByRecursion T.in_range (values_of t.map.entries) };
 }
 
 impl<T: Item> Table<T> {
@@ -38,6 +40,7 @@ impl<T: Item> Table<T> {
     pub(crate) fn len(&self) -> usize
         ensures count { result ≡ length self.now }
         ensures distinct { IsDistinct nat_eq (map T.id_of self.now) }
+        ensures in_range { AllByRecursion T.in_range self.now }
     {
         self.map.len()
     }
@@ -55,6 +58,13 @@ impl<T: Item> Table<T> {
         self.map.get(&id)
     }
 
+    /// The place of the item with an id.
+    pub(crate) fn place(&self, id: u64) -> Option<usize>
+        ensures { result ≡ place_with T.id_of id self.now }
+    {
+        self.map.get_index_of(&id)
+    }
+
     /// Puts an item last, or gives it back.
     pub(crate) fn push(&mut self, item: T) -> Result<(), T>
         requires { item_with T.id_of (T.id_of item) self.old ≡ None }
@@ -62,6 +72,7 @@ impl<T: Item> Table<T> {
         ensures err { OnErr result (self.new ≡ self.old) }
         ensures returned { IfErr result (λ back. back ≡ item) }
     {
+        item.see();
         match self.map.insert(item.id(), item) {
             Ok(_) => Ok(()),
             Err(failed) => {
@@ -77,6 +88,7 @@ impl<T: Item> Table<T> {
         ensures err { OnErr result (self.new ≡ self.old) }
         ensures replaced { IsSome (item_with T.id_of (T.id_of item) self.old) → IsOk result }
     {
+        item.see();
         match self.map.insert(item.id(), item) {
             Ok(_) => Ok(()),
             Err(_) => Err(AllocError),
@@ -88,7 +100,9 @@ impl<T: Item> Table<T> {
         requires { i < length self.old }
         ensures { self.new ≡ changed_at (λ item. T.with_row item row) self.old i }
     {
-        self.map[i].set_row(row);
+        let item = &mut self.map[i];
+        item.set_row(row);
+        item.see();
     }
 
     /// Keeps the first so many items.

@@ -5,6 +5,7 @@
 ghost use Rattle.std.specs.Prelude.{◌≡◌, ◌<◌, length, slice_get, None, IfOk, OnOk, OnErr, IfErr, IsOk, IsSome, option_map};
 
 use crate::op::Op;
+use crate::ranged::{see_number, see_totals};
 use crate::resource::Resource;
 use crate::table::Table;
 use crate::task::Task;
@@ -44,7 +45,9 @@ impl Model for Tables {
 
 /// Look-ups.
 impl Tables {
-    ghost use Rattle.tk_stream.specs.Tables.{AreDistinct, empty_tables, task_with, resource_with, op_with, counts_of};
+    ghost use Rattle.tk_stream.specs.Tables.{AreDistinct, empty_tables, task_with, resource_with, op_with, counts_of, task_id, resource_id, op_id, counts_id};
+    ghost use Rattle.tk_stream.specs.Places.{place_with};
+    ghost use Rattle.tk_stream.specs.Streams.{AreInRange};
 
     /// Tables without items, whose numbers are 0. Today they take no memory, so there always are such tables.
     pub fn new(alloc: Global) -> Result<Tables, AllocError>
@@ -90,6 +93,13 @@ impl Tables {
         self.tasks.with_id(id.value())
     }
 
+    /// The place of the task with an id, counted from 0 in order of arrival.
+    pub fn task_place(&self, id: TaskId) -> Option<usize>
+        ensures { result ≡ place_with task_id id self.now.tasks }
+    {
+        self.tasks.place(id.value())
+    }
+
     /// How many resources there are.
     pub fn resource_count(&self) -> usize
         ensures { result ≡ length self.now.resources }
@@ -109,6 +119,13 @@ impl Tables {
         ensures { option_map (λ r. r.now) result ≡ resource_with id self.now.resources }
     {
         self.resources.with_id(id.value())
+    }
+
+    /// The place of the resource with an id, counted from 0 in order of arrival.
+    pub fn resource_place(&self, id: ResourceId) -> Option<usize>
+        ensures { result ≡ place_with resource_id id self.now.resources }
+    {
+        self.resources.place(id.value())
     }
 
     /// How many async operations there are.
@@ -132,6 +149,13 @@ impl Tables {
         self.ops.with_id(id.value())
     }
 
+    /// The place of the async operation with an id, counted from 0 in order of arrival.
+    pub fn op_place(&self, id: AsyncOpId) -> Option<usize>
+        ensures { result ≡ place_with op_id id self.now.ops }
+    {
+        self.ops.place(id.value())
+    }
+
     /// How many resources have poll counts.
     pub fn counted(&self) -> usize
         ensures { result ≡ length self.now.counts }
@@ -149,6 +173,13 @@ impl Tables {
         }
     }
 
+    /// The place of the poll counts of a resource, counted from 0 in order of arrival.
+    pub fn counts_place(&self, id: ResourceId) -> Option<usize>
+        ensures { result ≡ place_with counts_id id self.now.counts }
+    {
+        self.counts.place(id.value())
+    }
+
     /// How many tasks, resources and async operations were dropped in all.
     pub fn dropped(&self) -> Dropped
         ensures { result ≡ self.now.dropped }
@@ -161,6 +192,19 @@ impl Tables {
         ensures { result ≡ self.now.now }
     {
         self.moment
+    }
+
+    /// No item stands twice, and all values are in the ranges of their types. This does nothing.
+    pub(crate) fn see(&self)
+        ensures distinct { AreDistinct self.now }
+        ensures in_range { AreInRange self.now }
+    {
+        self.tasks.len();
+        self.resources.len();
+        self.ops.len();
+        self.counts.len();
+        see_totals(self.dropped);
+        see_number(self.moment);
     }
 
     /// Equal tables.

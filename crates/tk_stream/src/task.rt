@@ -2,6 +2,7 @@
 ghost use Rattle.std.specs.Prelude.{◌≡◌};
 
 use crate::item::Item;
+use crate::ranged::Ranged;
 use crate::rows::same_row;
 use crate::told::{Described, Told};
 use std::alloc::AllocError;
@@ -32,14 +33,19 @@ impl Clone for Task {
 impl Item for Task {
     ghost use Rattle.std.proofs.Common.{refl, sym};
     ghost use Rattle.tk_stream.specs.Tables.{task_id};
+    ghost use Rattle.tk_stream.specs.Fronts.{task_at};
 
     type Row = TaskRow;
 
     ghost id_of = { task_id };
 
-    ghost with_row = { λ item row. record item { row = row } };
+    ghost with_row = { task_at };
+
+    ghost row_of = { λ item. item.row };
 
     ghost keeps_id = { λ item row. refl };
+
+    ghost own_row = { λ item. refl };
 
     ghost copies = { λ a b e. sym e };
 
@@ -47,8 +53,24 @@ impl Item for Task {
         self.info.id.value()
     }
 
+    fn row(&self) -> TaskRow {
+        self.row
+    }
+
     fn set_row(&mut self, row: TaskRow) {
         self.row = row;
+    }
+}
+
+/// Its info and its row are in their ranges.
+impl Ranged for Task {
+    ghost use Rattle.tk_stream.specs.Ranges.{IsTaskInfo, AreTaskStats};
+
+    ghost in_range = { λ item. IsTaskInfo item.info × AreTaskStats (item.info.id, item.row) };
+
+    fn see(&self) {
+        self.info.see();
+        (self.info.id, self.row).see();
     }
 }
 
@@ -63,6 +85,10 @@ impl Told for Task {
 
     fn is_same(&self, other: &Task) -> bool {
         same_row(&self.row, &other.row)
+    }
+
+    fn has_row(&self, row: &TaskRow) -> bool {
+        same_row(row, &self.row)
     }
 
     fn stats(&self) -> (TaskId, TaskRow) {

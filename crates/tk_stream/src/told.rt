@@ -16,6 +16,10 @@ pub(crate) trait Told: Item {
     fn is_same(&self, other: &Self) -> bool
         ensures { result ≡ same self.now other.now };
 
+    /// The same, beside a row that was told of it.
+    fn has_row(&self, row: &Self::Row) -> bool
+        ensures { result ≡ same (Self.Item.with_row self.now row.now) self.now };
+
     fn stats(&self) -> Self::Stats
         ensures { result ≡ stats_of self.now };
 }

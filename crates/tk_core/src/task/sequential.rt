@@ -14,14 +14,17 @@ impl Sequential for TaskRow {
 
     ghost meaning = { task_meaning };
 
+    #[inline(always)]
     fn to_words(&self) -> [u64; 16] {
         self.to_words()
     }
 
+    #[inline(always)]
     fn from_words(words: &[u64; 16]) -> Option<Self> {
         TaskRow::from_words(words)
     }
 
+    #[inline(always)]
     fn step(&self, call: TaskCall) -> (TaskRow, Reply<TaskRow>) {
         self.step(call)
     }

@@ -9,6 +9,7 @@ use crate::task::{TaskCall, TaskRow};
 
 impl TaskRow {
     /// One call: the next row, and the reply.
+    #[inline(always)]
     pub fn step(&self, call: TaskCall) -> (TaskRow, Reply<TaskRow>)
         ensures { Follows task_kind self.now call result }
     {
@@ -25,6 +26,7 @@ impl TaskRow {
         }
     }
 
+    #[inline(always)]
     fn start_poll(&self, moment: u64) -> (TaskRow, Reply<TaskRow>)
         ensures { Follows task_kind self.now (TaskCall.PollStart moment) result }
     {
@@ -46,6 +48,7 @@ impl TaskRow {
         (row, Reply::Done)
     }
 
+    #[inline(always)]
     fn end_poll(&self, moment: u64) -> (TaskRow, Reply<TaskRow>)
         ensures { Follows task_kind self.now (TaskCall.PollEnd moment) result }
     {
@@ -65,6 +68,7 @@ impl TaskRow {
         (row, Reply::Done)
     }
 
+    #[inline(always)]
     fn close(&self, moment: u64) -> (TaskRow, Reply<TaskRow>)
         ensures { Follows task_kind self.now (TaskCall.Close moment) result }
     {
@@ -82,6 +86,7 @@ impl TaskRow {
         (row, Reply::Done)
     }
 
+    #[inline(always)]
     fn clone_waker(&self) -> (TaskRow, Reply<TaskRow>)
         ensures { Follows task_kind self.now TaskCall.CloneWaker result }
     {
@@ -97,6 +102,7 @@ impl TaskRow {
         (row, Reply::Number(handles))
     }
 
+    #[inline(always)]
     fn wake_by_value(&self, moment: u64, from_self: bool) -> (TaskRow, Reply<TaskRow>)
         ensures { Follows task_kind self.now (TaskCall.WakeVal moment from_self) result }
     {
@@ -108,6 +114,7 @@ impl TaskRow {
         (row, Reply::Woken(self.found_by_wake()))
     }
 
+    #[inline(always)]
     fn wake_by_ref(&self, moment: u64, from_self: bool) -> (TaskRow, Reply<TaskRow>)
         ensures { Follows task_kind self.now (TaskCall.WakeRef moment from_self) result }
     {
@@ -117,6 +124,7 @@ impl TaskRow {
         )
     }
 
+    #[inline(always)]
     fn release(&self) -> (TaskRow, Reply<TaskRow>)
         ensures { Follows task_kind self.now TaskCall.Release result }
     {
@@ -127,6 +135,7 @@ impl TaskRow {
         (row, Reply::Done)
     }
 
+    #[inline(always)]
     fn enlist(&self) -> (TaskRow, Reply<TaskRow>)
         ensures { Follows task_kind self.now TaskCall.Enlist result }
     {
@@ -145,6 +154,7 @@ impl TaskRow {
     ghost use Rattle.tk_core.specs.Task.{found_by_wake};
 
     /// How long a task that is scheduled has waited for a poll.
+    #[inline(always)]
     fn wait_until(&self, moment: u64) -> u64
         ensures { result ≡ if self.now.scheduled then moment - max self.now.created (max (unwrap_or self.now.last_wake 0) (unwrap_or self.now.last_ended 0)) else 0 }
     {
@@ -157,6 +167,7 @@ impl TaskRow {
     }
 
     /// What a wake finds.
+    #[inline(always)]
     fn found_by_wake(&self) -> WakeReply
         ensures { result ≡ found_by_wake self.now }
     {
@@ -170,6 +181,7 @@ impl TaskRow {
     }
 
     /// The row after a wake.
+    #[inline(always)]
     fn woken(&self, moment: u64, from_self: bool) -> TaskRow
         ensures { result ≡ record self.now { wakes = min (self.now.wakes + 1) (2 ^ 64 - 1); self_wakes = if from_self then min (self.now.self_wakes + 1) (2 ^ 64 - 1) else self.now.self_wakes; last_wake = Some (max (unwrap_or self.now.last_wake 0) moment); scheduled = not (is_some self.now.dropped) } }
     {

@@ -8,6 +8,7 @@ use crate::moment::moment_of;
 use crate::task::TaskRow;
 
 impl TaskRow {
+    #[inline(always)]
     fn flags(&self) -> u64
         ensures { result ≡ number_of_bits (flags_of self.now) }
     {
@@ -29,6 +30,7 @@ impl TaskRow {
 
     /// The words of the row.
     #[tactic(auto, unfolding(crate::specs::TaskWords::words_of))]
+    #[inline(always)]
     pub fn to_words(&self) -> [u64; 16]
         ensures { result ≡ words_of self.now }
     {
@@ -53,6 +55,7 @@ impl TaskRow {
     }
 
     /// The row that has these words, where there is one, and otherwise some row.
+    #[inline(always)]
     fn decode(words: &[u64; 16]) -> Self
         ensures { (row : TaskRow) → words_of row ≡ words.now → result ≡ row }
     {
@@ -85,6 +88,7 @@ impl TaskRow {
     }
 
     /// The row that has these words: `None` exactly where no row has them.
+    #[inline(always)]
     pub fn from_words(words: &[u64; 16]) -> Option<Self>
         ensures { (row : TaskRow) → (result ≡ Some row) ↔ (words_of row ≡ words.now) }
     {

@@ -1,33 +1,8 @@
-use Rattle.std.proofs.Common.{◌≡◌, ◌+◌, ◌++◌, ◌∷◌, [], List, Some, Option, drop, false, ap, sym, ◌∙◌}
-use Rattle.std.specs.Prelude.{map}
-use Rattle.std.specs.List.{list_any}
-use Rattle.tk_stream.specs.Applied.{new_items}
-use Rattle.tk_stream.specs.Tables.{TablesView}
-use Rattle.tk_client.specs.Taking.{has_twice}
-use Rattle.tk_client.specs.Told.{has_info, info_id_by, told_of, made, with_new}
-use Rattle.tk_client.proofs.TakeLemmas.{one_step, adds, misfits, absent_here, absent_next, once_next}
+use Rattle.tk_client.proofs.CutLemmas.{grown-same}
 use Rattle.tk_client.proofs.taking.add_all.Goals as goal
 
-pub loop-info-preserved : goal.loop-info-preserved
-loop-info-preserved g c =
-    let k = g.T.Listed.kind in
-    let items = g.T.Listed.items in
-    let put = g.T.Listed.with_items in
-    let stats = c.args.stats.now in
-    let v : TablesView = c.loop-info.tables in
-    let w : TablesView = c.add.new.tables in
-    let info = c.info-item.result in
-    let s = c.in-Some.told in
-    let rest = drop (c.loop-info.info-index + 1) c.args.infos.now in
-    let step : drop c.loop-info.info-index c.args.infos.now ≡ info ∷ rest = one_step c.args.infos.now c.loop-info.info-index info c.loop-info-test.true c.info-item.is in
-    let new : w ≡ put v (items v ++ made k info s ∷ []) = c.in_ok-add.ensures in
-    let is : Some s ≡ told_of k stats (info_id_by k info) = c.in-Some.ensures ∙ ap (told_of k stats) c.info_id.ensures in
-    let now : items w ≡ items v ++ made k info s ∷ [] = ap items new ∙ g.met.T.Listed.reads v (items v ++ made k info s ∷ []) in
-    let absent : list_any (has_info k (items v)) (info ∷ rest) ≡ false = ap (list_any (has_info k (items v))) (sym step) ∙ c.loop-info.invariant.absent in
-    let once : has_twice (map (info_id_by k) (info ∷ rest)) ≡ false = ap (λ l. has_twice (map (info_id_by k) l)) (sym step) ∙ c.loop-info.invariant.once in
-    record {
-      same = adds k items put g.met.T.Listed.reads g.met.T.Listed.writes v w stats info s rest is new
-          ∙ ap (λ l. with_new put v (items v) (new_items k stats l)) (sym step) ∙ c.loop-info.invariant.same;
-      absent = ap (λ xs. list_any (has_info k xs) rest) now ∙ absent_next k g.met.T.Listed.same_id (items v) info s rest absent once;
-      once = once_next k info rest once;
-    }
+pub returns-in_err-ids-clause-grown : goal.returns-in_err-ids-clause-grown
+returns-in_err-ids-clause-grown g c = grown-same c.args.tables.now
+
+pub returns-in_err-told-clause-grown : goal.returns-in_err-told-clause-grown
+returns-in_err-told-clause-grown g c = grown-same c.args.tables.now

@@ -5,9 +5,11 @@ use Rattle.tk_events.specs.declared.buffer.view.Returned.{Returned}
 use Rattle.tk_events.specs.declared.buffer.view.View.{View}
 use Rattle.tk_events.specs.Handles.{Taking, Retiring, IsWhole, offers_of_all}
 use Rattle.tk_events.specs.Parts.{IsReading, knowing}
+use Rattle.std.specs.Prelude.{All}
+use Rattle.tk_events.specs.Buffer.{IsNamed}
 use Rattle.tk_events.specs.Offers.{offers_of, Rises}
 use Rattle.tk_events.proofs.FinishLemmas.{whole}
-use Rattle.tk_events.proofs.BufferLemmas.{rises_taken}
+use Rattle.tk_events.proofs.BufferLemmas.{rises_taken, named_taken}
 use Rattle.tk_events.proofs.taker.Taker.finish.Goals as goal
 
 pub returns-then-self-clause-rises : goal.returns-then-self-clause-rises
@@ -56,3 +58,8 @@ returns-clause-left c = let l = c.settle.ensures.left in (offers_of l.0, λ k d 
 
 pub returns-clause-rises : goal.returns-clause-rises
 returns-clause-rises c = rises_taken _ _ c.settle.ensures.left.1
+
+pub returns-clause-named : goal.returns-clause-named
+returns-clause-named c =
+    subst (λ (n : ℕ). All (IsNamed n) (view c.settle.new.pass).taken) (made c ∙ sym (ap (λ (u : View). u.recorders) (after c) ∙ c.self.invariant.recorders_is))
+    (named_taken _ _ c.settle.ensures.left.1)

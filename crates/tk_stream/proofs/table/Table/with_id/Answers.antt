@@ -5,4 +5,4 @@ use Rattle.tk_stream.proofs.table.Table.with_id.Goals as goal
 
 pub returns : goal.returns
 returns g c =
-    c.get.ensures.value ∙ lookup-item_with g.T.Item.id_of c.args.id c.self.inside.map.entries c.self.invariant ∙ ap (item_with g.T.Item.id_of c.args.id) c.self.view_is
+    c.get.ensures.value ∙ lookup-item_with g.T.Item.id_of c.args.id c.self.inside.map.entries c.self.invariant.0 ∙ ap (item_with g.T.Item.id_of c.args.id) c.self.view_is

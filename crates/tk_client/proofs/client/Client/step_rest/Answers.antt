@@ -1,0 +1,36 @@
+use Rattle.std.proofs.Common.{◌≡◌, ◌∷◌, [], ap, sym, ◌∙◌, arith, take, length, length-take, ℕ}
+use Rattle.tk_client.specs.Meaning.{meaning, goes, after}
+use Rattle.tk_client.specs.Feeding.{ClientView}
+use Rattle.tk_client.proofs.Pieces.{meaning-append}
+use Rattle.tk_client.proofs.FeedLemmas.{goes-then, stopped-then, ended-stopped, at_end}
+use Rattle.tk_client.proofs.client.Client.step_rest.Goals as goal
+
+pub returns-in-Ok-clause-took : goal.returns-in-Ok-clause-took
+returns-in-Ok-clause-took c =
+    let old : ClientView = c.args.self.now in
+    let mid : ClientView = c.hold.new.self in
+    let new : ClientView = c.end_line.new.self in
+    let front = take c.args.end c.args.bytes.now in
+    let came : meaning old.max_line old.start front ≡ goes mid.start 0 = c.in_ok-hold.ensures.held.came in
+    let here : meaning old.max_line mid.start (10 ∷ []) ≡ goes new.start 1 = ap (λ m. meaning m mid.start (10 ∷ [])) (sym c.in_ok-hold.ensures.limit) ∙ c.in-Ok.ensures.ended.came in
+    record {
+      came = ap (meaning old.max_line old.start) c.requires.through ∙ goes-then old.max_line old.start mid.start new.start front (10 ∷ []) 0 1 came here;
+      sound = c.in-Ok.ensures.ended.sound;
+    }
+
+pub returns-in_default-clause-stopped : goal.returns-in_default-clause-stopped
+returns-in_default-clause-stopped c =
+    let old : ClientView = c.args.self.now in
+    let mid : ClientView = c.hold.new.self in
+    let end : ℕ = c.args.end in
+    let front = take end c.args.bytes.now in
+    let came : meaning old.max_line old.start front ≡ goes mid.start 0 = c.in_ok-hold.ensures.held.came in
+    let len : length front ≡ end = omega (arith, length-take end c.args.bytes.now, c.requires.inside) in
+    record {
+      within = omega (arith, c.requires.inside);
+      few = omega arith;
+      by = stopped-then c.in-Err.fault (meaning mid.max_line mid.start (10 ∷ [])) _ 0 end (at_end c.in-Err.fault) c.end_line.new.self
+          (ap (meaning old.max_line old.start) c.requires.through ∙ meaning-append old.max_line old.start mid.start front (10 ∷ []) 0 came
+          ∙ ap (λ k. after 0 k (meaning old.max_line mid.start (10 ∷ []))) len ∙ ap (λ m. after 0 end (meaning m mid.start (10 ∷ []))) (sym c.in_ok-hold.ensures.limit))
+          (ended-stopped c.in-Err.fault mid c.end_line.new.self c.in_default.not-Memory c.in-Err.ensures.ended);
+    }

@@ -1,0 +1,79 @@
+//! The tasks that can be warned of, by their places in the tables.
+ghost use Rattle.std.specs.Prelude.{◌≡◌, ◌++◌, ◌∷◌, [], ◌+◌, ◌≤◌, ◌<◌, length, IfOk, OnOk, if◌then◌else◌};
+ghost use Rattle.std.specs.Vec.{vec_len, vec_capacity};
+ghost use Rattle.tk_client.specs.Candidates as spec;
+ghost use Rattle.tk_client.specs.Warnings.{warnings_in};
+
+use crate::lints::Lints;
+use crate::warning::{Warning, has_lost_waker, is_spawn, warn};
+use std::alloc::{AllocError, Global};
+use tk_core::TaskRow;
+use tk_stream::{Tables, Task};
+
+fn can_hold(row: &TaskRow) -> bool
+    ensures { result ≡ spec.can_hold row.now }
+{
+    (row.wakes > 0 && row.self_wakes > 0) || has_lost_waker(row) || (row.polling && row.polls == 1)
+}
+
+fn can_warn(task: &Task) -> bool
+    ensures { result ≡ spec.can_warn task.now }
+{
+    is_spawn(task.info.kind) && can_hold(&task.row)
+}
+
+// Adds the warnings of the task at a place.
+fn warn_at(
+    list: &mut Vec<Warning>,
+    lints: &Lints,
+    tables: &Tables,
+    place: usize,
+) -> Result<(), AllocError>
+    ensures { OnOk result (list.new.items ≡ list.old.items ++ spec.warnings_at lints.now tables.now place) }
+{
+    match tables.task_at(place) {
+        Some(task) => warn(list, lints, tables.now(), task),
+        None => Ok(()),
+    }
+}
+
+/// The warnings of tables, where these are the places of the tasks that can be warned of.
+pub(crate) fn warnings_of_places(
+    alloc: Global,
+    tables: &Tables,
+    places: &[usize],
+    lints: &Lints,
+) -> Result<Vec<Warning>, AllocError>
+    requires { places.now ≡ spec.places_of tables.now.tasks }
+    ensures { IfOk result (λ list. list.items ≡ warnings_in lints.now tables.now) }
+{
+    let mut list = Vec::new(alloc);
+    for place in places {
+        warn_at(&mut list, lints, tables, *place)?;
+    }
+    Ok(list)
+}
+
+// Puts a place last where it is listed.
+fn list_if(places: &mut Vec<usize>, place: usize, is_listed: bool)
+    requires { vec_len places.old < vec_capacity places.old }
+    ensures items { places.new.items ≡ places.old.items ++ (if is_listed then place ∷ [] else []) }
+    ensures few { vec_len places.new ≤ vec_len places.old + 1 }
+    ensures room { vec_capacity places.new ≡ vec_capacity places.old }
+{
+    if is_listed {
+        places.push_reserved(place);
+    }
+}
+
+/// Lists the places of the tasks that can be warned of, where there is room for all tasks.
+pub(crate) fn list_places(places: &mut Vec<usize>, tables: &Tables)
+    requires room { length tables.now.tasks ≤ vec_capacity places.old }
+    ensures { places.new.items ≡ spec.places_of tables.now.tasks }
+{
+    places.clear();
+    for i in 0..tables.task_count() {
+        let task = tables.task_at(i).unwrap();
+        list_if(places, i, can_warn(task));
+    }
+}

@@ -1,0 +1,119 @@
+//! The tables that a client shows, to which lines are applied in place.
+ghost use Rattle.std.specs.Prelude.{◌≡◌, Ok, IfOk, OnErr};
+ghost use Rattle.tk_stream.specs.Tables.{empty_tables};
+ghost use Rattle.tk_client.specs.Meaning.{base_of};
+ghost use Rattle.tk_client.specs.Taking.{line_applied};
+ghost use Rattle.tk_client.specs.Told.{Answers};
+ghost use Rattle.tk_client.specs.Warnings.{warnings_in};
+
+use crate::candidates::{list_places, warnings_of_places};
+use crate::fault::Fault;
+use crate::lints::Lints;
+use crate::taking::apply_line;
+use crate::warning::Warning;
+use std::alloc::{AllocError, Global};
+use std::marker::Model;
+use tk_ids::Dropped;
+use tk_stream::{Line, Tables};
+
+/// Tables that lines lead to.
+#[derive(Drop)]
+pub(crate) struct Shown {
+    tables: Tables,
+    // The places of the tasks that can be warned of, rising.
+    places: Vec<usize>,
+}
+
+impl Model for Shown {
+    ghost use Rattle.std.specs.Prelude.{◌≡◌, true};
+    ghost use Rattle.tk_client.specs.Candidates.{places_of};
+    ghost use Rattle.tk_stream.specs.Tables.{TablesView};
+    ghost use Rattle.tk_client.specs.Taking.{are_fitting};
+
+    ghost Value = { TablesView };
+
+    ghost view = { λ s. s.tables };
+
+    ghost invariant = { λ s. (are_fitting s.tables ≡ true) × (s.places.items ≡ places_of s.tables.tasks) };
+}
+
+impl Shown {
+    pub(crate) fn new(alloc: Global) -> Result<Shown, AllocError>
+        ensures { result ≡ Ok empty_tables }
+    {
+        let tables = Tables::new(alloc)?;
+        Ok(Shown {
+            tables,
+            places: Vec::new(alloc),
+        })
+    }
+
+    pub(crate) fn tables(&self) -> &Tables
+        ensures { result.now ≡ self.now }
+    {
+        &self.tables
+    }
+
+    /// Empties the tables. It takes no memory.
+    pub(crate) fn clear(&mut self)
+        ensures { self.new ≡ empty_tables }
+    {
+        self.tables.cut(0, 0, 0, 0);
+        self.tables.set_totals(
+            Dropped {
+                tasks: 0,
+                resources: 0,
+                ops: 0,
+            },
+            0,
+        );
+        self.places.clear();
+    }
+
+    // Applies a line that is no snapshot.
+    fn go_on(&mut self, alloc: Global, line: &Line) -> Result<(), Fault>
+        ensures applied { Answers (λ _. self.new) result (line_applied self.old line.now) }
+        ensures kept { OnErr result (self.new ≡ self.old) }
+    {
+        let Some(tasks) = self.tables.task_count().checked_add(line.new_tasks().len()) else {
+            return Err(Fault::Memory);
+        };
+        self.places.reserve(tasks)?;
+        match apply_line(alloc, &mut self.tables, line) {
+            Ok(()) => {
+                list_places(&mut self.places, &self.tables);
+                Ok(())
+            }
+            Err(fault) => Err(fault),
+        }
+    }
+
+    /// Applies a line, or leaves the tables as they are. A snapshot stands for itself.
+    pub(crate) fn apply(&mut self, alloc: Global, line: &Line) -> Result<(), Fault>
+        ensures applied { Answers (λ _. self.new) result (line_applied (base_of self.old line.now) line.now) }
+        ensures kept { OnErr result (self.new ≡ self.old) }
+    {
+        if !line.snapshot() {
+            return self.go_on(alloc, line);
+        }
+        let mut fresh = Shown::new(alloc)?;
+        match fresh.go_on(alloc, line) {
+            Ok(()) => {
+                *self = fresh;
+                Ok(())
+            }
+            Err(fault) => Err(fault),
+        }
+    }
+
+    /// The warnings of the tables. It looks at the tasks alone that can be warned of.
+    pub(crate) fn warnings(
+        &self,
+        alloc: Global,
+        lints: &Lints,
+    ) -> Result<Vec<Warning>, AllocError>
+        ensures { IfOk result (λ list. list.items ≡ warnings_in lints.now self.now) }
+    {
+        warnings_of_places(alloc, &self.tables, &self.places, lints)
+    }
+}

@@ -1,0 +1,209 @@
+-- Pieces of a text, one behind the other.
+use Rattle.std.proofs.Common.{◌≡◌, ℕ, ◌+◌, ◌-◌, ◌*◌, ◌/◌, ◌%◌, ◌^◌, ◌<◌, ◌≤◌, decimal, List, [], ◌∷◌, ◌++◌, length, drop, take, get_or, Bool, true, false, refl, sym, ap, ◌∙◌, append_assoc, append-nil, inl, inr, arith}
+use Rattle.std.specs.Prelude.{map, ◌&&◌, ◌||◌, ◌==◌, nat_le}
+use Rattle.std.specs.List.{list_all}
+use Rattle.std.proofs.lemmas.List.{drop_more, drop_all, take_rest, flat_map_more}
+use Rattle.std.proofs.lemmas.List.Sums.{AllPass-from_list_all}
+use Rattle.std.proofs.lemmas.List.Folds.{list_all_more, list_all-append}
+use Rattle.std.proofs.lemmas.Fmt.{decimal_step, decimal_digit}
+use Rattle.std.proofs.lemmas.Slice.Eq.{bytes_eq-Decides}
+use Rattle.std.specs.Str.{bytes_eq}
+use lib.ListN.{take-append-drop}
+use Rattle.std.proofs.lemmas.Bool.{and_parts, or_parts, or_cases, cases_eq, eqb-true, eqb-false, leb-true, not-true}
+use Rattle.json.specs.Print.{escape, escape_byte}
+use Rattle.json.proofs.Printed.Strings.{escape_byte_plain}
+use Rattle.serde_json.specs.Data.{Data}
+use Rattle.serde_json.specs.View.{items_of}
+use Rattle.serde_json.specs.Written.{compact_text, items_text, comma_if}
+use Rattle.tk_ids.specs.Names.{is_name, is_printable}
+use Rattle.tk_stream.specs.Behind.{Puts, Takes, is_escaped, is_plain}
+
+-- ---- writing
+
+-- a piece was put, and more is to come
+pub behind : {old new piece : List ℕ} → Puts old new piece → (more : List ℕ) → new ++ more ≡ old ++ (piece ++ more)
+behind {old} {new} {piece} h more = ap (λ xs. xs ++ more) h.is ∙ append_assoc old piece more
+
+-- the last piece was put
+pub last : {old new piece : List ℕ} → Puts old new piece → new ≡ old ++ (piece ++ [])
+last {old} {new} {piece} h = sym (append-nil new) ∙ behind h []
+
+-- two pieces were put
+pub both : {a b c p q : List ℕ} → Puts a b p → Puts b c q → Puts a c (p ++ q)
+both {a} {b} {c} {p} {q} g h = record { is = h.is ∙ behind g q }
+
+-- a loop over a list, one item on
+pub item_put : {A : Type 0} (f : A → Data) (list : List A) (i : ℕ) (later : Bool) (item : A) (out next total : List ℕ)
+    → i < length list → item ≡ get_or list i item → Puts out next (comma_if later ++ compact_text (f item))
+    → out ++ items_text later (items_of (map f (drop i list))) ≡ total
+    → next ++ items_text true (items_of (map f (drop (i + 1) list))) ≡ total
+item_put f list i later item out next total lt is put so_far =
+    behind put _
+    ∙ ap (λ xs. out ++ xs) (append_assoc (comma_if later) (compact_text (f item)) _)
+    ∙ sym (ap (λ xs. out ++ items_text later (items_of (map f xs))) (drop_more list i item lt ∙ ap (λ x. x ∷ drop (i + 1) list) (sym is)))
+    ∙ so_far
+
+-- and at its end
+pub items_put : {A : Type 0} (f : A → Data) (list : List A) (i : ℕ) (later : Bool) (out next total : List ℕ)
+    → length list ≤ i → Puts out next (93 ∷ [])
+    → out ++ items_text later (items_of (map f (drop i list))) ≡ total → next ≡ total
+items_put f list i later out next total past put so_far =
+    put.is ∙ sym (ap (λ xs. out ++ items_text later (items_of (map f xs))) (drop_all i list past)) ∙ so_far
+
+-- ---- names
+
+-- a quote or a backslash has a backslash before it
+pub special_byte : (b : ℕ) → is_escaped b ≡ true → escape_byte b ≡ 92 ∷ b ∷ []
+unfolding escape_byte
+special_byte b e = elim (cases_eq b 34) [
+  | inl is ↦ rw is refl
+  | inr other ↦ elim (cases_eq b 92) [ inl is ↦ rw is refl | inr another ↦ absurd (neither b e other another) ]
+]
+  where
+    neither : (b : ℕ) → is_escaped b ≡ true → (b ≡ 34 → ⊥) → (b ≡ 92 → ⊥) → ⊥
+    neither b e other another = elim (or_cases _ _ e) [ inl is ↦ other (eqb-true b 34 is) | inr is ↦ another (eqb-true b 92 is) ]
+
+printable_least : (b : ℕ) → is_printable b ≡ true → 32 ≤ b
+printable_least b e = leb-true 32 b (and_parts _ _ e).0
+
+-- another printable byte stands for itself
+pub plain_byte : (b : ℕ) → is_printable b ≡ true → is_escaped b ≡ false → escape_byte b ≡ b ∷ []
+plain_byte b printable e =
+    let none = or_parts _ _ e in
+    escape_byte_plain b (eqb-false b 34 none.0) (eqb-false b 92 none.1) (printable_least b printable)
+
+-- a text of such bytes stands for itself
+pub plain_text : (bs : List ℕ) → list_all is_printable bs ≡ true → list_all is_plain bs ≡ true → escape bs ≡ bs
+plain_text [] p q = refl
+plain_text (b ∷ bs) p q =
+    let here = and_parts _ _ p in
+    let plain = and_parts _ _ q in
+    λ i. plain_byte b here.0 (not-true (is_escaped b) plain.0) i ++ plain_text bs here.1 plain.1 i
+
+pub printable_name : (bs : List ℕ) → is_name bs ≡ true → list_all is_printable bs ≡ true
+printable_name bs e = (and_parts (nat_le 1 (length bs) && nat_le (length bs) 1024) (list_all is_printable bs) e).1
+
+pub printable_at : (bs : List ℕ) (i : ℕ) → list_all is_printable bs ≡ true → i < length bs → is_printable (get_or bs i 0) ≡ true
+printable_at bs i e lt = AllPass-from_list_all is_printable bs e i 0 lt
+
+-- a loop over bytes, one byte on
+pub byte_put : (bs : List ℕ) (i : ℕ) (out next total : List ℕ) → i < length bs → Puts out next (escape_byte (get_or bs i 0))
+    → out ++ escape (drop i bs) ≡ total → next ++ escape (drop (i + 1) bs) ≡ total
+byte_put bs i out next total lt put so_far =
+    behind put _ ∙ sym (ap (λ xs. out ++ escape xs) (drop_more bs i 0 lt)) ∙ so_far
+
+-- and at its end
+pub bytes_put : (bs : List ℕ) (i : ℕ) (out total : List ℕ) → length bs ≤ i → out ++ escape (drop i bs) ≡ total → out ≡ total
+bytes_put bs i out total past so_far =
+    sym (append-nil out) ∙ sym (ap (λ xs. out ++ escape xs) (drop_all i bs past)) ∙ so_far
+
+-- a name with no byte that has a backslash before it
+pub plain_put : {old new : List ℕ} (bs : List ℕ) (plain : Bool) → is_name bs ≡ true → plain ≡ list_all is_plain bs → plain ≡ true → Puts old new bs → Puts old new (escape bs)
+plain_put {old} {new} bs plain named is so put =
+    record { is = put.is ∙ ap (λ xs. old ++ xs) (sym (plain_text bs (printable_name bs named) (sym is ∙ so))) }
+
+pub special_put : (old out new : List ℕ) (b : ℕ) (special : Bool) → special ≡ is_escaped b → special ≡ true → out ≡ old ++ 92 ∷ [] → new ≡ out ++ b ∷ [] → Puts old new (escape_byte b)
+special_put old out new b special is so one two =
+    record { is = two ∙ ap (λ xs. xs ++ b ∷ []) one ∙ append_assoc old (92 ∷ []) (b ∷ []) ∙ ap (λ xs. old ++ xs) (sym (special_byte b (sym is ∙ so))) }
+
+pub usual_put : (old new : List ℕ) (b : ℕ) (special : Bool) → is_printable b ≡ true → special ≡ is_escaped b → special ≡ false → new ≡ old ++ b ∷ [] → Puts old new (escape_byte b)
+usual_put old new b special printable is so one =
+    record { is = one ∙ ap (λ xs. old ++ xs) (sym (plain_byte b printable (sym is ∙ so))) }
+
+-- ---- reading
+
+-- two pieces were taken
+pub taken : {a b c p q : List ℕ} → Takes a p b → Takes b q c → Takes a (p ++ q) c
+taken {a} {b} {c} {p} {q} g h = record { is = g.is ∙ ap (λ xs. p ++ xs) h.is ∙ sym (append_assoc p q c) }
+
+pub text_taken : (bytes text front rest : List ℕ) (same : Bool) → front ≡ take (length text) bytes → rest ≡ drop (length text) bytes
+    → same ≡ bytes_eq front text → same ≡ true → Takes bytes text rest
+text_taken bytes text front rest same a b is so =
+    record { is = sym (take-append-drop (length text) bytes) ∙ rw (← a, ← b) (ap (λ xs. xs ++ rest) ((bytes_eq-Decides front text).0 (sym is ∙ so))) }
+
+-- a loop over digits, one digit on
+pub digit_taken : (bs : List ℕ) (i n d m : ℕ) (total : List ℕ) → i < length bs → get_or bs i 0 ≡ 48 + d → d < 10 → 0 < n → m ≡ n * 10 + d → m < 2 ^ 64
+    → decimal n ++ drop i bs ≡ total → decimal m ++ drop (i + 1) bs ≡ total
+digit_taken bs i n d m total lt is small positive next fits so_far =
+    let most : m / 10 ≡ n = omega arith in
+    let least : m % 10 ≡ d = omega arith in
+    let step : decimal m ≡ decimal n ++ ((48 + d) ∷ []) = decimal_step m (omega arith) fits ∙ rw (most, least) refl in
+    ap (λ xs. xs ++ drop (i + 1) bs) step ∙ append_assoc (decimal n) ((48 + d) ∷ []) (drop (i + 1) bs)
+    ∙ sym (ap (λ xs. decimal n ++ xs) (drop_more bs i 0 lt ∙ ap (λ x. x ∷ drop (i + 1) bs) is)) ∙ so_far
+
+-- the first digit
+pub first_taken : (bytes rest out : List ℕ) (b d n : ℕ) → bytes ≡ b ∷ rest → b ≡ 48 + d → d < 10 → decimal d ++ rest ≡ decimal n ++ out → Takes bytes (decimal n) out
+first_taken bytes rest out b d n is digit small so_far =
+    record { is = is ∙ ap (λ x. x ∷ rest) digit ∙ sym (ap (λ xs. xs ++ rest) (decimal_digit d small)) ∙ so_far }
+
+pub zero_taken : (bytes rest : List ℕ) (b d : ℕ) → bytes ≡ b ∷ rest → b ≡ 48 + d → d < 10 → d ≡ 0 → Takes bytes (decimal 0) rest
+zero_taken bytes rest b d is digit small zero_is = first_taken bytes rest rest b d 0 is digit small (ap (λ n. decimal n ++ rest) zero_is)
+
+pub first_one : (bs : List ℕ) → 1 ≤ length bs → bs ≡ get_or bs 0 0 ∷ take (length bs - 1) (drop 1 bs)
+first_one bs some = drop_more bs 0 0 (omega arith) ∙ ap (λ xs. get_or bs 0 0 ∷ xs) (sym (take_rest bs 1))
+
+-- the bytes before a quote
+pub content_taken : (bs : List ℕ) (i : ℕ) → i < length bs → get_or bs i 0 ≡ 34 → Takes bs (take i bs ++ 34 ∷ []) (drop (i + 1) bs)
+content_taken bs i lt is =
+    record { is = sym (take-append-drop i bs) ∙ ap (λ xs. take i bs ++ xs) (drop_more bs i 0 lt ∙ ap (λ x. x ∷ drop (i + 1) bs) is) ∙ sym (append_assoc (take i bs) (34 ∷ []) (drop (i + 1) bs)) }
+
+-- one plain byte more
+pub plain_more : (bs : List ℕ) (i : ℕ) (escaped : Bool) → i < length bs → escaped ≡ is_escaped (get_or bs i 0) → escaped ≡ false → list_all is_plain (take i bs) ≡ true → list_all is_plain (take (i + 1) bs) ≡ true
+plain_more bs i escaped lt is so before = list_all_more is_plain bs i 0 lt ∙ rw (before, sym is ∙ so) refl
+
+pub name_taken : (bytes text rest name : List ℕ) → Takes bytes (text ++ 34 ∷ []) rest → list_all is_plain text ≡ true → name ≡ text → is_name text ≡ true → Takes bytes (escape name ++ 34 ∷ []) rest
+name_taken bytes text rest name h plain same named =
+    record { is = h.is ∙ ap (λ xs. (xs ++ 34 ∷ []) ++ rest) (sym (plain_text text (printable_name text named) plain) ∙ ap escape (sym same)) }
+
+-- a byte without a backslash
+pub plain_taken : (bs : List ℕ) (escaped : Bool) → 1 ≤ length bs → escaped ≡ is_escaped (get_or bs 0 0) → escaped ≡ false → is_printable (get_or bs 0 0) ≡ true
+    → Takes bs (escape_byte (get_or bs 0 0)) (take (length bs - 1) (drop 1 bs))
+plain_taken bs escaped some is so printable =
+    record { is = first_one bs some ∙ ap (λ xs. xs ++ take (length bs - 1) (drop 1 bs)) (sym (plain_byte (get_or bs 0 0) printable (sym is ∙ so))) }
+
+-- what was read of a text, and the rest
+abbrev pub Unescapes : List ℕ → List ℕ → List ℕ → Type 0
+Unescapes bytes text rest = list_all is_printable text ≡ true → bytes ≡ escape text ++ rest
+
+pub unescapes_more : (bytes text rest after : List ℕ) (b : ℕ) → Unescapes bytes text rest → (is_printable b ≡ true → Takes rest (escape_byte b) after) → Unescapes bytes (text ++ b ∷ []) after
+unescapes_more bytes text rest after b so_far took printable =
+    let parts = and_parts (list_all is_printable text) (list_all is_printable (b ∷ [])) (sym (list_all-append is_printable text (b ∷ [])) ∙ printable) in
+    let here = and_parts (is_printable b) true parts.1 in
+    so_far parts.0 ∙ ap (λ xs. escape text ++ xs) (took here.0).is
+    ∙ sym (append_assoc (escape text) (escape_byte b) after) ∙ ap (λ xs. xs ++ after) (flat_map_more escape_byte [] text b)
+
+pub unescapes_all : (bytes text rest after : List ℕ) → Unescapes bytes text rest → Takes rest (34 ∷ []) after → list_all is_printable text ≡ true → Takes bytes (escape text ++ 34 ∷ []) after
+unescapes_all bytes text rest after so_far quote printable =
+    record { is = so_far printable ∙ ap (λ xs. escape text ++ xs) quote.is ∙ sym (append_assoc (escape text) (34 ∷ []) after) }
+
+-- ---- lists
+
+-- what a list that goes on so would be: its text is what was read, and these items
+abbrev pub GoesOn : {A : Type 0} (f : A → Data) (front : List A) (bytes rest : List ℕ) → Type 0
+GoesOn {A} f front bytes rest = (item : A) (items : List A) (more : List ℕ)
+    → rest ≡ compact_text (f item) ++ (items_text true (items_of (map f items)) ++ more)
+    → bytes ≡ items_text false (items_of (map f (front ++ item ∷ items))) ++ more
+
+pub goes_first : {A : Type 0} (f : A → Data) (bytes : List ℕ) → GoesOn f [] bytes bytes
+goes_first f bytes item items more e = e ∙ sym (append_assoc (compact_text (f item)) (items_text true (items_of (map f items))) more)
+
+pub goes_further : {A : Type 0} (f : A → Data) (front : List A) (x : A) (bytes rest after next : List ℕ)
+    → Takes rest (compact_text (f x)) after → Takes after (44 ∷ []) next → GoesOn f front bytes rest → GoesOn f (front ++ x ∷ []) bytes next
+goes_further f front x bytes rest after next took comma so_far item items more e =
+    so_far x (item ∷ items) more
+    (took.is ∙ ap (λ xs. compact_text (f x) ++ xs) (comma.is ∙ ap (λ xs. 44 ∷ xs) (e ∙ sym (append_assoc (compact_text (f item)) (items_text true (items_of (map f items))) more))))
+    ∙ ap (λ xs. items_text false (items_of (map f xs)) ++ more) (sym (append_assoc front (x ∷ []) (item ∷ items)))
+
+pub goes_out : {A : Type 0} (f : A → Data) (front : List A) (x : A) (bytes rest after out : List ℕ)
+    → Takes rest (compact_text (f x)) after → Takes after (93 ∷ []) out → GoesOn f front bytes rest
+    → Takes bytes (items_text false (items_of (map f (front ++ x ∷ [])))) out
+goes_out f front x bytes rest after out took closed so_far =
+    record { is = so_far x [] out (took.is ∙ ap (λ xs. compact_text (f x) ++ xs) closed.is) }
+
+-- nothing is left
+pub all_taken : {bytes text rest : List ℕ} → Takes bytes text rest → rest ≡ [] → Takes bytes text []
+all_taken {bytes} {text} {rest} h e = record { is = h.is ∙ ap (λ xs. text ++ xs) e }
+
+-- a name that had backslashes
+pub escaped_taken : (bytes text rest name : List ℕ) → (list_all is_printable text ≡ true → Takes bytes (escape text ++ 34 ∷ []) rest) → name ≡ text → is_name text ≡ true → Takes bytes (escape name ++ 34 ∷ []) rest
+escaped_taken bytes text rest name h same named = rw same (h (printable_name text named))

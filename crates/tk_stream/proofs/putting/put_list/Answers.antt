@@ -1,0 +1,6 @@
+use Rattle.std.proofs.Common.{◌∙◌}
+use Rattle.tk_stream.proofs.Behind.{both}
+use Rattle.tk_stream.proofs.putting.put_list.Goals as goal
+
+pub returns : goal.returns
+returns g c = both c.in_ok-put_text.ensures (both c.in_ok-put_text-2.ensures c.in_ok-put_items.ensures)

@@ -1,0 +1,126 @@
+//! Pieces of a line's text, each put behind what is written so far.
+ghost use Rattle.std.specs.Prelude.{◌≡◌, ◌∷◌, ◌++◌, [], true, OnOk};
+ghost use Rattle.std.specs.List.{list_all};
+ghost use Rattle.json.specs.Print.{escape, escape_byte};
+ghost use Rattle.serde_json.specs.Data.{boolean};
+ghost use Rattle.serde_json.specs.Written.{compact_text};
+ghost use Rattle.tk_ids.specs.Names.{is_name, is_printable};
+ghost use Rattle.tk_stream.specs.Behind.{Puts, is_escaped, is_plain};
+ghost use Rattle.tk_stream.specs.Spelling as spec;
+
+use itoa::Buffer;
+use std::alloc::AllocError;
+use tk_ids::Name;
+
+/// What stands before a number, and the number.
+#[inline(always)]
+pub(crate) fn put_number(out: &mut Vec<u8>, before: &[u8], n: u64) -> Result<(), AllocError>
+    ensures { OnOk result (Puts out.old.items out.new.items
+        (before.now ++ compact_text (spec.number_data n))) }
+{
+    out.extend_from_slice(before)?;
+    let mut buffer = Buffer::new();
+    out.extend_from_slice(buffer.format(n).as_bytes())
+}
+
+/// The same of a number or `null`.
+#[inline(always)]
+pub(crate) fn put_optional(
+    out: &mut Vec<u8>,
+    before: &[u8],
+    n: Option<u64>,
+) -> Result<(), AllocError>
+    ensures { OnOk result (Puts out.old.items out.new.items
+        (before.now ++ compact_text (spec.optional_data n))) }
+{
+    match n {
+        Some(n) => put_number(out, before, n),
+        None => {
+            out.extend_from_slice(before)?;
+            out.extend_from_slice(b"null")
+        }
+    }
+}
+
+/// The same of a flag.
+#[inline(always)]
+pub(crate) fn put_flag(out: &mut Vec<u8>, before: &[u8], flag: bool) -> Result<(), AllocError>
+    ensures { OnOk result (Puts out.old.items out.new.items
+        (before.now ++ compact_text (boolean flag))) }
+{
+    out.extend_from_slice(before)?;
+    if flag {
+        out.extend_from_slice(b"true")
+    } else {
+        out.extend_from_slice(b"false")
+    }
+}
+
+/// A text, as it stands.
+#[inline(always)]
+pub(crate) fn put_text(out: &mut Vec<u8>, text: &[u8]) -> Result<(), AllocError>
+    ensures { OnOk result (Puts out.old.items out.new.items text.now) }
+{
+    out.extend_from_slice(text)
+}
+
+/// What stands before a name, up to its first quote, and the name with its last quote.
+pub(crate) fn put_name(out: &mut Vec<u8>, before: &[u8], name: &Name) -> Result<(), AllocError>
+    ensures { OnOk result (Puts out.old.items out.new.items
+        (before.now ++ (escape name.now ++ 34 ∷ []))) }
+{
+    put_text(out, before)?;
+    put_content(out, name.as_bytes())?;
+    put_text(out, b"\"")?;
+    Ok(())
+}
+
+fn put_content(out: &mut Vec<u8>, bytes: &[u8]) -> Result<(), AllocError>
+    requires { is_name bytes.now ≡ true }
+    ensures { OnOk result (Puts out.old.items out.new.items (escape bytes.now)) }
+{
+    if is_plain(bytes) {
+        put_text(out, bytes)?;
+        Ok(())
+    } else {
+        put_escaped(out, bytes)?;
+        Ok(())
+    }
+}
+
+fn is_plain(bytes: &[u8]) -> bool
+    ensures { result ≡ list_all is_plain bytes.now }
+{
+    bytes.iter().all(|b| !is_escaped(*b))
+}
+
+/// Whether a backslash stands before a byte of a name.
+pub(crate) fn is_escaped(byte: u8) -> bool
+    ensures { result ≡ is_escaped byte }
+{
+    byte == b'"' || byte == b'\\'
+}
+
+fn put_escaped(out: &mut Vec<u8>, bytes: &[u8]) -> Result<(), AllocError>
+    requires { list_all is_printable bytes.now ≡ true }
+    ensures { OnOk result (Puts out.old.items out.new.items (escape bytes.now)) }
+{
+    for b in bytes {
+        put_byte(out, *b)?;
+    }
+    Ok(())
+}
+
+fn put_byte(out: &mut Vec<u8>, byte: u8) -> Result<(), AllocError>
+    requires { is_printable byte ≡ true }
+    ensures { OnOk result (Puts out.old.items out.new.items (escape_byte byte)) }
+{
+    if is_escaped(byte) {
+        out.push(b'\\')?;
+        out.push(byte)?;
+        Ok(())
+    } else {
+        out.push(byte)?;
+        Ok(())
+    }
+}
