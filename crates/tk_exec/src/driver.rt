@@ -86,6 +86,7 @@ impl<'a, R: Wait, W: Work, C: Clock + Drop> Driver<'a, R, W, C> {
 }
 
 impl<R: Wait, W: Work, C: Clock + Drop> Future for Driver<'_, R, W, C> {
+    ghost use Rattle.std.specs.Prelude.{⊤};
     ghost use Rattle.futures.specs.Poll.{IfReady, OnPending};
     ghost use Rattle.futures.specs.Task.{Covers, Keeps};
     ghost use Rattle.tk_exec.specs.Drives.{DriverGives, OneTurn};
@@ -96,6 +97,7 @@ impl<R: Wait, W: Work, C: Clock + Drop> Future for Driver<'_, R, W, C> {
 
     fn poll(&mut self, cx: &mut Context<'_>) -> Poll<Ran<W::Out>>
         ensures value { IfReady result (DriverGives C.reads W.gives self.old) }
+        ensures again { OnPending result ⊤ }
         ensures same { OnPending result ((x : _) → DriverGives C.reads W.gives self.new x → DriverGives C.reads W.gives self.old x) }
         ensures turned { OnPending result (OneTurn C.reads W.gives self.old self.new) }
         ensures registered { OnPending result (Covers cx.new (λ _. ⊥)) }
