@@ -3,6 +3,7 @@
 mod given;
 mod lines;
 mod many;
+mod nearly;
 mod reading;
 mod refused;
 mod tables;
