@@ -5,15 +5,16 @@
 //! - [`Line`]: what one line of a stream says; its text is one JSON object.
 //! - [`LineError`]: why a line was not made, read or written.
 //! - [`laws`]: what holds of the definitions by themselves.
+//! - [`send`], [`Unsent`]: a text that is written whole, or a proper front of it.
+//! - [`ToldTables`], [`ToldRows`], [`Table`], [`Item`], [`Ranged`]: what an aggregator keeps beside its tables, so that it makes
+//!   each line without a copy of them.
 #![tactic(auto)]
 
-mod aggregator;
 mod between;
 mod counts;
 mod error;
 mod fields;
 mod item;
-mod ledgered;
 pub mod laws;
 mod line;
 mod op;
@@ -27,7 +28,6 @@ mod resource;
 mod rows;
 mod sent;
 mod shaped;
-mod stream_error;
 mod table;
 mod tables;
 mod take_infos;
@@ -36,17 +36,20 @@ mod takes;
 mod taking;
 mod task;
 mod told;
-mod write_infos;
-mod write_stats;
 mod told_rows;
 mod told_tables;
+mod write_infos;
+mod write_stats;
 
-pub use aggregator::Aggregator;
 pub use error::LineError;
+pub use item::Item;
 pub use line::Line;
 pub use op::Op;
+pub use ranged::Ranged;
 pub use resource::Resource;
 pub use sent::{Unsent, send};
-pub use stream_error::StreamError;
+pub use table::Table;
 pub use tables::Tables;
 pub use task::Task;
+pub use told_rows::ToldRows;
+pub use told_tables::ToldTables;

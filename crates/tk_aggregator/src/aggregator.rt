@@ -1,0 +1,436 @@
+//! The aggregator: it takes events, reads the ledgers of their items, and publishes the lines of a stream.
+//!
+//! Beside the tables it keeps what the last whole line told of them: a row of each item, and the counts. Items only ever go
+//! last, so a line is made by place, without a copy of the tables (`told_tables.rt`).
+ghost use Rattle.std.specs.Prelude.{◌≡◌, ◌≤◌, ◌<◌, ◌+◌, ◌^◌, ◌++◌, ℕ, List, Some, None, false, true, OnOk, OnErr, IfOk, IfErr, IfSome, IfNone};
+ghost use Rattle.std.specs.Io.KnownBytes.{Appends};
+ghost use Rattle.tk_events.specs.declared.event.Event.TheVariants as events;
+ghost use Rattle.tk_events.specs.Items.{Agrees};
+ghost use Rattle.tk_aggregator.specs.Absorbing.{infos_of, counted};
+ghost use Rattle.tk_aggregator.specs.Aggregates.{Aggregating, new_aggregating, IsSound, IsLaterOf, IsSameStream, Refreshes, ReadsTasks, ReadsResources, ReadsOps, TakesIn, Collects, RunsOut, FollowsTaker, GathersUpTo, Comes, TellsTotals, WasEmpty, dropped_in, line_at, after_line, MayGoOn, IsDue, Refuses};
+ghost use Rattle.tk_stream.specs.Spelling.{sent_text};
+ghost use Rattle.tk_stream.specs.Streams.{IsStreamTo};
+ghost use Rattle.tk_aggregator.specs.declared.stream_error.StreamError.TheVariants.{Memory};
+
+use crate::ledgered::{
+    put_op, put_poll, put_resource, put_task, read_ops, read_resources, read_tasks,
+};
+use crate::stream_error::StreamError;
+use std::alloc::{AllocError, Global};
+use std::io::Write;
+use std::marker::Model;
+use std::sync::Wait;
+use tk_events::{Event, Taker};
+use tk_ids::{OpInfo, ResourceId, ResourceInfo, TaskInfo};
+use tk_ledgers::{OpInspector, ResourceInspector, TaskInspector};
+use tk_stream::{Line, LineError, Tables, ToldTables, send};
+
+/// Takes events, reads the ledgers of their items, and writes the lines of a stream.
+#[derive(Drop)]
+pub struct Aggregator {
+    tables: Tables,
+    told: ToldTables,
+    // The handles that read the items, in the order of the tables.
+    tasks: Vec<TaskInspector>,
+    resources: Vec<ResourceInspector>,
+    ops: Vec<OpInspector>,
+    // An event that found no memory.
+    held: Option<Event>,
+    // The number of the last line.
+    last: u64,
+    // The last line was cut off.
+    broken: bool,
+}
+
+impl Model for Aggregator {
+    ghost use Rattle.tk_aggregator.specs.Aggregates.{Aggregating};
+    ghost use Rattle.tk_stream.specs.Fronts.{told_tables};
+    ghost use Rattle.tk_aggregator.specs.Standing.{IsStanding};
+
+    ghost Value = { Aggregating };
+
+    ghost view = { λ a. record {
+      tables = a.tables;
+      told = told_tables a.told a.tables;
+      tasks = a.tasks.items;
+      resources = a.resources.items;
+      ops = a.ops.items;
+      held = a.held;
+      last = a.last;
+      broken = a.broken;
+    } };
+
+    ghost invariant = { λ a. IsStanding a.tables a.told a.tasks.items a.resources.items a.ops.items a.held a.last };
+}
+
+impl Aggregator {
+    /// One that has told nothing, whose next line has the number `after + 1`. It makes room for 16 tasks.
+    pub fn new(alloc: Global, after: u64) -> Result<Aggregator, StreamError>
+        requires { after ≤ 2 ^ 63 }
+        ensures ok { IfOk result (λ a. a ≡ new_aggregating after) }
+        ensures memory { IfErr result (λ e. e ≡ Memory) }
+    {
+        let tasks = Vec::with_capacity(alloc, 16)?;
+        let tables = Tables::new(alloc)?;
+        Ok(Aggregator {
+            tables,
+            told: ToldTables::new(alloc),
+            tasks,
+            resources: Vec::new(alloc),
+            ops: Vec::new(alloc),
+            held: None,
+            last: after,
+            broken: false,
+        })
+    }
+
+    /// The tables.
+    pub fn tables(&self) -> &Tables
+        ensures is { result.now ≡ self.now.tables }
+        ensures sound { IsSound self.now }
+    {
+        self.tables.see();
+        &self.tables
+    }
+
+    /// Each handle reads once, and the row of its item is what it read. It takes no memory.
+    pub fn refresh<R: Wait>(&mut self, rt: &R)
+        ensures reads { Refreshes self.old self.new }
+        ensures later { IsLaterOf self.old self.new }
+        ensures stays { IsSameStream self.old self.new }
+        ensures same_infos { infos_of self.new.tables ≡ infos_of self.old.tables }
+        ensures held { self.new.held ≡ self.old.held }
+    {
+        self.tables();
+        self.refresh_tasks(rt);
+        self.refresh_resources(rt);
+        self.refresh_ops(rt);
+    }
+
+    /// Takes up to `limit` events, the held one first, and stops at the first empty answer of the taker. Each is taken in: a
+    /// new item goes last, with the row that its handle then reads; one that is there changes nothing; a poll operation is
+    /// counted. The totals of dropped events are the taker's. It answers how many were taken.
+    ///
+    /// `Memory`: the event that found no memory is held, and those before it stand in the tables. Totals stay.
+    pub fn collect<R: Wait>(
+        &mut self,
+        rt: &R,
+        taker: &mut Taker,
+        limit: u64,
+    ) -> Result<u64, StreamError>
+        ensures ok { IfOk result (λ count. Collects self.old taker.old limit count self.new taker.new) }
+        ensures err { IfErr result (λ e. (e ≡ Memory) × RunsOut self.old taker.old self.new taker.new) }
+        ensures follows { FollowsTaker self.old taker.old → FollowsTaker self.new taker.new }
+        ensures later { IsLaterOf self.old self.new }
+        ensures stays { IsSameStream self.old self.new }
+    {
+        let count = self.gather(rt, taker, limit)?;
+        self.take_totals(taker);
+        Ok(count)
+    }
+
+    fn take_totals(&mut self, taker: &mut Taker)
+        ensures totals { TellsTotals taker.old taker.new }
+        ensures now { self.new ≡ record self.old { tables = record self.old.tables { dropped = dropped_in taker.new.last } } }
+    {
+        let dropped = taker.dropped();
+        self.tables.set_totals(dropped, self.tables.now());
+    }
+
+    // Takes events in, and leaves the totals.
+    fn gather<R: Wait>(&mut self, rt: &R, taker: &mut Taker, limit: u64) -> Result<u64, StreamError>
+        ensures ok { IfOk result (λ count. GathersUpTo self.old taker.old limit count self.new taker.new) }
+        ensures err { IfErr result (λ e. (e ≡ Memory) × RunsOut self.old taker.old self.new taker.new) }
+    {
+        for count in 0..limit {
+            let Some(event) = self.next_event(rt, taker) else {
+                return Ok(count);
+            };
+            if let Err(event) = self.take_in(rt, event) {
+                self.held = Some(event);
+                return Err(StreamError::Memory);
+            }
+        }
+        Ok(limit)
+    }
+
+    // The held event, or the next one of the taker.
+    fn next_event<R: Wait>(&mut self, rt: &R, taker: &mut Taker) -> Option<Event>
+        ensures some { IfSome result (λ event. Comes self.old taker.old event self.new taker.new) }
+        ensures agrees { IfSome result (λ event. Agrees event) }
+        ensures none { IfNone result ((self.new ≡ self.old) × (self.old.held ≡ None) × (taker.new ≡ taker.old) × WasEmpty taker.new) }
+    {
+        if let Some(event) = self.held.take() {
+            return Some(event);
+        }
+        let event = taker.take(rt)?;
+        Some(event)
+    }
+
+    // Takes an event in, or gives it back.
+    fn take_in<R: Wait>(&mut self, rt: &R, event: Event) -> Result<(), Event>
+        requires { Agrees event }
+        ensures ok { OnOk result (TakesIn self.old event self.new) }
+        ensures err { OnErr result (self.new ≡ self.old) }
+        ensures returned { IfErr result (λ back. back ≡ event) }
+    {
+        match event {
+            Event::Task(info, handle) => match self.add_task(rt, info, handle) {
+                Ok(()) => Ok(()),
+                Err((info, handle)) => Err(Event::Task(info, handle)),
+            },
+            Event::Resource(info, handle) => match self.add_resource(rt, info, handle) {
+                Ok(()) => Ok(()),
+                Err((info, handle)) => Err(Event::Resource(info, handle)),
+            },
+            Event::Op(info, handle) => match self.add_op(rt, info, handle) {
+                Ok(()) => Ok(()),
+                Err((info, handle)) => Err(Event::Op(info, handle)),
+            },
+            Event::Poll(op) => match self.count_poll(op.resource, op.ready) {
+                Ok(()) => Ok(()),
+                Err(_) => Err(Event::Poll(op)),
+            },
+        }
+    }
+
+    fn add_task<R: Wait>(
+        &mut self,
+        rt: &R,
+        info: TaskInfo,
+        handle: TaskInspector,
+    ) -> Result<(), (TaskInfo, TaskInspector)>
+        requires { Agrees (events.Task info handle) }
+        ensures ok { OnOk result (TakesIn self.old (events.Task info handle) self.new) }
+        ensures err { OnErr result (self.new ≡ self.old) }
+        ensures returned { IfErr result (λ e. (e.0 ≡ info) × (e.1 ≡ handle)) }
+    {
+        match self.tables.task(info.id) {
+            Some(_) => return Ok(()),
+            None => {}
+        }
+        match put_task(
+            rt,
+            &mut self.tables,
+            &mut self.told,
+            &mut self.tasks,
+            info,
+            handle,
+        ) {
+            Ok(()) => {}
+            Err(back) => return Err(back),
+        }
+        Ok(())
+    }
+
+    fn add_resource<R: Wait>(
+        &mut self,
+        rt: &R,
+        info: ResourceInfo,
+        handle: ResourceInspector,
+    ) -> Result<(), (ResourceInfo, ResourceInspector)>
+        requires { Agrees (events.Resource info handle) }
+        ensures ok { OnOk result (TakesIn self.old (events.Resource info handle) self.new) }
+        ensures err { OnErr result (self.new ≡ self.old) }
+        ensures returned { IfErr result (λ e. (e.0 ≡ info) × (e.1 ≡ handle)) }
+    {
+        match self.tables.resource(info.id) {
+            Some(_) => return Ok(()),
+            None => {}
+        }
+        match put_resource(
+            rt,
+            &mut self.tables,
+            &mut self.told,
+            &mut self.resources,
+            info,
+            handle,
+        ) {
+            Ok(()) => {}
+            Err(back) => return Err(back),
+        }
+        Ok(())
+    }
+
+    fn add_op<R: Wait>(
+        &mut self,
+        rt: &R,
+        info: OpInfo,
+        handle: OpInspector,
+    ) -> Result<(), (OpInfo, OpInspector)>
+        requires { Agrees (events.Op info handle) }
+        ensures ok { OnOk result (TakesIn self.old (events.Op info handle) self.new) }
+        ensures err { OnErr result (self.new ≡ self.old) }
+        ensures returned { IfErr result (λ e. (e.0 ≡ info) × (e.1 ≡ handle)) }
+    {
+        match self.tables.op(info.id) {
+            Some(_) => return Ok(()),
+            None => {}
+        }
+        match put_op(
+            rt,
+            &mut self.tables,
+            &mut self.told,
+            &mut self.ops,
+            info,
+            handle,
+        ) {
+            Ok(()) => {}
+            Err(back) => return Err(back),
+        }
+        Ok(())
+    }
+
+    fn count_poll(&mut self, resource: ResourceId, ready: bool) -> Result<(), AllocError>
+        ensures ok { OnOk result (self.new ≡ record self.old { tables = record self.old.tables { counts = counted resource ready self.old.tables.counts } }) }
+        ensures err { OnErr result (self.new ≡ self.old) }
+    {
+        match put_poll(&mut self.tables, &mut self.told, resource, ready) {
+            Ok(()) => {}
+            Err(refused) => return Err(refused),
+        }
+        Ok(())
+    }
+
+    fn refresh_tasks<R: Wait>(&mut self, rt: &R)
+        ensures { ReadsTasks self.old self.new }
+    {
+        read_tasks(rt, &mut self.tables, &mut self.tasks);
+    }
+
+    fn refresh_resources<R: Wait>(&mut self, rt: &R)
+        ensures { ReadsResources self.old self.new }
+    {
+        read_resources(rt, &mut self.tables, &mut self.resources);
+    }
+
+    fn refresh_ops<R: Wait>(&mut self, rt: &R)
+        ensures { ReadsOps self.old self.new }
+    {
+        read_ops(rt, &mut self.tables, &mut self.ops);
+    }
+
+    // The line of this moment.
+    fn next_line(&self, now: u64, snapshot: bool) -> Result<Line, LineError>
+        requires { self.now.last < 2 ^ 63 }
+        ensures ok { IfOk result (λ line. line ≡ line_at snapshot self.now now) }
+        ensures memory { IfErr result (λ e. e ≡ LineError.Memory) }
+    {
+        let alloc = *self.tasks.allocator();
+        if snapshot {
+            let nothing = ToldTables::new(alloc);
+            Line::behind(alloc, &nothing, &self.tables, now, self.last + 1, true)
+        } else {
+            Line::behind(alloc, &self.told, &self.tables, now, self.last + 1, false)
+        }
+    }
+
+    // Its text, and a line end.
+    fn next_text(&self, now: u64, snapshot: bool) -> Result<Vec<u8>, StreamError>
+        requires { self.now.last < 2 ^ 63 }
+        ensures ok { IfOk result (λ text. text.items ≡ sent_text (line_at snapshot self.now now)) }
+        ensures memory { IfErr result (λ e. e ≡ Memory) }
+    {
+        let Ok(line) = self.next_line(now, snapshot) else {
+            return Err(StreamError::Memory);
+        };
+        let Ok(text) = line.write() else {
+            return Err(StreamError::Memory);
+        };
+        let mut text = text;
+        match text.push(b'\n') {
+            Ok(()) => Ok(text),
+            Err(_) => Err(StreamError::Memory),
+        }
+    }
+
+    // A whole line of this moment went out.
+    fn tell(&mut self, now: u64)
+        requires { self.old.last < 2 ^ 63 }
+        ensures { self.new ≡ after_line self.old now }
+    {
+        let dropped = self.tables.dropped();
+        self.tables.set_totals(dropped, now);
+        self.told.tell(&self.tables);
+        self.last += 1;
+        self.broken = false;
+    }
+
+    // Writes the line of this moment. It goes on, or is a snapshot.
+    fn send_line<W: Write>(
+        &mut self,
+        now: u64,
+        writer: &mut W,
+        snapshot: bool,
+    ) -> Result<u64, StreamError>
+        requires { MayGoOn snapshot self.old }
+        ensures number { IfOk result (λ n. n ≡ self.old.last + 1) }
+        ensures state { OnOk result (self.new ≡ after_line self.old now) }
+        ensures due { OnOk result (IsDue snapshot self.old now) }
+        ensures sent { OnOk result (Appends (W.contents writer.old) (W.contents writer.new) (sent_text (line_at snapshot self.old now))) }
+        ensures refused { IfErr result (λ e. Refuses e snapshot self.old now self.new (W.contents writer.old) (W.contents writer.new)) }
+    {
+        if now < self.tables.now() {
+            return Err(StreamError::Clock);
+        }
+        if self.last == 1 << 63 {
+            return Err(StreamError::NumbersSpent);
+        }
+        let text = self.next_text(now, snapshot)?;
+        match send(writer, text.as_slice()) {
+            Ok(()) => {
+                self.tell(now);
+                Ok(self.last)
+            }
+            Err(_) => {
+                self.broken = true;
+                Err(StreamError::WriteFault)
+            }
+        }
+    }
+
+    /// Writes the next line, which tells what differs from the last whole one, and a line end, and answers its number.
+    ///
+    /// - `Broken`: the last line was cut off, and only a snapshot goes on.
+    /// - `Clock`: the moment is below the last line's.
+    /// - `NumbersSpent`: 2^63 lines were written.
+    /// - `Memory`: there is no memory for the line. Nothing was written.
+    /// - `WriteFault`: the writer gave an error or took nothing, and a proper front of line and line end went out.
+    pub fn publish<W: Write>(&mut self, now: u64, writer: &mut W) -> Result<u64, StreamError>
+        ensures number { IfOk result (λ n. n ≡ self.old.last + 1) }
+        ensures state { OnOk result (self.new ≡ after_line self.old now) }
+        ensures due { OnOk result (IsDue false self.old now) }
+        ensures sent { OnOk result (Appends (W.contents writer.old) (W.contents writer.new) (sent_text (line_at false self.old now))) }
+        ensures refused { IfErr result (λ e. Refuses e false self.old now self.new (W.contents writer.old) (W.contents writer.new)) }
+        ensures stream { OnOk result ((bytes : List ℕ) → IsStreamTo bytes self.old.told self.old.last
+            → IsStreamTo (bytes ++ sent_text (line_at false self.old now)) self.new.told self.new.last) }
+    {
+        self.tables();
+        if self.broken {
+            return Err(StreamError::Broken);
+        }
+        match self.send_line(now, writer, false) {
+            Ok(n) => Ok(n),
+            Err(e) => Err(e),
+        }
+    }
+
+    /// Writes a line that tells of the tables as a whole, and a line end, onto a new stream, and answers its number. The
+    /// refusals are those of `publish` without `Broken`, which it ends.
+    pub fn snapshot<W: Write>(&mut self, now: u64, writer: &mut W) -> Result<u64, StreamError>
+        ensures number { IfOk result (λ n. n ≡ self.old.last + 1) }
+        ensures state { OnOk result (self.new ≡ after_line self.old now) }
+        ensures due { OnOk result (IsDue true self.old now) }
+        ensures sent { OnOk result (Appends (W.contents writer.old) (W.contents writer.new) (sent_text (line_at true self.old now))) }
+        ensures refused { IfErr result (λ e. Refuses e true self.old now self.new (W.contents writer.old) (W.contents writer.new)) }
+        ensures stream { OnOk result ((bytes : List ℕ) → IsStreamTo bytes self.old.told self.old.last
+            → IsStreamTo (bytes ++ sent_text (line_at true self.old now)) self.new.told self.new.last) }
+        ensures opens { OnOk result (IsStreamTo (sent_text (line_at true self.old now)) self.new.told self.new.last) }
+    {
+        self.tables();
+        match self.send_line(now, writer, true) {
+            Ok(n) => Ok(n),
+            Err(e) => Err(e),
+        }
+    }
+}
