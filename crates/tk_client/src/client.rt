@@ -80,7 +80,12 @@ fn is_next(last: Option<u64>, line: &Line) -> bool
 
 // Applies a line's text, or leaves the tables as they are. It answers the line's number.
 #[tactic(auto, unfolding(crate::specs::Meaning::line_taken))]
-fn take_line(alloc: Global, shown: &mut Shown, last: Option<u64>, text: &[u8]) -> Result<u64, Fault>
+fn take_line(
+    alloc: Global,
+    shown: &mut Shown,
+    last: Option<u64>,
+    text: &[u8],
+) -> Result<u64, Fault>
     requires { IfSome last (λ n. n ≤ 2 ^ 63) }
     ensures taken { Answers (λ n. record { tables = shown.new; last = Some n; part = [] }) result (spec.line_taken shown.old last text.now) }
     ensures kept { OnErr result (shown.new ≡ shown.old) }

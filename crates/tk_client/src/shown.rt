@@ -107,7 +107,11 @@ impl Shown {
     }
 
     /// The warnings of the tables. It looks at the tasks alone that can be warned of.
-    pub(crate) fn warnings(&self, alloc: Global, lints: &Lints) -> Result<Vec<Warning>, AllocError>
+    pub(crate) fn warnings(
+        &self,
+        alloc: Global,
+        lints: &Lints,
+    ) -> Result<Vec<Warning>, AllocError>
         ensures { IfOk result (λ list. list.items ≡ warnings_in lints.now self.now) }
     {
         warnings_of_places(alloc, &self.tables, &self.places, lints)
