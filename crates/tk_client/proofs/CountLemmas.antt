@@ -1,6 +1,6 @@
 -- Poll counts that are told one after the other.
 use Rattle.std.proofs.Common.{◌≡◌, ℕ, zero, suc, ◌+◌, ◌<◌, List, [], ◌∷◌, ◌++◌, length, get_or, take, drop, Bool, true, false, cond, nat_eq, Option, Some, None, refl, ap, ap₂, sym, ◌∙◌, append_assoc, append-nil, add-one, arith}
-use Rattle.std.specs.Prelude.{map, filter, is_none, is_some, position, IsSome, ◌||◌, ◌&&◌}
+use Rattle.std.specs.Prelude.{map, filter, is_none, is_some, IsSome, ◌||◌, ◌&&◌}
 use Rattle.std.specs.List.{list_any, list_all, IsDistinct, AllByRecursion}
 use Rattle.std.specs.Option.{option_map_or}
 use Rattle.std.proofs.lemmas.Bool.{or_parts, and_parts, eqb-true, eq-eqb}
@@ -9,7 +9,7 @@ use Rattle.tk_stream.specs.Lines.{is_new}
 use Rattle.tk_stream.specs.Applied.{counts_kind, told_item, counts_after}
 use Rattle.tk_client.specs.Taking.{has_twice}
 use Rattle.tk_client.specs.Told.{count_added, AreCounted}
-use Rattle.tk_client.proofs.IdLemmas.{own, distinct-once, none-at}
+use Rattle.tk_client.proofs.IdLemmas.{own, distinct-once}
 
 -- the counts of an id
 abbrev counted : ℕ → List PollCounts → Option PollCounts

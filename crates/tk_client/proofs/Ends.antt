@@ -1,11 +1,12 @@
 -- Where lines end, and bytes without an end.
-use Rattle.std.proofs.Common.{◌≡◌, ℕ, zero, suc, ◌+◌, ◌-◌, ◌≤◌, ◌<◌, List, [], ◌∷◌, ◌++◌, length, take, Bool, true, false, cond, nat_lt, nat_eq, Option, Some, None, refl, ap, sym, ◌∙◌, arith, append-nil, length-append, length-take}
+use Rattle.std.proofs.Common.{◌≡◌, ℕ, zero, suc, ◌+◌, ◌-◌, ◌≤◌, ◌<◌, List, [], ◌∷◌, ◌++◌, length, get_or, take, Bool, true, false, cond, nat_lt, nat_eq, Option, Some, None, refl, ap, sym, ◌∙◌, arith, append-nil, length-append, length-take}
 use Rattle.std.specs.Prelude.{not, position, IfSome, IfNone}
 use Rattle.std.specs.List.{position_or_len}
 use Rattle.std.proofs.lemmas.List.{take_all}
 use Rattle.std.proofs.lemmas.Option.{cond_some}
 use Rattle.std.proofs.lemmas.Bool.{and_parts, lt-ltb, le-ltb}
 use borrow.Author.Tests.{ltb-true, eqb-true}
+use Rattle.memchr.specs.Find.{IsFirstByte, is_byte}
 use Rattle.tk_stream.specs.Spelling.{is_one_line}
 use Rattle.tk_client.specs.declared.fault.Fault.TheVariants.{TooLong}
 use Rattle.tk_client.specs.Meaning.{Start, goes, stops, cut, meaning}
@@ -84,6 +85,30 @@ end_through bs None is = tt
 pub no_end : (bs : List ℕ) (o : Option ℕ) → o ≡ position is_end bs → IfNone o (is_one_line bs ≡ true)
 no_end bs (Some i) is = tt
 no_end bs None is = no_first bs (sym is)
+
+-- ---- the first byte that is a line end
+
+past-none : (bs : List ℕ) → ((k : ℕ) → k < length bs → is_end (get_or bs k 0) ≡ true → ⊥) → length bs ≤ position_or_len is_end bs
+past-none [] h = omega arith
+past-none (b ∷ bs) h = by (nat_eq b 10) refl (past-none bs (λ k lt e. h (suc k) (omega arith) e))
+  where
+    by : (is : Bool) → nat_eq b 10 ≡ is → length bs ≤ position_or_len is_end bs → suc (length bs) ≤ cond (not is) (1 + position_or_len is_end bs) 0
+    by true is ih = absurd (h 0 (omega arith) is)
+    by false is ih = omega arith
+
+at-first : (bs : List ℕ) (k : ℕ) → k < length bs → is_end (get_or bs k 0) ≡ true → ((j : ℕ) → j < k → is_end (get_or bs j 0) ≡ true → ⊥) → position_or_len is_end bs ≡ k
+at-first [] k lt is before = absurd (omega arith)
+at-first (b ∷ bs) zero lt is before = rw is refl
+at-first (b ∷ bs) (suc k) lt is before = by (nat_eq b 10) refl (at-first bs k (omega arith) is (λ j l e. before (suc j) (omega arith) e))
+  where
+    by : (is : Bool) → nat_eq b 10 ≡ is → position_or_len is_end bs ≡ k → cond (not is) (1 + position_or_len is_end bs) 0 ≡ suc k
+    by true e ih = absurd (before 0 (omega arith) e)
+    by false e ih = omega arith
+
+-- a search for the byte finds the position of the first end
+pub first-byte : (bs : List ℕ) (o : Option ℕ) → IsFirstByte (is_byte 10) bs o → o ≡ position is_end bs
+first-byte bs None h = rw (le-ltb (position_or_len is_end bs) (length bs) (past-none bs (λ k lt e. h k (omega arith) lt e))) refl
+first-byte bs (Some k) h = rw (at-first bs k h.0.high h.1 (λ j lt e. h.0.before j (omega arith) lt e), lt-ltb k (length bs) h.0.high) refl
 
 -- a line that is too long stops at its first byte too many
 pub stops_too_long : (max : ℕ) (s : Start) (bytes : List ℕ) (room : ℕ) → is_one_line bytes ≡ true → length s.part + room ≡ max → room < length bytes

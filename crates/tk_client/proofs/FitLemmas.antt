@@ -1,14 +1,14 @@
 -- Rows that a line tells, and the items that have them then.
-use Rattle.std.proofs.Common.{◌≡◌, ℕ, zero, suc, ◌+◌, ◌<◌, List, [], ◌∷◌, ◌++◌, length, Bool, true, false, cond, nat_eq, Option, Some, None, Result, Ok, Err, refl, ap, ap₂, sym, subst, ◌∙◌, append_assoc, append-nil}
-use Rattle.std.specs.Prelude.{map, filter, is_some, option_map, option_and_then, ◌||◌, ◌&&◌}
-use Rattle.std.specs.List.{list_any, list_all, IsDistinct, AllByRecursion}
+use Rattle.std.proofs.Common.{◌≡◌, ℕ, List, [], ◌∷◌, ◌++◌, Bool, true, false, cond, nat_eq, Option, Some, None, refl, ap, ap₂, sym, ◌∙◌}
+use Rattle.std.specs.Prelude.{map, is_some, option_map, option_and_then, ◌||◌, ◌&&◌}
+use Rattle.std.specs.List.{list_all, AllByRecursion}
 use Rattle.std.specs.Option.{option_map_or}
-use Rattle.std.proofs.lemmas.Bool.{or_parts, and_parts, eqb-true}
-use Rattle.tk_stream.specs.Applied.{Kind, told_item, new_item, new_items, items_after}
+use Rattle.std.proofs.lemmas.Bool.{and_parts}
+use Rattle.tk_stream.specs.Applied.{Kind, told_item, new_items}
 use Rattle.tk_stream.specs.Tables.{item_with}
 use Rattle.tk_client.specs.Taking.{has_twice}
 use Rattle.tk_client.specs.Told.{id_by, info_id_by, stats_id_by, made, told_of, retold, HaveOneId, fits_told}
-use Rattle.tk_client.proofs.IdLemmas.{itself, distinct-once, own, has-the-id}
+use Rattle.tk_client.proofs.IdLemmas.{distinct-once, own, has-the-id}
 
 pub same-tests : (a b : Bool) → (a ≡ true → b ≡ true) → (b ≡ true → a ≡ true) → a ≡ b
 same-tests true b f g = sym (f refl)

@@ -1,7 +1,7 @@
 -- Ids of which none stands twice, and what is found by an id.
 use Rattle.std.proofs.Common.{◌≡◌, ℕ, zero, suc, ◌+◌, ◌<◌, ◌≤◌, List, [], ◌∷◌, ◌++◌, length, get_or, take, drop, Bool, true, false, cond, nat_eq, nat_lt, Option, Some, None, slice_get, refl, ap, ap₂, sym, ◌∙◌, arith, add-one}
-use Rattle.std.specs.Prelude.{map, position, is_some, not, ◌||◌, IfSome, IfNone}
-use Rattle.std.specs.List.{list_any, list_all, IsDistinct, AllByRecursion, position_or_len}
+use Rattle.std.specs.Prelude.{map, position, is_some, not, ◌||◌}
+use Rattle.std.specs.List.{list_any, IsDistinct, AllByRecursion, position_or_len}
 use Rattle.std.proofs.lemmas.Bool.{or_parts, eqb-true, eq-eqb, lt-ltb, le-ltb}
 use borrow.Author.Tests.{ltb-true}
 use Rattle.std.proofs.lemmas.List.Folds.{list_any-append}

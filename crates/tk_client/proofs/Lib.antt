@@ -13,5 +13,8 @@ pub mod FitLemmas
 pub mod LineLemmas
 pub mod WholeLemmas
 pub mod PlaceLemmas
-pub mod LengthLemmas
+pub mod AppliedLemmas
+pub mod RiseLemmas
 pub mod MergeLemmas
+pub mod StandingLemmas
+pub mod SortLemmas

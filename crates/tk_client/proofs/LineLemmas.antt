@@ -1,18 +1,18 @@
 -- What a line makes of tables that have grown by it.
 use Rattle.std.proofs.Common.{◌≡◌, ℕ, List, [], ◌∷◌, ◌++◌, Bool, true, false, cond, nat_eq, Option, Some, None, Result, Ok, Err, refl, ap, ap₂, sym, subst, ◌∙◌}
-use Rattle.std.specs.Prelude.{map, filter, is_some, not, IfOk, option_map, option_and_then, ◌||◌, ◌&&◌}
+use Rattle.std.specs.Prelude.{map, filter, not, IfOk, option_map, option_and_then, ◌||◌, ◌&&◌}
 use Rattle.std.specs.List.{list_any, list_all}
 use Rattle.std.proofs.lemmas.Bool.{or_parts, and_parts}
 use Rattle.tk_stream.specs.declared.op.Op.{Op}
 use Rattle.tk_stream.specs.declared.resource.Resource.{Resource}
 use Rattle.tk_stream.specs.declared.task.Task.{Task}
 use Rattle.tk_stream.specs.Lines.{LineView, is_new}
-use Rattle.tk_stream.specs.Applied.{Kind, task_kind, resource_kind, op_kind, told_item, new_items, items_after, counts_after, tables_after}
+use Rattle.tk_stream.specs.Applied.{Kind, task_kind, resource_kind, op_kind, told_item, new_items, counts_after, tables_after}
 use Rattle.tk_stream.specs.Tables.{TablesView, counts_id, AreDistinct}
 use Rattle.tk_client.specs.declared.fault.Fault.{Fault}
 use Rattle.tk_client.specs.declared.fault.Fault.TheVariants.{Memory, BadJson, BadShape, Gap, UnknownId, Repeated, TooLong, Misfit, Failed}
 use Rattle.tk_client.specs.declared.taking.Finding.{Finding}
-use Rattle.tk_client.specs.Taking.{has_twice, has_id, repeats_kind, is_strange, strange_kind, fits_resource, fits_op, are_fitting, fitting, repeats_id, has_strange_id, line_applied}
+use Rattle.tk_client.specs.Taking.{has_twice, has_id, repeats_kind, strange_kind, fits_resource, fits_op, are_fitting, fitting, repeats_id, has_strange_id, line_applied}
 use Rattle.tk_client.specs.Told.{finding, worse, has_info, Fails, info_id_by, stats_id_by, is_stranger, fits_told, or_misfit, tables_grown, tables_told, AreCounted, TellsOnce}
 use Rattle.tk_client.proofs.IdLemmas.{any-has}
 use Rattle.tk_client.proofs.FitLemmas.{rests, list_all-append, fit-told, old-rests, new-rests, new-told}

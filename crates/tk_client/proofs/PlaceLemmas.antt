@@ -1,16 +1,14 @@
 -- The tasks that can be warned of are those that are warned of.
-use Rattle.std.proofs.Common.{◌≡◌, ℕ, zero, suc, ◌+◌, ◌-◌, ◌*◌, ◌≤◌, ◌<◌, List, [], ◌∷◌, ◌++◌, length, take, Bool, true, false, cond, nat_lt, nat_le, nat_eq, Option, Some, None, slice_get, refl, ap, ap₂, sym, ◌∙◌, append_assoc, append-nil, add-one, arith}
-use Rattle.std.specs.Prelude.{flat_map, not, is_some, ◌&&◌, ◌||◌}
+use Rattle.std.proofs.Common.{◌≡◌, ℕ, suc, ◌-◌, ◌*◌, ◌≤◌, List, [], ◌∷◌, ◌++◌, length, Bool, true, false, cond, nat_lt, nat_le, nat_eq, Some, slice_get, refl, ap, ap₂, sym, ◌∙◌, append_assoc, arith}
+use Rattle.std.specs.Prelude.{flat_map, ◌&&◌, ◌||◌}
 use Rattle.std.specs.Option.{option_map_or}
-use Rattle.std.proofs.lemmas.Bool.{or_parts, and_parts, le-ltb}
-use borrow.Author.Tests.{ltb-true}
+use Rattle.std.proofs.lemmas.Bool.{or_parts, le-ltb}
 use Rattle.tk_core.specs.declared.task.row.TaskRow.{TaskRow}
 use Rattle.tk_stream.specs.declared.task.Task.{Task}
-use Rattle.tk_stream.specs.Tables.{TablesView}
 use Rattle.tk_client.specs.declared.warning.Warning.{Warning}
 use Rattle.tk_client.specs.declared.warning.WarningKind.TheVariants.{SelfWakes, LostWaker, NeverYielded}
 use Rattle.tk_client.specs.Warnings.{LintsView, wakes_itself, has_lost_waker, has_never_yielded, is_spawn, warning_if, warnings_of}
-use Rattle.tk_client.specs.Candidates.{can_hold, can_warn, places_from, places_of, warnings_at}
+use Rattle.tk_client.specs.Candidates.{can_hold, can_warn, places_by, places_of}
 
 -- without a self-wake there is no share of them that is too large
 no-share : (percent : ℕ) (x : TaskRow) → (nat_lt 0 x.wakes && nat_lt 0 x.self_wakes) ≡ false → wakes_itself percent x ≡ false
@@ -53,10 +51,10 @@ module _ (lints : LintsView) (now : ℕ) where
   at tasks i = option_map_or (warnings_of lints now) (slice_get tasks i) []
 
   -- behind some tasks
-  listed-from : (front tasks all : List Task) → all ≡ front ++ tasks → flat_map (at all) (places_from (length front) tasks) ≡ flat_map (warnings_of lints now) tasks
+  listed-from : (front tasks all : List Task) → all ≡ front ++ tasks → flat_map (at all) (places_by can_warn (length front) tasks) ≡ flat_map (warnings_of lints now) tasks
   listed-from front [] all e = refl
   listed-from front (t ∷ ts) all e =
-      by (can_warn t) refl (ap (λ n. flat_map (at all) (places_from n ts)) (sym (long front)) ∙ listed-from (front ++ t ∷ []) ts all (e ∙ sym (append_assoc front (t ∷ []) ts)))
+      by (can_warn t) refl (ap (λ n. flat_map (at all) (places_by can_warn n ts)) (sym (long front)) ∙ listed-from (front ++ t ∷ []) ts all (e ∙ sym (append_assoc front (t ∷ []) ts)))
     where
       long : (xs : List Task) → length (xs ++ t ∷ []) ≡ suc (length xs)
       long [] = refl
@@ -66,34 +64,10 @@ module _ (lints : LintsView) (now : ℕ) where
       here [] = refl
       here (x ∷ xs) = here xs
 
-      by : (b : Bool) → can_warn t ≡ b → flat_map (at all) (places_from (suc (length front)) ts) ≡ flat_map (warnings_of lints now) ts
-          → flat_map (at all) (cond b (length front ∷ places_from (suc (length front)) ts) (places_from (suc (length front)) ts)) ≡ warnings_of lints now t ++ flat_map (warnings_of lints now) ts
+      by : (b : Bool) → can_warn t ≡ b → flat_map (at all) (places_by can_warn (suc (length front)) ts) ≡ flat_map (warnings_of lints now) ts
+          → flat_map (at all) (cond b (length front ∷ places_by can_warn (suc (length front)) ts) (places_by can_warn (suc (length front)) ts)) ≡ warnings_of lints now t ++ flat_map (warnings_of lints now) ts
       by true is rest = ap₂ (λ xs ys. xs ++ ys) (ap (λ ts'. at ts' (length front)) e ∙ ap (λ o. option_map_or (warnings_of lints now) o []) (here front)) rest
       by false is rest = rest ∙ ap (λ xs. xs ++ flat_map (warnings_of lints now) ts) (sym (quiet lints now t is))
 
   pub listed : (tasks : List Task) → flat_map (at tasks) (places_of tasks) ≡ flat_map (warnings_of lints now) tasks
   listed tasks = listed-from [] tasks tasks refl
-
--- one task more
-pub places-next : (tasks : List Task) (i : ℕ) (t : Task) → Some t ≡ slice_get tasks i → places_of (take (i + 1) tasks) ≡ places_of (take i tasks) ++ cond (can_warn t) (i ∷ []) []
-places-next tasks i t found = ap (λ n. places_of (take n tasks)) (add-one i) ∙ step 0 tasks i found ∙ ap (λ n. places_of (take i tasks) ++ cond (can_warn t) (n ∷ []) []) from_zero
-  where
-    from_zero : 0 + i ≡ i
-    from_zero = omega arith
-
-    shift : (b : ℕ) (x : Task) (xs ys : List ℕ) → cond (can_warn x) (b ∷ (xs ++ ys)) (xs ++ ys) ≡ cond (can_warn x) (b ∷ xs) xs ++ ys
-    shift b x xs ys = by (can_warn x)
-      where
-        by : (c : Bool) → cond c (b ∷ (xs ++ ys)) (xs ++ ys) ≡ cond c (b ∷ xs) xs ++ ys
-        by true = refl
-        by false = refl
-
-    step : (b : ℕ) (xs : List Task) (j : ℕ) → Some t ≡ slice_get xs j → places_from b (take (suc j) xs) ≡ places_from b (take j xs) ++ cond (can_warn t) ((b + j) ∷ []) []
-    step b [] j e = absurd (cc)
-    step b (x ∷ xs) zero e =
-        let same : x ≡ t = (cc) in
-        let n : b + 0 ≡ b = omega arith in
-        rw n (ap (λ y. cond (can_warn y) (b ∷ []) []) same)
-    step b (x ∷ xs) (suc j) e =
-        let n : b + suc j ≡ suc b + j = omega arith in
-        rw n (ap (λ ys. cond (can_warn x) (b ∷ ys) ys) (step (suc b) xs j e) ∙ shift b x (places_from (suc b) (take j xs)) (cond (can_warn t) ((suc b + j) ∷ []) []))

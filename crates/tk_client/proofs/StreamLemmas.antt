@@ -1,8 +1,8 @@
 -- An uninterrupted stream is taken line by line.
-use Rattle.std.proofs.Common.{◌≡◌, ℕ, zero, suc, ◌+◌, ◌≤◌, ◌^◌, List, [], ◌∷◌, ◌++◌, length, take, drop, Bool, true, false, cond, nat_eq, nat_lt, Option, Some, None, Result, Ok, Err, refl, ap, ap₂, sym, subst, ◌∙◌, arith, append-nil}
+use Rattle.std.proofs.Common.{◌≡◌, ℕ, ◌+◌, ◌≤◌, List, [], ◌∷◌, ◌++◌, length, take, drop, Bool, true, false, cond, nat_eq, Option, Some, None, Ok, Err, refl, ap, ap₂, sym, subst, ◌∙◌, arith}
 use Rattle.std.specs.Prelude.{map, filter, is_none, is_some, not, ◌||◌, ◌&&◌}
-use Rattle.std.specs.List.{list_any, list_all, flat_map, AllByRecursion, IsDistinct}
-use Rattle.std.proofs.lemmas.Bool.{eqb-true, eq-eqb, and_parts, le-ltb}
+use Rattle.std.specs.List.{list_any, list_all, AllByRecursion, IsDistinct}
+use Rattle.std.proofs.lemmas.Bool.{eq-eqb, and_parts, le-ltb}
 use Rattle.std.proofs.lemmas.List.{take-append-drop, take-append-le}
 use Rattle.std.proofs.Math.Seq.{take-append-add}
 use Rattle.tk_ids.specs.Attributes.{kind_of}
@@ -10,17 +10,16 @@ use Rattle.tk_ids.specs.declared.attr.AttrInfo.{AttrInfo}
 use Rattle.tk_ids.specs.declared.attr.AttrKind.{AttrKind}
 use Rattle.tk_ids.specs.declared.attr.AttrKind.TheVariants as kinds
 use Rattle.tk_ids.specs.declared.attr.AttrValue.{AttrValue}
-use Rattle.tk_stream.specs.declared.error.LineError.{LineError}
 use Rattle.tk_stream.specs.declared.op.Op.{Op}
 use Rattle.tk_stream.specs.declared.resource.Resource.{Resource}
-use Rattle.tk_stream.specs.Applied.{Kind, task_kind, resource_kind, op_kind, counts_kind, tables_after, GoOn}
+use Rattle.tk_stream.specs.Applied.{Kind, task_kind, resource_kind, op_kind, tables_after, GoOn}
 use Rattle.tk_stream.specs.Lines.{LineView, is_seq, is_new, new_infos, told_stats, line_between, snapshot_of, task_stats_of, resource_stats_of, op_stats_of, all_counts, have_same_row, have_same_resource_row, have_same_op_row, task_info, resource_info, op_info}
 use Rattle.tk_stream.specs.Ranges.{IsLine}
 use Rattle.tk_stream.specs.Reading.{line_of_text}
 use Rattle.tk_stream.specs.Rows.{same_counts}
-use Rattle.tk_stream.specs.Spelling.{line_text, sent_text, is_one_line}
-use Rattle.tk_stream.specs.Tables.{TablesView, PollCounts, empty_tables, AreDistinct, AreFit, HaveKinds, task_id, resource_id, op_id, counts_id, item_with}
-use Rattle.tk_stream.proofs.LinesLemmas.{all_infos, all_stats, map-same}
+use Rattle.tk_stream.specs.Spelling.{line_text, is_one_line}
+use Rattle.tk_stream.specs.Tables.{TablesView, empty_tables, AreDistinct, AreFit, HaveKinds, task_id, resource_id, op_id, counts_id, item_with}
+use Rattle.tk_stream.proofs.LinesLemmas.{all_infos, all_stats}
 use Rattle.tk_stream.proofs.NoEnds.{text_is_one_line}
 use Rattle.tk_client.specs.declared.fault.Fault.{Fault}
 use Rattle.tk_client.specs.declared.fault.Fault.TheVariants.{Memory, BadJson, BadShape, Gap, UnknownId, Repeated, TooLong, Misfit, Failed}

@@ -1,15 +1,14 @@
 -- What a line tells of items, one after the other.
-use Rattle.std.proofs.Common.{◌≡◌, ℕ, zero, suc, ◌+◌, ◌<◌, List, [], ◌∷◌, ◌++◌, length, get_or, take, drop, Bool, true, false, cond, nat_eq, nat_lt, Option, Some, None, slice_get, refl, ap, ap₂, sym, subst, ◌∙◌, arith, add-one, append_assoc}
-use Rattle.std.specs.Prelude.{map, position, is_some, not, option_map, option_and_then, ◌||◌, ◌&&◌}
-use Rattle.std.specs.List.{list_any, list_all, IsDistinct, AllByRecursion, position_or_len}
+use Rattle.std.proofs.Common.{◌≡◌, ℕ, zero, suc, ◌+◌, ◌<◌, List, [], ◌∷◌, ◌++◌, length, get_or, take, Bool, true, false, cond, nat_eq, nat_lt, Option, Some, None, refl, ap, ap₂, sym, ◌∙◌, arith, add-one}
+use Rattle.std.specs.Prelude.{map, position, not, ◌||◌}
+use Rattle.std.specs.List.{list_any, IsDistinct, AllByRecursion, position_or_len}
 use Rattle.std.specs.Option.{option_map_or}
-use Rattle.std.proofs.lemmas.Bool.{or_parts, and_parts, eqb-true, eq-eqb}
-use Rattle.tk_stream.specs.Applied.{Kind, told_item, new_items}
-use Rattle.tk_stream.specs.Places.{place_with}
-use Rattle.tk_stream.specs.Tables.{TablesView, item_with, changed_at}
-use Rattle.tk_client.specs.Taking.{has_twice, has_id}
-use Rattle.tk_client.specs.Told.{id_by, info_id_by, stats_id_by, made, told_of, retold, retold_by, place_by, HaveOneId, fits_told}
-use Rattle.tk_client.proofs.IdLemmas.{itself, flipped, distinct-once, own, has-the-id}
+use Rattle.std.proofs.lemmas.Bool.{or_parts, eqb-true}
+use Rattle.tk_stream.specs.Applied.{Kind, told_item}
+use Rattle.tk_stream.specs.Tables.{TablesView, changed_at}
+use Rattle.tk_client.specs.Taking.{has_twice}
+use Rattle.tk_client.specs.Told.{id_by, stats_id_by, told_of, retold, retold_by, HaveOneId}
+use Rattle.tk_client.proofs.IdLemmas.{itself, flipped}
 
 map-append : {A B : Type 0} (f : A → B) (xs ys : List A) → map f (xs ++ ys) ≡ map f xs ++ map f ys
 map-append f [] ys = refl

@@ -10,7 +10,7 @@ use Rattle.tk_stream.specs.Tables.{TablesView, PollCounts, counts_id, item_with,
 use Rattle.tk_client.specs.declared.fault.Fault.{Fault}
 use Rattle.tk_client.specs.declared.fault.Fault.TheVariants.{Memory, Misfit}
 use Rattle.tk_client.specs.Feeding.{ClientView, Took}
-use Rattle.tk_client.specs.Meaning.{goes, stops, meaning}
+use Rattle.tk_client.specs.Meaning.{stops, meaning}
 use Rattle.tk_client.specs.Taking.{has_id, has_twice}
 use Rattle.tk_client.specs.declared.taking.Finding.{Finding}
 use Rattle.tk_client.specs.declared.taking.Finding.TheVariants.{Sound, Strange, Repeats}
@@ -89,11 +89,6 @@ retold_at k items i None = items
 abbrev pub with_new : {Item : Type 0} → (TablesView → List Item → TablesView) → TablesView → List Item → Option (List Item) → Result TablesView Fault
 with_new put tables old (Some items) = Ok (put tables (old ++ items))
 with_new put tables old None = Err Misfit
-
--- tables with the items of one kind, where there are such
-abbrev pub with_kind : {Item : Type 0} → (TablesView → List Item → TablesView) → TablesView → Option (List Item) → Result TablesView Fault
-with_kind put tables (Some items) = Ok (put tables items)
-with_kind put tables None = Err Misfit
 
 -- tables, or a misfit where there are none
 abbrev pub or_misfit : Option TablesView → Result TablesView Fault

@@ -1,6 +1,5 @@
 //! The tasks that can be warned of, by their places in the tables.
-ghost use Rattle.std.specs.Prelude.{◌≡◌, ◌++◌, ◌∷◌, [], ◌+◌, ◌≤◌, ◌<◌, length, IfOk, OnOk, if◌then◌else◌};
-ghost use Rattle.std.specs.Vec.{vec_len, vec_capacity};
+ghost use Rattle.std.specs.Prelude.{◌≡◌, ◌++◌, IfOk, OnOk};
 ghost use Rattle.tk_client.specs.Candidates as spec;
 ghost use Rattle.tk_client.specs.Warnings.{warnings_in};
 
@@ -16,7 +15,8 @@ fn can_hold(row: &TaskRow) -> bool
     (row.wakes > 0 && row.self_wakes > 0) || has_lost_waker(row) || (row.polling && row.polls == 1)
 }
 
-fn can_warn(task: &Task) -> bool
+/// Whether a task can be warned of, whatever the lints and the moment.
+pub(crate) fn can_warn(task: &Task) -> bool
     ensures { result ≡ spec.can_warn task.now }
 {
     is_spawn(task.info.kind) && can_hold(&task.row)
@@ -52,28 +52,4 @@ pub(crate) fn warnings_of_places(
         warn_at(&mut list, lints, tables, *place)?;
     }
     Ok(list)
-}
-
-// Puts a place last where it is listed.
-fn list_if(places: &mut Vec<usize>, place: usize, is_listed: bool)
-    requires { vec_len places.old < vec_capacity places.old }
-    ensures items { places.new.items ≡ places.old.items ++ (if is_listed then place ∷ [] else []) }
-    ensures few { vec_len places.new ≤ vec_len places.old + 1 }
-    ensures room { vec_capacity places.new ≡ vec_capacity places.old }
-{
-    if is_listed {
-        places.push_reserved(place);
-    }
-}
-
-/// Lists the places of the tasks that can be warned of, where there is room for all tasks.
-pub(crate) fn list_places(places: &mut Vec<usize>, tables: &Tables)
-    requires room { length tables.now.tasks ≤ vec_capacity places.old }
-    ensures { places.new.items ≡ spec.places_of tables.now.tasks }
-{
-    places.clear();
-    for i in 0..tables.task_count() {
-        let task = tables.task_at(i).unwrap();
-        list_if(places, i, can_warn(task));
-    }
 }

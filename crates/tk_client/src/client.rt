@@ -11,6 +11,7 @@ use crate::fault::{Fault, FeedError};
 use crate::lints::Lints;
 use crate::shown::Shown;
 use crate::warning::Warning;
+use memchr::memchr;
 use std::alloc::Global;
 use std::marker::Model;
 use tk_stream::{Line, Tables};
@@ -45,7 +46,7 @@ impl Model for Client {
 fn find_end(bytes: &[u8]) -> Option<usize>
     ensures { result ≡ position (λ b. b == line_end) bytes.now }
 {
-    bytes.iter().position(|b| *b == b'\n')
+    memchr(b'\n', bytes)
 }
 
 // Where the first line ends.
@@ -80,12 +81,7 @@ fn is_next(last: Option<u64>, line: &Line) -> bool
 
 // Applies a line's text, or leaves the tables as they are. It answers the line's number.
 #[tactic(auto, unfolding(crate::specs::Meaning::line_taken))]
-fn take_line(
-    alloc: Global,
-    shown: &mut Shown,
-    last: Option<u64>,
-    text: &[u8],
-) -> Result<u64, Fault>
+fn take_line(alloc: Global, shown: &mut Shown, last: Option<u64>, text: &[u8]) -> Result<u64, Fault>
     requires { IfSome last (λ n. n ≤ 2 ^ 63) }
     ensures taken { Answers (λ n. record { tables = shown.new; last = Some n; part = [] }) result (spec.line_taken shown.old last text.now) }
     ensures kept { OnErr result (shown.new ≡ shown.old) }
@@ -307,7 +303,8 @@ impl Client {
     /// `UnknownId`; `Misfit`. `used` counts the bytes through the fault.
     ///
     /// - `Memory`: the first `used` bytes were taken, and those behind them may be fed again. A whole line that found no
-    ///   memory is applied in no part, and its line end is not taken.
+    ///   memory is applied in no part: where all of it lies in the piece, `used` ends before the line, and where its front
+    ///   came with an earlier piece, before its line end.
     /// - `Failed`: the client has failed before, by any fault but `Memory`. Nothing changes, with `lines` 0 and `used` 0,
     ///   until [`Client::restart`].
     pub fn feed(&mut self, piece: &[u8]) -> Result<u64, FeedError>

@@ -11,12 +11,7 @@ use tk_ids::ResourceId;
 use tk_stream::Tables;
 
 // Counts of a resource that has none yet go last.
-fn add_one(
-    tables: &mut Tables,
-    id: ResourceId,
-    ready: u64,
-    pending: u64,
-) -> Result<(), AllocError>
+fn add_one(tables: &mut Tables, id: ResourceId, ready: u64, pending: u64) -> Result<(), AllocError>
     ensures ok { OnOk result (tables.new ≡ record tables.old { counts = inner.count_added (id, ready, pending) tables.old.counts }) }
     ensures err { OnErr result (tables.new ≡ tables.old) }
 {

@@ -103,7 +103,8 @@ pub struct FeedError {
     /// How many lines were applied.
     pub lines: u64,
     /// How many bytes of the piece were taken. Where the line has a fault, those through the fault: its line end, or its
-    /// first byte too many. At `Memory` the bytes behind these may be fed again.
+    /// first byte too many. At `Memory` the bytes behind these may be fed again: they end before a line of which all lies in
+    /// the piece, and before the end of a line whose front came with an earlier one.
     pub used: usize,
     /// Why.
     pub fault: Fault,

@@ -8,6 +8,7 @@
 
 mod attrs;
 mod candidates;
+mod changes;
 mod client;
 mod counts;
 mod fault;

@@ -6,7 +6,8 @@ ghost use Rattle.tk_client.specs.Taking.{line_applied};
 ghost use Rattle.tk_client.specs.Told.{Answers};
 ghost use Rattle.tk_client.specs.Warnings.{warnings_in};
 
-use crate::candidates::{list_places, warnings_of_places};
+use crate::candidates::warnings_of_places;
+use crate::changes::{list_changes, relist};
 use crate::fault::Fault;
 use crate::lints::Lints;
 use crate::taking::apply_line;
@@ -22,6 +23,8 @@ pub(crate) struct Shown {
     tables: Tables,
     // The places of the tasks that can be warned of, rising.
     places: Vec<usize>,
+    // Room for the next list of places.
+    spare: Vec<usize>,
 }
 
 impl Model for Shown {
@@ -45,6 +48,7 @@ impl Shown {
         Ok(Shown {
             tables,
             places: Vec::new(alloc),
+            spare: Vec::new(alloc),
         })
     }
 
@@ -70,18 +74,21 @@ impl Shown {
         self.places.clear();
     }
 
-    // Applies a line that is no snapshot.
+    // Applies a line that is no snapshot. Room for what will change in the list of places is made first.
     fn go_on(&mut self, alloc: Global, line: &Line) -> Result<(), Fault>
         ensures applied { Answers (λ _. self.new) result (line_applied self.old line.now) }
         ensures kept { OnErr result (self.new ≡ self.old) }
     {
-        let Some(tasks) = self.tables.task_count().checked_add(line.new_tasks().len()) else {
+        let told = line.task_stats();
+        let Some(room) = self.places.len().checked_add(told.len()) else {
             return Err(Fault::Memory);
         };
-        self.places.reserve(tasks)?;
+        let mut changes = Vec::with_capacity(alloc, told.len())?;
+        self.spare.reserve(room)?;
         match apply_line(alloc, &mut self.tables, line) {
             Ok(()) => {
-                list_places(&mut self.places, &self.tables);
+                list_changes(&mut changes, &self.places, &self.tables, told);
+                relist(&mut self.places, &mut self.spare, &mut changes);
                 Ok(())
             }
             Err(fault) => Err(fault),
@@ -107,11 +114,7 @@ impl Shown {
     }
 
     /// The warnings of the tables. It looks at the tasks alone that can be warned of.
-    pub(crate) fn warnings(
-        &self,
-        alloc: Global,
-        lints: &Lints,
-    ) -> Result<Vec<Warning>, AllocError>
+    pub(crate) fn warnings(&self, alloc: Global, lints: &Lints) -> Result<Vec<Warning>, AllocError>
         ensures { IfOk result (λ list. list.items ≡ warnings_in lints.now self.now) }
     {
         warnings_of_places(alloc, &self.tables, &self.places, lints)

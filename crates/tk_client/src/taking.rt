@@ -80,10 +80,7 @@ fn is_told_twice<T: Listed>(alloc: Global, stats: &[T::Stats]) -> Result<bool, A
 }
 
 // What is found of poll counts, whose resources need not be there.
-fn look_at_counts(
-    alloc: Global,
-    counts: &[(ResourceId, u64, u64)],
-) -> Result<Finding, AllocError>
+fn look_at_counts(alloc: Global, counts: &[(ResourceId, u64, u64)]) -> Result<Finding, AllocError>
     ensures { IfOk result (λ f. f ≡ inner.finding (spec.has_twice (map counts_id counts.now)) false) }
 {
     let ids = counted_ids(alloc, counts)?;
@@ -112,7 +109,12 @@ fn has_stranger<T: Listed>(old: &Tables, new: &Ids, stats: &[T::Stats]) -> bool
 }
 
 // What is found where the new ids are these.
-fn look_beside<T: Listed>(alloc: Global, old: &Tables, ids: &[u64], stats: &[T::Stats]) -> Result<Finding, AllocError>
+fn look_beside<T: Listed>(
+    alloc: Global,
+    old: &Tables,
+    ids: &[u64],
+    stats: &[T::Stats],
+) -> Result<Finding, AllocError>
     ensures { IfOk result (λ f. f ≡ inner.finding (spec.has_twice ids.now) (list_any (inner.is_stranger T.kind (T.items old.now) ids.now) stats.now)) }
 {
     match Ids::new(alloc, ids)? {

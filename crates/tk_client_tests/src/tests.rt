@@ -1,8 +1,12 @@
 //! Streams that are fed in memory.
 
+mod beside;
 mod faults;
 mod given;
 mod memory;
 mod pieces;
+mod plain;
+mod random;
 mod rows;
+mod spelled;
 mod texts;

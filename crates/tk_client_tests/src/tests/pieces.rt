@@ -1,9 +1,11 @@
-//! A stream of 200 lines, cut at every size.
+//! A stream of 1,000 lines, cut at every size.
 
 use super::given::{fed, fed_in_pieces, holds, line_of, row_of, text_of};
 use super::texts as text;
 use std::alloc::Global;
 use tk_client::{Client, Lints, Warning};
+
+const LINES: u64 = 1000;
 
 // A row of as many self-wakes as the number says.
 fn row_with(alloc: Global, seq: &str) -> Option<String> {
@@ -56,7 +58,7 @@ fn add_line(alloc: Global, bytes: &mut Vec<u8>, k: u64) -> bool {
 
 fn stream_of(alloc: Global) -> Option<Vec<u8>> {
     let mut bytes = Vec::new(alloc);
-    for k in 0..200 {
+    for k in 0..LINES {
         if !add_line(alloc, &mut bytes, k) {
             return None;
         }
@@ -84,7 +86,7 @@ fn leads_there(
     client.restart();
     let came = fed_in_pieces(client, bytes, size);
     came.code == 0
-        && came.lines == 200
+        && came.lines == LINES
         && holds(alloc, client, tables)
         && same_warnings(client, &lints, warnings)
 }
@@ -132,7 +134,7 @@ fn all_same_as_whole(
     let came = fed(client, bytes);
     match text_of(alloc, client.tables()) {
         Some(tables) => {
-            came.lines == 200 && all_same_tables(alloc, client, bytes, &tables, sizes)
+            came.lines == LINES && all_same_tables(alloc, client, bytes, &tables, sizes)
         }
         None => false,
     }

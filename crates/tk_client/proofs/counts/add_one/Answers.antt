@@ -1,4 +1,4 @@
-use Rattle.std.proofs.Common.{◌≡◌, List, Bool, true, false, ap, sym, ◌∙◌, subst}
+use Rattle.std.proofs.Common.{◌≡◌, List, true, false, ap, sym, ◌∙◌, subst}
 use Rattle.std.specs.Prelude.{is_some, OnOk}
 use Rattle.tk_stream.specs.Tables.{TablesView, PollCounts, counts_id, item_with}
 use Rattle.tk_client.proofs.IdLemmas.{place-has}

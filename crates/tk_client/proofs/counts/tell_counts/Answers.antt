@@ -1,4 +1,4 @@
-use Rattle.std.proofs.Common.{◌≡◌, List, ap, sym, ◌∙◌, take, subst}
+use Rattle.std.proofs.Common.{List, ap, sym, ◌∙◌, take, subst}
 use Rattle.std.specs.Prelude.{IsSome, is_some}
 use Rattle.tk_stream.specs.Tables.{TablesView, PollCounts, counts_id, item_with, put_item}
 use Rattle.tk_client.proofs.CountLemmas.{told_next, none_told, still-there, all-at}

@@ -1,4 +1,4 @@
-use Rattle.std.proofs.Common.{◌≡◌, ◌+◌, ◌++◌, ◌∷◌, [], List, Some, Option, drop, false, refl, ap, sym, ◌∙◌}
+use Rattle.std.proofs.Common.{◌≡◌, ◌+◌, ◌++◌, ◌∷◌, [], Some, drop, false, refl, ap, sym, ◌∙◌}
 use Rattle.std.specs.Prelude.{map, ◌||◌}
 use Rattle.std.specs.List.{list_any}
 use Rattle.std.proofs.lemmas.Bool.{or_parts}
@@ -6,7 +6,7 @@ use Rattle.tk_stream.specs.Applied.{new_items}
 use Rattle.tk_stream.specs.Tables.{TablesView}
 use Rattle.tk_client.specs.Taking.{has_twice}
 use Rattle.tk_client.specs.Told.{has_info, info_id_by, stats_id_by, told_of, made, with_new, begins_same}
-use Rattle.tk_client.proofs.TakeLemmas.{one_step, adds, misfits, absent_here, absent_next, once_next}
+use Rattle.tk_client.proofs.TakeLemmas.{one_step, adds, absent_next, once_next}
 use Rattle.tk_client.proofs.CutLemmas.{begins-more, grown-same, grown-on}
 use Rattle.tk_client.proofs.taking.add_each.Goals as goal
 

@@ -1,5 +1,3 @@
-use Rattle.std.proofs.Common.{◌≡◌}
-use Rattle.std.specs.Prelude.{OnOk}
 use Rattle.tk_client.proofs.CutLemmas.{cut-back, on-err}
 use Rattle.tk_client.proofs.taking.grow_or_cut.Goals as goal
 

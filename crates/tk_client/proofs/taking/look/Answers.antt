@@ -1,4 +1,4 @@
-use Rattle.std.proofs.Common.{◌≡◌, false, sym, ◌∙◌}
+use Rattle.std.proofs.Common.{sym, ◌∙◌}
 use Rattle.tk_client.proofs.LineLemmas.{found-as, new-decide, strangers}
 use Rattle.tk_client.proofs.taking.look.Goals as goal
 

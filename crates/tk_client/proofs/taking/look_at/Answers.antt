@@ -23,5 +23,5 @@ returns c =
     c.worse-3.ensures
     ∙ ap₂ worse tasks (c.worse-2.ensures ∙ ap₂ worse resources (c.worse.ensures ∙ ap₂ worse ops counts))
     ∙ worst (repeats_kind task_kind old.tasks l.new_tasks l.task_stats) (strange_kind task_kind old.tasks l.new_tasks l.task_stats)
-      (repeats_kind resource_kind old.resources l.new_resources l.resource_stats) (strange_kind resource_kind old.resources l.new_resources l.resource_stats)
-      (repeats_kind op_kind old.ops l.new_ops l.op_stats) (strange_kind op_kind old.ops l.new_ops l.op_stats) (has_twice (map counts_id l.poll_counts))
+    (repeats_kind resource_kind old.resources l.new_resources l.resource_stats) (strange_kind resource_kind old.resources l.new_resources l.resource_stats)
+    (repeats_kind op_kind old.ops l.new_ops l.op_stats) (strange_kind op_kind old.ops l.new_ops l.op_stats) (has_twice (map counts_id l.poll_counts))

@@ -1,4 +1,4 @@
-use Rattle.std.proofs.Common.{◌≡◌, ◌≤◌, ℕ, List, [], length, true, false, Some, arith, refl, ap, sym, subst, ◌∙◌}
+use Rattle.std.proofs.Common.{◌≡◌, ◌≤◌, ℕ, List, [], length, true, Some, arith, ap, sym, subst, ◌∙◌}
 use Rattle.tk_stream.specs.Tables.{TablesView}
 use Rattle.tk_client.specs.Told.{Fails}
 use Rattle.tk_client.specs.Meaning.{Start, goes, line_taken}

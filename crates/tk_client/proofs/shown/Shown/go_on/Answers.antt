@@ -1,12 +1,40 @@
-use Rattle.std.proofs.Common.{◌≡◌, ◌+◌, length, ap, arith}
+use Rattle.std.proofs.Common.{◌≡◌, List, ap, ap₂, ◌∙◌, refl}
+use Rattle.std.specs.Prelude.{map}
+use Rattle.tk_stream.specs.Applied.{task_kind}
+use Rattle.tk_stream.specs.Lines.{LineView}
 use Rattle.tk_stream.specs.Tables.{TablesView}
-use Rattle.tk_client.proofs.LengthLemmas.{applied-tasks}
+use Rattle.tk_client.specs.declared.changes.Change.{Change}
+use Rattle.tk_client.specs.Candidates.{can_warn, changes_of, rise}
+use Rattle.tk_client.specs.Taking.{has_twice}
+use Rattle.tk_client.specs.Told.{stats_id_by}
+use Rattle.tk_client.proofs.AppliedLemmas.{applied-tasks}
+use Rattle.tk_client.proofs.MergeLemmas.{rising}
+use Rattle.tk_client.proofs.StandingLemmas.{standing}
 use Rattle.tk_client.proofs.shown.Shown.go_on.Goals as goal
 
-pub list_places-requires : goal.list_places-requires
-list_places-requires c =
+pub list_changes-requires-clause-rising : goal.list_changes-requires-clause-rising
+list_changes-requires-clause-rising c = ap rise (c.deref.ensures.value ∙ c.self.invariant.1) ∙ rising can_warn 0 c.self.inside.tables.tasks
+
+pub list_changes-requires-clause-once : goal.list_changes-requires-clause-once
+list_changes-requires-clause-once c =
+    ap (λ stats. has_twice (map (stats_id_by task_kind) stats)) c.task_stats-told.ensures
+    ∙ (applied-tasks c.self.inside.tables c.args.line.now c.apply_line.new.tables c.in-Ok.ensures.applied).1
+
+pub relist-requires-clause-rising : goal.relist-requires-clause-rising
+relist-requires-clause-rising c = ap rise c.self.invariant.1 ∙ rising can_warn 0 c.self.inside.tables.tasks
+
+pub invariant_of-self-in-Ok : goal.invariant_of-self-in-Ok
+invariant_of-self-in-Ok c =
     let old : TablesView = c.self.inside.tables in
     let new : TablesView = c.apply_line.new.tables in
-    let more : length new.tasks ≡ length old.tasks + length c.args.line.now.new_tasks = applied-tasks old c.args.line.now new c.in-Ok.ensures.applied in
-    let infos : length c.new_tasks.result.now ≡ length c.args.line.now.new_tasks = ap length c.new_tasks.ensures in
-    record { room = omega (arith, more, infos, c.task_count.ensures.count, c.in-Some.ensures, c.in_ok-reserve.ensures.ok) }
+    let line : LineView = c.args.line.now in
+    let follow = (applied-tasks old line new c.in-Ok.ensures.applied).0 in
+    let raw : List Change = c.deref_mut.result.now in
+    let changes : raw ≡ changes_of c.self.inside.places.items new.tasks line.task_stats =
+    c.deref_mut.ensures.value ∙ c.list_changes.ensures.items
+    ∙ ap₂ (λ places stats. changes_of places new.tasks stats) c.deref.ensures.value c.task_stats-told.ensures in (
+      c.in-Ok.ensures.fit,
+      c.relist.ensures.merged
+          ∙ standing task_kind (λ x s. refl) (λ info s. refl) can_warn line.task_stats line.new_tasks old.tasks follow.items new.tasks c.self.inside.places.items raw c.relist.new.changes follow.are follow.now c.list_changes.ensures.distinct
+          c.self.invariant.1 changes c.relist.ensures.permutation c.relist.ensures.rising,
+    )

@@ -1,0 +1,197 @@
+//! Lines made at random, most of them good.
+
+use rand_core::Rng;
+use rand_pcg::Pcg32;
+use std::alloc::{AllocError, Global};
+
+/// A new item: its id, and which of four lists of attributes it has, or which kind of task it is.
+#[derive(Clone, Copy)]
+pub(super) struct New {
+    pub(super) id: u64,
+    pub(super) shape: u64,
+}
+
+/// What is told of an item: its id, the list of attributes that its values are of, and a number that its row is made from.
+#[derive(Clone, Copy)]
+pub(super) struct Told {
+    pub(super) id: u64,
+    pub(super) shape: u64,
+    pub(super) seed: u64,
+}
+
+/// What a line says of one kind of item.
+#[derive(Drop)]
+pub(super) struct Part {
+    pub(super) news: Vec<New>,
+    pub(super) told: Vec<Told>,
+}
+
+/// How a line is spoilt.
+#[derive(Clone, Copy, Drop, PartialEq, Eq)]
+pub(super) enum Spoilt {
+    Whole,
+    NoJson,
+    NoLine,
+}
+
+/// A line.
+#[derive(Drop)]
+pub(super) struct Given {
+    pub(super) tasks: Part,
+    pub(super) resources: Part,
+    pub(super) ops: Part,
+    pub(super) counts: Vec<(u64, u64, u64)>,
+    pub(super) seq: u64,
+    pub(super) snapshot: bool,
+    pub(super) now: u64,
+    pub(super) spoilt: Spoilt,
+}
+
+/// A number below another one.
+pub(super) fn below(random: &mut Pcg32, limit: u32) -> u64 {
+    u64::from(random.next_u32() % limit.max(1))
+}
+
+// Once in so many times.
+fn happens(random: &mut Pcg32, times: u32) -> bool {
+    below(random, times) == 0
+}
+
+// One of twelve ids of recorder 1.
+fn any_id(random: &mut Pcg32) -> u64 {
+    below(random, 12).saturating_add(1_099_511_627_777)
+}
+
+fn has_new(news: &[New], id: u64) -> bool {
+    for new in news {
+        if new.id == id {
+            return true;
+        }
+    }
+    false
+}
+
+fn has_told(told: &[Told], id: u64) -> bool {
+    for one in told {
+        if one.id == id {
+            return true;
+        }
+    }
+    false
+}
+
+fn shape_of(news: &[New], id: u64) -> Option<u64> {
+    for new in news {
+        if new.id == id {
+            return Some(new.shape);
+        }
+    }
+    None
+}
+
+// An item that isn't there yet, but for one in 64.
+fn add_new(random: &mut Pcg32, part: &mut Part, held: &[New]) -> Result<(), AllocError> {
+    let id = any_id(random);
+    let shape = below(random, 4);
+    let seed = u64::from(random.next_u32());
+    let is_known = has_new(held, id) || has_new(&part.news, id);
+    if is_known && !happens(random, 64) {
+        return Ok(());
+    }
+    part.news.push(New { id, shape })?;
+    if !happens(random, 64) {
+        part.told.push(Told { id, shape, seed })?;
+    }
+    Ok(())
+}
+
+// Values of the right attributes, but for one in 64.
+fn told_shape(random: &mut Pcg32, shape: u64) -> u64 {
+    if happens(random, 64) {
+        below(random, 4)
+    } else {
+        shape
+    }
+}
+
+// A row of an item that is there and wasn't told of, but for one in 64.
+fn add_told(random: &mut Pcg32, part: &mut Part, held: &[New]) -> Result<(), AllocError> {
+    let id = any_id(random);
+    let seed = u64::from(random.next_u32());
+    let shape = shape_of(held, id);
+    let is_odd = shape.is_none() || has_told(&part.told, id);
+    if is_odd && !happens(random, 64) {
+        return Ok(());
+    }
+    let shape = told_shape(random, shape.unwrap_or(0));
+    part.told.push(Told { id, shape, seed })?;
+    Ok(())
+}
+
+// Up to two new items and up to three rows of others, before the new ones' rows or behind them.
+fn part_of(alloc: Global, random: &mut Pcg32, held: &[New]) -> Result<Part, AllocError> {
+    let mut part = Part {
+        news: Vec::new(alloc),
+        told: Vec::new(alloc),
+    };
+    let early = below(random, 4);
+    let late = below(random, 2);
+    for _ in 0..early {
+        add_told(random, &mut part, held)?;
+    }
+    for _ in 0..below(random, 3) {
+        add_new(random, &mut part, held)?;
+    }
+    for _ in 0..late {
+        add_told(random, &mut part, held)?;
+    }
+    Ok(part)
+}
+
+// Up to two counts, of one resource twice at times.
+fn counts_of(alloc: Global, random: &mut Pcg32) -> Result<Vec<(u64, u64, u64)>, AllocError> {
+    let mut counts = Vec::new(alloc);
+    for _ in 0..below(random, 3) {
+        counts.push((any_id(random), below(random, 9), below(random, 9)))?;
+    }
+    Ok(counts)
+}
+
+fn how_spoilt(random: &mut Pcg32) -> Spoilt {
+    match below(random, 128) {
+        0 => Spoilt::NoJson,
+        1 => Spoilt::NoLine,
+        _ => Spoilt::Whole,
+    }
+}
+
+/// A line behind items that are held, which is the next one but for one in 32.
+pub(super) fn line_behind(
+    alloc: Global,
+    random: &mut Pcg32,
+    held: (&[New], &[New], &[New]),
+    next: u64,
+) -> Result<Given, AllocError> {
+    let snapshot = happens(random, 24);
+    let seq = if happens(random, 32) {
+        next.saturating_add(1)
+    } else {
+        next
+    };
+    let now = below(random, 5000);
+    let spoilt = how_spoilt(random);
+    let tasks = part_of(alloc, random, held.0)?;
+    let resources = part_of(alloc, random, held.1)?;
+    let ops = part_of(alloc, random, held.2)?;
+    let counts = counts_of(alloc, random)?;
+    Ok(Given {
+        tasks,
+        resources,
+        ops,
+        counts,
+        seq,
+        snapshot,
+        now,
+        spoilt,
+    })
+}
