@@ -98,7 +98,7 @@ try_crate() {
         if [ -z "$path" ]; then
             said="BAD EDIT: it names no function"
         elif said=$(apply_edit "$edit" "$copy"); then
-            (cd "$copy" && rt check --only "$path" > "$work/log" 2>&1)
+            (cd "$copy" && rt check --jobs 1 --only "$path" > "$work/log" 2>&1)
             said=$(judge "$work/log" $?)
         else
             said="BAD EDIT: $said"
