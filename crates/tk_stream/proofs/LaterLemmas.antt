@@ -8,7 +8,7 @@ use Rattle.tk_events.specs.declared.event.Event.TheVariants as events
 use Rattle.tk_ledgers.specs.Handles.{Sight}
 use Rattle.tk_stream.specs.Absorbing.{one_more}
 use Rattle.tk_stream.specs.Aggregates.{Aggregating, Gathers, Collects, TakesIn, TakesAllIn, IsLaterOf, free}
-use Rattle.tk_stream.specs.Applied.{Kind, task_kind, resource_kind, op_kind, counts_kind, BeginWith, GoOn}
+use Rattle.tk_stream.specs.Applied.{Kind, task_kind, resource_kind, op_kind, counts_kind, BeginWith}
 use Rattle.tk_stream.specs.Readings.{IsLater, AreLater}
 use Rattle.tk_stream.specs.Tables.{PollCounts, counts_id, counts_of, put_item, task_with, resource_with, op_with}
 use Rattle.tk_stream.proofs.FollowLemmas.{by_case}
@@ -62,7 +62,9 @@ module _ {Row C : Type 0} where
 pub same_items : (a : Aggregating) → IsLaterOf a a
 same_items a = record {
   items = record { tasks = begins_itself task_kind a.tables.tasks; resources = begins_itself resource_kind a.tables.resources; ops = begins_itself op_kind a.tables.ops; counts = begins_itself counts_kind a.tables.counts };
-  tasks = all_same a.tasks; resources = all_same a.resources; ops = all_same a.ops;
+  tasks = all_same a.tasks;
+  resources = all_same a.resources;
+  ops = all_same a.ops;
 }
 
 pub then_later : (a b c : Aggregating) → IsLaterOf a b → IsLaterOf b c → IsLaterOf a c
@@ -83,24 +85,32 @@ takes_later old (events.Task info handle) new p =
     by_case (task_with info.id old.tables.tasks) _ _ (IsLaterOf old new) (λ q. Unit {0}) p.0 p.1 (λ x is q. subst (λ (a : Aggregating). IsLaterOf old a) (sym q) (same_items old))
     (λ is q. subst (λ (a : Aggregating). IsLaterOf old a) (sym q.3) (record {
       items = record { tasks = begins_more task_kind old.tables.tasks (record { info = info; row = q.0 } ∷ []); resources = begins_itself resource_kind old.tables.resources; ops = begins_itself op_kind old.tables.ops; counts = begins_itself counts_kind old.tables.counts };
-      tasks = all_more old.tasks (q.1 ∷ []); resources = all_same old.resources; ops = all_same old.ops;
+      tasks = all_more old.tasks (q.1 ∷ []);
+      resources = all_same old.resources;
+      ops = all_same old.ops;
     })) tt
 takes_later old (events.Resource info handle) new p =
     by_case (resource_with info.id old.tables.resources) _ _ (IsLaterOf old new) (λ q. Unit {0}) p.0 p.1 (λ x is q. subst (λ (a : Aggregating). IsLaterOf old a) (sym q) (same_items old))
     (λ is q. subst (λ (a : Aggregating). IsLaterOf old a) (sym q.3) (record {
       items = record { tasks = begins_itself task_kind old.tables.tasks; resources = begins_more resource_kind old.tables.resources (record { info = info; row = q.0 } ∷ []); ops = begins_itself op_kind old.tables.ops; counts = begins_itself counts_kind old.tables.counts };
-      tasks = all_same old.tasks; resources = all_more old.resources (q.1 ∷ []); ops = all_same old.ops;
+      tasks = all_same old.tasks;
+      resources = all_more old.resources (q.1 ∷ []);
+      ops = all_same old.ops;
     })) tt
 takes_later old (events.Op info handle) new p =
     by_case (op_with info.id old.tables.ops) _ _ (IsLaterOf old new) (λ q. Unit {0}) p.0 p.1 (λ x is q. subst (λ (a : Aggregating). IsLaterOf old a) (sym q) (same_items old))
     (λ is q. subst (λ (a : Aggregating). IsLaterOf old a) (sym q.3) (record {
       items = record { tasks = begins_itself task_kind old.tables.tasks; resources = begins_itself resource_kind old.tables.resources; ops = begins_more op_kind old.tables.ops (record { info = info; row = q.0 } ∷ []); counts = begins_itself counts_kind old.tables.counts };
-      tasks = all_same old.tasks; resources = all_same old.resources; ops = all_more old.ops (q.1 ∷ []);
+      tasks = all_same old.tasks;
+      resources = all_same old.resources;
+      ops = all_more old.ops (q.1 ∷ []);
     })) tt
 takes_later old (events.Poll op) new p =
     subst (λ (a : Aggregating). IsLaterOf old a) (sym p) (record {
       items = record { tasks = begins_itself task_kind old.tables.tasks; resources = begins_itself resource_kind old.tables.resources; ops = begins_itself op_kind old.tables.ops; counts = begins_put (op.resource, (one_more op.ready (counts_of op.resource old.tables.counts)).0, (one_more op.ready (counts_of op.resource old.tables.counts)).1) old.tables.counts };
-      tasks = all_same old.tasks; resources = all_same old.resources; ops = all_same old.ops;
+      tasks = all_same old.tasks;
+      resources = all_same old.resources;
+      ops = all_same old.ops;
     })
 
 takes_all_later : (old : Aggregating) (es : List Event) (new : Aggregating) → TakesAllIn old es new → IsLaterOf old new
@@ -115,5 +125,7 @@ collects_later a t limit count b u k =
     let s = gathers_later a t k.taken k.gathered k.taker k.gathers in
     subst (λ (x : Aggregating). IsLaterOf a x) (sym k.now) (record {
       items = record { tasks = s.items.tasks; resources = s.items.resources; ops = s.items.ops; counts = s.items.counts };
-      tasks = s.tasks; resources = s.resources; ops = s.ops;
+      tasks = s.tasks;
+      resources = s.resources;
+      ops = s.ops;
     })

@@ -1,5 +1,5 @@
 -- Reading all handles, one after the other.
-use Rattle.std.proofs.Common.{◌≡◌, ℕ, zero, suc, ◌+◌, ◌≤◌, ◌<◌, List, [], ◌∷◌, ◌++◌, length, set, get_or, refl, ap, ap₂, sym, ◌∙◌, subst, append_assoc, append-nil, arith}
+use Rattle.std.proofs.Common.{◌≡◌, ℕ, suc, ◌+◌, ◌≤◌, ◌<◌, List, [], ◌∷◌, ◌++◌, length, set, get_or, refl, ap, ap₂, sym, ◌∙◌, subst, append_assoc, append-nil, arith}
 use Rattle.std.proofs.lemmas.List.{length-append}
 use Rattle.tk_stream.specs.Fronts.{with_rows}
 use Rattle.tk_stream.specs.Readings.{EachReads}
@@ -91,9 +91,21 @@ module _ {Item Handle Row : Type 0} (with_row : Item → Row → Item) (reads : 
 
   pub none_went : (items : List Item) (old : List Handle) → length old ≡ length items → Went 0 items old items old
   none_went items old e = record {
-    front = []; back = items; done = []; rest = old; read = []; rows = [];
-    items_are = refl; now_are = refl; old_are = refl; new_are = refl; all = tt;
-    front_count = refl; row_count = refl; read_count = refl; together = e;
+    front = [];
+    back = items;
+    done = [];
+    rest = old;
+    read = [];
+    rows = [];
+    items_are = refl;
+    now_are = refl;
+    old_are = refl;
+    new_are = refl;
+    all = tt;
+    front_count = refl;
+    row_count = refl;
+    read_count = refl;
+    together = e;
   }
 
   reads-count : (ss : List Handle) (rs : List Row) (ts : List Handle) → EachReads reads ss rs ts → length ss ≡ length ts
@@ -155,12 +167,23 @@ module _ {Item Handle Row : Type 0} (with_row : Item → Row → Item) (reads : 
       let back : w.back ≡ [] = none_left w.back (omega (arith, w.together, ap length rest)) in
       let items_are : items ≡ w.front = w.items_are ∙ ap (λ ys. w.front ++ ys) back ∙ append-nil w.front in
       let old_are : old ≡ w.done = w.old_are ∙ ap (λ ys. w.done ++ ys) rest ∙ append-nil w.done in
-      let new_are : new ≡ w.read = w.new_are ∙ ap (λ ys. w.read ++ ys) rest ∙ append-nil w.read in
-      (w.rows,
-      subst (λ ss. EachReads reads ss w.rows new) (sym old_are) (subst (λ ts. EachReads reads w.done w.rows ts) (sym new_are) w.all),
-      w.now_are ∙ ap (λ ys. with_rows with_row w.front w.rows ++ ys) back ∙ append-nil (with_rows with_row w.front w.rows) ∙ ap (λ ys. with_rows with_row ys w.rows) (sym items_are))
+      let new_are : new ≡ w.read = w.new_are ∙ ap (λ ys. w.read ++ ys) rest ∙ append-nil w.read in (
+        w.rows,
+        subst (λ ss. EachReads reads ss w.rows new) (sym old_are) (subst (λ ts. EachReads reads w.done w.rows ts) (sym new_are) w.all),
+        w.now_are ∙ ap (λ ys. with_rows with_row w.front w.rows ++ ys) back ∙ append-nil (with_rows with_row w.front w.rows) ∙ ap (λ ys. with_rows with_row ys w.rows) (sym items_are),
+      )
 
   pub went_within : (i : ℕ) (items : List Item) (old : List Handle) (now : List Item) (new : List Handle) → Went i items old now new → i < length new → i < length now
   went_within i items old now new w lt =
-      omega (arith, lt, ap length w.new_are, length-append w.read w.rest, w.read_count, w.together, ap length w.now_are, length-append (with_rows with_row w.front w.rows) w.back,
-      length-with_rows with_row w.front w.rows (w.front_count ∙ sym w.row_count), w.row_count)
+      omega (
+        arith,
+        lt,
+        ap length w.new_are,
+        length-append w.read w.rest,
+        w.read_count,
+        w.together,
+        ap length w.now_are,
+        length-append (with_rows with_row w.front w.rows) w.back,
+        length-with_rows with_row w.front w.rows (w.front_count ∙ sym w.row_count),
+        w.row_count,
+      )

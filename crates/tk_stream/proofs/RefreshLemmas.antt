@@ -1,5 +1,5 @@
 -- Reading the handles of each kind keeps what holds inside, and changes rows alone.
-use Rattle.std.proofs.Common.{◌≡◌, ℕ, suc, ◌≤◌, List, [], ◌∷◌, ◌++◌, length, Bool, refl, sym, ap, ap₂, ◌∙◌, subst, arith}
+use Rattle.std.proofs.Common.{◌≡◌, ℕ, suc, ◌≤◌, List, [], ◌∷◌, length, Bool, refl, sym, ap, ap₂, ◌∙◌, subst, arith}
 use Rattle.std.specs.Prelude.{Option, map}
 use Rattle.tk_core.specs.declared.op.row.OpRow.{OpRow}
 use Rattle.tk_core.specs.declared.resource.row.ResourceRow.{ResourceRow}
@@ -83,27 +83,27 @@ tasks_told shown telling rows le e = λ i. record {
 pub tasks_standing : (shown : TablesView) (telling : ToldView) (tasks : List TaskSight) (resources : List ResourceSight) (ops : List OpSight) (held : Option Event) (last : ℕ) (rows : List TaskRow) (read : List TaskSight)
     → IsStanding shown telling tasks resources ops held last → ReadAll task_ledger tasks rows read → IsStanding (with_task_rows shown rows) telling read resources ops held last
 tasks_standing shown telling tasks resources ops held last rows read stands each =
-  let count : length shown.tasks ≡ length rows = sym (pairs-count ReadTask shown.tasks tasks stands.tasks) ∙ rows-count (Reads task_ledger) tasks rows read each in
-  let same : length (with_rows task_at shown.tasks rows) ≡ length shown.tasks = length-with_rows task_at shown.tasks rows count ∙ sym count in
-  record {
-  tasks = pairs-read task_at (Reads task_ledger) ReadTask ReadTask (λ x s r t p q. (q.id ∙ p.0, reads_read task_ledger task_reads s r t q)) shown.tasks tasks rows read stands.tasks each;
-  resources = stands.resources;
-  ops = stands.ops;
-  resources_fit = stands.resources_fit;
-  ops_fit = stands.ops_fit;
-  fits = record { tasks = omega (arith, same, stands.fits.tasks); resources = stands.fits.resources; ops = stands.fits.ops; counts = stands.fits.counts; };
-  room = record { tasks = omega (arith, same, stands.room.tasks); resources = stands.room.resources; ops = stands.room.ops; counts = stands.room.counts; };
-  held = stands.held;
-  first = λ zero. tasks_told shown telling rows stands.fits.tasks count ∙ stands.first zero;
-  numbered = stands.numbered;
-}
+    let count : length shown.tasks ≡ length rows = sym (pairs-count ReadTask shown.tasks tasks stands.tasks) ∙ rows-count (Reads task_ledger) tasks rows read each in
+    let same : length (with_rows task_at shown.tasks rows) ≡ length shown.tasks = length-with_rows task_at shown.tasks rows count ∙ sym count in
+    record {
+      tasks = pairs-read task_at (Reads task_ledger) ReadTask ReadTask (λ x s r t p q. (q.id ∙ p.0, reads_read task_ledger task_reads s r t q)) shown.tasks tasks rows read stands.tasks each;
+      resources = stands.resources;
+      ops = stands.ops;
+      resources_fit = stands.resources_fit;
+      ops_fit = stands.ops_fit;
+      fits = record { tasks = omega (arith, same, stands.fits.tasks); resources = stands.fits.resources; ops = stands.fits.ops; counts = stands.fits.counts };
+      room = record { tasks = omega (arith, same, stands.room.tasks); resources = stands.room.resources; ops = stands.room.ops; counts = stands.room.counts };
+      held = stands.held;
+      first = λ zero. tasks_told shown telling rows stands.fits.tasks count ∙ stands.first zero;
+      numbered = stands.numbered;
+    }
 
 pub tasks_read : (shown : TablesView) (telling : ToldView) (tasks : List TaskSight) (resources : List ResourceSight) (ops : List OpSight) (held : Option Event) (last : ℕ) (broken : Bool) (rows : List TaskRow) (read : List TaskSight) (now : TablesView)
     → IsStanding shown telling tasks resources ops held last → ReadAll task_ledger tasks rows read → now ≡ with_task_rows shown rows
     → ReadsTasks (whole shown telling tasks resources ops held last broken) (whole now telling read resources ops held last broken)
 tasks_read shown telling tasks resources ops held last broken rows read now stands each e =
-  let count : length shown.tasks ≡ length rows = sym (pairs-count ReadTask shown.tasks tasks stands.tasks) ∙ rows-count (Reads task_ledger) tasks rows read each in
-  (rows, each, λ i. record { tables = e i; told = (ap (told_tables telling) e ∙ tasks_told shown telling rows stands.fits.tasks count) i; tasks = read; resources = resources; ops = ops; held = held; last = last; broken = broken })
+    let count : length shown.tasks ≡ length rows = sym (pairs-count ReadTask shown.tasks tasks stands.tasks) ∙ rows-count (Reads task_ledger) tasks rows read each in
+    (rows, each, λ i. record { tables = e i; told = (ap (told_tables telling) e ∙ tasks_told shown telling rows stands.fits.tasks count) i; tasks = read; resources = resources; ops = ops; held = held; last = last; broken = broken })
 
 -- ---- resources
 
@@ -123,27 +123,27 @@ resources_told shown telling rows le e = λ i. record {
 pub resources_standing : (shown : TablesView) (telling : ToldView) (tasks : List TaskSight) (resources : List ResourceSight) (ops : List OpSight) (held : Option Event) (last : ℕ) (rows : List ResourceRow) (read : List ResourceSight)
     → IsStanding shown telling tasks resources ops held last → ReadAll resource_ledger resources rows read → IsStanding (with_resource_rows shown rows) telling tasks read ops held last
 resources_standing shown telling tasks resources ops held last rows read stands each =
-  let count : length shown.resources ≡ length rows = sym (pairs-count ReadResource shown.resources resources stands.resources) ∙ rows-count (Reads resource_ledger) resources rows read each in
-  let same : length (with_rows resource_at shown.resources rows) ≡ length shown.resources = length-with_rows resource_at shown.resources rows count ∙ sym count in
-  record {
-  resources = pairs-read resource_at (Reads resource_ledger) ReadResource ReadResource (λ x s r t p q. (q.id ∙ p.0, reads_read resource_ledger resource_reads s r t q)) shown.resources resources rows read stands.resources each;
-  tasks = stands.tasks;
-  ops = stands.ops;
-  resources_fit = pairs-read resource_at (Reads resource_ledger) ResourceFits ResourceFits (λ x s r t p q. (q.id ∙ p.0, (p.1.0, q.entry.same_opening ∙ p.1.1, p.1.2))) shown.resources resources rows read stands.resources_fit each;
-  ops_fit = stands.ops_fit;
-  fits = record { tasks = stands.fits.tasks; resources = omega (arith, same, stands.fits.resources); ops = stands.fits.ops; counts = stands.fits.counts; };
-  room = record { tasks = stands.room.tasks; resources = omega (arith, same, stands.room.resources); ops = stands.room.ops; counts = stands.room.counts; };
-  held = stands.held;
-  first = λ zero. resources_told shown telling rows stands.fits.resources count ∙ stands.first zero;
-  numbered = stands.numbered;
-}
+    let count : length shown.resources ≡ length rows = sym (pairs-count ReadResource shown.resources resources stands.resources) ∙ rows-count (Reads resource_ledger) resources rows read each in
+    let same : length (with_rows resource_at shown.resources rows) ≡ length shown.resources = length-with_rows resource_at shown.resources rows count ∙ sym count in
+    record {
+      resources = pairs-read resource_at (Reads resource_ledger) ReadResource ReadResource (λ x s r t p q. (q.id ∙ p.0, reads_read resource_ledger resource_reads s r t q)) shown.resources resources rows read stands.resources each;
+      tasks = stands.tasks;
+      ops = stands.ops;
+      resources_fit = pairs-read resource_at (Reads resource_ledger) ResourceFits ResourceFits (λ x s r t p q. (q.id ∙ p.0, (p.1.0, q.entry.same_opening ∙ p.1.1, p.1.2))) shown.resources resources rows read stands.resources_fit each;
+      ops_fit = stands.ops_fit;
+      fits = record { tasks = stands.fits.tasks; resources = omega (arith, same, stands.fits.resources); ops = stands.fits.ops; counts = stands.fits.counts };
+      room = record { tasks = stands.room.tasks; resources = omega (arith, same, stands.room.resources); ops = stands.room.ops; counts = stands.room.counts };
+      held = stands.held;
+      first = λ zero. resources_told shown telling rows stands.fits.resources count ∙ stands.first zero;
+      numbered = stands.numbered;
+    }
 
 pub resources_read : (shown : TablesView) (telling : ToldView) (tasks : List TaskSight) (resources : List ResourceSight) (ops : List OpSight) (held : Option Event) (last : ℕ) (broken : Bool) (rows : List ResourceRow) (read : List ResourceSight) (now : TablesView)
     → IsStanding shown telling tasks resources ops held last → ReadAll resource_ledger resources rows read → now ≡ with_resource_rows shown rows
     → ReadsResources (whole shown telling tasks resources ops held last broken) (whole now telling tasks read ops held last broken)
 resources_read shown telling tasks resources ops held last broken rows read now stands each e =
-  let count : length shown.resources ≡ length rows = sym (pairs-count ReadResource shown.resources resources stands.resources) ∙ rows-count (Reads resource_ledger) resources rows read each in
-  (rows, each, λ i. record { tables = e i; told = (ap (told_tables telling) e ∙ resources_told shown telling rows stands.fits.resources count) i; tasks = tasks; resources = read; ops = ops; held = held; last = last; broken = broken })
+    let count : length shown.resources ≡ length rows = sym (pairs-count ReadResource shown.resources resources stands.resources) ∙ rows-count (Reads resource_ledger) resources rows read each in
+    (rows, each, λ i. record { tables = e i; told = (ap (told_tables telling) e ∙ resources_told shown telling rows stands.fits.resources count) i; tasks = tasks; resources = read; ops = ops; held = held; last = last; broken = broken })
 
 -- ---- ops
 
@@ -163,56 +163,56 @@ ops_told shown telling rows le e = λ i. record {
 pub ops_standing : (shown : TablesView) (telling : ToldView) (tasks : List TaskSight) (resources : List ResourceSight) (ops : List OpSight) (held : Option Event) (last : ℕ) (rows : List OpRow) (read : List OpSight)
     → IsStanding shown telling tasks resources ops held last → ReadAll op_ledger ops rows read → IsStanding (with_op_rows shown rows) telling tasks resources read held last
 ops_standing shown telling tasks resources ops held last rows read stands each =
-  let count : length shown.ops ≡ length rows = sym (pairs-count ReadOp shown.ops ops stands.ops) ∙ rows-count (Reads op_ledger) ops rows read each in
-  let same : length (with_rows op_at shown.ops rows) ≡ length shown.ops = length-with_rows op_at shown.ops rows count ∙ sym count in
-  record {
-  ops = pairs-read op_at (Reads op_ledger) ReadOp ReadOp (λ x s r t p q. (q.id ∙ p.0, reads_read op_ledger op_reads s r t q)) shown.ops ops rows read stands.ops each;
-  tasks = stands.tasks;
-  resources = stands.resources;
-  resources_fit = stands.resources_fit;
-  ops_fit = pairs-read op_at (Reads op_ledger) OpFits OpFits (λ x s r t p q. (q.id ∙ p.0, (p.1.0, q.entry.same_opening ∙ p.1.1, p.1.2))) shown.ops ops rows read stands.ops_fit each;
-  fits = record { tasks = stands.fits.tasks; resources = stands.fits.resources; ops = omega (arith, same, stands.fits.ops); counts = stands.fits.counts; };
-  room = record { tasks = stands.room.tasks; resources = stands.room.resources; ops = omega (arith, same, stands.room.ops); counts = stands.room.counts; };
-  held = stands.held;
-  first = λ zero. ops_told shown telling rows stands.fits.ops count ∙ stands.first zero;
-  numbered = stands.numbered;
-}
+    let count : length shown.ops ≡ length rows = sym (pairs-count ReadOp shown.ops ops stands.ops) ∙ rows-count (Reads op_ledger) ops rows read each in
+    let same : length (with_rows op_at shown.ops rows) ≡ length shown.ops = length-with_rows op_at shown.ops rows count ∙ sym count in
+    record {
+      ops = pairs-read op_at (Reads op_ledger) ReadOp ReadOp (λ x s r t p q. (q.id ∙ p.0, reads_read op_ledger op_reads s r t q)) shown.ops ops rows read stands.ops each;
+      tasks = stands.tasks;
+      resources = stands.resources;
+      resources_fit = stands.resources_fit;
+      ops_fit = pairs-read op_at (Reads op_ledger) OpFits OpFits (λ x s r t p q. (q.id ∙ p.0, (p.1.0, q.entry.same_opening ∙ p.1.1, p.1.2))) shown.ops ops rows read stands.ops_fit each;
+      fits = record { tasks = stands.fits.tasks; resources = stands.fits.resources; ops = omega (arith, same, stands.fits.ops); counts = stands.fits.counts };
+      room = record { tasks = stands.room.tasks; resources = stands.room.resources; ops = omega (arith, same, stands.room.ops); counts = stands.room.counts };
+      held = stands.held;
+      first = λ zero. ops_told shown telling rows stands.fits.ops count ∙ stands.first zero;
+      numbered = stands.numbered;
+    }
 
 pub ops_read : (shown : TablesView) (telling : ToldView) (tasks : List TaskSight) (resources : List ResourceSight) (ops : List OpSight) (held : Option Event) (last : ℕ) (broken : Bool) (rows : List OpRow) (read : List OpSight) (now : TablesView)
     → IsStanding shown telling tasks resources ops held last → ReadAll op_ledger ops rows read → now ≡ with_op_rows shown rows
     → ReadsOps (whole shown telling tasks resources ops held last broken) (whole now telling tasks resources read held last broken)
 ops_read shown telling tasks resources ops held last broken rows read now stands each e =
-  let count : length shown.ops ≡ length rows = sym (pairs-count ReadOp shown.ops ops stands.ops) ∙ rows-count (Reads op_ledger) ops rows read each in
-  (rows, each, λ i. record { tables = e i; told = (ap (told_tables telling) e ∙ ops_told shown telling rows stands.fits.ops count) i; tasks = tasks; resources = resources; ops = read; held = held; last = last; broken = broken })
+    let count : length shown.ops ≡ length rows = sym (pairs-count ReadOp shown.ops ops stands.ops) ∙ rows-count (Reads op_ledger) ops rows read each in
+    (rows, each, λ i. record { tables = e i; told = (ap (told_tables telling) e ∙ ops_told shown telling rows stands.fits.ops count) i; tasks = tasks; resources = resources; ops = read; held = held; last = last; broken = broken })
 
 -- ---- all of them
 
 pub refreshes : (a b c d : Aggregating) → ReadsTasks a b → ReadsResources b c → ReadsOps c d → Refreshes a d
 refreshes a b c d tasks resources ops =
-  let b_tasks : d.tasks ≡ b.tasks = ap (λ x. x.tasks) ops.2 ∙ ap (λ x. x.tasks) resources.2 in
-  let c_resources : d.resources ≡ c.resources = ap (λ x. x.resources) ops.2 in
-  record {
-    task_rows = tasks.0;
-    resource_rows = resources.0;
-    op_rows = ops.0;
-    tasks = subst (λ ts. ReadAll task_ledger a.tasks tasks.0 ts) (sym b_tasks) tasks.1;
-    resources = subst (λ ss. ReadAll resource_ledger ss resources.0 d.resources) (ap (λ x. x.resources) tasks.2) (subst (λ ts. ReadAll resource_ledger b.resources resources.0 ts) (sym c_resources) resources.1);
-    ops = subst (λ ss. ReadAll op_ledger ss ops.0 d.ops) (ap (λ x. x.ops) resources.2 ∙ ap (λ x. x.ops) tasks.2) ops.1;
-    now =
-        ops.2
-        ∙ ap (λ (x : Aggregating). record x { tables = record x.tables { ops = with_rows op_at x.tables.ops ops.0 }; ops = d.ops })
-        (resources.2 ∙ ap (λ (x : Aggregating). record x { tables = record x.tables { resources = with_rows resource_at x.tables.resources resources.0 }; resources = c.resources }) tasks.2)
-        ∙ (λ i. record a {
-          tables = record a.tables {
-            tasks = with_rows task_at a.tables.tasks tasks.0;
-            resources = with_rows resource_at a.tables.resources resources.0;
-            ops = with_rows op_at a.tables.ops ops.0;
-          };
-          tasks = sym b_tasks i;
-          resources = sym c_resources i;
-          ops = d.ops;
-        });
-  }
+    let b_tasks : d.tasks ≡ b.tasks = ap (λ x. x.tasks) ops.2 ∙ ap (λ x. x.tasks) resources.2 in
+    let c_resources : d.resources ≡ c.resources = ap (λ x. x.resources) ops.2 in
+    record {
+      task_rows = tasks.0;
+      resource_rows = resources.0;
+      op_rows = ops.0;
+      tasks = subst (λ ts. ReadAll task_ledger a.tasks tasks.0 ts) (sym b_tasks) tasks.1;
+      resources = subst (λ ss. ReadAll resource_ledger ss resources.0 d.resources) (ap (λ x. x.resources) tasks.2) (subst (λ ts. ReadAll resource_ledger b.resources resources.0 ts) (sym c_resources) resources.1);
+      ops = subst (λ ss. ReadAll op_ledger ss ops.0 d.ops) (ap (λ x. x.ops) resources.2 ∙ ap (λ x. x.ops) tasks.2) ops.1;
+      now =
+          ops.2
+          ∙ ap (λ (x : Aggregating). record x { tables = record x.tables { ops = with_rows op_at x.tables.ops ops.0 }; ops = d.ops })
+          (resources.2 ∙ ap (λ (x : Aggregating). record x { tables = record x.tables { resources = with_rows resource_at x.tables.resources resources.0 }; resources = c.resources }) tasks.2)
+          ∙ (λ i. record a {
+            tables = record a.tables {
+              tasks = with_rows task_at a.tables.tasks tasks.0;
+              resources = with_rows resource_at a.tables.resources resources.0;
+              ops = with_rows op_at a.tables.ops ops.0;
+            };
+            tasks = sym b_tasks i;
+            resources = sym c_resources i;
+            ops = d.ops;
+          });
+    }
 
 module _ (a d : Aggregating) (sound : IsSound a) (r : Refreshes a d) where
   task_count : length a.tables.tasks ≡ length r.task_rows

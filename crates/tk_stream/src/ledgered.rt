@@ -98,7 +98,11 @@ pub(crate) fn read_tasks<R: Wait>(rt: &R, tables: &mut Tables, handles: &mut Vec
 }
 
 /// Each handle of a resource reads once.
-pub(crate) fn read_resources<R: Wait>(rt: &R, tables: &mut Tables, handles: &mut Vec<ResourceInspector>)
+pub(crate) fn read_resources<R: Wait>(
+    rt: &R,
+    tables: &mut Tables,
+    handles: &mut Vec<ResourceInspector>,
+)
     requires { length handles.old.items ≡ length tables.old.resources }
     ensures { (rows : List ResourceRow) × ReadAll resource_ledger handles.old.items rows handles.new.items
         × (tables.new ≡ record tables.old { resources = with_rows resource_at tables.old.resources rows }) }
@@ -106,7 +110,7 @@ pub(crate) fn read_resources<R: Wait>(rt: &R, tables: &mut Tables, handles: &mut
     refresh_all(rt, &mut tables.resources, handles);
 }
 
-/// Each handle of an op reads once.
+/// Each handle of an async operation reads once.
 pub(crate) fn read_ops<R: Wait>(rt: &R, tables: &mut Tables, handles: &mut Vec<OpInspector>)
     requires { length handles.old.items ≡ length tables.old.ops }
     ensures { (rows : List OpRow) × ReadAll op_ledger handles.old.items rows handles.new.items
@@ -175,7 +179,14 @@ pub(crate) fn put_task<R: Wait>(
     ensures returned { IfErr result (λ e. (e.0 ≡ info) × (e.1 ≡ handle)) }
 {
     let row = TaskRow::opening(0);
-    match add(rt, &mut tables.tasks, &mut told.tasks, handles, Task { info, row }, handle) {
+    match add(
+        rt,
+        &mut tables.tasks,
+        &mut told.tasks,
+        handles,
+        Task { info, row },
+        handle,
+    ) {
         Ok(()) => Ok(()),
         Err((item, handle)) => Err((item.info, handle)),
     }
@@ -201,13 +212,20 @@ pub(crate) fn put_resource<R: Wait>(
     ensures returned { IfErr result (λ e. (e.0 ≡ info) × (e.1 ≡ handle)) }
 {
     let row = ResourceRow::opening(0, &[]);
-    match add(rt, &mut tables.resources, &mut told.resources, handles, Resource { info, row }, handle) {
+    match add(
+        rt,
+        &mut tables.resources,
+        &mut told.resources,
+        handles,
+        Resource { info, row },
+        handle,
+    ) {
         Ok(()) => Ok(()),
         Err((item, handle)) => Err((item.info, handle)),
     }
 }
 
-/// Puts an op last, with the row that its handle then reads, or gives info and handle back.
+/// Puts an async operation last, with the row that its handle then reads, or gives info and handle back.
 pub(crate) fn put_op<R: Wait>(
     rt: &R,
     tables: &mut Tables,
@@ -227,7 +245,14 @@ pub(crate) fn put_op<R: Wait>(
     ensures returned { IfErr result (λ e. (e.0 ≡ info) × (e.1 ≡ handle)) }
 {
     let row = OpRow::opening(0, &[]);
-    match add(rt, &mut tables.ops, &mut told.ops, handles, Op { info, row }, handle) {
+    match add(
+        rt,
+        &mut tables.ops,
+        &mut told.ops,
+        handles,
+        Op { info, row },
+        handle,
+    ) {
         Ok(()) => Ok(()),
         Err((item, handle)) => Err((item.info, handle)),
     }
@@ -245,7 +270,7 @@ fn one_more(ready: bool, counts: (u64, u64)) -> (u64, u64)
     }
 }
 
-/// Counts a poll operation of a resource.
+/// Counts a poll operation of a resource. Room for the row that is told of it is made first.
 pub(crate) fn put_poll(
     tables: &mut Tables,
     told: &mut ToldTables,

@@ -4,6 +4,9 @@
 //! - [`Task`], [`Resource`], [`Op`]: a task, a resource and an async operation in tables.
 //! - [`Line`]: what one line of a stream says; its text is one JSON object.
 //! - [`LineError`]: why a line was not made, read or written.
+//! - [`Aggregator`]: takes events into tables, reads the ledgers of their items, and publishes the lines of a stream.
+//! - [`StreamError`]: why an aggregator took no event in, or wrote no line.
+//! - [`send`]: writes a text whole, or a proper front of it ([`Unsent`]).
 //! - [`laws`]: what holds of the definitions by themselves.
 #![tactic(auto)]
 
@@ -13,8 +16,8 @@ mod counts;
 mod error;
 mod fields;
 mod item;
-mod ledgered;
 pub mod laws;
+mod ledgered;
 mod line;
 mod op;
 mod pieces;
@@ -36,10 +39,10 @@ mod takes;
 mod taking;
 mod task;
 mod told;
-mod write_infos;
-mod write_stats;
 mod told_rows;
 mod told_tables;
+mod write_infos;
+mod write_stats;
 
 pub use aggregator::Aggregator;
 pub use error::LineError;

@@ -6,10 +6,11 @@ use Rattle.tk_stream.proofs.between.infos_behind.Goals as goal
 pub loop-i-preserved : goal.loop-i-preserved
 loop-i-preserved g c =
     let xs = c.args.new.now in
-    let at : Some c.unwrap.result.now ≡ slice_get xs c.loop-i.i = sym (ap (option_map (λ t. t.now)) c.unwrap.ensures) ∙ c.at.ensures in
-    (omega (arith, c.loop-i-test.true, c.len-i-end.ensures.count),
-    ap (λ list. list ++ map g.T.Described.info_of (drop (c.loop-i.i + 1) xs)) (c.in_ok-push.ensures.items ∙ ap (λ info. c.loop-i.list.items ++ info ∷ []) c.in_ok-copy_info.ensures)
-    ∙ goes_on_infos g.T.Described.info_of c.loop-i.list.items xs c.loop-i.i c.unwrap.result.now _ at c.loop-i.invariant.1)
+    let at : Some c.unwrap.result.now ≡ slice_get xs c.loop-i.i = sym (ap (option_map (λ t. t.now)) c.unwrap.ensures) ∙ c.at.ensures in (
+      omega (arith, c.loop-i-test.true, c.len-i-end.ensures.count),
+      ap (λ list. list ++ map g.T.Described.info_of (drop (c.loop-i.i + 1) xs)) (c.in_ok-push.ensures.items ∙ ap (λ info. c.loop-i.list.items ++ info ∷ []) c.in_ok-copy_info.ensures)
+          ∙ goes_on_infos g.T.Described.info_of c.loop-i.list.items xs c.loop-i.i c.unwrap.result.now _ at c.loop-i.invariant.1,
+    )
 
 pub returns : goal.returns
 returns g c =

@@ -13,11 +13,12 @@ loop-i-preserved g c =
     let same = g.T.Told.same in
     let stats_of = g.T.Told.stats_of in
     let item = c.unwrap-item.result.now in
-    let at : Some item ≡ slice_get xs c.loop-i.i = sym (ap (option_map (λ t. t.now)) c.unwrap-item.ensures) ∙ c.at.ensures in
-    (omega (arith, c.loop-i-test.true, c.len-i-end.ensures.count),
-    ap (λ list. list ++ stats_beside with_row same stats_of (drop (c.loop-i.i + 1) rs) (drop (c.loop-i.i + 1) xs))
-    (c.in_ok-keep_stats.ensures ∙ ap (λ b. c.loop-i.list.items ++ kept b (stats_of item)) (c.is_told_beside.ensures ∙ ap (λ o. is_told_beside with_row same o item) c.at-in-loop-i.ensures))
-    ∙ goes_on_stats with_row same stats_of c.loop-i.list.items rs xs c.loop-i.i item _ at c.loop-i.invariant.1)
+    let at : Some item ≡ slice_get xs c.loop-i.i = sym (ap (option_map (λ t. t.now)) c.unwrap-item.ensures) ∙ c.at.ensures in (
+      omega (arith, c.loop-i-test.true, c.len-i-end.ensures.count),
+      ap (λ list. list ++ stats_beside with_row same stats_of (drop (c.loop-i.i + 1) rs) (drop (c.loop-i.i + 1) xs))
+          (c.in_ok-keep_stats.ensures ∙ ap (λ b. c.loop-i.list.items ++ kept b (stats_of item)) (c.is_told_beside.ensures ∙ ap (λ o. is_told_beside with_row same o item) c.at-in-loop-i.ensures))
+          ∙ goes_on_stats with_row same stats_of c.loop-i.list.items rs xs c.loop-i.i item _ at c.loop-i.invariant.1,
+    )
 
 pub returns : goal.returns
 returns g c =

@@ -11,9 +11,13 @@ table_is g c =
     ∙ changed_here (λ x. g.T.Item.with_row x c.read-row.result) c.args.table.now c.args.item [] c.len-place.result (sym c.len-place.ensures.count)
 
 pub returns-clause-ok : goal.returns-clause-ok
-returns-clause-ok g c =
-    (c.read-row.result, c.read-row.new.handle, c.read-row.ensures, table_is g c,
-    c.in-Ok-push-2.ensures.items ∙ ap (λ xs. xs ++ c.read-row.new.handle ∷ []) c.in-Ok-reserve.ensures.items)
+returns-clause-ok g c = (
+  c.read-row.result,
+  c.read-row.new.handle,
+  c.read-row.ensures,
+  table_is g c,
+  c.in-Ok-push-2.ensures.items ∙ ap (λ xs. xs ++ c.read-row.new.handle ∷ []) c.in-Ok-reserve.ensures.items,
+)
 
 pub returns-clause-room : goal.returns-clause-room
 returns-clause-room g c =

@@ -7,9 +7,10 @@ use Rattle.tk_stream.proofs.Keyed.{AreKeyed-take, all-take}
 use Rattle.tk_stream.proofs.table.Table.cut.Goals as goal
 
 pub invariant_of-self : goal.invariant_of-self
-invariant_of-self g c =
-    (subst (AreKeyed g.T.Item.id_of) (sym c.truncate.ensures.entries) (AreKeyed-take g.T.Item.id_of c.args.count c.self.inside.map.entries c.self.invariant.0),
-    subst (λ es. AllByRecursion g.T.Ranged.in_range (values_of es)) (sym c.truncate.ensures.entries) (all-take g.T.Ranged.in_range c.args.count c.self.inside.map.entries c.self.invariant.1))
+invariant_of-self g c = (
+  subst (AreKeyed g.T.Item.id_of) (sym c.truncate.ensures.entries) (AreKeyed-take g.T.Item.id_of c.args.count c.self.inside.map.entries c.self.invariant.0),
+  subst (λ es. AllByRecursion g.T.Ranged.in_range (values_of es)) (sym c.truncate.ensures.entries) (all-take g.T.Ranged.in_range c.args.count c.self.inside.map.entries c.self.invariant.1),
+)
 
 pub returns : goal.returns
 returns g c =

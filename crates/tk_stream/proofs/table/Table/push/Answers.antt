@@ -19,9 +19,10 @@ entries_are g c =
     c.in-Ok.ensures.entries ∙ ap (λ k. insert_entry nat_eq es k c.args.item) c.id.ensures ∙ insert_entry-new nat_eq c.self.inside.map (id_of c.args.item) c.args.item absent
 
 pub invariant_of-self : goal.invariant_of-self
-invariant_of-self g c =
-    (subst (AreKeyed g.T.Item.id_of) (sym (entries_are g c)) (AreKeyed-push g.T.Item.id_of c.self.inside.map.entries c.args.item c.self.invariant.0),
-    subst (λ es. AllByRecursion g.T.Ranged.in_range (values_of es)) (sym (entries_are g c)) (all-push g.T.Ranged.in_range c.self.inside.map.entries (g.T.Item.id_of c.args.item) c.args.item c.self.invariant.1 c.see.ensures))
+invariant_of-self g c = (
+  subst (AreKeyed g.T.Item.id_of) (sym (entries_are g c)) (AreKeyed-push g.T.Item.id_of c.self.inside.map.entries c.args.item c.self.invariant.0),
+  subst (λ es. AllByRecursion g.T.Ranged.in_range (values_of es)) (sym (entries_are g c)) (all-push g.T.Ranged.in_range c.self.inside.map.entries (g.T.Item.id_of c.args.item) c.args.item c.self.invariant.1 c.see.ensures),
+)
 
 pub returns-in-Ok-clause-ok : goal.returns-in-Ok-clause-ok
 returns-in-Ok-clause-ok g c =
