@@ -11,14 +11,4 @@ pub mod LinesLemmas
 pub mod AppliedLemmas
 pub mod Behind
 pub mod FrontLemmas
-pub mod ReadingLemmas
 pub mod RangeLemmas
-pub mod SendLemmas
-pub mod KindLemmas
-pub mod HandleLemmas
-pub mod StandingLemmas
-pub mod RefreshLemmas
-pub mod TakeInLemmas
-pub mod GatherLemmas
-pub mod FollowLemmas
-pub mod LaterLemmas

@@ -24,8 +24,3 @@ pub mod Fronts
 -- An aggregator
 pub mod Sent
 pub mod Streams
-pub mod Readings
-pub mod Absorbing
-pub mod Aggregates
-pub mod StreamErrors
-pub mod Standing

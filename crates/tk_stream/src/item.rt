@@ -4,7 +4,7 @@ ghost use Rattle.std.specs.Prelude.{◌≡◌, ℕ};
 use crate::ranged::Ranged;
 
 /// What stands in a table: something with an id, and with a row that changes.
-pub(crate) trait Item: Drop + Clone + Ranged {
+pub trait Item: Drop + Clone + Ranged {
     /// The part that changes.
     type Row: Copy;
 

@@ -4,20 +4,16 @@
 //! - [`Task`], [`Resource`], [`Op`]: a task, a resource and an async operation in tables.
 //! - [`Line`]: what one line of a stream says; its text is one JSON object.
 //! - [`LineError`]: why a line was not made, read or written.
-//! - [`Aggregator`]: takes events into tables, reads the ledgers of their items, and publishes the lines of a stream.
-//! - [`StreamError`]: why an aggregator took no event in, or wrote no line.
 //! - [`send`]: writes a text whole, or a proper front of it ([`Unsent`]).
 //! - [`laws`]: what holds of the definitions by themselves.
 #![tactic(auto)]
 
-mod aggregator;
 mod between;
 mod counts;
 mod error;
 mod fields;
 mod item;
 pub mod laws;
-mod ledgered;
 mod line;
 mod op;
 mod pieces;
@@ -30,7 +26,6 @@ mod resource;
 mod rows;
 mod sent;
 mod shaped;
-mod stream_error;
 mod table;
 mod tables;
 mod take_infos;
@@ -44,12 +39,15 @@ mod told_tables;
 mod write_infos;
 mod write_stats;
 
-pub use aggregator::Aggregator;
 pub use error::LineError;
+pub use item::Item;
 pub use line::Line;
 pub use op::Op;
+pub use ranged::Ranged;
 pub use resource::Resource;
 pub use sent::{Unsent, send};
-pub use stream_error::StreamError;
+pub use table::Table;
 pub use tables::Tables;
 pub use task::Task;
+pub use told_rows::ToldRows;
+pub use told_tables::ToldTables;

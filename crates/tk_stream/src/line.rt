@@ -157,7 +157,7 @@ impl Line {
 
     /// The line numbered `seq` that leads from the tables that were told to the tables at a moment, or, where nothing was
     /// told, their snapshot.
-    pub(crate) fn behind(
+    pub fn behind(
         alloc: Global,
         told: &ToldTables,
         tables: &Tables,

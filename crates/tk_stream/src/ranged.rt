@@ -12,7 +12,7 @@ use tk_ids::{
 };
 
 /// A type whose values are in a range.
-pub(crate) trait Ranged {
+pub trait Ranged {
     ghost in_range: { Self → Type 0 };
 
     fn see(&self)

@@ -11,7 +11,7 @@ use std::marker::Model;
 
 /// Items in order of arrival. No two have the same id.
 #[derive(Debug, Drop)]
-pub(crate) struct Table<T: Item> {
+pub struct Table<T: Item> {
     map: IndexMap<u64, T>,
 }
 
@@ -29,7 +29,7 @@ impl<T: Item> Model for Table<T> {
 }
 
 impl<T: Item> Table<T> {
-    pub(crate) fn new(alloc: Global) -> Table<T>
+    pub fn new(alloc: Global) -> Table<T>
         ensures { result ≡ [] }
     {
         Table {
@@ -37,7 +37,7 @@ impl<T: Item> Table<T> {
         }
     }
 
-    pub(crate) fn len(&self) -> usize
+    pub fn len(&self) -> usize
         ensures count { result ≡ length self.now }
         ensures distinct { IsDistinct nat_eq (map T.id_of self.now) }
         ensures in_range { AllByRecursion T.in_range self.now }
@@ -45,28 +45,28 @@ impl<T: Item> Table<T> {
         self.map.len()
     }
 
-    pub(crate) fn at(&self, i: usize) -> Option<&T>
+    pub fn at(&self, i: usize) -> Option<&T>
         ensures { option_map (λ t. t.now) result ≡ slice_get self.now i }
     {
         let (_, item) = self.map.get_index(i)?;
         Some(item)
     }
 
-    pub(crate) fn with_id(&self, id: u64) -> Option<&T>
+    pub fn with_id(&self, id: u64) -> Option<&T>
         ensures { option_map (λ t. t.now) result ≡ item_with T.id_of id self.now }
     {
         self.map.get(&id)
     }
 
     /// The place of the item with an id.
-    pub(crate) fn place(&self, id: u64) -> Option<usize>
+    pub fn place(&self, id: u64) -> Option<usize>
         ensures { result ≡ place_with T.id_of id self.now }
     {
         self.map.get_index_of(&id)
     }
 
     /// Puts an item last, or gives it back.
-    pub(crate) fn push(&mut self, item: T) -> Result<(), T>
+    pub fn push(&mut self, item: T) -> Result<(), T>
         requires { item_with T.id_of (T.id_of item) self.old ≡ None }
         ensures ok { OnOk result (self.new ≡ self.old ++ item ∷ []) }
         ensures err { OnErr result (self.new ≡ self.old) }
@@ -83,7 +83,7 @@ impl<T: Item> Table<T> {
     }
 
     /// Puts an item in the place of the one with its id, or last where there is none.
-    pub(crate) fn put(&mut self, item: T) -> Result<(), AllocError>
+    pub fn put(&mut self, item: T) -> Result<(), AllocError>
         ensures ok { OnOk result (self.new ≡ put_item T.id_of item self.old) }
         ensures err { OnErr result (self.new ≡ self.old) }
         ensures replaced { IsSome (item_with T.id_of (T.id_of item) self.old) → IsOk result }
@@ -96,7 +96,7 @@ impl<T: Item> Table<T> {
     }
 
     /// Replaces the row of the item at a place.
-    pub(crate) fn set(&mut self, i: usize, row: T::Row)
+    pub fn set(&mut self, i: usize, row: T::Row)
         requires { i < length self.old }
         ensures { self.new ≡ changed_at (λ item. T.with_row item row) self.old i }
     {
@@ -106,14 +106,14 @@ impl<T: Item> Table<T> {
     }
 
     /// Keeps the first so many items.
-    pub(crate) fn cut(&mut self, count: usize)
+    pub fn cut(&mut self, count: usize)
         ensures { self.new ≡ take count self.old }
     {
         self.map.truncate(count);
     }
 
     /// Equal items.
-    pub(crate) fn copy(&self) -> Result<Table<T>, AllocError>
+    pub fn copy(&self) -> Result<Table<T>, AllocError>
         ensures { IfOk result (λ table. table ≡ self.now) }
     {
         let map = self.map.clone()?;

@@ -18,11 +18,11 @@ use tk_ids::{AsyncOpId, Dropped, OpInfo, ResourceId, ResourceInfo, TaskId, TaskI
 /// whole line.
 #[derive(Debug, Drop)]
 pub struct Tables {
-    pub(crate) tasks: Table<Task>,
-    pub(crate) resources: Table<Resource>,
-    pub(crate) ops: Table<Op>,
+    pub tasks: Table<Task>,
+    pub resources: Table<Resource>,
+    pub ops: Table<Op>,
     // The resource, and how many of its poll operations were ready and how many pending.
-    pub(crate) counts: Table<(ResourceId, u64, u64)>,
+    pub counts: Table<(ResourceId, u64, u64)>,
     dropped: Dropped,
     // The key `now` of a line.
     moment: u64,
@@ -195,7 +195,7 @@ impl Tables {
     }
 
     /// No item stands twice, and all values are in the ranges of their types. This does nothing.
-    pub(crate) fn see(&self)
+    pub fn see(&self)
         ensures distinct { AreDistinct self.now }
         ensures in_range { AreInRange self.now }
     {

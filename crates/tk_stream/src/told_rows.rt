@@ -9,7 +9,7 @@ use std::marker::Model;
 
 /// The rows that the last whole line told of the first items of a table, and room for those of the next line.
 #[derive(Drop)]
-pub(crate) struct ToldRows<T: Item> {
+pub struct ToldRows<T: Item> {
     rows: Vec<T::Row>,
     // How many of them were told.
     count: usize,
@@ -27,7 +27,7 @@ impl<T: Item> Model for ToldRows<T> {
 }
 
 impl<T: Item> ToldRows<T> {
-    pub(crate) fn new(alloc: Global) -> ToldRows<T>
+    pub fn new(alloc: Global) -> ToldRows<T>
         ensures { result ≡ no_telling }
     {
         ToldRows {
@@ -37,7 +37,7 @@ impl<T: Item> ToldRows<T> {
     }
 
     /// How many rows were told.
-    pub(crate) fn count(&self) -> usize
+    pub fn count(&self) -> usize
         ensures count { result ≡ length self.now.rows }
         ensures within { result ≤ self.now.room }
     {
@@ -45,7 +45,7 @@ impl<T: Item> ToldRows<T> {
     }
 
     /// The row that was told of the item at a place.
-    pub(crate) fn at(&self, i: usize) -> Option<&T::Row>
+    pub fn at(&self, i: usize) -> Option<&T::Row>
         ensures { option_map (λ row. row.now) result ≡ slice_get self.now.rows i }
     {
         if i < self.count {
@@ -56,7 +56,7 @@ impl<T: Item> ToldRows<T> {
     }
 
     /// Makes room for one more row than there are items, where there is none yet. The row fills it for the time being.
-    pub(crate) fn make_room(&mut self, items: usize, filler: T::Row) -> Result<(), AllocError>
+    pub fn make_room(&mut self, items: usize, filler: T::Row) -> Result<(), AllocError>
         requires { items ≤ self.old.room }
         ensures rows { self.new.rows ≡ self.old.rows }
         ensures room { OnOk result (items < self.new.room) }
@@ -69,7 +69,7 @@ impl<T: Item> ToldRows<T> {
     }
 
     /// The rows of all items were told.
-    pub(crate) fn tell(&mut self, table: &Table<T>)
+    pub fn tell(&mut self, table: &Table<T>)
         requires { length table.now ≤ self.old.room }
         ensures { self.new ≡ record { rows = map T.row_of table.now; room = self.old.room } }
     {

@@ -13,11 +13,11 @@ use tk_ids::{Dropped, ResourceId};
 
 /// The rows and counts that the last whole line told of the first items of tables, and its totals.
 #[derive(Drop)]
-pub(crate) struct ToldTables {
-    pub(crate) tasks: ToldRows<Task>,
-    pub(crate) resources: ToldRows<Resource>,
-    pub(crate) ops: ToldRows<Op>,
-    pub(crate) counts: ToldRows<(ResourceId, u64, u64)>,
+pub struct ToldTables {
+    pub tasks: ToldRows<Task>,
+    pub resources: ToldRows<Resource>,
+    pub ops: ToldRows<Op>,
+    pub counts: ToldRows<(ResourceId, u64, u64)>,
     dropped: Dropped,
 }
 
@@ -31,7 +31,7 @@ impl Model for ToldTables {
 
 impl ToldTables {
     /// Nothing was told.
-    pub(crate) fn new(alloc: Global) -> ToldTables
+    pub fn new(alloc: Global) -> ToldTables
         ensures { result ≡ no_told }
     {
         let dropped = Dropped {
@@ -49,7 +49,7 @@ impl ToldTables {
     }
 
     /// All of the tables was told.
-    pub(crate) fn tell(&mut self, tables: &Tables)
+    pub fn tell(&mut self, tables: &Tables)
         requires { HaveRoom self.old tables.now }
         ensures told { told_tables self.new tables.now ≡ tables.now }
         ensures room { HaveRoom self.new tables.now }

@@ -1,0 +1,10 @@
+pub mod ReadingLemmas
+pub mod SendLemmas
+pub mod KindLemmas
+pub mod HandleLemmas
+pub mod StandingLemmas
+pub mod RefreshLemmas
+pub mod TakeInLemmas
+pub mod GatherLemmas
+pub mod FollowLemmas
+pub mod LaterLemmas

@@ -1,0 +1,95 @@
+-- A line that goes on leaves an uninterrupted stream.
+use Rattle.std.proofs.Common.{◌≡◌, ℕ, ◌+◌, ◌^◌, ◌<◌, List, [], ◌∷◌, ◌++◌, Bool, true, false, refl, sym, ap, ap₂, subst, ◌∙◌, append_assoc, append-nil, arith}
+use Rattle.std.specs.Prelude.{◌||◌, ◌==◌}
+use Rattle.std.proofs.lemmas.Bool.{eq-eqb}
+use Rattle.tk_aggregator.specs.Aggregates.{Aggregating, IsSound, IsDue, tables_at, line_at, sending_at}
+use Rattle.tk_stream.specs.Lines.{is_seq}
+use Rattle.tk_stream.specs.Ranges.{IsNumber}
+use Rattle.tk_stream.specs.Spelling.{sent_text}
+use Rattle.tk_stream.specs.Streams.{Sending, line_sent, lines_sent, bytes_sent, tables_sent, last_sent, MaySend, GoesOn, IsUninterrupted, IsStreamTo}
+use Rattle.tk_stream.specs.Tables.{TablesView, empty_tables, AreFit}
+use Rattle.tk_stream.proofs.RangeLemmas.{at_moment}
+
+-- ---- one more line
+
+abbrev more : List Sending → Sending → List Sending
+more ss s = ss ++ s ∷ []
+
+goes_more : (before : TablesView) (last : ℕ) (ss : List Sending) (s : Sending) → GoesOn before last ss → MaySend (tables_sent before ss) s → s.seq ≡ last_sent last ss + 1 → GoesOn before last (more ss s)
+goes_more before last [] s goes may next = (next, may, tt)
+goes_more before last (x ∷ ss) s goes may next = (goes.0, goes.1, goes_more x.tables x.seq ss s goes.2 may next)
+
+itself : (n m : ℕ) → n ≡ m → (n == m) ≡ true
+itself n m e = eq-eqb n m e
+
+either : (b c : Bool) → c ≡ true → (b || c) ≡ true
+either true c e = refl
+either false c e = e
+
+uninterrupted_more : (ss : List Sending) (s : Sending) → IsUninterrupted ss → MaySend (tables_sent empty_tables ss) s → s.seq ≡ last_sent 0 ss + 1 → IsUninterrupted (more ss s)
+uninterrupted_more [] s goes may next = (either s.snapshot (s.seq == 1) (itself s.seq 1 next), may, tt)
+uninterrupted_more (x ∷ ss) s goes may next = (goes.0, goes.1, goes_more x.tables x.seq ss s goes.2 may next)
+
+bytes_more : (before : TablesView) (ss : List Sending) (s : Sending) → bytes_sent (lines_sent before (more ss s)) ≡ bytes_sent (lines_sent before ss) ++ sent_text (line_sent (tables_sent before ss) s)
+bytes_more before [] s = append-nil (sent_text (line_sent before s))
+bytes_more before (x ∷ ss) s =
+    ap (λ bs. sent_text (line_sent before x) ++ bs) (bytes_more x.tables ss s)
+    ∙ sym (append_assoc (sent_text (line_sent before x)) (bytes_sent (lines_sent x.tables ss)) (sent_text (line_sent (tables_sent x.tables ss) s)))
+
+tables_more : (before : TablesView) (ss : List Sending) (s : Sending) → tables_sent before (more ss s) ≡ s.tables
+tables_more before [] s = refl
+tables_more before (x ∷ ss) s = tables_more x.tables ss s
+
+last_more : (before : ℕ) (ss : List Sending) (s : Sending) → last_sent before (more ss s) ≡ s.seq
+last_more before [] s = refl
+last_more before (x ∷ ss) s = last_more x.seq ss s
+
+pub goes_on_to : (bytes : List ℕ) (told : TablesView) (last : ℕ) (s : Sending) → IsStreamTo bytes told last → MaySend told s → s.seq ≡ last + 1 → IsStreamTo (bytes ++ sent_text (line_sent told s)) s.tables s.seq
+goes_on_to bytes told last s stream may next = record {
+  sent = more stream.sent s;
+  uninterrupted = uninterrupted_more stream.sent s stream.uninterrupted (subst (λ t. MaySend t s) (sym stream.tables_are) may) (next ∙ ap (λ n. n + 1) (sym stream.last_is));
+  bytes_are =
+      ap₂ (λ bs t. bs ++ sent_text (line_sent t s)) stream.bytes_are (sym stream.tables_are)
+      ∙ sym (bytes_more empty_tables stream.sent s);
+  tables_are = tables_more empty_tables stream.sent s;
+  last_is = last_more 0 stream.sent s;
+}
+
+-- a snapshot opens a stream
+pub opens_at : (told : TablesView) (tables : TablesView) (seq : ℕ) → MaySend told (record { tables = tables; seq = seq; snapshot = true })
+    → IsStreamTo (sent_text (line_sent told (record { tables = tables; seq = seq; snapshot = true }))) tables seq
+opens_at told tables seq may = record {
+  sent = record { tables = tables; seq = seq; snapshot = true } ∷ [];
+  uninterrupted = (refl, record { fit = may.fit; in_range = may.in_range; numbered = may.numbered; on = record { tasks = tt; resources = tt; ops = tt; counts = tt } }, tt);
+  bytes_are = sym (append-nil (sent_text (line_sent empty_tables (record { tables = tables; seq = seq; snapshot = true }))));
+  tables_are = refl;
+  last_is = refl;
+}
+
+-- ---- what an aggregator may send
+
+within : (n : ℕ) → n < 2 ^ 63 → is_seq (n + 1) ≡ true
+within n lt = grind arith
+
+at_moment_fit : (t : TablesView) (now : ℕ) → AreFit t → AreFit (record t { now = now })
+at_moment_fit t now fit = record {
+  distinct = record { tasks = fit.distinct.tasks; resources = fit.distinct.resources; ops = fit.distinct.ops; counts = fit.distinct.counts };
+  resources = fit.resources;
+  ops = fit.ops;
+}
+
+pub may_send : (a : Aggregating) (now : ℕ) (snapshot : Bool) → IsSound a → IsDue snapshot a now → IsNumber now → MaySend a.told (sending_at snapshot a now)
+may_send a now snapshot sound due fits = record {
+  fit = at_moment_fit a.tables now sound.fit;
+  in_range = at_moment a.tables now sound.in_range fits;
+  numbered = within a.last due.number;
+  on = record { tasks = sound.on.tasks; resources = sound.on.resources; ops = sound.on.ops; counts = sound.on.counts };
+}
+
+pub stream_goes_on : (a : Aggregating) (now : ℕ) (snapshot : Bool) → IsSound a → IsDue snapshot a now → IsNumber now → (bytes : List ℕ) → IsStreamTo bytes a.told a.last
+    → IsStreamTo (bytes ++ sent_text (line_at snapshot a now)) (tables_at a now) (a.last + 1)
+stream_goes_on a now snapshot sound due fits bytes stream =
+    goes_on_to bytes a.told a.last (sending_at snapshot a now) stream (may_send a now snapshot sound due fits) refl
+
+pub stream_opens : (a : Aggregating) (now : ℕ) → IsSound a → IsDue true a now → IsNumber now → IsStreamTo (sent_text (line_at true a now)) (tables_at a now) (a.last + 1)
+stream_opens a now sound due fits = opens_at a.told (tables_at a now) (a.last + 1) (may_send a now true sound due fits)

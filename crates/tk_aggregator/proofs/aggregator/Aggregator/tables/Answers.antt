@@ -1,0 +1,9 @@
+use Rattle.std.proofs.Common.{subst}
+use Rattle.tk_aggregator.specs.Aggregates.{IsSound}
+use Rattle.tk_aggregator.proofs.StandingLemmas.{sound}
+use Rattle.tk_aggregator.proofs.aggregator.Aggregator.tables.Goals as goal
+
+pub returns-clause-sound : goal.returns-clause-sound
+returns-clause-sound c =
+    let a = c.self.inside in
+    subst IsSound c.self.view_is (sound a.tables a.told a.tasks.items a.resources.items a.ops.items a.held a.last a.broken c.self.invariant c.see.ensures.distinct c.see.ensures.in_range)

@@ -1,0 +1,300 @@
+-- What an aggregator is, and what its calls make of it.
+use Rattle.std.specs.Prelude.{◌≡◌, ℕ, ◌+◌, ◌^◌, ◌<◌, ◌≤◌, List, [], ◌∷◌, ◌++◌, map, length, Bool, true, false, Option, Some, None, IfSome, IfNone, if◌then◌else◌}
+use Rattle.std.specs.Io.KnownBytes.{Appends}
+use Rattle.crossbeam_queue.specs.Fifo.{Held}
+use Rattle.tk_core.specs.declared.op.row.OpRow.{OpRow}
+use Rattle.tk_core.specs.declared.resource.row.ResourceRow.{ResourceRow}
+use Rattle.tk_core.specs.declared.task.row.TaskRow.{TaskRow}
+use Rattle.tk_ids.specs.declared.info.Dropped.{Dropped}
+use Rattle.tk_events.specs.declared.event.Event.{Event}
+use Rattle.tk_events.specs.declared.event.Event.TheVariants as events
+use Rattle.tk_events.specs.declared.event.Shown.{Shown}
+use Rattle.tk_events.specs.declared.item.Offer.{Offer}
+use Rattle.tk_events.specs.Offers.{shown, offers_of}
+use Rattle.tk_events.specs.Handles.{Taking, Totals, AreExact, AreLeft, AllTaken, events_of}
+use Rattle.tk_ledgers.specs.Ops.{OpSight}
+use Rattle.tk_ledgers.specs.Resources.{ResourceSight}
+use Rattle.tk_ledgers.specs.Tasks.{TaskSight}
+use Rattle.tk_aggregator.specs.declared.stream_error.StreamError.{StreamError}
+use Rattle.tk_aggregator.specs.declared.stream_error.StreamError.TheVariants as errors
+use Rattle.tk_stream.specs.declared.op.Op.{Op}
+use Rattle.tk_stream.specs.declared.resource.Resource.{Resource}
+use Rattle.tk_stream.specs.declared.task.Task.{Task}
+use Rattle.tk_aggregator.specs.Absorbing.{infos_of, no_infos, absorb, counted}
+use Rattle.tk_stream.specs.Applied.{GoOn}
+use Rattle.tk_stream.specs.Fronts.{with_rows, task_at, resource_at, op_at}
+use Rattle.tk_stream.specs.Lines.{LineView, line_between, snapshot_of}
+use Rattle.tk_aggregator.specs.Readings.{task_ledger, resource_ledger, op_ledger, Reads, IsRead, ReadAll, AreLater}
+use Rattle.tk_stream.specs.Spelling.{sent_text}
+use Rattle.tk_stream.specs.Streams.{AreInRange, Sending}
+use Rattle.tk_stream.specs.Tables.{TablesView, empty_tables, AreFit, task_with, with_task, resource_with, with_resource, op_with, with_op}
+use Rattle.tk_stream.specs.Sent.{IsCut}
+
+-- what contracts see of an aggregator
+pub record Aggregating : Type 0 where
+  -- the tables that it shows
+  pub tables : TablesView
+  -- the tables of the last whole line, and empty ones before any
+  pub told : TablesView
+  -- the handles that read the items of the tables, in their order
+  pub tasks : List TaskSight
+  pub resources : List ResourceSight
+  pub ops : List OpSight
+  -- an event that was taken, and found no memory
+  pub held : Option Event
+  -- the number of the last line, or the number that it goes on behind
+  pub last : ℕ
+  -- the last line was cut off, and only a snapshot goes on
+  pub broken : Bool
+
+-- one that has told nothing, whose next line has the number behind this one
+abbrev pub new_aggregating : ℕ → Aggregating
+new_aggregating after = record {
+  tables = empty_tables;
+  told = empty_tables;
+  tasks = [];
+  resources = [];
+  ops = [];
+  held = None;
+  last = after;
+  broken = false;
+}
+
+-- ---- what holds of every aggregator
+
+-- a relation of each item and its handle, in order
+abbrev pub Pairs : {Item Handle : Type 0} → (Item → Handle → Type 0) → List Item → List Handle → Type 0
+Pairs P [] [] = Unit {0}
+Pairs P (x ∷ xs) (s ∷ ss) = P x s × Pairs P xs ss
+Pairs P [] (s ∷ ss) = ⊥
+Pairs P (x ∷ xs) [] = ⊥
+
+-- a handle is of the task, and read its row last
+abbrev pub ReadTask : Task → TaskSight → Type 0
+ReadTask t s = (s.id ≡ t.info.id) × IsRead task_ledger s t.row
+
+-- the same of a resource
+abbrev pub ReadResource : Resource → ResourceSight → Type 0
+ReadResource r s = (s.id ≡ r.info.id) × IsRead resource_ledger s r.row
+
+-- the same of an async operation
+abbrev pub ReadOp : Op → OpSight → Type 0
+ReadOp o s = (s.id ≡ o.info.id) × IsRead op_ledger s o.row
+
+-- each row is the fold of a legal history of its item's ledger; the tables are fit, in range, and begin with those of the last line
+pub record IsSound (a : Aggregating) : Type 0 where
+  pub tasks : Pairs ReadTask a.tables.tasks a.tasks
+  pub resources : Pairs ReadResource a.tables.resources a.resources
+  pub ops : Pairs ReadOp a.tables.ops a.ops
+  pub fit : AreFit a.tables
+  pub in_range : AreInRange a.tables
+  pub on : GoOn a.told a.tables
+  -- the moment is that of the last whole line
+  pub moment : a.tables.now ≡ a.told.now
+  -- before line 1 nothing was told
+  pub first : a.last ≡ 0 → a.told ≡ empty_tables
+  pub numbered : a.last ≤ 2 ^ 63
+
+-- the items of one aggregator are those of the other, now or later, and others may stand behind them
+pub record IsLaterOf (old new : Aggregating) : Type 0 where
+  pub items : GoOn old.tables new.tables
+  pub tasks : AreLater old.tasks new.tasks
+  pub resources : AreLater old.resources new.resources
+  pub ops : AreLater old.ops new.ops
+
+-- the stream stands where it stood: the same was told, by the same last line
+pub record IsSameStream (old new : Aggregating) : Type 0 where
+  pub told : new.told ≡ old.told
+  pub last : new.last ≡ old.last
+  pub broken : new.broken ≡ old.broken
+  pub now : new.tables.now ≡ old.tables.now
+
+-- ---- taking events in
+
+-- a new item goes last, with the row that its handle then reads. One whose id is there changes nothing. A poll operation is counted
+abbrev pub TakesIn : Aggregating → Event → Aggregating → Type 0
+TakesIn old (events.Task info handle) new =
+    IfSome (task_with info.id old.tables.tasks) (λ there. new ≡ old)
+    × IfNone (task_with info.id old.tables.tasks) ((row : TaskRow) × (read : TaskSight) × Reads task_ledger handle row read
+    × (new ≡ record old { tables = with_task old.tables info row; tasks = old.tasks ++ read ∷ [] }))
+TakesIn old (events.Resource info handle) new =
+    IfSome (resource_with info.id old.tables.resources) (λ there. new ≡ old)
+    × IfNone (resource_with info.id old.tables.resources) ((row : ResourceRow) × (read : ResourceSight) × Reads resource_ledger handle row read
+    × (new ≡ record old { tables = with_resource old.tables info row; resources = old.resources ++ read ∷ [] }))
+TakesIn old (events.Op info handle) new =
+    IfSome (op_with info.id old.tables.ops) (λ there. new ≡ old)
+    × IfNone (op_with info.id old.tables.ops) ((row : OpRow) × (read : OpSight) × Reads op_ledger handle row read
+    × (new ≡ record old { tables = with_op old.tables info row; ops = old.ops ++ read ∷ [] }))
+TakesIn old (events.Poll op) new = new ≡ record old { tables = record old.tables { counts = counted op.resource op.ready old.tables.counts } }
+
+-- events are taken in, one after the other
+abbrev pub TakesAllIn : Aggregating → List Event → Aggregating → Type 0
+TakesAllIn old [] new = new ≡ old
+TakesAllIn old (e ∷ es) new = (next : Aggregating) × TakesIn old e next × TakesAllIn next es new
+
+-- the event that is held, if any
+abbrev pub held_events : Option Event → List Event
+held_events None = []
+held_events (Some e) = e ∷ []
+
+-- one that holds nothing
+abbrev pub free : Aggregating → Aggregating
+free a = record a { held = None }
+
+-- events came from the taker, and these were taken in, a held one first; what is left of them is held
+pub record Gathers (old : Aggregating) (before : Taking) (taken : List Event) (new : Aggregating) (after : Taking) : Type 0 where
+  pub came : List Event
+  pub offers : List Offer
+  pub are_offered : map (λ (o : Offer). o.event) offers ≡ map shown came
+  pub taker : after ≡ record before { taken = before.taken ++ offers }
+  pub in_order : held_events old.held ++ came ≡ taken ++ held_events new.held
+  pub taken_in : TakesAllIn (free old) taken (free new)
+
+-- the totals as tables have them
+abbrev pub dropped_in : Totals → Dropped
+dropped_in t = record { tasks = t.tasks; resources = t.resources; ops = t.ops }
+
+-- the taker told its totals of dropped events, of which none falls, and which are exact once it is finished
+pub record TellsTotals (before after : Taking) : Type 0 where
+  pub same : after ≡ record before { last = after.last }
+  pub tasks : before.last.tasks ≤ after.last.tasks
+  pub resources : before.last.resources ≤ after.last.resources
+  pub ops : before.last.ops ≤ after.last.ops
+  pub exact : before.finished ≡ true → AreExact before.known after.last.tasks after.last.resources after.last.ops
+
+-- the buffer was empty at a moment of the call, and so nothing is left once the taker is finished
+pub record WasEmpty (t : Taking) : Type 0 where
+  pub held : Held 0 (λ items. AreLeft t (offers_of items))
+  pub all : AllTaken t
+
+-- the next event: the held one, or one that the taker took
+pub record Comes (old : Aggregating) (before : Taking) (event : Event) (new : Aggregating) (after : Taking) : Type 0 where
+  pub came : List Event
+  pub offers : List Offer
+  pub are_offered : map (λ (o : Offer). o.event) offers ≡ map shown came
+  pub taker : after ≡ record before { taken = before.taken ++ offers }
+  pub in_order : held_events old.held ++ came ≡ event ∷ []
+  pub now : new ≡ free old
+
+-- `count` events were taken in, at most `limit`, and fewer only where the buffer was empty. None is held then; with limit 0
+-- nothing changes
+pub record GathersUpTo (old : Aggregating) (before : Taking) (limit count : ℕ) (new : Aggregating) (after : Taking) : Type 0 where
+  pub taken : List Event
+  pub gathers : Gathers old before taken new after
+  pub counts : length taken ≡ count
+  pub within : count ≤ limit
+  pub all : count < limit → WasEmpty after
+  pub none_held : 0 < limit → new.held ≡ None
+  pub nothing : limit ≡ 0 → (new ≡ old) × (after ≡ before)
+
+-- `count` events were taken in, at most `limit`, and fewer only where the buffer was empty. None is held then; with limit 0
+-- none is taken. The totals are the taker's
+pub record Collects (old : Aggregating) (before : Taking) (limit count : ℕ) (new : Aggregating) (after : Taking) : Type 0 where
+  pub taken : List Event
+  pub gathered : Aggregating
+  pub taker : Taking
+  pub gathers : Gathers old before taken gathered taker
+  pub counts : length taken ≡ count
+  pub within : count ≤ limit
+  pub all : count < limit → WasEmpty taker
+  pub none_held : 0 < limit → new.held ≡ None
+  pub nothing : limit ≡ 0 → (gathered ≡ old) × (taker ≡ before)
+  pub totals : TellsTotals taker after
+  pub now : new ≡ record gathered { tables = record gathered.tables { dropped = dropped_in after.last } }
+
+-- memory ran out: some events were taken in, and the next one, which the limit allows too, is held. Totals stay
+pub record RunsOut (old : Aggregating) (before : Taking) (limit : ℕ) (new : Aggregating) (after : Taking) : Type 0 where
+  pub taken : List Event
+  pub gathers : Gathers old before taken new after
+  pub within : length taken < limit
+  pub held : Event
+  pub is_held : new.held ≡ Some held
+
+-- the taker may have taken more. Otherwise it is the same: of its console, and finished as it was
+pub record TookMore (before after : Taking) : Type 0 where
+  pub console : after.console ≡ before.console
+  pub capacity : after.capacity ≡ before.capacity
+  pub recorders : after.recorders ≡ before.recorders
+  pub known : after.known ≡ before.known
+  pub finished : after.finished ≡ before.finished
+
+-- an aggregator follows a taker: its infos and poll counts are what the events make that were taken, in order, but for the
+-- held one, which is the last
+pub record FollowsTaker (a : Aggregating) (t : Taking) : Type 0 where
+  pub taken_in : List Shown
+  pub events : events_of t ≡ taken_in ++ map shown (held_events a.held)
+  pub infos : infos_of a.tables ≡ absorb no_infos taken_in
+
+-- ---- reading
+
+-- each handle of a task read once, and what it read is the row of its task; nothing else changed
+abbrev pub ReadsTasks : Aggregating → Aggregating → Type 0
+ReadsTasks old new = (rows : List TaskRow) × ReadAll task_ledger old.tasks rows new.tasks
+    × (new ≡ record old { tables = record old.tables { tasks = with_rows task_at old.tables.tasks rows }; tasks = new.tasks })
+
+-- the same of resources
+abbrev pub ReadsResources : Aggregating → Aggregating → Type 0
+ReadsResources old new = (rows : List ResourceRow) × ReadAll resource_ledger old.resources rows new.resources
+    × (new ≡ record old { tables = record old.tables { resources = with_rows resource_at old.tables.resources rows }; resources = new.resources })
+
+-- the same of async operations
+abbrev pub ReadsOps : Aggregating → Aggregating → Type 0
+ReadsOps old new = (rows : List OpRow) × ReadAll op_ledger old.ops rows new.ops
+    × (new ≡ record old { tables = record old.tables { ops = with_rows op_at old.tables.ops rows }; ops = new.ops })
+
+-- each handle read once, and what it read is the row of its item; nothing else changed
+pub record Refreshes (old new : Aggregating) : Type 0 where
+  pub task_rows : List TaskRow
+  pub resource_rows : List ResourceRow
+  pub op_rows : List OpRow
+  pub tasks : ReadAll task_ledger old.tasks task_rows new.tasks
+  pub resources : ReadAll resource_ledger old.resources resource_rows new.resources
+  pub ops : ReadAll op_ledger old.ops op_rows new.ops
+  pub now : new ≡ record old {
+    tables = record old.tables {
+      tasks = with_rows task_at old.tables.tasks task_rows;
+      resources = with_rows resource_at old.tables.resources resource_rows;
+      ops = with_rows op_at old.tables.ops op_rows;
+    };
+    tasks = new.tasks;
+    resources = new.resources;
+    ops = new.ops;
+  }
+
+-- ---- lines
+
+-- the tables of a line at this moment
+abbrev pub tables_at : Aggregating → ℕ → TablesView
+tables_at a now = record a.tables { now = now }
+
+-- the line at this moment: the next one from what was told, or a snapshot
+abbrev pub line_at : Bool → Aggregating → ℕ → LineView
+line_at snapshot a now = if snapshot then snapshot_of (tables_at a now) (a.last + 1) else line_between a.told (tables_at a now) (a.last + 1)
+
+-- what stands behind that line
+abbrev pub after_line : Aggregating → ℕ → Aggregating
+after_line a now = record a { tables = tables_at a now; told = tables_at a now; last = a.last + 1; broken = false }
+
+-- that line as one of a stream
+abbrev pub sending_at : Bool → Aggregating → ℕ → Sending
+sending_at snapshot a now = record { tables = tables_at a now; seq = a.last + 1; snapshot = snapshot }
+
+-- a line may go on: it isn't broken, or a snapshot
+abbrev pub MayGoOn : Bool → Aggregating → Type 0
+MayGoOn snapshot a = snapshot ≡ false → a.broken ≡ false
+
+-- a line is due: it may go on, its moment isn't below the last one's, and there is a number for it
+pub record IsDue (snapshot : Bool) (a : Aggregating) (now : ℕ) : Type 0 where
+  pub goes_on : MayGoOn snapshot a
+  pub moment : a.tables.now ≤ now
+  pub number : a.last < 2 ^ 63
+
+-- why no line was written, and what stands then. Only a fault of the writer changes something: a proper front of line and
+-- line end went out, and only a snapshot goes on
+abbrev pub Refuses : StreamError → Bool → Aggregating → ℕ → Aggregating → Option (List ℕ) → Option (List ℕ) → Type 0
+Refuses errors.Broken snapshot old now new before after = (new ≡ old) × (after ≡ before) × (snapshot ≡ false) × (old.broken ≡ true)
+Refuses errors.Clock snapshot old now new before after = (new ≡ old) × (after ≡ before) × MayGoOn snapshot old × (now < old.tables.now)
+Refuses errors.NumbersSpent snapshot old now new before after = (new ≡ old) × (after ≡ before) × MayGoOn snapshot old × (old.tables.now ≤ now) × (old.last ≡ 2 ^ 63)
+Refuses errors.Memory snapshot old now new before after = (new ≡ old) × (after ≡ before) × IsDue snapshot old now
+Refuses errors.WriteFault snapshot old now new before after = (new ≡ record old { broken = true }) × IsDue snapshot old now
+    × ((front : List ℕ) × IsCut (sent_text (line_at snapshot old now)) front × Appends before after front)

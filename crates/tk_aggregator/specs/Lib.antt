@@ -1,0 +1,5 @@
+pub mod Readings
+pub mod Absorbing
+pub mod Aggregates
+pub mod StreamErrors
+pub mod Standing

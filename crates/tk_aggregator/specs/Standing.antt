@@ -1,0 +1,40 @@
+-- What an aggregator keeps true inside. No public clause cites this.
+use Rattle.std.specs.Prelude.{◌≡◌, ℕ, ◌^◌, ◌≤◌, List, Option, Some, IfSome}
+use Rattle.tk_core.specs.declared.op.row.OpRow.{OpRow}
+use Rattle.tk_core.specs.declared.resource.row.ResourceRow.{ResourceRow}
+use Rattle.tk_events.specs.declared.event.Event.{Event}
+use Rattle.tk_events.specs.Items.{Agrees, kinds_of, kinds_told}
+use Rattle.tk_ledgers.specs.Ops.{OpSight}
+use Rattle.tk_ledgers.specs.Resources.{ResourceSight}
+use Rattle.tk_ledgers.specs.Tasks.{TaskSight}
+use Rattle.tk_stream.specs.declared.op.Op.{Op}
+use Rattle.tk_stream.specs.declared.resource.Resource.{Resource}
+use Rattle.tk_stream.specs.declared.task.Task.{Task}
+use Rattle.tk_aggregator.specs.Aggregates.{Pairs, ReadTask, ReadResource, ReadOp}
+use Rattle.tk_stream.specs.Fronts.{ToldView, told_tables, FitsIn, HaveRoom}
+use Rattle.tk_stream.specs.Tables.{TablesView, empty_tables}
+
+-- a handle may read for a task: it is of the task
+abbrev pub TaskFits : Task → TaskSight → Type 0
+TaskFits t s = s.id ≡ t.info.id
+
+-- for a resource: it is of the resource, and its ledger began with values of the resource's attributes
+abbrev pub ResourceFits : Resource → ResourceSight → Type 0
+ResourceFits r s = (s.id ≡ r.info.id) × ((row : ResourceRow) × (s.token.view.opening ≡ Some row) × (kinds_of row.attrs ≡ kinds_told r.info.attrs))
+
+-- for an async operation
+abbrev pub OpFits : Op → OpSight → Type 0
+OpFits o s = (s.id ≡ o.info.id) × ((row : OpRow) × (s.token.view.opening ≡ Some row) × (kinds_of row.attrs ≡ kinds_told o.info.attrs))
+
+-- what holds inside
+pub record IsStanding (shown : TablesView) (telling : ToldView) (task_handles : List TaskSight) (resource_handles : List ResourceSight) (op_handles : List OpSight) (event : Option Event) (last : ℕ) : Type 0 where
+  pub tasks : Pairs ReadTask shown.tasks task_handles
+  pub resources : Pairs ReadResource shown.resources resource_handles
+  pub ops : Pairs ReadOp shown.ops op_handles
+  pub resources_fit : Pairs ResourceFits shown.resources resource_handles
+  pub ops_fit : Pairs OpFits shown.ops op_handles
+  pub fits : FitsIn telling shown
+  pub room : HaveRoom telling shown
+  pub held : IfSome event Agrees
+  pub first : last ≡ 0 → told_tables telling shown ≡ empty_tables
+  pub numbered : last ≤ 2 ^ 63

@@ -1,0 +1,438 @@
+//! The aggregator: it takes events, reads the ledgers of their items, and publishes the lines of a stream.
+//!
+//! Beside the tables it keeps what the last whole line told of them: a row of each item, and the counts. Items only ever go
+//! last, so a line is made by place, without a copy of the tables (`told_tables.rt`).
+//!
+//! | stream | `publish` | `snapshot` |
+//! |---|---|---|
+//! | whole | writes what differs from the last whole line | writes all |
+//! | broken: the last line was cut off | `Broken` | writes all, and mends the stream |
+//!
+//! `specs/Aggregates.antt` says what each call makes of it.
+ghost use Rattle.std.specs.Prelude.{◌≡◌, ◌≤◌, ◌<◌, ◌+◌, ◌^◌, ◌++◌, ℕ, List, Some, None, false, true, OnOk, OnErr, IfOk, IfErr, IfSome, IfNone};
+ghost use Rattle.std.specs.Io.KnownBytes.{Appends};
+ghost use Rattle.tk_events.specs.declared.event.Event.TheVariants as events;
+ghost use Rattle.tk_events.specs.Items.{Agrees};
+ghost use Rattle.tk_aggregator.specs.Absorbing.{infos_of, counted};
+ghost use Rattle.tk_aggregator.specs.Aggregates.{Aggregating, new_aggregating, IsSound, IsLaterOf, IsSameStream, Refreshes, ReadsTasks, ReadsResources, ReadsOps, TakesIn, Collects, RunsOut, TookMore, FollowsTaker, GathersUpTo, Comes, TellsTotals, WasEmpty, dropped_in, line_at, sending_at, after_line, MayGoOn, IsDue, Refuses};
+ghost use Rattle.tk_stream.specs.Spelling.{sent_text};
+ghost use Rattle.tk_stream.specs.Streams.{IsStreamTo, MaySend};
+ghost use Rattle.tk_aggregator.specs.declared.stream_error.StreamError.TheVariants.{Memory};
+
+use crate::ledgered::{
+    put_op, put_poll, put_resource, put_task, read_ops, read_resources, read_tasks,
+};
+use crate::stream_error::StreamError;
+use std::alloc::{AllocError, Global};
+use std::io::Write;
+use std::marker::Model;
+use std::sync::Wait;
+use tk_events::{Event, Taker};
+use tk_ids::{OpInfo, ResourceId, ResourceInfo, TaskInfo};
+use tk_ledgers::{OpInspector, ResourceInspector, TaskInspector};
+use tk_stream::{Line, LineError, Tables, ToldTables, send};
+
+/// Takes events, reads the ledgers of their items, and writes the lines of a stream.
+///
+/// Contracts see its tables, those of the last whole line, the handles that read its items, an event that found no memory, the
+/// number of the last line, and whether that line was cut off.
+#[derive(Drop)]
+pub struct Aggregator {
+    tables: Tables,
+    told: ToldTables,
+    // The handles that read the items, in the order of the tables.
+    tasks: Vec<TaskInspector>,
+    resources: Vec<ResourceInspector>,
+    ops: Vec<OpInspector>,
+    // An event that found no memory.
+    held: Option<Event>,
+    // The number of the last line.
+    last: u64,
+    // The last line was cut off.
+    broken: bool,
+}
+
+impl Model for Aggregator {
+    ghost use Rattle.tk_aggregator.specs.Aggregates.{Aggregating};
+    ghost use Rattle.tk_stream.specs.Fronts.{told_tables};
+    ghost use Rattle.tk_aggregator.specs.Standing.{IsStanding};
+
+    ghost Value = { Aggregating };
+
+    ghost view = { λ a. record {
+      tables = a.tables;
+      told = told_tables a.told a.tables;
+      tasks = a.tasks.items;
+      resources = a.resources.items;
+      ops = a.ops.items;
+      held = a.held;
+      last = a.last;
+      broken = a.broken;
+    } };
+
+    ghost invariant = { λ a. IsStanding a.tables a.told a.tasks.items a.resources.items a.ops.items a.held a.last };
+}
+
+impl Aggregator {
+    /// One that has told nothing, whose next line has the number `after + 1`. It makes room for 16 tasks.
+    ///
+    /// Its one error is `Memory`: there is none for that.
+    pub fn new(alloc: Global, after: u64) -> Result<Aggregator, StreamError>
+        requires { after ≤ 2 ^ 63 }
+        ensures ok { IfOk result (λ a. a ≡ new_aggregating after) }
+        ensures memory { IfErr result (λ e. e ≡ Memory) }
+    {
+        let tasks = Vec::with_capacity(alloc, 16)?;
+        let tables = Tables::new(alloc)?;
+        Ok(Aggregator {
+            tables,
+            told: ToldTables::new(alloc),
+            tasks,
+            resources: Vec::new(alloc),
+            ops: Vec::new(alloc),
+            held: None,
+            last: after,
+            broken: false,
+        })
+    }
+
+    /// The tables: the items in order of arrival, each with the row that was read of it last, the counts of poll operations,
+    /// how many events were dropped, and the moment of the last whole line.
+    pub fn tables(&self) -> &Tables
+        ensures is { result.now ≡ self.now.tables }
+        ensures sound { IsSound self.now }
+    {
+        self.tables.see();
+        &self.tables
+    }
+
+    /// Reads the ledger of each item once, and the row of the item is what was read. It takes no memory, and nothing else
+    /// changes: the lines behind it tell of the new rows.
+    pub fn refresh<R: Wait>(&mut self, rt: &R)
+        ensures reads { Refreshes self.old self.new }
+        ensures later { IsLaterOf self.old self.new }
+        ensures stays { IsSameStream self.old self.new }
+        ensures same_infos { infos_of self.new.tables ≡ infos_of self.old.tables }
+        ensures held { self.new.held ≡ self.old.held }
+    {
+        self.tables();
+        self.refresh_tasks(rt);
+        self.refresh_resources(rt);
+        self.refresh_ops(rt);
+    }
+
+    /// Takes up to `limit` events, a held one first, and stops at the first empty answer of the taker. Each is taken in: a
+    /// new item goes last, with the row that its handle then reads; one that is there changes nothing; a poll operation is
+    /// counted. The totals of dropped events become the taker's. It answers how many were taken in.
+    ///
+    /// - `Memory`: there is none for an event. It is held, and the next call takes it first; those before it stand in the
+    ///   tables. Totals stay.
+    pub fn collect<R: Wait>(
+        &mut self,
+        rt: &R,
+        taker: &mut Taker,
+        limit: u64,
+    ) -> Result<u64, StreamError>
+        ensures ok { IfOk result (λ count. Collects self.old taker.old limit count self.new taker.new) }
+        ensures err { IfErr result (λ e. (e ≡ Memory) × RunsOut self.old taker.old limit self.new taker.new) }
+        ensures took { TookMore taker.old taker.new }
+        ensures follows { FollowsTaker self.old taker.old → FollowsTaker self.new taker.new }
+        ensures later { IsLaterOf self.old self.new }
+        ensures stays { IsSameStream self.old self.new }
+    {
+        let count = self.gather(rt, taker, limit)?;
+        self.take_totals(taker);
+        Ok(count)
+    }
+
+    // The totals of dropped events become the taker's.
+    fn take_totals(&mut self, taker: &mut Taker)
+        ensures totals { TellsTotals taker.old taker.new }
+        ensures now { self.new ≡ record self.old { tables = record self.old.tables { dropped = dropped_in taker.new.last } } }
+    {
+        let dropped = taker.dropped();
+        self.tables.set_totals(dropped, self.tables.now());
+    }
+
+    // Takes events in, and leaves the totals.
+    fn gather<R: Wait>(&mut self, rt: &R, taker: &mut Taker, limit: u64) -> Result<u64, StreamError>
+        ensures ok { IfOk result (λ count. GathersUpTo self.old taker.old limit count self.new taker.new) }
+        ensures err { IfErr result (λ e. (e ≡ Memory) × RunsOut self.old taker.old limit self.new taker.new) }
+    {
+        for count in 0..limit {
+            let Some(event) = self.next_event(rt, taker) else {
+                return Ok(count);
+            };
+            if let Err(event) = self.take_in(rt, event) {
+                self.held = Some(event);
+                return Err(StreamError::Memory);
+            }
+        }
+        Ok(limit)
+    }
+
+    // The held event, or the next one of the taker.
+    fn next_event<R: Wait>(&mut self, rt: &R, taker: &mut Taker) -> Option<Event>
+        ensures some { IfSome result (λ event. Comes self.old taker.old event self.new taker.new) }
+        ensures agrees { IfSome result (λ event. Agrees event) }
+        ensures none { IfNone result ((self.new ≡ self.old) × (self.old.held ≡ None) × (taker.new ≡ taker.old) × WasEmpty taker.new) }
+    {
+        if let Some(event) = self.held.take() {
+            return Some(event);
+        }
+        let event = taker.take(rt)?;
+        Some(event)
+    }
+
+    // Takes an event in, or gives it back.
+    fn take_in<R: Wait>(&mut self, rt: &R, event: Event) -> Result<(), Event>
+        requires { Agrees event }
+        ensures ok { OnOk result (TakesIn self.old event self.new) }
+        ensures err { OnErr result (self.new ≡ self.old) }
+        ensures returned { IfErr result (λ back. back ≡ event) }
+    {
+        match event {
+            Event::Task(info, handle) => match self.add_task(rt, info, handle) {
+                Ok(()) => Ok(()),
+                Err((info, handle)) => Err(Event::Task(info, handle)),
+            },
+            Event::Resource(info, handle) => match self.add_resource(rt, info, handle) {
+                Ok(()) => Ok(()),
+                Err((info, handle)) => Err(Event::Resource(info, handle)),
+            },
+            Event::Op(info, handle) => match self.add_op(rt, info, handle) {
+                Ok(()) => Ok(()),
+                Err((info, handle)) => Err(Event::Op(info, handle)),
+            },
+            Event::Poll(op) => match self.count_poll(op.resource, op.ready) {
+                Ok(()) => Ok(()),
+                Err(_) => Err(Event::Poll(op)),
+            },
+        }
+    }
+
+    // Puts a task last where its id isn't there. At want of memory info and handle come back.
+    fn add_task<R: Wait>(
+        &mut self,
+        rt: &R,
+        info: TaskInfo,
+        handle: TaskInspector,
+    ) -> Result<(), (TaskInfo, TaskInspector)>
+        requires { Agrees (events.Task info handle) }
+        ensures ok { OnOk result (TakesIn self.old (events.Task info handle) self.new) }
+        ensures err { OnErr result (self.new ≡ self.old) }
+        ensures returned { IfErr result (λ e. (e.0 ≡ info) × (e.1 ≡ handle)) }
+    {
+        if self.tables.task(info.id).is_some() {
+            return Ok(());
+        }
+        put_task(
+            rt,
+            &mut self.tables,
+            &mut self.told,
+            &mut self.tasks,
+            info,
+            handle,
+        )?;
+        Ok(())
+    }
+
+    // The same of a resource.
+    fn add_resource<R: Wait>(
+        &mut self,
+        rt: &R,
+        info: ResourceInfo,
+        handle: ResourceInspector,
+    ) -> Result<(), (ResourceInfo, ResourceInspector)>
+        requires { Agrees (events.Resource info handle) }
+        ensures ok { OnOk result (TakesIn self.old (events.Resource info handle) self.new) }
+        ensures err { OnErr result (self.new ≡ self.old) }
+        ensures returned { IfErr result (λ e. (e.0 ≡ info) × (e.1 ≡ handle)) }
+    {
+        if self.tables.resource(info.id).is_some() {
+            return Ok(());
+        }
+        put_resource(
+            rt,
+            &mut self.tables,
+            &mut self.told,
+            &mut self.resources,
+            info,
+            handle,
+        )?;
+        Ok(())
+    }
+
+    // The same of an async operation.
+    fn add_op<R: Wait>(
+        &mut self,
+        rt: &R,
+        info: OpInfo,
+        handle: OpInspector,
+    ) -> Result<(), (OpInfo, OpInspector)>
+        requires { Agrees (events.Op info handle) }
+        ensures ok { OnOk result (TakesIn self.old (events.Op info handle) self.new) }
+        ensures err { OnErr result (self.new ≡ self.old) }
+        ensures returned { IfErr result (λ e. (e.0 ≡ info) × (e.1 ≡ handle)) }
+    {
+        if self.tables.op(info.id).is_some() {
+            return Ok(());
+        }
+        put_op(
+            rt,
+            &mut self.tables,
+            &mut self.told,
+            &mut self.ops,
+            info,
+            handle,
+        )?;
+        Ok(())
+    }
+
+    // Counts a poll operation of a resource, also of one that is in no table.
+    fn count_poll(&mut self, resource: ResourceId, ready: bool) -> Result<(), AllocError>
+        ensures ok { OnOk result (self.new ≡ record self.old { tables = record self.old.tables { counts = counted resource ready self.old.tables.counts } }) }
+        ensures err { OnErr result (self.new ≡ self.old) }
+    {
+        put_poll(&mut self.tables, &mut self.told, resource, ready)?;
+        Ok(())
+    }
+
+    fn refresh_tasks<R: Wait>(&mut self, rt: &R)
+        ensures { ReadsTasks self.old self.new }
+    {
+        read_tasks(rt, &mut self.tables, &mut self.tasks);
+    }
+
+    fn refresh_resources<R: Wait>(&mut self, rt: &R)
+        ensures { ReadsResources self.old self.new }
+    {
+        read_resources(rt, &mut self.tables, &mut self.resources);
+    }
+
+    fn refresh_ops<R: Wait>(&mut self, rt: &R)
+        ensures { ReadsOps self.old self.new }
+    {
+        read_ops(rt, &mut self.tables, &mut self.ops);
+    }
+
+    // The line of this moment.
+    fn next_line(&self, now: u64, snapshot: bool) -> Result<Line, LineError>
+        requires { self.now.last < 2 ^ 63 }
+        ensures { IfOk result (λ line. line ≡ line_at snapshot self.now now) }
+    {
+        let alloc = *self.tasks.allocator();
+        if snapshot {
+            let nothing = ToldTables::new(alloc);
+            Line::behind(alloc, &nothing, &self.tables, now, self.last + 1, true)
+        } else {
+            Line::behind(alloc, &self.told, &self.tables, now, self.last + 1, false)
+        }
+    }
+
+    // Its text, and a line end.
+    fn next_text(&self, now: u64, snapshot: bool) -> Result<Vec<u8>, LineError>
+        requires { self.now.last < 2 ^ 63 }
+        ensures { IfOk result (λ text. text.items ≡ sent_text (line_at snapshot self.now now)) }
+    {
+        let line = self.next_line(now, snapshot)?;
+        let mut text = line.write()?;
+        text.push(b'\n')?;
+        Ok(text)
+    }
+
+    // A whole line of this moment went out.
+    fn tell(&mut self, now: u64)
+        requires { self.old.last < 2 ^ 63 }
+        ensures { self.new ≡ after_line self.old now }
+    {
+        let dropped = self.tables.dropped();
+        self.tables.set_totals(dropped, now);
+        self.told.tell(&self.tables);
+        self.last += 1;
+        self.broken = false;
+    }
+
+    // Writes the line of this moment. It goes on, or is a snapshot.
+    fn send_line<W: Write>(
+        &mut self,
+        now: u64,
+        writer: &mut W,
+        snapshot: bool,
+    ) -> Result<u64, StreamError>
+        requires { MayGoOn snapshot self.old }
+        ensures number { IfOk result (λ n. n ≡ self.old.last + 1) }
+        ensures state { OnOk result (self.new ≡ after_line self.old now) }
+        ensures due { OnOk result (IsDue snapshot self.old now) }
+        ensures sent { OnOk result (Appends (W.contents writer.old) (W.contents writer.new) (sent_text (line_at snapshot self.old now))) }
+        ensures refused { IfErr result (λ e. Refuses e snapshot self.old now self.new (W.contents writer.old) (W.contents writer.new)) }
+    {
+        if now < self.tables.now() {
+            return Err(StreamError::Clock);
+        }
+        if self.last == 1 << 63 {
+            return Err(StreamError::NumbersSpent);
+        }
+        let Ok(text) = self.next_text(now, snapshot) else {
+            return Err(StreamError::Memory);
+        };
+        match send(writer, text.as_slice()) {
+            Ok(()) => {
+                self.tell(now);
+                Ok(self.last)
+            }
+            Err(_) => {
+                self.broken = true;
+                Err(StreamError::WriteFault)
+            }
+        }
+    }
+
+    /// Writes the next line, which tells what differs from the last whole one, and a line end, and answers its number. `now`
+    /// is the line's moment, in nanoseconds.
+    ///
+    /// The first of these that applies; behind the first four nothing has changed and nothing was written.
+    /// - `Broken`: the last line was cut off, and only a snapshot goes on.
+    /// - `Clock`: the moment is below the last whole line's.
+    /// - `NumbersSpent`: the last line had number 2^63.
+    /// - `Memory`: there is none for the line.
+    /// - `WriteFault`: the writer gave an error or took nothing. A proper front of line and line end went out; tables, number
+    ///   and moment stay, and the stream is broken.
+    pub fn publish<W: Write>(&mut self, now: u64, writer: &mut W) -> Result<u64, StreamError>
+        ensures number { IfOk result (λ n. n ≡ self.old.last + 1) }
+        ensures state { OnOk result (self.new ≡ after_line self.old now) }
+        ensures due { OnOk result (IsDue false self.old now) }
+        ensures sent { OnOk result (Appends (W.contents writer.old) (W.contents writer.new) (sent_text (line_at false self.old now))) }
+        ensures refused { IfErr result (λ e. Refuses e false self.old now self.new (W.contents writer.old) (W.contents writer.new)) }
+        ensures may_send { IsDue false self.old now → MaySend self.old.told (sending_at false self.old now) }
+        ensures stream { OnOk result ((bytes : List ℕ) → IsStreamTo bytes self.old.told self.old.last
+            → IsStreamTo (bytes ++ sent_text (line_at false self.old now)) self.new.told self.new.last) }
+    {
+        self.tables();
+        if self.broken {
+            return Err(StreamError::Broken);
+        }
+        let number = self.send_line(now, writer, false)?;
+        Ok(number)
+    }
+
+    /// Writes the next line as one that tells of the tables as a whole, and a line end, and answers its number. Behind a line
+    /// that was cut off the writer has to be that of a new stream; the stream is broken no more.
+    ///
+    /// The refusals are those of `publish` but for `Broken`.
+    pub fn snapshot<W: Write>(&mut self, now: u64, writer: &mut W) -> Result<u64, StreamError>
+        ensures number { IfOk result (λ n. n ≡ self.old.last + 1) }
+        ensures state { OnOk result (self.new ≡ after_line self.old now) }
+        ensures due { OnOk result (IsDue true self.old now) }
+        ensures sent { OnOk result (Appends (W.contents writer.old) (W.contents writer.new) (sent_text (line_at true self.old now))) }
+        ensures refused { IfErr result (λ e. Refuses e true self.old now self.new (W.contents writer.old) (W.contents writer.new)) }
+        ensures may_send { IsDue true self.old now → MaySend self.old.told (sending_at true self.old now) }
+        ensures stream { OnOk result ((bytes : List ℕ) → IsStreamTo bytes self.old.told self.old.last
+            → IsStreamTo (bytes ++ sent_text (line_at true self.old now)) self.new.told self.new.last) }
+        ensures opens { OnOk result (IsStreamTo (sent_text (line_at true self.old now)) self.new.told self.new.last) }
+    {
+        self.tables();
+        let number = self.send_line(now, writer, true)?;
+        Ok(number)
+    }
+}

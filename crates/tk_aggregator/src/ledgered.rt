@@ -1,0 +1,283 @@
+//! Items whose rows are read from their ledgers.
+ghost use Rattle.std.specs.Prelude.{◌≡◌, ◌≤◌, ◌<◌, ◌++◌, ◌∷◌, [], List, length, None, OnOk, OnErr, IfErr};
+ghost use Rattle.tk_core.specs.declared.op.row.OpRow.{OpRow};
+ghost use Rattle.tk_core.specs.declared.resource.row.ResourceRow.{ResourceRow};
+ghost use Rattle.tk_core.specs.declared.task.row.TaskRow.{TaskRow};
+ghost use Rattle.tk_stream.specs.Fronts.{with_rows, task_at, resource_at, op_at};
+ghost use Rattle.tk_aggregator.specs.Readings.{EachReads, ReadAll, Reads, task_ledger, resource_ledger, op_ledger};
+ghost use Rattle.tk_ledgers.specs.Ops.{OpSight};
+ghost use Rattle.tk_ledgers.specs.Resources.{ResourceSight};
+ghost use Rattle.tk_ledgers.specs.Tasks.{TaskSight};
+ghost use Rattle.tk_aggregator.specs.Absorbing as absorbing;
+ghost use Rattle.tk_aggregator.specs.Absorbing.{counted};
+ghost use Rattle.tk_stream.specs.Tables.{item_with, task_with, with_task, resource_with, with_resource, op_with, with_op};
+
+use std::alloc::AllocError;
+use std::sync::Wait;
+use tk_core::{OpRow, ResourceRow, TaskRow};
+use tk_ids::{OpInfo, ResourceId, ResourceInfo, TaskInfo};
+use tk_ledgers::{OpInspector, ResourceInspector, TaskInspector};
+use tk_stream::{Item, Op, Resource, Table, Tables, Task, ToldRows, ToldTables};
+
+/// An item that has a handle of its ledger.
+pub(crate) trait Ledgered: Item {
+    type Handle: Drop;
+
+    // The handle before a reading, the row that it read, and the handle after it.
+    ghost reads: { Self.Handle → Self.Row → Self.Handle → Type 0 };
+
+    fn read<R: Wait>(handle: &mut Self::Handle, rt: &R) -> Self::Row
+        ensures { reads handle.old result handle.new };
+}
+
+impl Ledgered for Task {
+    ghost use Rattle.tk_aggregator.specs.Readings.{Reads, task_ledger};
+
+    type Handle = TaskInspector;
+
+    ghost reads = { Reads task_ledger };
+
+    fn read<R: Wait>(handle: &mut TaskInspector, rt: &R) -> TaskRow {
+        handle.read(rt)
+    }
+}
+
+impl Ledgered for Resource {
+    ghost use Rattle.tk_aggregator.specs.Readings.{Reads, resource_ledger};
+
+    type Handle = ResourceInspector;
+
+    ghost reads = { Reads resource_ledger };
+
+    fn read<R: Wait>(handle: &mut ResourceInspector, rt: &R) -> ResourceRow {
+        handle.read(rt)
+    }
+}
+
+impl Ledgered for Op {
+    ghost use Rattle.tk_aggregator.specs.Readings.{Reads, op_ledger};
+
+    type Handle = OpInspector;
+
+    ghost reads = { Reads op_ledger };
+
+    fn read<R: Wait>(handle: &mut OpInspector, rt: &R) -> OpRow {
+        handle.read(rt)
+    }
+}
+
+/// Each handle reads once, and the row of its item is what it read.
+pub(crate) fn refresh_all<T: Ledgered, R: Wait>(
+    rt: &R,
+    table: &mut Table<T>,
+    handles: &mut Vec<T::Handle>,
+)
+    requires { length handles.old.items ≡ length table.old }
+    ensures { (rows : List T.Row) × EachReads T.reads handles.old.items rows handles.new.items × (table.new ≡ with_rows T.with_row table.old rows) }
+{
+    for i in 0..handles.len() {
+        let row = T::read(&mut handles[i], rt);
+        table.set(i, row);
+    }
+}
+
+/// Each handle of a task reads once.
+pub(crate) fn read_tasks<R: Wait>(rt: &R, tables: &mut Tables, handles: &mut Vec<TaskInspector>)
+    requires { length handles.old.items ≡ length tables.old.tasks }
+    ensures { (rows : List TaskRow) × ReadAll task_ledger handles.old.items rows handles.new.items
+        × (tables.new ≡ record tables.old { tasks = with_rows task_at tables.old.tasks rows }) }
+{
+    refresh_all(rt, &mut tables.tasks, handles);
+}
+
+/// Each handle of a resource reads once.
+pub(crate) fn read_resources<R: Wait>(
+    rt: &R,
+    tables: &mut Tables,
+    handles: &mut Vec<ResourceInspector>,
+)
+    requires { length handles.old.items ≡ length tables.old.resources }
+    ensures { (rows : List ResourceRow) × ReadAll resource_ledger handles.old.items rows handles.new.items
+        × (tables.new ≡ record tables.old { resources = with_rows resource_at tables.old.resources rows }) }
+{
+    refresh_all(rt, &mut tables.resources, handles);
+}
+
+/// Each handle of an async operation reads once.
+pub(crate) fn read_ops<R: Wait>(rt: &R, tables: &mut Tables, handles: &mut Vec<OpInspector>)
+    requires { length handles.old.items ≡ length tables.old.ops }
+    ensures { (rows : List OpRow) × ReadAll op_ledger handles.old.items rows handles.new.items
+        × (tables.new ≡ record tables.old { ops = with_rows op_at tables.old.ops rows }) }
+{
+    refresh_all(rt, &mut tables.ops, handles);
+}
+
+/// Puts an item last, with the row that its handle then reads. Where there is no memory for it, item and handle come back,
+/// and the handle has not read.
+pub(crate) fn add<T: Ledgered, R: Wait>(
+    rt: &R,
+    table: &mut Table<T>,
+    told: &mut ToldRows<T>,
+    handles: &mut Vec<T::Handle>,
+    item: T,
+    handle: T::Handle,
+) -> Result<(), (T, T::Handle)>
+    requires absent { item_with T.id_of (T.id_of item) table.old ≡ None }
+    requires near { length table.old ≤ told.old.room }
+    ensures ok { OnOk result ((row : T.Row) × (read : T.Handle) × T.reads handle row read
+        × (table.new ≡ table.old ++ T.with_row item row ∷ []) × (handles.new.items ≡ handles.old.items ++ read ∷ [])) }
+    ensures room { OnOk result (length table.new ≤ told.new.room) }
+    ensures told { told.new.rows ≡ told.old.rows }
+    ensures kept_room { told.old.room ≤ told.new.room }
+    ensures err { OnErr result ((table.new ≡ table.old) × (handles.new.items ≡ handles.old.items)) }
+    ensures returned { IfErr result (λ e. (e.0 ≡ item) × (e.1 ≡ handle)) }
+{
+    let place = table.len();
+    let Ok(()) = told.make_room(place, item.row()) else {
+        return Err((item, handle));
+    };
+    let Ok(()) = handles.reserve(1) else {
+        return Err((item, handle));
+    };
+    match table.push(item) {
+        Ok(()) => {}
+        Err(item) => return Err((item, handle)),
+    }
+    let mut handle = handle;
+    let row = T::read(&mut handle, rt);
+    table.set(place, row);
+    match handles.push(handle) {
+        Ok(()) => Ok(()),
+        Err(_) => unreachable!(),
+    }
+}
+
+/// Puts a task last, with the row that its handle then reads, or gives info and handle back.
+pub(crate) fn put_task<R: Wait>(
+    rt: &R,
+    tables: &mut Tables,
+    told: &mut ToldTables,
+    handles: &mut Vec<TaskInspector>,
+    info: TaskInfo,
+    handle: TaskInspector,
+) -> Result<(), (TaskInfo, TaskInspector)>
+    requires absent { task_with info.id tables.old.tasks ≡ None }
+    requires near { length tables.old.tasks ≤ told.old.tasks.room }
+    ensures ok { OnOk result ((row : TaskRow) × (read : TaskSight) × Reads task_ledger handle row read
+        × (tables.new ≡ with_task tables.old info row) × (handles.new.items ≡ handles.old.items ++ read ∷ [])) }
+    ensures room { OnOk result (length tables.new.tasks ≤ told.new.tasks.room) }
+    ensures told { told.new ≡ record told.old { tasks = record told.old.tasks { room = told.new.tasks.room } } }
+    ensures kept_room { told.old.tasks.room ≤ told.new.tasks.room }
+    ensures err { OnErr result ((tables.new ≡ tables.old) × (handles.new.items ≡ handles.old.items)) }
+    ensures returned { IfErr result (λ e. (e.0 ≡ info) × (e.1 ≡ handle)) }
+{
+    let row = TaskRow::opening(0);
+    match add(
+        rt,
+        &mut tables.tasks,
+        &mut told.tasks,
+        handles,
+        Task { info, row },
+        handle,
+    ) {
+        Ok(()) => Ok(()),
+        Err((item, handle)) => Err((item.info, handle)),
+    }
+}
+
+/// Puts a resource last, with the row that its handle then reads, or gives info and handle back.
+pub(crate) fn put_resource<R: Wait>(
+    rt: &R,
+    tables: &mut Tables,
+    told: &mut ToldTables,
+    handles: &mut Vec<ResourceInspector>,
+    info: ResourceInfo,
+    handle: ResourceInspector,
+) -> Result<(), (ResourceInfo, ResourceInspector)>
+    requires absent { resource_with info.id tables.old.resources ≡ None }
+    requires near { length tables.old.resources ≤ told.old.resources.room }
+    ensures ok { OnOk result ((row : ResourceRow) × (read : ResourceSight) × Reads resource_ledger handle row read
+        × (tables.new ≡ with_resource tables.old info row) × (handles.new.items ≡ handles.old.items ++ read ∷ [])) }
+    ensures room { OnOk result (length tables.new.resources ≤ told.new.resources.room) }
+    ensures told { told.new ≡ record told.old { resources = record told.old.resources { room = told.new.resources.room } } }
+    ensures kept_room { told.old.resources.room ≤ told.new.resources.room }
+    ensures err { OnErr result ((tables.new ≡ tables.old) × (handles.new.items ≡ handles.old.items)) }
+    ensures returned { IfErr result (λ e. (e.0 ≡ info) × (e.1 ≡ handle)) }
+{
+    let row = ResourceRow::opening(0, &[]);
+    match add(
+        rt,
+        &mut tables.resources,
+        &mut told.resources,
+        handles,
+        Resource { info, row },
+        handle,
+    ) {
+        Ok(()) => Ok(()),
+        Err((item, handle)) => Err((item.info, handle)),
+    }
+}
+
+/// Puts an async operation last, with the row that its handle then reads, or gives info and handle back.
+pub(crate) fn put_op<R: Wait>(
+    rt: &R,
+    tables: &mut Tables,
+    told: &mut ToldTables,
+    handles: &mut Vec<OpInspector>,
+    info: OpInfo,
+    handle: OpInspector,
+) -> Result<(), (OpInfo, OpInspector)>
+    requires absent { op_with info.id tables.old.ops ≡ None }
+    requires near { length tables.old.ops ≤ told.old.ops.room }
+    ensures ok { OnOk result ((row : OpRow) × (read : OpSight) × Reads op_ledger handle row read
+        × (tables.new ≡ with_op tables.old info row) × (handles.new.items ≡ handles.old.items ++ read ∷ [])) }
+    ensures room { OnOk result (length tables.new.ops ≤ told.new.ops.room) }
+    ensures told { told.new ≡ record told.old { ops = record told.old.ops { room = told.new.ops.room } } }
+    ensures kept_room { told.old.ops.room ≤ told.new.ops.room }
+    ensures err { OnErr result ((tables.new ≡ tables.old) × (handles.new.items ≡ handles.old.items)) }
+    ensures returned { IfErr result (λ e. (e.0 ≡ info) × (e.1 ≡ handle)) }
+{
+    let row = OpRow::opening(0, &[]);
+    match add(
+        rt,
+        &mut tables.ops,
+        &mut told.ops,
+        handles,
+        Op { info, row },
+        handle,
+    ) {
+        Ok(()) => Ok(()),
+        Err((item, handle)) => Err((item.info, handle)),
+    }
+}
+
+/// The counts with one more that was ready, or pending.
+fn one_more(ready: bool, counts: (u64, u64)) -> (u64, u64)
+    ensures { result ≡ absorbing.one_more ready counts }
+{
+    let (was_ready, was_pending) = counts;
+    if ready {
+        (was_ready.saturating_add(1), was_pending)
+    } else {
+        (was_ready, was_pending.saturating_add(1))
+    }
+}
+
+/// Counts a poll operation of a resource. Room for the row that is told of it is made first.
+pub(crate) fn put_poll(
+    tables: &mut Tables,
+    told: &mut ToldTables,
+    resource: ResourceId,
+    ready: bool,
+) -> Result<(), AllocError>
+    requires { length tables.old.counts ≤ told.old.counts.room }
+    ensures ok { OnOk result (tables.new ≡ record tables.old { counts = counted resource ready tables.old.counts }) }
+    ensures room { OnOk result (length tables.old.counts < told.new.counts.room) }
+    ensures told { told.new ≡ record told.old { counts = record told.old.counts { room = told.new.counts.room } } }
+    ensures kept_room { told.old.counts.room ≤ told.new.counts.room }
+    ensures err { OnErr result (tables.new ≡ tables.old) }
+{
+    told.counts.make_room(tables.counted(), (0, 0))?;
+    let (ready, pending) = one_more(ready, tables.poll_counts(resource));
+    tables.set_counts(resource, ready, pending)
+}

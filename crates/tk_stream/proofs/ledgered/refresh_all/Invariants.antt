@@ -1,5 +1,0 @@
-use Rattle.tk_stream.proofs.ReadingLemmas.{Went}
-use Rattle.tk_stream.proofs.ledgered.refresh_all.Given as goal
-
-abbrev pub invariant-loop-i : goal.invariant-loop-i
-invariant-loop-i g l = Went g.T.Item.with_row g.T.Ledgered.reads l.i l.fn.table l.fn.handles.items l.table l.handles.items
