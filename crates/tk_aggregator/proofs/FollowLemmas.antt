@@ -1,9 +1,8 @@
 -- What taking events in makes of infos and poll counts, and that items stay.
-use Rattle.std.proofs.Common.{◌≡◌, ℕ, List, [], ◌∷◌, ◌++◌, Bool, true, false, cond, nat_eq, Some, None, refl, sym, ap, ap₂, ◌∙◌, subst, append_assoc, append-nil}
-use Rattle.std.specs.Prelude.{Option, IfSome, IfNone, map, fold, option_map}
+use Rattle.std.proofs.Common.{◌≡◌, ℕ, List, [], ◌∷◌, ◌++◌, Bool, true, false, cond, nat_eq, Some, None, refl, sym, ap, ap₂, ◌∙◌, append_assoc}
+use Rattle.std.specs.Prelude.{Option, IfSome, IfNone, map, option_map}
 use Rattle.std.specs.Option.{option_map_or}
 use Rattle.std.proofs.lemmas.List.{map-append}
-use Rattle.tk_core.specs.declared.reply.Reply.{Reply}
 use Rattle.tk_core.specs.declared.op.row.OpRow.{OpRow}
 use Rattle.tk_core.specs.declared.resource.row.ResourceRow.{ResourceRow}
 use Rattle.tk_core.specs.declared.task.row.TaskRow.{TaskRow}
@@ -19,10 +18,9 @@ use Rattle.tk_events.specs.declared.event.Event.{Event}
 use Rattle.tk_events.specs.declared.event.Event.TheVariants as events
 use Rattle.tk_events.specs.declared.event.Shown.{Shown}
 use Rattle.tk_events.specs.declared.item.Offer.{Offer}
-use Rattle.tk_ledgers.specs.Handles.{Sight}
 use Rattle.tk_aggregator.specs.Absorbing.{Infos, infos_of, no_infos, with_info, absorbed, absorb}
 use Rattle.tk_aggregator.specs.Aggregates.{Aggregating, Gathers, Collects, RunsOut, TakesIn, TakesAllIn, FollowsTaker, IsSameStream, held_events, free}
-use Rattle.tk_stream.specs.Tables.{item_with, task_with, resource_with, op_with, task_id, resource_id, op_id}
+use Rattle.tk_stream.specs.Tables.{item_with, task_with, resource_with, op_with}
 
 -- the item of an id is found by its info
 found_info : {Item Info : Type 0} (info_of : Item → Info) (id_of : Info → ℕ) (id : ℕ) (xs : List Item) → item_with id_of id (map info_of xs) ≡ option_map info_of (item_with (λ x. id_of (info_of x)) id xs)
@@ -112,8 +110,8 @@ collects_follows a t limit count b u k f =
       infos = ap (λ (x : Aggregating). infos_of x.tables) k.now ∙ at.infos;
     }
 
-pub runs_out_follows : (a : Aggregating) (t : Taking) (b : Aggregating) (u : Taking) → RunsOut a t b u → FollowsTaker a t → FollowsTaker b u
-runs_out_follows a t b u r f = follows_on a t r.taken b u r.gathers f
+pub runs_out_follows : (a : Aggregating) (t : Taking) (limit : ℕ) (b : Aggregating) (u : Taking) → RunsOut a t limit b u → FollowsTaker a t → FollowsTaker b u
+runs_out_follows a t limit b u r f = follows_on a t r.taken b u r.gathers f
 
 -- ---- the stream stays where it is
 

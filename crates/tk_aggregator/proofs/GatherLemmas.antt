@@ -1,5 +1,5 @@
 -- Events that came, one after the other.
-use Rattle.std.proofs.Common.{◌≡◌, ℕ, ◌+◌, ◌<◌, List, [], ◌∷◌, ◌++◌, length, Some, None, refl, sym, ap, ap₂, ◌∙◌, subst, append_assoc, append-nil}
+use Rattle.std.proofs.Common.{◌≡◌, ℕ, List, [], ◌∷◌, ◌++◌, Some, None, refl, sym, ap, ap₂, ◌∙◌, subst, append_assoc, append-nil}
 use Rattle.std.specs.Prelude.{Option, IfSome, IfNone, map}
 use Rattle.std.proofs.lemmas.List.{map-append}
 use Rattle.tk_events.specs.Handles.{Taking, with_taken}
@@ -7,7 +7,7 @@ use Rattle.tk_events.specs.Offers.{shown}
 use Rattle.tk_events.specs.declared.event.Event.{Event}
 use Rattle.tk_events.specs.declared.event.Event.TheVariants as events
 use Rattle.tk_events.specs.declared.item.Offer.{Offer}
-use Rattle.tk_aggregator.specs.Aggregates.{Aggregating, Comes, Gathers, TakesIn, TakesAllIn, held_events, free}
+use Rattle.tk_aggregator.specs.Aggregates.{Aggregating, Collects, Comes, Gathers, TookMore, TakesIn, TakesAllIn, held_events, free}
 use Rattle.tk_stream.specs.Tables.{task_with, resource_with, op_with}
 
 pub comes_held : (a : Aggregating) (t : Taking) (e : Event) (now : Option Event) → a.held ≡ Some e → now ≡ None → Comes a t e (record a { held = now }) t
@@ -95,3 +95,27 @@ module _ (a : Aggregating) (t : Taking) (taken : List Event) (b : Aggregating) (
     in_order = came_on;
     taken_in = subst (λ (x : Aggregating). TakesAllIn (free a) taken (free x)) (sym k.now) g.taken_in;
   }
+
+-- ---- the taker
+
+-- what a taker that took more keeps
+pub gathers_took : (a : Aggregating) (t : Taking) (taken : List Event) (b : Aggregating) (u : Taking) → Gathers a t taken b u → TookMore t u
+gathers_took a t taken b u g = record {
+  console = ap (λ (x : Taking). x.console) g.taker;
+  capacity = ap (λ (x : Taking). x.capacity) g.taker;
+  recorders = ap (λ (x : Taking). x.recorders) g.taker;
+  known = ap (λ (x : Taking). x.known) g.taker;
+  finished = ap (λ (x : Taking). x.finished) g.taker;
+}
+
+pub collects_took : (a : Aggregating) (t : Taking) (limit count : ℕ) (b : Aggregating) (u : Taking) → Collects a t limit count b u → TookMore t u
+collects_took a t limit count b u k =
+    let m = gathers_took a t k.taken k.gathered k.taker k.gathers in
+    let e = k.totals.same in
+    record {
+      console = ap (λ (x : Taking). x.console) e ∙ m.console;
+      capacity = ap (λ (x : Taking). x.capacity) e ∙ m.capacity;
+      recorders = ap (λ (x : Taking). x.recorders) e ∙ m.recorders;
+      known = ap (λ (x : Taking). x.known) e ∙ m.known;
+      finished = ap (λ (x : Taking). x.finished) e ∙ m.finished;
+    }

@@ -1,36 +1,25 @@
 -- What a reading leaves: the row is the fold of a legal history, and has the kinds that its ledger began with.
-use Rattle.std.proofs.Common.{◌≡◌, ℕ, ◌+◌, List, [], ◌∷◌, ◌++◌, length, Some, refl, sym, ap, ◌∙◌, subst, append_assoc, append-nil}
+use Rattle.std.proofs.Common.{◌≡◌, List, [], ◌∷◌, ◌++◌, Some, refl, sym, ap, ◌∙◌, subst, append_assoc, append-nil}
 use Rattle.std.proofs.lemmas.Option.{same_Some}
-use Rattle.tk_core.specs.Fold.{Kind, fold_of, row_after, reply_after}
+use Rattle.tk_core.specs.Fold.{fold_of, row_after, reply_after}
 use Rattle.tk_core.specs.History.{calls_of}
 use Rattle.tk_core.specs.Legal.{IsLegal}
 use Rattle.tk_core.specs.Laws.OpLaws as op_laws
 use Rattle.tk_core.specs.Laws.ResourceLaws as resource_laws
 use Rattle.tk_core.specs.Laws.TaskLaws as task_laws
-use Rattle.tk_core.specs.Op.{op_kind}
 use Rattle.tk_core.specs.OpMeaning.{op_meaning}
-use Rattle.tk_core.specs.Resource.{resource_kind}
 use Rattle.tk_core.specs.ResourceMeaning.{resource_meaning}
-use Rattle.tk_core.specs.Task.{task_kind}
-use Rattle.tk_core.specs.TaskMeaning.{task_meaning}
 use Rattle.tk_core.specs.declared.history.Entry.{Entry}
-use Rattle.tk_core.specs.declared.op.call.OpCall.{OpCall}
-use Rattle.tk_core.specs.declared.op.call.OpCall.TheVariants as op_calls
 use Rattle.tk_core.specs.declared.op.row.OpRow.{OpRow}
 use Rattle.tk_core.specs.declared.reply.Reply.{Reply}
 use Rattle.tk_core.specs.declared.reply.Reply.TheVariants.{Shown}
-use Rattle.tk_core.specs.declared.resource.call.ResourceCall.{ResourceCall}
-use Rattle.tk_core.specs.declared.resource.call.ResourceCall.TheVariants as resource_calls
 use Rattle.tk_core.specs.declared.resource.row.ResourceRow.{ResourceRow}
-use Rattle.tk_core.specs.declared.task.call.TaskCall.{TaskCall}
-use Rattle.tk_core.specs.declared.task.call.TaskCall.TheVariants as task_calls
-use Rattle.tk_core.specs.declared.task.row.TaskRow.{TaskRow}
 use Rattle.tk_cell.specs.Calls.{entry}
 use Rattle.tk_events.specs.Items.{kinds_of, kinds_told}
 use Rattle.tk_ledgers.specs.Handles.{Sight}
 use Rattle.tk_ledgers.specs.Ops.{OpSight}
 use Rattle.tk_ledgers.specs.Resources.{ResourceSight}
-use Rattle.tk_aggregator.specs.Readings.{Ledger, task_ledger, resource_ledger, op_ledger, Reads, IsRead, IsLater, AreLater, EachReads, ReadAll}
+use Rattle.tk_aggregator.specs.Readings.{Ledger, task_ledger, resource_ledger, op_ledger, Reads, IsRead, IsLater, AreLater, ReadAll}
 use Rattle.tk_ids.specs.declared.attr.AttrInfo.{AttrInfo}
 use Rattle.tk_stream.specs.Tables.{HaveKinds}
 use Rattle.tk_aggregator.proofs.KindLemmas.{resource_kinds, op_kinds}

@@ -1,13 +1,13 @@
 -- No call changes the kind of an attribute's value.
 use Rattle.std.proofs.Common.{◌≡◌, ℕ, zero, suc, ◌^◌, List, [], ◌∷◌, Bool, true, false, cond, set, slice_get, Option, Some, None, refl, ap, sym, ◌∙◌}
-use Rattle.std.specs.Prelude.{map, is_some, not, ◌==◌, ◌&&◌}
+use Rattle.std.specs.Prelude.{is_some, not, ◌==◌, ◌&&◌}
 use Rattle.std.proofs.lemmas.Option.{same_Some}
 use Rattle.tk_core.specs.Attributes.{refused_by, refused_change}
-use Rattle.tk_core.specs.Fold.{Kind, is_accepted, fold_of, answer_at, answer, HasItsAnswers}
-use Rattle.tk_core.specs.History.{accepted, with_call}
+use Rattle.tk_core.specs.Fold.{is_accepted, fold_of, answer_at, answer, HasItsAnswers}
+use Rattle.tk_core.specs.History.{accepted}
 use Rattle.tk_core.specs.Laws.Answered.{kept}
 use Rattle.tk_core.specs.Laws.AttributeSteps.{changed_value, replaced, values_from-nil}
-use Rattle.tk_core.specs.Laws.Folded.{after, fold_of_push, always_holds}
+use Rattle.tk_core.specs.Laws.Folded.{fold_of_push, always_holds}
 use Rattle.tk_core.specs.Laws.OpSteps as op_steps
 use Rattle.tk_core.specs.Laws.Refusals.{accepted_frees, last_of_three, last_of_five}
 use Rattle.tk_core.specs.Laws.ResourceSteps as resource_steps

@@ -8,7 +8,7 @@ use Rattle.tk_events.specs.declared.event.Event.TheVariants as events
 use Rattle.tk_ledgers.specs.Handles.{Sight}
 use Rattle.tk_aggregator.specs.Absorbing.{one_more}
 use Rattle.tk_aggregator.specs.Aggregates.{Aggregating, Gathers, Collects, TakesIn, TakesAllIn, IsLaterOf, free}
-use Rattle.tk_stream.specs.Applied.{Kind, task_kind, resource_kind, op_kind, counts_kind, BeginWith, GoOn}
+use Rattle.tk_stream.specs.Applied.{Kind, task_kind, resource_kind, op_kind, counts_kind, BeginWith}
 use Rattle.tk_aggregator.specs.Readings.{IsLater, AreLater}
 use Rattle.tk_stream.specs.Tables.{PollCounts, counts_id, counts_of, put_item, task_with, resource_with, op_with}
 use Rattle.tk_aggregator.proofs.FollowLemmas.{by_case}

@@ -1,15 +1,13 @@
 -- A line that goes on leaves an uninterrupted stream.
-use Rattle.std.proofs.Common.{◌≡◌, ℕ, ◌+◌, ◌^◌, ◌<◌, List, [], ◌∷◌, ◌++◌, Bool, true, false, cond, refl, sym, ap, ap₂, subst, ◌∙◌, append_assoc, append-nil, arith}
-use Rattle.std.specs.Prelude.{◌||◌, ◌==◌, map}
-use Rattle.std.specs.List.{flat_map}
+use Rattle.std.proofs.Common.{◌≡◌, ℕ, ◌+◌, ◌^◌, ◌<◌, List, [], ◌∷◌, ◌++◌, Bool, true, false, refl, sym, ap, ap₂, subst, ◌∙◌, append_assoc, append-nil, arith}
+use Rattle.std.specs.Prelude.{◌||◌, ◌==◌}
 use Rattle.std.proofs.lemmas.Bool.{eq-eqb}
-use Rattle.tk_aggregator.specs.Aggregates.{Aggregating, IsSound, IsDue, tables_at, line_at}
-use Rattle.tk_stream.specs.Applied.{GoOn}
-use Rattle.tk_stream.specs.Lines.{LineView, is_seq}
+use Rattle.tk_aggregator.specs.Aggregates.{Aggregating, IsSound, IsDue, tables_at, line_at, sending_at}
+use Rattle.tk_stream.specs.Lines.{is_seq}
 use Rattle.tk_stream.specs.Ranges.{IsNumber}
 use Rattle.tk_stream.specs.Spelling.{sent_text}
 use Rattle.tk_stream.specs.Streams.{Sending, line_sent, lines_sent, bytes_sent, tables_sent, last_sent, MaySend, GoesOn, IsUninterrupted, IsStreamTo}
-use Rattle.tk_stream.specs.Tables.{TablesView, empty_tables, AreFit, AreDistinct}
+use Rattle.tk_stream.specs.Tables.{TablesView, empty_tables, AreFit}
 use Rattle.tk_stream.proofs.RangeLemmas.{at_moment}
 
 -- ---- one more line
@@ -80,7 +78,7 @@ at_moment_fit t now fit = record {
   ops = fit.ops;
 }
 
-pub may_send : (a : Aggregating) (now : ℕ) (snapshot : Bool) → IsSound a → IsDue snapshot a now → IsNumber now → MaySend a.told (record { tables = tables_at a now; seq = a.last + 1; snapshot = snapshot })
+pub may_send : (a : Aggregating) (now : ℕ) (snapshot : Bool) → IsSound a → IsDue snapshot a now → IsNumber now → MaySend a.told (sending_at snapshot a now)
 may_send a now snapshot sound due fits = record {
   fit = at_moment_fit a.tables now sound.fit;
   in_range = at_moment a.tables now sound.in_range fits;
@@ -91,7 +89,7 @@ may_send a now snapshot sound due fits = record {
 pub stream_goes_on : (a : Aggregating) (now : ℕ) (snapshot : Bool) → IsSound a → IsDue snapshot a now → IsNumber now → (bytes : List ℕ) → IsStreamTo bytes a.told a.last
     → IsStreamTo (bytes ++ sent_text (line_at snapshot a now)) (tables_at a now) (a.last + 1)
 stream_goes_on a now snapshot sound due fits bytes stream =
-    goes_on_to bytes a.told a.last (record { tables = tables_at a now; seq = a.last + 1; snapshot = snapshot }) stream (may_send a now snapshot sound due fits) refl
+    goes_on_to bytes a.told a.last (sending_at snapshot a now) stream (may_send a now snapshot sound due fits) refl
 
 pub stream_opens : (a : Aggregating) (now : ℕ) → IsSound a → IsDue true a now → IsNumber now → IsStreamTo (sent_text (line_at true a now)) (tables_at a now) (a.last + 1)
 stream_opens a now sound due fits = opens_at a.told (tables_at a now) (a.last + 1) (may_send a now true sound due fits)

@@ -1,15 +1,14 @@
 -- What holds inside an aggregator says that it is sound.
-use Rattle.std.proofs.Common.{◌≡◌, ℕ, suc, ◌≤◌, List, [], ◌∷◌, ◌++◌, length, refl, sym, ap, ◌∙◌, arith}
+use Rattle.std.proofs.Common.{◌≡◌, ℕ, ◌≤◌, List, [], ◌∷◌, length, refl, arith}
 use Rattle.std.specs.Prelude.{Option, Bool}
 use Rattle.std.specs.List.{AllByRecursion}
 use Rattle.tk_events.specs.declared.event.Event.{Event}
 use Rattle.tk_ledgers.specs.Ops.{OpSight}
 use Rattle.tk_ledgers.specs.Resources.{ResourceSight}
 use Rattle.tk_ledgers.specs.Tasks.{TaskSight}
-use Rattle.tk_aggregator.specs.Aggregates.{Aggregating, IsSound, Pairs, ReadTask, ReadResource, ReadOp}
-use Rattle.tk_stream.specs.Applied.{Kind, task_kind, resource_kind, op_kind, counts_kind, BeginWith, GoOn}
+use Rattle.tk_aggregator.specs.Aggregates.{Aggregating, IsSound, Pairs, ReadResource, ReadOp}
+use Rattle.tk_stream.specs.Applied.{Kind, task_kind, resource_kind, op_kind, counts_kind, BeginWith}
 use Rattle.tk_stream.specs.Fronts.{ToldView, with_rows, task_at, resource_at, op_at, counts_at, told_tables}
-use Rattle.tk_aggregator.specs.Readings.{IsRead, resource_ledger, op_ledger, EachReads}
 use Rattle.tk_aggregator.specs.Standing.{IsStanding, ResourceFits, OpFits}
 use Rattle.tk_stream.specs.Streams.{AreInRange}
 use Rattle.tk_stream.specs.Tables.{TablesView, AreDistinct, HaveKinds}

@@ -1,6 +1,6 @@
 -- Taking an event in keeps what holds inside, and does what the event says.
-use Rattle.std.proofs.Common.{◌≡◌, ℕ, suc, ◌+◌, ◌≤◌, ◌<◌, List, [], ◌∷◌, ◌++◌, length, Bool, true, false, cond, nat_eq, None, refl, sym, ap, ap₂, ◌∙◌, subst, arith}
-use Rattle.std.specs.Prelude.{Option, IfSome, IfNone}
+use Rattle.std.proofs.Common.{◌≡◌, ℕ, suc, ◌≤◌, ◌<◌, List, [], ◌∷◌, ◌++◌, length, Bool, true, false, cond, nat_eq, None, Some, refl, sym, ap, ap₂, ◌∙◌, subst, arith}
+use Rattle.std.specs.Prelude.{Option, IfSome, IfNone, is_some, option_map}
 use Rattle.std.proofs.lemmas.Bool.{eqb-true}
 use Rattle.std.proofs.lemmas.List.{length-append}
 use Rattle.tk_core.specs.declared.op.row.OpRow.{OpRow}
@@ -16,10 +16,10 @@ use Rattle.tk_ledgers.specs.Ops.{OpSight}
 use Rattle.tk_ledgers.specs.Resources.{ResourceSight}
 use Rattle.tk_ledgers.specs.Tasks.{TaskSight}
 use Rattle.tk_aggregator.specs.Absorbing.{counted, one_more}
-use Rattle.tk_aggregator.specs.Aggregates.{Aggregating, Pairs, ReadTask, ReadResource, ReadOp, TakesIn}
-use Rattle.tk_stream.specs.Fronts.{ToldView, Telling, with_rows, task_at, resource_at, op_at, counts_at, told_tables}
+use Rattle.tk_aggregator.specs.Aggregates.{Pairs, ReadTask, ReadResource, ReadOp, TakesIn}
+use Rattle.tk_stream.specs.Fronts.{ToldView, with_rows, task_at, resource_at, op_at, counts_at, told_tables}
 use Rattle.tk_aggregator.specs.Readings.{Reads, task_ledger, resource_ledger, op_ledger}
-use Rattle.tk_aggregator.specs.Standing.{IsStanding, TaskFits, ResourceFits, OpFits}
+use Rattle.tk_aggregator.specs.Standing.{IsStanding, ResourceFits, OpFits}
 use Rattle.tk_stream.specs.declared.op.Op.{Op}
 use Rattle.tk_stream.specs.declared.resource.Resource.{Resource}
 use Rattle.tk_stream.specs.declared.task.Task.{Task}
@@ -306,6 +306,11 @@ op_kept_stands shown telling tasks resources ops held last room now tells handle
     subst (λ (t : TablesView). IsStanding t tells tasks resources handles held last) (sym e_now)
     (subst (λ (t : ToldView). IsStanding shown t tasks resources handles held last) (sym e_tells)
     (subst (λ (hs : List OpSight). IsStanding shown (with_op_room telling room) tasks resources hs held last) (sym e_handles) base))
+
+-- an item that was not found is not there
+pub not_there : {X Y : Type 0} (f : X → Y) (o : Option X) (there : Option Y) (found : Bool) → option_map f o ≡ there → found ≡ is_some o → found ≡ false → there ≡ None
+not_there f None there found e is none = sym e
+not_there f (Some x) there found e is none = absurd (cc (is, none))
 
 -- ---- poll counts
 

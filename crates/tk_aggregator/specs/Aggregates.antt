@@ -6,9 +6,6 @@ use Rattle.tk_core.specs.declared.op.row.OpRow.{OpRow}
 use Rattle.tk_core.specs.declared.resource.row.ResourceRow.{ResourceRow}
 use Rattle.tk_core.specs.declared.task.row.TaskRow.{TaskRow}
 use Rattle.tk_ids.specs.declared.info.Dropped.{Dropped}
-use Rattle.tk_ids.specs.declared.info.OpInfo.{OpInfo}
-use Rattle.tk_ids.specs.declared.info.ResourceInfo.{ResourceInfo}
-use Rattle.tk_ids.specs.declared.info.TaskInfo.{TaskInfo}
 use Rattle.tk_events.specs.declared.event.Event.{Event}
 use Rattle.tk_events.specs.declared.event.Event.TheVariants as events
 use Rattle.tk_events.specs.declared.event.Shown.{Shown}
@@ -29,7 +26,7 @@ use Rattle.tk_stream.specs.Fronts.{with_rows, task_at, resource_at, op_at}
 use Rattle.tk_stream.specs.Lines.{LineView, line_between, snapshot_of}
 use Rattle.tk_aggregator.specs.Readings.{task_ledger, resource_ledger, op_ledger, Reads, IsRead, ReadAll, AreLater}
 use Rattle.tk_stream.specs.Spelling.{sent_text}
-use Rattle.tk_stream.specs.Streams.{AreInRange}
+use Rattle.tk_stream.specs.Streams.{AreInRange, Sending}
 use Rattle.tk_stream.specs.Tables.{TablesView, empty_tables, AreFit, task_with, with_task, resource_with, with_resource, op_with, with_op}
 use Rattle.tk_stream.specs.Sent.{IsCut}
 
@@ -179,7 +176,8 @@ pub record Comes (old : Aggregating) (before : Taking) (event : Event) (new : Ag
   pub in_order : held_events old.held ++ came ≡ event ∷ []
   pub now : new ≡ free old
 
--- `count` events were taken in, at most `limit`, and fewer only where the buffer was empty
+-- `count` events were taken in, at most `limit`, and fewer only where the buffer was empty. None is held then; with limit 0
+-- nothing changes
 pub record GathersUpTo (old : Aggregating) (before : Taking) (limit count : ℕ) (new : Aggregating) (after : Taking) : Type 0 where
   pub taken : List Event
   pub gathers : Gathers old before taken new after
@@ -187,8 +185,10 @@ pub record GathersUpTo (old : Aggregating) (before : Taking) (limit count : ℕ)
   pub within : count ≤ limit
   pub all : count < limit → WasEmpty after
   pub none_held : 0 < limit → new.held ≡ None
+  pub nothing : limit ≡ 0 → (new ≡ old) × (after ≡ before)
 
--- `count` events were taken in, at most `limit`, and fewer only where the buffer was empty; the totals are the taker's
+-- `count` events were taken in, at most `limit`, and fewer only where the buffer was empty. None is held then; with limit 0
+-- none is taken. The totals are the taker's
 pub record Collects (old : Aggregating) (before : Taking) (limit count : ℕ) (new : Aggregating) (after : Taking) : Type 0 where
   pub taken : List Event
   pub gathered : Aggregating
@@ -198,15 +198,25 @@ pub record Collects (old : Aggregating) (before : Taking) (limit count : ℕ) (n
   pub within : count ≤ limit
   pub all : count < limit → WasEmpty taker
   pub none_held : 0 < limit → new.held ≡ None
+  pub nothing : limit ≡ 0 → (gathered ≡ old) × (taker ≡ before)
   pub totals : TellsTotals taker after
   pub now : new ≡ record gathered { tables = record gathered.tables { dropped = dropped_in after.last } }
 
--- memory ran out: some events were taken in, and the next one is held. Totals stay
-pub record RunsOut (old : Aggregating) (before : Taking) (new : Aggregating) (after : Taking) : Type 0 where
+-- memory ran out: some events were taken in, and the next one, which the limit allows too, is held. Totals stay
+pub record RunsOut (old : Aggregating) (before : Taking) (limit : ℕ) (new : Aggregating) (after : Taking) : Type 0 where
   pub taken : List Event
   pub gathers : Gathers old before taken new after
+  pub within : length taken < limit
   pub held : Event
   pub is_held : new.held ≡ Some held
+
+-- the taker may have taken more. Otherwise it is the same: of its console, and finished as it was
+pub record TookMore (before after : Taking) : Type 0 where
+  pub console : after.console ≡ before.console
+  pub capacity : after.capacity ≡ before.capacity
+  pub recorders : after.recorders ≡ before.recorders
+  pub known : after.known ≡ before.known
+  pub finished : after.finished ≡ before.finished
 
 -- an aggregator follows a taker: its infos and poll counts are what the events make that were taken, in order, but for the
 -- held one, which is the last
@@ -264,6 +274,10 @@ line_at snapshot a now = if snapshot then snapshot_of (tables_at a now) (a.last 
 -- what stands behind that line
 abbrev pub after_line : Aggregating → ℕ → Aggregating
 after_line a now = record a { tables = tables_at a now; told = tables_at a now; last = a.last + 1; broken = false }
+
+-- that line as one of a stream
+abbrev pub sending_at : Bool → Aggregating → ℕ → Sending
+sending_at snapshot a now = record { tables = tables_at a now; seq = a.last + 1; snapshot = snapshot }
 
 -- a line may go on: it isn't broken, or a snapshot
 abbrev pub MayGoOn : Bool → Aggregating → Type 0

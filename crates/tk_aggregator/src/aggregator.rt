@@ -2,14 +2,21 @@
 //!
 //! Beside the tables it keeps what the last whole line told of them: a row of each item, and the counts. Items only ever go
 //! last, so a line is made by place, without a copy of the tables (`told_tables.rt`).
+//!
+//! | stream | `publish` | `snapshot` |
+//! |---|---|---|
+//! | whole | writes what differs from the last whole line | writes all |
+//! | broken: the last line was cut off | `Broken` | writes all, and mends the stream |
+//!
+//! `specs/Aggregates.antt` says what each call makes of it.
 ghost use Rattle.std.specs.Prelude.{◌≡◌, ◌≤◌, ◌<◌, ◌+◌, ◌^◌, ◌++◌, ℕ, List, Some, None, false, true, OnOk, OnErr, IfOk, IfErr, IfSome, IfNone};
 ghost use Rattle.std.specs.Io.KnownBytes.{Appends};
 ghost use Rattle.tk_events.specs.declared.event.Event.TheVariants as events;
 ghost use Rattle.tk_events.specs.Items.{Agrees};
 ghost use Rattle.tk_aggregator.specs.Absorbing.{infos_of, counted};
-ghost use Rattle.tk_aggregator.specs.Aggregates.{Aggregating, new_aggregating, IsSound, IsLaterOf, IsSameStream, Refreshes, ReadsTasks, ReadsResources, ReadsOps, TakesIn, Collects, RunsOut, FollowsTaker, GathersUpTo, Comes, TellsTotals, WasEmpty, dropped_in, line_at, after_line, MayGoOn, IsDue, Refuses};
+ghost use Rattle.tk_aggregator.specs.Aggregates.{Aggregating, new_aggregating, IsSound, IsLaterOf, IsSameStream, Refreshes, ReadsTasks, ReadsResources, ReadsOps, TakesIn, Collects, RunsOut, TookMore, FollowsTaker, GathersUpTo, Comes, TellsTotals, WasEmpty, dropped_in, line_at, sending_at, after_line, MayGoOn, IsDue, Refuses};
 ghost use Rattle.tk_stream.specs.Spelling.{sent_text};
-ghost use Rattle.tk_stream.specs.Streams.{IsStreamTo};
+ghost use Rattle.tk_stream.specs.Streams.{IsStreamTo, MaySend};
 ghost use Rattle.tk_aggregator.specs.declared.stream_error.StreamError.TheVariants.{Memory};
 
 use crate::ledgered::{
@@ -26,6 +33,9 @@ use tk_ledgers::{OpInspector, ResourceInspector, TaskInspector};
 use tk_stream::{Line, LineError, Tables, ToldTables, send};
 
 /// Takes events, reads the ledgers of their items, and writes the lines of a stream.
+///
+/// Contracts see its tables, those of the last whole line, the handles that read its items, an event that found no memory, the
+/// number of the last line, and whether that line was cut off.
 #[derive(Drop)]
 pub struct Aggregator {
     tables: Tables,
@@ -65,6 +75,8 @@ impl Model for Aggregator {
 
 impl Aggregator {
     /// One that has told nothing, whose next line has the number `after + 1`. It makes room for 16 tasks.
+    ///
+    /// Its one error is `Memory`: there is none for that.
     pub fn new(alloc: Global, after: u64) -> Result<Aggregator, StreamError>
         requires { after ≤ 2 ^ 63 }
         ensures ok { IfOk result (λ a. a ≡ new_aggregating after) }
@@ -84,7 +96,8 @@ impl Aggregator {
         })
     }
 
-    /// The tables.
+    /// The tables: the items in order of arrival, each with the row that was read of it last, the counts of poll operations,
+    /// how many events were dropped, and the moment of the last whole line.
     pub fn tables(&self) -> &Tables
         ensures is { result.now ≡ self.now.tables }
         ensures sound { IsSound self.now }
@@ -93,7 +106,8 @@ impl Aggregator {
         &self.tables
     }
 
-    /// Each handle reads once, and the row of its item is what it read. It takes no memory.
+    /// Reads the ledger of each item once, and the row of the item is what was read. It takes no memory, and nothing else
+    /// changes: the lines behind it tell of the new rows.
     pub fn refresh<R: Wait>(&mut self, rt: &R)
         ensures reads { Refreshes self.old self.new }
         ensures later { IsLaterOf self.old self.new }
@@ -107,11 +121,12 @@ impl Aggregator {
         self.refresh_ops(rt);
     }
 
-    /// Takes up to `limit` events, the held one first, and stops at the first empty answer of the taker. Each is taken in: a
+    /// Takes up to `limit` events, a held one first, and stops at the first empty answer of the taker. Each is taken in: a
     /// new item goes last, with the row that its handle then reads; one that is there changes nothing; a poll operation is
-    /// counted. The totals of dropped events are the taker's. It answers how many were taken.
+    /// counted. The totals of dropped events become the taker's. It answers how many were taken in.
     ///
-    /// `Memory`: the event that found no memory is held, and those before it stand in the tables. Totals stay.
+    /// - `Memory`: there is none for an event. It is held, and the next call takes it first; those before it stand in the
+    ///   tables. Totals stay.
     pub fn collect<R: Wait>(
         &mut self,
         rt: &R,
@@ -119,7 +134,8 @@ impl Aggregator {
         limit: u64,
     ) -> Result<u64, StreamError>
         ensures ok { IfOk result (λ count. Collects self.old taker.old limit count self.new taker.new) }
-        ensures err { IfErr result (λ e. (e ≡ Memory) × RunsOut self.old taker.old self.new taker.new) }
+        ensures err { IfErr result (λ e. (e ≡ Memory) × RunsOut self.old taker.old limit self.new taker.new) }
+        ensures took { TookMore taker.old taker.new }
         ensures follows { FollowsTaker self.old taker.old → FollowsTaker self.new taker.new }
         ensures later { IsLaterOf self.old self.new }
         ensures stays { IsSameStream self.old self.new }
@@ -129,6 +145,7 @@ impl Aggregator {
         Ok(count)
     }
 
+    // The totals of dropped events become the taker's.
     fn take_totals(&mut self, taker: &mut Taker)
         ensures totals { TellsTotals taker.old taker.new }
         ensures now { self.new ≡ record self.old { tables = record self.old.tables { dropped = dropped_in taker.new.last } } }
@@ -140,7 +157,7 @@ impl Aggregator {
     // Takes events in, and leaves the totals.
     fn gather<R: Wait>(&mut self, rt: &R, taker: &mut Taker, limit: u64) -> Result<u64, StreamError>
         ensures ok { IfOk result (λ count. GathersUpTo self.old taker.old limit count self.new taker.new) }
-        ensures err { IfErr result (λ e. (e ≡ Memory) × RunsOut self.old taker.old self.new taker.new) }
+        ensures err { IfErr result (λ e. (e ≡ Memory) × RunsOut self.old taker.old limit self.new taker.new) }
     {
         for count in 0..limit {
             let Some(event) = self.next_event(rt, taker) else {
@@ -194,6 +211,7 @@ impl Aggregator {
         }
     }
 
+    // Puts a task last where its id isn't there. At want of memory info and handle come back.
     fn add_task<R: Wait>(
         &mut self,
         rt: &R,
@@ -205,24 +223,21 @@ impl Aggregator {
         ensures err { OnErr result (self.new ≡ self.old) }
         ensures returned { IfErr result (λ e. (e.0 ≡ info) × (e.1 ≡ handle)) }
     {
-        match self.tables.task(info.id) {
-            Some(_) => return Ok(()),
-            None => {}
+        if self.tables.task(info.id).is_some() {
+            return Ok(());
         }
-        match put_task(
+        put_task(
             rt,
             &mut self.tables,
             &mut self.told,
             &mut self.tasks,
             info,
             handle,
-        ) {
-            Ok(()) => {}
-            Err(back) => return Err(back),
-        }
+        )?;
         Ok(())
     }
 
+    // The same of a resource.
     fn add_resource<R: Wait>(
         &mut self,
         rt: &R,
@@ -234,24 +249,21 @@ impl Aggregator {
         ensures err { OnErr result (self.new ≡ self.old) }
         ensures returned { IfErr result (λ e. (e.0 ≡ info) × (e.1 ≡ handle)) }
     {
-        match self.tables.resource(info.id) {
-            Some(_) => return Ok(()),
-            None => {}
+        if self.tables.resource(info.id).is_some() {
+            return Ok(());
         }
-        match put_resource(
+        put_resource(
             rt,
             &mut self.tables,
             &mut self.told,
             &mut self.resources,
             info,
             handle,
-        ) {
-            Ok(()) => {}
-            Err(back) => return Err(back),
-        }
+        )?;
         Ok(())
     }
 
+    // The same of an async operation.
     fn add_op<R: Wait>(
         &mut self,
         rt: &R,
@@ -263,32 +275,26 @@ impl Aggregator {
         ensures err { OnErr result (self.new ≡ self.old) }
         ensures returned { IfErr result (λ e. (e.0 ≡ info) × (e.1 ≡ handle)) }
     {
-        match self.tables.op(info.id) {
-            Some(_) => return Ok(()),
-            None => {}
+        if self.tables.op(info.id).is_some() {
+            return Ok(());
         }
-        match put_op(
+        put_op(
             rt,
             &mut self.tables,
             &mut self.told,
             &mut self.ops,
             info,
             handle,
-        ) {
-            Ok(()) => {}
-            Err(back) => return Err(back),
-        }
+        )?;
         Ok(())
     }
 
+    // Counts a poll operation of a resource, also of one that is in no table.
     fn count_poll(&mut self, resource: ResourceId, ready: bool) -> Result<(), AllocError>
         ensures ok { OnOk result (self.new ≡ record self.old { tables = record self.old.tables { counts = counted resource ready self.old.tables.counts } }) }
         ensures err { OnErr result (self.new ≡ self.old) }
     {
-        match put_poll(&mut self.tables, &mut self.told, resource, ready) {
-            Ok(()) => {}
-            Err(refused) => return Err(refused),
-        }
+        put_poll(&mut self.tables, &mut self.told, resource, ready)?;
         Ok(())
     }
 
@@ -313,8 +319,7 @@ impl Aggregator {
     // The line of this moment.
     fn next_line(&self, now: u64, snapshot: bool) -> Result<Line, LineError>
         requires { self.now.last < 2 ^ 63 }
-        ensures ok { IfOk result (λ line. line ≡ line_at snapshot self.now now) }
-        ensures memory { IfErr result (λ e. e ≡ LineError.Memory) }
+        ensures { IfOk result (λ line. line ≡ line_at snapshot self.now now) }
     {
         let alloc = *self.tasks.allocator();
         if snapshot {
@@ -326,22 +331,14 @@ impl Aggregator {
     }
 
     // Its text, and a line end.
-    fn next_text(&self, now: u64, snapshot: bool) -> Result<Vec<u8>, StreamError>
+    fn next_text(&self, now: u64, snapshot: bool) -> Result<Vec<u8>, LineError>
         requires { self.now.last < 2 ^ 63 }
-        ensures ok { IfOk result (λ text. text.items ≡ sent_text (line_at snapshot self.now now)) }
-        ensures memory { IfErr result (λ e. e ≡ Memory) }
+        ensures { IfOk result (λ text. text.items ≡ sent_text (line_at snapshot self.now now)) }
     {
-        let Ok(line) = self.next_line(now, snapshot) else {
-            return Err(StreamError::Memory);
-        };
-        let Ok(text) = line.write() else {
-            return Err(StreamError::Memory);
-        };
-        let mut text = text;
-        match text.push(b'\n') {
-            Ok(()) => Ok(text),
-            Err(_) => Err(StreamError::Memory),
-        }
+        let line = self.next_line(now, snapshot)?;
+        let mut text = line.write()?;
+        text.push(b'\n')?;
+        Ok(text)
     }
 
     // A whole line of this moment went out.
@@ -376,7 +373,9 @@ impl Aggregator {
         if self.last == 1 << 63 {
             return Err(StreamError::NumbersSpent);
         }
-        let text = self.next_text(now, snapshot)?;
+        let Ok(text) = self.next_text(now, snapshot) else {
+            return Err(StreamError::Memory);
+        };
         match send(writer, text.as_slice()) {
             Ok(()) => {
                 self.tell(now);
@@ -389,19 +388,23 @@ impl Aggregator {
         }
     }
 
-    /// Writes the next line, which tells what differs from the last whole one, and a line end, and answers its number.
+    /// Writes the next line, which tells what differs from the last whole one, and a line end, and answers its number. `now`
+    /// is the line's moment, in nanoseconds.
     ///
+    /// The first of these that applies; behind the first four nothing has changed and nothing was written.
     /// - `Broken`: the last line was cut off, and only a snapshot goes on.
-    /// - `Clock`: the moment is below the last line's.
-    /// - `NumbersSpent`: 2^63 lines were written.
-    /// - `Memory`: there is no memory for the line. Nothing was written.
-    /// - `WriteFault`: the writer gave an error or took nothing, and a proper front of line and line end went out.
+    /// - `Clock`: the moment is below the last whole line's.
+    /// - `NumbersSpent`: the last line had number 2^63.
+    /// - `Memory`: there is none for the line.
+    /// - `WriteFault`: the writer gave an error or took nothing. A proper front of line and line end went out; tables, number
+    ///   and moment stay, and the stream is broken.
     pub fn publish<W: Write>(&mut self, now: u64, writer: &mut W) -> Result<u64, StreamError>
         ensures number { IfOk result (λ n. n ≡ self.old.last + 1) }
         ensures state { OnOk result (self.new ≡ after_line self.old now) }
         ensures due { OnOk result (IsDue false self.old now) }
         ensures sent { OnOk result (Appends (W.contents writer.old) (W.contents writer.new) (sent_text (line_at false self.old now))) }
         ensures refused { IfErr result (λ e. Refuses e false self.old now self.new (W.contents writer.old) (W.contents writer.new)) }
+        ensures may_send { IsDue false self.old now → MaySend self.old.told (sending_at false self.old now) }
         ensures stream { OnOk result ((bytes : List ℕ) → IsStreamTo bytes self.old.told self.old.last
             → IsStreamTo (bytes ++ sent_text (line_at false self.old now)) self.new.told self.new.last) }
     {
@@ -409,28 +412,27 @@ impl Aggregator {
         if self.broken {
             return Err(StreamError::Broken);
         }
-        match self.send_line(now, writer, false) {
-            Ok(n) => Ok(n),
-            Err(e) => Err(e),
-        }
+        let number = self.send_line(now, writer, false)?;
+        Ok(number)
     }
 
-    /// Writes a line that tells of the tables as a whole, and a line end, onto a new stream, and answers its number. The
-    /// refusals are those of `publish` without `Broken`, which it ends.
+    /// Writes the next line as one that tells of the tables as a whole, and a line end, and answers its number. Behind a line
+    /// that was cut off the writer has to be that of a new stream; the stream is broken no more.
+    ///
+    /// The refusals are those of `publish` but for `Broken`.
     pub fn snapshot<W: Write>(&mut self, now: u64, writer: &mut W) -> Result<u64, StreamError>
         ensures number { IfOk result (λ n. n ≡ self.old.last + 1) }
         ensures state { OnOk result (self.new ≡ after_line self.old now) }
         ensures due { OnOk result (IsDue true self.old now) }
         ensures sent { OnOk result (Appends (W.contents writer.old) (W.contents writer.new) (sent_text (line_at true self.old now))) }
         ensures refused { IfErr result (λ e. Refuses e true self.old now self.new (W.contents writer.old) (W.contents writer.new)) }
+        ensures may_send { IsDue true self.old now → MaySend self.old.told (sending_at true self.old now) }
         ensures stream { OnOk result ((bytes : List ℕ) → IsStreamTo bytes self.old.told self.old.last
             → IsStreamTo (bytes ++ sent_text (line_at true self.old now)) self.new.told self.new.last) }
         ensures opens { OnOk result (IsStreamTo (sent_text (line_at true self.old now)) self.new.told self.new.last) }
     {
         self.tables();
-        match self.send_line(now, writer, true) {
-            Ok(n) => Ok(n),
-            Err(e) => Err(e),
-        }
+        let number = self.send_line(now, writer, true)?;
+        Ok(number)
     }
 }

@@ -103,7 +103,7 @@ pub(crate) fn read_resources<R: Wait>(
     refresh_all(rt, &mut tables.resources, handles);
 }
 
-/// Each handle of an op reads once.
+/// Each handle of an async operation reads once.
 pub(crate) fn read_ops<R: Wait>(rt: &R, tables: &mut Tables, handles: &mut Vec<OpInspector>)
     requires { length handles.old.items ≡ length tables.old.ops }
     ensures { (rows : List OpRow) × ReadAll op_ledger handles.old.items rows handles.new.items
@@ -218,7 +218,7 @@ pub(crate) fn put_resource<R: Wait>(
     }
 }
 
-/// Puts an op last, with the row that its handle then reads, or gives info and handle back.
+/// Puts an async operation last, with the row that its handle then reads, or gives info and handle back.
 pub(crate) fn put_op<R: Wait>(
     rt: &R,
     tables: &mut Tables,
@@ -263,7 +263,7 @@ fn one_more(ready: bool, counts: (u64, u64)) -> (u64, u64)
     }
 }
 
-/// Counts a poll operation of a resource.
+/// Counts a poll operation of a resource. Room for the row that is told of it is made first.
 pub(crate) fn put_poll(
     tables: &mut Tables,
     told: &mut ToldTables,

@@ -7,21 +7,24 @@ use std::alloc::AllocError;
 use thiserror::Error;
 
 /// Why an aggregator took no event in, or wrote no line.
+///
+/// Nothing was written and nothing has changed, but for `WriteFault`, and for a `Memory` of `collect`, which keeps what was
+/// taken in before.
 #[derive(Clone, Copy, Debug, PartialEq, Eq, Error)]
 pub enum StreamError {
-    /// There is no memory left.
+    /// There is no memory left for an event or a line.
     #[error("out of memory")]
     Memory,
-    /// The writer gave an error or took nothing, and a proper front of the line went out.
+    /// The writer gave an error or took nothing, and a proper front of the line went out. The stream is broken.
     #[error("the line was cut off")]
     WriteFault,
-    /// The last line was cut off, and only a snapshot goes on.
+    /// A line was cut off before, and only a snapshot goes on.
     #[error("the stream is broken")]
     Broken,
-    /// The moment is below the last line's.
+    /// The moment is below the last whole line's.
     #[error("the clock ran backwards")]
     Clock,
-    /// 2^63 lines were written.
+    /// The last line had the number 2^63, the greatest.
     #[error("the line numbers are spent")]
     NumbersSpent,
 }

@@ -26,7 +26,8 @@ use Rattle.tk_client.specs.declared.fault.Fault.TheVariants.{Memory, BadJson, Ba
 use Rattle.tk_client.specs.declared.fault.FeedError.{FeedError}
 use Rattle.tk_client.specs.Feeding.{ClientView, Took, Stopped, StoppedBy}
 use Rattle.tk_client.specs.Meaning.{Start, Outcome, goes, stops, expected, is_next, behind_line, line_read, line_taken, cut, after as lines_before, too_long, ended, run, empty_start, meaning}
-use Rattle.tk_client.specs.Streams.{Sending, line_sent, lines_sent, bytes_sent, tables_sent, AreInRange, MaySend, GoesOn, IsUninterrupted, AreShort, HasNoFault}
+use Rattle.tk_client.specs.Streams.{AreShort, HasNoFault}
+use Rattle.tk_stream.specs.Streams.{Sending, line_sent, lines_sent, bytes_sent, tables_sent, AreInRange, MaySend, GoesOn, IsUninterrupted}
 use Rattle.tk_client.specs.Taking.{has_twice, has_id, repeats_kind, is_strange, strange_kind, repeats_id, has_strange_id, is_kind, fit_attrs, fits_resource, fits_op, are_fitting, line_applied}
 use Rattle.tk_client.specs.Told.{or_misfit}
 use Rattle.tk_client.proofs.Ends.{nothing}

@@ -5,7 +5,8 @@ ghost use Rattle.tk_client.specs.declared.fault.Fault.{Fault};
 ghost use Rattle.tk_client.specs.declared.fault.FeedError.{FeedError};
 ghost use Rattle.tk_client.specs.Feeding.{ClientView, Took, Stopped};
 ghost use Rattle.tk_client.specs.Meaning.{Start, empty_start, goes, stops, meaning, after};
-ghost use Rattle.tk_client.specs.Streams.{Sending, IsUninterrupted, AreShort, HasNoFault, lines_sent, bytes_sent, tables_sent};
+ghost use Rattle.tk_client.specs.Streams.{AreShort, HasNoFault};
+ghost use Rattle.tk_stream.specs.Streams.{Sending, IsUninterrupted, lines_sent, bytes_sent, tables_sent};
 
 use tk_stream::laws::{lines_lead_on, lines_read_back};
 

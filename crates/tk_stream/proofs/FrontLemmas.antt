@@ -1,6 +1,6 @@
 -- What is told beside the rows that were told is what the line between the two tables tells.
 use Rattle.std.proofs.Common.{◌≡◌, ℕ, zero, suc, ◌+◌, ◌≤◌, ◌<◌, List, [], ◌∷◌, ◌++◌, length, Bool, true, false, cond, nat_eq, take, drop, set, slice_get, Option, Some, None, refl, ap, ap₂, sym, ◌∙◌, subst, add-one, append_assoc}
-use Rattle.std.specs.Prelude.{map, filter, not, is_none, option_map}
+use Rattle.std.specs.Prelude.{map, filter, not, is_none}
 use Rattle.std.specs.Option.{option_map_or}
 use Rattle.std.specs.List.{AllByRecursion, IsDistinct}
 use Rattle.std.proofs.Math.Seq.{drop-nil}

@@ -1,5 +1,5 @@
 -- Tables are in range where each of their items is.
-use Rattle.std.proofs.Common.{◌≡◌, ℕ, List, [], ◌∷◌, refl, sym, subst}
+use Rattle.std.proofs.Common.{ℕ, List, [], ◌∷◌, refl, sym, subst}
 use Rattle.std.specs.Prelude.{map}
 use Rattle.std.specs.List.{AllByRecursion}
 use Rattle.tk_stream.specs.Lines.{task_info, resource_info, op_info, task_stats_of, resource_stats_of, op_stats_of, all_counts, have_same_row, have_same_resource_row, have_same_op_row}
@@ -10,7 +10,7 @@ use Rattle.tk_stream.specs.Tables.{TablesView, task_id, resource_id, op_id, coun
 use Rattle.tk_stream.specs.declared.op.Op.{Op}
 use Rattle.tk_stream.specs.declared.resource.Resource.{Resource}
 use Rattle.tk_stream.specs.declared.task.Task.{Task}
-use Rattle.tk_stream.proofs.LinesLemmas.{all_infos, all_stats, map-same}
+use Rattle.tk_stream.proofs.LinesLemmas.{all_infos, all_stats}
 
 all_map : {A B : Type 0} (f : A → B) (P : B → Type 0) (Q : A → Type 0) → ((x : A) → Q x → P (f x)) → (xs : List A) → AllByRecursion Q xs → AllByRecursion P (map f xs)
 all_map f P Q h [] all = tt

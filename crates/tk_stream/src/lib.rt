@@ -4,6 +4,7 @@
 //! - [`Task`], [`Resource`], [`Op`]: a task, a resource and an async operation in tables.
 //! - [`Line`]: what one line of a stream says; its text is one JSON object.
 //! - [`LineError`]: why a line was not made, read or written.
+//! - [`send`]: writes a text whole, or a proper front of it ([`Unsent`]).
 //! - [`laws`]: what holds of the definitions by themselves.
 //! - [`send`], [`Unsent`]: a text that is written whole, or a proper front of it.
 //! - [`ToldTables`], [`ToldRows`], [`Table`], [`Item`], [`Ranged`]: what an aggregator keeps beside its tables, so that it makes

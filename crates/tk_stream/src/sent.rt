@@ -3,11 +3,13 @@ ghost use Rattle.tk_stream.specs.Sent.{Sends};
 
 use std::io::Write;
 
-/// What a writer did not take.
+/// A writer gave an error or took nothing, and the rest of a text did not go out.
 #[derive(Clone, Copy, Debug)]
 pub struct Unsent;
 
-/// Writes all bytes, or a proper front of them where the writer gives an error or takes none.
+/// Writes all bytes.
+///
+/// Its one error, `Unsent`: the writer gave an error or took nothing, and a proper front of the bytes went out.
 pub fn send<W: Write>(writer: &mut W, bytes: &[u8]) -> Result<(), Unsent>
     ensures { Sends (W.contents writer.old) (W.contents writer.new) bytes.now result }
 {

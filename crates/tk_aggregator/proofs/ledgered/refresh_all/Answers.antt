@@ -1,4 +1,4 @@
-use Rattle.std.proofs.Common.{◌≡◌, length, ◌+◌, ◌<◌, set, sym, subst, arith}
+use Rattle.std.proofs.Common.{◌+◌, set, sym, subst, arith}
 use Rattle.tk_aggregator.proofs.ReadingLemmas.{Went, none_went, went_on, went_near, went_within, all_went}
 use Rattle.tk_aggregator.proofs.ledgered.refresh_all.Goals as goal
 

@@ -1,4 +1,3 @@
-use Rattle.std.proofs.Common.{ap, sym, ◌∙◌, append-nil}
 use Rattle.tk_stream.proofs.Behind.{printable_at, byte_put, bytes_put}
 use Rattle.tk_stream.proofs.pieces.put_escaped.Goals as goal
 

@@ -1,4 +1,3 @@
-use Rattle.std.proofs.Common.{◌≡◌, sym}
 use Rattle.tk_stream.proofs.Behind.{both}
 use Rattle.tk_stream.proofs.pieces.put_name.Goals as goal
 

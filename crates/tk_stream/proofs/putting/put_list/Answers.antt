@@ -1,4 +1,3 @@
-use Rattle.std.proofs.Common.{◌∙◌}
 use Rattle.tk_stream.proofs.Behind.{both}
 use Rattle.tk_stream.proofs.putting.put_list.Goals as goal
 

@@ -1,4 +1,3 @@
-use Rattle.std.proofs.Common.{◌≡◌}
 use Rattle.tk_stream.proofs.Behind.{taken, name_taken}
 use Rattle.tk_stream.proofs.takes.take_name.Goals as goal
 

@@ -1,4 +1,3 @@
-use Rattle.std.proofs.Common.{◌≡◌}
 use Rattle.tk_stream.proofs.Behind.{goes_further, goes_out}
 use Rattle.tk_stream.proofs.taking.take_items.Goals as goal
 

@@ -1,6 +1,7 @@
 use Rattle.std.proofs.Common.{ap, ◌∙◌}
 use Rattle.tk_aggregator.specs.Aggregates.{Collects}
 use Rattle.tk_aggregator.proofs.FollowLemmas.{collects_follows, collects_stays, runs_out_follows, gathers_stays}
+use Rattle.tk_aggregator.proofs.GatherLemmas.{gathers_took, collects_took}
 use Rattle.tk_aggregator.proofs.LaterLemmas.{gathers_later, collects_later}
 use Rattle.tk_aggregator.proofs.aggregator.Aggregator.collect.Given.{Over}
 use Rattle.tk_aggregator.proofs.aggregator.Aggregator.collect.Goals as goal
@@ -16,13 +17,14 @@ collected g c =
       counts = k.counts;
       within = k.within;
       all = k.all;
+      nothing = k.nothing;
       none_held = λ lt. ap (λ x. x.held) c.take_totals.ensures.now ∙ k.none_held lt;
       totals = c.take_totals.ensures.totals;
       now = c.take_totals.ensures.now;
     }
 
 pub returns-in_err-count-clause-follows : goal.returns-in_err-count-clause-follows
-returns-in_err-count-clause-follows g c = runs_out_follows c.args.self.now c.args.taker.now c.gather.new.self c.gather.new.taker c.in_err-count.ensures.err.1
+returns-in_err-count-clause-follows g c = runs_out_follows c.args.self.now c.args.taker.now c.args.limit c.gather.new.self c.gather.new.taker c.in_err-count.ensures.err.1
 
 pub returns-in_err-count-clause-stays : goal.returns-in_err-count-clause-stays
 returns-in_err-count-clause-stays g c =
@@ -42,3 +44,11 @@ returns-in_err-count-clause-later g c =
 
 pub returns-clause-later : goal.returns-clause-later
 returns-clause-later g c = collects_later c.args.self.now c.args.taker.now c.args.limit c.in_ok-count.count c.take_totals.new.self c.take_totals.new.taker (collected g c)
+
+pub returns-in_err-count-clause-took : goal.returns-in_err-count-clause-took
+returns-in_err-count-clause-took g c =
+    let r = c.in_err-count.ensures.err.1 in
+    gathers_took c.args.self.now c.args.taker.now r.taken c.gather.new.self c.gather.new.taker r.gathers
+
+pub returns-clause-took : goal.returns-clause-took
+returns-clause-took g c = collects_took c.args.self.now c.args.taker.now c.args.limit c.in_ok-count.count c.take_totals.new.self c.take_totals.new.taker (collected g c)

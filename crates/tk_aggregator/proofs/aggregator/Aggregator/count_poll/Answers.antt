@@ -9,11 +9,11 @@ pub invariant_of-self-2 : goal.invariant_of-self-2
 invariant_of-self-2 c =
     let a = c.self.inside in
     poll_stands a.tables a.told a.tasks.items a.resources.items a.ops.items a.held a.last c.args.resource c.args.ready c.put_poll.new.told.counts.room c.put_poll.new.tables c.put_poll.new.told
-    c.self.invariant c.in-Ok.ensures.ok c.put_poll.ensures.told c.in-Ok.ensures.room
+    c.self.invariant c.in_ok-put_poll.ensures.ok c.put_poll.ensures.told c.in_ok-put_poll.ensures.room
 
 pub returns-clause-ok : goal.returns-clause-ok
 returns-clause-ok c =
     let a = c.self.inside in
     subst (λ (old : Aggregating). whole c.put_poll.new.tables c.put_poll.new.told a.tasks.items a.resources.items a.ops.items a.held a.last a.broken ≡ record old { tables = record old.tables { counts = counted c.args.resource c.args.ready old.tables.counts } }) c.self.view_is
     (poll_counts a.tables a.told a.tasks.items a.resources.items a.ops.items a.held a.last a.broken c.args.resource c.args.ready c.put_poll.new.told.counts.room c.put_poll.new.tables c.put_poll.new.told
-    c.self.invariant c.in-Ok.ensures.ok c.put_poll.ensures.told)
+    c.self.invariant c.in_ok-put_poll.ensures.ok c.put_poll.ensures.told)

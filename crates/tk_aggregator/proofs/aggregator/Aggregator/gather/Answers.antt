@@ -1,4 +1,4 @@
-use Rattle.std.proofs.Common.{◌≡◌, ◌+◌, [], ◌∷◌, ◌++◌, Some, refl, ap, sym, ◌∙◌, subst, arith}
+use Rattle.std.proofs.Common.{◌≡◌, ◌+◌, ◌<◌, [], ◌∷◌, ◌++◌, Some, refl, ap, sym, ◌∙◌, subst, arith}
 use Rattle.std.proofs.lemmas.List.{length-append}
 use Rattle.tk_events.specs.declared.event.Event.{Event}
 use Rattle.tk_aggregator.specs.Aggregates.{Aggregating, Gathers}
@@ -7,7 +7,7 @@ use Rattle.tk_aggregator.proofs.StandingLemmas.{whole}
 use Rattle.tk_aggregator.proofs.aggregator.Aggregator.gather.Goals as goal
 
 pub loop-count-init : goal.loop-count-init
-loop-count-init g c = ([], none_came c.args.self.now c.args.taker.now, refl, λ lt. absurd (omega (arith, lt)))
+loop-count-init g c = ([], none_came c.args.self.now c.args.taker.now, refl, λ lt. absurd (omega (arith, lt)), λ zero. (refl, refl))
 
 pub returns-in-Err-clause-err : goal.returns-in-Err-clause-err
 returns-in-Err-clause-err g c =
@@ -20,6 +20,7 @@ returns-in-Err-clause-err g c =
       refl,
       record {
         taken = inv.0;
+        within = subst (λ n. n < c.args.limit) (sym inv.2) c.loop-count-test.true;
         gathers =
             subst (λ (x : Aggregating). Gathers c.args.self.now c.args.taker.now inv.0 (record x { held = Some c.in-Err.event }) c.next_event.new.taker) (sym same)
             (subst (λ (e : Event). Gathers c.args.self.now c.args.taker.now inv.0 (record c.next_event.new.self { held = Some e }) c.next_event.new.taker) (sym c.in-Err.ensures.returned) held);
@@ -36,4 +37,5 @@ loop-count-preserved g c =
       gathers_more c.args.self.now c.args.taker.now inv.0 c.loop-count.self c.loop-count.taker event c.next_event.new.self c.next_event.new.taker inv.1 c.in-Some.ensures.some c.take_in.new.self c.in_default-take_in.ensures.ok,
       length-append inv.0 (event ∷ []) ∙ ap (λ n. n + 1) inv.2,
       λ lt. none_held c.args.self.now c.args.taker.now inv.0 c.loop-count.self c.loop-count.taker event c.next_event.new.self c.next_event.new.taker inv.1 c.in-Some.ensures.some c.take_in.new.self c.in_default-take_in.ensures.ok,
+      λ zero. absurd (omega (arith, zero)),
     )

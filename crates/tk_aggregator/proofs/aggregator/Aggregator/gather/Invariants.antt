@@ -5,3 +5,4 @@ use Rattle.tk_aggregator.proofs.aggregator.Aggregator.gather.Given as goal
 
 abbrev pub invariant-loop-count : goal.invariant-loop-count
 invariant-loop-count g l = (taken : List Event) × Gathers l.fn.self l.fn.taker taken l.self l.taker × (length taken ≡ l.count) × (0 < l.count → l.self.held ≡ None)
+    × (l.count ≡ 0 → (l.self ≡ l.fn.self) × (l.taker ≡ l.fn.taker))

@@ -1,4 +1,4 @@
-use Rattle.std.proofs.Common.{◌≡◌, ◌≤◌, map, take, length}
+use Rattle.std.proofs.Common.{◌≡◌, map, take, length}
 use Rattle.tk_stream.proofs.told_rows.ToldRows.tell.Given as goal
 
 abbrev pub invariant-loop-i : goal.invariant-loop-i

@@ -1,4 +1,4 @@
-use Rattle.std.proofs.Common.{◌≡◌, refl, ap, ◌∙◌}
+use Rattle.std.proofs.Common.{refl, ap, ◌∙◌}
 use Rattle.std.specs.Prelude.{map}
 use Rattle.tk_stream.specs.Fronts.{with_rows, task_at, resource_at, op_at, counts_at}
 use Rattle.tk_stream.proofs.FrontLemmas.{own_rows}
