@@ -179,5 +179,8 @@ fn random_lines_are_taken_as_computed_plainly(rt: HostRuntime) {
         None => assert!(rt; false, "no memory"),
     }
     codes.sort_unstable();
-    assert!(rt; codes.as_slice() == [0, 2, 3, 4, 5, 6, 8].as_slice(), "{codes:?}");
+    assert!(rt;
+        codes.as_slice() == [0, 2, 3, 4, 5, 6, 8].as_slice(),
+        "{codes:?}"
+    );
 }
