@@ -6,7 +6,7 @@ use crate::rounds::{ROUNDS, nanos_since};
 use serde_json::Value;
 use std::alloc::Global;
 use std::time::{Clock, Instant};
-use tk_client::Client;
+use tk_client::{Client, Lints};
 use tk_core::{TaskCall, TaskRow};
 use tk_ids::{Location, Name, TaskId, TaskInfo, TaskKind};
 use tk_stream::{Line, Tables};
@@ -90,48 +90,66 @@ fn info_of(alloc: Global, id: TaskId) -> Result<TaskInfo, BenchError> {
     })
 }
 
+/// Which waker a task has left that could wake it.
+#[derive(Clone, Copy, Drop, PartialEq, Eq)]
+pub(crate) enum Waker {
+    /// One, so that nothing is odd about the task.
+    Kept,
+    /// None, so that the task is warned of.
+    Lost,
+}
+
 // A task that was woken and polled once, by moments of a server that runs for a day.
-fn row_of(created: u64) -> TaskRow {
+fn row_of(created: u64, waker: Waker) -> TaskRow {
     let row = TaskRow::opening(created);
     let row = row.step(TaskCall::WakeRef(86_400_000_000_000, false)).0;
     let row = row.step(TaskCall::PollStart(86_400_000_010_000)).0;
-    row.step(TaskCall::PollEnd(86_400_000_350_000)).0
+    let row = row.step(TaskCall::PollEnd(86_400_000_350_000)).0;
+    match waker {
+        Waker::Kept => row.step(TaskCall::CloneWaker).0,
+        Waker::Lost => row,
+    }
 }
 
-fn put_task(alloc: Global, tables: &mut Tables, above: u64) -> Result<(), BenchError> {
+fn put_task(
+    alloc: Global,
+    tables: &mut Tables,
+    above: u64,
+    waker: Waker,
+) -> Result<(), BenchError> {
     let info = info_of(alloc, id_above(above)?)?;
     if tables.task(info.id).is_some() {
         return Err(BenchError::Refused);
     }
-    match tables.add_task(info, row_of(above)) {
+    match tables.add_task(info, row_of(above, waker)) {
         Ok(()) => Ok(()),
         Err(_) => Err(BenchError::Memory),
     }
 }
 
 /// Tables with so many tasks.
-pub(crate) fn tables_of(alloc: Global, tasks: u64) -> Result<Tables, BenchError> {
+pub(crate) fn tables_of(alloc: Global, tasks: u64, waker: Waker) -> Result<Tables, BenchError> {
     let mut tables = Tables::new(alloc)?;
     for above in 0..tasks {
-        put_task(alloc, &mut tables, above)?;
+        put_task(alloc, &mut tables, above, waker)?;
     }
     Ok(tables)
 }
 
 // Changes one row of so many.
-fn change(tables: &mut Tables, every: usize) {
+fn change(tables: &mut Tables, every: usize, waker: Waker) {
     for i in 0..tables.task_count() {
         if every != 0 && i % every == 0 && i < tables.task_count() {
-            tables.set_task(i, row_of(u64::MAX / 2));
+            tables.set_task(i, row_of(u64::MAX / 2, waker));
         }
     }
 }
 
-/// The tables with one row of so many changed.
-pub(crate) fn changed(old: &Tables, every: usize) -> Result<Tables, BenchError> {
+/// The tables with one row of so many changed to one with that waker.
+pub(crate) fn changed(old: &Tables, every: usize, waker: Waker) -> Result<Tables, BenchError> {
     match old.copy() {
         Ok(mut tables) => {
-            change(&mut tables, every);
+            change(&mut tables, every, waker);
             Ok(tables)
         }
         Err(_) => Err(BenchError::Memory),
@@ -250,6 +268,17 @@ impl Stream {
             return Err(BenchError::Refused);
         }
         nanos_since(rt, &start)
+    }
+
+    /// How many warnings the client has, and the nanoseconds in which it lists them.
+    pub(crate) fn warn<R: Clock>(&self, rt: &R) -> Result<(usize, u64), BenchError> {
+        let lints = Lints::default();
+        let start = Instant::now(rt)?;
+        let Ok(warnings) = self.client.warnings(&lints) else {
+            return Err(BenchError::Memory);
+        };
+        let nanos = nanos_since(rt, &start)?;
+        Ok((warnings.len(), nanos))
     }
 
     // Makes the line between the tables, writes it and feeds it.

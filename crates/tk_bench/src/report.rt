@@ -2,7 +2,7 @@
 
 use crate::error::BenchError;
 use crate::ledgers::{Call, on_a_row, on_one_task, on_own_tasks};
-use crate::lines::{LineTimes, Part, Stream, changed, tables_of};
+use crate::lines::{LineTimes, Part, Stream, Waker, changed, tables_of};
 use crate::rounds::{ROUNDS, Rounds};
 use crate::scripts::{script_of, time_of};
 use std::alloc::Global;
@@ -146,10 +146,10 @@ fn write_rate<W: Write>(
     let (least, least_tenth) = rate(bytes, rounds.most());
     let (median, median_tenth) = rate(bytes, rounds.median());
     let (most, most_tenth) = rate(bytes, rounds.least());
-    let (millis, millis_tenth) = tenths(rounds.median(), 1_000_000);
+    let (micros, micros_tenth) = tenths(rounds.median(), 1_000);
     writeln!(
         out,
-        "| {what} | {tasks} | {every} | {bytes} | {millis}.{millis_tenth} | {least}.{least_tenth} | {median}.{median_tenth} | {most}.{most_tenth} |"
+        "| {what} | {tasks} | {every} | {bytes} | {micros}.{micros_tenth} | {least}.{least_tenth} | {median}.{median_tenth} | {most}.{most_tenth} |"
     )?;
     Ok(())
 }
@@ -179,10 +179,10 @@ fn lines_between<R: Clock, W: Write>(
     alloc: Global,
     out: &mut W,
     stream: &mut Stream,
-    old: &Tables,
-    new: &Tables,
+    tables: (&Tables, &Tables),
     every: usize,
 ) -> Result<(), BenchError> {
+    let (old, new) = tables;
     let times = stream.rounds(rt, alloc, old, new)?;
     let bytes = times[0].bytes;
     for part in PARTS {
@@ -200,8 +200,43 @@ fn lines_to_changed<R: Clock, W: Write>(
     old: &Tables,
     every: usize,
 ) -> Result<(), BenchError> {
-    match changed(old, every) {
-        Ok(new) => lines_between(rt, alloc, out, stream, old, &new, every),
+    match changed(old, every, Waker::Lost) {
+        Ok(new) => lines_between(rt, alloc, out, stream, (old, &new), every),
+        Err(error) => Err(error),
+    }
+}
+
+// Lines that tell of one task, which can be warned of behind each second line.
+fn lines_between_standings<R: Clock, W: Write>(
+    rt: &R,
+    alloc: Global,
+    out: &mut W,
+    stream: &mut Stream,
+    old: &Tables,
+    new: &Tables,
+) -> Result<(), BenchError> {
+    let times = stream.rounds(rt, alloc, old, new)?;
+    let rounds = part_rounds(&times, Part::Feed);
+    let tasks = old.task_count();
+    write_rate(
+        out,
+        "fed, the list of warnings changes",
+        tasks,
+        tasks,
+        times[0].bytes,
+        &rounds,
+    )
+}
+
+fn lines_to_kept<R: Clock, W: Write>(
+    rt: &R,
+    alloc: Global,
+    out: &mut W,
+    stream: &mut Stream,
+    old: &Tables,
+) -> Result<(), BenchError> {
+    match changed(old, old.task_count(), Waker::Kept) {
+        Ok(new) => lines_between_standings(rt, alloc, out, stream, old, &new),
         Err(error) => Err(error),
     }
 }
@@ -223,7 +258,9 @@ fn lines_of<R: Clock, W: Write>(
         &once,
     )?;
     lines_to_changed(rt, alloc, out, &mut stream, tables, 1)?;
-    lines_to_changed(rt, alloc, out, &mut stream, tables, 100)
+    lines_to_changed(rt, alloc, out, &mut stream, tables, 100)?;
+    lines_to_changed(rt, alloc, out, &mut stream, tables, tables.task_count())?;
+    lines_to_kept(rt, alloc, out, &mut stream, tables)
 }
 
 fn lines<R: Clock, W: Write>(
@@ -232,7 +269,7 @@ fn lines<R: Clock, W: Write>(
     out: &mut W,
     tasks: u64,
 ) -> Result<(), BenchError> {
-    match tables_of(alloc, tasks) {
+    match tables_of(alloc, tasks, Waker::Lost) {
         Ok(tables) => lines_of(rt, alloc, out, &tables),
         Err(error) => Err(error),
     }
@@ -242,9 +279,56 @@ fn write_head<W: Write>(out: &mut W) -> Result<(), BenchError> {
     writeln!(out)?;
     writeln!(
         out,
-        "| a line is | tasks | one row changed of | bytes | milliseconds, median | MB/s, least | median | most |"
+        "| a line is | tasks | one row changed of | bytes | microseconds, median | MB/s, least | median | most |"
     )?;
     writeln!(out, "|---|---|---|---|---|---|---|---|")?;
+    Ok(())
+}
+
+fn warning_rounds<R: Clock>(rt: &R, stream: &Stream) -> Result<(usize, Rounds), BenchError> {
+    let mut nanos = [0u64; ROUNDS];
+    let mut count = 0;
+    for round in &mut nanos {
+        let (found, took) = stream.warn(rt)?;
+        count = found;
+        *round = took;
+    }
+    Ok((count, Rounds::new(nanos)))
+}
+
+// One row of the table of warnings.
+fn warnings_of<R: Clock, W: Write>(
+    rt: &R,
+    alloc: Global,
+    out: &mut W,
+    tables: &Tables,
+) -> Result<(), BenchError> {
+    let (stream, _, _) = Stream::of(rt, alloc, tables)?;
+    let (count, rounds) = warning_rounds(rt, &stream)?;
+    let tasks = tables.task_count();
+    let (least, least_tenth) = tenths(rounds.least(), 1_000);
+    let (median, median_tenth) = tenths(rounds.median(), 1_000);
+    let (most, most_tenth) = tenths(rounds.most(), 1_000);
+    writeln!(
+        out,
+        "| {count} warnings | {tasks} | {least}.{least_tenth} | {median}.{median_tenth} | {most}.{most_tenth} |"
+    )?;
+    Ok(())
+}
+
+fn warnings<R: Clock, W: Write>(
+    rt: &R,
+    alloc: Global,
+    out: &mut W,
+    tasks: u64,
+) -> Result<(), BenchError> {
+    writeln!(out)?;
+    writeln!(out, "| microseconds of | tasks | least | median | most |")?;
+    writeln!(out, "|---|---|---|---|---|")?;
+    for waker in [Waker::Kept, Waker::Lost] {
+        let tables = tables_of(alloc, tasks, waker)?;
+        warnings_of(rt, alloc, out, &tables)?;
+    }
     Ok(())
 }
 
@@ -283,7 +367,9 @@ pub(crate) fn all<R: Wait + Threads + Clock + Sync, W: Write>(
     calls(rt, alloc, out, 200_000)?;
     write_head(out)?;
     lines(rt, alloc, out, 1_000)?;
+    lines(rt, alloc, out, 10_000)?;
     lines(rt, alloc, out, 100_000)?;
+    warnings(rt, alloc, out, 100_000)?;
     scripts(rt, alloc, out, 49_999)
 }
 
@@ -313,7 +399,7 @@ fn small_change<R: Clock, W: Write>(
     stream: &mut Stream,
     tables: &Tables,
 ) -> Result<(), BenchError> {
-    let new = changed(tables, 5)?;
+    let new = changed(tables, 5, Waker::Kept)?;
     let times = stream.rounds(rt, alloc, tables, &new)?;
     writeln!(out, "a line of 2 changed tasks: {} bytes", times[0].bytes)?;
     Ok(())
@@ -327,11 +413,13 @@ fn small_lines<R: Clock, W: Write>(
 ) -> Result<(), BenchError> {
     let (mut stream, bytes, _) = Stream::of(rt, alloc, tables)?;
     writeln!(out, "a line of 10 new tasks: {bytes} bytes")?;
+    let (count, _) = stream.warn(rt)?;
+    writeln!(out, "the warnings of 10 tasks: {count}")?;
     small_change(rt, alloc, out, &mut stream, tables)
 }
 
 fn small_line<R: Clock, W: Write>(rt: &R, alloc: Global, out: &mut W) -> Result<(), BenchError> {
-    match tables_of(alloc, 10) {
+    match tables_of(alloc, 10, Waker::Lost) {
         Ok(tables) => small_lines(rt, alloc, out, &tables),
         Err(error) => Err(error),
     }
