@@ -12,7 +12,7 @@ use std::thread;
 use std::thread::{Threads, join};
 use tk_core::Sequential;
 
-// How often the call that is held up looks for the other one's answer.
+// How often a thread looks for the flag that it waits for.
 const TURNS: u32 = 1_000_000;
 
 /// What the two threads show one another.
@@ -90,16 +90,21 @@ impl<'a> Sequential for Door<'a> {
     ghost numbers_are_new = { λ opening calls call n is e. first_is_new calls n e };
 }
 
-// Says that the step has begun, and waits for the other thread's answer.
-fn hold_up(flags: &Flags) {
-    flags.started.store(true, Ordering::SeqCst);
+// Waits until the flag is up, and notes where it didn't come up in so many turns.
+fn wait_for(flag: &AtomicBool, late: &AtomicBool) {
     for _ in 0..TURNS {
-        if flags.answered.load(Ordering::SeqCst) {
+        if flag.load(Ordering::SeqCst) {
             return;
         }
         thread::yield_now();
     }
-    flags.late.store(true, Ordering::SeqCst);
+    late.store(true, Ordering::SeqCst);
+}
+
+// Says that the step has begun, and waits for the other thread's answer.
+fn hold_up(flags: &Flags) {
+    flags.started.store(true, Ordering::SeqCst);
+    wait_for(&flags.answered, &flags.late);
 }
 
 /// What one thread has: a token, and a call that it may make.
@@ -136,12 +141,7 @@ fn make_call<O: Sequential, R: Wait>(rt: &R, guest: Guest<O>) -> O::Reply {
 // Begins once the other thread's step has begun, and says that its call was answered.
 fn call_after<'a, R: Wait>(rt: &R, guest: Guest<Door<'a>>) -> u64 {
     let flags = guest.call.flags;
-    for _ in rt.forever() {
-        if flags.started.load(Ordering::SeqCst) {
-            break;
-        }
-        thread::yield_now();
-    }
+    wait_for(&flags.started, &flags.late);
     let before = make_call(rt, guest);
     flags.answered.store(true, Ordering::SeqCst);
     before
