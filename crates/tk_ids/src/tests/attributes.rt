@@ -27,14 +27,28 @@ const KINDS: [(AttrValue, AttrKind); 2] = [
     (AttrValue::Bool(true), AttrKind::Bool),
 ];
 
+fn spec(alloc: Global, name: Name) -> Result<AttrSpec, Fail> {
+    let unit = Name::new(alloc, b"bytes")?;
+    Ok(AttrSpec {
+        name,
+        unit: Some(unit),
+        first: AttrValue::U64(7),
+    })
+}
+
+fn info(name: Name) -> AttrInfo {
+    AttrInfo {
+        name,
+        unit: None,
+        kind: AttrKind::Bool,
+    }
+}
+
 fn specs_of(alloc: Global, names: &[&str]) -> Result<Vec<AttrSpec>, Fail> {
     let mut list = Vec::new(alloc);
     for name in names {
-        list.push(AttrSpec {
-            name: Name::new(alloc, name.as_bytes())?,
-            unit: Some(Name::new(alloc, b"bytes")?),
-            first: AttrValue::U64(7),
-        })?;
+        let name = Name::new(alloc, name.as_bytes())?;
+        list.push(spec(alloc, name)?)?;
     }
     Ok(list)
 }
@@ -42,75 +56,131 @@ fn specs_of(alloc: Global, names: &[&str]) -> Result<Vec<AttrSpec>, Fail> {
 fn infos_of(alloc: Global, names: &[&str]) -> Result<Vec<AttrInfo>, Fail> {
     let mut list = Vec::new(alloc);
     for name in names {
-        list.push(AttrInfo {
-            name: Name::new(alloc, name.as_bytes())?,
-            unit: None,
-            kind: AttrKind::Bool,
-        })?;
+        let name = Name::new(alloc, name.as_bytes())?;
+        list.push(info(name))?;
     }
     Ok(list)
 }
 
+// Whether a list of specs is kept, and given out again.
+fn are_specs_kept(list: Vec<AttrSpec>, wanted: &[AttrSpec]) -> Result<bool, Fail> {
+    let attrs = Attrs::new(list)?;
+    let is_shown = attrs.as_slice() == wanted;
+    Ok(is_shown && attrs.into_vec().as_slice() == wanted)
+}
+
+// Whether a list of infos is kept, and given out again.
+fn are_infos_kept(list: Vec<AttrInfo>, wanted: &[AttrInfo]) -> Result<bool, Fail> {
+    let infos = AttrInfos::new(list)?;
+    let is_shown = infos.as_slice() == wanted;
+    Ok(is_shown && infos.into_vec().as_slice() == wanted)
+}
+
+// Whether a clone of infos has the same list.
+fn are_infos_cloned(list: Vec<AttrInfo>) -> Result<bool, Fail> {
+    let infos = AttrInfos::new(list)?;
+    let clone = infos.clone()?;
+    Ok(clone.as_slice() == infos.as_slice())
+}
+
+// Whether a list of specs is refused, and handed back.
+fn are_specs_refused(list: Vec<AttrSpec>, wanted: &[AttrSpec]) -> bool {
+    match Attrs::new(list) {
+        Ok(_) => false,
+        Err((error, list)) => error == IdError::BadAttributes && list.as_slice() == wanted,
+    }
+}
+
+// Whether a list of infos is refused, and handed back.
+fn are_infos_refused(list: Vec<AttrInfo>, wanted: &[AttrInfo]) -> bool {
+    match AttrInfos::new(list) {
+        Ok(_) => false,
+        Err((error, list)) => error == IdError::BadAttributes && list.as_slice() == wanted,
+    }
+}
+
 #[test]
-fn keeps_a_list_that_may_stand(rt: HostRuntime) -> Result<(), Fail> {
+fn keeps_specs_that_may_stand(rt: HostRuntime) -> Result<(), Fail> {
     let alloc = rt.alloc();
     for (case, names) in MAY_STAND {
-        let attrs = Attrs::new(specs_of(alloc, names)?)?;
-        assert_eq!(rt;
-            attrs.as_slice(),
-            specs_of(alloc, names)?.as_slice(),
+        let wanted = specs_of(alloc, names)?;
+        assert!(rt;
+            are_specs_kept(specs_of(alloc, names)?, wanted.as_slice())?,
             "{case}"
         );
-        assert_eq!(rt; attrs.into_vec(), specs_of(alloc, names)?, "{case}");
-        let infos = AttrInfos::new(infos_of(alloc, names)?)?;
-        assert_eq!(rt;
-            infos.clone()?.as_slice(),
-            infos_of(alloc, names)?.as_slice(),
-            "{case}"
-        );
-        assert_eq!(rt;
-            infos.as_slice(),
-            infos_of(alloc, names)?.as_slice(),
-            "{case}"
-        );
-        assert_eq!(rt; infos.into_vec(), infos_of(alloc, names)?, "{case}");
     }
     Ok(())
 }
 
 #[test]
-fn hands_back_a_list_that_may_not(rt: HostRuntime) -> Result<(), Fail> {
+fn keeps_infos_that_may_stand(rt: HostRuntime) -> Result<(), Fail> {
     let alloc = rt.alloc();
-    for (case, names) in MAY_NOT {
-        let (error, list) = Attrs::new(specs_of(alloc, names)?).err().ok_or(case)?;
-        assert_eq!(rt; error, IdError::BadAttributes, "{case}");
-        assert_eq!(rt; list, specs_of(alloc, names)?, "{case}");
-        let (error, list) = AttrInfos::new(infos_of(alloc, names)?).err().ok_or(case)?;
-        assert_eq!(rt; error, IdError::BadAttributes, "{case}");
-        assert_eq!(rt; list, infos_of(alloc, names)?, "{case}");
+    for (case, names) in MAY_STAND {
+        let wanted = infos_of(alloc, names)?;
+        assert!(rt;
+            are_infos_kept(infos_of(alloc, names)?, wanted.as_slice())?,
+            "{case}"
+        );
+        assert!(rt; are_infos_cloned(wanted)?, "{case}");
     }
     Ok(())
+}
+
+#[test]
+fn hands_back_specs_that_may_not(rt: HostRuntime) -> Result<(), Fail> {
+    let alloc = rt.alloc();
+    for (case, names) in MAY_NOT {
+        let wanted = specs_of(alloc, names)?;
+        assert!(rt;
+            are_specs_refused(specs_of(alloc, names)?, wanted.as_slice()),
+            "{case}"
+        );
+    }
+    Ok(())
+}
+
+#[test]
+fn hands_back_infos_that_may_not(rt: HostRuntime) -> Result<(), Fail> {
+    let alloc = rt.alloc();
+    for (case, names) in MAY_NOT {
+        let wanted = infos_of(alloc, names)?;
+        assert!(rt;
+            are_infos_refused(infos_of(alloc, names)?, wanted.as_slice()),
+            "{case}"
+        );
+    }
+    Ok(())
+}
+
+fn are_specs_equal(alloc: Global, left: &[&str], right: &[&str]) -> Result<bool, Fail> {
+    let left = Attrs::new(specs_of(alloc, left)?)?;
+    let right = Attrs::new(specs_of(alloc, right)?)?;
+    Ok(left == right)
+}
+
+fn are_infos_equal(alloc: Global, left: &[&str], right: &[&str]) -> Result<bool, Fail> {
+    let left = AttrInfos::new(infos_of(alloc, left)?)?;
+    let right = AttrInfos::new(infos_of(alloc, right)?)?;
+    Ok(left == right)
 }
 
 #[test]
 fn lists_are_equal_attribute_by_attribute(rt: HostRuntime) -> Result<(), Fail> {
     let alloc = rt.alloc();
-    let attrs = Attrs::new(specs_of(alloc, &["a", "b"])?)?;
     assert!(rt;
-        attrs == Attrs::new(specs_of(alloc, &["a", "b"])?)?,
+        are_specs_equal(alloc, &["a", "b"], &["a", "b"])?,
         "the same attributes"
     );
     assert!(rt;
-        attrs != Attrs::new(specs_of(alloc, &["b", "a"])?)?,
+        !are_specs_equal(alloc, &["a", "b"], &["b", "a"])?,
         "another order"
     );
-    let infos = AttrInfos::new(infos_of(alloc, &["a", "b"])?)?;
     assert!(rt;
-        infos == AttrInfos::new(infos_of(alloc, &["a", "b"])?)?,
+        are_infos_equal(alloc, &["a", "b"], &["a", "b"])?,
         "the same infos"
     );
     assert!(rt;
-        infos != AttrInfos::new(infos_of(alloc, &["a"])?)?,
+        !are_infos_equal(alloc, &["a", "b"], &["a"])?,
         "fewer infos"
     );
     Ok(())
