@@ -5,5 +5,3 @@ pub mod Roles
 -- Inner: the rule of the cell, and what its steps tell. No public clause cites these
 pub mod Parts
 pub mod Steps
--- Of the tests' own object. Only tests cite it
-pub mod Uses

@@ -15,6 +15,3 @@ mod view;
 pub use shared::Shared;
 pub use token::Token;
 pub use view::View;
-
-#[cfg(test)]
-mod tests;

@@ -34,6 +34,3 @@ pub use reply::{Refusal, Reply, WakeReply};
 pub use resource::{ResourceCall, ResourceRow};
 pub use sequential::Sequential;
 pub use task::{TaskCall, TaskRow};
-
-#[cfg(test)]
-mod tests;

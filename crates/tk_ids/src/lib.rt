@@ -22,8 +22,6 @@ mod info;
 mod location;
 mod name;
 mod spec;
-#[cfg(test)]
-mod tests;
 
 pub use attr::{AttrInfo, AttrKind, AttrSpec, AttrValue};
 pub use attrs::{AttrInfos, Attrs};

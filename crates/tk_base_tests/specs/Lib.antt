@@ -1,0 +1,2 @@
+-- What contracts of the tests say of their own object
+pub mod Uses

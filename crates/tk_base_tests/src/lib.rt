@@ -1,0 +1,6 @@
+//! Tests of `tk_ids`, `tk_core` and `tk_cell` through their public calls, in one crate above them: so their own proofs are
+//! made once, without them.
+#![tactic(auto)]
+
+#[cfg(test)]
+mod tests;

@@ -1,0 +1,5 @@
+//! Ids and infos, rows and their calls, and cells that threads share.
+
+mod cells;
+mod ids;
+mod rows;

@@ -1,0 +1,54 @@
+//! What a ledger begins with is read back from its words.
+ghost use Rattle.std.specs.Prelude.{◌≡◌, true};
+
+use std::alloc::{AllocError, Global};
+use std::sync::Wait;
+use std::test::*;
+use tk_cell::Shared;
+use tk_core::{OpCall, OpRow, Reply, ResourceCall, ResourceRow, Sequential, TaskCall, TaskRow};
+use tk_ids::{AttrValue, TaskId};
+
+// The owner's first call on a new ledger.
+fn first_reply<O: Sequential, R: Wait>(
+    rt: &R,
+    alloc: Global,
+    row: O,
+    call: O::Call,
+) -> Result<O::Reply, AllocError>
+    requires opening { O.meaning.IsOpening row }
+    requires role { O.meaning.owner_may call ≡ true }
+{
+    let (shared, mut owner) = Shared::new(rt, alloc, row)?;
+    Ok(shared.call(rt, &mut owner, call))
+}
+
+#[test]
+fn an_opening_task_is_read_back(rt: HostRuntime) -> Result<(), Fail> {
+    let row = TaskRow::opening(7);
+    let shown = first_reply(&rt, rt.alloc(), row, TaskCall::Read)?;
+    assert_eq!(rt; shown, Reply::Shown(row));
+    Ok(())
+}
+
+#[test]
+fn an_opening_operation_is_read_back(rt: HostRuntime) -> Result<(), Fail> {
+    let row = OpRow::opening(8, &[AttrValue::Bool(true)]);
+    let no_task: Option<TaskId> = None;
+    let Reply::Shown(shown) = first_reply(&rt, rt.alloc(), row, OpCall::Read)? else {
+        return Err(Fail::from("no row was shown"));
+    };
+    assert_eq!(rt; shown.task, no_task);
+    assert_eq!(rt; shown.to_words(), row.to_words());
+    Ok(())
+}
+
+#[test]
+fn an_opening_resource_is_read_back(rt: HostRuntime) -> Result<(), Fail> {
+    let row = ResourceRow::opening(20, &[AttrValue::U64(5)]);
+    let Reply::Shown(shown) = first_reply(&rt, rt.alloc(), row, ResourceCall::Read)? else {
+        return Err(Fail::from("no row was shown"));
+    };
+    assert_eq!(rt; shown.attrs.as_slice(), [AttrValue::U64(5)].as_slice());
+    assert_eq!(rt; shown, row);
+    Ok(())
+}

@@ -1,0 +1,116 @@
+//! Polls and attributes, each computed over a whole history: what starts and ends polls stands in `Point`s.
+
+use tk_core::{AttrOp, Entry, Refusal, Reply};
+use tk_ids::AttrValue;
+
+/// What an entry is to the polls of a task or an operation.
+#[derive(Clone, Copy)]
+pub enum Point {
+    Start(u64),
+    End(u64),
+    Other,
+}
+
+/// Whether an entry was not refused.
+pub fn was_accepted<C, Row>(entry: &Entry<C, Reply<Row>>) -> bool {
+    !matches!(entry.reply, Reply::Refused(_))
+}
+
+fn start(point: &Point) -> Option<u64> {
+    match point {
+        Point::Start(moment) => Some(*moment),
+        _ => None,
+    }
+}
+
+fn end(point: &Point) -> Option<u64> {
+    match point {
+        Point::End(moment) => Some(*moment),
+        _ => None,
+    }
+}
+
+/// How many polls started.
+pub fn polls(points: &[Point]) -> u64 {
+    points.iter().filter_map(start).count() as u64
+}
+
+/// When the first poll started.
+pub fn first_poll(points: &[Point]) -> Option<u64> {
+    points.iter().filter_map(start).next()
+}
+
+/// When the last poll started.
+pub fn last_started(points: &[Point]) -> Option<u64> {
+    points.iter().filter_map(start).last()
+}
+
+/// When a poll last ended.
+pub fn last_ended(points: &[Point]) -> Option<u64> {
+    points.iter().filter_map(end).last()
+}
+
+/// Whether a poll is open: the last start or end is a start.
+pub fn is_polling(points: &[Point]) -> bool {
+    for point in points.iter().rev() {
+        match point {
+            Point::Start(_) => return true,
+            Point::End(_) => return false,
+            Point::Other => {}
+        }
+    }
+    false
+}
+
+/// How long the ended polls ran in all: each from the last start before its end.
+pub fn busy(points: &[Point]) -> u64 {
+    let mut sum = 0u64;
+    for (i, point) in points.iter().enumerate() {
+        if let (Point::End(moment), Some(started)) = (point, last_started(&points[..i])) {
+            sum = sum.saturating_add(moment.saturating_sub(started));
+        }
+    }
+    sum
+}
+
+/// A value after its accepted changes: the last override, plus the adds and minus the subtractions behind it.
+pub fn value(first: AttrValue, changes: &[AttrOp]) -> AttrValue {
+    let mut base = first;
+    let mut from = 0;
+    for (i, change) in changes.iter().enumerate() {
+        if let AttrOp::Override(value) = change {
+            base = *value;
+            from = i;
+        }
+    }
+    let AttrValue::U64(number) = base else {
+        return base;
+    };
+    // The sums may pass 2^64 on the way, and their difference doesn't.
+    let mut sum = number;
+    for change in changes.iter().skip(from) {
+        sum = match change {
+            AttrOp::Add(AttrValue::U64(by)) => sum.wrapping_add(*by),
+            AttrOp::Sub(AttrValue::U64(by)) => sum.wrapping_sub(*by),
+            _ => sum,
+        };
+    }
+    AttrValue::U64(sum)
+}
+
+/// Why a value refuses a change, if it does.
+pub fn refused_change(value: AttrValue, op: AttrOp) -> Option<Refusal> {
+    let (n, by, adds) = match (value, op) {
+        (AttrValue::U64(_), AttrOp::Override(AttrValue::U64(_))) => return None,
+        (AttrValue::Bool(_), AttrOp::Override(AttrValue::Bool(_))) => return None,
+        (AttrValue::U64(n), AttrOp::Add(AttrValue::U64(by))) => (n, by, true),
+        (AttrValue::U64(n), AttrOp::Sub(AttrValue::U64(by))) => (n, by, false),
+        _ => return Some(Refusal::WrongKind),
+    };
+    let leaves = if adds { by > u64::MAX - n } else { by > n };
+    if leaves {
+        Some(Refusal::OutOfRange)
+    } else {
+        None
+    }
+}

@@ -1,0 +1,147 @@
+//! Rows as sixteen words.
+
+use std::test::*;
+use tk_core::{OpCall, OpRow, ResourceRow, TaskCall, TaskRow};
+use tk_ids::{AttrValue, TaskId};
+
+// A task that was polled, woken and closed: every moment is present, so five flags, and it is not scheduled.
+const TASK: [u64; 16] = [
+    31, 100, 400, 1, 150, 150, 170, 20, 2, 1, 310, 1, 1, 1, 50, 0,
+];
+
+#[test]
+fn a_task_in_words(rt: HostRuntime) {
+    let calls = [
+        TaskCall::PollStart(150),
+        TaskCall::CloneWaker,
+        TaskCall::WakeRef(160, true),
+        TaskCall::PollEnd(170),
+        TaskCall::WakeVal(310, false),
+        TaskCall::Close(400),
+    ];
+    let (row, _) = super::polls::run(100, &calls);
+    assert_eq!(rt; row.to_words(), TASK);
+    assert_eq!(rt; TaskRow::from_words(&TASK), Some(row));
+    assert_eq!(rt;
+        TaskRow::opening(7).to_words(),
+        [64, 7, 0, 0, 0, 0, 0, 0, 0, 0, 0, 0, 0, 0, 0, 0]
+    );
+}
+
+// Bits 8 to 10 are the number of attributes, and bit 16 + i says that attribute i is a bool.
+const RESOURCE: [u64; 16] = [
+    2 * 256 + 2 * 65536,
+    20,
+    0,
+    0,
+    5,
+    1,
+    0,
+    0,
+    0,
+    0,
+    0,
+    0,
+    0,
+    0,
+    0,
+    0,
+];
+
+#[test]
+fn a_resource_in_words(rt: HostRuntime) {
+    let row = ResourceRow::opening(20, &[AttrValue::U64(5), AttrValue::Bool(true)]);
+    assert_eq!(rt; row.to_words(), RESOURCE);
+    assert_eq!(rt; ResourceRow::from_words(&RESOURCE), Some(row));
+}
+
+// Flags: the poll that is open, and one attribute.
+const OP: [u64; 16] = [
+    2 + 4 + 16 + 256,
+    30,
+    0,
+    1,
+    40,
+    40,
+    0,
+    0,
+    1,
+    1099511627777,
+    9,
+    0,
+    0,
+    0,
+    0,
+    0,
+];
+
+#[test]
+fn an_operation_in_words(rt: HostRuntime) -> Result<(), Fail> {
+    let task = TaskId::from_value(1099511627777)?;
+    let (row, _) = OpRow::opening(30, &[AttrValue::U64(9)]).step(OpCall::SetTask(task));
+    let (row, _) = row.step(OpCall::Enlist);
+    let (row, _) = row.step(OpCall::PollStart(40));
+    assert_eq!(rt; row.to_words(), OP);
+    assert_eq!(rt; OpRow::from_words(&OP), Some(row));
+    Ok(())
+}
+
+// Words that no row has, each by one word of a row that was changed.
+#[rattlefmt::skip]
+const STRAY: [(&str, usize, u64); 6] = [
+    ("a flag behind the last", 0, 64 + 128),
+    ("a moment without its flag", 2, 5),
+    ("a last wake without its flag", 10, 5),
+    ("the word behind the last", 15, 1),
+    ("an attribute's bit", 0, 64 + 256),
+    ("the highest bit", 0, 1 << 63),
+];
+
+#[test]
+fn words_of_no_task(rt: HostRuntime) {
+    for (case, index, word) in STRAY {
+        let mut words = TaskRow::opening(7).to_words();
+        if index < 16 {
+            words[index] = word;
+        }
+        assert_eq!(rt; TaskRow::from_words(&words), None, "{case}");
+    }
+}
+
+#[rattlefmt::skip]
+const STRAY_RESOURCE: [(&str, usize, u64); 5] = [
+    ("seven attributes", 0, 7 * 256 + 2 * 65536),
+    ("a bool of 2", 5, 2),
+    ("a bool behind the last attribute", 0, 2 * 256 + 4 * 65536),
+    ("a value behind the last attribute", 6, 1),
+    ("a flag of a poll", 0, 2 + 2 * 256 + 2 * 65536),
+];
+
+#[test]
+fn words_of_no_resource(rt: HostRuntime) {
+    for (case, index, word) in STRAY_RESOURCE {
+        let mut words = RESOURCE;
+        if index < 16 {
+            words[index] = word;
+        }
+        assert_eq!(rt; ResourceRow::from_words(&words), None, "{case}");
+    }
+}
+
+#[rattlefmt::skip]
+const STRAY_OP: [(&str, usize, u64); 3] = [
+    ("a task by a number that is no id", 9, 1099511627776),
+    ("a flag of a wake", 0, 2 + 4 + 16 + 32 + 256),
+    ("a value behind the last attribute", 11, 1),
+];
+
+#[test]
+fn words_of_no_operation(rt: HostRuntime) {
+    for (case, index, word) in STRAY_OP {
+        let mut words = OP;
+        if index < 16 {
+            words[index] = word;
+        }
+        assert_eq!(rt; OpRow::from_words(&words), None, "{case}");
+    }
+}
