@@ -8,3 +8,7 @@ pub mod TakeInLemmas
 pub mod GatherLemmas
 pub mod FollowLemmas
 pub mod LaterLemmas
+pub mod KeptIdLemmas
+pub mod AllKeptLemmas
+pub mod PollTotalLemmas
+pub mod HoldLemmas

@@ -11,7 +11,7 @@ use Rattle.tk_events.specs.declared.event.Event.TheVariants as events
 use Rattle.tk_events.specs.declared.event.Shown.{Shown}
 use Rattle.tk_events.specs.declared.item.Offer.{Offer}
 use Rattle.tk_events.specs.Offers.{shown, offers_of}
-use Rattle.tk_events.specs.Handles.{Taking, Totals, AreExact, AreLeft, AllTaken, events_of}
+use Rattle.tk_events.specs.Handles.{Taking, Totals, AreExact, AreLeft, AllTaken, IsSettled, events_of}
 use Rattle.tk_ledgers.specs.Ops.{OpSight}
 use Rattle.tk_ledgers.specs.Resources.{ResourceSight}
 use Rattle.tk_ledgers.specs.Tasks.{TaskSight}
@@ -166,6 +166,7 @@ pub record TellsTotals (before after : Taking) : Type 0 where
 pub record WasEmpty (t : Taking) : Type 0 where
   pub held : Held 0 (λ items. AreLeft t (offers_of items))
   pub all : AllTaken t
+  pub settled : t.finished ≡ true → IsSettled t
 
 -- the next event: the held one, or one that the taker took
 pub record Comes (old : Aggregating) (before : Taking) (event : Event) (new : Aggregating) (after : Taking) : Type 0 where

@@ -14,6 +14,7 @@ ghost use Rattle.std.specs.Io.KnownBytes.{Appends};
 ghost use Rattle.tk_events.specs.declared.event.Event.TheVariants as events;
 ghost use Rattle.tk_events.specs.Items.{Agrees};
 ghost use Rattle.tk_aggregator.specs.Absorbing.{infos_of, counted};
+ghost use Rattle.tk_aggregator.specs.Finished.{HoldAllKept};
 ghost use Rattle.tk_aggregator.specs.Aggregates.{Aggregating, new_aggregating, IsSound, IsLaterOf, IsSameStream, Refreshes, ReadsTasks, ReadsResources, ReadsOps, TakesIn, Collects, RunsOut, TookMore, FollowsTaker, GathersUpTo, Comes, TellsTotals, WasEmpty, dropped_in, line_at, sending_at, after_line, MayGoOn, IsDue, Refuses};
 ghost use Rattle.tk_stream.specs.Spelling.{sent_text};
 ghost use Rattle.tk_stream.specs.Streams.{IsStreamTo, MaySend};
@@ -125,6 +126,9 @@ impl Aggregator {
     /// new item goes last, with the row that its handle then reads; one that is there changes nothing; a poll operation is
     /// counted. The totals of dropped events become the taker's. It answers how many were taken in.
     ///
+    /// Where the taker is finished and all that it took came here, an answer below `limit` leaves just what the recorders kept:
+    /// the new items of each in its order, each once, and of each resource the totals of its poll operations.
+    ///
     /// - `Memory`: there is none for an event. It is held, and the next call takes it first; those before it stand in the
     ///   tables. Totals stay.
     pub fn collect<R: Wait>(
@@ -137,6 +141,7 @@ impl Aggregator {
         ensures err { IfErr result (λ e. (e ≡ Memory) × RunsOut self.old taker.old limit self.new taker.new) }
         ensures took { TookMore taker.old taker.new }
         ensures follows { FollowsTaker self.old taker.old → FollowsTaker self.new taker.new }
+        ensures all_kept { IfOk result (λ count. FollowsTaker self.old taker.old → taker.old.finished ≡ true → count < limit → HoldAllKept (infos_of self.new.tables) taker.new.known) }
         ensures later { IsLaterOf self.old self.new }
         ensures stays { IsSameStream self.old self.new }
     {

@@ -1,5 +1,5 @@
 -- Where as many recorders were taken in as were made, each was.
-use Rattle.std.proofs.Common.{◌≡◌, ◌≢◌, ℕ, zero, suc, ◌+◌, ◌<◌, ◌≤◌, List, [], ◌∷◌, ◌++◌, length, refl, sym, subst, arith, ⊎_elim}
+use Rattle.std.proofs.Common.{◌≡◌, ◌≢◌, ℕ, zero, suc, ◌+◌, ◌<◌, ◌≤◌, List, [], ◌∷◌, ◌++◌, length, refl, sym, ◌∙◌, subst, arith, ⊎_elim}
 use Rattle.std.specs.List.{All}
 use Rattle.std.proofs.lemmas.List.Elements.{All-head, All-tail}
 use Rattle.tk_events.specs.declared.item.Offer.{Offer}
@@ -69,3 +69,15 @@ whole v left recorders b made enough =
     let known : All (IsKnown recorders all) v.known = subst (λ (n : ℕ). All (IsKnown n all) v.known) made b.known in
     let same = below_known recorders all v.known known in
     each_once recorders (numbers_known v.known) b.once (omega (arith, same, enough))
+
+-- and none is known twice
+below_each : (n : ℕ) (xs : List ℕ) → ((p : ℕ) → 0 < p → p ≤ n → times p xs ≡ 1) → below n xs ≡ n
+unfolding below
+below_each zero xs each = refl
+below_each (suc n) xs each = let a = below_each n xs (λ p low high. each p low (omega (arith, high))) in let b = each (suc n) (omega arith) (omega arith) in omega (arith, a, b)
+
+pub no_more : (v : View) (left : List Offer) (recorders : ℕ) → IsBalanced v left → v.made ≡ recorders → IsWhole recorders v.known → length v.known ≡ recorders
+no_more v left recorders b made whole =
+    let all : List Offer = v.taken ++ left in
+    let known : All (IsKnown recorders all) v.known = subst (λ (n : ℕ). All (IsKnown n all) v.known) made b.known in
+    sym (below_known recorders all v.known known) ∙ below_each recorders (numbers_known v.known) whole

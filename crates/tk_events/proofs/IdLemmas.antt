@@ -1,11 +1,15 @@
 -- Which ids a recorder has given out after one more offer.
-use Rattle.std.proofs.Common.{◌≡◌, ℕ, ◌+◌, ◌<◌, Bool, true, false, cond, if◌then◌else◌, List, [], ◌∷◌, ◌++◌, length, length-append, refl, ap, sym, ◌∙◌, arith}
+use Rattle.std.proofs.Common.{◌≡◌, ℕ, ◌+◌, ◌<◌, Bool, true, false, cond, if◌then◌else◌, List, [], ◌∷◌, ◌++◌, length, length-append, refl, ap, sym, ◌∙◌, subst, arith}
 use Rattle.std.specs.List.{count_by, filter}
 use Rattle.std.proofs.lemmas.List.Elements.{filter-append}
 use Rattle.std.proofs.lemmas.List.Sums.{count_by-le-length, length-filter}
 use Rattle.tk_ids.specs.declared.info.OpInfo.{OpInfo}
 use Rattle.tk_ids.specs.declared.info.ResourceInfo.{ResourceInfo}
 use Rattle.tk_ids.specs.declared.info.TaskInfo.{TaskInfo}
+use Rattle.tk_ids.specs.declared.spec.OpSpec.{OpSpec}
+use Rattle.tk_ids.specs.declared.spec.ResourceSpec.{ResourceSpec}
+use Rattle.tk_ids.specs.declared.spec.TaskSpec.{TaskSpec}
+use Rattle.tk_ids.specs.Ids.{id_of}
 use Rattle.tk_ids.specs.IdBlocks.{Given}
 use Rattle.atomic_table.specs.Seated.{TableId}
 use Rattle.tk_events.specs.declared.event.PollOp.{PollOp}
@@ -14,7 +18,8 @@ use Rattle.tk_events.specs.declared.event.Shown.TheVariants.{MadeTask, MadeResou
 use Rattle.tk_events.specs.declared.item.Offer.{Offer}
 use Rattle.tk_events.specs.Offers.{is_task, is_resource, is_op, tasks_in, resources_in, ops_in}
 use Rattle.tk_events.specs.Handles.{Recording, with_kept, with_refused}
-use Rattle.tk_events.specs.Parts.{given, given_with}
+use Rattle.tk_events.specs.Items.{task_info, resource_info, op_info}
+use Rattle.tk_events.specs.Parts.{given, given_with, HasNextId}
 
 count_snoc : {X : Type 0} (f : X → Bool) (xs : List X) (x : X) → count_by f (xs ++ x ∷ []) ≡ count_by f xs + (if f x then 1 else 0)
 count_snoc {X = X} f xs x =
@@ -57,6 +62,16 @@ none n = omega arith
 module _ (r : Recording) (ids : Given) (is : ids ≡ given r) where
   pub given_polled : (op : PollOp) → ids ≡ given_with r (Polled op)
   given_polled op = is ∙ (λ i. record { recorder = r.number; tasks = none (tasks_in r.kept + tasks_in r.refused) i; resources = none (resources_in r.kept + resources_in r.refused) i; ops = none (ops_in r.kept + ops_in r.refused) i })
+
+  module _ (s : Shown) (id : ℕ) (ledger : TableId) where
+    pub next_task_has : (spec : TaskSpec) → s ≡ MadeTask (task_info id spec) ledger 1 → id ≡ id_of ids.recorder (ids.tasks + 1) → HasNextId r s
+    next_task_has spec e at = subst (λ (x : Shown). HasNextId r x) (sym e) (at ∙ ap (λ (g : Given). id_of g.recorder (g.tasks + 1)) is)
+
+    pub next_resource_has : (spec : ResourceSpec) → s ≡ MadeResource (resource_info id spec) ledger 1 → id ≡ id_of ids.recorder (ids.resources + 1) → HasNextId r s
+    next_resource_has spec e at = subst (λ (x : Shown). HasNextId r x) (sym e) (at ∙ ap (λ (g : Given). id_of g.recorder (g.resources + 1)) is)
+
+    pub next_op_has : (spec : OpSpec) → s ≡ MadeOp (op_info id spec) ledger 1 → id ≡ id_of ids.recorder (ids.ops + 1) → HasNextId r s
+    next_op_has spec e at = subst (λ (x : Shown). HasNextId r x) (sym e) (at ∙ ap (λ (g : Given). id_of g.recorder (g.ops + 1)) is)
 
   module _ (after : Given) (s : Shown) where
     pub given_task : (info : TaskInfo) (ledger : TableId) → s ≡ MadeTask info ledger 1 → after ≡ record ids { tasks = ids.tasks + 1 } → after ≡ given_with r s

@@ -4,8 +4,10 @@ pub mod CountRuleLemmas
 pub mod CountTotalLemmas
 pub mod AloneLemmas
 pub mod FinishLemmas
+pub mod SettledLemmas
 pub mod DropLemmas
 pub mod NewItemLemmas
 pub mod IdLemmas
 pub mod AttrLemmas
+pub mod OwnIdLemmas
 pub mod RecordLemmas

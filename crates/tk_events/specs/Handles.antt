@@ -1,13 +1,15 @@
 -- What a recorder, one that is retired and the taker show.
-use Rattle.std.specs.Prelude.{◌≡◌, ℕ, zero, suc, ◌+◌, ◌-◌, ◌^◌, ◌<◌, ◌≤◌, Bool, true, false, List, [], ◌∷◌, ◌++◌, length, map, All}
+use Rattle.std.specs.Prelude.{◌≡◌, ℕ, zero, suc, ◌+◌, ◌-◌, ◌^◌, ◌<◌, ◌≤◌, Bool, true, false, List, [], ◌∷◌, ◌++◌, length, map, All, ⊤}
 use Rattle.atomic_table.specs.Seated.{TableId}
 use Rattle.tk_events.specs.Offers.{Item}
 use Rattle.tk_events.specs.declared.item.Offer.{Offer}
 use Rattle.tk_events.specs.declared.event.Shown.{Shown}
+use Rattle.tk_events.specs.declared.event.Shown.TheVariants.{MadeTask, MadeResource, MadeOp, Polled}
 use Rattle.tk_events.specs.declared.limits.Limits.{Limits}
 use Rattle.tk_events.specs.declared.buffer.view.Returned.{Returned}
 use Rattle.tk_ids.specs.Ids.{id_of}
-use Rattle.tk_events.specs.Offers.{by, offers_of, dropped_of, tasks_in, resources_in, ops_in}
+use Rattle.tk_ids.specs.IdBlocks.{last_number}
+use Rattle.tk_events.specs.Offers.{by, earlier, offers_of, dropped_of, tasks_in, resources_in, ops_in, Rises}
 use Rattle.tk_events.specs.Buffer.{numbers_known, IsNamed}
 use Rattle.tk_cell.specs.Views.{times}
 
@@ -129,6 +131,19 @@ finished_with t rs = record t { known = offers_of_all rs; finished = true }
 abbrev pub IsWhole : ℕ → List Returned → Type 0
 IsWhole n known = (p : ℕ) → 0 < p → p ≤ n → times p (numbers_known known) ≡ 1
 
+-- the offer of a new item has the id of its recorder and of its place among the recorder's offers of that kind, kept or dropped, in the order of their numbers
+abbrev pub HasPlaceId : Returned → ℕ → Shown → Type 0
+HasPlaceId r number (MadeTask info ledger caller) = info.id ≡ id_of r.number (tasks_in (earlier number r.kept) + tasks_in (earlier number r.refused) + 1)
+HasPlaceId r number (MadeResource info ledger caller) = info.id ≡ id_of r.number (resources_in (earlier number r.kept) + resources_in (earlier number r.refused) + 1)
+HasPlaceId r number (MadeOp info ledger caller) = info.id ≡ id_of r.number (ops_in (earlier number r.kept) + ops_in (earlier number r.refused) + 1)
+HasPlaceId r number (Polled op) = ⊤
+
+-- what a recorder had offered has ids of its own: each new item that of its place, and the offers are no more than an id has numbers
+pub record HasOwnIds (r : Returned) : Type 0 where
+  pub kept : All (λ o. HasPlaceId r o.number o.event) r.kept
+  pub refused : All (λ o. HasPlaceId r o.number o.event) r.refused
+  pub few : length r.kept + length r.refused ≤ last_number
+
 -- of each recorder that is known, what was taken, and then what is left, is what it kept
 abbrev pub AreLeft : Taking → List Offer → Type 0
 AreLeft t left = All (λ r. by r.number (t.taken ++ left) ≡ r.kept) t.known
@@ -136,6 +151,15 @@ AreLeft t left = All (λ r. by r.number (t.taken ++ left) ≡ r.kept) t.known
 -- of each recorder that is known all that it kept was taken
 abbrev pub AllTaken : Taking → Type 0
 AllTaken t = All (λ r. by r.number t.taken ≡ r.kept) t.known
+
+-- what holds of a taker that is finished: it knows each recorder of the console, once, and what each had offered has ids of its own; what was taken is theirs, and the numbers of each rise
+pub record IsSettled (t : Taking) : Type 0 where
+  pub few : t.recorders ≤ 64
+  pub whole : IsWhole t.recorders t.known
+  pub no_more : length t.known ≡ t.recorders
+  pub own_ids : All HasOwnIds t.known
+  pub named : All (IsNamed t.recorders) t.taken
+  pub rises : Rises t.taken
 
 -- what the buffer held at a moment, as a recorder can tell: its own kept offers, but for the first ones, in order, and otherwise offers of recorders of the console
 pub record HeldFor (r : Recording) (items : List Item) : Type 0 where

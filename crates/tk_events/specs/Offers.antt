@@ -1,5 +1,5 @@
 -- Events, what is seen of them, and offers.
-use Rattle.std.specs.Prelude.{ℕ, ◌<◌, ◌==◌, Bool, true, false, List, [], ◌∷◌, map, count_by}
+use Rattle.std.specs.Prelude.{ℕ, ◌<◌, ◌==◌, nat_lt, Bool, true, false, List, [], ◌∷◌, map, count_by}
 use Rattle.std.specs.List.{filter, AllPairs}
 use Rattle.tk_events.specs.declared.event.Event.{Event}
 use Rattle.tk_events.specs.declared.event.Event.TheVariants.{Task, Resource, Op, Poll}
@@ -39,6 +39,10 @@ by p offers = filter (λ o. o.recorder == p) offers
 -- the numbers of each recorder rise
 abbrev pub Rises : List Offer → Type 0
 Rises offers = (p : ℕ) → AllPairs (λ earlier later. earlier.number < later.number) (by p offers)
+
+-- the offers that were made before the one with this number
+abbrev pub earlier : ℕ → List Offer → List Offer
+earlier number offers = filter (λ o. nat_lt o.number number) offers
 
 -- the kind under which a dropped event is counted: 0 for tasks, 1 for resources and polls of operations, 2 for operations
 abbrev pub kind_of : Shown → ℕ

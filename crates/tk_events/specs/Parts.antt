@@ -1,5 +1,5 @@
 -- Inner: what a recorder and a taker keep in their passes and seats, and what is shown of it. No public clause cites this file.
-use Rattle.std.specs.Prelude.{if◌then◌else◌, ◌≡◌, ℕ, ◌+◌, ◌-◌, ◌*◌, ◌^◌, ◌<◌, ◌≤◌, Bool, true, false, List, [], ◌++◌, length, map, All, Option}
+use Rattle.std.specs.Prelude.{if◌then◌else◌, ◌≡◌, ℕ, ◌+◌, ◌-◌, ◌*◌, ◌^◌, ◌<◌, ◌≤◌, Bool, true, false, List, [], ◌++◌, length, map, All, Option, ⊤}
 use Rattle.atomic_table.specs.Seated.{TableId}
 use Rattle.atomic_table.specs.declared.shared.Seat.{Seat}
 use Rattle.tk_events.specs.declared.counts.view.View.{View as Count}
@@ -11,13 +11,14 @@ use Rattle.crossbeam_queue.specs.declared.array_queue.Slotted.{Slotted}
 use Rattle.crossbeam_queue.specs.Passes.{Pass, view, ruled_capacity, IsPassOf}
 use Rattle.tk_events.specs.Offers.{Item}
 use Rattle.tk_events.specs.declared.event.Shown.{Shown}
+use Rattle.tk_events.specs.declared.event.Shown.TheVariants.{MadeTask, MadeResource, MadeOp, Polled}
 use Rattle.tk_events.specs.declared.buffer.view.Role.TheVariants.{Takes, Records}
 use Rattle.tk_events.specs.declared.buffer.view.Returned.{Returned}
 use Rattle.tk_events.specs.declared.buffer.view.View.{View}
 use Rattle.tk_ids.specs.IdBlocks.{Given}
 use Rattle.tk_events.specs.Offers.{offers_of, drops_of, tasks_in, resources_in, ops_in, is_task, is_resource, is_op}
 use Rattle.tk_events.specs.Buffer.{returned, IsBalanced}
-use Rattle.tk_events.specs.Handles.{place, Totals, Recording, Retiring, Taking, IsWhole}
+use Rattle.tk_events.specs.Handles.{place, Totals, Recording, Retiring, Taking, IsWhole, HasOwnIds, next_task_id, next_resource_id, next_op_id}
 
 -- a view of the taker that made n recorders
 abbrev pub making : ℕ → View → View
@@ -51,6 +52,17 @@ given_with r e = record {
   resources = resources_in r.kept + resources_in r.refused + (if is_resource e then 1 else 0);
   ops = ops_in r.kept + ops_in r.refused + (if is_op e then 1 else 0);
 }
+
+-- what a recorder has offered
+abbrev pub offered : Recording → Returned
+offered r = record { number = r.number; kept = r.kept; refused = r.refused }
+
+-- an event of a new item has the recorder's next id of its kind
+abbrev pub HasNextId : Recording → Shown → Type 0
+HasNextId r (MadeTask info ledger caller) = info.id ≡ next_task_id r
+HasNextId r (MadeResource info ledger caller) = info.id ≡ next_resource_id r
+HasNextId r (MadeOp info ledger caller) = info.id ≡ next_op_id r
+HasNextId r (Polled op) = ⊤
 
 -- the seat counts what the pass was refused
 pub record IsAdding (counts : TableId) (s : Seat ℕ Count) (v : View) : Type 0 where
@@ -89,6 +101,8 @@ module _ {Q A : Type 0} where
     pub high : (view p).number ≤ (view p).recorders
     pub made_is : length (view p).kept + length (view p).refused ≡ made
     pub below : All (λ o. o.number ≤ made) (view p).kept
+    pub refused_below : All (λ o. o.number ≤ made) (view p).refused
+    pub own_ids : HasOwnIds (returned (view p))
     pub room : made ≤ limit
     pub small : limit ≤ 2 ^ 40 - 1
     pub adding : IsAdding counts s (view p)
@@ -101,6 +115,7 @@ module _ {Q A : Type 0} where
     pub left : (left : List Item) × IsBalanced (view p) (offers_of left)
     pub begun : finished ≡ false → (view p).known ≡ []
     pub whole : finished ≡ true → IsWhole recorders (view p).known
+    pub own_ids : All HasOwnIds (view p).known
     pub reading : IsReading counts key s (view p)
 
 abbrev pub retiring : Pass Item View → Seat ℕ Count → Retiring
@@ -109,4 +124,5 @@ retiring p s = record { console = place p.table_id s.table_id; offers = returned
 pub record IsRetired (p : Pass Item View) (s : Seat ℕ Count) : Type 0 where
   pub role : (view p).role ≡ Records
   pub home : p.me.1 ≡ []
+  pub own_ids : HasOwnIds (returned (view p))
   pub adding : IsAdding s.table_id s (view p)

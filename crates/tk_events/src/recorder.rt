@@ -17,8 +17,8 @@ ghost use Rattle.tk_events.specs.declared.recorder.Recorded.TheVariants.{Kept, D
 ghost use Rattle.tk_events.specs.Offers.{shown, offer_of, kind_of};
 ghost use Rattle.tk_events.specs.Counts.{makes as makes_seat};
 ghost use Rattle.tk_events.specs.Buffer.{keeps, notes, makes, IsContentFor};
-ghost use Rattle.tk_events.specs.Handles.{IsSameRecorder, offers_made, next_offer, next_task_id, next_resource_id, next_op_id, with_kept, with_refused, new_recording, HeldFor, place};
-ghost use Rattle.tk_events.specs.Parts.{IsAdding, IsReading, given_with};
+ghost use Rattle.tk_events.specs.Handles.{IsSameRecorder, offers_made, next_offer, next_task_id, next_resource_id, next_op_id, with_kept, with_refused, new_recording, HeldFor, HasOwnIds, place};
+ghost use Rattle.tk_events.specs.Parts.{IsAdding, IsReading, given_with, HasNextId};
 
 use crate::buffer::view::View;
 use crate::buffer::{Buffer, next_recorder, offer};
@@ -281,6 +281,7 @@ impl Recorder {
     // Makes the next offer, of this event. These are the ids that are given out then.
     fn record<R: Wait>(&mut self, rt: &R, event: Event, ids: IdBlock) -> Recorded
         requires ids { ids ≡ given_with self.old (shown event) }
+        requires next { HasNextId self.old (shown event) }
         requires agrees { Agrees event }
         requires room { offers_made self.old < self.old.limit }
         ensures same { IsSameRecorder self.old self.new }
@@ -305,10 +306,12 @@ impl Recorder {
     }
 
     /// Makes no more offers. What it had offered goes to the taker's `finish`.
+    /// Each new item among its offers has the id of its place among those of its kind, kept or dropped.
     pub fn retire(self) -> RetiredRecorder
         ensures console { result.console ≡ self.console }
         ensures number { result.offers.number ≡ self.number }
         ensures offers { (result.offers.kept ≡ self.kept) × (result.offers.refused ≡ self.refused) }
+        ensures own_ids { HasOwnIds result.offers }
     {
         RetiredRecorder::of(self.pass, self.seat)
     }

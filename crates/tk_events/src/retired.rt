@@ -2,6 +2,8 @@
 ghost use Rattle.std.specs.Prelude.{◌≡◌, []};
 ghost use Rattle.crossbeam_queue.specs.Passes.{view};
 ghost use Rattle.tk_events.specs.declared.buffer.view.Role.TheVariants.{Records};
+ghost use Rattle.tk_events.specs.Buffer.{returned};
+ghost use Rattle.tk_events.specs.Handles.{HasOwnIds};
 ghost use Rattle.tk_events.specs.Parts.{retiring, IsAdding, IsRetired};
 
 use crate::buffer::view::View;
@@ -42,6 +44,7 @@ impl RetiredRecorder {
         ensures view { retiring result.0 result.1 ≡ self }
         ensures role { (view result.0).role ≡ Records }
         ensures home { result.0.me.1 ≡ [] }
+        ensures own_ids { HasOwnIds (returned (view result.0)) }
         ensures adding { IsAdding result.1.table_id result.1 (view result.0) }
     {
         let RetiredRecorder { pass, seat } = self;

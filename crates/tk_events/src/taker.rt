@@ -9,7 +9,7 @@ ghost use Rattle.tk_events.specs.declared.item.Offer.{Offer};
 ghost use Rattle.tk_events.specs.Offers.{shown, offers_of, Rises};
 ghost use Rattle.tk_events.specs.Items.{Agrees};
 ghost use Rattle.tk_events.specs.Buffer.{first, limits as limited, IsNamed};
-ghost use Rattle.tk_events.specs.Handles.{new_taking, with_taken, offers_of_all, finished_with, IsWhole, AreLeft, AllTaken, place, AreExact};
+ghost use Rattle.tk_events.specs.Handles.{new_taking, with_taken, offers_of_all, finished_with, IsWhole, HasOwnIds, IsSettled, AreLeft, AllTaken, place, AreExact};
 ghost use Rattle.tk_events.specs.Parts.{making, knowing, IsReading, totals_of};
 
 use crate::buffer::view::View;
@@ -64,6 +64,7 @@ fn take_in(
     requires reading { IsReading counts.now.shared.table_id counts.now.shared.key seat.old (view pass.old) }
     ensures own { IsSamePass pass.old pass.new }
     ensures known { view pass.new ≡ knowing (view pass.old) (retired.offers ∷ []) }
+    ensures own_ids { HasOwnIds retired.offers }
     ensures reading { IsReading counts.now.shared.table_id counts.now.shared.key seat.new (view pass.new) }
     ensures seen { seat.new.me.0.seen ≡ seat.old.me.0.seen }
 {
@@ -86,6 +87,7 @@ fn take_all(
     requires reading { IsReading counts.now.shared.table_id counts.now.shared.key seat.old (view pass.old) }
     ensures own { IsSamePass pass.old pass.new }
     ensures known { view pass.new ≡ knowing (view pass.old) (offers_of_all all_retired.items) }
+    ensures own_ids { All HasOwnIds (offers_of_all all_retired.items) }
     ensures reading { IsReading counts.now.shared.table_id counts.now.shared.key seat.new (view pass.new) }
     ensures seen { seat.new.me.0.seen ≡ seat.old.me.0.seen }
 {
@@ -128,6 +130,7 @@ impl Taker {
         ensures nothing_left { IfNone result (AllTaken self.old) }
         ensures rises { Rises self.new.taken }
         ensures left { (left : List Offer) × AreLeft self.new left }
+        ensures settled { self.new.finished ≡ true → IsSettled self.new }
     {
         let item = pop(rt, &self.buffer, &mut self.pass)?;
         Some(item.into_event())
@@ -141,6 +144,7 @@ impl Taker {
         requires console { All (λ r. r.console ≡ self.old.console) retired.items }
         ensures ok { OnOk result (self.new ≡ finished_with self.old retired.items) }
         ensures whole { OnOk result (IsWhole self.new.recorders self.new.known) }
+        ensures settled { OnOk result (IsSettled self.new) }
         ensures left { OnOk result ((left : List Offer) × AreLeft self.new left) }
         ensures named { OnOk result (All (IsNamed self.new.recorders) self.new.taken) }
         ensures rises { Rises self.new.taken }

@@ -4,7 +4,7 @@ use Rattle.crossbeam_queue.specs.Passes.{view, ruled_capacity}
 use Rattle.tk_events.specs.declared.event.Event.{Event}
 use Rattle.tk_events.specs.Offers.{Item, shown, offer_of}
 use Rattle.tk_events.specs.Handles.{Recording}
-use Rattle.tk_events.specs.Parts.{given_with, recording, IsAdding}
+use Rattle.tk_events.specs.Parts.{given_with, recording, HasNextId, IsAdding}
 use Rattle.tk_events.proofs.RecordLemmas.{recorded_one}
 use Rattle.tk_events.proofs.AloneLemmas.{held_alone}
 use Rattle.tk_events.proofs.recorder.Recorder.record.Goals as goal
@@ -28,10 +28,12 @@ invariant_of-self g c =
     let event : item.event ≡ c.args.event = ap (λ (x : Item). x.event) c.new-item.ensures in
     let old : given_with (recording q counts c.self.inside.pass c.self.inside.limit) (shown item.event) ≡ c.args.ids =
     ap (λ (r : Recording). given_with r (shown item.event)) c.self.view_is ∙ (ap (λ (e : Event). given_with c.args.self.now (shown e)) event ∙ sym c.requires.ids) in
+    let next : HasNextId (recording q counts c.self.inside.pass c.self.inside.limit) (shown item.event) =
+    subst (λ (r : Recording). HasNextId r (shown item.event)) (sym c.self.view_is) (subst (λ (e : Event). HasNextId c.args.self.now (shown e)) (sym event) c.requires.next) in
     let room = c.requires.room in
     let made = c.self.invariant.made_is in
     let is = c.self.view_is in
     let below : c.self.inside.made < c.self.inside.limit = subst (λ (n : ℕ). n < c.self.inside.limit) made (subst (λ (r : Recording). length r.kept + length r.refused < r.limit) (sym is) room) in
     let adding : IsAdding counts c.offer_counted-recorded.new.seat (view c.offer_counted-recorded.new.pass) = subst (λ t. IsAdding t.shared.table_id c.offer_counted-recorded.new.seat (view c.offer_counted-recorded.new.pass)) c.deref-2.ensures c.offer_counted-recorded.ensures.adding in
     recorded_one q counts c.self.inside.pass c.offer_counted-recorded.new.pass c.self.inside.seat c.offer_counted-recorded.new.seat c.self.inside.ids c.args.ids c.self.inside.made c.self.inside.limit (offer_of item) c.self.invariant
-    c.offer_counted-recorded.ensures.own (ap (λ (x : Item). x.number) c.new-item.ensures) below (sym old) adding c.offer_counted-recorded.result c.offer_counted-recorded.ensures.kept c.offer_counted-recorded.ensures.refused
+    c.offer_counted-recorded.ensures.own (ap (λ (x : Item). x.number) c.new-item.ensures) below (sym old) next adding c.offer_counted-recorded.result c.offer_counted-recorded.ensures.kept c.offer_counted-recorded.ensures.refused
