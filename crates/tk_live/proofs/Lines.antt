@@ -1,0 +1,80 @@
+-- Lines, one after the other.
+use Rattle.std.proofs.Common.{◌≡◌, ℕ, ◌+◌, List, [], ◌∷◌, ◌++◌, length, Bool, Option, Result, Ok, Err, refl, sym, ap, ◌∙◌, subst, arith}
+use Rattle.std.specs.Prelude.{fold}
+use Rattle.std.specs.List.{enumerate_from}
+use Rattle.std.proofs.KnownBytes.{Appends-nil}
+use Rattle.std.proofs.lemmas.List.{append-nil}
+use Rattle.std.proofs.lemmas.List.Sums.{fold-append}
+use Rattle.tk_stream.specs.Streams.{Sending}
+use Rattle.tk_live.specs.Commands.{Said, view}
+use Rattle.tk_live.specs.Course.{Course, step, step_on, start_of_all, line_after, course_of}
+use Rattle.tk_live.specs.Runs.{StandsFor, Does, Came, Comes, LineCame}
+use Rattle.tk_live.specs.Script.{FrontOf}
+use Rattle.tk_live.specs.Stops.{Goes, AllGo}
+use Rattle.tk_live.specs.declared.command.Command.{Command}
+use Rattle.tk_live.specs.declared.command.Line.{Line}
+use Rattle.tk_live.specs.declared.command.Line.TheVariants as lines
+use Rattle.tk_live.specs.declared.interpreter.Interpreter.{Interpreter}
+use Rattle.tk_live.specs.declared.stop.Stop.{Stop}
+
+-- no line was sent
+pub unsent : (i : Interpreter) (capacity : ℕ) (k : Course) (kept : List Bool) (sent : List Sending) → StandsFor i capacity k kept sent → StandsFor i capacity k kept (sent ++ [])
+unsent i capacity k kept sent stands = subst (λ (m : List Sending). StandsFor i capacity k kept m) (sym (append-nil sent)) stands
+
+-- a command that writes nothing
+pub quietly : (line : ℕ) (s : Said) (old new : Interpreter) (result : Result (Unit {0}) Stop) (before : Option (List ℕ)) → Does line s old new result → ((sent : List Sending) (stop : Stop) → FrontOf sent s stop []) → Comes step line s old new result before before
+quietly line s old new (Ok done) before does fronts capacity c kept sent stands =
+    let d = does capacity c kept sent stands in
+    (d.0, d.1, [], unsent new capacity (step c line s) (kept ++ d.1) sent d.2, Appends-nil before)
+quietly line s old new (Err stop) before does fronts capacity c kept sent stands =
+    let d = does capacity c kept sent stands in
+    (d.0, d.1, [], fronts sent stop, Appends-nil before)
+
+-- a command is begun
+pub begun : (i new : Interpreter) (capacity : ℕ) (c : Course) (line : ℕ) (s : Said) (kept : List Bool) (sent : List Sending) → StandsFor i capacity (step c line s) kept sent → new ≡ record i { begun = Rattle.std.proofs.Common.true }
+    → StandsFor new capacity (step_on c line s) kept sent
+begun i new capacity c line s kept sent stands is = subst (λ (n : Interpreter). StandsFor n capacity (step_on c line s) kept sent) (sym is) (record {
+  keeps = record { offered = stands.keeps.offered; takes = stands.keeps.takes; are = stands.keeps.are };
+  holds = record {
+    tasks_are = stands.holds.tasks_are;
+    owners = stands.holds.owners;
+    wakers_are = stands.holds.wakers_are;
+    resources_are = stands.holds.resources_are;
+    users_are = stands.holds.users_are;
+    ops_are = stands.holds.ops_are;
+  };
+  begun = refl;
+  capacity_is = stands.capacity_is;
+  least = stands.least;
+  moment = stands.moment;
+  numbers = stands.numbers;
+  going = stands.going;
+})
+
+-- a line that says a command
+pub said_came : (n capacity : ℕ) (c : Course) (kept : List Bool) (sent : List Sending) (command : Command) (new : Interpreter) (result : Result (Unit {0}) Stop) (before behind : Option (List ℕ))
+    → Came step_on capacity c kept sent n (view command) new result before behind → LineCame capacity c kept sent n (lines.Says command) new result before behind
+said_came n capacity c kept sent command new (Ok done) before behind h = h
+said_came n capacity c kept sent command new (Err stop) before behind h = h
+
+-- a line more has the next number
+pub enumerate_push : {X : Type 0} (n : ℕ) (xs : List X) (x : X) → enumerate_from n (xs ++ x ∷ []) ≡ enumerate_from n xs ++ (n + length xs, x) ∷ []
+enumerate_push n [] x = let e : n ≡ n + 0 = omega arith in ap (λ m. (m, x) ∷ []) e
+enumerate_push n (y ∷ xs) x =
+    let e : (n + 1) + length xs ≡ n + length (y ∷ xs) = omega arith in
+    ap (λ ps. (n, y) ∷ ps) (enumerate_push (n + 1) xs x ∙ ap (λ m. enumerate_from (n + 1) xs ++ (m, x) ∷ []) e)
+
+all_go_push : (c : Course) (ls : List (ℕ × Line)) (l : ℕ × Line) → AllGo c ls → Goes (fold line_after c ls) l → AllGo c (ls ++ l ∷ [])
+all_go_push c [] l all goes = (goes, tt)
+all_go_push c (m ∷ ms) l all goes = (all.0, all_go_push (line_after c m) ms l all.1 goes)
+
+-- one line more
+pub course_push : (before : List Line) (number : ℕ) (line : Line) → number ≡ length before + 1 → course_of (before ++ line ∷ []) ≡ line_after (course_of before) (number, line)
+course_push before number line counted =
+    let e : 1 + length before ≡ number = omega (arith, counted) in
+    ap (λ ls. fold line_after start_of_all ls) (enumerate_push 1 before line ∙ ap (λ n. enumerate_from 1 before ++ (n, line) ∷ []) e) ∙ fold-append line_after start_of_all (enumerate_from 1 before) ((number, line) ∷ [])
+
+pub goes_more : (before : List Line) (number : ℕ) (line : Line) → number ≡ length before + 1 → AllGo start_of_all (enumerate_from 1 before) → Goes (course_of before) (number, line) → AllGo start_of_all (enumerate_from 1 (before ++ line ∷ []))
+goes_more before number line counted all goes =
+    let e : number ≡ 1 + length before = omega (arith, counted) in
+    subst (λ ls. AllGo start_of_all ls) (ap (λ n. enumerate_from 1 before ++ (n, line) ∷ []) e ∙ sym (enumerate_push 1 before line)) (all_go_push start_of_all (enumerate_from 1 before) (number, line) all goes)

@@ -1,0 +1,52 @@
+use Rattle.std.proofs.Common.{ℕ, List, [], refl}
+use Rattle.tk_live.specs.Commands as said
+use Rattle.tk_live.proofs.Lines.{quietly}
+use Rattle.tk_live.proofs.interpreter.Interpreter.apply.Goals as goal
+
+pub returns-in-Task : goal.returns-in-Task
+returns-in-Task g c =
+    rw c.in-Task.is (quietly c.args.line (said.task c.in-Task.moment c.in-Task.kind c.in-Task.name.now) c.args.self.now c.make_task.new.self c.make_task.result (g.W.Write.contents c.args.writer.now) c.make_task.ensures (λ sent stop. refl {A = List ℕ} {a = []}))
+
+pub returns-in-Start : goal.returns-in-Start
+returns-in-Start g c =
+    rw c.in-Start.is (quietly c.args.line (said.start c.in-Start.task c.in-Start.moment) c.args.self.now c.start.new.self c.start.result (g.W.Write.contents c.args.writer.now) (c.start.ensures c.args.line) (λ sent stop. refl {A = List ℕ} {a = []}))
+
+pub returns-in-End : goal.returns-in-End
+returns-in-End g c =
+    rw c.in-End.is (quietly c.args.line (said.finish c.in-End.task c.in-End.moment) c.args.self.now c.end.new.self c.end.result (g.W.Write.contents c.args.writer.now) (c.end.ensures c.args.line) (λ sent stop. refl {A = List ℕ} {a = []}))
+
+pub returns-in-Close : goal.returns-in-Close
+returns-in-Close g c =
+    rw c.in-Close.is (quietly c.args.line (said.close c.in-Close.task c.in-Close.moment) c.args.self.now c.close.new.self c.close.result (g.W.Write.contents c.args.writer.now) (c.close.ensures c.args.line) (λ sent stop. refl {A = List ℕ} {a = []}))
+
+pub returns-in-SelfWake : goal.returns-in-SelfWake
+returns-in-SelfWake g c =
+    rw c.in-SelfWake.is (quietly c.args.line (said.self_wake c.in-SelfWake.task c.in-SelfWake.moment) c.args.self.now c.self_wake.new.self c.self_wake.result (g.W.Write.contents c.args.writer.now) (c.self_wake.ensures c.args.line) (λ sent stop. refl {A = List ℕ} {a = []}))
+
+pub returns-in-CloneWaker : goal.returns-in-CloneWaker
+returns-in-CloneWaker g c =
+    rw c.in-CloneWaker.is (quietly c.args.line (said.clone c.in-CloneWaker.task) c.args.self.now c.clone_waker.new.self c.clone_waker.result (g.W.Write.contents c.args.writer.now) (c.clone_waker.ensures c.args.line) (λ sent stop. refl {A = List ℕ} {a = []}))
+
+pub returns-in-Again : goal.returns-in-Again
+returns-in-Again g c =
+    rw c.in-Again.is (quietly c.args.line (said.again c.in-Again.waker) c.args.self.now c.again.new.self c.again.result (g.W.Write.contents c.args.writer.now) (c.again.ensures c.args.line) (λ sent stop. refl {A = List ℕ} {a = []}))
+
+pub returns-in-WakeRef : goal.returns-in-WakeRef
+returns-in-WakeRef g c =
+    rw c.in-WakeRef.is (quietly c.args.line (said.wake_ref c.in-WakeRef.waker c.in-WakeRef.moment) c.args.self.now c.wake_ref.new.self c.wake_ref.result (g.W.Write.contents c.args.writer.now) (c.wake_ref.ensures c.args.line) (λ sent stop. refl {A = List ℕ} {a = []}))
+
+pub returns-in-Wake : goal.returns-in-Wake
+returns-in-Wake g c =
+    rw c.in-Wake.is (quietly c.args.line (said.wake c.in-Wake.waker c.in-Wake.moment) c.args.self.now c.wake.new.self c.wake.result (g.W.Write.contents c.args.writer.now) (c.wake.ensures c.args.line) (λ sent stop. refl {A = List ℕ} {a = []}))
+
+pub returns-in-Release : goal.returns-in-Release
+returns-in-Release g c =
+    rw c.in-Release.is (quietly c.args.line (said.release c.in-Release.waker) c.args.self.now c.release.new.self c.release.result (g.W.Write.contents c.args.writer.now) (c.release.ensures c.args.line) (λ sent stop. refl {A = List ℕ} {a = []}))
+
+pub returns-in-PollOp : goal.returns-in-PollOp
+returns-in-PollOp g c =
+    rw c.in-PollOp.is (quietly c.args.line (said.poll_op c.in-PollOp.resource c.in-PollOp.op c.in-PollOp.task c.in-PollOp.name.now c.in-PollOp.ready) c.args.self.now c.poll_op.new.self c.poll_op.result (g.W.Write.contents c.args.writer.now) (c.poll_op.ensures c.args.line) (λ sent stop. refl {A = List ℕ} {a = []}))
+
+pub returns-in-Capacity : goal.returns-in-Capacity
+returns-in-Capacity g c =
+    rw c.in-Capacity.is (quietly c.args.line (said.capacity c.in-Capacity.count) c.args.self.now c.say_capacity.new.self c.say_capacity.result (g.W.Write.contents c.args.writer.now) (c.say_capacity.ensures c.args.line c.in-Capacity.count) (λ sent stop. refl {A = List ℕ} {a = []}))

@@ -1,0 +1,117 @@
+-- What commands come to, as far as the text tells: what their numbers name, what they record, and the lines that are due.
+use Rattle.std.specs.Prelude.{ℕ, ◌+◌, List, [], ◌∷◌, ◌++◌, length, codes, fold, Bool, true, false, Option, Some, None}
+use Rattle.std.specs.List.{enumerate_from}
+use Rattle.std.specs.Option.{option_map_or}
+use Rattle.tk_ids.specs.Ids.{id_of}
+use Rattle.tk_ids.specs.declared.info.TaskInfo.{TaskInfo}
+use Rattle.tk_ids.specs.declared.location.Location.{Location}
+use Rattle.tk_ids.specs.declared.spec.TaskKind.{TaskKind}
+use Rattle.tk_core.specs.declared.op.call.OpCall.{OpCall}
+use Rattle.tk_core.specs.declared.op.row.OpRow.{OpRow}
+use Rattle.tk_core.specs.declared.resource.call.ResourceCall.{ResourceCall}
+use Rattle.tk_core.specs.declared.resource.row.ResourceRow.{ResourceRow}
+use Rattle.tk_core.specs.declared.task.call.TaskCall.{TaskCall}
+use Rattle.tk_core.specs.declared.task.call.TaskCall.TheVariants.{Enlist, PollStart, PollEnd, CloneWaker, WakeRef}
+use Rattle.tk_core.specs.declared.task.row.TaskRow.{TaskRow}
+use Rattle.tk_core.specs.Task.{opening_row}
+use Rattle.tk_live.specs.Told.{Told, made_task, polled}
+use Rattle.tk_live.specs.Commands.{Said, view, task, start, finish, close, self_wake, clone, again, wake_ref, wake, release, poll_op, capacity, publish}
+use Rattle.tk_live.specs.declared.command.Line.{Line}
+use Rattle.tk_live.specs.declared.command.Line.TheVariants as lines
+use Rattle.tk_live.specs.Known.{Handled, and_call, drawn_from}
+use Rattle.tk_live.specs.Named.{live_item, with_item, with_change}
+
+-- a handle of a task, of a resource and of an async operation
+abbrev pub TaskHandled : Type 0
+TaskHandled = Handled TaskRow TaskCall
+
+abbrev pub ResourceHandled : Type 0
+ResourceHandled = Handled ResourceRow ResourceCall
+
+abbrev pub OpHandled : Type 0
+OpHandled = Handled OpRow OpCall
+
+-- what numbers name: the owners, wakers and users that were made, and nothing where one is spent
+pub record Names : Type 0 where
+  pub tasks : List (Option TaskHandled)
+  pub wakers : List (Option TaskHandled)
+  pub resources : List (Option ResourceHandled)
+  pub users : List (Option ResourceHandled)
+  pub ops : List (Option OpHandled)
+
+-- a line that is due: its moment, and whether it is a snapshot
+pub record Due : Type 0 where
+  pub moment : ℕ
+  pub whole : Bool
+
+-- what commands come to: what their numbers name, what the recording ones tell, in order, the lines that are due, the moment
+-- of the last one, and whether there was a command at all
+pub record Course : Type 0 where
+  pub names : Names
+  pub told : List Told
+  pub due : List Due
+  pub now : ℕ
+  pub begun : Bool
+
+-- before any command nothing has a name
+abbrev pub no_names : Names
+no_names = record { tasks = []; wakers = []; resources = []; users = []; ops = [] }
+
+-- before any command
+abbrev pub start_of_all : Course
+start_of_all = record { names = no_names; told = []; due = []; now = 0; begun = false }
+
+-- an item stands on a line of the script, at its first column
+abbrev pub place : ℕ → Location
+place line = record { file = codes "script"; line = line; column = 1 }
+
+-- the info of the n-th task
+abbrev pub task_info : ℕ → ℕ → TaskKind → List ℕ → TaskInfo
+task_info n line kind name = record { id = id_of 1 n; kind = kind; name = name; location = place line }
+
+-- the owner of the n-th task: it has drawn an inspector
+abbrev pub new_task : ℕ → ℕ → TaskHandled
+new_task n created = record { id = id_of 1 n; opening = Some (opening_row created); calls = Enlist ∷ [] }
+
+-- names with one more call on the owner of a task, or on a waker
+abbrev pub task_called : ℕ → TaskCall → Names → Names
+task_called n call names = record names { tasks = with_change n (and_call call) names.tasks }
+
+abbrev pub waker_called : ℕ → TaskCall → Names → Names
+waker_called n call names = record names { wakers = with_change n (and_call call) names.wakers }
+
+-- names with one more waker, which was drawn from this handle
+abbrev pub waker_drawn : Option TaskHandled → Names → Names
+waker_drawn from names = record names { wakers = option_map_or (λ h. names.wakers ++ Some (drawn_from h) ∷ []) from names.wakers }
+
+-- what one command more comes to, but for that it is one
+abbrev pub step : Course → ℕ → Said → Course
+step c line (task at kind name) = record c {
+  names = record c.names { tasks = c.names.tasks ++ Some (new_task (length c.names.tasks + 1) at) ∷ [] };
+  told = c.told ++ made_task (task_info (length c.names.tasks + 1) line kind name) ∷ [];
+}
+step c line (start n moment) = record c { names = task_called n (PollStart moment) c.names }
+step c line (finish n moment) = record c { names = task_called n (PollEnd moment) c.names }
+step c line (close n moment) = record c { names = record c.names { tasks = with_item n None c.names.tasks } }
+step c line (self_wake n moment) = record c { names = task_called n (WakeRef moment true) c.names }
+step c line (clone n) = record c { names = waker_drawn (live_item n c.names.tasks) (task_called n CloneWaker c.names) }
+step c line (again n) = record c { names = waker_drawn (live_item n c.names.wakers) (waker_called n CloneWaker c.names) }
+step c line (wake_ref n moment) = record c { names = waker_called n (WakeRef moment false) c.names }
+step c line (wake n moment) = record c { names = record c.names { wakers = with_item n None c.names.wakers } }
+step c line (release n) = record c { names = record c.names { wakers = with_item n None c.names.wakers } }
+step c line (poll_op r o t name ready) = record c { told = c.told ++ polled (id_of 1 r) ready ∷ [] }
+step c line (capacity n) = c
+step c line (publish moment whole) = record c { due = c.due ++ record { moment = moment; whole = whole } ∷ []; now = moment }
+
+-- what one command more comes to
+abbrev pub step_on : Course → ℕ → Said → Course
+step_on c line s = record (step c line s) { begun = true }
+
+-- what a line more comes to, of this number
+abbrev pub line_after : Course → ℕ × Line → Course
+line_after c (n, lines.Says command) = step_on c n (view command)
+line_after c (n, _) = c
+
+-- what lines come to, one after the other, numbered from 1
+abbrev pub course_of : List Line → Course
+course_of ls = fold line_after start_of_all (enumerate_from 1 ls)

@@ -1,0 +1,64 @@
+-- What came of commands.
+use Rattle.std.specs.Prelude.{◌≡◌, ℕ, ◌<◌, List, [], ◌∷◌, ◌++◌, length, slice_get, Bool, true, if◌then◌else◌, Some}
+use Rattle.std.specs.List.{enumerate_from}
+use Rattle.tk_ledgers.specs.Ops.{OpSight}
+use Rattle.tk_ledgers.specs.Resources.{ResourceSight}
+use Rattle.tk_ledgers.specs.Tasks.{TaskSight}
+use Rattle.tk_stream.specs.Streams.{Sending, GoesOn, lines_sent, bytes_sent}
+use Rattle.tk_stream.specs.Tables.{TablesView, empty_tables}
+use Rattle.tk_aggregator.specs.Absorbing.{infos_of}
+use Rattle.tk_aggregator.specs.Aggregates.{Pairs, ReadTask, ReadResource, ReadOp}
+use Rattle.tk_live.specs.Told.{Told, infos_told}
+use Rattle.tk_live.specs.Course.{Due, Course, start_of_all, course_of}
+use Rattle.tk_live.specs.Stops.{AllGo}
+use Rattle.tk_live.specs.declared.command.Line.{Line}
+
+-- those of a list that are marked, in order
+abbrev pub picked : {X : Type 0} → List Bool → List X → List X
+picked [] xs = []
+picked (b ∷ bs) [] = []
+picked (b ∷ bs) (x ∷ xs) = if b then x ∷ picked bs xs else picked bs xs
+
+-- two lists stand in a relation, one by one
+abbrev pub Each : {X Y : Type 0} → (X → Y → Type 0) → List X → List Y → Type 0
+Each R [] [] = Unit {0}
+Each R (x ∷ xs) (y ∷ ys) = R x y × Each R xs ys
+Each R _ _ = ⊥
+
+-- each row is what a handle of its item read: the fold of a legal history of that item's ledger
+pub record AreReadings (tables : TablesView) : Type 0 where
+  pub tasks : List TaskSight
+  pub resources : List ResourceSight
+  pub ops : List OpSight
+  pub tasks_are : Pairs ReadTask tables.tasks tasks
+  pub resources_are : Pairs ReadResource tables.resources resources
+  pub ops_are : Pairs ReadOp tables.ops ops
+
+-- a line is one that was due: at its moment, a snapshot or not, its tables have the infos and the poll counts of a front of
+-- what was kept, and their rows are readings
+pub record IsLineOf (kept : List Told) (d : Due) (s : Sending) : Type 0 where
+  pub moment : s.tables.now ≡ d.moment
+  pub snapshot : s.snapshot ≡ d.whole
+  pub front : List Told
+  pub behind : List Told
+  pub is_front : kept ≡ front ++ behind
+  pub infos : infos_of s.tables ≡ infos_told front
+  pub readings : AreReadings s.tables
+
+-- what came of commands: of each recording one whether its event was kept, as each of the first `capacity` was; and the lines
+-- that were sent, one for each that was due, in order, an uninterrupted stream from number 1
+pub record CameOf (capacity : ℕ) (c : Course) (sent : List Sending) : Type 0 where
+  pub kept : List Bool
+  pub one_each : length kept ≡ length c.told
+  pub first : (i : ℕ) → i < length kept → i < capacity → slice_get kept i ≡ Some true
+  pub lines : Each (IsLineOf (picked kept c.told)) c.due sent
+  pub stream : GoesOn empty_tables 0 sent
+
+-- the text stops none of the lines, and this came of them
+pub record Ran (capacity : ℕ) (ls : List Line) (sent : List Sending) : Type 0 where
+  pub goes : AllGo start_of_all (enumerate_from 1 ls)
+  pub came : CameOf capacity (course_of ls) sent
+
+-- the bytes of lines from number 1
+abbrev pub written_by : List Sending → List ℕ
+written_by sent = bytes_sent (lines_sent empty_tables sent)

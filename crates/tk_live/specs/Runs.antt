@@ -1,0 +1,168 @@
+-- What an interpreter stands for. Inner: no public clause cites it.
+use Rattle.std.specs.Prelude.{◌≡◌, ℕ, ◌+◌, ◌<◌, List, [], ◌∷◌, ◌++◌, map, length, slice_get, Bool, true, false, Option, Some, None, option_map, Result, Ok, Err}
+use Rattle.std.specs.List.{enumerate_from}
+use Rattle.std.specs.Io.KnownBytes.{Appends}
+use Rattle.tk_ids.specs.IdBlocks.{last_number}
+use Rattle.tk_events.specs.declared.item.Offer.{Offer}
+use Rattle.tk_events.specs.Handles.{Recording, Taking, offers_made}
+use Rattle.tk_events.specs.Offers.{tasks_in, resources_in, ops_in}
+use Rattle.tk_ledgers.specs.Tasks.{TaskSight}
+use Rattle.tk_stream.specs.Streams.{Sending, GoesOn, lines_sent, bytes_sent, tables_sent, last_sent}
+use Rattle.tk_stream.specs.Tables.{empty_tables}
+use Rattle.tk_aggregator.specs.Aggregates.{Aggregating, FollowsTaker}
+use Rattle.tk_live.specs.Told.{Told, tells}
+use Rattle.tk_live.specs.Commands.{Said}
+use Rattle.tk_live.specs.Course.{Names, Due, Course, start_of_all, step, line_after, course_of}
+use Rattle.tk_live.specs.Known.{owner_of, caller_of}
+use Rattle.tk_live.specs.Named.{EachLive}
+use Rattle.tk_live.specs.Ran.{picked, Each, IsLineOf, written_by}
+use Rattle.tk_live.specs.Script.{FrontOf, Fronts}
+use Rattle.tk_live.specs.Stops.{Stops, stop_of, Leaves, Goes, AllGo, LineStops, LineLeaves}
+use Rattle.tk_live.specs.declared.command.Line.{Line}
+use Rattle.tk_live.specs.declared.fault.AppFault.{AppFault}
+use Rattle.tk_live.specs.declared.fault.AppFault.TheVariants as faults
+use Rattle.tk_live.specs.declared.interpreter.Interpreter.{Interpreter}
+use Rattle.tk_live.specs.declared.stop.Stop.{Stop}
+
+-- what an offer tells
+abbrev pub offer_tells : Offer → Told
+offer_tells o = tells o.event
+
+-- how many items of each kind were made
+pub record Numbers : Type 0 where
+  pub tasks : ℕ
+  pub resources : ℕ
+  pub ops : ℕ
+
+-- those that names are of
+abbrev pub numbers_of : Names → Numbers
+numbers_of names = record { tasks = length names.tasks; resources = length names.resources; ops = length names.ops }
+
+-- a handle makes the calls of an owner, whose caller is 0
+abbrev pub IsOwner : TaskSight → Type 0
+IsOwner h = h.token.view.caller ≡ 0
+
+-- the handles are what the numbers name, and know what the text tells of them
+pub record Holds (i : Interpreter) (names : Names) : Type 0 where
+  pub tasks_are : map (option_map owner_of) i.tasks.items ≡ names.tasks
+  pub owners : EachLive IsOwner i.tasks.items
+  pub wakers_are : map (option_map caller_of) i.wakers.items ≡ names.wakers
+  pub resources_are : map (option_map owner_of) i.resources.items ≡ names.resources
+  pub users_are : map (option_map caller_of) i.users.items ≡ names.users
+  pub ops_are : map (option_map owner_of) i.ops.items ≡ names.ops
+
+-- the one recorder of a console offered what was recorded, and these marks tell what was kept
+pub record Offered (r : Recording) (capacity : ℕ) (numbers : Numbers) (told : List Told) (kept : List Bool) : Type 0 where
+  pub number : r.number ≡ 1
+  pub alone : r.recorders ≡ 1
+  pub capacity_is : r.capacity ≡ capacity
+  pub limit : r.limit ≡ last_number
+  pub one_each : length kept ≡ length told
+  pub made : offers_made r ≡ length told
+  pub picks : map offer_tells r.kept ≡ picked kept told
+  pub first : (i : ℕ) → i < length kept → i < capacity → slice_get kept i ≡ Some true
+  pub tasks_are : tasks_in r.kept + tasks_in r.refused ≡ numbers.tasks
+  pub resources_are : resources_in r.kept + resources_in r.refused ≡ numbers.resources
+  pub ops_are : ops_in r.kept + ops_in r.refused ≡ numbers.ops
+
+-- the taker of that console is not finished
+pub record Takes (r : Recording) (t : Taking) : Type 0 where
+  pub console : t.console ≡ r.console
+  pub recorders : t.recorders ≡ 1
+  pub unfinished : t.finished ≡ false
+  pub known : t.known ≡ []
+
+-- the lines so far: a stream that leads to where the aggregator is; each has what was taken by then
+pub record Sent (a : Aggregating) (t : Taking) (due : List Due) (sent : List Sending) : Type 0 where
+  pub follows : FollowsTaker a t
+  pub stream : GoesOn empty_tables 0 sent
+  pub told : a.told ≡ tables_sent empty_tables sent
+  pub last : a.last ≡ last_sent 0 sent
+  pub lines : Each (IsLineOf (map offer_tells t.taken)) due sent
+
+-- what stands even where a command stops the script
+pub record Keeps (r : Recording) (t : Taking) (a : Aggregating) (capacity : ℕ) (c : Course) (kept : List Bool) (sent : List Sending) : Type 0 where
+  pub offered : Offered r capacity (numbers_of c.names) c.told kept
+  pub takes : Takes r t
+  pub are : Sent a t c.due sent
+
+-- what stands of an interpreter
+abbrev pub Stays : Interpreter → ℕ → Course → List Bool → List Sending → Type 0
+Stays i capacity c kept sent = Keeps i.recorder i.taker i.aggregator capacity c kept sent
+
+-- an interpreter stands for what commands came to
+pub record StandsFor (i : Interpreter) (capacity : ℕ) (c : Course) (kept : List Bool) (sent : List Sending) : Type 0 where
+  pub keeps : Stays i capacity c kept sent
+  pub holds : Holds i c.names
+  pub begun : i.begun ≡ c.begun
+  pub capacity_is : i.capacity ≡ capacity
+  pub least : 0 < capacity
+  pub moment : i.aggregator.tables.now ≡ c.now
+  pub numbers : i.aggregator.last ≡ length c.due
+  pub going : i.aggregator.broken ≡ false
+
+-- what an interpreter keeps that stopped: that of a course that may be left
+pub record Rests (i : Interpreter) (capacity : ℕ) (IsLeft : Course → Type 0) (sent : List Sending) : Type 0 where
+  pub left : Course
+  pub is_left : IsLeft left
+  pub kept : List Bool
+  pub keeps : Stays i capacity left kept sent
+
+-- the bytes of these lines behind those
+abbrev pub bytes_behind : List Sending → List Sending → List ℕ
+bytes_behind sent more = bytes_sent (lines_sent (tables_sent empty_tables sent) more)
+
+-- a command that writes nothing went on, with marks for what it recorded; or it stopped, and what came before stays
+abbrev pub Did : ℕ → Course → List Bool → List Sending → ℕ → Said → Interpreter → Result (Unit {0}) Stop → Type 0
+Did capacity c kept sent line s new (Ok done) = (stop_of c s ≡ None) × (marks : List Bool) × StandsFor new capacity (step c line s) (kept ++ marks) sent
+Did capacity c kept sent line s new (Err stop) = Stops c s stop × Rests new capacity (Leaves c line s) sent
+
+-- whatever the interpreter stood for, the command that writes nothing did this
+abbrev pub Does : ℕ → Said → Interpreter → Interpreter → Result (Unit {0}) Stop → Type 0
+Does line s old new result =
+    (capacity : ℕ) (c : Course) (kept : List Bool) (sent : List Sending) → StandsFor old capacity c kept sent → Did capacity c kept sent line s new result
+
+-- a command went on, with marks and lines more; or it stopped, what came before stays, and a front may have gone out
+abbrev pub Came : (Course → ℕ → Said → Course) → ℕ → Course → List Bool → List Sending → ℕ → Said → Interpreter → Result (Unit {0}) Stop → Option (List ℕ) → Option (List ℕ) → Type 0
+Came next capacity c kept sent line s new (Ok done) before behind =
+    (stop_of c s ≡ None) × (marks : List Bool) × (more : List Sending) × StandsFor new capacity (next c line s) (kept ++ marks) (sent ++ more) × Appends before behind (bytes_behind sent more)
+Came next capacity c kept sent line s new (Err stop) before behind =
+    Stops c s stop × Rests new capacity (Leaves c line s) sent × (front : List ℕ) × FrontOf sent s stop front × Appends before behind front
+
+-- whatever the interpreter stood for, this came of the command
+abbrev pub Comes : (Course → ℕ → Said → Course) → ℕ → Said → Interpreter → Interpreter → Result (Unit {0}) Stop → Option (List ℕ) → Option (List ℕ) → Type 0
+Comes next line s old new result before behind =
+    (capacity : ℕ) (c : Course) (kept : List Bool) (sent : List Sending) → StandsFor old capacity c kept sent → Came next capacity c kept sent line s new result before behind
+
+-- whatever the interpreter stood for, this came of a line
+abbrev pub LineCame : ℕ → Course → List Bool → List Sending → ℕ → Line → Interpreter → Result (Unit {0}) Stop → Option (List ℕ) → Option (List ℕ) → Type 0
+LineCame capacity c kept sent n line new (Ok done) before behind =
+    Goes c (n, line) × (marks : List Bool) × (more : List Sending) × StandsFor new capacity (line_after c (n, line)) (kept ++ marks) (sent ++ more) × Appends before behind (bytes_behind sent more)
+LineCame capacity c kept sent n line new (Err stop) before behind =
+    LineStops c line stop × Rests new capacity (LineLeaves c (n, line)) sent × (front : List ℕ) × Fronts sent line stop front × Appends before behind front
+
+abbrev pub LineComes : ℕ → Line → Interpreter → Interpreter → Result (Unit {0}) Stop → Option (List ℕ) → Option (List ℕ) → Type 0
+LineComes n line old new result before behind =
+    (capacity : ℕ) (c : Course) (kept : List Bool) (sent : List Sending) → StandsFor old capacity c kept sent → LineCame capacity c kept sent n line new result before behind
+
+-- the line of this number stops the lines
+pub record Halts (script : List Line) (capacity number : ℕ) (stop : Stop) (new : Interpreter) (text : List ℕ) : Type 0 where
+  pub before : List Line
+  pub line : Line
+  pub behind : List Line
+  pub lines : script ≡ before ++ line ∷ behind
+  pub counted : number ≡ length before + 1
+  pub sent : List Sending
+  pub goes : AllGo start_of_all (enumerate_from 1 before)
+  pub rests : Rests new capacity (LineLeaves (course_of before) (number, line)) sent
+  pub stops : LineStops (course_of before) line stop
+  pub front : List ℕ
+  pub fronts : Fronts sent line stop front
+  pub all : text ≡ written_by sent ++ front
+
+-- this came of lines
+abbrev pub LinesCame : List Line → ℕ → Interpreter → Result (Unit {0}) AppFault → List ℕ → Type 0
+LinesCame script capacity new (Ok done) text =
+    AllGo start_of_all (enumerate_from 1 script) × (kept : List Bool) × (sent : List Sending) × StandsFor new capacity (course_of script) kept sent × (text ≡ written_by sent)
+LinesCame script capacity new (Err (faults.Script number stop)) text = Halts script capacity number stop new text
+LinesCame script capacity new (Err faults.Memory) text = ⊥

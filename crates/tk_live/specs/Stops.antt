@@ -1,0 +1,117 @@
+-- Why a command stops a script.
+use Rattle.std.specs.Prelude.{◌≡◌, ℕ, ◌^◌, ◌⊎◌, ◌==◌, List, [], ◌∷◌, ◌++◌, length, nat_lt, nat_le, Bool, true, false, Option, Some, None, option_map, if◌then◌else◌}
+use Rattle.tk_ids.specs.IdBlocks.{last_number}
+use Rattle.tk_core.specs.declared.history.Entry.{Entry}
+use Rattle.tk_core.specs.declared.reply.Refusal.{Refusal}
+use Rattle.tk_core.specs.declared.reply.Refusal.TheVariants.{AlreadyPolling, NotPolling, HandlesSpent}
+use Rattle.tk_core.specs.declared.reply.Reply.{Reply}
+use Rattle.tk_core.specs.declared.reply.Reply.TheVariants.{Refused}
+use Rattle.tk_core.specs.declared.task.call.TaskCall.TheVariants.{CloneWaker}
+use Rattle.tk_core.specs.Legal.{IsLegal}
+use Rattle.tk_core.specs.Meaning.{Meaning}
+use Rattle.tk_core.specs.Polls.{is_polling}
+use Rattle.tk_core.specs.Task.{start_at, end_at}
+use Rattle.tk_core.specs.TaskMeaning.{task_meaning}
+use Rattle.tk_cell.specs.Calls.{entry}
+use Rattle.tk_live.specs.Commands.{Said, view, task, start, finish, close, self_wake, clone, again, wake_ref, wake, release, poll_op, capacity, publish}
+use Rattle.tk_live.specs.Course.{Course, TaskHandled, line_after}
+use Rattle.tk_live.specs.Known.{Handled}
+use Rattle.tk_live.specs.Named.{made_item, live_item}
+use Rattle.tk_live.specs.declared.command.Line.{Line}
+use Rattle.tk_live.specs.declared.command.Line.TheVariants as lines
+use Rattle.tk_live.specs.declared.stop.Stop.{Stop}
+use Rattle.tk_live.specs.declared.stop.Stop.TheVariants.{BadCommand, NoSuchItem, Call, OffersSpent, Clock, NumbersSpent, Memory, WriteFault}
+
+-- a poll of a task is open, by the calls of its owner
+abbrev pub is_polled : TaskHandled → Bool
+is_polled h = is_polling start_at end_at h.calls
+
+-- a call that is made where no poll is open, of what is there
+abbrev pub unless_polled : Option Bool → Option Stop
+unless_polled None = Some NoSuchItem
+unless_polled (Some true) = Some (Call AlreadyPolling)
+unless_polled (Some false) = None
+
+-- a call that is made where a poll is open
+abbrev pub while_polled : Option Bool → Option Stop
+while_polled None = Some NoSuchItem
+while_polled (Some true) = None
+while_polled (Some false) = Some (Call NotPolling)
+
+-- what is there stops nothing, and then this may
+abbrev pub if_there : {X : Type 0} → Option X → Option Stop → Option Stop
+if_there None stop = Some NoSuchItem
+if_there (Some x) stop = stop
+
+-- a recorder makes so many offers, and no more
+abbrev pub offer_stop : Course → Option Stop
+offer_stop c = if length c.told == last_number then Some OffersSpent else None
+
+-- the stop that the text tells of a command, if it tells one
+abbrev pub stop_of : Course → Said → Option Stop
+stop_of c (task at kind name) = offer_stop c
+stop_of c (start n moment) = unless_polled (option_map is_polled (live_item n c.names.tasks))
+stop_of c (finish n moment) = while_polled (option_map is_polled (live_item n c.names.tasks))
+stop_of c (close n moment) = unless_polled (option_map is_polled (live_item n c.names.tasks))
+stop_of c (self_wake n moment) = while_polled (option_map is_polled (live_item n c.names.tasks))
+stop_of c (clone n) = if_there (live_item n c.names.tasks) None
+stop_of c (again n) = if_there (live_item n c.names.wakers) None
+stop_of c (wake_ref n moment) = if_there (live_item n c.names.wakers) None
+stop_of c (wake n moment) = if_there (live_item n c.names.wakers) None
+stop_of c (release n) = if_there (live_item n c.names.wakers) None
+stop_of c (poll_op r o t name ready) =
+    if_there (made_item r c.names.resources) (if_there (made_item o c.names.ops) (if_there (made_item t c.names.tasks) (offer_stop c)))
+stop_of c (capacity n) = if c.begun then Some BadCommand else None
+stop_of c (publish moment whole) =
+    if nat_lt moment c.now then Some Clock else
+    (if nat_le (2 ^ 63) (length c.due) then Some NumbersSpent else None)
+
+-- a ledger's own reply to a call on this handle: in some legal history, from the row that the ledger began with, the call is
+-- refused so
+pub record IsReply {Row C : Type 0} (m : Meaning Row C (Reply Row)) (handle : Option (Handled Row C)) (call : C) (refusal : Refusal) : Type 0 where
+  pub on : Handled Row C
+  pub is_on : handle ≡ Some on
+  pub opening : Row
+  pub opened : on.opening ≡ Some opening
+  pub opens : m.IsOpening opening
+  pub caller : ℕ
+  pub history : List (Entry C (Reply Row))
+  pub legal : IsLegal m opening (history ++ entry caller call (Refused refusal) ∷ [])
+
+-- what else may stop a command: its ledger's reply, want of memory, or a fault of the writer
+abbrev pub MayFail : Course → Said → Stop → Type 0
+MayFail c s Memory = Unit {0}
+MayFail c (publish moment whole) WriteFault = Unit {0}
+MayFail c (clone n) (Call HandlesSpent) = IsReply task_meaning (live_item n c.names.tasks) CloneWaker HandlesSpent
+MayFail c (again n) (Call HandlesSpent) = IsReply task_meaning (live_item n c.names.wakers) CloneWaker HandlesSpent
+MayFail c s stop = ⊥
+
+-- why a command stops: by what the text tells, or else where it may fail
+abbrev pub Stops : Course → Said → Stop → Type 0
+Stops c s stop = (stop_of c s ≡ Some stop) ⊎ MayFail c s stop
+
+-- what a command leaves that stops, on a line of this number: what was there before it
+abbrev pub Leaves : Course → ℕ → Said → Course → Type 0
+Leaves c line s left = left ≡ c
+
+-- a line that the text doesn't stop
+abbrev pub Goes : Course → ℕ × Line → Type 0
+Goes c (n, lines.Says command) = stop_of c (view command) ≡ None
+Goes c (n, lines.Skipped) = Unit {0}
+Goes c (n, lines.Bad) = ⊥
+
+-- lines of which the text stops none
+abbrev pub AllGo : Course → List (ℕ × Line) → Type 0
+AllGo c [] = Unit {0}
+AllGo c (l ∷ ls) = Goes c l × AllGo (line_after c l) ls
+
+-- why a line stops, behind lines that come to this
+abbrev pub LineStops : Course → Line → Stop → Type 0
+LineStops c lines.Bad stop = stop ≡ BadCommand
+LineStops c (lines.Says command) stop = Stops c (view command) stop
+LineStops c lines.Skipped stop = ⊥
+
+-- what a line leaves that stops
+abbrev pub LineLeaves : Course → ℕ × Line → Course → Type 0
+LineLeaves c (n, lines.Says command) left = Leaves c n (view command) left
+LineLeaves c (n, _) left = left ≡ c

@@ -1,0 +1,125 @@
+//! Tasks, and the calls of their owners.
+ghost use Rattle.std.specs.Prelude.{◌≡◌, IfOk};
+ghost use Rattle.tk_live.specs.Course as course;
+
+use super::Interpreter;
+use crate::seats::{put_seat, take_seat};
+use crate::stop::Stop;
+use std::alloc::Global;
+use std::sync::Wait;
+use tk_events::RecordError;
+use tk_ids::{IdError, Location, Name, TaskKind, TaskSpec};
+
+// What is told of a task on a line of the script.
+fn spec_of(alloc: Global, line: u32, kind: TaskKind, name: &[u8]) -> Result<TaskSpec, IdError>
+    ensures { IfOk result (λ spec. (spec.kind ≡ kind) × (spec.name ≡ name.now) × (spec.location ≡ course.place line)) }
+{
+    let name = Name::new(alloc, name)?;
+    let file = Name::new(alloc, b"script")?;
+    Ok(TaskSpec {
+        kind,
+        name,
+        location: Location {
+            file,
+            line,
+            column: 1,
+        },
+    })
+}
+
+impl Interpreter {
+    ghost use Rattle.std.specs.Prelude.{◌≡◌, ℕ, true};
+    ghost use Rattle.tk_ids.specs.Names.{is_name};
+    ghost use Rattle.tk_live.specs.Commands as said;
+    ghost use Rattle.tk_live.specs.Runs.{Does};
+
+    // A task, on a line of this number.
+    pub(super) fn make_task<R: Wait>(
+        &mut self,
+        rt: &R,
+        alloc: Global,
+        line: u32,
+        created: u64,
+        kind: TaskKind,
+        name: &[u8],
+    ) -> Result<(), Stop>
+        requires named { is_name name.now ≡ true }
+        ensures { Does line (said.task created kind name.now) self.old self.new result }
+    {
+        let Ok(spec) = spec_of(alloc, line, kind, name) else {
+            return Err(Stop::Memory);
+        };
+        if let Err(_) = self.tasks.reserve(1) {
+            return Err(Stop::Memory);
+        }
+        match self.recorder.task(rt, alloc, spec, created) {
+            Ok((owner, _became)) => {
+                self.tasks.push_reserved(Some(owner));
+                Ok(())
+            }
+            Err((RecordError::OffersSpent, _)) => Err(Stop::OffersSpent),
+            Err((RecordError::Memory, _)) => Err(Stop::Memory),
+        }
+    }
+
+    // A poll of a task starts.
+    pub(super) fn start<R: Wait>(&mut self, rt: &R, task: u64, moment: u64) -> Result<(), Stop>
+        ensures { (line : ℕ) → Does line (said.start task moment) self.old self.new result }
+    {
+        let Some(mut owner) = take_seat(&mut self.tasks, task) else {
+            return Err(Stop::NoSuchItem);
+        };
+        match owner.start_poll(rt, moment) {
+            Ok(()) => {
+                put_seat(&mut self.tasks, task, owner);
+                Ok(())
+            }
+            Err(refusal) => Err(Stop::Call(refusal)),
+        }
+    }
+
+    // It ends.
+    pub(super) fn end<R: Wait>(&mut self, rt: &R, task: u64, moment: u64) -> Result<(), Stop>
+        ensures { (line : ℕ) → Does line (said.finish task moment) self.old self.new result }
+    {
+        let Some(mut owner) = take_seat(&mut self.tasks, task) else {
+            return Err(Stop::NoSuchItem);
+        };
+        match owner.end_poll(rt, moment) {
+            Ok(()) => {
+                put_seat(&mut self.tasks, task, owner);
+                Ok(())
+            }
+            Err(refusal) => Err(Stop::Call(refusal)),
+        }
+    }
+
+    // A task is closed, which spends its owner.
+    pub(super) fn close<R: Wait>(&mut self, rt: &R, task: u64, moment: u64) -> Result<(), Stop>
+        ensures { (line : ℕ) → Does line (said.close task moment) self.old self.new result }
+    {
+        let Some(owner) = take_seat(&mut self.tasks, task) else {
+            return Err(Stop::NoSuchItem);
+        };
+        match owner.close(rt, moment) {
+            Ok(_receipt) => Ok(()),
+            Err((refusal, _)) => Err(Stop::Call(refusal)),
+        }
+    }
+
+    // A task wakes itself in its open poll.
+    pub(super) fn self_wake<R: Wait>(&mut self, rt: &R, task: u64, moment: u64) -> Result<(), Stop>
+        ensures { (line : ℕ) → Does line (said.self_wake task moment) self.old self.new result }
+    {
+        let Some(owner) = take_seat(&mut self.tasks, task) else {
+            return Err(Stop::NoSuchItem);
+        };
+        let mut scope = match owner.scope(moment) {
+            Ok(scope) => scope,
+            Err((refusal, _)) => return Err(Stop::Call(refusal)),
+        };
+        scope.wake_by_ref(rt, moment);
+        put_seat(&mut self.tasks, task, scope.finish());
+        Ok(())
+    }
+}

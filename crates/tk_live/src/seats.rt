@@ -1,0 +1,28 @@
+//! Handles that a script names by their numbers, from 1.
+ghost use Rattle.std.specs.Prelude.{◌≡◌, ◌-◌, ◌<◌, ◌≤◌, length, IfSome, IfNone, Some, None, is_some};
+ghost use Rattle.tk_live.specs.Named.{made_item, live_item, with_item};
+
+/// Whether a number names a handle that was made, be it spent or not.
+pub(crate) fn is_made<H: Drop>(seats: &Vec<Option<H>>, number: u64) -> bool
+    ensures made { result ≡ is_some (made_item number seats.now.items) }
+{
+    1 <= number && number as usize <= seats.len()
+}
+
+/// Takes out the handle of a number, if it was made and is not spent.
+pub(crate) fn take_seat<H: Drop>(seats: &mut Vec<Option<H>>, number: u64) -> Option<H>
+    ensures taken { result ≡ live_item number seats.old.items }
+    ensures left { IfSome result (λ h. seats.new.items ≡ with_item number None seats.old.items) }
+    ensures same { IfNone result (seats.new.items ≡ seats.old.items) }
+{
+    let index = number.checked_sub(1)? as usize;
+    seats.get_mut(index)?.take()
+}
+
+/// Puts a handle back.
+pub(crate) fn put_seat<H: Drop>(seats: &mut Vec<Option<H>>, number: u64, handle: H)
+    requires { (1 ≤ number) × (number - 1 < length seats.old.items) }
+    ensures { seats.new.items ≡ with_item number (Some handle) seats.old.items }
+{
+    seats[number as usize - 1] = Some(handle);
+}
