@@ -20,6 +20,7 @@ use Rattle.tk_events.specs.Handles.{Taking, HasPlaceId, HasOwnIds, IsSettled, Al
 use Rattle.tk_stream.specs.Tables.{item_with}
 use Rattle.tk_aggregator.specs.Absorbing.{Infos, no_infos, with_info, absorbed, absorb}
 use Rattle.tk_aggregator.specs.Finished.{AreTheKept}
+use Rattle.tk_aggregator.specs.Told.{Told, tells}
 use Rattle.tk_aggregator.proofs.KeptIdLemmas.{InBlock, Apart, in_block, apart}
 
 -- a recorder whose number is known
@@ -69,7 +70,10 @@ of_both Q p (o ∷ os) mine others = All-cons Q o os
 
 -- ---- one kind of items
 
-module _ {Info : Type 0} (id : Info → ℕ) (made : Shown → List Info) (cases : (e : Shown) → (made e ≡ []) ⊎ ((info : Info) × (made e ≡ info ∷ []))) where
+module _ {Info : Type 0} (id : Info → ℕ) (told : Told → List Info) (cases : (e : Shown) → (told (tells e) ≡ []) ⊎ ((info : Info) × (told (tells e) ≡ info ∷ []))) where
+  abbrev made : Shown → List Info
+  made e = told (tells e)
+
   abbrev made_by : List Offer → List Info
   made_by os = flat_map (λ (o : Offer). made o.event) os
 
@@ -196,8 +200,8 @@ module _ {Info : Type 0} (id : Info → ℕ) (made : Shown → List Info) (cases
           absorbs (events_of t) no_infos ∙ (ap (λ l. fold add l (flat_map made (events_of t))) none
           ∙ (ap (λ l. fold add [] l) (flat_map-map made (λ (o : Offer). o.event) t.taken) ∙ add_all [] (made_by t.taken) once))
 
-      pub are_the_kept : AreTheKept id made t.known (get (absorb no_infos (events_of t)))
-      are_the_kept = subst (λ l. AreTheKept id made t.known l) (sym each) (record {
+      pub are_the_kept : AreTheKept id told t.known (get (absorb no_infos (events_of t)))
+      are_the_kept = subst (λ l. AreTheKept id told t.known l) (sym each) (record {
         in_order = λ k d lt. let r = get_or t.known k d in of_recorder r.number t.taken blocks ∙ ap made_by (all k d lt);
         theirs = all_made (λ info. 0 < times (recorder_of (id info)) (numbers_known t.known)) t.taken (λ k d lt info e.
             let o = get_or t.taken k d in

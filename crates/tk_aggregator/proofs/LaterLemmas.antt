@@ -6,7 +6,7 @@ use Rattle.tk_events.specs.Handles.{Taking}
 use Rattle.tk_events.specs.declared.event.Event.{Event}
 use Rattle.tk_events.specs.declared.event.Event.TheVariants as events
 use Rattle.tk_ledgers.specs.Handles.{Sight}
-use Rattle.tk_aggregator.specs.Absorbing.{one_more}
+use Rattle.tk_stream.specs.Polls.{one_more}
 use Rattle.tk_aggregator.specs.Aggregates.{Aggregating, Gathers, Collects, TakesIn, TakesAllIn, IsLaterOf, free}
 use Rattle.tk_stream.specs.Applied.{Kind, task_kind, resource_kind, op_kind, counts_kind, BeginWith}
 use Rattle.tk_aggregator.specs.Readings.{IsLater, AreLater}

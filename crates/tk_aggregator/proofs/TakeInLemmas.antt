@@ -15,7 +15,7 @@ use Rattle.tk_ids.specs.declared.info.TaskInfo.{TaskInfo}
 use Rattle.tk_ledgers.specs.Ops.{OpSight}
 use Rattle.tk_ledgers.specs.Resources.{ResourceSight}
 use Rattle.tk_ledgers.specs.Tasks.{TaskSight}
-use Rattle.tk_aggregator.specs.Absorbing.{counted, one_more}
+use Rattle.tk_stream.specs.Polls.{counted, one_more}
 use Rattle.tk_aggregator.specs.Aggregates.{Pairs, ReadTask, ReadResource, ReadOp, TakesIn}
 use Rattle.tk_stream.specs.Fronts.{ToldView, with_rows, task_at, resource_at, op_at, counts_at, told_tables}
 use Rattle.tk_aggregator.specs.Readings.{Reads, task_ledger, resource_ledger, op_ledger}

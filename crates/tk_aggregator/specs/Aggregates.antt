@@ -1,5 +1,5 @@
 -- What an aggregator is, and what its calls make of it.
-use Rattle.std.specs.Prelude.{◌≡◌, ℕ, ◌+◌, ◌^◌, ◌<◌, ◌≤◌, List, [], ◌∷◌, ◌++◌, map, length, Bool, true, false, Option, Some, None, IfSome, IfNone, if◌then◌else◌}
+use Rattle.std.specs.Prelude.{◌≡◌, ℕ, ◌+◌, ◌^◌, ◌<◌, ◌≤◌, List, [], ◌∷◌, ◌++◌, map, length, Bool, true, false, Option, Some, None, IfSome, IfNone}
 use Rattle.std.specs.Io.KnownBytes.{Appends}
 use Rattle.crossbeam_queue.specs.Fifo.{Held}
 use Rattle.tk_core.specs.declared.op.row.OpRow.{OpRow}
@@ -20,13 +20,14 @@ use Rattle.tk_aggregator.specs.declared.stream_error.StreamError.TheVariants as 
 use Rattle.tk_stream.specs.declared.op.Op.{Op}
 use Rattle.tk_stream.specs.declared.resource.Resource.{Resource}
 use Rattle.tk_stream.specs.declared.task.Task.{Task}
-use Rattle.tk_aggregator.specs.Absorbing.{infos_of, no_infos, absorb, counted}
+use Rattle.tk_aggregator.specs.Absorbing.{infos_of, no_infos, absorb}
 use Rattle.tk_stream.specs.Applied.{GoOn}
 use Rattle.tk_stream.specs.Fronts.{with_rows, task_at, resource_at, op_at}
-use Rattle.tk_stream.specs.Lines.{LineView, line_between, snapshot_of}
+use Rattle.tk_stream.specs.Lines.{LineView}
+use Rattle.tk_stream.specs.Polls.{counted}
 use Rattle.tk_aggregator.specs.Readings.{task_ledger, resource_ledger, op_ledger, Reads, IsRead, ReadAll, AreLater}
 use Rattle.tk_stream.specs.Spelling.{sent_text}
-use Rattle.tk_stream.specs.Streams.{AreInRange, Sending}
+use Rattle.tk_stream.specs.Streams.{AreInRange, Sending, sending, line_sent}
 use Rattle.tk_stream.specs.Tables.{TablesView, empty_tables, AreFit, task_with, with_task, resource_with, with_resource, op_with, with_op}
 use Rattle.tk_stream.specs.Sent.{IsCut}
 
@@ -268,17 +269,17 @@ pub record Refreshes (old new : Aggregating) : Type 0 where
 abbrev pub tables_at : Aggregating → ℕ → TablesView
 tables_at a now = record a.tables { now = now }
 
--- the line at this moment: the next one from what was told, or a snapshot
+-- what is sent at this moment: the next line, as a snapshot or not
+abbrev pub sending_at : Bool → Aggregating → ℕ → Sending
+sending_at snapshot a now = sending (tables_at a now) (a.last + 1) snapshot
+
+-- that line: it leads on from what was told, or is a snapshot
 abbrev pub line_at : Bool → Aggregating → ℕ → LineView
-line_at snapshot a now = if snapshot then snapshot_of (tables_at a now) (a.last + 1) else line_between a.told (tables_at a now) (a.last + 1)
+line_at snapshot a now = line_sent a.told (sending_at snapshot a now)
 
 -- what stands behind that line
 abbrev pub after_line : Aggregating → ℕ → Aggregating
 after_line a now = record a { tables = tables_at a now; told = tables_at a now; last = a.last + 1; broken = false }
-
--- that line as one of a stream
-abbrev pub sending_at : Bool → Aggregating → ℕ → Sending
-sending_at snapshot a now = record { tables = tables_at a now; seq = a.last + 1; snapshot = snapshot }
 
 -- a line may go on: it isn't broken, or a snapshot
 abbrev pub MayGoOn : Bool → Aggregating → Type 0

@@ -8,8 +8,8 @@ ghost use Rattle.tk_aggregator.specs.Readings.{EachReads, ReadAll, Reads, task_l
 ghost use Rattle.tk_ledgers.specs.Ops.{OpSight};
 ghost use Rattle.tk_ledgers.specs.Resources.{ResourceSight};
 ghost use Rattle.tk_ledgers.specs.Tasks.{TaskSight};
-ghost use Rattle.tk_aggregator.specs.Absorbing as absorbing;
-ghost use Rattle.tk_aggregator.specs.Absorbing.{counted};
+ghost use Rattle.tk_stream.specs.Polls as polls;
+ghost use Rattle.tk_stream.specs.Polls.{counted};
 ghost use Rattle.tk_stream.specs.Tables.{item_with, task_with, with_task, resource_with, with_resource, op_with, with_op};
 
 use std::alloc::AllocError;
@@ -253,7 +253,7 @@ pub(crate) fn put_op<R: Wait>(
 
 /// The counts with one more that was ready, or pending.
 fn one_more(ready: bool, counts: (u64, u64)) -> (u64, u64)
-    ensures { result ≡ absorbing.one_more ready counts }
+    ensures { result ≡ polls.one_more ready counts }
 {
     let (was_ready, was_pending) = counts;
     if ready {

@@ -2,7 +2,7 @@
 use Rattle.std.proofs.Common.{◌≡◌, ℕ, Bool, refl, ◌∙◌}
 use Rattle.tk_ids.specs.Ids.{id_of}
 use Rattle.tk_stream.specs.Tables.{TablesView, counts_of, with_counts}
-use Rattle.tk_app.specs.Counts.{one_more, counted}
+use Rattle.tk_stream.specs.Polls.{one_more, counted}
 use Rattle.tk_app.specs.Items.{Made, tables_at}
 
 -- the tables with one more poll operation hold its count

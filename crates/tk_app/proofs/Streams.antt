@@ -23,11 +23,12 @@ use Rattle.tk_app.specs.declared.refusal.Stop.{Stop}
 use Rattle.tk_app.specs.declared.refusal.Stop.TheVariants.{BadCommand, Call, OffersSpent, Clock, NumbersSpent}
 use Rattle.tk_app.specs.declared.waker.Waker.{Waker}
 use Rattle.tk_app.specs.Commands.{Said, task, task_owner, waker, resource, resource_owner, resource_user, op, op_task, op_owner, poll_op, publish, said, is_skipped}
-use Rattle.tk_app.specs.Counts.{counted, counts_after}
+use Rattle.tk_stream.specs.Polls.{counted}
+use Rattle.tk_app.specs.Counts.{counts_after}
 use Rattle.tk_app.specs.Items.{made_item, live_item, TaskItem, is_closed_task, new_task, ResourceItem, is_closed_resource, new_resource, OpItem, is_closed_op, new_op, Made, tables_at}
 use Rattle.tk_app.specs.Script.{State, Doing, start, call_does, item_refusal, task_refusal, task_called, resource_called, op_called, op_call_does, if_made, waker_does, offered, published, does, line_does, with_text, then_line, lines_do}
-use Rattle.tk_app.specs.Stream.{Placed, command_in, commands_in, wakers_of, task_making, task_calling, resource_making, resource_calling, op_making, op_calling, counts_by, made_by, tables_by, publications, stream_from}
-use Rattle.tk_app.specs.Told.{line_told}
+use Rattle.tk_app.specs.Stream.{Placed, command_in, commands_in, wakers_of, task_making, task_calling, resource_making, resource_calling, op_making, op_calling, counts_by, made_by, tables_by, publications, sendings_from}
+use Rattle.tk_stream.specs.Streams.{sending, line_sent, lines_sent, bytes_sent}
 use Rattle.tk_app.specs.Wakers.{wakers_after, is_spent_waker}
 use Rattle.tk_app.proofs.Runs.{enumerate_push}
 use Rattle.tk_app.proofs.Standing.{live_made}
@@ -38,14 +39,18 @@ abbrev shown_after : TablesView → List (TablesView × Bool) → TablesView
 shown_after old [] = old
 shown_after old (t ∷ ts) = shown_after t.0 ts
 
-stream_push : (n : ℕ) (old : TablesView) (ts : List (TablesView × Bool)) (t : TablesView × Bool) → stream_from n old (ts ++ t ∷ []) ≡ stream_from n old ts ++ sent_text (line_told (shown_after old ts) t.0 (n + length ts) t.1)
+-- the bytes of publications, numbered on from a number
+abbrev stream_from : ℕ → TablesView → List (TablesView × Bool) → List ℕ
+stream_from n old ts = bytes_sent (lines_sent old (sendings_from n ts))
+
+stream_push : (n : ℕ) (old : TablesView) (ts : List (TablesView × Bool)) (t : TablesView × Bool) → stream_from n old (ts ++ t ∷ []) ≡ stream_from n old ts ++ sent_text (line_sent (shown_after old ts) (sending t.0 (n + length ts) t.1))
 stream_push n old [] t =
     let e : n ≡ n + 0 = omega arith in
-    append-nil (sent_text (line_told old t.0 n t.1)) ∙ ap (λ m. sent_text (line_told old t.0 m t.1)) e
+    append-nil (sent_text (line_sent old (sending t.0 n t.1))) ∙ ap (λ m. sent_text (line_sent old (sending t.0 m t.1))) e
 stream_push n old (x ∷ ts) t =
     let e : (n + 1) + length ts ≡ n + length (x ∷ ts) = omega arith in
-    ap (λ rest. sent_text (line_told old x.0 n x.1) ++ rest) (stream_push (n + 1) x.0 ts t ∙ ap (λ m. stream_from (n + 1) x.0 ts ++ sent_text (line_told (shown_after x.0 ts) t.0 m t.1)) e)
-    ∙ sym (append_assoc (sent_text (line_told old x.0 n x.1)) (stream_from (n + 1) x.0 ts) (sent_text (line_told (shown_after x.0 ts) t.0 (n + length (x ∷ ts)) t.1)))
+    ap (λ rest. sent_text (line_sent old (sending x.0 n x.1)) ++ rest) (stream_push (n + 1) x.0 ts t ∙ ap (λ m. stream_from (n + 1) x.0 ts ++ sent_text (line_sent (shown_after x.0 ts) (sending t.0 m t.1))) e)
+    ∙ sym (append_assoc (sent_text (line_sent old (sending x.0 n x.1))) (stream_from (n + 1) x.0 ts) (sent_text (line_sent (shown_after x.0 ts) (sending t.0 (n + length (x ∷ ts)) t.1))))
 
 shown_push : (old : TablesView) (ts : List (TablesView × Bool)) (t : TablesView × Bool) → shown_after old (ts ++ t ∷ []) ≡ t.0
 shown_push old [] t = refl
@@ -111,7 +116,7 @@ counts_stay : (commands : List Placed) (line : ℕ) (c : Said) (s : State) {text
 counts_stay commands line c s l kept = l.made.counts ∙ sym (counts_push commands (line, c) ∙ kept)
 
 publish_leaves : (commands : List Placed) (s : State) (text : List ℕ) (line now : ℕ) (whole : Bool) → Leaves commands s text
-    → Leaves (commands ++ (line, publish now whole) ∷ []) (published s now) (text ++ sent_text (line_told s.shown (tables_at s.made now) (s.lines + 1) whole))
+    → Leaves (commands ++ (line, publish now whole) ∷ []) (published s now) (text ++ sent_text (line_sent s.shown (sending (tables_at s.made now) (s.lines + 1) whole)))
 publish_leaves commands s text line now whole l =
     let c : Placed = (line, publish now whole) in
     let new : TablesView × Bool = (tables_at (made_by commands) now, whole) in
@@ -302,5 +307,5 @@ lines_leave before (line ∷ rest) s t text all l h =
     ] refl h
 
 -- lines without a fault write the stream of their publications
-pub writes_stream : (lines : List (List ℕ)) (s : State) (all : List ℕ) → lines_do lines ≡ Ok (s, all) → all ≡ stream_from 1 empty_tables (publications (commands_in lines))
+pub writes_stream : (lines : List (List ℕ)) (s : State) (all : List ℕ) → lines_do lines ≡ Ok (s, all) → all ≡ bytes_sent (lines_sent empty_tables (sendings_from 1 (publications (commands_in lines))))
 writes_stream lines s all h = (lines_leave [] lines start s [] all leaves_none h).sent

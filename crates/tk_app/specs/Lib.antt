@@ -7,12 +7,11 @@ pub mod Commands
 pub mod Items
 pub mod Wakers
 pub mod Counts
-pub mod Told
 pub mod Refusals
 pub mod Script
 -- What a script without a fault writes
 pub mod Stream
--- Reading and sending
+-- Reading a script
 pub mod Transfer
 pub mod Faults
 -- Inner: no public clause cites these

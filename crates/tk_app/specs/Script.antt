@@ -15,12 +15,13 @@ use Rattle.tk_core.specs.declared.op.call.OpCall.TheVariants.{SetTask}
 use Rattle.tk_core.specs.Resource.{resource_kind}
 use Rattle.tk_core.specs.declared.resource.call.ResourceCall.{ResourceCall}
 use Rattle.tk_stream.specs.Tables.{TablesView, empty_tables}
+use Rattle.tk_stream.specs.Polls.{counted}
+use Rattle.tk_stream.specs.Sent.{IsCut}
 use Rattle.tk_stream.specs.Spelling.{sent_text}
 use Rattle.tk_app.specs.Commands.{Said, task, task_owner, waker, resource, resource_owner, resource_user, op, op_task, op_owner, poll_op, publish, said, is_skipped, lines_of}
-use Rattle.tk_app.specs.Counts.{counted}
 use Rattle.tk_app.specs.Items.{Item, row_of, with_call, made_item, live_item, with_item, TaskItem, is_closed_task, new_task, ResourceItem, is_closed_resource, new_resource, OpItem, is_closed_op, new_op, Made, none_made, tables_at}
-use Rattle.tk_app.specs.Told.{line_told}
-use Rattle.tk_app.specs.Transfer.{IsCut, IsScript}
+use Rattle.tk_stream.specs.Streams.{sending, line_sent}
+use Rattle.tk_app.specs.Transfer.{IsScript}
 use Rattle.tk_app.specs.Refusals.{stop_name}
 use Rattle.tk_app.specs.Wakers.{wakers_after, is_spent_waker}
 use Rattle.tk_app.specs.declared.waker.Waker.{Waker}
@@ -121,7 +122,7 @@ does line s (poll_op r o t ready) =
 does line s (publish now whole) =
     if nat_lt now s.shown.now then Err Clock else
     (if nat_le (2 ^ 63) s.lines then Err NumbersSpent else
-    Ok (published s now, sent_text (line_told s.shown (tables_at s.made now) (s.lines + 1) whole)))
+    Ok (published s now, sent_text (line_sent s.shown (sending (tables_at s.made now) (s.lines + 1) whole))))
 
 -- what a line does, of this number
 abbrev pub line_does : ℕ → State → List ℕ → Doing

@@ -8,11 +8,10 @@ use Rattle.tk_core.specs.declared.op.call.OpCall.TheVariants.{SetTask}
 use Rattle.tk_core.specs.declared.resource.call.ResourceCall.{ResourceCall}
 use Rattle.tk_core.specs.Lists.{each_with_before}
 use Rattle.tk_stream.specs.Tables.{TablesView, PollCounts, empty_tables}
-use Rattle.tk_stream.specs.Spelling.{sent_text}
+use Rattle.tk_stream.specs.Streams.{Sending, sending, lines_sent, bytes_sent}
 use Rattle.tk_app.specs.Commands.{Said, task, task_owner, waker, resource, resource_owner, resource_user, op, op_task, op_owner, publish, said, is_skipped, lines_of}
 use Rattle.tk_app.specs.Counts.{counts_after}
 use Rattle.tk_app.specs.Items.{Item, made_item, TaskItem, new_task, ResourceItem, new_resource, OpItem, new_op, Made, tables_at}
-use Rattle.tk_app.specs.Told.{line_told}
 use Rattle.tk_app.specs.Wakers.{wakers_after}
 use Rattle.tk_app.specs.declared.waker.Waker.{Waker}
 
@@ -119,11 +118,11 @@ tables_by (before, (line, _)) = None
 abbrev pub publications : List Placed → List (TablesView × Bool)
 publications commands = filter_map tables_by (each_with_before commands)
 
--- a line from each tables to the next, numbered on from this number, each with its line end
-abbrev pub stream_from : ℕ → TablesView → List (TablesView × Bool) → List ℕ
-stream_from number old [] = []
-stream_from number old (new ∷ more) = sent_text (line_told old new.0 number new.1) ++ stream_from (number + 1) new.0 more
+-- these publications as lines of a stream, numbered on from this number
+abbrev pub sendings_from : ℕ → List (TablesView × Bool) → List Sending
+sendings_from number [] = []
+sendings_from number (p ∷ ps) = sending p.0 number p.1 ∷ sendings_from (number + 1) ps
 
 -- what a script without a fault writes: the lines of its publications, numbered from 1, the first from empty tables
 abbrev pub output_of : List ℕ → List ℕ
-output_of script = stream_from 1 empty_tables (publications (commands_in (lines_of script)))
+output_of script = bytes_sent (lines_sent empty_tables (sendings_from 1 (publications (commands_in (lines_of script)))))

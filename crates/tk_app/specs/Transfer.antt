@@ -1,6 +1,5 @@
--- What reading a whole script and sending a text do to the known bytes.
-use Rattle.std.specs.Prelude.{◌≡◌, ℕ, ◌<◌, ◌≤◌, List, ◌++◌, length, Option, IfSome, Result, Ok, Err}
-use Rattle.std.specs.Io.KnownBytes.{Appends}
+-- What reading a whole script does to the known bytes.
+use Rattle.std.specs.Prelude.{◌≡◌, ℕ, ◌≤◌, List, length, Option, IfSome}
 use Rattle.tk_app.specs.declared.fault.AppFault.{AppFault}
 use Rattle.tk_app.specs.declared.fault.AppFault.TheVariants as faults
 
@@ -17,14 +16,3 @@ abbrev pub IsReading : AppFault → Type 0
 IsReading faults.Memory = Unit {0}
 IsReading faults.Read = Unit {0}
 IsReading other = ⊥
-
--- a proper front of the text
-pub record IsCut (text front : List ℕ) : Type 0 where
-  pub rest : List ℕ
-  pub whole : text ≡ front ++ rest
-  pub unsent : 0 < length rest
-
--- all of the text went out, or a proper front of it
-abbrev pub Sends : {E : Type 0} → Option (List ℕ) → Option (List ℕ) → List ℕ → Result (Unit {0}) E → Type 0
-Sends old new text (Ok done) = Appends old new text
-Sends old new text (Err e) = (front : List ℕ) × IsCut text front × Appends old new front

@@ -1,9 +1,9 @@
 ghost use Rattle.std.specs.Prelude.{IfOk, IfErr};
-ghost use Rattle.tk_app.specs.Transfer.{IsScript, IsReading, Sends};
+ghost use Rattle.tk_app.specs.Transfer.{IsScript, IsReading};
 
 use crate::fault::AppFault;
 use std::alloc::Global;
-use std::io::{Read, Write};
+use std::io::Read;
 
 /// The longest script that is read.
 pub const MAX_SCRIPT: usize = 1_048_576;
@@ -30,23 +30,4 @@ pub fn read_script<R: Read>(alloc: Global, reader: &mut R) -> Result<Vec<u8>, Ap
         }
     }
     Err(AppFault::Read)
-}
-
-/// What a writer did not take.
-#[derive(Clone, Copy, Debug)]
-pub struct Unsent;
-
-/// Writes all bytes, or a proper front of them where the writer gives an error or takes none.
-pub fn send<W: Write>(writer: &mut W, bytes: &[u8]) -> Result<(), Unsent>
-    ensures { Sends (W.contents writer.old) (W.contents writer.new) bytes.now result }
-{
-    let mut rest = bytes;
-    while !rest.is_empty() {
-        match writer.write(rest) {
-            Ok(0) => return Err(Unsent),
-            Ok(n) => (_, rest) = rest.split_at(n),
-            Err(_) => return Err(Unsent),
-        }
-    }
-    Ok(())
 }

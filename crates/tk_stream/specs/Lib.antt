@@ -1,5 +1,6 @@
 -- What tables hold, and what their calls make of it
 pub mod Tables
+pub mod Polls
 -- What a line says
 pub mod Rows
 pub mod Lines

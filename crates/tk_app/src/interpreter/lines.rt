@@ -3,15 +3,14 @@ ghost use Rattle.std.specs.Prelude.{◌≡◌, true, IfOk};
 ghost use Rattle.tk_stream.specs.Lines as lines;
 ghost use Rattle.tk_stream.specs.Spelling.{sent_text};
 ghost use Rattle.tk_app.specs.Items.{none_dropped};
-ghost use Rattle.tk_app.specs.Told.{line_told};
+ghost use Rattle.tk_stream.specs.Streams.{sending, line_sent};
 
 use super::Interpreter;
 use crate::refusal::Stop;
-use crate::transfer::send;
 use std::alloc::Global;
 use std::io::Write;
 use tk_ids::Dropped;
-use tk_stream::{Line, LineError, Tables};
+use tk_stream::{Line, LineError, Tables, send};
 
 /// The greatest number of a line.
 const LAST_LINE: u64 = 1 << 63;
@@ -31,7 +30,7 @@ fn told(
     whole: bool,
 ) -> Result<Line, LineError>
     requires { lines.is_seq seq ≡ true }
-    ensures { IfOk result (λ line. line ≡ line_told shown.now next.now seq whole) }
+    ensures { IfOk result (λ line. line ≡ line_sent shown.now (sending next.now seq whole)) }
 {
     if whole {
         let empty = Tables::new(alloc)?;
@@ -52,7 +51,7 @@ fn line_of(
 ) -> Result<(Tables, Vec<u8>), LineError>
     requires { lines.is_seq seq ≡ true }
     ensures { IfOk result (λ made. let next = record tables.now { dropped = none_dropped; now = now } in
-        (made.0 ≡ next) × (made.1.items ≡ sent_text (line_told shown.now next seq whole))) }
+        (made.0 ≡ next) × (made.1.items ≡ sent_text (line_sent shown.now (sending next seq whole)))) }
 {
     let mut next = tables.copy()?;
     next.set_totals(NONE_DROPPED, now);

@@ -1,6 +1,6 @@
 //! Poll operations.
 ghost use Rattle.std.specs.Prelude.{◌≡◌};
-ghost use Rattle.tk_app.specs.Counts as spec;
+ghost use Rattle.tk_stream.specs.Polls as spec;
 
 use super::Interpreter;
 use super::ops::made_op;

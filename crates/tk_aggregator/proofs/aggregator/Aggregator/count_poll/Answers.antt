@@ -1,5 +1,5 @@
 use Rattle.std.proofs.Common.{◌≡◌, subst}
-use Rattle.tk_aggregator.specs.Absorbing.{counted}
+use Rattle.tk_stream.specs.Polls.{counted}
 use Rattle.tk_aggregator.specs.Aggregates.{Aggregating}
 use Rattle.tk_aggregator.proofs.StandingLemmas.{whole}
 use Rattle.tk_aggregator.proofs.TakeInLemmas.{poll_stands, poll_counts}

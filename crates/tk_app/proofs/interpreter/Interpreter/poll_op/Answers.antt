@@ -1,6 +1,6 @@
 use Rattle.std.proofs.Common.{◌≡◌, refl, sym, ◌∙◌}
 use Rattle.tk_ids.specs.Ids.{id_of}
-use Rattle.tk_app.specs.Counts.{counted}
+use Rattle.tk_stream.specs.Polls.{counted}
 use Rattle.tk_app.specs.Items.{task_of, resource_of, op_of}
 use Rattle.tk_app.specs.Rows.{id_in, resource_id_in, op_id_in}
 use Rattle.tk_app.specs.Runs.{resource_item_id}
