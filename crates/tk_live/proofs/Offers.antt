@@ -4,28 +4,23 @@ use Rattle.std.specs.Prelude.{map, fold}
 use Rattle.std.proofs.lemmas.List.{map-append, length-map, append-nil}
 use Rattle.std.proofs.lemmas.List.Sums.{sum_by_push}
 use Rattle.tk_events.specs.declared.event.Shown.{Shown}
-use Rattle.tk_events.specs.declared.event.Shown.TheVariants.{MadeTask, MadeResource, MadeOp, Polled}
 use Rattle.tk_events.specs.declared.item.Offer.{Offer}
 use Rattle.tk_events.specs.declared.recorder.Recorded.{Recorded}
 use Rattle.tk_events.specs.declared.recorder.Recorded.TheVariants.{Kept, DroppedFull}
 use Rattle.tk_events.specs.Handles.{Recording, IsSameRecorder, next_offer, with_kept, with_refused}
 use Rattle.tk_events.specs.Offers.{is_task, is_resource, is_op, tasks_in, resources_in, ops_in}
-use Rattle.tk_aggregator.specs.Absorbing.{Infos, absorbed, absorb, no_infos}
-use Rattle.tk_live.specs.Told.{Told, tells, with_told, infos_told}
+use Rattle.tk_aggregator.specs.Absorbing.{Infos, absorb, no_infos}
+use Rattle.tk_aggregator.specs.Told.{Told, tells}
+use Rattle.tk_aggregator.specs.Absorbing.{with_told}
+use Rattle.tk_live.specs.Ran.{infos_told}
 use Rattle.tk_live.specs.Ran.{picked}
 use Rattle.tk_live.specs.Runs.{offer_tells, Numbers, Offered}
 use Rattle.tk_live.proofs.Lists.{picked_push, picked_few, first_push}
 
 -- events add to infos and counts what they tell
-absorbed_told : (infos : Infos) (s : Shown) → absorbed infos s ≡ with_told infos (tells s)
-absorbed_told infos (MadeTask info ledger caller) = refl
-absorbed_told infos (MadeResource info ledger caller) = refl
-absorbed_told infos (MadeOp info ledger caller) = refl
-absorbed_told infos (Polled op) = refl
-
 absorb_told : (infos : Infos) (ss : List Shown) → absorb infos ss ≡ fold with_told infos (map tells ss)
 absorb_told infos [] = refl
-absorb_told infos (s ∷ ss) = ap (λ i. absorb i ss) (absorbed_told infos s) ∙ absorb_told (with_told infos (tells s)) ss
+absorb_told infos (s ∷ ss) = absorb_told (with_told infos (tells s)) ss
 
 pub absorb_is : (ss : List Shown) → absorb no_infos ss ≡ infos_told (map tells ss)
 absorb_is ss = absorb_told no_infos ss

@@ -13,7 +13,7 @@ use Rattle.tk_aggregator.specs.Aggregates.{Aggregating, FollowsTaker, IsSound, I
 use Rattle.tk_aggregator.specs.declared.stream_error.StreamError.{StreamError}
 use Rattle.tk_aggregator.specs.declared.stream_error.StreamError.TheVariants as errors
 use Rattle.tk_stream.specs.Streams.{Sending, MaySend, tables_sent, line_sent}
-use Rattle.tk_live.specs.Told.{Told, tells}
+use Rattle.tk_aggregator.specs.Told.{Told, tells}
 use Rattle.tk_live.specs.Commands.{publish}
 use Rattle.tk_live.specs.Course.{Due, Course}
 use Rattle.tk_live.specs.Ran.{IsLineOf}

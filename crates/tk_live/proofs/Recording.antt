@@ -9,7 +9,7 @@ use Rattle.tk_events.specs.Handles.{Recording, Taking, IsSameRecorder, offers_ma
 use Rattle.tk_events.specs.Items as events
 use Rattle.tk_stream.specs.Streams.{Sending}
 use Rattle.tk_aggregator.specs.Aggregates.{Aggregating}
-use Rattle.tk_live.specs.Told.{Told}
+use Rattle.tk_aggregator.specs.Told.{Told}
 use Rattle.tk_live.specs.Course.{Names, Course, place, task_info}
 use Rattle.tk_live.specs.Runs.{Numbers, numbers_of, Keeps, Offered}
 use Rattle.tk_live.specs.Stops.{offer_stop}

@@ -14,7 +14,7 @@ use Rattle.tk_core.specs.declared.task.call.TaskCall.{TaskCall}
 use Rattle.tk_core.specs.declared.task.call.TaskCall.TheVariants.{Enlist, PollStart, PollEnd, CloneWaker, WakeRef}
 use Rattle.tk_core.specs.declared.task.row.TaskRow.{TaskRow}
 use Rattle.tk_core.specs.Task.{opening_row}
-use Rattle.tk_live.specs.Told.{Told, made_task, polled}
+use Rattle.tk_aggregator.specs.Told.{Told, made_task, polled}
 use Rattle.tk_live.specs.Commands.{Said, view, task, start, finish, close, self_wake, clone, again, wake_ref, wake, release, poll_op, capacity, publish}
 use Rattle.tk_live.specs.declared.command.Line.{Line}
 use Rattle.tk_live.specs.declared.command.Line.TheVariants as lines

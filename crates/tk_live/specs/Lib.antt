@@ -1,6 +1,5 @@
 pub mod Named
 pub mod Known
-pub mod Told
 pub mod Commands
 pub mod Course
 pub mod Stops

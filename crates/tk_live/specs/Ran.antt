@@ -1,17 +1,21 @@
 -- What came of commands.
-use Rattle.std.specs.Prelude.{◌≡◌, ℕ, ◌<◌, List, [], ◌∷◌, ◌++◌, length, slice_get, Bool, true, if◌then◌else◌, Some}
+use Rattle.std.specs.Prelude.{◌≡◌, ℕ, ◌<◌, List, [], ◌∷◌, ◌++◌, length, slice_get, fold, Bool, true, if◌then◌else◌, Some}
 use Rattle.std.specs.List.{enumerate_from}
 use Rattle.tk_ledgers.specs.Ops.{OpSight}
 use Rattle.tk_ledgers.specs.Resources.{ResourceSight}
 use Rattle.tk_ledgers.specs.Tasks.{TaskSight}
 use Rattle.tk_stream.specs.Streams.{Sending, GoesOn, lines_sent, bytes_sent}
 use Rattle.tk_stream.specs.Tables.{TablesView, empty_tables}
-use Rattle.tk_aggregator.specs.Absorbing.{infos_of}
+use Rattle.tk_aggregator.specs.Absorbing.{Infos, infos_of, no_infos, with_told}
 use Rattle.tk_aggregator.specs.Aggregates.{Pairs, ReadTask, ReadResource, ReadOp}
-use Rattle.tk_live.specs.Told.{Told, infos_told}
+use Rattle.tk_aggregator.specs.Told.{Told}
 use Rattle.tk_live.specs.Course.{Due, Course, start_of_all, course_of}
 use Rattle.tk_live.specs.Stops.{AllGo}
 use Rattle.tk_live.specs.declared.command.Line.{Line}
+
+-- infos and poll counts of all that was told, in order
+abbrev pub infos_told : List Told → Infos
+infos_told told = fold with_told no_infos told
 
 -- those of a list that are marked, in order
 abbrev pub picked : {X : Type 0} → List Bool → List X → List X

@@ -10,7 +10,7 @@ use Rattle.tk_ledgers.specs.Tasks.{TaskSight}
 use Rattle.tk_stream.specs.Streams.{Sending, GoesOn, lines_sent, bytes_sent, tables_sent, last_sent}
 use Rattle.tk_stream.specs.Tables.{empty_tables}
 use Rattle.tk_aggregator.specs.Aggregates.{Aggregating, FollowsTaker}
-use Rattle.tk_live.specs.Told.{Told, tells}
+use Rattle.tk_aggregator.specs.Told.{Told, tells}
 use Rattle.tk_live.specs.Commands.{Said}
 use Rattle.tk_live.specs.Course.{Names, Due, Course, start_of_all, step, line_after, course_of}
 use Rattle.tk_live.specs.Known.{owner_of, caller_of}

@@ -7,7 +7,7 @@ use Rattle.tk_core.specs.Task.{opening_row}
 use Rattle.tk_events.specs.Handles.{next_task_id}
 use Rattle.tk_events.specs.Items as events
 use Rattle.tk_events.specs.declared.event.Shown.TheVariants.{MadeTask}
-use Rattle.tk_live.specs.Told.{made_task}
+use Rattle.tk_aggregator.specs.Told.{made_task}
 use Rattle.tk_live.specs.Course.{Names, task_info, new_task}
 use Rattle.tk_live.specs.Known.{owner_of}
 use Rattle.tk_live.specs.Runs.{numbers_of, IsOwner}

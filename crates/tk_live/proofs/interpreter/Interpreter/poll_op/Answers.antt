@@ -4,7 +4,7 @@ use Rattle.tk_events.specs.declared.event.Shown.TheVariants.{Polled}
 use Rattle.tk_live.specs.Commands as said
 use Rattle.tk_live.specs.Known.{owner_of}
 use Rattle.tk_live.specs.Runs.{numbers_of, Keeps}
-use Rattle.tk_live.specs.Told.{polled}
+use Rattle.tk_aggregator.specs.Told.{polled}
 use Rattle.tk_live.proofs.Offers.{recorded}
 use Rattle.tk_live.proofs.Places.{told_made}
 use Rattle.tk_live.proofs.Recording.{unspent, spent, nothing_more, offered_more}
