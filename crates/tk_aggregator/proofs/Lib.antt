@@ -3,6 +3,7 @@ pub mod SendLemmas
 pub mod KindLemmas
 pub mod HandleLemmas
 pub mod StandingLemmas
+pub mod HandledLemmas
 pub mod RefreshLemmas
 pub mod TakeInLemmas
 pub mod GatherLemmas

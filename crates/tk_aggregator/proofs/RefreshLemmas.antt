@@ -1,5 +1,5 @@
 -- Reading the handles of each kind keeps what holds inside, and changes rows alone.
-use Rattle.std.proofs.Common.{◌≡◌, ℕ, suc, ◌≤◌, List, [], ◌∷◌, length, Bool, refl, sym, ap, ap₂, ◌∙◌, subst, arith}
+use Rattle.std.proofs.Common.{◌≡◌, ℕ, List, [], ◌∷◌, length, Bool, refl, sym, ap, ap₂, ◌∙◌, subst, arith}
 use Rattle.std.specs.Prelude.{Option, map}
 use Rattle.tk_core.specs.declared.op.row.OpRow.{OpRow}
 use Rattle.tk_core.specs.declared.resource.row.ResourceRow.{ResourceRow}
@@ -9,44 +9,18 @@ use Rattle.tk_ledgers.specs.Ops.{OpSight}
 use Rattle.tk_ledgers.specs.Resources.{ResourceSight}
 use Rattle.tk_ledgers.specs.Tasks.{TaskSight}
 use Rattle.tk_aggregator.specs.Absorbing.{infos_of}
-use Rattle.tk_aggregator.specs.Aggregates.{Aggregating, IsSound, IsLaterOf, IsSameStream, Pairs, ReadTask, ReadResource, ReadOp, ReadsTasks, ReadsResources, ReadsOps, Refreshes}
+use Rattle.tk_aggregator.specs.Aggregates.{Aggregating, IsSound, IsLaterOf, IsSameStream, ReadTask, ReadResource, ReadOp, ReadsTasks, ReadsResources, ReadsOps, Refreshes}
 use Rattle.tk_stream.specs.Applied.{Kind, task_kind, resource_kind, op_kind, counts_kind, BeginWith}
-use Rattle.tk_stream.specs.Fronts.{ToldView, with_rows, task_at, resource_at, op_at, counts_at, told_tables}
-use Rattle.tk_aggregator.specs.Readings.{EachReads, ReadAll, Reads, task_ledger, resource_ledger, op_ledger}
+use Rattle.tk_stream.specs.Fronts.{ToldView, with_rows, task_at, resource_at, op_at, told_tables}
+use Rattle.tk_aggregator.specs.Readings.{ReadAll, Reads, task_ledger, resource_ledger, op_ledger}
 use Rattle.tk_aggregator.specs.Standing.{IsStanding, ResourceFits, OpFits}
 use Rattle.tk_stream.specs.Tables.{TablesView}
 use Rattle.tk_stream.specs.declared.op.Op.{Op}
 use Rattle.tk_stream.specs.declared.resource.Resource.{Resource}
 use Rattle.tk_stream.specs.declared.task.Task.{Task}
 use Rattle.tk_aggregator.proofs.HandleLemmas.{reads_read, task_reads, resource_reads, op_reads, all_later}
-use Rattle.tk_aggregator.proofs.ReadingLemmas.{length-with_rows, with_rows-again}
+use Rattle.tk_aggregator.proofs.HandledLemmas.{Both, TasksStand, ResourcesStand, OpsStand, pairs-count, rows-count, holds_read, tasks_handled, resources_handled, ops_handled, tasks_stand, resources_stand, ops_stand}
 use Rattle.tk_aggregator.proofs.StandingLemmas.{whole}
-
-pub pairs-count : {Item Handle : Type 0} (P : Item → Handle → Type 0) (xs : List Item) (ss : List Handle) → Pairs P xs ss → length ss ≡ length xs
-pairs-count P [] [] all = refl
-pairs-count P [] (s ∷ ss) all = absurd all
-pairs-count P (x ∷ xs) [] all = absurd all
-pairs-count P (x ∷ xs) (s ∷ ss) all = ap suc (pairs-count P xs ss all.1)
-
-pub rows-count : {Handle Row : Type 0} (reads : Handle → Row → Handle → Type 0) (ss : List Handle) (rs : List Row) (ts : List Handle) → EachReads reads ss rs ts → length ss ≡ length rs
-rows-count reads [] [] [] all = refl
-rows-count reads [] [] (u ∷ ts) all = absurd all
-rows-count reads [] (q ∷ rs) ts all = absurd all
-rows-count reads (u ∷ ss) [] ts all = absurd all
-rows-count reads (u ∷ ss) (q ∷ rs) [] all = absurd all
-rows-count reads (u ∷ ss) (q ∷ rs) (v ∷ ts) all = ap suc (rows-count reads ss rs ts all.1)
-
-pub pairs-read : {Item Handle Row : Type 0} (with_row : Item → Row → Item) (reads : Handle → Row → Handle → Type 0) (P Q : Item → Handle → Type 0)
-    → ((x : Item) (s : Handle) (r : Row) (t : Handle) → P x s → reads s r t → Q (with_row x r) t)
-    → (xs : List Item) (ss : List Handle) (rs : List Row) (ts : List Handle) → Pairs P xs ss → EachReads reads ss rs ts → Pairs Q (with_rows with_row xs rs) ts
-pairs-read with_row reads P Q step [] [] [] [] all each = tt
-pairs-read with_row reads P Q step [] [] [] (t ∷ ts) all each = absurd each
-pairs-read with_row reads P Q step [] [] (r ∷ rs) ts all each = absurd each
-pairs-read with_row reads P Q step [] (s ∷ ss) rs ts all each = absurd all
-pairs-read with_row reads P Q step (x ∷ xs) [] rs ts all each = absurd all
-pairs-read with_row reads P Q step (x ∷ xs) (s ∷ ss) [] ts all each = absurd each
-pairs-read with_row reads P Q step (x ∷ xs) (s ∷ ss) (r ∷ rs) [] all each = absurd each
-pairs-read with_row reads P Q step (x ∷ xs) (s ∷ ss) (r ∷ rs) (t ∷ ts) all each = (step x s r t all.0 each.0, pairs-read with_row reads P Q step xs ss rs ts all.1 each.1)
 
 pub begins_rows : {Item Info Stats Row : Type 0} (k : Kind Item Info Stats) (with_row : Item → Row → Item) → ((x : Item) (r : Row) → k.info_of x ≡ k.info_of (with_row x r))
     → (xs : List Item) (rs : List Row) → length xs ≡ length rs → BeginWith k xs (with_rows with_row xs rs)
@@ -65,125 +39,44 @@ map_rows info_of with_row same [] (r ∷ rs) e = refl
 map_rows info_of with_row same (x ∷ xs) [] e = absurd (omega (arith, e))
 map_rows info_of with_row same (x ∷ xs) (r ∷ rs) e = ap₂ (λ y ys. y ∷ ys) (same x r) (map_rows info_of with_row same xs rs (omega (arith, e)))
 
--- ---- tasks
+-- ---- what holds inside where each handle of a kind read
 
-abbrev pub with_task_rows : TablesView → List TaskRow → TablesView
-with_task_rows shown rows = record shown { tasks = with_rows task_at shown.tasks rows }
+module _ (shown : TablesView) (telling : ToldView) (tasks : List TaskSight) (resources : List ResourceSight) (ops : List OpSight) (held : Option Event) (last : ℕ) (stands : IsStanding shown telling tasks resources ops held last) where
+  module _ (rows : List TaskRow) (read : List TaskSight) (each : ReadAll task_ledger tasks rows read) where
+    tasks_now : TasksStand shown telling tasks resources ops held last (with_rows task_at shown.tasks rows) telling.tasks read
+    tasks_now =
+        holds_read task_at ReadTask shown.tasks telling.tasks tasks (tasks_handled shown telling tasks resources ops held last stands) (TasksStand shown telling tasks resources ops held last) (tasks_stand shown telling tasks resources ops held last stands)
+        (Reads task_ledger) (λ x q r. refl) (λ x s r t p q. (q.id ∙ p.0, reads_read task_ledger task_reads s r t q)) rows read each
 
-tasks_told : (shown : TablesView) (telling : ToldView) (rows : List TaskRow) → length telling.tasks.rows ≤ length shown.tasks → length shown.tasks ≡ length rows → told_tables telling (with_task_rows shown rows) ≡ told_tables telling shown
-tasks_told shown telling rows le e = λ i. record {
-  tasks = with_rows-again task_at (λ x q r. refl) shown.tasks rows telling.tasks.rows le e i;
-  resources = with_rows resource_at shown.resources telling.resources.rows;
-  ops = with_rows op_at shown.ops telling.ops.rows;
-  counts = with_rows counts_at shown.counts telling.counts.rows;
-  dropped = telling.dropped;
-  now = shown.now;
-}
+    pub tasks_standing : IsStanding (record shown { tasks = with_rows task_at shown.tasks rows }) telling read resources ops held last
+    tasks_standing = tasks_now.0
 
-pub tasks_standing : (shown : TablesView) (telling : ToldView) (tasks : List TaskSight) (resources : List ResourceSight) (ops : List OpSight) (held : Option Event) (last : ℕ) (rows : List TaskRow) (read : List TaskSight)
-    → IsStanding shown telling tasks resources ops held last → ReadAll task_ledger tasks rows read → IsStanding (with_task_rows shown rows) telling read resources ops held last
-tasks_standing shown telling tasks resources ops held last rows read stands each =
-    let count : length shown.tasks ≡ length rows = sym (pairs-count ReadTask shown.tasks tasks stands.tasks) ∙ rows-count (Reads task_ledger) tasks rows read each in
-    let same : length (with_rows task_at shown.tasks rows) ≡ length shown.tasks = length-with_rows task_at shown.tasks rows count ∙ sym count in
-    record {
-      tasks = pairs-read task_at (Reads task_ledger) ReadTask ReadTask (λ x s r t p q. (q.id ∙ p.0, reads_read task_ledger task_reads s r t q)) shown.tasks tasks rows read stands.tasks each;
-      resources = stands.resources;
-      ops = stands.ops;
-      resources_fit = stands.resources_fit;
-      ops_fit = stands.ops_fit;
-      fits = record { tasks = omega (arith, same, stands.fits.tasks); resources = stands.fits.resources; ops = stands.fits.ops; counts = stands.fits.counts };
-      room = record { tasks = omega (arith, same, stands.room.tasks); resources = stands.room.resources; ops = stands.room.ops; counts = stands.room.counts };
-      held = stands.held;
-      first = λ zero. tasks_told shown telling rows stands.fits.tasks count ∙ stands.first zero;
-      numbered = stands.numbered;
-    }
+    pub tasks_read : (broken : Bool) (now : TablesView) → now ≡ record shown { tasks = with_rows task_at shown.tasks rows } → ReadsTasks (whole shown telling tasks resources ops held last broken) (whole now telling read resources ops held last broken)
+    tasks_read broken now e = (rows, each, λ i. record { tables = e i; told = (ap (told_tables telling) e ∙ tasks_now.1) i; tasks = read; resources = resources; ops = ops; held = held; last = last; broken = broken })
 
-pub tasks_read : (shown : TablesView) (telling : ToldView) (tasks : List TaskSight) (resources : List ResourceSight) (ops : List OpSight) (held : Option Event) (last : ℕ) (broken : Bool) (rows : List TaskRow) (read : List TaskSight) (now : TablesView)
-    → IsStanding shown telling tasks resources ops held last → ReadAll task_ledger tasks rows read → now ≡ with_task_rows shown rows
-    → ReadsTasks (whole shown telling tasks resources ops held last broken) (whole now telling read resources ops held last broken)
-tasks_read shown telling tasks resources ops held last broken rows read now stands each e =
-    let count : length shown.tasks ≡ length rows = sym (pairs-count ReadTask shown.tasks tasks stands.tasks) ∙ rows-count (Reads task_ledger) tasks rows read each in
-    (rows, each, λ i. record { tables = e i; told = (ap (told_tables telling) e ∙ tasks_told shown telling rows stands.fits.tasks count) i; tasks = read; resources = resources; ops = ops; held = held; last = last; broken = broken })
+  module _ (rows : List ResourceRow) (read : List ResourceSight) (each : ReadAll resource_ledger resources rows read) where
+    resources_now : ResourcesStand shown telling tasks resources ops held last (with_rows resource_at shown.resources rows) telling.resources read
+    resources_now =
+        holds_read resource_at (Both ReadResource ResourceFits) shown.resources telling.resources resources (resources_handled shown telling tasks resources ops held last stands) (ResourcesStand shown telling tasks resources ops held last) (resources_stand shown telling tasks resources ops held last stands)
+        (Reads resource_ledger) (λ x q r. refl) (λ x s r t p q. ((q.id ∙ p.0.0, reads_read resource_ledger resource_reads s r t q), (q.id ∙ p.1.0, (p.1.1.0, q.entry.same_opening ∙ p.1.1.1, p.1.1.2)))) rows read each
 
--- ---- resources
+    pub resources_standing : IsStanding (record shown { resources = with_rows resource_at shown.resources rows }) telling tasks read ops held last
+    resources_standing = resources_now.0
 
-abbrev pub with_resource_rows : TablesView → List ResourceRow → TablesView
-with_resource_rows shown rows = record shown { resources = with_rows resource_at shown.resources rows }
+    pub resources_read : (broken : Bool) (now : TablesView) → now ≡ record shown { resources = with_rows resource_at shown.resources rows } → ReadsResources (whole shown telling tasks resources ops held last broken) (whole now telling tasks read ops held last broken)
+    resources_read broken now e = (rows, each, λ i. record { tables = e i; told = (ap (told_tables telling) e ∙ resources_now.1) i; tasks = tasks; resources = read; ops = ops; held = held; last = last; broken = broken })
 
-resources_told : (shown : TablesView) (telling : ToldView) (rows : List ResourceRow) → length telling.resources.rows ≤ length shown.resources → length shown.resources ≡ length rows → told_tables telling (with_resource_rows shown rows) ≡ told_tables telling shown
-resources_told shown telling rows le e = λ i. record {
-  tasks = with_rows task_at shown.tasks telling.tasks.rows;
-  resources = with_rows-again resource_at (λ x q r. refl) shown.resources rows telling.resources.rows le e i;
-  ops = with_rows op_at shown.ops telling.ops.rows;
-  counts = with_rows counts_at shown.counts telling.counts.rows;
-  dropped = telling.dropped;
-  now = shown.now;
-}
+  module _ (rows : List OpRow) (read : List OpSight) (each : ReadAll op_ledger ops rows read) where
+    ops_now : OpsStand shown telling tasks resources ops held last (with_rows op_at shown.ops rows) telling.ops read
+    ops_now =
+        holds_read op_at (Both ReadOp OpFits) shown.ops telling.ops ops (ops_handled shown telling tasks resources ops held last stands) (OpsStand shown telling tasks resources ops held last) (ops_stand shown telling tasks resources ops held last stands)
+        (Reads op_ledger) (λ x q r. refl) (λ x s r t p q. ((q.id ∙ p.0.0, reads_read op_ledger op_reads s r t q), (q.id ∙ p.1.0, (p.1.1.0, q.entry.same_opening ∙ p.1.1.1, p.1.1.2)))) rows read each
 
-pub resources_standing : (shown : TablesView) (telling : ToldView) (tasks : List TaskSight) (resources : List ResourceSight) (ops : List OpSight) (held : Option Event) (last : ℕ) (rows : List ResourceRow) (read : List ResourceSight)
-    → IsStanding shown telling tasks resources ops held last → ReadAll resource_ledger resources rows read → IsStanding (with_resource_rows shown rows) telling tasks read ops held last
-resources_standing shown telling tasks resources ops held last rows read stands each =
-    let count : length shown.resources ≡ length rows = sym (pairs-count ReadResource shown.resources resources stands.resources) ∙ rows-count (Reads resource_ledger) resources rows read each in
-    let same : length (with_rows resource_at shown.resources rows) ≡ length shown.resources = length-with_rows resource_at shown.resources rows count ∙ sym count in
-    record {
-      resources = pairs-read resource_at (Reads resource_ledger) ReadResource ReadResource (λ x s r t p q. (q.id ∙ p.0, reads_read resource_ledger resource_reads s r t q)) shown.resources resources rows read stands.resources each;
-      tasks = stands.tasks;
-      ops = stands.ops;
-      resources_fit = pairs-read resource_at (Reads resource_ledger) ResourceFits ResourceFits (λ x s r t p q. (q.id ∙ p.0, (p.1.0, q.entry.same_opening ∙ p.1.1, p.1.2))) shown.resources resources rows read stands.resources_fit each;
-      ops_fit = stands.ops_fit;
-      fits = record { tasks = stands.fits.tasks; resources = omega (arith, same, stands.fits.resources); ops = stands.fits.ops; counts = stands.fits.counts };
-      room = record { tasks = stands.room.tasks; resources = omega (arith, same, stands.room.resources); ops = stands.room.ops; counts = stands.room.counts };
-      held = stands.held;
-      first = λ zero. resources_told shown telling rows stands.fits.resources count ∙ stands.first zero;
-      numbered = stands.numbered;
-    }
+    pub ops_standing : IsStanding (record shown { ops = with_rows op_at shown.ops rows }) telling tasks resources read held last
+    ops_standing = ops_now.0
 
-pub resources_read : (shown : TablesView) (telling : ToldView) (tasks : List TaskSight) (resources : List ResourceSight) (ops : List OpSight) (held : Option Event) (last : ℕ) (broken : Bool) (rows : List ResourceRow) (read : List ResourceSight) (now : TablesView)
-    → IsStanding shown telling tasks resources ops held last → ReadAll resource_ledger resources rows read → now ≡ with_resource_rows shown rows
-    → ReadsResources (whole shown telling tasks resources ops held last broken) (whole now telling tasks read ops held last broken)
-resources_read shown telling tasks resources ops held last broken rows read now stands each e =
-    let count : length shown.resources ≡ length rows = sym (pairs-count ReadResource shown.resources resources stands.resources) ∙ rows-count (Reads resource_ledger) resources rows read each in
-    (rows, each, λ i. record { tables = e i; told = (ap (told_tables telling) e ∙ resources_told shown telling rows stands.fits.resources count) i; tasks = tasks; resources = read; ops = ops; held = held; last = last; broken = broken })
-
--- ---- ops
-
-abbrev pub with_op_rows : TablesView → List OpRow → TablesView
-with_op_rows shown rows = record shown { ops = with_rows op_at shown.ops rows }
-
-ops_told : (shown : TablesView) (telling : ToldView) (rows : List OpRow) → length telling.ops.rows ≤ length shown.ops → length shown.ops ≡ length rows → told_tables telling (with_op_rows shown rows) ≡ told_tables telling shown
-ops_told shown telling rows le e = λ i. record {
-  tasks = with_rows task_at shown.tasks telling.tasks.rows;
-  resources = with_rows resource_at shown.resources telling.resources.rows;
-  ops = with_rows-again op_at (λ x q r. refl) shown.ops rows telling.ops.rows le e i;
-  counts = with_rows counts_at shown.counts telling.counts.rows;
-  dropped = telling.dropped;
-  now = shown.now;
-}
-
-pub ops_standing : (shown : TablesView) (telling : ToldView) (tasks : List TaskSight) (resources : List ResourceSight) (ops : List OpSight) (held : Option Event) (last : ℕ) (rows : List OpRow) (read : List OpSight)
-    → IsStanding shown telling tasks resources ops held last → ReadAll op_ledger ops rows read → IsStanding (with_op_rows shown rows) telling tasks resources read held last
-ops_standing shown telling tasks resources ops held last rows read stands each =
-    let count : length shown.ops ≡ length rows = sym (pairs-count ReadOp shown.ops ops stands.ops) ∙ rows-count (Reads op_ledger) ops rows read each in
-    let same : length (with_rows op_at shown.ops rows) ≡ length shown.ops = length-with_rows op_at shown.ops rows count ∙ sym count in
-    record {
-      ops = pairs-read op_at (Reads op_ledger) ReadOp ReadOp (λ x s r t p q. (q.id ∙ p.0, reads_read op_ledger op_reads s r t q)) shown.ops ops rows read stands.ops each;
-      tasks = stands.tasks;
-      resources = stands.resources;
-      resources_fit = stands.resources_fit;
-      ops_fit = pairs-read op_at (Reads op_ledger) OpFits OpFits (λ x s r t p q. (q.id ∙ p.0, (p.1.0, q.entry.same_opening ∙ p.1.1, p.1.2))) shown.ops ops rows read stands.ops_fit each;
-      fits = record { tasks = stands.fits.tasks; resources = stands.fits.resources; ops = omega (arith, same, stands.fits.ops); counts = stands.fits.counts };
-      room = record { tasks = stands.room.tasks; resources = stands.room.resources; ops = omega (arith, same, stands.room.ops); counts = stands.room.counts };
-      held = stands.held;
-      first = λ zero. ops_told shown telling rows stands.fits.ops count ∙ stands.first zero;
-      numbered = stands.numbered;
-    }
-
-pub ops_read : (shown : TablesView) (telling : ToldView) (tasks : List TaskSight) (resources : List ResourceSight) (ops : List OpSight) (held : Option Event) (last : ℕ) (broken : Bool) (rows : List OpRow) (read : List OpSight) (now : TablesView)
-    → IsStanding shown telling tasks resources ops held last → ReadAll op_ledger ops rows read → now ≡ with_op_rows shown rows
-    → ReadsOps (whole shown telling tasks resources ops held last broken) (whole now telling tasks resources read held last broken)
-ops_read shown telling tasks resources ops held last broken rows read now stands each e =
-    let count : length shown.ops ≡ length rows = sym (pairs-count ReadOp shown.ops ops stands.ops) ∙ rows-count (Reads op_ledger) ops rows read each in
-    (rows, each, λ i. record { tables = e i; told = (ap (told_tables telling) e ∙ ops_told shown telling rows stands.fits.ops count) i; tasks = tasks; resources = resources; ops = read; held = held; last = last; broken = broken })
+    pub ops_read : (broken : Bool) (now : TablesView) → now ≡ record shown { ops = with_rows op_at shown.ops rows } → ReadsOps (whole shown telling tasks resources ops held last broken) (whole now telling tasks resources read held last broken)
+    ops_read broken now e = (rows, each, λ i. record { tables = e i; told = (ap (told_tables telling) e ∙ ops_now.1) i; tasks = tasks; resources = resources; ops = read; held = held; last = last; broken = broken })
 
 -- ---- all of them
 

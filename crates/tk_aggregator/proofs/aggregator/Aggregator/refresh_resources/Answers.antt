@@ -2,7 +2,8 @@ use Rattle.std.proofs.Common.{sym, subst}
 use Rattle.tk_aggregator.specs.Aggregates.{ReadResource, ReadsResources}
 use Rattle.tk_aggregator.specs.Standing.{IsStanding}
 use Rattle.tk_aggregator.proofs.StandingLemmas.{whole}
-use Rattle.tk_aggregator.proofs.RefreshLemmas.{pairs-count, resources_standing, resources_read}
+use Rattle.tk_aggregator.proofs.HandledLemmas.{pairs-count}
+use Rattle.tk_aggregator.proofs.RefreshLemmas.{resources_standing, resources_read}
 use Rattle.tk_aggregator.proofs.aggregator.Aggregator.refresh_resources.Goals as goal
 
 pub read_resources-requires : goal.read_resources-requires
@@ -11,9 +12,9 @@ read_resources-requires g c = pairs-count ReadResource _ _ c.self.invariant.reso
 pub invariant_of-self : goal.invariant_of-self
 invariant_of-self g c =
     let a = c.self.inside in
-    subst (λ shown. IsStanding shown a.told a.tasks.items c.read_resources.new.handles.items a.ops.items a.held a.last) (sym c.read_resources.ensures.2) (resources_standing a.tables a.told a.tasks.items a.resources.items a.ops.items a.held a.last c.read_resources.ensures.0 c.read_resources.new.handles.items c.self.invariant c.read_resources.ensures.1)
+    subst (λ shown. IsStanding shown a.told a.tasks.items c.read_resources.new.handles.items a.ops.items a.held a.last) (sym c.read_resources.ensures.2) (resources_standing a.tables a.told a.tasks.items a.resources.items a.ops.items a.held a.last c.self.invariant c.read_resources.ensures.0 c.read_resources.new.handles.items c.read_resources.ensures.1)
 
 pub returns : goal.returns
 returns g c =
     let a = c.self.inside in
-    subst (λ old. ReadsResources old (whole c.read_resources.new.tables a.told a.tasks.items c.read_resources.new.handles.items a.ops.items a.held a.last a.broken)) c.self.view_is (resources_read a.tables a.told a.tasks.items a.resources.items a.ops.items a.held a.last a.broken c.read_resources.ensures.0 c.read_resources.new.handles.items c.read_resources.new.tables c.self.invariant c.read_resources.ensures.1 c.read_resources.ensures.2)
+    subst (λ old. ReadsResources old (whole c.read_resources.new.tables a.told a.tasks.items c.read_resources.new.handles.items a.ops.items a.held a.last a.broken)) c.self.view_is (resources_read a.tables a.told a.tasks.items a.resources.items a.ops.items a.held a.last c.self.invariant c.read_resources.ensures.0 c.read_resources.new.handles.items c.read_resources.ensures.1 a.broken c.read_resources.new.tables c.read_resources.ensures.2)

@@ -2,7 +2,8 @@ use Rattle.std.proofs.Common.{sym, subst}
 use Rattle.tk_aggregator.specs.Aggregates.{ReadTask, ReadsTasks}
 use Rattle.tk_aggregator.specs.Standing.{IsStanding}
 use Rattle.tk_aggregator.proofs.StandingLemmas.{whole}
-use Rattle.tk_aggregator.proofs.RefreshLemmas.{pairs-count, tasks_standing, tasks_read}
+use Rattle.tk_aggregator.proofs.HandledLemmas.{pairs-count}
+use Rattle.tk_aggregator.proofs.RefreshLemmas.{tasks_standing, tasks_read}
 use Rattle.tk_aggregator.proofs.aggregator.Aggregator.refresh_tasks.Goals as goal
 
 pub read_tasks-requires : goal.read_tasks-requires
@@ -11,9 +12,9 @@ read_tasks-requires g c = pairs-count ReadTask _ _ c.self.invariant.tasks
 pub invariant_of-self : goal.invariant_of-self
 invariant_of-self g c =
     let a = c.self.inside in
-    subst (λ shown. IsStanding shown a.told c.read_tasks.new.handles.items a.resources.items a.ops.items a.held a.last) (sym c.read_tasks.ensures.2) (tasks_standing a.tables a.told a.tasks.items a.resources.items a.ops.items a.held a.last c.read_tasks.ensures.0 c.read_tasks.new.handles.items c.self.invariant c.read_tasks.ensures.1)
+    subst (λ shown. IsStanding shown a.told c.read_tasks.new.handles.items a.resources.items a.ops.items a.held a.last) (sym c.read_tasks.ensures.2) (tasks_standing a.tables a.told a.tasks.items a.resources.items a.ops.items a.held a.last c.self.invariant c.read_tasks.ensures.0 c.read_tasks.new.handles.items c.read_tasks.ensures.1)
 
 pub returns : goal.returns
 returns g c =
     let a = c.self.inside in
-    subst (λ old. ReadsTasks old (whole c.read_tasks.new.tables a.told c.read_tasks.new.handles.items a.resources.items a.ops.items a.held a.last a.broken)) c.self.view_is (tasks_read a.tables a.told a.tasks.items a.resources.items a.ops.items a.held a.last a.broken c.read_tasks.ensures.0 c.read_tasks.new.handles.items c.read_tasks.new.tables c.self.invariant c.read_tasks.ensures.1 c.read_tasks.ensures.2)
+    subst (λ old. ReadsTasks old (whole c.read_tasks.new.tables a.told c.read_tasks.new.handles.items a.resources.items a.ops.items a.held a.last a.broken)) c.self.view_is (tasks_read a.tables a.told a.tasks.items a.resources.items a.ops.items a.held a.last c.self.invariant c.read_tasks.ensures.0 c.read_tasks.new.handles.items c.read_tasks.ensures.1 a.broken c.read_tasks.new.tables c.read_tasks.ensures.2)
