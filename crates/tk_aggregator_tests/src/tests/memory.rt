@@ -70,13 +70,11 @@ fn takes_each<R: Wait>(rt: &R, alloc: Global, taker: &mut Taker) -> bool {
     }
 }
 
-#[test]
-fn what_found_no_memory_is_taken_again(rt: HostRuntime) {
-    match Console::open(rt.alloc(), limits(1, 9, 9)) {
+pub(super) fn takes_again_what_found_no_memory<R: Wait>(rt: &R, alloc: Global) -> bool {
+    match Console::open(alloc, limits(1, 9, 9)) {
         Ok((mut recorders, mut taker)) => {
-            assert!(rt; make_each(&rt, rt.alloc(), &mut recorders));
-            assert!(rt; takes_each(&rt, rt.alloc(), &mut taker));
-        }
-        Err(_) => assert!(rt; false, "no console"),
+            make_each(rt, alloc, &mut recorders) && takes_each(rt, alloc, &mut taker)
+        },
+        Err(_) => false,
     }
 }

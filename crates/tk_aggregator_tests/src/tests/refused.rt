@@ -40,11 +40,10 @@ fn keeps_its_clock(alloc: Global, aggregator: &mut Aggregator) -> bool {
         && tells(alloc, aggregator, 5, 2)
 }
 
-#[test]
-fn the_clock_never_runs_backwards(rt: HostRuntime) {
-    match Aggregator::new(rt.alloc(), 0) {
-        Ok(mut aggregator) => assert!(rt; keeps_its_clock(rt.alloc(), &mut aggregator)),
-        Err(_) => assert!(rt; false, "no aggregator"),
+pub(super) fn never_runs_backwards(alloc: Global) -> bool {
+    match Aggregator::new(alloc, 0) {
+        Ok(mut aggregator) => keeps_its_clock(alloc, &mut aggregator),
+        Err(_) => false,
     }
 }
 
@@ -53,11 +52,10 @@ fn has_no_number(alloc: Global, aggregator: &mut Aggregator) -> bool {
         && refuses_all(alloc, aggregator, 5, StreamError::NumbersSpent)
 }
 
-#[test]
-fn no_line_follows_the_last_number(rt: HostRuntime) {
-    match Aggregator::new(rt.alloc(), MOST) {
-        Ok(mut aggregator) => assert!(rt; has_no_number(rt.alloc(), &mut aggregator)),
-        Err(_) => assert!(rt; false, "no aggregator"),
+pub(super) fn writes_no_line_behind_the_last(alloc: Global) -> bool {
+    match Aggregator::new(alloc, MOST) {
+        Ok(mut aggregator) => has_no_number(alloc, &mut aggregator),
+        Err(_) => false,
     }
 }
 
@@ -78,14 +76,13 @@ fn looks_at_the_clock_first(alloc: Global, aggregator: &mut Aggregator) -> bool 
         && refuses(alloc, aggregator, 7, StreamError::NumbersSpent)
 }
 
-#[test]
-fn refusals_come_in_their_order(rt: HostRuntime) {
-    match Aggregator::new(rt.alloc(), MOST - 2) {
+pub(super) fn refuses_in_order(alloc: Global) -> bool {
+    match Aggregator::new(alloc, MOST - 2) {
         Ok(mut aggregator) => {
-            assert!(rt; is_broken_before_all(rt.alloc(), &mut aggregator));
-            assert!(rt; looks_at_the_clock_first(rt.alloc(), &mut aggregator));
-        }
-        Err(_) => assert!(rt; false, "no aggregator"),
+            is_broken_before_all(alloc, &mut aggregator)
+                && looks_at_the_clock_first(alloc, &mut aggregator)
+        },
+        Err(_) => false,
     }
 }
 
@@ -123,13 +120,11 @@ fn takes_at_most<R: Wait>(rt: &R, alloc: Global, taker: &mut Taker) -> bool {
     }
 }
 
-#[test]
-fn at_most_the_limit_is_taken(rt: HostRuntime) {
-    match Console::open(rt.alloc(), limits(1, 4, 9)) {
+pub(super) fn takes_no_more_than_its_limit<R: Wait>(rt: &R, alloc: Global) -> bool {
+    match Console::open(alloc, limits(1, 4, 9)) {
         Ok((mut recorders, mut taker)) => {
-            assert!(rt; makes_two(&rt, rt.alloc(), &mut recorders));
-            assert!(rt; takes_at_most(&rt, rt.alloc(), &mut taker));
-        }
-        Err(_) => assert!(rt; false, "no console"),
+            makes_two(rt, alloc, &mut recorders) && takes_at_most(rt, alloc, &mut taker)
+        },
+        Err(_) => false,
     }
 }

@@ -52,11 +52,10 @@ fn polls_and_tells<R: Wait>(rt: &R, alloc: Global, aggregator: &mut Aggregator) 
     }
 }
 
-#[test]
-fn a_poll_and_a_snapshot_are_told(rt: HostRuntime) {
-    match Aggregator::new(rt.alloc(), 0) {
-        Ok(mut aggregator) => assert!(rt; polls_and_tells(&rt, rt.alloc(), &mut aggregator)),
-        Err(_) => assert!(rt; false, "no aggregator"),
+pub(super) fn tells_of_a_poll_and_all<R: Wait>(rt: &R, alloc: Global) -> bool {
+    match Aggregator::new(alloc, 0) {
+        Ok(mut aggregator) => polls_and_tells(rt, alloc, &mut aggregator),
+        Err(_) => false,
     }
 }
 
@@ -67,11 +66,10 @@ fn tells_nothing_twice(alloc: Global, aggregator: &mut Aggregator) -> bool {
         && written.as_slice() == EMPTY_TWICE.as_bytes()
 }
 
-#[test]
-fn lines_without_items_tell_of_none(rt: HostRuntime) {
-    match Aggregator::new(rt.alloc(), 0) {
-        Ok(mut aggregator) => assert!(rt; tells_nothing_twice(rt.alloc(), &mut aggregator)),
-        Err(_) => assert!(rt; false, "no aggregator"),
+pub(super) fn tells_of_no_items(alloc: Global) -> bool {
+    match Aggregator::new(alloc, 0) {
+        Ok(mut aggregator) => tells_nothing_twice(alloc, &mut aggregator),
+        Err(_) => false,
     }
 }
 
@@ -125,13 +123,11 @@ fn tells_of_dropped<R: Wait>(rt: &R, alloc: Global, taker: &mut Taker) -> bool {
 }
 
 // The task whose event is dropped starts a poll, and no line tells of it.
-#[test]
-fn a_third_task_in_a_buffer_of_two_is_told_as_dropped(rt: HostRuntime) {
-    match Console::open(rt.alloc(), limits(1, 2, 9)) {
+pub(super) fn tells_of_a_dropped_task<R: Wait>(rt: &R, alloc: Global) -> bool {
+    match Console::open(alloc, limits(1, 2, 9)) {
         Ok((mut recorders, mut taker)) => {
-            assert!(rt; makes_three(&rt, rt.alloc(), &mut recorders));
-            assert!(rt; tells_of_dropped(&rt, rt.alloc(), &mut taker));
-        }
-        Err(_) => assert!(rt; false, "no console"),
+            makes_three(rt, alloc, &mut recorders) && tells_of_dropped(rt, alloc, &mut taker)
+        },
+        Err(_) => false,
     }
 }

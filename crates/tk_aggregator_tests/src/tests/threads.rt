@@ -161,12 +161,12 @@ fn tells_beside<R: Threads + Wait + Sync>(
     }
 }
 
-#[test]
-fn a_client_follows_an_aggregator_beside_two_recorders(rt: HostRuntime) {
-    match Console::open(rt.alloc(), limits(2, 16, 1000)) {
-        Ok((recorders, mut taker)) => {
-            assert!(rt; tells_beside(&rt, rt.alloc(), recorders, &mut taker));
-        }
-        Err(_) => assert!(rt; false, "no console"),
+pub(super) fn is_followed_beside_two_recorders<R: Wait + Threads + Sync>(
+    rt: &R,
+    alloc: Global,
+) -> bool {
+    match Console::open(alloc, limits(2, 16, 1000)) {
+        Ok((recorders, mut taker)) => tells_beside(rt, alloc, recorders, &mut taker),
+        Err(_) => false,
     }
 }

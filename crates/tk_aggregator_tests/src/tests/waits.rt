@@ -115,12 +115,17 @@ fn first_offers_meanwhile<R: Wait + Threads + Sync>(
     }
 }
 
-#[test]
-fn an_offer_is_made_while_a_line_is_written(rt: HostRuntime) {
-    match Console::open(rt.alloc(), limits(1, 4, 9)) {
-        Ok((mut recorders, mut taker)) => {
-            assert!(rt; first_offers_meanwhile(&rt, rt.alloc(), &mut recorders, &mut taker));
-        }
-        Err(_) => assert!(rt; false, "no console"),
+pub(super) fn writes_while_an_offer_is_made<R: Wait + Threads + Sync>(
+    rt: &R,
+    alloc: Global,
+) -> bool {
+    match Console::open(alloc, limits(1, 4, 9)) {
+        Ok((mut recorders, mut taker)) => first_offers_meanwhile(
+            rt,
+            alloc,
+            &mut recorders,
+            &mut taker,
+        ),
+        Err(_) => false,
     }
 }

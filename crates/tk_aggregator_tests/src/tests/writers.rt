@@ -50,11 +50,10 @@ fn writes_byte_by_byte(alloc: Global, aggregator: &mut Aggregator) -> bool {
     aggregator.publish(200, &mut writer) == Ok(1) && writer.got.as_slice() == MAIN.as_bytes()
 }
 
-#[test]
-fn a_writer_may_take_one_byte_at_a_time(rt: HostRuntime) {
-    match with_main(&rt, rt.alloc()) {
-        Some(mut aggregator) => assert!(rt; writes_byte_by_byte(rt.alloc(), &mut aggregator)),
-        None => assert!(rt; false, "no aggregator"),
+pub(super) fn goes_out_byte_by_byte<R: Wait>(rt: &R, alloc: Global) -> bool {
+    match with_main(rt, alloc) {
+        Some(mut aggregator) => writes_byte_by_byte(alloc, &mut aggregator),
+        None => false,
     }
 }
 
@@ -101,9 +100,9 @@ fn assert_all_are_mended<R: Abort + Wait + AllocGlobal>(rt: &R, line: &[u8]) {
     }
 }
 
-#[test]
-fn a_line_that_is_cut_off_uses_up_no_number(rt: HostRuntime) {
-    assert_all_are_mended(&rt, MAIN.as_bytes());
+// A line that is cut off behind any number of its bytes uses up no number.
+pub(super) fn assert_cut_lines_are_mended<R: Abort + Wait + AllocGlobal>(rt: &R) {
+    assert_all_are_mended(rt, MAIN.as_bytes());
 }
 
 // The first line goes out whole, and ten bytes of the second.
@@ -127,11 +126,10 @@ fn is_cut_in_the_second(alloc: Global, aggregator: &mut Aggregator) -> bool {
         && snapshots_the_second(alloc, aggregator)
 }
 
-#[test]
-fn a_second_line_that_is_cut_off_is_told_as_a_snapshot(rt: HostRuntime) {
-    match with_main(&rt, rt.alloc()) {
-        Some(mut aggregator) => assert!(rt; is_cut_in_the_second(rt.alloc(), &mut aggregator)),
-        None => assert!(rt; false, "no aggregator"),
+pub(super) fn goes_on_behind_a_cut_second_line<R: Wait>(rt: &R, alloc: Global) -> bool {
+    match with_main(rt, alloc) {
+        Some(mut aggregator) => is_cut_in_the_second(alloc, &mut aggregator),
+        None => false,
     }
 }
 
