@@ -1,0 +1,6 @@
+//! Tests of `tk_aggregator` through its public calls, in a crate above it: so its own proof is made once,
+//! without them.
+#![tactic(auto)]
+
+#[cfg(test)]
+mod tests;

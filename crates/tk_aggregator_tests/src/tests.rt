@@ -1,0 +1,43 @@
+//! What an aggregator tells, what it refuses, and what it does beside threads: one test each, since to the prover a test
+//! costs as much as all of its helpers.
+
+mod errors;
+mod given;
+mod items;
+mod memory;
+mod refused;
+mod tasks;
+mod texts;
+mod threads;
+mod waits;
+mod writers;
+
+#[test]
+fn tells_what_was_recorded(rt: HostRuntime) {
+    let alloc = rt.alloc();
+    assert!(rt; memory::takes_again_what_found_no_memory(&rt, alloc));
+    assert!(rt; tasks::tells_of_no_items(alloc));
+    assert!(rt; tasks::tells_of_a_poll_and_all(&rt, alloc));
+    assert!(rt; tasks::tells_of_a_dropped_task(&rt, alloc));
+    assert!(rt; items::tells_of_each_kind(&rt, alloc));
+}
+
+#[test]
+fn refuses_and_goes_on(rt: HostRuntime) {
+    let alloc = rt.alloc();
+    assert!(rt; errors::are_numbered_and_named(alloc));
+    assert!(rt; refused::takes_no_more_than_its_limit(&rt, alloc));
+    assert!(rt; refused::never_runs_backwards(alloc));
+    assert!(rt; refused::writes_no_line_behind_the_last(alloc));
+    assert!(rt; refused::refuses_in_order(alloc));
+    assert!(rt; writers::goes_out_byte_by_byte(&rt, alloc));
+    assert!(rt; writers::goes_on_behind_a_cut_second_line(&rt, alloc));
+    writers::assert_cut_lines_are_mended(&rt);
+}
+
+#[test]
+fn goes_on_beside_threads(rt: HostRuntime) {
+    let alloc = rt.alloc();
+    assert!(rt; waits::writes_while_an_offer_is_made(&rt, alloc));
+    assert!(rt; threads::is_followed_beside_two_recorders(&rt, alloc));
+}

@@ -1,0 +1,158 @@
+//! What several tests begin with: items that are recorded, and an aggregator that takes them in.
+//!
+//! Each function owns at most one aggregator, owner or text, and lends it to the next: that keeps the proofs short.
+
+use std::alloc::Global;
+use std::io::Write;
+use std::sync::Wait;
+use tk_aggregator::{Aggregator, StreamError};
+use tk_client::Client;
+use tk_events::{Console, Limits, Recorder, Taker};
+use tk_ids::{Location, Name, TaskKind, TaskSpec};
+use tk_ledgers::TaskOwner;
+use tk_stream::{Line, Tables};
+
+// The id of the first item of recorder 1.
+pub(super) const FIRST: u64 = 1099511627777;
+
+pub(super) fn limits(recorders: u64, capacity: u64, offers: u64) -> Limits {
+    Limits {
+        recorders,
+        capacity,
+        offers,
+    }
+}
+
+// A line of a script.
+pub(super) fn location(alloc: Global, line: u32) -> Option<Location> {
+    let file = Name::new(alloc, b"script").ok()?;
+    Some(Location {
+        file,
+        line,
+        column: 1,
+    })
+}
+
+fn task(alloc: Global, name: &[u8], line: u32) -> Option<TaskSpec> {
+    let name = Name::new(alloc, name).ok()?;
+    let location = location(alloc, line)?;
+    Some(TaskSpec {
+        kind: TaskKind::Spawn,
+        name,
+        location,
+    })
+}
+
+// The owner of a task that the recorder makes.
+pub(super) fn make_task<R: Wait>(
+    rt: &R,
+    alloc: Global,
+    recorder: &mut Recorder,
+    name: &[u8],
+    created: u64,
+) -> Option<TaskOwner> {
+    let spec = task(alloc, name, 1)?;
+    let (owner, _) = recorder.task(rt, alloc, spec, created).ok()?;
+    Some(owner)
+}
+
+// Whether a `collect` takes so many.
+pub(super) fn collects<R: Wait>(
+    rt: &R,
+    aggregator: &mut Aggregator,
+    taker: &mut Taker,
+    limit: u64,
+    count: u64,
+) -> bool {
+    aggregator.collect(rt, taker, limit) == Ok(count)
+}
+
+fn record_and_collect<R: Wait>(
+    rt: &R,
+    alloc: Global,
+    aggregator: &mut Aggregator,
+    recorders: &mut Vec<Recorder>,
+    taker: &mut Taker,
+    name: &[u8],
+    created: u64,
+) -> Option<TaskOwner> {
+    let owner = make_task(rt, alloc, recorders.get_mut(0)?, name, created)?;
+    if !collects(rt, aggregator, taker, 9, 1) {
+        return None;
+    }
+    Some(owner)
+}
+
+// The owner of a task that the aggregator has taken in: the first of recorder 1.
+pub(super) fn take_in_task<R: Wait>(
+    rt: &R,
+    alloc: Global,
+    aggregator: &mut Aggregator,
+    name: &[u8],
+    created: u64,
+) -> Option<TaskOwner> {
+    match Console::open(alloc, limits(1, 4, 9)) {
+        Ok((mut recorders, mut taker)) => record_and_collect(
+            rt,
+            alloc,
+            aggregator,
+            &mut recorders,
+            &mut taker,
+            name,
+            created,
+        ),
+        Err(_) => None,
+    }
+}
+
+// An aggregator that shows a task `main`, created at 100, and has told nothing.
+pub(super) fn with_main<R: Wait>(rt: &R, alloc: Global) -> Option<Aggregator> {
+    let mut aggregator = Aggregator::new(alloc, 0).ok()?;
+    take_in_task(rt, alloc, &mut aggregator, b"main", 100)?;
+    Some(aggregator)
+}
+
+// The number of the line that reads all rows anew and tells of them.
+pub(super) fn refresh_and_publish<R: Wait, W: Write>(
+    rt: &R,
+    aggregator: &mut Aggregator,
+    now: u64,
+    writer: &mut W,
+) -> Result<u64, StreamError> {
+    aggregator.refresh(rt);
+    aggregator.publish(now, writer)
+}
+
+// The text of tables as a snapshot of number 1.
+fn text_of(alloc: Global, tables: &Tables) -> Option<Vec<u8>> {
+    let none = Tables::new(alloc).ok()?;
+    let line = Line::between(alloc, &none, tables, 1, true).ok()?;
+    line.write().ok()
+}
+
+fn is_text_of(alloc: Global, tables: &Tables, text: &[u8]) -> bool {
+    match text_of(alloc, tables) {
+        Some(own) => own.as_slice() == text,
+        None => false,
+    }
+}
+
+// Whether both tell the same as a whole.
+pub(super) fn are_same(alloc: Global, one: &Tables, other: &Tables) -> bool {
+    match text_of(alloc, one) {
+        Some(text) => is_text_of(alloc, other, text.as_slice()),
+        None => false,
+    }
+}
+
+fn is_fed(client: &mut Client, alloc: Global, bytes: &[u8], lines: u64, tables: &Tables) -> bool {
+    client.feed(bytes).ok() == Some(lines) && are_same(alloc, client.tables(), tables)
+}
+
+// Whether a fresh client takes so many lines from these bytes, and then has these tables.
+pub(super) fn are_taken(alloc: Global, bytes: &[u8], lines: u64, tables: &Tables) -> bool {
+    match Client::new(alloc, 1_000_000) {
+        Ok(mut client) => is_fed(&mut client, alloc, bytes, lines, tables),
+        Err(_) => false,
+    }
+}

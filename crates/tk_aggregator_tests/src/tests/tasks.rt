@@ -1,0 +1,133 @@
+//! A task's poll, a snapshot, and a task that is dropped, as lines tell of them.
+
+use super::given::{collects, limits, make_task, refresh_and_publish, take_in_task};
+use super::texts::{DROPPED, EMPTY_TWICE, POLLED};
+use std::alloc::Global;
+use std::sync::Wait;
+use tk_aggregator::Aggregator;
+use tk_events::{Console, Recorder, Taker};
+use tk_ledgers::TaskOwner;
+
+fn wakes_itself<R: Wait>(rt: &R, owner: TaskOwner) -> bool {
+    match owner.scope(3) {
+        Ok(mut scope) => {
+            scope.wake_by_ref(rt, 3);
+            true
+        }
+        Err(_) => false,
+    }
+}
+
+// The task starts a poll and wakes itself in it.
+fn is_woken_in_a_poll<R: Wait>(rt: &R, mut owner: TaskOwner) -> bool {
+    owner.start_poll(rt, 3).is_ok() && wakes_itself(rt, owner)
+}
+
+fn tells_of_a_poll<R: Wait>(
+    rt: &R,
+    aggregator: &mut Aggregator,
+    owner: TaskOwner,
+    written: &mut Vec<u8>,
+) -> bool {
+    refresh_and_publish(rt, aggregator, 2, written) == Ok(1)
+        && is_woken_in_a_poll(rt, owner)
+        && refresh_and_publish(rt, aggregator, 4, written) == Ok(2)
+        && aggregator.snapshot(5, written) == Ok(3)
+}
+
+fn writes_polled<R: Wait>(
+    rt: &R,
+    alloc: Global,
+    aggregator: &mut Aggregator,
+    owner: TaskOwner,
+) -> bool {
+    let mut written = Vec::new(alloc);
+    tells_of_a_poll(rt, aggregator, owner, &mut written) && written.as_slice() == POLLED.as_bytes()
+}
+
+fn polls_and_tells<R: Wait>(rt: &R, alloc: Global, aggregator: &mut Aggregator) -> bool {
+    match take_in_task(rt, alloc, aggregator, b"a", 1) {
+        Some(owner) => writes_polled(rt, alloc, aggregator, owner),
+        None => false,
+    }
+}
+
+pub(super) fn tells_of_a_poll_and_all<R: Wait>(rt: &R, alloc: Global) -> bool {
+    match Aggregator::new(alloc, 0) {
+        Ok(mut aggregator) => polls_and_tells(rt, alloc, &mut aggregator),
+        Err(_) => false,
+    }
+}
+
+fn tells_nothing_twice(alloc: Global, aggregator: &mut Aggregator) -> bool {
+    let mut written = Vec::new(alloc);
+    aggregator.publish(5, &mut written) == Ok(1)
+        && aggregator.publish(5, &mut written) == Ok(2)
+        && written.as_slice() == EMPTY_TWICE.as_bytes()
+}
+
+pub(super) fn tells_of_no_items(alloc: Global) -> bool {
+    match Aggregator::new(alloc, 0) {
+        Ok(mut aggregator) => tells_nothing_twice(alloc, &mut aggregator),
+        Err(_) => false,
+    }
+}
+
+// Whether a task is made that starts a poll.
+fn makes<R: Wait>(
+    rt: &R,
+    alloc: Global,
+    recorder: &mut Recorder,
+    name: &[u8],
+    created: u64,
+) -> bool {
+    make_task(rt, alloc, recorder, name, created).is_some()
+}
+
+fn starts_a_poll<R: Wait>(rt: &R, alloc: Global, recorder: &mut Recorder) -> bool {
+    match make_task(rt, alloc, recorder, b"c", 3) {
+        Some(mut owner) => owner.start_poll(rt, 5).is_ok(),
+        None => false,
+    }
+}
+
+// Three tasks, of which the third starts a poll.
+fn makes_three<R: Wait>(rt: &R, alloc: Global, recorders: &mut Vec<Recorder>) -> bool {
+    match recorders.get_mut(0) {
+        Some(recorder) => {
+            makes(rt, alloc, recorder, b"a", 1)
+                && makes(rt, alloc, recorder, b"b", 2)
+                && starts_a_poll(rt, alloc, recorder)
+        }
+        None => false,
+    }
+}
+
+fn writes_dropped<R: Wait>(
+    rt: &R,
+    alloc: Global,
+    aggregator: &mut Aggregator,
+    taker: &mut Taker,
+) -> bool {
+    let mut written = Vec::new(alloc);
+    collects(rt, aggregator, taker, 2, 2)
+        && refresh_and_publish(rt, aggregator, 10, &mut written) == Ok(1)
+        && written.as_slice() == DROPPED.as_bytes()
+}
+
+fn tells_of_dropped<R: Wait>(rt: &R, alloc: Global, taker: &mut Taker) -> bool {
+    match Aggregator::new(alloc, 0) {
+        Ok(mut aggregator) => writes_dropped(rt, alloc, &mut aggregator, taker),
+        Err(_) => false,
+    }
+}
+
+// The task whose event is dropped starts a poll, and no line tells of it.
+pub(super) fn tells_of_a_dropped_task<R: Wait>(rt: &R, alloc: Global) -> bool {
+    match Console::open(alloc, limits(1, 2, 9)) {
+        Ok((mut recorders, mut taker)) => {
+            makes_three(rt, alloc, &mut recorders) && tells_of_dropped(rt, alloc, &mut taker)
+        },
+        Err(_) => false,
+    }
+}
