@@ -5,7 +5,7 @@ use Rattle.tk_ids.specs.Ids.{id_of}
 use Rattle.tk_ids.specs.IdBlocks.{last_number}
 use Rattle.tk_ids.specs.declared.spec.TaskKind.{TaskKind}
 use Rattle.tk_ids.specs.declared.spec.TaskSpec.{TaskSpec}
-use Rattle.tk_events.specs.Handles.{Recording, Taking, IsSameRecorder, offers_made, next_task_id}
+use Rattle.tk_events.specs.Handles.{Recording, Taking, IsSameRecorder, offers_made, next_task_id, next_resource_id, next_op_id}
 use Rattle.tk_events.specs.Items as events
 use Rattle.tk_stream.specs.Streams.{Sending}
 use Rattle.tk_aggregator.specs.Aggregates.{Aggregating}
@@ -49,6 +49,14 @@ offered_more r new t a capacity k names told kept marks sent numbers more keeps 
 pub task_id_is : (r : Recording) (capacity : ℕ) (k : Course) (kept : List Bool) → Offered r capacity (numbers_of k.names) k.told kept → next_task_id r ≡ id_of 1 (length k.names.tasks + 1)
 task_id_is r capacity k kept o =
     ap (λ m. id_of m (Rattle.tk_events.specs.Offers.tasks_in r.kept + Rattle.tk_events.specs.Offers.tasks_in r.refused + 1)) o.number ∙ ap (λ m. id_of 1 (m + 1)) o.tasks_are
+
+pub resource_id_is : (r : Recording) (capacity : ℕ) (k : Course) (kept : List Bool) → Offered r capacity (numbers_of k.names) k.told kept → next_resource_id r ≡ id_of 1 (length k.names.resources + 1)
+resource_id_is r capacity k kept o =
+    ap (λ m. id_of m (Rattle.tk_events.specs.Offers.resources_in r.kept + Rattle.tk_events.specs.Offers.resources_in r.refused + 1)) o.number ∙ ap (λ m. id_of 1 (m + 1)) o.resources_are
+
+pub op_id_is : (r : Recording) (capacity : ℕ) (k : Course) (kept : List Bool) → Offered r capacity (numbers_of k.names) k.told kept → next_op_id r ≡ id_of 1 (length k.names.ops + 1)
+op_id_is r capacity k kept o =
+    ap (λ m. id_of m (Rattle.tk_events.specs.Offers.ops_in r.kept + Rattle.tk_events.specs.Offers.ops_in r.refused + 1)) o.number ∙ ap (λ m. id_of 1 (m + 1)) o.ops_are
 
 -- the info of the recorder's next task is that of the text's
 pub info_is : (r : Recording) (capacity : ℕ) (k : Course) (kept : List Bool) (spec : TaskSpec) (line : ℕ) (kind : TaskKind) (name : List ℕ) → Offered r capacity (numbers_of k.names) k.told kept

@@ -1,5 +1,5 @@
 -- What an interpreter stands for behind a call on a handle.
-use Rattle.std.proofs.Common.{◌≡◌, ℕ, Bool, true, false, List, [], ◌∷◌, ◌++◌, Option, Some, None, refl, sym, ap, ◌∙◌, subst}
+use Rattle.std.proofs.Common.{◌≡◌, ℕ, Bool, true, false, List, [], ◌∷◌, ◌++◌, Option, Some, None, inl, refl, sym, ap, ◌∙◌, subst}
 use Rattle.std.specs.Prelude.{not, map, filter, option_map, is_some}
 use Rattle.std.proofs.lemmas.List.{append-nil, map-append}
 use Rattle.std.proofs.lemmas.List.Elements.{filter-append}
@@ -18,6 +18,7 @@ use Rattle.tk_events.specs.Items.{owner_view}
 use Rattle.tk_ledgers.specs.Handles.{Sight, Drew}
 use Rattle.tk_stream.specs.Streams.{Sending}
 use Rattle.tk_live.specs.Commands.{Said}
+use Rattle.tk_live.specs.Commands as said
 use Rattle.tk_live.specs.Course.{Names, Course}
 use Rattle.tk_live.specs.Known.{Handled, and_call, drawn_from, owner_of, caller_of}
 use Rattle.tk_live.specs.Named.{live_item}
@@ -55,9 +56,34 @@ on_handles i new capacity k names kept sent stands is holds same =
       going = stands.going;
     }) holds)
 
+-- what was there may be left
+pub leaves_same : (k : Course) (line : ℕ) (s : Said) → Leaves k line s k
+leaves_same k line (said.task at kind name) = refl
+leaves_same k line (said.start n m) = refl
+leaves_same k line (said.finish n m) = refl
+leaves_same k line (said.close n m) = refl
+leaves_same k line (said.self_wake n m) = refl
+leaves_same k line (said.clone n) = refl
+leaves_same k line (said.again n) = refl
+leaves_same k line (said.wake_ref n m) = refl
+leaves_same k line (said.wake n m) = refl
+leaves_same k line (said.release n) = refl
+leaves_same k line (said.resource at kind concrete attrs) = inl refl
+leaves_same k line (said.close_resource n m) = refl
+leaves_same k line (said.change_resource n i change) = refl
+leaves_same k line (said.op at r source attrs) = refl
+leaves_same k line (said.op_task n t) = refl
+leaves_same k line (said.start_op n m) = refl
+leaves_same k line (said.finish_op n m) = refl
+leaves_same k line (said.close_op n m) = refl
+leaves_same k line (said.change_op n i change) = refl
+leaves_same k line (said.poll_op r o t name ready) = refl
+leaves_same k line (said.capacity n) = refl
+leaves_same k line (said.publish m whole) = refl
+
 -- what was there stays
 pub rests : (i : Interpreter) (capacity : ℕ) (k : Course) (line : ℕ) (s : Said) (kept : List Bool) (sent : List Sending) → Stays i capacity k kept sent → Rests i capacity (Leaves k line s) sent
-rests i capacity k line s kept sent keeps = record { left = k; is_left = refl; kept = kept; keeps = keeps }
+rests i capacity k line s kept sent keeps = record { left = k; is_left = leaves_same k line s; kept = kept; keeps = keeps }
 
 -- what is told of a number's handle
 pub told_of : {H X : Type 0} (f : H → X) (n : ℕ) (seats : List (Option H)) (names : List (Option X)) (found : Option H) → map (option_map f) seats ≡ names → found ≡ live_item n seats → live_item n names ≡ option_map f found

@@ -3,6 +3,9 @@ use Rattle.std.specs.Prelude.{ℕ, ◌+◌, List, [], ◌∷◌, ◌++◌, lengt
 use Rattle.std.specs.List.{enumerate_from}
 use Rattle.std.specs.Option.{option_map_or}
 use Rattle.tk_ids.specs.Ids.{id_of}
+use Rattle.tk_ids.specs.declared.attr.AttrSpec.{AttrSpec}
+use Rattle.tk_ids.specs.declared.info.OpInfo.{OpInfo}
+use Rattle.tk_ids.specs.declared.info.ResourceInfo.{ResourceInfo}
 use Rattle.tk_ids.specs.declared.info.TaskInfo.{TaskInfo}
 use Rattle.tk_ids.specs.declared.location.Location.{Location}
 use Rattle.tk_ids.specs.declared.spec.TaskKind.{TaskKind}
@@ -13,9 +16,14 @@ use Rattle.tk_core.specs.declared.resource.row.ResourceRow.{ResourceRow}
 use Rattle.tk_core.specs.declared.task.call.TaskCall.{TaskCall}
 use Rattle.tk_core.specs.declared.task.call.TaskCall.TheVariants.{Enlist, PollStart, PollEnd, CloneWaker, WakeRef}
 use Rattle.tk_core.specs.declared.task.row.TaskRow.{TaskRow}
+use Rattle.tk_core.specs.declared.op.call.OpCall.TheVariants as op_calls
+use Rattle.tk_core.specs.declared.resource.call.ResourceCall.TheVariants as resource_calls
+use Rattle.tk_core.specs.Op as op_rules
+use Rattle.tk_core.specs.Resource as resource_rules
 use Rattle.tk_core.specs.Task.{opening_row}
-use Rattle.tk_aggregator.specs.Told.{Told, made_task, polled}
-use Rattle.tk_live.specs.Commands.{Said, view, task, start, finish, close, self_wake, clone, again, wake_ref, wake, release, poll_op, capacity, publish}
+use Rattle.tk_events.specs.Items.{infos_of, first_values}
+use Rattle.tk_aggregator.specs.Told.{Told, made_task, made_resource, made_op, polled}
+use Rattle.tk_live.specs.Commands.{Said, view, task, start, finish, close, self_wake, clone, again, wake_ref, wake, release, resource, close_resource, change_resource, op, op_task, start_op, finish_op, close_op, change_op, poll_op, capacity, publish}
 use Rattle.tk_live.specs.declared.command.Line.{Line}
 use Rattle.tk_live.specs.declared.command.Line.TheVariants as lines
 use Rattle.tk_live.specs.Known.{Handled, and_call, drawn_from}
@@ -73,6 +81,33 @@ task_info n line kind name = record { id = id_of 1 n; kind = kind; name = name; 
 abbrev pub new_task : ℕ → ℕ → TaskHandled
 new_task n created = record { id = id_of 1 n; opening = Some (opening_row created); calls = Enlist ∷ [] }
 
+-- the info of the n-th resource, which has no parent
+abbrev pub resource_info : ℕ → ℕ → List ℕ → List ℕ → List AttrSpec → ResourceInfo
+resource_info n line kind concrete attrs = record { id = id_of 1 n; parent = None; concrete = concrete; kind = kind; location = place line; attrs = infos_of attrs }
+
+-- the owner of the n-th resource: it has drawn an inspector and a user
+abbrev pub new_resource : ℕ → ℕ → List AttrSpec → ResourceHandled
+new_resource n created attrs = record { id = id_of 1 n; opening = Some (resource_rules.opening_row created (first_values attrs)); calls = resource_calls.Enlist ∷ resource_calls.Enlist ∷ [] }
+
+-- the info of the n-th async operation, which is on the r-th resource and has no parent
+abbrev pub op_info : ℕ → ℕ → List ℕ → List AttrSpec → OpInfo
+op_info n r source attrs = record { id = id_of 1 n; source = source; resource = id_of 1 r; parent = None; attrs = infos_of attrs }
+
+-- the owner of the n-th async operation: it has drawn an inspector
+abbrev pub new_op : ℕ → ℕ → List AttrSpec → OpHandled
+new_op n created attrs = record { id = id_of 1 n; opening = Some (op_rules.opening_row created (first_values attrs)); calls = op_calls.Enlist ∷ [] }
+
+-- names with one more resource, of which its owner and its user are there
+abbrev pub resource_made : ResourceHandled → Names → Names
+resource_made h names = record names { resources = names.resources ++ Some h ∷ []; users = names.users ++ Some (drawn_from h) ∷ [] }
+
+-- names with one more call of the user of a resource, or of the owner of an async operation
+abbrev pub user_called : ℕ → ResourceCall → Names → Names
+user_called n call names = record names { users = with_change n (and_call call) names.users }
+
+abbrev pub op_called : ℕ → OpCall → Names → Names
+op_called n call names = record names { ops = with_change n (and_call call) names.ops }
+
 -- names with one more call on the owner of a task, or on a waker
 abbrev pub task_called : ℕ → TaskCall → Names → Names
 task_called n call names = record names { tasks = with_change n (and_call call) names.tasks }
@@ -99,6 +134,21 @@ step c line (again n) = record c { names = waker_drawn (live_item n c.names.wake
 step c line (wake_ref n moment) = record c { names = waker_called n (WakeRef moment false) c.names }
 step c line (wake n moment) = record c { names = record c.names { wakers = with_item n None c.names.wakers } }
 step c line (release n) = record c { names = record c.names { wakers = with_item n None c.names.wakers } }
+step c line (resource at kind concrete attrs) = record c {
+  names = resource_made (new_resource (length c.names.resources + 1) at attrs) c.names;
+  told = c.told ++ made_resource (resource_info (length c.names.resources + 1) line kind concrete attrs) ∷ [];
+}
+step c line (close_resource n moment) = record c { names = record c.names { resources = with_item n None c.names.resources } }
+step c line (change_resource n index change) = record c { names = user_called n (resource_calls.Attr index change) c.names }
+step c line (op at r source attrs) = record c {
+  names = record c.names { ops = c.names.ops ++ Some (new_op (length c.names.ops + 1) at attrs) ∷ [] };
+  told = c.told ++ made_op (op_info (length c.names.ops + 1) r source attrs) ∷ [];
+}
+step c line (op_task n t) = record c { names = op_called n (op_calls.SetTask (id_of 1 t)) c.names }
+step c line (start_op n moment) = record c { names = op_called n (op_calls.PollStart moment) c.names }
+step c line (finish_op n moment) = record c { names = op_called n (op_calls.PollEnd moment) c.names }
+step c line (close_op n moment) = record c { names = record c.names { ops = with_item n None c.names.ops } }
+step c line (change_op n index change) = record c { names = op_called n (op_calls.Attr index change) c.names }
 step c line (poll_op r o t name ready) = record c { told = c.told ++ polled (id_of 1 r) ready ∷ [] }
 step c line (capacity n) = c
 step c line (publish moment whole) = record c { due = c.due ++ record { moment = moment; whole = whole } ∷ []; now = moment }

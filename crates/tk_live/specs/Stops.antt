@@ -1,5 +1,5 @@
 -- Why a command stops a script.
-use Rattle.std.specs.Prelude.{◌≡◌, ℕ, ◌^◌, ◌⊎◌, ◌==◌, List, [], ◌∷◌, ◌++◌, length, nat_lt, nat_le, Bool, true, false, Option, Some, None, option_map, if◌then◌else◌}
+use Rattle.std.specs.Prelude.{◌≡◌, ℕ, ◌+◌, ◌^◌, ◌⊎◌, ◌==◌, List, [], ◌∷◌, ◌++◌, length, nat_lt, nat_le, Bool, true, false, Option, Some, None, option_map, if◌then◌else◌}
 use Rattle.tk_ids.specs.IdBlocks.{last_number}
 use Rattle.tk_core.specs.declared.history.Entry.{Entry}
 use Rattle.tk_core.specs.declared.reply.Refusal.{Refusal}
@@ -7,14 +7,19 @@ use Rattle.tk_core.specs.declared.reply.Refusal.TheVariants.{AlreadyPolling, Not
 use Rattle.tk_core.specs.declared.reply.Reply.{Reply}
 use Rattle.tk_core.specs.declared.reply.Reply.TheVariants.{Refused}
 use Rattle.tk_core.specs.declared.task.call.TaskCall.TheVariants.{CloneWaker}
+use Rattle.tk_core.specs.declared.op.call.OpCall.TheVariants as op_calls
+use Rattle.tk_core.specs.declared.resource.call.ResourceCall.TheVariants as resource_calls
 use Rattle.tk_core.specs.Legal.{IsLegal}
 use Rattle.tk_core.specs.Meaning.{Meaning}
 use Rattle.tk_core.specs.Polls.{is_polling}
 use Rattle.tk_core.specs.Task.{start_at, end_at}
+use Rattle.tk_core.specs.Op as op_rules
+use Rattle.tk_core.specs.OpMeaning.{op_meaning}
+use Rattle.tk_core.specs.ResourceMeaning.{resource_meaning}
 use Rattle.tk_core.specs.TaskMeaning.{task_meaning}
 use Rattle.tk_cell.specs.Calls.{entry}
-use Rattle.tk_live.specs.Commands.{Said, view, task, start, finish, close, self_wake, clone, again, wake_ref, wake, release, poll_op, capacity, publish}
-use Rattle.tk_live.specs.Course.{Course, TaskHandled, line_after}
+use Rattle.tk_live.specs.Commands.{Said, view, task, start, finish, close, self_wake, clone, again, wake_ref, wake, release, resource, close_resource, change_resource, op, op_task, start_op, finish_op, close_op, change_op, poll_op, capacity, publish}
+use Rattle.tk_live.specs.Course.{Course, TaskHandled, OpHandled, new_resource, step, line_after}
 use Rattle.tk_live.specs.Known.{Handled}
 use Rattle.tk_live.specs.Named.{made_item, live_item}
 use Rattle.tk_live.specs.declared.command.Line.{Line}
@@ -25,6 +30,10 @@ use Rattle.tk_live.specs.declared.stop.Stop.TheVariants.{BadCommand, NoSuchItem,
 -- a poll of a task is open, by the calls of its owner
 abbrev pub is_polled : TaskHandled → Bool
 is_polled h = is_polling start_at end_at h.calls
+
+-- a poll of an async operation is open, by the calls of its owner
+abbrev pub is_polled_op : OpHandled → Bool
+is_polled_op h = is_polling op_rules.start_at op_rules.end_at h.calls
 
 -- a call that is made where no poll is open, of what is there
 abbrev pub unless_polled : Option Bool → Option Stop
@@ -59,6 +68,15 @@ stop_of c (again n) = if_there (live_item n c.names.wakers) None
 stop_of c (wake_ref n moment) = if_there (live_item n c.names.wakers) None
 stop_of c (wake n moment) = if_there (live_item n c.names.wakers) None
 stop_of c (release n) = if_there (live_item n c.names.wakers) None
+stop_of c (resource at kind concrete attrs) = offer_stop c
+stop_of c (close_resource n moment) = if_there (live_item n c.names.resources) None
+stop_of c (change_resource n index change) = if_there (live_item n c.names.users) None
+stop_of c (op at r source attrs) = if_there (made_item r c.names.resources) (offer_stop c)
+stop_of c (op_task n t) = if_there (made_item t c.names.tasks) (if_there (live_item n c.names.ops) None)
+stop_of c (start_op n moment) = unless_polled (option_map is_polled_op (live_item n c.names.ops))
+stop_of c (finish_op n moment) = while_polled (option_map is_polled_op (live_item n c.names.ops))
+stop_of c (close_op n moment) = unless_polled (option_map is_polled_op (live_item n c.names.ops))
+stop_of c (change_op n index change) = if_there (live_item n c.names.ops) None
 stop_of c (poll_op r o t name ready) =
     if_there (made_item r c.names.resources) (if_there (made_item o c.names.ops) (if_there (made_item t c.names.tasks) (offer_stop c)))
 stop_of c (capacity n) = if c.begun then Some BadCommand else None
@@ -84,14 +102,19 @@ MayFail c s Memory = Unit {0}
 MayFail c (publish moment whole) WriteFault = Unit {0}
 MayFail c (clone n) (Call HandlesSpent) = IsReply task_meaning (live_item n c.names.tasks) CloneWaker HandlesSpent
 MayFail c (again n) (Call HandlesSpent) = IsReply task_meaning (live_item n c.names.wakers) CloneWaker HandlesSpent
+MayFail c (resource at kind concrete attrs) (Call HandlesSpent) = IsReply resource_meaning (Some (new_resource (length c.names.resources + 1) at attrs)) resource_calls.Enlist HandlesSpent
+MayFail c (change_resource n index change) (Call refusal) = IsReply resource_meaning (live_item n c.names.users) (resource_calls.Attr index change) refusal
+MayFail c (change_op n index change) (Call refusal) = IsReply op_meaning (live_item n c.names.ops) (op_calls.Attr index change) refusal
 MayFail c s stop = ⊥
 
 -- why a command stops: by what the text tells, or else where it may fail
 abbrev pub Stops : Course → Said → Stop → Type 0
 Stops c s stop = (stop_of c s ≡ Some stop) ⊎ MayFail c s stop
 
--- what a command leaves that stops, on a line of this number: what was there before it
+-- what a command leaves that stops, on a line of this number: what was there before it; or, where a resource was made and its
+-- user was not drawn, what is there with the resource
 abbrev pub Leaves : Course → ℕ → Said → Course → Type 0
+Leaves c line (resource at kind concrete attrs) left = (left ≡ c) ⊎ (left ≡ step c line (resource at kind concrete attrs))
 Leaves c line s left = left ≡ c
 
 -- a line that the text doesn't stop

@@ -1,6 +1,7 @@
 //! What a line of a script says.
 
-use tk_ids::TaskKind;
+use tk_core::AttrOp;
+use tk_ids::{Attrs, TaskKind};
 
 /// What a line of a script says. It names items by their numbers from 1, and moments are in nanoseconds.
 #[derive(Clone, Copy)]
@@ -52,6 +53,57 @@ pub enum Command<'a> {
     /// A waker is dropped without a wake, and is spent.
     Release {
         waker: u64,
+    },
+    /// A resource and a user of it, created at a moment.
+    Resource {
+        moment: u64,
+        kind: &'a [u8],
+        concrete: &'a [u8],
+        attrs: &'a Attrs,
+    },
+    /// Its owner closes a resource, and is spent. Its user stays.
+    CloseResource {
+        resource: u64,
+        moment: u64,
+    },
+    /// Its user changes an attribute of a resource, by its index from 0.
+    ChangeResource {
+        resource: u64,
+        index: u64,
+        change: AttrOp,
+    },
+    /// An async operation on a resource, created at a moment.
+    Op {
+        moment: u64,
+        resource: u64,
+        source: &'a [u8],
+        attrs: &'a Attrs,
+    },
+    /// From now on a task polls an async operation.
+    OpTask {
+        op: u64,
+        task: u64,
+    },
+    /// Its owner starts a poll of an async operation.
+    StartOp {
+        op: u64,
+        moment: u64,
+    },
+    /// Its owner ends the poll.
+    EndOp {
+        op: u64,
+        moment: u64,
+    },
+    /// Its owner closes an async operation, and is spent.
+    CloseOp {
+        op: u64,
+        moment: u64,
+    },
+    /// Its owner changes an attribute of an async operation, by its index from 0.
+    ChangeOp {
+        op: u64,
+        index: u64,
+        change: AttrOp,
     },
     /// A poll operation on a resource, by an async operation and a task.
     PollOp {

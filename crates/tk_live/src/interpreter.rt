@@ -1,7 +1,9 @@
 //! The run of a script over live ledgers.
 
 mod lines;
+mod ops;
 mod polls;
+mod resources;
 mod tasks;
 mod wakers;
 
@@ -138,6 +140,31 @@ impl Interpreter {
             Command::WakeRef { waker, moment } => self.wake_ref(rt, waker, moment),
             Command::Wake { waker, moment } => self.wake(rt, waker, moment),
             Command::Release { waker } => self.release(rt, waker),
+            Command::Resource {
+                moment,
+                kind,
+                concrete,
+                attrs,
+            } => self.make_resource(rt, alloc, line, moment, kind, concrete, attrs),
+            Command::CloseResource { resource, moment } => {
+                self.close_resource(rt, resource, moment)
+            }
+            Command::ChangeResource {
+                resource,
+                index,
+                change,
+            } => self.change_resource(rt, resource, index, change),
+            Command::Op {
+                moment,
+                resource,
+                source,
+                attrs,
+            } => self.make_op(rt, alloc, moment, resource, source, attrs),
+            Command::OpTask { op, task } => self.set_task(rt, op, task),
+            Command::StartOp { op, moment } => self.start_op(rt, op, moment),
+            Command::EndOp { op, moment } => self.end_op(rt, op, moment),
+            Command::CloseOp { op, moment } => self.close_op(rt, op, moment),
+            Command::ChangeOp { op, index, change } => self.change_op(rt, op, index, change),
             Command::PollOp {
                 resource,
                 op,

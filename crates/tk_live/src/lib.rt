@@ -5,6 +5,7 @@
 //! - [`AppFault`], [`Stop`]: what a run stops at.
 #![tactic(auto)]
 
+mod attributes;
 mod command;
 mod fault;
 mod interpreter;

@@ -10,20 +10,28 @@ use std::sync::Wait;
 use tk_events::RecordError;
 use tk_ids::{IdError, Location, Name, TaskKind, TaskSpec};
 
+/// A place on a line of the script.
+pub(super) fn place_of(alloc: Global, line: u32) -> Result<Location, IdError>
+    ensures { IfOk result (λ location. location ≡ course.place line) }
+{
+    let file = Name::new(alloc, b"script")?;
+    Ok(Location {
+        file,
+        line,
+        column: 1,
+    })
+}
+
 // What is told of a task on a line of the script.
 fn spec_of(alloc: Global, line: u32, kind: TaskKind, name: &[u8]) -> Result<TaskSpec, IdError>
     ensures { IfOk result (λ spec. (spec.kind ≡ kind) × (spec.name ≡ name.now) × (spec.location ≡ course.place line)) }
 {
     let name = Name::new(alloc, name)?;
-    let file = Name::new(alloc, b"script")?;
+    let location = place_of(alloc, line)?;
     Ok(TaskSpec {
         kind,
         name,
-        location: Location {
-            file,
-            line,
-            column: 1,
-        },
+        location,
     })
 }
 

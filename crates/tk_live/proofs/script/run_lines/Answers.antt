@@ -1,4 +1,4 @@
-use Rattle.std.proofs.Common.{◌≡◌, ℕ, ◌+◌, List, ◌∷◌, ◌++◌, [], length, take, drop, get_or, refl, ap, sym, ◌∙◌, subst, arith}
+use Rattle.std.proofs.Common.{◌≡◌, ℕ, ◌+◌, List, ◌∷◌, ◌++◌, [], length, take, drop, refl, ap, sym, ◌∙◌, subst, arith}
 use Rattle.std.specs.List.{enumerate_from}
 use Rattle.std.specs.Io.KnownBytes.{Appends}
 use Rattle.std.proofs.KnownBytes.{Appends-trans}
@@ -11,7 +11,6 @@ use Rattle.tk_live.specs.Ran.{written_by}
 use Rattle.tk_live.specs.Runs.{StandsFor}
 use Rattle.tk_live.specs.Stops.{AllGo}
 use Rattle.tk_live.specs.declared.command.Line.{Line}
-use Rattle.tk_live.specs.declared.command.Line.TheVariants.{Skipped}
 use Rattle.tk_live.proofs.Lines.{course_push, goes_more}
 use Rattle.tk_live.proofs.Streams.{written_append}
 use Rattle.tk_live.proofs.script.run_lines.Goals as goal
@@ -25,9 +24,9 @@ returns-in-Err g c =
       written_by did.1 ++ h.2,
       record {
         before = take i script;
-        line = get_or script i Skipped;
+        line = c.line-item.result;
         behind = drop (Rattle.std.proofs.Common.suc i) script;
-        lines = sym (take-append-drop i script) ∙ ap (λ l. take i script ++ l) (drop-cons script i Skipped c.loop-line-test.true);
+        lines = sym (take-append-drop i script) ∙ ap (λ l. take i script ++ l) (drop-cons script i c.line-item.result c.loop-line-test.true ∙ ap (λ x. x ∷ drop (Rattle.std.proofs.Common.suc i) script) (sym c.line-item.is));
         counted = omega (arith, c.loop-line.invariant.counted, length-take-le i script c.loop-line.auto.line-index-end);
         sent = did.1;
         goes = c.loop-line.invariant.goes;
@@ -46,10 +45,10 @@ loop-line-preserved g c =
     let i = c.loop-line.line-index in
     let number : ℕ = c.loop-line.number + 1 in
     let before : List Line = take i script in
-    let line : Line = get_or script i Skipped in
+    let line : Line = c.line-item.result in
     let did = c.loop-line.invariant.came in
     let h = c.in_default.ensures (capacity_of script) (course_of before) did.0 did.1 did.2 in
-    let t : take (i + 1) script ≡ before ++ line ∷ [] = (take_at_read script i Skipped c.loop-line-test.true).1 in
+    let t : take (i + 1) script ≡ before ++ line ∷ [] = (take_at_read script i line c.loop-line-test.true).1 ∙ ap (λ x. before ++ x ∷ []) (sym c.line-item.is) in
     let counted : number ≡ length before + 1 = omega (arith, c.loop-line.invariant.counted, length-take-le i script c.loop-line.auto.line-index-end) in
     record {
       counted = ap (λ n. n + 1) c.loop-line.invariant.counted;

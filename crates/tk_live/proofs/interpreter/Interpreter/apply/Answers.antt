@@ -50,3 +50,39 @@ returns-in-PollOp g c =
 pub returns-in-Capacity : goal.returns-in-Capacity
 returns-in-Capacity g c =
     rw c.in-Capacity.is (quietly c.args.line (said.capacity c.in-Capacity.count) c.args.self.now c.say_capacity.new.self c.say_capacity.result (g.W.Write.contents c.args.writer.now) (c.say_capacity.ensures c.args.line c.in-Capacity.count) (λ sent stop. refl {A = List ℕ} {a = []}))
+
+pub returns-in-Resource : goal.returns-in-Resource
+returns-in-Resource g c =
+    rw c.in-Resource.is (quietly c.args.line (said.resource c.in-Resource.moment c.in-Resource.kind.now c.in-Resource.concrete.now c.in-Resource.attrs.now) c.args.self.now c.make_resource.new.self c.make_resource.result (g.W.Write.contents c.args.writer.now) c.make_resource.ensures (λ sent stop. refl {A = List ℕ} {a = []}))
+
+pub returns-in-CloseResource : goal.returns-in-CloseResource
+returns-in-CloseResource g c =
+    rw c.in-CloseResource.is (quietly c.args.line (said.close_resource c.in-CloseResource.resource c.in-CloseResource.moment) c.args.self.now c.close_resource.new.self c.close_resource.result (g.W.Write.contents c.args.writer.now) (c.close_resource.ensures c.args.line) (λ sent stop. refl {A = List ℕ} {a = []}))
+
+pub returns-in-ChangeResource : goal.returns-in-ChangeResource
+returns-in-ChangeResource g c =
+    rw c.in-ChangeResource.is (quietly c.args.line (said.change_resource c.in-ChangeResource.resource c.in-ChangeResource.index c.in-ChangeResource.change) c.args.self.now c.change_resource.new.self c.change_resource.result (g.W.Write.contents c.args.writer.now) (c.change_resource.ensures c.args.line) (λ sent stop. refl {A = List ℕ} {a = []}))
+
+pub returns-in-Op : goal.returns-in-Op
+returns-in-Op g c =
+    rw c.in-Op.is (quietly c.args.line (said.op c.in-Op.moment c.in-Op.resource c.in-Op.source.now c.in-Op.attrs.now) c.args.self.now c.make_op.new.self c.make_op.result (g.W.Write.contents c.args.writer.now) (c.make_op.ensures c.args.line) (λ sent stop. refl {A = List ℕ} {a = []}))
+
+pub returns-in-OpTask : goal.returns-in-OpTask
+returns-in-OpTask g c =
+    rw c.in-OpTask.is (quietly c.args.line (said.op_task c.in-OpTask.op c.in-OpTask.task) c.args.self.now c.set_task.new.self c.set_task.result (g.W.Write.contents c.args.writer.now) (c.set_task.ensures c.args.line) (λ sent stop. refl {A = List ℕ} {a = []}))
+
+pub returns-in-StartOp : goal.returns-in-StartOp
+returns-in-StartOp g c =
+    rw c.in-StartOp.is (quietly c.args.line (said.start_op c.in-StartOp.op c.in-StartOp.moment) c.args.self.now c.start_op.new.self c.start_op.result (g.W.Write.contents c.args.writer.now) (c.start_op.ensures c.args.line) (λ sent stop. refl {A = List ℕ} {a = []}))
+
+pub returns-in-EndOp : goal.returns-in-EndOp
+returns-in-EndOp g c =
+    rw c.in-EndOp.is (quietly c.args.line (said.finish_op c.in-EndOp.op c.in-EndOp.moment) c.args.self.now c.end_op.new.self c.end_op.result (g.W.Write.contents c.args.writer.now) (c.end_op.ensures c.args.line) (λ sent stop. refl {A = List ℕ} {a = []}))
+
+pub returns-in-CloseOp : goal.returns-in-CloseOp
+returns-in-CloseOp g c =
+    rw c.in-CloseOp.is (quietly c.args.line (said.close_op c.in-CloseOp.op c.in-CloseOp.moment) c.args.self.now c.close_op.new.self c.close_op.result (g.W.Write.contents c.args.writer.now) (c.close_op.ensures c.args.line) (λ sent stop. refl {A = List ℕ} {a = []}))
+
+pub returns-in-ChangeOp : goal.returns-in-ChangeOp
+returns-in-ChangeOp g c =
+    rw c.in-ChangeOp.is (quietly c.args.line (said.change_op c.in-ChangeOp.op c.in-ChangeOp.index c.in-ChangeOp.change) c.args.self.now c.change_op.new.self c.change_op.result (g.W.Write.contents c.args.writer.now) (c.change_op.ensures c.args.line) (λ sent stop. refl {A = List ℕ} {a = []}))
