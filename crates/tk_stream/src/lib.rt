@@ -6,7 +6,6 @@
 //! - [`LineError`]: why a line was not made, read or written.
 //! - [`send`]: writes a text whole, or a proper front of it ([`Unsent`]).
 //! - [`laws`]: what holds of the definitions by themselves.
-//! - [`send`], [`Unsent`]: a text that is written whole, or a proper front of it.
 //! - [`ToldTables`], [`ToldRows`], [`Table`], [`Item`], [`Ranged`]: what an aggregator keeps beside its tables, so that it makes
 //!   each line without a copy of them.
 #![tactic(auto)]
