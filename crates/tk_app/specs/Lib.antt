@@ -14,7 +14,6 @@ pub mod Script
 pub mod Stream
 -- Reading and sending
 pub mod Transfer
-pub mod Faults
 -- Inner: no public clause cites these
 pub mod Rows
 pub mod Runs

@@ -1,8 +1,8 @@
 -- What reading a whole script and sending a text do to the known bytes.
 use Rattle.std.specs.Prelude.{◌≡◌, ℕ, ◌<◌, ◌≤◌, List, ◌++◌, length, Option, IfSome, Result, Ok, Err}
 use Rattle.std.specs.Io.KnownBytes.{Appends}
-use Rattle.tk_app.specs.declared.fault.AppFault.{AppFault}
-use Rattle.tk_app.specs.declared.fault.AppFault.TheVariants as faults
+use Rattle.tk_report.specs.declared.fault.AppFault.{AppFault}
+use Rattle.tk_report.specs.declared.fault.AppFault.TheVariants as faults
 
 -- the reader had these bytes and no others, where its bytes are known
 abbrev pub Held : Option (List ℕ) → List ℕ → Type 0
