@@ -4,7 +4,7 @@ use Rattle.std.specs.Io.KnownBytes.{Appends}
 use Rattle.tk_app.specs.Script.{ReadsAndRuns}
 use Rattle.tk_app.specs.Stream.{output_of}
 use Rattle.tk_app.specs.Transfer.{IsScript}
-use Rattle.tk_app.specs.declared.fault.AppFault.{AppFault}
+use Rattle.tk_report.specs.declared.fault.AppFault.{AppFault}
 
 -- the status that tells an outcome: 0 without a fault, 1 with one
 abbrev pub status_of : Result (Unit {0}) AppFault → ℕ

@@ -6,8 +6,8 @@ use Rattle.std.proofs.lemmas.List.Sums.{fold-append, count_by-le-length}
 use Rattle.std.proofs.lemmas.List.Splits.{length-slice_split}
 use Rattle.std.specs.Io.KnownBytes.{Appends}
 use Rattle.std.proofs.KnownBytes.{Appends-nil}
-use Rattle.tk_app.specs.declared.fault.AppFault.{AppFault}
-use Rattle.tk_app.specs.declared.fault.AppFault.TheVariants as faults
+use Rattle.tk_report.specs.declared.fault.AppFault.{AppFault}
+use Rattle.tk_report.specs.declared.fault.AppFault.TheVariants as faults
 use Rattle.tk_app.specs.Transfer.{IsReading, IsScript}
 use Rattle.tk_app.specs.Commands.{lines_of}
 use Rattle.tk_app.specs.Script.{State, start, line_does, with_text, then_line, lines_do, RunWrites, ReadsAndRuns}
@@ -38,6 +38,7 @@ read_fails known bytes faults.Memory h = ([], refl, Appends-nil bytes)
 read_fails known bytes faults.Read h = ([], refl, Appends-nil bytes)
 read_fails known bytes faults.Write h = absurd h
 read_fails known bytes (faults.Script line name) h = absurd h
+read_fails known bytes (faults.Stream lines fault) h = absurd h
 
 -- what the run of a script that was read writes
 pub read_runs : (known : Option (List ℕ)) (script : List ℕ) (r : Result (Unit {0}) AppFault) (written : List ℕ) → IsScript known script → RunWrites script r written → ReadsAndRuns known r written
@@ -46,3 +47,4 @@ read_runs known script (Err (faults.Script number name)) written is h = (script,
 read_runs known script (Err faults.Memory) written is h = absurd h
 read_runs known script (Err faults.Read) written is h = absurd h
 read_runs known script (Err faults.Write) written is h = absurd h
+read_runs known script (Err (faults.Stream lines fault)) written is h = absurd h

@@ -13,7 +13,6 @@ pub mod Script
 pub mod Stream
 -- Reading a script
 pub mod Transfer
-pub mod Faults
 -- Inner: no public clause cites these
 pub mod Rows
 pub mod Runs

@@ -27,8 +27,8 @@ use Rattle.tk_app.specs.Wakers.{wakers_after, is_spent_waker}
 use Rattle.tk_app.specs.declared.waker.Waker.{Waker}
 use Rattle.tk_app.specs.declared.refusal.Stop.{Stop}
 use Rattle.tk_app.specs.declared.refusal.Stop.TheVariants.{BadCommand, NoSuchItem, Call, OffersSpent, Clock, NumbersSpent, Memory, WriteFault}
-use Rattle.tk_app.specs.declared.fault.AppFault.{AppFault}
-use Rattle.tk_app.specs.declared.fault.AppFault.TheVariants as faults
+use Rattle.tk_report.specs.declared.fault.AppFault.{AppFault}
+use Rattle.tk_report.specs.declared.fault.AppFault.TheVariants as faults
 
 -- what the lines so far have made: the items, the wakers, the tables that the last line told of, and how many lines there are
 pub record State : Type 0 where

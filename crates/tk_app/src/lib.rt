@@ -1,9 +1,8 @@
-//! What the program does: a script is run, and its stream is written.
+//! What the program does: a script is run, and its stream is written; a stream is read, and its tables are shown.
 #![tactic(auto)]
 
 mod attributes;
 mod command;
-mod fault;
 mod gate;
 mod interpreter;
 mod pieces;
@@ -13,6 +12,6 @@ mod transfer;
 mod waker;
 mod words;
 
-pub use fault::AppFault;
 pub use gate::{Gate, Open};
 pub use script::run_script;
+pub use tk_report::{AppFault, View, report, view_stream};

@@ -11,7 +11,6 @@ ghost use Rattle.tk_app.specs.Transfer.{IsScript};
 ghost use Rattle.tk_app.specs.Runs.{StandsFor, IsStanding, Does};
 
 use crate::command::command_of;
-use crate::fault::AppFault;
 use crate::gate::Gate;
 use crate::interpreter::Interpreter;
 use crate::pieces::Pieces;
@@ -19,6 +18,7 @@ use crate::refusal::Stop;
 use crate::transfer::{MAX_SCRIPT, read_script};
 use std::alloc::Global;
 use std::io::{Read, Write};
+use tk_report::AppFault;
 
 fn is_skipped(line: &[u8]) -> bool
     ensures { result ≡ said.is_skipped line.now }

@@ -1,9 +1,9 @@
 ghost use Rattle.std.specs.Prelude.{IfOk, IfErr};
 ghost use Rattle.tk_app.specs.Transfer.{IsScript, IsReading};
 
-use crate::fault::AppFault;
 use std::alloc::Global;
 use std::io::Read;
+use tk_report::AppFault;
 
 /// The longest script that is read.
 pub const MAX_SCRIPT: usize = 1_048_576;

@@ -53,3 +53,20 @@ pub(crate) fn warnings_of_places(
     }
     Ok(list)
 }
+
+/// The warnings of tables, found by a walk through all tasks: for each task in table order those that hold, `SelfWakes` before
+/// `LostWaker` before `NeverYielded`. A client has kept up which tasks to look at, so its `warnings` takes
+/// less time.
+pub fn warnings_in(
+    alloc: Global,
+    tables: &Tables,
+    lints: &Lints,
+) -> Result<Vec<Warning>, AllocError>
+    ensures { IfOk result (λ list. list.items ≡ warnings_in lints.now tables.now) }
+{
+    let mut list = Vec::new(alloc);
+    for place in 0..tables.task_count() {
+        warn_at(&mut list, lints, tables, place)?;
+    }
+    Ok(list)
+}

@@ -309,6 +309,7 @@ impl Client {
     ///   until [`Client::restart`].
     pub fn feed(&mut self, piece: &[u8]) -> Result<u64, FeedError>
         ensures fed { self.old.has_failed ≡ false → Fed self.old piece.now result self.new }
+        ensures few { IfOk result (λ lines. lines ≤ length piece.now) }
         ensures failed { self.old.has_failed ≡ true → result ≡ Err (record { lines = 0; used = 0; fault = Fault.Failed }) }
         ensures unchanged { self.old.has_failed ≡ true → self.new ≡ self.old }
         ensures limit { self.new.max_line ≡ self.old.max_line }

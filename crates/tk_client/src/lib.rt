@@ -3,6 +3,7 @@
 //! - [`Client`]: tables that are kept up by the lines that are fed.
 //! - [`Fault`]: why a line is not taken. [`FeedError`]: how far feeding came.
 //! - [`Warning`], [`WarningKind`]: what is odd about a task. [`Lints`]: how much is too much.
+//! - [`warnings_in`]: the warnings of any tables.
 //! - [`laws`]: what holds of the definitions by themselves.
 #![tactic(auto)]
 
@@ -23,6 +24,7 @@ mod taking;
 mod tasks;
 mod warning;
 
+pub use candidates::warnings_in;
 pub use client::Client;
 pub use fault::{Fault, FeedError};
 pub use lints::Lints;

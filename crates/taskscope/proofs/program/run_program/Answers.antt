@@ -2,7 +2,7 @@ use Rattle.std.proofs.Common.{[], List, ℕ, Option, Some, None, Err, sym, refl,
 use Rattle.std.specs.Io.KnownBytes.{Appends}
 use Rattle.std.proofs.lemmas.List.{append-nil}
 use Rattle.clap.specs.Values.{kind_of}
-use Rattle.tk_app.specs.declared.fault.AppFault.TheVariants as kinds
+use Rattle.tk_report.specs.declared.fault.AppFault.TheVariants as kinds
 use Rattle.taskscope.specs.Requests.{AsksForRun, IsRun, refusals, texts}
 use Rattle.taskscope.proofs.WordLemmas.{memory_alone, mistake_among}
 use Rattle.taskscope.proofs.WordRows.{run}

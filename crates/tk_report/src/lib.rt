@@ -1,0 +1,15 @@
+//! The report of tables, and the view of a stream.
+//!
+//! - [`report`]: what tables show, and the warnings about their tasks, as text.
+//! - [`view_stream`], [`View`]: reads a stream to its end, and writes the report of its tables, or its warning lines alone.
+//! - [`AppFault`]: what a run of the program stops at.
+#![tactic(auto)]
+
+mod fault;
+mod lines;
+mod reporting;
+mod view;
+
+pub use fault::AppFault;
+pub use reporting::report;
+pub use view::{View, view_stream};

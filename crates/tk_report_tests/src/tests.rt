@@ -1,0 +1,6 @@
+//! Streams in memory: what their views write, and what they stop at.
+
+mod given;
+mod readers;
+mod reports;
+mod writers;

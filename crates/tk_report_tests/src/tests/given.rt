@@ -1,0 +1,66 @@
+//! Streams, their views, and what comes of them.
+
+use std::alloc::Global;
+use std::io::{Read, Write};
+use tk_client::Lints;
+use tk_report::{AppFault, View, view_stream};
+
+// A task that was created at 100 and polled from 150 to 170: the stream of a script that publishes at 200.
+pub(super) const LOST: &[u8] =
+    b"{\"dropped\":[0,0,0],\"new_ops\":[],\"new_resources\":[],\"new_tasks\":[{\"id\":1099511627777,\"kind\":\"spawn\",\"loc\":[\"script\",1,1],\"name\":\"main\"}],\"now\":200,\"op_stats\":[],\"poll_counts\":[],\"resource_stats\":[],\"seq\":1,\"snapshot\":false,\"task_stats\":[{\"busy\":20,\"clones\":0,\"created\":100,\"dropped\":null,\"drops\":0,\"first_poll\":150,\"handles\":1,\"id\":1099511627777,\"last_ended\":170,\"last_started\":150,\"last_wake\":null,\"polling\":false,\"polls\":1,\"sched\":50,\"scheduled\":false,\"self_wakes\":0,\"wakes\":0}],\"v\":1}\n";
+
+// Its report.
+pub(super) const LOST_REPORT: &str = "now 200 dropped 0 0 0
+task 1.1 spawn idle polls 1 wakes 0 self 0 clones 0 drops 0 busy 20 sched 50 name main
+warn 1.1 lost-waker
+";
+
+// A task, a resource with two attributes and a poll operation, and an operation: the stream of a script that publishes at 50.
+pub(super) const SEMAPHORE: &[u8] =
+    b"{\"dropped\":[0,0,0],\"new_ops\":[{\"attrs\":[],\"id\":1099511627777,\"parent\":null,\"resource\":1099511627777,\"source\":\"Semaphore::acquire\"}],\"new_resources\":[{\"attrs\":[[\"permits\",null,\"u64\"],[\"closed\",null,\"bool\"]],\"id\":1099511627777,\"kind\":\"Sync\",\"loc\":[\"script\",2,1],\"parent\":null,\"type\":\"Semaphore\"}],\"new_tasks\":[{\"id\":1099511627777,\"kind\":\"spawn\",\"loc\":[\"script\",1,1],\"name\":\"worker\"}],\"now\":50,\"op_stats\":[{\"attrs\":[],\"busy\":5,\"created\":30,\"dropped\":null,\"first_poll\":40,\"handles\":1,\"id\":1099511627777,\"last_ended\":45,\"last_started\":40,\"polling\":false,\"polls\":1,\"task\":1099511627777}],\"poll_counts\":[[1099511627777,1,0]],\"resource_stats\":[{\"attrs\":[3,false],\"created\":20,\"dropped\":null,\"handles\":2,\"id\":1099511627777}],\"seq\":1,\"snapshot\":false,\"task_stats\":[{\"busy\":0,\"clones\":0,\"created\":10,\"dropped\":null,\"drops\":0,\"first_poll\":null,\"handles\":1,\"id\":1099511627777,\"last_ended\":null,\"last_started\":null,\"last_wake\":null,\"polling\":false,\"polls\":0,\"sched\":0,\"scheduled\":true,\"self_wakes\":0,\"wakes\":0}],\"v\":1}\n";
+
+// Its report.
+pub(super) const SEMAPHORE_REPORT: &str = "now 50 dropped 0 0 0
+task 1.1 spawn scheduled polls 0 wakes 0 self 0 clones 0 drops 0 busy 0 sched 0 name worker
+resource 1.1 live ready 1 pending 0 type Semaphore kind Sync
+  permits = 3
+  closed = false
+op 1.1 idle polls 1 busy 5 task 1.1 resource 1.1 source Semaphore::acquire
+";
+
+// Whether the fault has this text.
+pub(super) fn is_text_of(alloc: Global, fault: AppFault, text: &str) -> bool {
+    match format!(in alloc; "{fault}") {
+        Ok(told) => told.as_str() == text,
+        Err(_) => false,
+    }
+}
+
+// Whether the view stops at the fault of this text, or where that is empty answers so many warnings.
+pub(super) fn comes_to<R: Read, W: Write>(
+    alloc: Global,
+    reader: &mut R,
+    writer: &mut W,
+    view: View,
+    warnings: u64,
+    fault: &str,
+) -> bool {
+    match view_stream(alloc, reader, writer, view, &Lints::default()) {
+        Ok(count) => fault.is_empty() && count == warnings,
+        Err(stop) => is_text_of(alloc, stop, fault),
+    }
+}
+
+// Whether it does, and has written this text.
+pub(super) fn shows_from<R: Read>(
+    alloc: Global,
+    reader: &mut R,
+    view: View,
+    warnings: u64,
+    fault: &str,
+    wanted: &str,
+) -> bool {
+    let mut written = Vec::new(alloc);
+    comes_to(alloc, reader, &mut written, view, warnings, fault)
+        && written.as_slice() == wanted.as_bytes()
+}
