@@ -64,14 +64,14 @@ impl LineTimes {
     }
 }
 
-fn name_of(alloc: Global, bytes: &[u8]) -> Result<Name, BenchError> {
+pub(crate) fn name_of(alloc: Global, bytes: &[u8]) -> Result<Name, BenchError> {
     match Name::new(alloc, bytes) {
         Ok(name) => Ok(name),
         Err(_) => Err(BenchError::Memory),
     }
 }
 
-fn location(alloc: Global) -> Result<Location, BenchError> {
+pub(crate) fn location(alloc: Global) -> Result<Location, BenchError> {
     Ok(Location {
         file: name_of(alloc, b"src/server/connection.rs")?,
         line: 120,

@@ -1,4 +1,4 @@
-//! Measures what calls on ledgers, lines of a stream and the run of a script cost.
+//! Measures what calls on ledgers, lines of a stream, an aggregator and the run of a script cost.
 //!
 //! Without a word it measures, and writes tables in Markdown. With the word `small` it does everything once, in small
 //! sizes, and writes what was done without times.
@@ -8,6 +8,8 @@ mod error;
 mod ids;
 mod ledgers;
 mod lines;
+mod live;
+mod live_report;
 mod report;
 mod rounds;
 mod scripts;

@@ -3,6 +3,7 @@
 use crate::error::BenchError;
 use crate::ledgers::{Call, on_a_row, on_one_task, on_own_tasks};
 use crate::lines::{LineTimes, Part, Stream, Waker, changed, tables_of};
+use crate::live_report;
 use crate::rounds::{ROUNDS, Rounds};
 use crate::scripts::{script_of, time_of};
 use std::alloc::Global;
@@ -73,8 +74,8 @@ impl Measure {
     }
 }
 
-// A quotient, and its first digit behind the point.
-fn tenths(above: u64, below: u64) -> (u64, u64) {
+/// A quotient, and its first digit behind the point.
+pub(crate) fn tenths(above: u64, below: u64) -> (u64, u64) {
     let all = above.saturating_mul(10).checked_div(below).unwrap_or(0);
     (all / 10, all % 10)
 }
@@ -370,6 +371,7 @@ pub(crate) fn all<R: Wait + Threads + Clock + Sync, W: Write>(
     lines(rt, alloc, out, 10_000)?;
     lines(rt, alloc, out, 100_000)?;
     warnings(rt, alloc, out, 100_000)?;
+    live_report::all(rt, alloc, out)?;
     scripts(rt, alloc, out, 49_999)
 }
 
@@ -386,6 +388,7 @@ pub(crate) fn small<R: Wait + Threads + Clock + Sync, W: Write>(
         }
     }
     small_line(rt, alloc, out)?;
+    live_report::small(rt, alloc, out)?;
     let script = script_of(alloc, 5)?;
     let (_, bytes) = time_of(rt, alloc, &script)?;
     writeln!(out, "a script of 12 commands: {bytes} bytes")?;
