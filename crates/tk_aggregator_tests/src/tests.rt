@@ -1,5 +1,4 @@
-//! What an aggregator tells, what it refuses, and what it does beside threads: one test each, since to the prover a test
-//! costs as much as all of its helpers.
+//! What an aggregator tells, what it refuses, and what it does beside threads: a test for each, of checks named as sentences.
 
 mod errors;
 mod given;
