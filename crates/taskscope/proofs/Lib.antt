@@ -1,2 +1,3 @@
-pub mod WordRows
+pub mod Numbers
 pub mod WordLemmas
+pub mod WordRows

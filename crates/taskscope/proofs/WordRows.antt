@@ -1,19 +1,42 @@
 -- What words of a command line ask for, word by word.
-use Rattle.std.proofs.Common.{◌≡◌, refl, ℕ, List, [], ◌∷◌, codes, true≢false, sym, ap}
+use Rattle.std.proofs.Common.{◌≡◌, refl, ℕ, List, [], ◌∷◌, Some, codes, true≢false, sym, ap}
 use Rattle.clap.specs.Walk.{is_empty}
-use Rattle.clap.specs.declared.error.kind.ErrorKind.TheVariants.{DisplayHelp, InvalidSubcommand, MissingSubcommand, UnknownArgument}
+use Rattle.clap.specs.declared.error.kind.ErrorKind.TheVariants.{ArgumentConflict, DisplayHelp, InvalidSubcommand, MissingSubcommand, UnknownArgument, ValueValidation}
 use Rattle.clap.proofs.OnLiterals.{clap_on_literals}
-use Rattle.taskscope.specs.Requests.{AsksForHelp, AsksForRun, IsMistake, refusals}
+use Rattle.tk_report.specs.declared.view.View.TheVariants.{Report, Lint}
+use Rattle.taskscope.specs.declared.command_line.Request.TheVariants.{Run, Show}
+use Rattle.taskscope.specs.Requests.{AsksFor, AsksForHelp, IsMistake, asked, plain_lints, refusals}
 
 -- the program is called by some name
 module _ (name : List ℕ) where
-  pub run : AsksForRun (name ∷ codes "run" ∷ [])
+  pub run : AsksFor Run (name ∷ codes "run" ∷ [])
   unfolding clap_on_literals
-  run = refl
+  run = (refl, refl)
 
-  run_and_no_more : AsksForRun (name ∷ codes "run" ∷ codes "--" ∷ [])
+  pub view : AsksFor (Show Report plain_lints) (name ∷ codes "view" ∷ [])
   unfolding clap_on_literals
-  run_and_no_more = refl
+  view = (refl, refl)
+
+  pub lint : AsksFor (Show Lint plain_lints) (name ∷ codes "lint" ∷ [])
+  unfolding clap_on_literals
+  lint = (refl, refl)
+
+  run_and_no_more : AsksFor Run (name ∷ codes "run" ∷ codes "--" ∷ [])
+  unfolding clap_on_literals
+  run_and_no_more = (refl, refl)
+
+  all_wakes : AsksFor (Show Lint (record { self_wake_percent = 100; never_yielded_ns = 0 }))
+      (name ∷ codes "lint" ∷ codes "--self-wake-percent" ∷ codes "100" ∷ codes "--never-yielded-ns=0" ∷ [])
+  unfolding clap_on_literals
+  all_wakes = (refl, refl)
+
+  a_percentage_too_large : refusals (name ∷ codes "view" ∷ codes "--self-wake-percent=101" ∷ []) ≡ ValueValidation ∷ []
+  unfolding clap_on_literals
+  a_percentage_too_large = refl
+
+  an_option_twice : refusals (name ∷ codes "lint" ∷ codes "--never-yielded-ns=1" ∷ codes "--never-yielded-ns=1" ∷ []) ≡ ArgumentConflict ∷ []
+  unfolding clap_on_literals
+  an_option_twice = refl
 
   a_word_too_many : refusals (name ∷ codes "run" ∷ codes "fast" ∷ []) ≡ UnknownArgument ∷ []
   unfolding clap_on_literals
@@ -36,11 +59,11 @@ module _ (name : List ℕ) where
   unfolding clap_on_literals
   help_command = refl
 
-  another_word : refusals (name ∷ codes "view" ∷ []) ≡ UnknownArgument ∷ InvalidSubcommand ∷ []
+  another_word : refusals (name ∷ codes "demo" ∷ []) ≡ UnknownArgument ∷ InvalidSubcommand ∷ []
   unfolding clap_on_literals
   another_word = refl
 
-  another_word_is_a_mistake : IsMistake (name ∷ codes "view" ∷ [])
+  another_word_is_a_mistake : IsMistake (name ∷ codes "demo" ∷ [])
   unfolding clap_on_literals
   another_word_is_a_mistake = ((λ e. true≢false (sym (ap is_empty e))), refl)
 

@@ -1,10 +1,16 @@
--- What a run of the program does with a script.
-use Rattle.std.specs.Prelude.{◌≡◌, ℕ, List, Option, Result, Ok, Err, OnOk}
+-- What a run of the program does with a script, and with a stream.
+use Rattle.std.specs.Prelude.{◌≡◌, ◌==◌, ℕ, List, Option, Result, Ok, Err, IfErr, OnOk, if◌then◌else◌}
 use Rattle.std.specs.Io.KnownBytes.{Appends}
 use Rattle.tk_app.specs.Script.{ReadsAndRuns}
 use Rattle.tk_app.specs.Stream.{output_of}
 use Rattle.tk_app.specs.Transfer.{IsScript}
+use Rattle.tk_client.specs.Warnings.{LintsView}
+use Rattle.tk_report.specs.Views.{IsOfWriter, Views}
 use Rattle.tk_report.specs.declared.fault.AppFault.{AppFault}
+use Rattle.tk_report.specs.declared.view.View.{View}
+use Rattle.tk_report.specs.declared.view.View.TheVariants.{Report, Lint}
+use Rattle.taskscope.specs.declared.command_line.Request.{Request}
+use Rattle.taskscope.specs.declared.command_line.Request.TheVariants.{Run, Show}
 
 -- the status that tells an outcome: 0 without a fault, 1 with one
 abbrev pub status_of : Result (Unit {0}) AppFault → ℕ
@@ -21,3 +27,26 @@ pub record RunsScript (known old new : Option (List ℕ)) (status : ℕ) : Type 
   pub appends : Appends old new written
   -- without a fault the output is a function of the script
   pub stream : OnOk outcome ((script : List ℕ) × IsScript known script × Appends old new (output_of script))
+
+-- the status of a view with so many warnings: `lint` alone tells of them, by 3
+abbrev pub status_at : View → ℕ → ℕ
+status_at Report warnings = 0
+status_at Lint warnings = if warnings == 0 then 0 else 3
+
+-- the status that tells what a view came to
+abbrev pub view_status : View → Result ℕ AppFault → ℕ
+view_status view (Ok warnings) = status_at view warnings
+view_status view (Err fault) = 1
+
+-- a stream is read and viewed, and the status tells the outcome
+pub record ViewsStream (view : View) (lints : LintsView) (given left old new : Option (List ℕ)) (status : ℕ) : Type 0 where
+  pub outcome : Result ℕ AppFault
+  pub told : status ≡ view_status view outcome
+  pub views : Views view lints given left outcome old new
+  -- only a writer's fault comes once something was written
+  pub unwritten : IfErr outcome (λ fault. (IsOfWriter fault → ⊥) → new ≡ old)
+
+-- what is asked for is done: of the input's bytes before and after, of the output's, and the status
+abbrev pub Does : Request → Option (List ℕ) → Option (List ℕ) → Option (List ℕ) → Option (List ℕ) → ℕ → Type 0
+Does Run given left old new status = RunsScript given old new status
+Does (Show view lints) given left old new status = ViewsStream view lints given left old new status

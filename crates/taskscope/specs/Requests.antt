@@ -1,31 +1,116 @@
 -- What words of a command line ask for.
-use Rattle.std.specs.Prelude.{◌≡◌, ◌≢◌, ℕ, Bool, true, false, List, [], ◌∷◌, codes, map, String}
+use Rattle.std.specs.Prelude.{◌≡◌, ◌≢◌, ◌^◌, ◌-◌, ℕ, Bool, true, false, List, [], ◌∷◌, Option, Some, None, if◌then◌else◌, codes, is_some, map, nat_le, option_and_then, String}
 use Rattle.std.specs.List.{list_all}
-use Rattle.clap.specs.Simple.{App, new_app, new_shape, on_top, with_subcommand}
-use Rattle.clap.specs.Kinds.{Kinds}
+use Rattle.std.specs.Str.{bytes_eq}
+use Rattle.std.specs.Str.Parse.{digits_value, without_leading_plus}
+use Rattle.clap.specs.Simple.{App, Shape, new_app, new_rule, new_shape, on_top, subcommand_of, with_rule, with_subcommand}
+use Rattle.clap.specs.Kinds.{Kinds, or_else}
 use Rattle.clap.specs.Faults.{fault_of}
+use Rattle.clap.specs.ValueTests.{is_unsigned_in}
+use Rattle.clap.specs.Walk.{Row, Rule, Text, one_of}
+use Rattle.clap.specs.declared.builder.value_parser.ValueParser.TheVariants as vp
 use Rattle.clap.specs.declared.error.kind.ErrorKind.{ErrorKind}
 use Rattle.clap.specs.declared.error.kind.ErrorKind.TheVariants as kind
+use Rattle.tk_client.specs.Warnings.{LintsView}
+use Rattle.tk_report.specs.declared.view.View.{View}
+use Rattle.tk_report.specs.declared.view.View.TheVariants.{Report, Lint}
+use Rattle.taskscope.specs.declared.command_line.Request.{Request}
+use Rattle.taskscope.specs.declared.command_line.Request.TheVariants.{Run, Show}
 
--- the program as a parse of its words reads it: a command is required, and `run` is the only one
+-- ---- the words that there are
+
+-- an option `--name N` with a default, for a number from 0 to `most`
+abbrev pub number_option : Text → Text → ℕ → Rule
+number_option name default most = record (new_rule name) {
+  long = Some name;
+  value_names = 1;
+  defaults = default ∷ [];
+  parser = Some (vp.Unsigned 0 most);
+}
+
+abbrev pub percent_option : Rule
+percent_option = number_option (codes "self-wake-percent") (codes "50") 100
+
+abbrev pub limit_option : Rule
+limit_option = number_option (codes "never-yielded-ns") (codes "1000000000") 18446744073709551615
+
+-- a command with the two options of lints
+abbrev pub view_command : Text → App
+view_command name = with_rule (with_rule (new_app name) percent_option) limit_option
+
+-- a command is required
+abbrev pub requiring : App → App
+requiring = on_top (λ s. record s { subcommand_required = true })
+
+-- the program as a parse of its words reads it: `run`, `view` and `lint`
 abbrev pub program : App
-program = with_subcommand (on_top (λ s. record s { subcommand_required = true }) (new_app (codes "taskscope"))) (new_shape (codes "run"))
+program =
+    let runs = with_subcommand (requiring (new_app (codes "taskscope"))) (new_shape (codes "run")) in
+    let views = with_subcommand runs (view_command (codes "view")).top in
+    with_subcommand views (view_command (codes "lint")).top
+
+-- ---- what they ask for
+
+-- the number that a text writes in decimal digits, with or without a plus, below 2^64
+abbrev pub number_of : Text → Option ℕ
+number_of text = if is_unsigned_in 0 18446744073709551615 text then Some (digits_value 10 (without_leading_plus text)) else None
+
+-- the number of an option
+abbrev pub number_at : Text → List Row → Option ℕ
+number_at name options = option_and_then number_of (one_of name options)
+
+-- lints of numbers, of which the first is a percentage
+abbrev pub lints_of : ℕ → ℕ → Option LintsView
+lints_of percent limit =
+    if nat_le percent 100 then Some (record { self_wake_percent = percent; never_yielded_ns = limit }) else None
+
+abbrev pub lints_with : ℕ → Option ℕ → Option LintsView
+lints_with percent = option_and_then (lints_of percent)
+
+-- the lints of a command's options
+abbrev pub lints_in : List Row → Option LintsView
+lints_in options =
+    option_and_then (λ percent. lints_with percent (number_at (codes "never-yielded-ns") options)) (number_at (codes "self-wake-percent") options)
+
+-- a view with these options
+abbrev pub view_with : View → List Row → Option Request
+view_with view options = option_and_then (λ lints. Some (Show view lints)) (lints_in options)
+
+-- what a command asks for, by its name and its options
+abbrev pub asked_by : Text → List Row → Option Request
+asked_by name options =
+    if bytes_eq name (codes "run") then Some Run
+    else if bytes_eq name (codes "view") then view_with Report options
+    else if bytes_eq name (codes "lint") then view_with Lint options
+    else None
+
+abbrev pub asked_in : Option (Text × List Row) → Option Request
+asked_in = option_and_then (λ command. asked_by command.0 command.1)
+
+-- what the command among the words asks for
+abbrev pub asked : List Text → Option Request
+asked words = asked_in (subcommand_of program words)
 
 -- what the words read
 abbrev pub texts : {Z : Type 0} → List (String Z) → List (List ℕ)
 texts = map (λ w. w.bytes.items)
 
--- the kinds of error by which a parse may refuse the words; there are none where it takes them
+-- the kinds of error by which a parse may refuse the words, and else a number that no lints take; there are none where
+-- the words ask for something
 abbrev pub refusals : List (List ℕ) → Kinds
-refusals = fault_of program
+refusals words = or_else (fault_of program words) (if is_some (asked words) then [] else kind.ValueValidation ∷ [])
 
--- the words ask for a run: a parse takes them, and there is no other command
-abbrev pub AsksForRun : List (List ℕ) → Type 0
-AsksForRun words = refusals words ≡ []
+-- the words ask for this: a parse takes them, and they name it
+abbrev pub AsksFor : Request → List (List ℕ) → Type 0
+AsksFor request words = (refusals words ≡ []) × (asked words ≡ Some request)
 
--- the plainest such words: the program's name, and `run`
-abbrev pub IsRun : List (List ℕ) → Type 0
-IsRun words = (name : List ℕ) × (words ≡ name ∷ codes "run" ∷ [])
+-- the plainest words: the program's name, and one command
+abbrev pub IsPlain : List ℕ → List (List ℕ) → Type 0
+IsPlain command words = (name : List ℕ) × (words ≡ name ∷ command ∷ [])
+
+-- the lints where no option is given
+abbrev pub plain_lints : LintsView
+plain_lints = record { self_wake_percent = 50; never_yielded_ns = 1000000000 }
 
 -- the words ask for help, and make no mistake
 abbrev pub AsksForHelp : List (List ℕ) → Type 0

@@ -1,19 +1,28 @@
 //! What the words of a command line ask for.
-ghost use Rattle.std.specs.Prelude.{◌≡◌, IfOk, IfErr};
+ghost use Rattle.std.specs.Prelude.{◌≡◌, IfOk, IfErr, Some, false};
 ghost use Rattle.clap.specs.Kinds.{FailsBy};
-ghost use Rattle.clap.specs.Simple.{app_of};
+ghost use Rattle.clap.specs.Matches.{found_of};
+ghost use Rattle.clap.specs.Simple.{app_of, subcommand_rows_of};
 ghost use Rattle.clap.specs.Values.{kind_of};
+ghost use Rattle.clap.specs.Walk.{rows_of};
+ghost use Rattle.clap.specs.declared.builder.command.Command.TheViews.{out-Command as fields_of};
+ghost use Rattle.taskscope.specs.Requests as spec;
 ghost use Rattle.taskscope.specs.Requests.{program, refusals, texts};
 
+use clap::builder::ValueParser;
 use clap::error::ErrorKind;
-use clap::{Command, Error};
+use clap::{Arg, ArgMatches, Command, Error};
 use std::alloc::Global;
+use tk_app::View;
+use tk_client::Lints;
 
 /// What the words of a command line ask for.
-#[derive(Clone, Copy, Debug, PartialEq, Eq)]
+#[derive(Clone, Copy)]
 pub(crate) enum Request {
     /// To run a script.
     Run,
+    /// To show what a stream's tables come to, with warnings by these lints.
+    Show { view: View, lints: Lints },
 }
 
 const ABOUT: &str = "Shows what the tasks of an async program did, as tokio-console would";
@@ -25,8 +34,8 @@ program works out their statistics and writes them as a stream, one JSON object 
 docs/FORMATS.md explains both.";
 
 const AFTER_HELP: &str =
-    "The status is 0 if all was done, 1 after a fault (one line on standard error), and 2 after words that
-ask for nothing that the program does.";
+    "The status is 0 if all was done, 1 after a fault (one line on standard error), 2 after words that ask for
+nothing that the program does, and 3 where `lint` found warnings.";
 
 const RUN_ABOUT: &str =
     "Runs a script from standard input and writes its stream to standard output";
@@ -54,6 +63,74 @@ A moment is a number of nanoseconds. Empty lines and lines that begin with # are
 
 A script has at most 1,048,576 bytes. It stops at its first fault, and the lines before it stay.";
 
+const VIEW_ABOUT: &str =
+    "Reads a stream from standard input and writes the report of its tables to standard output";
+
+const VIEW_LONG_ABOUT: &str =
+    "Reads a stream from standard input and writes the report of its tables to standard output.
+
+  taskscope run < examples/first.script | taskscope view
+
+The report has a line for each task, resource and async operation, and one for each warning:
+`taskscope lint --help` says what they mean. docs/FORMATS.md explains the lines. A last line of the stream
+without its line end is ignored. After a fault nothing is written.";
+
+const LINT_ABOUT: &str =
+    "Reads a stream from standard input and writes the warnings about its tasks to standard output";
+
+const LINT_LONG_ABOUT: &str =
+    "Reads a stream from standard input and writes the warnings about its tasks to standard output.
+
+  taskscope run < examples/lost-waker.script | taskscope lint
+
+A task has these warnings:
+  lost-waker     nobody is left who could wake it: keep a waker of it until the wake
+  self-wakes     too many wakes are its own: let what it waits for wake it
+  never-yielded  its first poll runs too long: move work that blocks to a blocking task
+
+A last line of the stream without its line end is ignored. After a fault nothing is written. The status is 3
+where there are warnings.";
+
+const PERCENT: &str = "self-wake-percent";
+
+const PERCENT_HELP: &str = "Warns where more of a hundred wakes are a task's own";
+
+const LIMIT: &str = "never-yielded-ns";
+
+const LIMIT_HELP: &str = "Warns where a first poll has run for so many nanoseconds";
+
+// A command that views a stream, with the options of lints.
+fn view_command<'a>(
+    alloc: Global,
+    name: &'a str,
+    about: &'a str,
+    long_about: &'a str,
+) -> Result<Command<'a>, Error>
+    ensures ok { IfOk result (λ c. app_of c ≡ spec.view_command name.entry.now) }
+    ensures local { IfOk result (λ c. (fields_of c).has_globals ≡ false) }
+    ensures err { IfErr result (λ e. kind_of e ≡ ErrorKind.OutOfMemory) }
+{
+    let percent = Arg::new(alloc, PERCENT)
+        .long(PERCENT)
+        .value_name("N")
+        .help(PERCENT_HELP)
+        .default_value("50")
+        .value_parser(ValueParser::unsigned(0, 100));
+    let limit = Arg::new(alloc, LIMIT)
+        .long(LIMIT)
+        .value_name("N")
+        .help(LIMIT_HELP)
+        .default_value("1000000000")
+        .value_parser(ValueParser::unsigned(0, 18_446_744_073_709_551_615));
+    Ok(
+        Command::new(alloc, name)
+            .about(about)
+            .long_about(long_about)
+            .arg(percent)?
+            .arg(limit)?,
+    )
+}
+
 fn command_line<'a>(alloc: Global) -> Result<Command<'a>, Error>
     ensures ok { IfOk result (λ c. app_of c ≡ program) }
     ensures err { IfErr result (λ e. kind_of e ≡ ErrorKind.OutOfMemory) }
@@ -61,6 +138,8 @@ fn command_line<'a>(alloc: Global) -> Result<Command<'a>, Error>
     let run = Command::new(alloc, "run")
         .about(RUN_ABOUT)
         .long_about(RUN_LONG_ABOUT);
+    let view = view_command(alloc, "view", VIEW_ABOUT, VIEW_LONG_ABOUT)?;
+    let lint = view_command(alloc, "lint", LINT_ABOUT, LINT_LONG_ABOUT)?;
     Ok(
         Command::new(alloc, "taskscope")
             // Else the usage calls the program by the path that it was started by.
@@ -69,20 +148,65 @@ fn command_line<'a>(alloc: Global) -> Result<Command<'a>, Error>
             .long_about(LONG_ABOUT)
             .after_help(AFTER_HELP)
             .subcommand_required(true)
-            .subcommand(run)?,
+            .subcommand(run)?
+            .subcommand(view)?
+            .subcommand(lint)?,
     )
+}
+
+fn number_at(options: &ArgMatches, name: &str) -> Option<u64>
+    ensures { result ≡ spec.number_at name.now (rows_of (found_of options.now)) }
+{
+    options.get_one(name)
+}
+
+fn lints_in(options: &ArgMatches) -> Option<Lints>
+    ensures { result ≡ spec.lints_in (rows_of (found_of options.now)) }
+{
+    let percent = number_at(options, PERCENT)?;
+    let limit = number_at(options, LIMIT)?;
+    Lints::new(percent, limit)
+}
+
+fn view_with(view: View, options: &ArgMatches) -> Option<Request>
+    ensures { result ≡ spec.view_with view (rows_of (found_of options.now)) }
+{
+    let lints = lints_in(options)?;
+    Some(Request::Show { view, lints })
+}
+
+// What a command asks for, by its name and its options.
+fn asked_by(name: &str, options: &ArgMatches) -> Option<Request>
+    ensures { result ≡ spec.asked_by name.now (rows_of (found_of options.now)) }
+{
+    match name {
+        "run" => Some(Request::Run),
+        "view" => view_with(View::Report, options),
+        "lint" => view_with(View::Lint, options),
+        _ => None,
+    }
+}
+
+fn asked_in(matches: &ArgMatches) -> Option<Request>
+    ensures { result ≡ spec.asked_in (subcommand_rows_of matches.now) }
+{
+    match matches.subcommand() {
+        Some((name, options)) => asked_by(name, options),
+        None => None,
+    }
 }
 
 /// What the words ask for, the first of which is the program's name. Else a mistake in them, or the help that they ask for.
 pub(crate) fn request_of(alloc: Global, words: &[String]) -> Result<Request, Error>
-    // A run where a parse takes the words, and else a kind of error that it may refuse them by; or want of memory.
-    ensures { FailsBy (refusals (texts words.now)) result }
+    // A request where nothing refuses the words, and else a kind of error that they may be refused by; or want of memory.
+    ensures fails { FailsBy (refusals (texts words.now)) result }
+    ensures asked { IfOk result (λ request. spec.asked (texts words.now) ≡ Some request) }
 {
     let mut command = command_line(alloc)?;
     let matches = command.try_get_matches_from_mut(words)?;
-    match matches.subcommand_name() {
-        Some("run") => Ok(Request::Run),
-        // A command is required, and there is no other.
-        _ => Err(command.error(ErrorKind::MissingSubcommand, "a command is required")?),
+    match asked_in(&matches) {
+        Some(request) => Ok(request),
+        // The parse has checked the numbers, and a command is required.
+        None => Err(command.error(ErrorKind::ValueValidation, "a number is out of range")?),
     }
 }

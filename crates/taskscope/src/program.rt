@@ -1,15 +1,15 @@
 //! A run of the program, from its words to its status.
-ghost use Rattle.std.specs.Prelude.{◌≡◌, ◌≢◌, ◌≤◌, ◌⊎◌, true, []};
+ghost use Rattle.std.specs.Prelude.{◌≡◌, ◌≢◌, ◌≤◌, ◌⊎◌, true, [], codes};
 ghost use Rattle.clap.specs.Values.{kind_of};
-ghost use Rattle.taskscope.specs.Requests.{AsksForHelp, AsksForRun, IsMistake, IsRun, is_mistake, refusals, texts};
-ghost use Rattle.taskscope.specs.Program.{status_of, RunsScript};
+ghost use Rattle.taskscope.specs.Requests.{AsksFor, AsksForHelp, IsMistake, IsPlain, is_mistake, plain_lints, refusals, texts};
+ghost use Rattle.taskscope.specs.Program.{Does, status_at, status_of, view_status};
 
 use crate::command_line::{Request, request_of};
 use clap::Error;
 use clap::error::ErrorKind;
 use std::alloc::Global;
 use std::io::{ErrorKind as IoErrorKind, Read, Write};
-use tk_app::{AppFault, Open, run_script};
+use tk_app::{AppFault, Open, View, run_script, view_stream};
 
 /// All was done, which may be to show help.
 const DONE: u8 = 0;
@@ -19,6 +19,9 @@ const FAULT: u8 = 1;
 
 /// The words ask for nothing that the program does.
 const USAGE: u8 = 2;
+
+/// There are warnings, and `lint` has written them.
+const WARNED: u8 = 3;
 
 // A line that can't be written is let go, since the status tells the outcome.
 fn tell_fault<E: Write>(fault: AppFault, faults: &mut E) -> u8
@@ -35,6 +38,48 @@ fn tell_outcome<E: Write>(outcome: Result<(), AppFault>, faults: &mut E) -> u8
     match outcome {
         Ok(()) => DONE,
         Err(fault) => tell_fault(fault, faults),
+    }
+}
+
+fn status_at(view: View, warnings: u64) -> u8
+    ensures { result ≡ status_at view warnings }
+{
+    match view {
+        View::Report => DONE,
+        View::Lint => { if warnings == 0 { DONE } else { WARNED } }
+    }
+}
+
+// The status of a stream's view.
+fn tell_view<E: Write>(view: View, outcome: Result<u64, AppFault>, faults: &mut E) -> u8
+    ensures { result ≡ view_status view outcome }
+{
+    match outcome {
+        Ok(warnings) => status_at(view, warnings),
+        Err(stop) => tell_fault(stop, faults),
+    }
+}
+
+// Does what is asked for, and answers the status.
+fn fulfil<I: Read, O: Write, E: Write>(
+    alloc: Global,
+    request: Request,
+    input: &mut I,
+    output: &mut O,
+    faults: &mut E,
+) -> u8
+    ensures does { Does request (I.remaining input.old) (I.remaining input.new) (O.contents output.old) (O.contents output.new) result }
+    ensures status { (result ≤ FAULT) ⊎ (result ≡ WARNED) }
+{
+    match request {
+        Request::Run => tell_outcome(run_script(alloc, input, output, &Open), faults),
+        Request::Show { view, lints } => {
+            tell_view(
+                view,
+                view_stream(alloc, input, output, view, &lints),
+                faults,
+            )
+        }
     }
 }
 
@@ -81,10 +126,14 @@ pub(crate) fn run_program<I: Read, O: Write, E: Write>(
     output: &mut O,
     faults: &mut E,
 ) -> u8
-    // A run reads and writes as `run_script` does, and its status is 0 exactly where there was no fault.
-    ensures run { AsksForRun (texts words.now)
-        → RunsScript (I.remaining input.old) (O.contents output.old) (O.contents output.new) result }
-    ensures plain { IsRun (texts words.now) → AsksForRun (texts words.now) }
+    // What is asked for is done: a run reads and writes as `run_script` does, and a view as `view_stream` does. The status is
+    // 1 exactly where there was a fault, and 3 exactly where `lint` found warnings.
+    ensures does { (request : Request) → AsksFor request (texts words.now)
+        → Does request (I.remaining input.old) (I.remaining input.new) (O.contents output.old) (O.contents output.new) result }
+    // A command alone asks for it with the lints of its defaults.
+    ensures run { IsPlain (codes "run") (texts words.now) → AsksFor Request.Run (texts words.now) }
+    ensures view { IsPlain (codes "view") (texts words.now) → AsksFor (Request.Show View.Report plain_lints) (texts words.now) }
+    ensures lint { IsPlain (codes "lint") (texts words.now) → AsksFor (Request.Show View.Lint plain_lints) (texts words.now) }
     // Other words leave the input as it is.
     ensures unread { refusals (texts words.now) ≢ [] → input.new ≡ input.old }
     // A mistake writes nothing to the output. Its status is 2, or 1 where memory ran out.
@@ -93,10 +142,10 @@ pub(crate) fn run_program<I: Read, O: Write, E: Write>(
     // Help is no mistake.
     ensures help { AsksForHelp (texts words.now) → result ≤ FAULT }
     ensures usage { result ≡ USAGE → (input.new ≡ input.old) × (output.new ≡ output.old) }
-    ensures status { result ≤ USAGE }
+    ensures status { result ≤ WARNED }
 {
     match request_of(alloc, words) {
-        Ok(Request::Run) => tell_outcome(run_script(alloc, input, output, &Open), faults),
+        Ok(request) => fulfil(alloc, request, input, output, faults),
         Err(error) => answer(error, output, faults),
     }
 }

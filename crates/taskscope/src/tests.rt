@@ -17,14 +17,16 @@ Usage: taskscope <COMMAND>
 
 Commands:
   run   Runs a script from standard input and writes its stream to standard output
+  view  Reads a stream from standard input and writes the report of its tables to standard output
+  lint  Reads a stream from standard input and writes the warnings about its tasks to standard output
   help  Print this message or the help of the given subcommand(s)
 
 Options:
   -h, --help
           Print help (see a summary with '-h')
 
-The status is 0 if all was done, 1 after a fault (one line on standard error), and 2 after words that
-ask for nothing that the program does.
+The status is 0 if all was done, 1 after a fault (one line on standard error), 2 after words that ask for
+nothing that the program does, and 3 where `lint` found warnings.
 ";
 
 const SHORT_HELP: &str = "Shows what the tasks of an async program did, as tokio-console would
@@ -33,13 +35,15 @@ Usage: taskscope <COMMAND>
 
 Commands:
   run   Runs a script from standard input and writes its stream to standard output
+  view  Reads a stream from standard input and writes the report of its tables to standard output
+  lint  Reads a stream from standard input and writes the warnings about its tasks to standard output
   help  Print this message or the help of the given subcommand(s)
 
 Options:
   -h, --help  Print help (see more with '--help')
 
-The status is 0 if all was done, 1 after a fault (one line on standard error), and 2 after words that
-ask for nothing that the program does.
+The status is 0 if all was done, 1 after a fault (one line on standard error), 2 after words that ask for
+nothing that the program does, and 3 where `lint` found warnings.
 ";
 
 const RUN_HELP: &str = "Runs a script from standard input and writes its stream to standard output.
@@ -72,23 +76,28 @@ Options:
 ";
 
 const NO_WORD: &str = "error: 'taskscope' requires a subcommand but one was not provided
-  [subcommands: run, help]
+  [subcommands: run, view, lint, help]
 
 Usage: taskscope <COMMAND>
 
 For more information, try '--help'.
 ";
 
-const VIEW: &str = "error: unrecognized subcommand 'view'
-
-Usage: taskscope <COMMAND>
+const PERCENT_ABOVE: &str =
+    "error: invalid value '101' for '--self-wake-percent <N>': 101 is not in 0..=100
 
 For more information, try '--help'.
 ";
 
-const LINT: &str = "error: unrecognized subcommand 'lint'
+const LIMIT_ABOVE: &str =
+    "error: invalid value '18446744073709551616' for '--never-yielded-ns <N>': number too large to fit in target type
 
-Usage: taskscope <COMMAND>
+For more information, try '--help'.
+";
+
+const TWICE: &str = "error: the argument '--never-yielded-ns <N>' cannot be used multiple times
+
+Usage: taskscope lint [OPTIONS]
 
 For more information, try '--help'.
 ";
@@ -125,6 +134,14 @@ const STARTED_TWICE: &[u8] = b"task 1 spawn a\nstart 1 2\nstart 1 3\n";
 
 const STOPPED_LATER: &[u8] = b"task 100 spawn main\npublish 200\nend 1 3\n";
 
+// A script of a task that nobody will wake, and the report of its stream.
+const LOST: &[u8] = b"task 100 spawn main\nstart 1 150\nend 1 170\npublish 200\n";
+
+const LOST_REPORT: &str =
+    "now 200 dropped 0 0 0\ntask 1.1 spawn idle polls 1 wakes 0 self 0 clones 0 drops 0 busy 20 sched 50 name main\nwarn 1.1 lost-waker\n";
+
+const EMPTY_REPORT: &str = "now 0 dropped 0 0 0\n";
+
 // What the program is given, and what it answers.
 struct Call {
     case: &'static str,
@@ -146,6 +163,17 @@ const RUNS: [Call; 6] = [
     Call { case: "no command", words: &["run"], script: b"tusk", status: 1, output: "", faults: "fault: line 1: BadCommand\n" },
 ];
 
+// Views of streams without a warning, and the numbers of options at their ends.
+#[rattlefmt::skip]
+const VIEWS: [Call; 6] = [
+    Call { case: "an empty stream", words: &["view"], script: b"", status: 0, output: EMPTY_REPORT, faults: "" },
+    Call { case: "its warnings", words: &["lint"], script: b"", status: 0, output: "", faults: "" },
+    Call { case: "a last line without its end", words: &["view"], script: b"{", status: 0, output: EMPTY_REPORT, faults: "" },
+    Call { case: "no JSON", words: &["lint"], script: b"{\n", status: 1, output: "", faults: "fault: stream after 0 lines: BadJson\n" },
+    Call { case: "the least numbers", words: &["lint", "--self-wake-percent", "0", "--never-yielded-ns", "0"], script: b"", status: 0, output: "", faults: "" },
+    Call { case: "the greatest numbers", words: &["view", "--self-wake-percent=100", "--never-yielded-ns=18446744073709551615"], script: b"", status: 0, output: EMPTY_REPORT, faults: "" },
+];
+
 // Help goes to the output. No script is read for it.
 #[rattlefmt::skip]
 const HELPS: [Call; 5] = [
@@ -158,10 +186,11 @@ const HELPS: [Call; 5] = [
 
 // Words that ask for nothing that the program does.
 #[rattlefmt::skip]
-const MISTAKES: [Call; 6] = [
+const MISTAKES: [Call; 7] = [
     Call { case: "no word", words: &[], script: MAIN, status: 2, output: "", faults: NO_WORD },
-    Call { case: "view", words: &["view"], script: MAIN, status: 2, output: "", faults: VIEW },
-    Call { case: "lint", words: &["lint"], script: MAIN, status: 2, output: "", faults: LINT },
+    Call { case: "a percentage above 100", words: &["view", "--self-wake-percent", "101"], script: MAIN, status: 2, output: "", faults: PERCENT_ABOVE },
+    Call { case: "a limit above 64 bits", words: &["lint", "--never-yielded-ns=18446744073709551616"], script: MAIN, status: 2, output: "", faults: LIMIT_ABOVE },
+    Call { case: "an option twice", words: &["lint", "--never-yielded-ns=1", "--never-yielded-ns=1"], script: MAIN, status: 2, output: "", faults: TWICE },
     Call { case: "demo", words: &["demo"], script: MAIN, status: 2, output: "", faults: DEMO },
     Call { case: "an unknown word", words: &["stop"], script: MAIN, status: 2, output: "", faults: STOP },
     Call { case: "a word too many", words: &["run", "fast"], script: MAIN, status: 2, output: "", faults: WORD_TOO_MANY },
@@ -210,6 +239,38 @@ fn assert_answers<R: Abort + AllocGlobal>(rt: &R, calls: &[Call]) -> Result<(), 
 #[test]
 fn runs_scripts(rt: HostRuntime) -> Result<(), Fail> {
     assert_answers(&rt, RUNS.as_slice())
+}
+
+#[test]
+fn views_streams(rt: HostRuntime) -> Result<(), Fail> {
+    assert_answers(&rt, VIEWS.as_slice())
+}
+
+// What a command makes of the stream of `LOST`: the status, and whether it wrote this.
+fn of_lost(alloc: Global, command: &str, text: &str) -> Result<(u8, bool), AllocError> {
+    let mut stream = Vec::new(alloc);
+    let run = words_of(alloc, &["run"])?;
+    let _ = run_program(alloc, run.as_slice(), &mut LOST, &mut stream, &mut Broken);
+    let words = words_of(alloc, &[command])?;
+    let mut output = Vec::new(alloc);
+    let status = run_program(
+        alloc,
+        words.as_slice(),
+        &mut stream.as_slice(),
+        &mut output,
+        &mut Broken,
+    );
+    Ok((status, output.as_slice() == text.as_bytes()))
+}
+
+// `lint` tells of warnings by its status, and `view` does not.
+#[test]
+fn warns_of_a_lost_waker(rt: HostRuntime) -> Result<(), Fail> {
+    let lint = of_lost(rt.alloc(), "lint", "warn 1.1 lost-waker\n")?;
+    assert_eq!(rt; lint, (3, true));
+    let view = of_lost(rt.alloc(), "view", LOST_REPORT)?;
+    assert_eq!(rt; view, (0, true));
+    Ok(())
 }
 
 #[test]
@@ -285,6 +346,15 @@ fn faults_that_no_one_reads(rt: HostRuntime) -> Result<(), Fail> {
     let status = run_program(
         alloc,
         view.as_slice(),
+        &mut Broken,
+        &mut Broken,
+        &mut Broken,
+    );
+    assert_eq!(rt; status, 1);
+    let demo = words_of(alloc, &["demo"])?;
+    let status = run_program(
+        alloc,
+        demo.as_slice(),
         &mut Broken,
         &mut Broken,
         &mut Broken,

@@ -1,11 +1,14 @@
-use Rattle.std.proofs.Common.{[], List, ℕ, Option, Some, None, Err, sym, refl, ap, ◌∙◌, inl, inr}
+use Rattle.std.proofs.Common.{◌≡◌, [], ◌∷◌, List, ℕ, Option, Some, None, Ok, Err, sym, refl, ap, subst, ◌∙◌, inl, inr}
 use Rattle.std.specs.Io.KnownBytes.{Appends}
 use Rattle.std.proofs.lemmas.List.{append-nil}
 use Rattle.clap.specs.Values.{kind_of}
-use Rattle.tk_report.specs.declared.fault.AppFault.TheVariants as kinds
-use Rattle.taskscope.specs.Requests.{AsksForRun, IsRun, refusals, texts}
-use Rattle.taskscope.proofs.WordLemmas.{memory_alone, mistake_among}
-use Rattle.taskscope.proofs.WordRows.{run}
+use Rattle.tk_report.specs.declared.fault.AppFault.TheVariants as faults
+use Rattle.taskscope.specs.Program.{Does}
+use Rattle.taskscope.specs.Requests.{AsksFor, IsPlain, asked, refusals, texts}
+use Rattle.taskscope.specs.declared.command_line.Request.{Request}
+use Rattle.taskscope.specs.declared.command_line.Request.TheVariants.{Run, Show}
+use Rattle.taskscope.proofs.WordLemmas.{memory_alone, mistake_among, some_is}
+use Rattle.taskscope.proofs.WordRows.{lint, run, view}
 use Rattle.taskscope.proofs.program.run_program.Goals as goal
 
 -- nothing was written
@@ -13,24 +16,38 @@ nothing_more : (known : Option (List ℕ)) → Appends known known []
 nothing_more None = tt
 nothing_more (Some xs) = sym (append-nil xs)
 
-plain_run : (words : List (List ℕ)) → IsRun words → AsksForRun words
-plain_run words asks = ap refusals asks.1 ∙ run asks.0
+-- without memory nothing is read or written, whatever is asked for
+nothing_done : (request : Request) (given known : Option (List ℕ)) (status : ℕ) → status ≡ 1 → Does request given given known known status
+nothing_done Run given known status told = record {
+  outcome = Err faults.Memory;
+  told = told;
+  written = [];
+  runs = refl;
+  appends = nothing_more known;
+  stream = tt;
+}
+nothing_done (Show shown lints) given known status told = record {
+  outcome = Err faults.Memory;
+  told = told;
+  views = tt;
+  unwritten = λ other. refl;
+}
 
-pub returns-in-Err-clause-run : goal.returns-in-Err-clause-run
-returns-in-Err-clause-run g c = λ asks.
-    let unread = c.answer.ensures.memory (memory_alone (refusals (texts c.args.words.now)) c.in-Err.error asks c.in-Err.ensures) in
-    let kept : Appends (g.O.Write.contents c.args.output.now) (g.O.Write.contents c.answer.new.output) [] = rw unread.1 (nothing_more (g.O.Write.contents c.args.output.now)) in
-    record {
-      outcome = Err kinds.Memory;
-      told = unread.0;
-      written = [];
-      runs = refl;
-      appends = kept;
-      stream = tt;
-    }
+plain : (command : List ℕ) (request : Request) → ((name : List ℕ) → AsksFor request (name ∷ command ∷ [])) → (words : List (List ℕ)) → IsPlain command words → AsksFor request words
+plain command request row words is = (ap refusals is.1 ∙ (row is.0).0, ap asked is.1 ∙ (row is.0).1)
+
+pub returns-in-Err-clause-does : goal.returns-in-Err-clause-does
+returns-in-Err-clause-does g c = λ request asks.
+    let told = c.answer.ensures.memory (memory_alone (refusals (texts c.args.words.now)) c.in-Err.error asks.0 c.in-Err.ensures.fails) in
+    rw told.1 (nothing_done request (g.I.Read.remaining c.args.input.now) (g.O.Write.contents c.args.output.now) c.answer.result told.0)
+
+pub returns-in-Ok-clause-does : goal.returns-in-Ok-clause-does
+returns-in-Ok-clause-does g c = λ request asks.
+    let same : c.in-Ok.request ≡ request = some_is _ _ (sym c.in-Ok.ensures.asked ∙ asks.1) in
+    subst (λ r. Does r (g.I.Read.remaining c.args.input.now) (g.I.Read.remaining c.fulfil.new.input) (g.O.Write.contents c.args.output.now) (g.O.Write.contents c.fulfil.new.output) c.fulfil.result) same c.fulfil.ensures.does
 
 pub returns-in-Err-clause-mistake : goal.returns-in-Err-clause-mistake
-returns-in-Err-clause-mistake g c = λ wrong. elim c.in-Err.ensures [
+returns-in-Err-clause-mistake g c = λ wrong. elim c.in-Err.ensures.fails [
   | inl memory ↦
       let told = c.answer.ensures.memory memory in
       (told.1, inr told.0)
@@ -39,5 +56,20 @@ returns-in-Err-clause-mistake g c = λ wrong. elim c.in-Err.ensures [
       (told.1, inl told.0)
 ]
 
-pub returns-in-Err-clause-plain : goal.returns-in-Err-clause-plain
-returns-in-Err-clause-plain g c = plain_run (texts c.args.words.now)
+pub returns-in-Err-clause-run : goal.returns-in-Err-clause-run
+returns-in-Err-clause-run g c = plain _ _ run (texts c.args.words.now)
+
+pub returns-in-Err-clause-view : goal.returns-in-Err-clause-view
+returns-in-Err-clause-view g c = plain _ _ view (texts c.args.words.now)
+
+pub returns-in-Err-clause-lint : goal.returns-in-Err-clause-lint
+returns-in-Err-clause-lint g c = plain _ _ lint (texts c.args.words.now)
+
+pub returns-in-Ok-clause-run : goal.returns-in-Ok-clause-run
+returns-in-Ok-clause-run g c = plain _ _ run (texts c.args.words.now)
+
+pub returns-in-Ok-clause-view : goal.returns-in-Ok-clause-view
+returns-in-Ok-clause-view g c = plain _ _ view (texts c.args.words.now)
+
+pub returns-in-Ok-clause-lint : goal.returns-in-Ok-clause-lint
+returns-in-Ok-clause-lint g c = plain _ _ lint (texts c.args.words.now)
