@@ -16,7 +16,7 @@ pub struct AttrValues {
 }
 
 impl Model for AttrValues {
-    ghost use Rattle.std.specs.Prelude.{List, length, ◌++◌};
+    ghost use Rattle.std.specs.Prelude.{List};
     ghost use Rattle.tk_ids.specs.declared.attr.AttrValue.{AttrValue};
 
     ghost Value = { List AttrValue };

@@ -1,5 +1,5 @@
 //! Inner: a share of a ledger and a token of it, whose caller has a role. Each handle of this crate is one.
-ghost use Rattle.std.specs.Prelude.{◌≡◌, ◌≢◌, true, false, Some, IfOk, OnOk, IfErr};
+ghost use Rattle.std.specs.Prelude.{◌≡◌, true, false, Some, IfOk, OnOk, IfErr};
 ghost use Rattle.std.specs.Arc.{arc_value};
 ghost use Rattle.tk_core.specs.declared.reply.Reply.TheVariants.{Done, Shown, Woken};
 ghost use Rattle.tk_core.specs.declared.reply.Reply.TheVariants.{Refused as NotDone};

@@ -1,5 +1,4 @@
 //! What holds of every legal history, each law as the contract of a function.
-ghost use Rattle.std.specs.Prelude.{◌≡◌};
 ghost use Rattle.tk_core.specs.declared.task.row.TaskRow.{TaskRow};
 ghost use Rattle.tk_core.specs.Legal.{IsLegal};
 ghost use Rattle.tk_core.specs.Task.{IsOpening};

@@ -1,5 +1,4 @@
 //! One call on an async operation's row.
-ghost use Rattle.std.specs.Prelude.{◌≡◌};
 ghost use Rattle.tk_core.specs.Fold.{Follows};
 ghost use Rattle.tk_core.specs.Op.{op_kind};
 

@@ -1,5 +1,4 @@
 //! One call on a resource's row.
-ghost use Rattle.std.specs.Prelude.{◌≡◌};
 ghost use Rattle.tk_core.specs.Fold.{Follows};
 ghost use Rattle.tk_core.specs.Resource.{resource_kind};
 

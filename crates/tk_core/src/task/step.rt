@@ -1,5 +1,4 @@
 //! One call on a task's row.
-ghost use Rattle.std.specs.Prelude.{◌≡◌};
 ghost use Rattle.tk_core.specs.Fold.{Follows};
 ghost use Rattle.tk_core.specs.Task.{task_kind};
 

@@ -2,7 +2,7 @@
 //!
 //! Each function owns at most one recorder, taker or list, and lends it to the next: that keeps the
 //! proofs short.
-ghost use Rattle.std.specs.Prelude.{◌≡◌, All, IfOk, IfSome};
+ghost use Rattle.std.specs.Prelude.{◌≡◌, All, IfSome};
 
 use std::alloc::Global;
 use std::sync::Wait;

@@ -1,13 +1,13 @@
 //! The owner of an operation.
-ghost use Rattle.std.specs.Prelude.{◌≡◌, ◌≢◌, ◌≤◌, true, false, not, Some, None, is_ok, length, IfOk, IfErr, OnOk};
+ghost use Rattle.std.specs.Prelude.{◌≡◌, ◌≤◌, true, false, not, is_ok, length, IfOk, IfErr, OnOk};
 ghost use Rattle.tk_core.specs.declared.op.call.OpCall.TheVariants.{PollStart, PollEnd, Close, SetTask, Attr, Enlist, Read};
 ghost use Rattle.tk_core.specs.declared.reply.Reply.TheVariants.{Done, Shown};
 ghost use Rattle.tk_core.specs.declared.reply.Reply.TheVariants.{Refused as NotDone};
 ghost use Rattle.tk_core.specs.Op.{opening_row};
 ghost use Rattle.tk_core.specs.OpMeaning.{op_meaning};
 ghost use Rattle.tk_cell.specs.Views.{opened};
-ghost use Rattle.tk_cell.specs.Calls.{Calls, Joins};
-ghost use Rattle.tk_ledgers.specs.Handles.{sight, Drew, NotDrawn};
+ghost use Rattle.tk_cell.specs.Calls.{Calls};
+ghost use Rattle.tk_ledgers.specs.Handles.{Drew, NotDrawn};
 ghost use Rattle.tk_ledgers.specs.Ops.{is_polling};
 ghost use Rattle.tk_core.specs.declared.attrs.AttrOp.TheVariants.{Add, Sub, Override};
 ghost use Rattle.tk_core.specs.declared.reply.Refusal.TheVariants.{AlreadyPolling, NotPolling};

@@ -1,15 +1,12 @@
 //! The owner of a resource.
-ghost use Rattle.std.specs.Prelude.{◌≡◌, ◌≢◌, ◌≤◌, true, false, not, Some, None, length, IfOk, IfErr, OnOk};
-ghost use Rattle.tk_core.specs.declared.resource.call.ResourceCall.TheVariants.{Close, Attr, Enlist, Read};
-ghost use Rattle.tk_core.specs.declared.reply.Reply.TheVariants.{Done, Shown};
-ghost use Rattle.tk_core.specs.declared.reply.Reply.TheVariants.{Refused as NotDone};
+ghost use Rattle.std.specs.Prelude.{◌≡◌, ◌≤◌, length, IfOk, IfErr};
+ghost use Rattle.tk_core.specs.declared.resource.call.ResourceCall.TheVariants.{Close, Enlist};
+ghost use Rattle.tk_core.specs.declared.reply.Reply.TheVariants.{Done};
 ghost use Rattle.tk_core.specs.Resource.{opening_row};
 ghost use Rattle.tk_core.specs.ResourceMeaning.{resource_meaning};
 ghost use Rattle.tk_cell.specs.Views.{opened};
-ghost use Rattle.tk_cell.specs.Calls.{Calls, Joins};
-ghost use Rattle.tk_ledgers.specs.Handles.{sight, Drew, NotDrawn};
-ghost use Rattle.tk_ledgers.specs.Sums.{HoldsAll};
-ghost use Rattle.tk_ledgers.specs.Resources.{CountsAre, CountsReach};
+ghost use Rattle.tk_cell.specs.Calls.{Calls};
+ghost use Rattle.tk_ledgers.specs.Handles.{Drew, NotDrawn};
 
 use crate::handle::Handle;
 use crate::resource::{ResourceInspector, ResourceReceipt, ResourceUser};

@@ -1,11 +1,8 @@
 //! Those who read a task.
-ghost use Rattle.std.specs.Prelude.{◌≡◌, ◌≢◌, ◌≤◌, true, false, not, Some, None, is_ok, IfOk, IfErr, OnOk};
-ghost use Rattle.tk_core.specs.declared.task.call.TaskCall.TheVariants.{PollStart, PollEnd, Close, CloneWaker, WakeVal, WakeRef, Release, Enlist, Read};
-ghost use Rattle.tk_core.specs.declared.reply.Reply.TheVariants.{Done, Woken, Shown};
-ghost use Rattle.tk_core.specs.declared.reply.Reply.TheVariants.{Refused as NotDone};
-ghost use Rattle.tk_core.specs.Task.{opening_row};
+ghost use Rattle.std.specs.Prelude.{◌≡◌, IfOk, IfErr};
+ghost use Rattle.tk_core.specs.declared.task.call.TaskCall.TheVariants.{Enlist, Read};
+ghost use Rattle.tk_core.specs.declared.reply.Reply.TheVariants.{Shown};
 ghost use Rattle.tk_core.specs.TaskMeaning.{task_meaning};
-ghost use Rattle.tk_cell.specs.Views.{opened};
 ghost use Rattle.tk_cell.specs.Calls.{Calls, Joins};
 ghost use Rattle.tk_ledgers.specs.Handles.{sight, Drew, NotDrawn};
 ghost use Rattle.tk_ledgers.specs.Sums.{HoldsAll};

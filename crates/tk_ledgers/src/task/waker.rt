@@ -1,14 +1,11 @@
 //! Those who wake a task.
-ghost use Rattle.std.specs.Prelude.{◌≡◌, ◌≢◌, ◌≤◌, true, false, not, Some, None, is_ok, IfOk, IfErr, OnOk};
-ghost use Rattle.tk_core.specs.declared.task.call.TaskCall.TheVariants.{PollStart, PollEnd, Close, CloneWaker, WakeVal, WakeRef, Release, Enlist, Read};
-ghost use Rattle.tk_core.specs.declared.reply.Reply.TheVariants.{Done, Woken, Shown};
-ghost use Rattle.tk_core.specs.declared.reply.Reply.TheVariants.{Refused as NotDone};
-ghost use Rattle.tk_core.specs.Task.{opening_row};
+ghost use Rattle.std.specs.Prelude.{◌≡◌, IfOk, IfErr};
+ghost use Rattle.tk_core.specs.declared.task.call.TaskCall.TheVariants.{CloneWaker, WakeVal, WakeRef, Release};
+ghost use Rattle.tk_core.specs.declared.reply.Reply.TheVariants.{Done, Woken};
 ghost use Rattle.tk_core.specs.TaskMeaning.{task_meaning};
-ghost use Rattle.tk_cell.specs.Views.{opened};
-ghost use Rattle.tk_cell.specs.Calls.{Calls, Joins};
+ghost use Rattle.tk_cell.specs.Calls.{Calls};
 ghost use Rattle.tk_ledgers.specs.Handles.{sight, Drew, NotDrawn};
-ghost use Rattle.tk_ledgers.specs.Tasks.{is_polling, names};
+ghost use Rattle.tk_ledgers.specs.Tasks.{names};
 
 use crate::handle::Handle;
 use crate::role::Waking;

@@ -1,5 +1,5 @@
 //! No lock is held through a call: while one call computes its step, another call on the same ledger is answered.
-ghost use Rattle.std.specs.Prelude.{◌≡◌, ◌-◌, ◌^◌, ◌+◌, ◌==◌, ℕ, List, [], ◌∷◌, true, false, Some, None, min, length, slice_index, if◌then◌else◌, IfSome};
+ghost use Rattle.std.specs.Prelude.{◌≡◌, ◌-◌, ◌+◌, ◌==◌, [], ◌∷◌, true, false, Some, None, length, slice_index};
 ghost use Rattle.std.specs.Arc.{arc_value};
 ghost use Rattle.tk_cell.specs.Roles.{IsOwner};
 
