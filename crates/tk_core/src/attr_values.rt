@@ -103,7 +103,7 @@ impl AttrValues {
     }
 
     /// The values with another one at an index.
-    pub fn with(&self, index: u64, value: AttrValue) -> Self
+    pub(crate) fn with(&self, index: u64, value: AttrValue) -> Self
         requires { index < length self.now }
         ensures { result ≡ slice_set self.now index value }
     {

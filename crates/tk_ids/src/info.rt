@@ -18,7 +18,7 @@ pub struct Dropped {
     pub ops: u64,
 }
 
-/// A task.
+/// What a task is, told once: where it was spawned, and by which name.
 #[derive(Debug, Drop, PartialEq, Eq)]
 pub struct TaskInfo {
     pub id: TaskId,

@@ -1,7 +1,14 @@
 -- Async operations, as items that their owner alone polls and closes.
-use Rattle.std.proofs.Common.{◌≡◌, ℕ, Bool, true, false, if◌then◌else◌, List, Option, None, refl, ap, sym, ◌∙◌}
+use Rattle.std.proofs.Common.{◌≡◌, ◌≢◌, ℕ, ◌+◌, ◌^◌, Bool, true, false, if◌then◌else◌, List, Option, Some, None, Result, Ok, Err, IfErr, refl, ap, sym, ◌∙◌, true≢false}
+use Rattle.std.specs.Prelude.{nat_lt, nat_le, slice_get}
+use Rattle.tk_ids.specs.declared.attr.AttrValue.{AttrValue}
+use Rattle.tk_ids.specs.declared.attr.AttrValue.TheVariants as values
+use Rattle.tk_core.specs.Attributes.{refused_by}
+use Rattle.tk_core.specs.declared.attrs.AttrOp.{AttrOp}
+use Rattle.tk_core.specs.declared.attrs.AttrOp.TheVariants.{Add, Sub, Override}
+use Rattle.tk_core.specs.declared.reply.Refusal.{Refusal}
 use Rattle.tk_core.specs.declared.history.Entry.{Entry}
-use Rattle.tk_core.specs.declared.reply.Refusal.TheVariants.{AlreadyPolling, NotPolling}
+use Rattle.tk_core.specs.declared.reply.Refusal.TheVariants.{AlreadyPolling, NotPolling, Closed, OutOfRange}
 use Rattle.tk_core.specs.declared.reply.Reply.{Reply}
 use Rattle.tk_core.specs.declared.reply.Reply.TheVariants.{Done, Refused}
 use Rattle.tk_core.specs.declared.op.row.OpRow.{OpRow}
@@ -10,7 +17,7 @@ use Rattle.tk_core.specs.declared.op.call.OpCall.TheVariants.{PollStart, PollEnd
 use Rattle.tk_core.specs.Lists.{last_of}
 use Rattle.tk_core.specs.Polls.{starts_or_ends, is_polling}
 use Rattle.tk_core.specs.History.{accepted, calls_of}
-use Rattle.tk_core.specs.Fold.{is_accepted, fold_of, answer_at, row_after, reply_after}
+use Rattle.tk_core.specs.Fold.{refused_or, is_accepted, fold_of, answer_at, row_after, reply_after}
 use Rattle.tk_core.specs.Legal.{IsLegal}
 use Rattle.tk_core.specs.Op.{start_at, end_at, close_at, row_of, op_kind, made_may, inspector_may}
 use Rattle.tk_core.specs.OpMeaning.{op_meaning}
@@ -100,3 +107,41 @@ task_is_set v id reply w k o polling keeps = reply_at op_polls v (SetTask id) re
   where
     set_answer : (row : OpRow) → row.dropped ≡ None → answer_at op_kind row (SetTask id) ≡ Done
     set_answer row d = rw d refl
+
+-- whether a reply says that the operation is closed
+abbrev says_closed : Reply OpRow → Bool
+says_closed (Refused Closed) = true
+says_closed _ = false
+
+-- a change that an attribute refuses is not refused for a close
+fits : (b : Bool) → says_closed (refused_or (if b then None else Some OutOfRange) Done) ≡ false
+fits true = refl
+fits false = refl
+
+by_attribute : (value : Option AttrValue) (change : AttrOp) → says_closed (refused_or (refused_by value change) Done) ≡ false
+by_attribute None change = refl
+by_attribute (Some (values.U64 n)) (Add (values.U64 by)) = fits (nat_lt (n + by) (2 ^ 64))
+by_attribute (Some (values.U64 n)) (Add (values.Bool b)) = refl
+by_attribute (Some (values.U64 n)) (Sub (values.U64 by)) = fits (nat_le by n)
+by_attribute (Some (values.U64 n)) (Sub (values.Bool b)) = refl
+by_attribute (Some (values.U64 n)) (Override (values.U64 m)) = refl
+by_attribute (Some (values.U64 n)) (Override (values.Bool b)) = refl
+by_attribute (Some (values.Bool b)) (Add value) = refl
+by_attribute (Some (values.Bool b)) (Sub value) = refl
+by_attribute (Some (values.Bool b)) (Override (values.U64 m)) = refl
+by_attribute (Some (values.Bool b)) (Override (values.Bool c)) = refl
+
+-- the owner hasn't closed the operation, so no change of it is refused for that
+pub change_finds_it_open : (v : View OpRow OpCall (Reply OpRow)) (i : ℕ) (change : AttrOp) (refusal : Refusal) (w : View OpRow OpCall (Reply OpRow)) → Calls op_meaning v (Attr i change) (Refused refusal) w → IsOwner op_meaning v → (polling : Bool) → Keeps op_polls v polling → refusal ≢ Closed
+change_finds_it_open v i change refusal w k o polling keeps closed =
+    let row = at op_polls v (Attr i change) (Refused refusal) w k o in
+    let is : Refused refusal ≡ answer_at op_kind row (Attr i change) = reply_at op_polls v (Attr i change) (Refused refusal) w k o in
+    let undropped : row.dropped ≡ None = dropped_at op_polls v (Attr i change) (Refused refusal) w k o ∙ keeps.1 in
+    true≢false (sym (ap (λ (r : Refusal). says_closed (Refused r)) closed) ∙ ap says_closed is ∙ answered row undropped)
+  where
+    answered : (row : OpRow) → row.dropped ≡ None → says_closed (answer_at op_kind row (Attr i change)) ≡ false
+    answered row d = rw d (by_attribute (slice_get row.attrs i) change)
+
+pub changes_find_it_open : (v : View OpRow OpCall (Reply OpRow)) (i : ℕ) (change : AttrOp) (r : Result (Unit {0}) Refusal) (w : View OpRow OpCall (Reply OpRow)) → IfErr r (λ refusal. Calls op_meaning v (Attr i change) (Refused refusal) w) → IsOwner op_meaning v → (polling : Bool) → Keeps op_polls v polling → IfErr r (λ refusal. refusal ≢ Closed)
+changes_find_it_open v i change (Ok u) w err o polling keeps = err
+changes_find_it_open v i change (Err refusal) w err o polling keeps = change_finds_it_open v i change refusal w err o polling keeps

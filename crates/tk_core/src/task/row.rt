@@ -1,7 +1,8 @@
 //! The row of a task.
 ghost use Rattle.std.specs.Prelude.{◌≡◌};
 
-/// The statistics of a task, as tokio-console's task statistics have them.
+/// The statistics of a task. Polls, wakes and wakers are those of tokio-console's task statistics; `handles` and
+/// `last_wake` are this project's own, and so is that busy and scheduled time are sums over the calls.
 ///
 /// Moments and sums are nanoseconds. A difference of moments that runs backwards counts as 0; counts and
 /// sums stop at 2^64 - 1. Live wakers are `clones` minus `drops`.
@@ -37,7 +38,7 @@ pub struct TaskRow {
     pub sched: u64,
     /// Whether a poll is open.
     pub polling: bool,
-    /// Whether it may be polled.
+    /// Whether it waits for a poll: none was started yet, or it was woken since the last start, and it isn't closed.
     pub scheduled: bool,
 }
 

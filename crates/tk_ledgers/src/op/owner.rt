@@ -1,5 +1,5 @@
 //! The owner of an operation.
-ghost use Rattle.std.specs.Prelude.{◌≡◌, ◌≤◌, true, false, not, is_ok, length, IfOk, IfErr, OnOk};
+ghost use Rattle.std.specs.Prelude.{◌≡◌, ◌≢◌, ◌≤◌, true, false, not, is_ok, length, IfOk, IfErr, OnOk};
 ghost use Rattle.tk_core.specs.declared.op.call.OpCall.TheVariants.{PollStart, PollEnd, Close, SetTask, Attr, Enlist, Read};
 ghost use Rattle.tk_core.specs.declared.reply.Reply.TheVariants.{Done, Shown};
 ghost use Rattle.tk_core.specs.declared.reply.Reply.TheVariants.{Refused as NotDone};
@@ -10,7 +10,7 @@ ghost use Rattle.tk_cell.specs.Calls.{Calls};
 ghost use Rattle.tk_ledgers.specs.Handles.{Drew, NotDrawn};
 ghost use Rattle.tk_ledgers.specs.Ops.{is_polling};
 ghost use Rattle.tk_core.specs.declared.attrs.AttrOp.TheVariants.{Add, Sub, Override};
-ghost use Rattle.tk_core.specs.declared.reply.Refusal.TheVariants.{AlreadyPolling, NotPolling};
+ghost use Rattle.tk_core.specs.declared.reply.Refusal.TheVariants.{AlreadyPolling, NotPolling, Closed};
 
 use crate::handle::Handle;
 use crate::op::{OpInspector, OpReceipt};
@@ -182,7 +182,7 @@ impl OpOwner {
         self.handle.call(rt, OpCall::SetTask(task));
     }
 
-    /// Adds to the attribute of an index, counted from 0. Refused with `NoAttribute`, `WrongKind`, `OutOfRange`.
+    /// Adds to the attribute of an index, counted from 0. Refused with `NoAttribute`, `WrongKind`, `OutOfRange`, and never with `Closed`: who owns it hasn't closed it.
     #[tactic(auto, using(crate::proofs::OpLemmas::change_attempts))]
     pub fn add<R: Wait>(&mut self, rt: &R, index: u64, value: AttrValue) -> Result<(), Refusal>
         ensures id { self.new.id ≡ self.old.id }
@@ -190,12 +190,13 @@ impl OpOwner {
         ensures caller { self.old.token.view.caller ≡ 0 }
         ensures ok { OnOk result (Calls op_meaning self.old.token.view (Attr index (Add value)) Done self.new.token.view) }
         ensures err { IfErr result (λ refusal. Calls op_meaning self.old.token.view (Attr index (Add value)) (NotDone refusal) self.new.token.view) }
+        ensures unclosed { IfErr result (λ refusal. refusal ≢ Closed) }
     {
         self.handle
             .attempt(rt, OpCall::Attr(index, AttrOp::Add(value)))
     }
 
-    /// Takes away from the attribute of an index, counted from 0. Refused with `NoAttribute`, `WrongKind`, `OutOfRange`.
+    /// Takes away from the attribute of an index, counted from 0. Refused with `NoAttribute`, `WrongKind`, `OutOfRange`, and never with `Closed`: who owns it hasn't closed it.
     #[tactic(auto, using(crate::proofs::OpLemmas::change_attempts))]
     pub fn sub<R: Wait>(&mut self, rt: &R, index: u64, value: AttrValue) -> Result<(), Refusal>
         ensures id { self.new.id ≡ self.old.id }
@@ -203,12 +204,13 @@ impl OpOwner {
         ensures caller { self.old.token.view.caller ≡ 0 }
         ensures ok { OnOk result (Calls op_meaning self.old.token.view (Attr index (Sub value)) Done self.new.token.view) }
         ensures err { IfErr result (λ refusal. Calls op_meaning self.old.token.view (Attr index (Sub value)) (NotDone refusal) self.new.token.view) }
+        ensures unclosed { IfErr result (λ refusal. refusal ≢ Closed) }
     {
         self.handle
             .attempt(rt, OpCall::Attr(index, AttrOp::Sub(value)))
     }
 
-    /// Sets the attribute of an index, counted from 0. Refused with `NoAttribute`, `WrongKind`.
+    /// Sets the attribute of an index, counted from 0. Refused with `NoAttribute`, `WrongKind`, and never with `Closed`.
     #[tactic(auto, using(crate::proofs::OpLemmas::change_attempts))]
     pub fn set<R: Wait>(&mut self, rt: &R, index: u64, value: AttrValue) -> Result<(), Refusal>
         ensures id { self.new.id ≡ self.old.id }
@@ -216,6 +218,7 @@ impl OpOwner {
         ensures caller { self.old.token.view.caller ≡ 0 }
         ensures ok { OnOk result (Calls op_meaning self.old.token.view (Attr index (Override value)) Done self.new.token.view) }
         ensures err { IfErr result (λ refusal. Calls op_meaning self.old.token.view (Attr index (Override value)) (NotDone refusal) self.new.token.view) }
+        ensures unclosed { IfErr result (λ refusal. refusal ≢ Closed) }
     {
         self.handle
             .attempt(rt, OpCall::Attr(index, AttrOp::Override(value)))
