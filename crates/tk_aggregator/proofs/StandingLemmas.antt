@@ -11,7 +11,8 @@ use Rattle.tk_stream.specs.Applied.{Kind, task_kind, resource_kind, op_kind, cou
 use Rattle.tk_stream.specs.Fronts.{ToldView, with_rows, task_at, resource_at, op_at, counts_at, told_tables}
 use Rattle.tk_aggregator.specs.Standing.{IsStanding, ResourceFits, OpFits}
 use Rattle.tk_stream.specs.Streams.{AreInRange}
-use Rattle.tk_stream.specs.Tables.{TablesView, AreDistinct, HaveKinds}
+use Rattle.tk_ids.specs.Attributes.{HaveKinds}
+use Rattle.tk_stream.specs.Tables.{TablesView, AreDistinct}
 use Rattle.tk_stream.specs.declared.op.Op.{Op}
 use Rattle.tk_stream.specs.declared.resource.Resource.{Resource}
 use Rattle.tk_aggregator.proofs.HandleLemmas.{resource_fits, op_fits}

@@ -3,7 +3,8 @@ use Rattle.std.specs.Prelude.{◌≡◌, ℕ, ◌^◌, ◌≤◌, List, Option, 
 use Rattle.tk_core.specs.declared.op.row.OpRow.{OpRow}
 use Rattle.tk_core.specs.declared.resource.row.ResourceRow.{ResourceRow}
 use Rattle.tk_events.specs.declared.event.Event.{Event}
-use Rattle.tk_events.specs.Items.{Agrees, kinds_of, kinds_told}
+use Rattle.tk_events.specs.Items.{Agrees}
+use Rattle.tk_ids.specs.Attributes.{HaveKinds}
 use Rattle.tk_ledgers.specs.Ops.{OpSight}
 use Rattle.tk_ledgers.specs.Resources.{ResourceSight}
 use Rattle.tk_ledgers.specs.Tasks.{TaskSight}
@@ -20,11 +21,11 @@ TaskFits t s = s.id ≡ t.info.id
 
 -- for a resource: it is of the resource, and its ledger began with values of the resource's attributes
 abbrev pub ResourceFits : Resource → ResourceSight → Type 0
-ResourceFits r s = (s.id ≡ r.info.id) × ((row : ResourceRow) × (s.token.view.opening ≡ Some row) × (kinds_of row.attrs ≡ kinds_told r.info.attrs))
+ResourceFits r s = (s.id ≡ r.info.id) × ((row : ResourceRow) × (s.token.view.opening ≡ Some row) × HaveKinds r.info.attrs row.attrs)
 
 -- for an async operation
 abbrev pub OpFits : Op → OpSight → Type 0
-OpFits o s = (s.id ≡ o.info.id) × ((row : OpRow) × (s.token.view.opening ≡ Some row) × (kinds_of row.attrs ≡ kinds_told o.info.attrs))
+OpFits o s = (s.id ≡ o.info.id) × ((row : OpRow) × (s.token.view.opening ≡ Some row) × HaveKinds o.info.attrs row.attrs)
 
 -- what holds inside
 pub record IsStanding (shown : TablesView) (telling : ToldView) (task_handles : List TaskSight) (resource_handles : List ResourceSight) (op_handles : List OpSight) (event : Option Event) (last : ℕ) : Type 0 where
