@@ -15,13 +15,12 @@ use Rattle.tk_core.specs.declared.reply.Reply.{Reply}
 use Rattle.tk_core.specs.declared.reply.Reply.TheVariants.{Shown}
 use Rattle.tk_core.specs.declared.resource.row.ResourceRow.{ResourceRow}
 use Rattle.tk_cell.specs.Calls.{entry}
-use Rattle.tk_events.specs.Items.{kinds_of, kinds_told}
 use Rattle.tk_ledgers.specs.Handles.{Sight}
 use Rattle.tk_ledgers.specs.Ops.{OpSight}
 use Rattle.tk_ledgers.specs.Resources.{ResourceSight}
 use Rattle.tk_aggregator.specs.Readings.{Ledger, task_ledger, resource_ledger, op_ledger, Reads, IsRead, IsLater, AreLater, ReadAll}
 use Rattle.tk_ids.specs.declared.attr.AttrInfo.{AttrInfo}
-use Rattle.tk_stream.specs.Tables.{HaveKinds}
+use Rattle.tk_ids.specs.Attributes.{kinds_of, HaveKinds}
 use Rattle.tk_aggregator.proofs.KindLemmas.{resource_kinds, op_kinds}
 
 shown_same : {Row : Type 0} (a b : Row) → Shown a ≡ Shown b → a ≡ b
@@ -87,7 +86,7 @@ op_reads opening h legal = ap Shown (sym (op_laws.legal_fold opening h legal))
 
 -- values have the kinds that are told of them where their ledger began with such values
 pub resource_fits : (s : ResourceSight) (row : ResourceRow) (attrs : List AttrInfo) → IsRead resource_ledger s row
-    → (opened : ResourceRow) → s.token.view.opening ≡ Some opened → kinds_of opened.attrs ≡ kinds_told attrs → HaveKinds attrs row.attrs
+    → (opened : ResourceRow) → s.token.view.opening ≡ Some opened → HaveKinds attrs opened.attrs → HaveKinds attrs row.attrs
 resource_fits s row attrs read opened is kinds =
     let same : read.opening ≡ opened = same_Some read.opening opened (sym read.opened ∙ is) in
     let legal = front_legal resource_ledger read.opening read.history _ (subst (IsLegal resource_meaning read.opening) read.seen read.legal) in
@@ -95,7 +94,7 @@ resource_fits s row attrs read opened is kinds =
     ∙ ap (λ (r : ResourceRow). kinds_of r.attrs) same ∙ kinds
 
 pub op_fits : (s : OpSight) (row : OpRow) (attrs : List AttrInfo) → IsRead op_ledger s row
-    → (opened : OpRow) → s.token.view.opening ≡ Some opened → kinds_of opened.attrs ≡ kinds_told attrs → HaveKinds attrs row.attrs
+    → (opened : OpRow) → s.token.view.opening ≡ Some opened → HaveKinds attrs opened.attrs → HaveKinds attrs row.attrs
 op_fits s row attrs read opened is kinds =
     let same : read.opening ≡ opened = same_Some read.opening opened (sym read.opened ∙ is) in
     let legal = front_legal op_ledger read.opening read.history _ (subst (IsLegal op_meaning read.opening) read.seen read.legal) in

@@ -9,15 +9,15 @@ use Rattle.tk_events.specs.declared.event.Event.{Event}
 use Rattle.tk_ledgers.specs.Ops.{OpSight}
 use Rattle.tk_ledgers.specs.Resources.{ResourceSight}
 use Rattle.tk_ledgers.specs.Tasks.{TaskSight}
-use Rattle.tk_stream.specs.Fronts.{Telling, ToldView, with_rows, task_at, resource_at, op_at, told_tables}
-use Rattle.tk_stream.specs.Tables.{TablesView}
+use Rattle.tk_stream.specs.Fronts.{Telling, ToldView, told_item, with_rows, task_at, resource_at, op_at, counts_at, told_tables}
+use Rattle.tk_stream.specs.Tables.{TablesView, PollCounts}
 use Rattle.tk_stream.specs.declared.op.Op.{Op}
 use Rattle.tk_stream.specs.declared.resource.Resource.{Resource}
 use Rattle.tk_stream.specs.declared.task.Task.{Task}
 use Rattle.tk_aggregator.specs.Aggregates.{Pairs, ReadTask, ReadResource, ReadOp}
 use Rattle.tk_aggregator.specs.Readings.{EachReads}
-use Rattle.tk_aggregator.specs.Standing.{IsStanding, ResourceFits, OpFits}
-use Rattle.tk_aggregator.proofs.ReadingLemmas.{length-with_rows, with_rows-more, with_rows-again}
+use Rattle.tk_aggregator.specs.Standing.{IsStanding, ResourceFits, OpFits, TellsSame, told_list}
+use Rattle.tk_aggregator.proofs.ReadingLemmas.{length-with_rows, with_rows-more}
 
 module _ {Item Handle : Type 0} (P : Item → Handle → Type 0) where
   pub pairs-count : (xs : List Item) (ss : List Handle) → Pairs P xs ss → length ss ≡ length xs
@@ -75,7 +75,7 @@ pairs-read with_row reads P step (x ∷ xs) (s ∷ ss) [] ts all each = absurd e
 pairs-read with_row reads P step (x ∷ xs) (s ∷ ss) (r ∷ rs) [] all each = absurd each
 pairs-read with_row reads P step (x ∷ xs) (s ∷ ss) (r ∷ rs) (t ∷ ts) all each = (step x s r t all.0 each.0, pairs-read with_row reads P step xs ss rs ts all.1 each.1)
 
--- items with their handles; rows were told of the first items, and there is room for a row of each
+-- items with their handles; the first ones were told of, and there is room for what is told of each
 pub record AreHandled {Item Row Handle : Type 0} (P : Item → Handle → Type 0) (items : List Item) (telling : Telling Row) (handles : List Handle) : Type 0 where
   pub pairs : Pairs P items handles
   pub told : length telling.rows ≤ length items
@@ -84,24 +84,24 @@ pub record AreHandled {Item Row Handle : Type 0} (P : Item → Handle → Type 0
 -- what holds of items with their handles, where only they change and the same was told of them
 module _ {Item Row Handle : Type 0} (with_row : Item → Row → Item) (P : Item → Handle → Type 0) (items : List Item) (telling : Telling Row) (handles : List Handle) (was : AreHandled P items telling handles)
     (Holds : List Item → Telling Row → List Handle → Type 0)
-    (holds : (now : List Item) (tells : Telling Row) (hs : List Handle) → AreHandled P now tells hs → with_rows with_row now tells.rows ≡ with_rows with_row items telling.rows → Holds now tells hs) where
+    (holds : (now : List Item) (tells : Telling Row) (hs : List Handle) → AreHandled P now tells hs → told_list with_row now tells ≡ told_list with_row items telling → Holds now tells hs) where
   -- each handle read
-  pub holds_read : (reads : Handle → Row → Handle → Type 0) → ((x : Item) (q r : Row) → with_row (with_row x q) r ≡ with_row x r)
-      → ((x : Item) (s : Handle) (r : Row) (t : Handle) → P x s → reads s r t → P (with_row x r) t)
-      → (rows : List Row) (read : List Handle) → EachReads reads handles rows read → Holds (with_rows with_row items rows) telling read
-  holds_read reads again step rows read each =
+  pub holds_read : (reads : Handle → Row → Handle → Type 0) → ((x : Item) (s : Handle) (r : Row) (t : Handle) → P x s → reads s r t → P (with_row x r) t)
+      → (rows : List Row) (read : List Handle) (tells : Telling Row) → EachReads reads handles rows read → TellsSame with_row items telling (with_rows with_row items rows) tells
+      → Holds (with_rows with_row items rows) tells read
+  holds_read reads step rows read tells each alike =
       let count : length items ≡ length rows = sym (pairs-count P items handles was.pairs) ∙ rows-count reads handles rows read each in
       let same : length (with_rows with_row items rows) ≡ length items = length-with_rows with_row items rows count ∙ sym count in
-      holds (with_rows with_row items rows) telling read
-      (record { pairs = pairs-read with_row reads P step items handles rows read was.pairs each; told = omega (arith, same, was.told); room = omega (arith, same, was.room) })
-      (with_rows-again with_row again items rows telling.rows was.told count)
+      holds (with_rows with_row items rows) tells read
+      (record { pairs = pairs-read with_row reads P step items handles rows read was.pairs each; told = omega (arith, same, was.told, alike.count); room = omega (arith, same, was.room, alike.room) })
+      alike.same
 
   -- one more item, with its handle
   pub holds_more : (x : Item) (s : Handle) (room : ℕ) → P x s → length (items ++ x ∷ []) ≤ room → Holds (items ++ x ∷ []) (record telling { room = room }) (handles ++ s ∷ [])
   holds_more x s room p near =
       holds (items ++ x ∷ []) (record telling { room = room }) (handles ++ s ∷ [])
       (record { pairs = pairs-push P items handles x s was.pairs p; told = omega (arith, length-append items (x ∷ []), was.told); room = near })
-      (with_rows-more with_row items (x ∷ []) telling.rows was.told)
+      (with_rows-more (told_item with_row) items (x ∷ []) telling.rows was.told)
 
   -- more room
   pub holds_roomier : (room : ℕ) → telling.room ≤ room → Holds items (record telling { room = room }) handles
@@ -135,7 +135,7 @@ module _ (shown : TablesView) (telling : ToldView) (tasks : List TaskSight) (res
     pub ops_handled : AreHandled (Both ReadOp OpFits) shown.ops telling.ops ops
     ops_handled = record { pairs = pairs-both ReadOp OpFits shown.ops ops stands.ops stands.ops_fit; told = stands.fits.ops; room = stands.room.ops }
 
-    pub tasks_stand : (now : List Task) (tells : Telling TaskRow) (hs : List TaskSight) → AreHandled ReadTask now tells hs → with_rows task_at now tells.rows ≡ with_rows task_at shown.tasks telling.tasks.rows → TasksStand now tells hs
+    pub tasks_stand : (now : List Task) (tells : Telling TaskRow) (hs : List TaskSight) → AreHandled ReadTask now tells hs → told_list task_at now tells ≡ told_list task_at shown.tasks telling.tasks → TasksStand now tells hs
     tasks_stand now tells hs h same =
         let told : told_tables (record telling { tasks = tells }) (record shown { tasks = now }) ≡ told_tables telling shown = λ i. record (told_tables telling shown) { tasks = same i } in (
           record {
@@ -153,7 +153,7 @@ module _ (shown : TablesView) (telling : ToldView) (tasks : List TaskSight) (res
           told,
         )
 
-    pub resources_stand : (now : List Resource) (tells : Telling ResourceRow) (hs : List ResourceSight) → AreHandled (Both ReadResource ResourceFits) now tells hs → with_rows resource_at now tells.rows ≡ with_rows resource_at shown.resources telling.resources.rows → ResourcesStand now tells hs
+    pub resources_stand : (now : List Resource) (tells : Telling ResourceRow) (hs : List ResourceSight) → AreHandled (Both ReadResource ResourceFits) now tells hs → told_list resource_at now tells ≡ told_list resource_at shown.resources telling.resources → ResourcesStand now tells hs
     resources_stand now tells hs h same =
         let told : told_tables (record telling { resources = tells }) (record shown { resources = now }) ≡ told_tables telling shown = λ i. record (told_tables telling shown) { resources = same i } in (
           record {
@@ -171,7 +171,7 @@ module _ (shown : TablesView) (telling : ToldView) (tasks : List TaskSight) (res
           told,
         )
 
-    pub ops_stand : (now : List Op) (tells : Telling OpRow) (hs : List OpSight) → AreHandled (Both ReadOp OpFits) now tells hs → with_rows op_at now tells.rows ≡ with_rows op_at shown.ops telling.ops.rows → OpsStand now tells hs
+    pub ops_stand : (now : List Op) (tells : Telling OpRow) (hs : List OpSight) → AreHandled (Both ReadOp OpFits) now tells hs → told_list op_at now tells ≡ told_list op_at shown.ops telling.ops → OpsStand now tells hs
     ops_stand now tells hs h same =
         let told : told_tables (record telling { ops = tells }) (record shown { ops = now }) ≡ told_tables telling shown = λ i. record (told_tables telling shown) { ops = same i } in (
           record {
@@ -182,6 +182,27 @@ module _ (shown : TablesView) (telling : ToldView) (tasks : List TaskSight) (res
             ops_fit = pairs-right ReadOp OpFits now hs h.pairs;
             fits = record { tasks = stands.fits.tasks; resources = stands.fits.resources; ops = h.told; counts = stands.fits.counts };
             room = record { tasks = stands.room.tasks; resources = stands.room.resources; ops = h.room; counts = stands.room.counts };
+            held = stands.held;
+            first = λ zero. told ∙ stands.first zero;
+            numbered = stands.numbered;
+          },
+          told,
+        )
+
+    -- poll counts, which no handle reads
+    pub counts_stand : (now : List PollCounts) (tells : Telling (ℕ × ℕ)) → length tells.rows ≤ length now → length now ≤ tells.room → told_list counts_at now tells ≡ told_list counts_at shown.counts telling.counts
+        → IsStanding (record shown { counts = now }) (record telling { counts = tells }) tasks resources ops held last
+        × (told_tables (record telling { counts = tells }) (record shown { counts = now }) ≡ told_tables telling shown)
+    counts_stand now tells fits near same =
+        let told : told_tables (record telling { counts = tells }) (record shown { counts = now }) ≡ told_tables telling shown = λ i. record (told_tables telling shown) { counts = same i } in (
+          record {
+            tasks = stands.tasks;
+            resources = stands.resources;
+            ops = stands.ops;
+            resources_fit = stands.resources_fit;
+            ops_fit = stands.ops_fit;
+            fits = record { tasks = stands.fits.tasks; resources = stands.fits.resources; ops = stands.fits.ops; counts = fits };
+            room = record { tasks = stands.room.tasks; resources = stands.room.resources; ops = stands.room.ops; counts = near };
             held = stands.held;
             first = λ zero. told ∙ stands.first zero;
             numbered = stands.numbered;

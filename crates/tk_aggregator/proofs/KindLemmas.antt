@@ -24,8 +24,7 @@ use Rattle.tk_core.specs.declared.reply.Reply.{Reply}
 use Rattle.tk_core.specs.declared.resource.call.ResourceCall.{ResourceCall}
 use Rattle.tk_core.specs.declared.resource.call.ResourceCall.TheVariants as resource_calls
 use Rattle.tk_core.specs.declared.resource.row.ResourceRow.{ResourceRow}
-use Rattle.tk_events.specs.Items.{kinds_of}
-use Rattle.tk_ids.specs.Attributes.{kind_of}
+use Rattle.tk_ids.specs.Attributes.{kind_of, kinds_of}
 use Rattle.tk_ids.specs.declared.attr.AttrValue.{AttrValue}
 use Rattle.tk_ids.specs.declared.attr.AttrValue.TheVariants as values
 

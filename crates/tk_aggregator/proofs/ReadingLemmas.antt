@@ -52,14 +52,6 @@ module _ {Item Row : Type 0} (with_row : Item → Row → Item) where
   with_rows-more [] more (r ∷ rs) le = absurd (omega (arith, le))
   with_rows-more (x ∷ xs) more (r ∷ rs) le = ap (λ ys. with_row x r ∷ ys) (with_rows-more xs more rs (omega (arith, le)))
 
-  -- rows that are read later change nothing of what was told
-  pub with_rows-again : (again : (x : Item) (q r : Row) → with_row (with_row x q) r ≡ with_row x r) (xs : List Item) (qs rs : List Row) → length rs ≤ length xs → length xs ≡ length qs
-      → with_rows with_row (with_rows with_row xs qs) rs ≡ with_rows with_row xs rs
-  with_rows-again again xs qs [] le e = refl
-  with_rows-again again [] qs (r ∷ rs) le e = absurd (omega (arith, le))
-  with_rows-again again (x ∷ xs) [] (r ∷ rs) le e = absurd (omega (arith, e))
-  with_rows-again again (x ∷ xs) (q ∷ qs) (r ∷ rs) le e = ap₂ (λ y ys. y ∷ ys) (again x q r) (with_rows-again again xs qs rs (omega (arith, le)) (omega (arith, e)))
-
 -- ---- the loop
 
 module _ {Item Handle Row : Type 0} (with_row : Item → Row → Item) (reads : Handle → Row → Handle → Type 0) where

@@ -13,7 +13,7 @@ use Rattle.tk_aggregator.specs.Aggregates.{Aggregating, IsSound, IsLaterOf, IsSa
 use Rattle.tk_stream.specs.Applied.{Kind, task_kind, resource_kind, op_kind, counts_kind, BeginWith}
 use Rattle.tk_stream.specs.Fronts.{ToldView, with_rows, task_at, resource_at, op_at, told_tables}
 use Rattle.tk_aggregator.specs.Readings.{ReadAll, Reads, task_ledger, resource_ledger, op_ledger}
-use Rattle.tk_aggregator.specs.Standing.{IsStanding, ResourceFits, OpFits}
+use Rattle.tk_aggregator.specs.Standing.{IsStanding, ResourceFits, OpFits, TellsSame}
 use Rattle.tk_stream.specs.Tables.{TablesView}
 use Rattle.tk_stream.specs.declared.op.Op.{Op}
 use Rattle.tk_stream.specs.declared.resource.Resource.{Resource}
@@ -41,42 +41,52 @@ map_rows info_of with_row same (x ∷ xs) (r ∷ rs) e = ap₂ (λ y ys. y ∷ y
 
 -- ---- what holds inside where each handle of a kind read
 
-module _ (shown : TablesView) (telling : ToldView) (tasks : List TaskSight) (resources : List ResourceSight) (ops : List OpSight) (held : Option Event) (last : ℕ) (stands : IsStanding shown telling tasks resources ops held last) where
-  module _ (rows : List TaskRow) (read : List TaskSight) (each : ReadAll task_ledger tasks rows read) where
-    tasks_now : TasksStand shown telling tasks resources ops held last (with_rows task_at shown.tasks rows) telling.tasks read
+module _ (shown : TablesView) (telling : ToldView) (tasks : List TaskSight) (resources : List ResourceSight) (ops : List OpSight) (held : Option Event) (last : ℕ) (stands : IsStanding shown telling tasks resources ops held last)
+    (now : TablesView) (view : ToldView) where
+  module _ (rows : List TaskRow) (read : List TaskSight) (each : ReadAll task_ledger tasks rows read) (e : now ≡ record shown { tasks = with_rows task_at shown.tasks rows }) (alone : view ≡ record telling { tasks = view.tasks })
+      (alike : TellsSame task_at shown.tasks telling.tasks now.tasks view.tasks) where
+    tasks_now : TasksStand shown telling tasks resources ops held last (with_rows task_at shown.tasks rows) view.tasks read
     tasks_now =
         holds_read task_at ReadTask shown.tasks telling.tasks tasks (tasks_handled shown telling tasks resources ops held last stands) (TasksStand shown telling tasks resources ops held last) (tasks_stand shown telling tasks resources ops held last stands)
-        (Reads task_ledger) (λ x q r. refl) (λ x s r t p q. (q.id ∙ p.0, reads_read task_ledger task_reads s r t q)) rows read each
+        (Reads task_ledger) (λ x s r t p q. (q.id ∙ p.0, reads_read task_ledger task_reads s r t q)) rows read view.tasks each (subst (λ (t : TablesView). TellsSame task_at shown.tasks telling.tasks t.tasks view.tasks) e alike)
 
-    pub tasks_standing : IsStanding (record shown { tasks = with_rows task_at shown.tasks rows }) telling read resources ops held last
-    tasks_standing = tasks_now.0
+    pub tasks_standing : IsStanding now view read resources ops held last
+    tasks_standing =
+        subst (λ (t : TablesView). IsStanding t view read resources ops held last) (sym e)
+        (subst (λ (v : ToldView). IsStanding (record shown { tasks = with_rows task_at shown.tasks rows }) v read resources ops held last) (sym alone) tasks_now.0)
 
-    pub tasks_read : (broken : Bool) (now : TablesView) → now ≡ record shown { tasks = with_rows task_at shown.tasks rows } → ReadsTasks (whole shown telling tasks resources ops held last broken) (whole now telling read resources ops held last broken)
-    tasks_read broken now e = (rows, each, λ i. record { tables = e i; told = (ap (told_tables telling) e ∙ tasks_now.1) i; tasks = read; resources = resources; ops = ops; held = held; last = last; broken = broken })
+    pub tasks_read : (broken : Bool) → ReadsTasks (whole shown telling tasks resources ops held last broken) (whole now view read resources ops held last broken)
+    tasks_read broken = (rows, each, λ i. record { tables = e i; told = (ap₂ told_tables alone e ∙ tasks_now.1) i; tasks = read; resources = resources; ops = ops; held = held; last = last; broken = broken })
 
-  module _ (rows : List ResourceRow) (read : List ResourceSight) (each : ReadAll resource_ledger resources rows read) where
-    resources_now : ResourcesStand shown telling tasks resources ops held last (with_rows resource_at shown.resources rows) telling.resources read
+  module _ (rows : List ResourceRow) (read : List ResourceSight) (each : ReadAll resource_ledger resources rows read) (e : now ≡ record shown { resources = with_rows resource_at shown.resources rows }) (alone : view ≡ record telling { resources = view.resources })
+      (alike : TellsSame resource_at shown.resources telling.resources now.resources view.resources) where
+    resources_now : ResourcesStand shown telling tasks resources ops held last (with_rows resource_at shown.resources rows) view.resources read
     resources_now =
         holds_read resource_at (Both ReadResource ResourceFits) shown.resources telling.resources resources (resources_handled shown telling tasks resources ops held last stands) (ResourcesStand shown telling tasks resources ops held last) (resources_stand shown telling tasks resources ops held last stands)
-        (Reads resource_ledger) (λ x q r. refl) (λ x s r t p q. ((q.id ∙ p.0.0, reads_read resource_ledger resource_reads s r t q), (q.id ∙ p.1.0, (p.1.1.0, q.entry.same_opening ∙ p.1.1.1, p.1.1.2)))) rows read each
+        (Reads resource_ledger) (λ x s r t p q. ((q.id ∙ p.0.0, reads_read resource_ledger resource_reads s r t q), (q.id ∙ p.1.0, (p.1.1.0, q.entry.same_opening ∙ p.1.1.1, p.1.1.2)))) rows read view.resources each (subst (λ (t : TablesView). TellsSame resource_at shown.resources telling.resources t.resources view.resources) e alike)
 
-    pub resources_standing : IsStanding (record shown { resources = with_rows resource_at shown.resources rows }) telling tasks read ops held last
-    resources_standing = resources_now.0
+    pub resources_standing : IsStanding now view tasks read ops held last
+    resources_standing =
+        subst (λ (t : TablesView). IsStanding t view tasks read ops held last) (sym e)
+        (subst (λ (v : ToldView). IsStanding (record shown { resources = with_rows resource_at shown.resources rows }) v tasks read ops held last) (sym alone) resources_now.0)
 
-    pub resources_read : (broken : Bool) (now : TablesView) → now ≡ record shown { resources = with_rows resource_at shown.resources rows } → ReadsResources (whole shown telling tasks resources ops held last broken) (whole now telling tasks read ops held last broken)
-    resources_read broken now e = (rows, each, λ i. record { tables = e i; told = (ap (told_tables telling) e ∙ resources_now.1) i; tasks = tasks; resources = read; ops = ops; held = held; last = last; broken = broken })
+    pub resources_read : (broken : Bool) → ReadsResources (whole shown telling tasks resources ops held last broken) (whole now view tasks read ops held last broken)
+    resources_read broken = (rows, each, λ i. record { tables = e i; told = (ap₂ told_tables alone e ∙ resources_now.1) i; tasks = tasks; resources = read; ops = ops; held = held; last = last; broken = broken })
 
-  module _ (rows : List OpRow) (read : List OpSight) (each : ReadAll op_ledger ops rows read) where
-    ops_now : OpsStand shown telling tasks resources ops held last (with_rows op_at shown.ops rows) telling.ops read
+  module _ (rows : List OpRow) (read : List OpSight) (each : ReadAll op_ledger ops rows read) (e : now ≡ record shown { ops = with_rows op_at shown.ops rows }) (alone : view ≡ record telling { ops = view.ops })
+      (alike : TellsSame op_at shown.ops telling.ops now.ops view.ops) where
+    ops_now : OpsStand shown telling tasks resources ops held last (with_rows op_at shown.ops rows) view.ops read
     ops_now =
         holds_read op_at (Both ReadOp OpFits) shown.ops telling.ops ops (ops_handled shown telling tasks resources ops held last stands) (OpsStand shown telling tasks resources ops held last) (ops_stand shown telling tasks resources ops held last stands)
-        (Reads op_ledger) (λ x q r. refl) (λ x s r t p q. ((q.id ∙ p.0.0, reads_read op_ledger op_reads s r t q), (q.id ∙ p.1.0, (p.1.1.0, q.entry.same_opening ∙ p.1.1.1, p.1.1.2)))) rows read each
+        (Reads op_ledger) (λ x s r t p q. ((q.id ∙ p.0.0, reads_read op_ledger op_reads s r t q), (q.id ∙ p.1.0, (p.1.1.0, q.entry.same_opening ∙ p.1.1.1, p.1.1.2)))) rows read view.ops each (subst (λ (t : TablesView). TellsSame op_at shown.ops telling.ops t.ops view.ops) e alike)
 
-    pub ops_standing : IsStanding (record shown { ops = with_rows op_at shown.ops rows }) telling tasks resources read held last
-    ops_standing = ops_now.0
+    pub ops_standing : IsStanding now view tasks resources read held last
+    ops_standing =
+        subst (λ (t : TablesView). IsStanding t view tasks resources read held last) (sym e)
+        (subst (λ (v : ToldView). IsStanding (record shown { ops = with_rows op_at shown.ops rows }) v tasks resources read held last) (sym alone) ops_now.0)
 
-    pub ops_read : (broken : Bool) (now : TablesView) → now ≡ record shown { ops = with_rows op_at shown.ops rows } → ReadsOps (whole shown telling tasks resources ops held last broken) (whole now telling tasks resources read held last broken)
-    ops_read broken now e = (rows, each, λ i. record { tables = e i; told = (ap (told_tables telling) e ∙ ops_now.1) i; tasks = tasks; resources = resources; ops = read; held = held; last = last; broken = broken })
+    pub ops_read : (broken : Bool) → ReadsOps (whole shown telling tasks resources ops held last broken) (whole now view tasks resources read held last broken)
+    ops_read broken = (rows, each, λ i. record { tables = e i; told = (ap₂ told_tables alone e ∙ ops_now.1) i; tasks = tasks; resources = resources; ops = read; held = held; last = last; broken = broken })
 
 -- ---- all of them
 

@@ -1,6 +1,8 @@
 -- Taking an event in keeps what holds inside, and does what the event says.
-use Rattle.std.proofs.Common.{◌≡◌, ℕ, suc, ◌≤◌, ◌<◌, List, [], ◌∷◌, ◌++◌, length, Bool, true, false, cond, nat_eq, None, Some, refl, sym, ap, ap₂, ◌∙◌, subst, arith}
-use Rattle.std.specs.Prelude.{Option, IfSome, IfNone, is_some, option_map}
+use Rattle.std.proofs.Common.{◌≡◌, ℕ, zero, suc, ◌+◌, ◌≤◌, ◌<◌, List, [], ◌∷◌, ◌++◌, length, Bool, true, false, cond, nat_eq, get_or, None, Some, refl, sym, ap, ap₂, ◌∙◌, subst, arith}
+use Rattle.std.specs.Prelude.{Option, IfSome, IfNone, is_some, not, map, position, option_map}
+use Rattle.std.specs.List.{position_or_len}
+use Rattle.std.proofs.lemmas.List.Quantifiers.{position-Some}
 use Rattle.std.proofs.lemmas.Bool.{eqb-true}
 use Rattle.tk_core.specs.declared.op.row.OpRow.{OpRow}
 use Rattle.tk_core.specs.declared.resource.row.ResourceRow.{ResourceRow}
@@ -14,14 +16,14 @@ use Rattle.tk_ids.specs.declared.info.TaskInfo.{TaskInfo}
 use Rattle.tk_ledgers.specs.Ops.{OpSight}
 use Rattle.tk_ledgers.specs.Resources.{ResourceSight}
 use Rattle.tk_ledgers.specs.Tasks.{TaskSight}
-use Rattle.tk_stream.specs.Polls.{counted, one_more}
 use Rattle.tk_aggregator.specs.Aggregates.{ReadTask, ReadResource, ReadOp, TakesIn}
-use Rattle.tk_stream.specs.Fronts.{ToldView, with_rows, task_at, resource_at, op_at, counts_at, told_tables}
+use Rattle.tk_stream.specs.Fronts.{ToldView, task_at, resource_at, op_at, counts_at, told_tables}
+use Rattle.tk_stream.specs.Places.{place_with}
 use Rattle.tk_aggregator.specs.Readings.{Reads, task_ledger, resource_ledger, op_ledger}
-use Rattle.tk_aggregator.specs.Standing.{IsStanding, ResourceFits, OpFits}
-use Rattle.tk_stream.specs.Tables.{TablesView, PollCounts, counts_id, counts_of, put_item, task_with, with_task, resource_with, with_resource, op_with, with_op}
+use Rattle.tk_aggregator.specs.Standing.{IsStanding, ResourceFits, OpFits, told_list}
+use Rattle.tk_stream.specs.Tables.{TablesView, PollCounts, counts_id, changed_at, put_item, task_with, with_task, resource_with, with_resource, op_with, with_op}
 use Rattle.tk_aggregator.proofs.HandleLemmas.{reads_read, task_reads, resource_reads, op_reads}
-use Rattle.tk_aggregator.proofs.HandledLemmas.{Both, TasksStand, ResourcesStand, OpsStand, holds_more, holds_roomier, tasks_handled, resources_handled, ops_handled, tasks_stand, resources_stand, ops_stand}
+use Rattle.tk_aggregator.proofs.HandledLemmas.{Both, TasksStand, ResourcesStand, OpsStand, holds_more, holds_roomier, tasks_handled, resources_handled, ops_handled, tasks_stand, resources_stand, ops_stand, counts_stand}
 use Rattle.tk_aggregator.proofs.StandingLemmas.{whole}
 
 -- what holds of three values holds of others that are the same
@@ -158,94 +160,62 @@ not_there f (Some x) there found e is none = absurd (cc (is, none))
 
 -- ---- poll counts
 
-same_put : (c : PollCounts) (xs : List PollCounts) (rs : List (ℕ × ℕ)) → length rs ≤ length xs → with_rows counts_at (put_item counts_id c xs) rs ≡ with_rows counts_at xs rs
-same_put c xs [] le = refl
-same_put c [] (r ∷ rs) le = absurd (omega (arith, le))
-same_put c (x ∷ xs) (r ∷ rs) le = by (nat_eq c.0 x.0) refl (same_put c xs rs (omega (arith, le)))
+put_there : (id : ℕ) (row : ℕ × ℕ) (xs : List PollCounts) (i : ℕ) → i < length (map counts_id xs) → nat_eq id (get_or (map counts_id xs) i 0) ≡ true → ((k : ℕ) → k < i → nat_eq id (get_or (map counts_id xs) k 0) ≡ false)
+    → changed_at (λ c. counts_at c row) xs i ≡ put_item counts_id (id, row.0, row.1) xs
+put_there id row [] i lt is none = absurd (omega (arith, lt))
+put_there id row (x ∷ xs) zero lt is none = rw is (ap (λ n. (n, row.0, row.1) ∷ xs) (sym (eqb-true id x.0 is)))
+put_there id row (x ∷ xs) (suc i) lt is none = rw (none 0 (omega arith)) (ap (λ ys. x ∷ ys) (put_there id row xs i (omega (arith, lt)) is (λ k below. none (suc k) (omega (arith, below)))))
+
+-- the counts that stand at their resource's place become others
+pub put_at : (id : ℕ) (row : ℕ × ℕ) (xs : List PollCounts) (i : ℕ) → place_with counts_id id xs ≡ Some i → changed_at (λ c. counts_at c row) xs i ≡ put_item counts_id (id, row.0, row.1) xs
+put_at id row xs i at =
+    let found = position-Some (λ n. nat_eq id n) (map counts_id xs) i 0 at in
+    put_there id row xs i found.0 found.1 found.2
+
+nowhere : (id : ℕ) (ns : List ℕ) → position (λ n. nat_eq id n) ns ≡ None → length ns ≤ position_or_len (λ n. nat_eq id n) ns
+nowhere id ns none = grind arith
+
+goes_last : (c : PollCounts) (xs : List PollCounts) → length (map counts_id xs) ≤ position_or_len (λ n. nat_eq c.0 n) (map counts_id xs) → put_item counts_id c xs ≡ xs ++ c ∷ []
+goes_last c [] le = refl
+goes_last c (x ∷ xs) le = by (nat_eq c.0 x.0) le (λ past. goes_last c xs past)
   where
-    by : (b : Bool) → nat_eq c.0 x.0 ≡ b → with_rows counts_at (put_item counts_id c xs) rs ≡ with_rows counts_at xs rs
-        → with_rows counts_at (cond b (c ∷ xs) (x ∷ put_item counts_id c xs)) (r ∷ rs) ≡ counts_at x r ∷ with_rows counts_at xs rs
-    by true e rest = ap (λ id. (id, r.0, r.1) ∷ with_rows counts_at xs rs) (eqb-true c.0 x.0 e)
-    by false e rest = ap (λ ys. counts_at x r ∷ ys) rest
+    by : (b : Bool) → suc (length (map counts_id xs)) ≤ cond (not b) (1 + position_or_len (λ n. nat_eq c.0 n) (map counts_id xs)) 0
+        → (length (map counts_id xs) ≤ position_or_len (λ n. nat_eq c.0 n) (map counts_id xs) → put_item counts_id c xs ≡ xs ++ c ∷ [])
+        → cond b (c ∷ xs) (x ∷ put_item counts_id c xs) ≡ x ∷ (xs ++ c ∷ [])
+    by true le rest = absurd (omega (arith, le))
+    by false le rest = ap (λ ys. x ∷ ys) (rest (omega (arith, le)))
 
-put_grows : (c : PollCounts) (xs : List PollCounts) → (length xs ≤ length (put_item counts_id c xs)) × (length (put_item counts_id c xs) ≤ suc (length xs))
-put_grows c [] = (omega arith, omega arith)
-put_grows c (x ∷ xs) = by (nat_eq c.0 x.0) (put_grows c xs)
-  where
-    by : (b : Bool) → (length xs ≤ length (put_item counts_id c xs)) × (length (put_item counts_id c xs) ≤ suc (length xs))
-        → (suc (length xs) ≤ length (cond b (c ∷ xs) (x ∷ put_item counts_id c xs))) × (length (cond b (c ∷ xs) (x ∷ put_item counts_id c xs)) ≤ suc (suc (length xs)))
-    by true rest = (omega arith, omega arith)
-    by false rest = (omega (arith, rest.0), omega (arith, rest.1))
+-- counts of a resource without any go last
+pub put_last : (c : PollCounts) (xs : List PollCounts) → place_with counts_id c.0 xs ≡ None → put_item counts_id c xs ≡ xs ++ c ∷ []
+put_last c xs none = goes_last c xs (nowhere c.0 (map counts_id xs) none)
 
-abbrev pub with_counts_room : ToldView → ℕ → ToldView
-with_counts_room telling room = record telling { counts = record telling.counts { room = room } }
+pub length-changed_at : {A : Type 0} (change : A → A) (xs : List A) (i : ℕ) → length (changed_at change xs i) ≡ length xs
+length-changed_at change [] i = refl
+length-changed_at change (x ∷ xs) zero = refl
+length-changed_at change (x ∷ xs) (suc i) = ap suc (length-changed_at change xs i)
 
--- the counts of a resource with one more
-abbrev poll_item : TablesView → ℕ → Bool → PollCounts
-poll_item shown resource ready = (resource, (one_more ready (counts_of resource shown.counts)).0, (one_more ready (counts_of resource shown.counts)).1)
+module _ (shown : TablesView) (telling : ToldView) (tasks : List TaskSight) (resources : List ResourceSight) (ops : List OpSight) (held : Option Event) (last : ℕ) (stands : IsStanding shown telling tasks resources ops held last)
+    (now : TablesView) (view : ToldView) (counts : List PollCounts) (e : now ≡ record shown { counts = counts }) (alone : view ≡ record telling { counts = view.counts })
+    (fits : length view.counts.rows ≤ length now.counts) (near : length now.counts ≤ view.counts.room) (same : told_list counts_at now.counts view.counts ≡ told_list counts_at shown.counts telling.counts) where
+  polled_now : IsStanding (record shown { counts = counts }) (record telling { counts = view.counts }) tasks resources ops held last
+      × (told_tables (record telling { counts = view.counts }) (record shown { counts = counts }) ≡ told_tables telling shown)
+  polled_now =
+      counts_stand shown telling tasks resources ops held last stands counts view.counts (subst (λ (t : TablesView). length view.counts.rows ≤ length t.counts) e fits) (subst (λ (t : TablesView). length t.counts ≤ view.counts.room) e near)
+      (subst (λ (t : TablesView). told_list counts_at t.counts view.counts ≡ told_list counts_at shown.counts telling.counts) e same)
 
-abbrev pub with_poll : TablesView → ℕ → Bool → TablesView
-with_poll shown resource ready = record shown { counts = counted resource ready shown.counts }
+  pub poll_stands : IsStanding now view tasks resources ops held last
+  poll_stands =
+      subst (λ (t : TablesView). IsStanding t view tasks resources ops held last) (sym e)
+      (subst (λ (v : ToldView). IsStanding (record shown { counts = counts }) v tasks resources ops held last) (sym alone) polled_now.0)
 
-poll_told : (shown : TablesView) (telling : ToldView) (resource : ℕ) (ready : Bool) (room : ℕ) → length telling.counts.rows ≤ length shown.counts
-    → told_tables (with_counts_room telling room) (with_poll shown resource ready) ≡ told_tables telling shown
-poll_told shown telling resource ready room le = λ i. record {
-  tasks = with_rows task_at shown.tasks telling.tasks.rows;
-  resources = with_rows resource_at shown.resources telling.resources.rows;
-  ops = with_rows op_at shown.ops telling.ops.rows;
-  counts = same_put (poll_item shown resource ready) shown.counts telling.counts.rows le i;
-  dropped = telling.dropped;
-  now = shown.now;
-}
-
-pub poll_stands : (shown : TablesView) (telling : ToldView) (tasks : List TaskSight) (resources : List ResourceSight) (ops : List OpSight) (held : Option Event) (last : ℕ) (resource : ℕ) (ready : Bool) (room : ℕ) (now : TablesView) (tells : ToldView)
-    → IsStanding shown telling tasks resources ops held last → now ≡ with_poll shown resource ready → tells ≡ with_counts_room telling room → length shown.counts < room
-    → IsStanding now tells tasks resources ops held last
-poll_stands shown telling tasks resources ops held last resource ready room now tells stands e_now e_tells near =
-    let base : IsStanding (with_poll shown resource ready) (with_counts_room telling room) tasks resources ops held last = record {
-      tasks = stands.tasks;
-      resources = stands.resources;
-      ops = stands.ops;
-      resources_fit = stands.resources_fit;
-      ops_fit = stands.ops_fit;
-      fits = record { tasks = stands.fits.tasks; resources = stands.fits.resources; ops = stands.fits.ops; counts = omega (arith, stands.fits.counts, (put_grows (poll_item shown resource ready) shown.counts).0) };
-      room = record { tasks = stands.room.tasks; resources = stands.room.resources; ops = stands.room.ops; counts = omega (arith, near, (put_grows (poll_item shown resource ready) shown.counts).1) };
-      held = stands.held;
-      first = λ zero. poll_told shown telling resource ready room stands.fits.counts ∙ stands.first zero;
-      numbered = stands.numbered;
-    } in
-    subst (λ (t : TablesView). IsStanding t tells tasks resources ops held last) (sym e_now)
-    (subst (λ (t : ToldView). IsStanding (with_poll shown resource ready) t tasks resources ops held last) (sym e_tells) base)
-
-pub poll_counts : (shown : TablesView) (telling : ToldView) (tasks : List TaskSight) (resources : List ResourceSight) (ops : List OpSight) (held : Option Event) (last : ℕ) (broken : Bool) (resource : ℕ) (ready : Bool) (room : ℕ) (now : TablesView) (tells : ToldView)
-    → IsStanding shown telling tasks resources ops held last → now ≡ with_poll shown resource ready → tells ≡ with_counts_room telling room
-    → whole now tells tasks resources ops held last broken ≡ record (whole shown telling tasks resources ops held last broken) { tables = with_poll shown resource ready }
-poll_counts shown telling tasks resources ops held last broken resource ready room now tells stands e_now e_tells = λ i. record {
-  tables = e_now i;
-  told = (ap₂ told_tables e_tells e_now ∙ poll_told shown telling resource ready room stands.fits.counts) i;
-  tasks = tasks;
-  resources = resources;
-  ops = ops;
-  held = held;
-  last = last;
-  broken = broken;
-}
-
-pub poll_kept_stands : (shown : TablesView) (telling : ToldView) (tasks : List TaskSight) (resources : List ResourceSight) (ops : List OpSight) (held : Option Event) (last : ℕ) (room : ℕ) (now : TablesView) (tells : ToldView)
-    → IsStanding shown telling tasks resources ops held last → now ≡ shown → tells ≡ with_counts_room telling room → telling.counts.room ≤ room
-    → IsStanding now tells tasks resources ops held last
-poll_kept_stands shown telling tasks resources ops held last room now tells stands e_now e_tells near =
-    let base : IsStanding shown (with_counts_room telling room) tasks resources ops held last = record {
-      tasks = stands.tasks;
-      resources = stands.resources;
-      ops = stands.ops;
-      resources_fit = stands.resources_fit;
-      ops_fit = stands.ops_fit;
-      fits = record { tasks = stands.fits.tasks; resources = stands.fits.resources; ops = stands.fits.ops; counts = stands.fits.counts };
-      room = record { tasks = stands.room.tasks; resources = stands.room.resources; ops = stands.room.ops; counts = omega (arith, near, stands.room.counts) };
-      held = stands.held;
-      first = stands.first;
-      numbered = stands.numbered;
-    } in
-    subst (λ (t : TablesView). IsStanding t tells tasks resources ops held last) (sym e_now)
-    (subst (λ (t : ToldView). IsStanding shown t tasks resources ops held last) (sym e_tells) base)
+  pub poll_counts : (broken : Bool) → whole now view tasks resources ops held last broken ≡ record (whole shown telling tasks resources ops held last broken) { tables = record shown { counts = counts } }
+  poll_counts broken = λ i. record {
+    tables = e i;
+    told = (ap₂ told_tables alone e ∙ polled_now.1) i;
+    tasks = tasks;
+    resources = resources;
+    ops = ops;
+    held = held;
+    last = last;
+    broken = broken;
+  }

@@ -1,7 +1,8 @@
 //! The aggregator: it takes events, reads the ledgers of their items, and publishes the lines of a stream.
 //!
-//! Beside the tables it keeps what the last whole line told of them: a row of each item, and the counts. Items only ever go
-//! last, so a line is made by place, without a copy of the tables (`told_tables.rt`).
+//! Beside the tables it keeps what the last whole line told of them, where that is another now: rows and counts by place, since
+//! items only ever go last. So a line is made without a copy of the tables, and what did not change is compared once, when it is
+//! read (`told_rows.rt`).
 //!
 //! | stream | `publish` | `snapshot` |
 //! |---|---|---|
@@ -307,19 +308,19 @@ impl Aggregator {
     fn refresh_tasks<R: Wait>(&mut self, rt: &R)
         ensures { ReadsTasks self.old self.new }
     {
-        read_tasks(rt, &mut self.tables, &mut self.tasks);
+        read_tasks(rt, &mut self.tables, &mut self.told, &mut self.tasks);
     }
 
     fn refresh_resources<R: Wait>(&mut self, rt: &R)
         ensures { ReadsResources self.old self.new }
     {
-        read_resources(rt, &mut self.tables, &mut self.resources);
+        read_resources(rt, &mut self.tables, &mut self.told, &mut self.resources);
     }
 
     fn refresh_ops<R: Wait>(&mut self, rt: &R)
         ensures { ReadsOps self.old self.new }
     {
-        read_ops(rt, &mut self.tables, &mut self.ops);
+        read_ops(rt, &mut self.tables, &mut self.told, &mut self.ops);
     }
 
     // The line of this moment.

@@ -3,7 +3,8 @@ ghost use Rattle.std.specs.Prelude.{◌≡◌, ◌≤◌, ◌<◌, ◌++◌, ◌
 ghost use Rattle.tk_core.specs.declared.op.row.OpRow.{OpRow};
 ghost use Rattle.tk_core.specs.declared.resource.row.ResourceRow.{ResourceRow};
 ghost use Rattle.tk_core.specs.declared.task.row.TaskRow.{TaskRow};
-ghost use Rattle.tk_stream.specs.Fronts.{with_rows, task_at, resource_at, op_at};
+ghost use Rattle.tk_stream.specs.Fronts.{with_rows, task_at, resource_at, op_at, counts_at};
+ghost use Rattle.tk_aggregator.specs.Standing.{TellsSame, told_list};
 ghost use Rattle.tk_aggregator.specs.Readings.{EachReads, ReadAll, Reads, task_ledger, resource_ledger, op_ledger};
 ghost use Rattle.tk_ledgers.specs.Ops.{OpSight};
 ghost use Rattle.tk_ledgers.specs.Resources.{ResourceSight};
@@ -17,10 +18,10 @@ use std::sync::Wait;
 use tk_core::{OpRow, ResourceRow, TaskRow};
 use tk_ids::{OpInfo, ResourceId, ResourceInfo, TaskInfo};
 use tk_ledgers::{OpInspector, ResourceInspector, TaskInspector};
-use tk_stream::{Item, Op, Resource, Table, Tables, Task, ToldRows, ToldTables};
+use tk_stream::{Op, Resource, Table, Tables, Task, Told, ToldRows, ToldTables};
 
 /// An item that has a handle of its ledger.
-pub(crate) trait Ledgered: Item {
+pub(crate) trait Ledgered: Told {
     type Handle: Drop;
 
     // The handle before a reading, the row that it read, and the handle after it.
@@ -66,50 +67,69 @@ impl Ledgered for Op {
     }
 }
 
-/// Each handle reads once, and the row of its item is what it read.
+/// Each handle reads once, and the row of its item is what it read. A row that is the same is not written.
 pub(crate) fn refresh_all<T: Ledgered, R: Wait>(
     rt: &R,
     table: &mut Table<T>,
+    told: &mut ToldRows<T>,
     handles: &mut Vec<T::Handle>,
 )
     requires { length handles.old.items ≡ length table.old }
-    ensures { (rows : List T.Row) × EachReads T.reads handles.old.items rows handles.new.items × (table.new ≡ with_rows T.with_row table.old rows) }
+    ensures reads { (rows : List T.Row) × EachReads T.reads handles.old.items rows handles.new.items × (table.new ≡ with_rows T.with_row table.old rows) }
+    ensures told { TellsSame T.with_row table.old told.old table.new told.new }
 {
     for i in 0..handles.len() {
         let row = T::read(&mut handles[i], rt);
-        table.set(i, row);
+        told.set(table, i, row);
     }
 }
 
 /// Each handle of a task reads once.
-pub(crate) fn read_tasks<R: Wait>(rt: &R, tables: &mut Tables, handles: &mut Vec<TaskInspector>)
+pub(crate) fn read_tasks<R: Wait>(
+    rt: &R,
+    tables: &mut Tables,
+    told: &mut ToldTables,
+    handles: &mut Vec<TaskInspector>,
+)
     requires { length handles.old.items ≡ length tables.old.tasks }
-    ensures { (rows : List TaskRow) × ReadAll task_ledger handles.old.items rows handles.new.items
+    ensures reads { (rows : List TaskRow) × ReadAll task_ledger handles.old.items rows handles.new.items
         × (tables.new ≡ record tables.old { tasks = with_rows task_at tables.old.tasks rows }) }
+    ensures alone { told.new ≡ record told.old { tasks = told.new.tasks } }
+    ensures told { TellsSame task_at tables.old.tasks told.old.tasks tables.new.tasks told.new.tasks }
 {
-    refresh_all(rt, &mut tables.tasks, handles);
+    refresh_all(rt, &mut tables.tasks, &mut told.tasks, handles);
 }
 
 /// Each handle of a resource reads once.
 pub(crate) fn read_resources<R: Wait>(
     rt: &R,
     tables: &mut Tables,
+    told: &mut ToldTables,
     handles: &mut Vec<ResourceInspector>,
 )
     requires { length handles.old.items ≡ length tables.old.resources }
-    ensures { (rows : List ResourceRow) × ReadAll resource_ledger handles.old.items rows handles.new.items
+    ensures reads { (rows : List ResourceRow) × ReadAll resource_ledger handles.old.items rows handles.new.items
         × (tables.new ≡ record tables.old { resources = with_rows resource_at tables.old.resources rows }) }
+    ensures alone { told.new ≡ record told.old { resources = told.new.resources } }
+    ensures told { TellsSame resource_at tables.old.resources told.old.resources tables.new.resources told.new.resources }
 {
-    refresh_all(rt, &mut tables.resources, handles);
+    refresh_all(rt, &mut tables.resources, &mut told.resources, handles);
 }
 
 /// Each handle of an async operation reads once.
-pub(crate) fn read_ops<R: Wait>(rt: &R, tables: &mut Tables, handles: &mut Vec<OpInspector>)
+pub(crate) fn read_ops<R: Wait>(
+    rt: &R,
+    tables: &mut Tables,
+    told: &mut ToldTables,
+    handles: &mut Vec<OpInspector>,
+)
     requires { length handles.old.items ≡ length tables.old.ops }
-    ensures { (rows : List OpRow) × ReadAll op_ledger handles.old.items rows handles.new.items
+    ensures reads { (rows : List OpRow) × ReadAll op_ledger handles.old.items rows handles.new.items
         × (tables.new ≡ record tables.old { ops = with_rows op_at tables.old.ops rows }) }
+    ensures alone { told.new ≡ record told.old { ops = told.new.ops } }
+    ensures told { TellsSame op_at tables.old.ops told.old.ops tables.new.ops told.new.ops }
 {
-    refresh_all(rt, &mut tables.ops, handles);
+    refresh_all(rt, &mut tables.ops, &mut told.ops, handles);
 }
 
 /// Puts an item last, with the row that its handle then reads. Where there is no memory for it, item and handle come back,
@@ -133,7 +153,7 @@ pub(crate) fn add<T: Ledgered, R: Wait>(
     ensures returned { IfErr result (λ e. (e.0 ≡ item) × (e.1 ≡ handle)) }
 {
     let place = table.len();
-    let Ok(()) = told.make_room(place, item.row()) else {
+    let Ok(()) = told.make_room(place) else {
         return Err((item, handle));
     };
     let Ok(()) = handles.reserve(1) else {
@@ -263,21 +283,32 @@ fn one_more(ready: bool, counts: (u64, u64)) -> (u64, u64)
     }
 }
 
-/// Counts a poll operation of a resource. Room for the row that is told of it is made first.
+/// Counts a poll operation of a resource. One without any goes last, and room for what is told of it is made first.
 pub(crate) fn put_poll(
     tables: &mut Tables,
     told: &mut ToldTables,
     resource: ResourceId,
     ready: bool,
 ) -> Result<(), AllocError>
-    requires { length tables.old.counts ≤ told.old.counts.room }
+    requires near { length tables.old.counts ≤ told.old.counts.room }
+    requires fits { length told.old.counts.rows ≤ length tables.old.counts }
     ensures ok { OnOk result (tables.new ≡ record tables.old { counts = counted resource ready tables.old.counts }) }
-    ensures room { OnOk result (length tables.old.counts < told.new.counts.room) }
-    ensures told { told.new ≡ record told.old { counts = record told.old.counts { room = told.new.counts.room } } }
-    ensures kept_room { told.old.counts.room ≤ told.new.counts.room }
+    ensures room { length tables.new.counts ≤ told.new.counts.room }
+    ensures fit { length told.new.counts.rows ≤ length tables.new.counts }
+    ensures alone { told.new ≡ record told.old { counts = told.new.counts } }
+    ensures told { told_list counts_at tables.new.counts told.new.counts ≡ told_list counts_at tables.old.counts told.old.counts }
     ensures err { OnErr result (tables.new ≡ tables.old) }
 {
-    told.counts.make_room(tables.counted(), (0, 0))?;
     let (ready, pending) = one_more(ready, tables.poll_counts(resource));
-    tables.set_counts(resource, ready, pending)
+    match tables.counts_place(resource) {
+        Some(place) => {
+            told.counts.set(&mut tables.counts, place, (ready, pending));
+            Ok(())
+        }
+        None => {
+            told.counts.make_room(tables.counted())?;
+            tables.set_counts(resource, ready, pending)?;
+            Ok(())
+        }
+    }
 }

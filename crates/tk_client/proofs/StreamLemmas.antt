@@ -5,7 +5,7 @@ use Rattle.std.specs.List.{list_any, list_all, AllByRecursion, IsDistinct}
 use Rattle.std.proofs.lemmas.Bool.{eq-eqb, and_parts, le-ltb}
 use Rattle.std.proofs.lemmas.List.{take-append-drop, take-append-le}
 use Rattle.std.proofs.Math.Seq.{take-append-add}
-use Rattle.tk_ids.specs.Attributes.{kind_of}
+use Rattle.tk_ids.specs.Attributes.{kind_of, HaveKinds}
 use Rattle.tk_ids.specs.declared.attr.AttrInfo.{AttrInfo}
 use Rattle.tk_ids.specs.declared.attr.AttrKind.{AttrKind}
 use Rattle.tk_ids.specs.declared.attr.AttrKind.TheVariants as kinds
@@ -18,7 +18,7 @@ use Rattle.tk_stream.specs.Ranges.{IsLine}
 use Rattle.tk_stream.specs.Reading.{line_of_text}
 use Rattle.tk_stream.specs.Rows.{same_counts}
 use Rattle.tk_stream.specs.Spelling.{line_text, is_one_line}
-use Rattle.tk_stream.specs.Tables.{TablesView, empty_tables, AreDistinct, AreFit, HaveKinds, task_id, resource_id, op_id, counts_id, item_with}
+use Rattle.tk_stream.specs.Tables.{TablesView, empty_tables, AreDistinct, AreFit, task_id, resource_id, op_id, counts_id, item_with}
 use Rattle.tk_stream.proofs.LinesLemmas.{all_infos, all_stats}
 use Rattle.tk_stream.proofs.NoEnds.{text_is_one_line}
 use Rattle.tk_client.specs.declared.fault.Fault.{Fault}

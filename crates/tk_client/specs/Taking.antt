@@ -62,7 +62,7 @@ is_kind kinds.U64 kinds.Bool = false
 is_kind kinds.Bool kinds.U64 = false
 is_kind kinds.Bool kinds.Bool = true
 
--- values are as many as the attributes, and each of its attribute's kind
+-- the test of `HaveKinds`: values are as many as the attributes, and each of its attribute's kind
 abbrev pub fit_attrs : List AttrInfo → List AttrValue → Bool
 fit_attrs [] [] = true
 fit_attrs [] (v ∷ vs) = false

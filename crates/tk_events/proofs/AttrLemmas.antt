@@ -6,8 +6,8 @@ use Rattle.std.proofs.lemmas.List.{length-map, length-take}
 use Rattle.tk_ids.specs.declared.attr.AttrInfo.{AttrInfo}
 use Rattle.tk_ids.specs.declared.attr.AttrSpec.{AttrSpec}
 use Rattle.tk_ids.specs.declared.attr.AttrValue.{AttrValue}
-use Rattle.tk_ids.specs.Attributes.{are_attributes, are_distinct, spec_names, info_names}
-use Rattle.tk_events.specs.Items.{infos_of, first_values, kinds_of, kinds_told}
+use Rattle.tk_ids.specs.Attributes.{kind_of, HaveKinds, are_attributes, are_distinct, spec_names, info_names}
+use Rattle.tk_events.specs.Items.{infos_of, first_values}
 
 names_kept : (attrs : List AttrSpec) → info_names (infos_of attrs) ≡ spec_names attrs
 names_kept [] = refl
@@ -17,9 +17,9 @@ pub same_names : (attrs : List AttrSpec) (infos : List AttrInfo) → infos ≡ i
 same_names attrs infos is good = ap (λ (l : List AttrInfo). are_attributes (info_names l)) is ∙ (ap (λ (l : List (List ℕ)). are_attributes l) (names_kept attrs) ∙ good)
 
 -- the kinds of the first values are those that the infos tell
-pub same_kinds : (attrs : List AttrSpec) → kinds_of (first_values attrs) ≡ kinds_told (infos_of attrs)
+pub same_kinds : (attrs : List AttrSpec) → HaveKinds (infos_of attrs) (first_values attrs)
 same_kinds [] = refl
-same_kinds (a ∷ attrs) = ap (λ l. Rattle.tk_ids.specs.Attributes.kind_of a.first ∷ l) (same_kinds attrs)
+same_kinds (a ∷ attrs) = ap (λ l. kind_of a.first ∷ l) (same_kinds attrs)
 
 left_true : (a b : Bool) → (a && b) ≡ true → a ≡ true
 left_true true b e = refl

@@ -1,7 +1,6 @@
 -- What a new item is: its info, what its owner and its inspector have seen, and what agrees in its event.
 use Rattle.std.specs.Prelude.{◌≡◌, ℕ, List, [], ◌∷◌, map, Some, ⊤}
 use Rattle.tk_ids.specs.declared.attr.AttrInfo.{AttrInfo}
-use Rattle.tk_ids.specs.declared.attr.AttrKind.{AttrKind}
 use Rattle.tk_ids.specs.declared.attr.AttrSpec.{AttrSpec}
 use Rattle.tk_ids.specs.declared.attr.AttrValue.{AttrValue}
 use Rattle.tk_ids.specs.declared.info.OpInfo.{OpInfo}
@@ -10,7 +9,7 @@ use Rattle.tk_ids.specs.declared.info.TaskInfo.{TaskInfo}
 use Rattle.tk_ids.specs.declared.spec.OpSpec.{OpSpec}
 use Rattle.tk_ids.specs.declared.spec.ResourceSpec.{ResourceSpec}
 use Rattle.tk_ids.specs.declared.spec.TaskSpec.{TaskSpec}
-use Rattle.tk_ids.specs.Attributes.{kind_of}
+use Rattle.tk_ids.specs.Attributes.{kind_of, HaveKinds}
 use Rattle.tk_core.specs.declared.op.row.OpRow.{OpRow}
 use Rattle.tk_core.specs.declared.reply.Reply.{Reply}
 use Rattle.tk_core.specs.declared.reply.Reply.TheVariants.{Number}
@@ -53,17 +52,9 @@ module _ {Row C : Type 0} where
   abbrev pub inspector_view : C → Row → View Row C (Reply Row)
   inspector_view enlist row = record { caller = 1; seen = entry 0 enlist (Number 1) ∷ []; held = 1 ∷ []; opening = Some row }
 
--- the kinds of values
-abbrev pub kinds_of : List AttrValue → List AttrKind
-kinds_of values = map kind_of values
-
--- the kinds that infos tell
-abbrev pub kinds_told : List AttrInfo → List AttrKind
-kinds_told infos = map (λ (info : AttrInfo). info.kind) infos
-
 -- info and ledger agree in the id, and in number and kinds of the attributes that the ledger began with
 abbrev pub Agrees : Event → Type 0
 Agrees (Task info inspector) = inspector.id ≡ info.id
-Agrees (Resource info inspector) = (inspector.id ≡ info.id) × ((row : ResourceRow) × (inspector.token.view.opening ≡ Some row) × (kinds_of row.attrs ≡ kinds_told info.attrs))
-Agrees (Op info inspector) = (inspector.id ≡ info.id) × ((row : OpRow) × (inspector.token.view.opening ≡ Some row) × (kinds_of row.attrs ≡ kinds_told info.attrs))
+Agrees (Resource info inspector) = (inspector.id ≡ info.id) × ((row : ResourceRow) × (inspector.token.view.opening ≡ Some row) × HaveKinds info.attrs row.attrs)
+Agrees (Op info inspector) = (inspector.id ≡ info.id) × ((row : OpRow) × (inspector.token.view.opening ≡ Some row) × HaveKinds info.attrs row.attrs)
 Agrees (Poll op) = ⊤

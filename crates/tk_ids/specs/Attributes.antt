@@ -1,5 +1,5 @@
 -- Which attributes an item may have.
-use Rattle.std.specs.Prelude.{ℕ, List, length, map, Bool, ◌&&◌, ◌==◌, nat_le}
+use Rattle.std.specs.Prelude.{◌≡◌, ℕ, List, length, map, Bool, ◌&&◌, ◌==◌, nat_le}
 use Rattle.std.specs.Set.{distinct_count}
 use Rattle.std.specs.Str.{bytes_eq}
 use Rattle.tk_ids.specs.declared.attr.AttrKind.{AttrKind}
@@ -29,3 +29,11 @@ spec_names attrs = map (λ (a : AttrSpec). a.name) attrs
 -- the names of attributes as their item shows them
 abbrev pub info_names : List AttrInfo → List (List ℕ)
 info_names attrs = map (λ (a : AttrInfo). a.name) attrs
+
+-- the kinds of values
+abbrev pub kinds_of : List AttrValue → List AttrKind
+kinds_of values = map kind_of values
+
+-- values are as many as the attributes, and each of its attribute's kind
+abbrev pub HaveKinds : List AttrInfo → List AttrValue → Type 0
+HaveKinds attrs values = kinds_of values ≡ map (λ (a : AttrInfo). a.kind) attrs

@@ -1,15 +1,15 @@
 -- What is told beside the rows that were told is what the line between the two tables tells.
-use Rattle.std.proofs.Common.{◌≡◌, ℕ, zero, suc, ◌+◌, ◌≤◌, ◌<◌, List, [], ◌∷◌, ◌++◌, length, Bool, true, false, cond, nat_eq, take, drop, set, slice_get, Option, Some, None, refl, ap, ap₂, sym, ◌∙◌, subst, add-one, append_assoc}
-use Rattle.std.specs.Prelude.{map, filter, not, is_none}
+use Rattle.std.proofs.Common.{◌≡◌, ℕ, zero, suc, ◌+◌, ◌≤◌, ◌<◌, List, [], ◌∷◌, ◌++◌, length, Bool, true, false, cond, nat_eq, take, drop, set, get_or, slice_get, Option, Some, None, refl, ap, ap₂, sym, ◌∙◌, subst, add-one, append_assoc, arith}
+use Rattle.std.specs.Prelude.{map, filter, not, is_none, is_some}
 use Rattle.std.specs.Option.{option_map_or}
 use Rattle.std.specs.List.{AllByRecursion, IsDistinct}
-use Rattle.std.proofs.Math.Seq.{drop-nil}
-use Rattle.std.proofs.lemmas.List.{take_more_set, append-nil, drop_all}
-use Rattle.std.proofs.lemmas.Option.{same_Some}
-use Rattle.tk_stream.specs.Fronts.{with_rows, is_told_beside, stats_beside}
+use Rattle.std.proofs.Math.Seq.{drop-nil, take-set-lt}
+use Rattle.std.proofs.lemmas.List.{take_more_set, append-nil, drop_all, get_or-take, length-take-le}
+use Rattle.std.proofs.lemmas.Option.{same_Some, slice_get_read, slice_get_past}
+use Rattle.tk_stream.specs.Fronts.{told_item, with_rows, is_told_beside, stats_beside}
 use Rattle.tk_stream.specs.Kept.{kept}
 use Rattle.tk_stream.specs.Lines.{is_new, is_told, new_infos, told_stats}
-use Rattle.tk_stream.specs.Tables.{item_with}
+use Rattle.tk_stream.specs.Tables.{item_with, changed_at}
 use Rattle.tk_stream.proofs.LinesLemmas.{IsFound, each_found, differ}
 
 -- ---- a loop over the items
@@ -141,23 +141,82 @@ module _ {Item Row : Type 0} (id_of : Item → ℕ) (with_row : Item → Row →
       → map info_of (drop (length rs) xs) ≡ new_infos id_of info_of (with_rows with_row xs rs) xs
   infos_are info_of xs rs distinct = sym (same_infos (old xs rs) info_of xs rs (are_old xs rs distinct))
 
--- ---- rows, one after the other
+-- ---- all is told, one item after the other
 
-module _ {Item Row : Type 0} (row_of : Item → Row) where
-  next_row : (xs : List Item) (i : ℕ) (x : Item) → Some x ≡ slice_get xs i → map row_of (take (suc i) xs) ≡ map row_of (take i xs) ++ row_of x ∷ []
-  next_row [] i x at = absurd (cc)
-  next_row (y ∷ xs) zero x at = ap (λ z. row_of z ∷ []) (same_Some y x (sym at))
-  next_row (y ∷ xs) (suc i) x at = ap (λ ys. row_of y ∷ ys) (next_row xs i x at)
+next_told : {Item Row : Type 0} (xs : List Item) (i : ℕ) → i < length xs → map {B = Option Row} (λ x. None) (take (suc i) xs) ≡ map (λ x. None) (take i xs) ++ None ∷ []
+next_told [] i lt = absurd (omega (arith, lt))
+next_told (x ∷ xs) zero lt = refl
+next_told (x ∷ xs) (suc i) lt = ap (λ ys. None ∷ ys) (next_told xs i (omega (arith, lt)))
 
-  pub goes_on_rows : (rows : List Row) (xs : List Item) (i : ℕ) (x : Item) (row : Row) → Some x ≡ slice_get xs i → row ≡ row_of x → i < length rows
-      → take i rows ≡ map row_of (take i xs) → take (i + 1) (set rows i row) ≡ map row_of (take (i + 1) xs)
-  goes_on_rows rows xs i x row at is within so_far =
-      take_more_set rows i row within ∙ ap₂ (λ ys y. ys ++ y ∷ []) so_far is ∙ sym (rw add-one (next_row xs i x at))
+pub goes_on_told : {Item Row : Type 0} (rows : List (Option Row)) (xs : List Item) (i : ℕ) (row : Option Row) → row ≡ None → i < length xs → i < length rows
+    → take i rows ≡ map (λ x. None) (take i xs) → take (i + 1) (set rows i row) ≡ map (λ x. None) (take (i + 1) xs)
+goes_on_told rows xs i row is among within so_far =
+    take_more_set rows i row within ∙ ap₂ (λ ys y. ys ++ y ∷ []) so_far is ∙ sym (rw add-one (next_told xs i among))
 
--- items with their own rows are the items
-pub own_rows : {Item Row : Type 0} (with_row : Item → Row → Item) (row_of : Item → Row) (own : (x : Item) → with_row x (row_of x) ≡ x) (xs : List Item) → with_rows with_row xs (map row_of xs) ≡ xs
-own_rows with_row row_of own [] = refl
-own_rows with_row row_of own (x ∷ xs) = ap₂ (λ y ys. y ∷ ys) (own x) (own_rows with_row row_of own xs)
+-- items that were told of as they are
+pub all_told : {Item Row : Type 0} (with_row : Item → Row → Item) (xs : List Item) → with_rows (told_item with_row) xs (map (λ x. None) xs) ≡ xs
+all_told with_row [] = refl
+all_told with_row (x ∷ xs) = ap (λ ys. x ∷ ys) (all_told with_row xs)
+
+-- an item keeps its id
+pub keeps_told : {Item Row : Type 0} (id_of : Item → ℕ) (with_row : Item → Row → Item) → ((x : Item) (r : Row) → id_of (with_row x r) ≡ id_of x)
+    → (x : Item) (o : Option Row) → id_of (told_item with_row x o) ≡ id_of x
+keeps_told id_of with_row keeps x None = refl
+keeps_told id_of with_row keeps x (Some r) = keeps x r
+
+-- ---- another row of one item
+
+module _ {Item Row : Type 0} (with_row : Item → Row → Item) (row : Row) where
+  abbrev now_at : List Item → ℕ → List Item
+  now_at xs i = changed_at (λ x. with_row x row) xs i
+
+  pub same_row_again : (xs : List Item) (i : ℕ) (x : Item) → Some x ≡ slice_get xs i → with_row x row ≡ x → now_at xs i ≡ xs
+  same_row_again [] i x at same = refl
+  same_row_again (y ∷ xs) zero x at same = ap (λ z. z ∷ xs) (subst (λ z. with_row z row ≡ z) (sym (same_Some y x (sym at))) same)
+  same_row_again (y ∷ xs) (suc i) x at same = ap (λ ys. y ∷ ys) (same_row_again xs i x at same)
+
+  abbrev told : List Item → List (Option Row) → List Item
+  told xs rs = with_rows (told_item with_row) xs rs
+
+  -- what was told of it is kept already, or nothing was
+  pub stays_told : ((x : Item) (q r : Row) → with_row (with_row x q) r ≡ with_row x r) → (xs : List Item) (rs : List (Option Row)) (i : ℕ)
+      → (slice_get rs i ≡ Some None → ⊥) → told (now_at xs i) rs ≡ told xs rs
+  stays_told last xs [] i kept = refl
+  stays_told last [] (o ∷ rs) i kept = refl
+  stays_told last (x ∷ xs) (None ∷ rs) zero kept = absurd (kept refl)
+  stays_told last (x ∷ xs) (Some r ∷ rs) zero kept = ap (λ y. y ∷ told xs rs) (last x row r)
+  stays_told last (x ∷ xs) (o ∷ rs) (suc i) kept = ap (λ ys. told_item with_row x o ∷ ys) (stays_told last xs rs i kept)
+
+  -- there is something at a place among the first
+  there_in : (items : List (Option Row)) (count i : ℕ) (o : Option Row) → count ≤ length items → i < count → o ≡ get_or items i o → slice_get (take count items) i ≡ Some o
+  there_in items count i o le lt is = slice_get_read (take count items) count i o (sym (length-take-le count items le)) lt (is ∙ sym (get_or-take count items i o lt))
+
+  pub kept_in : (items : List (Option Row)) (count i : ℕ) (o : Option Row) → count ≤ length items → i < count → o ≡ get_or items i o → is_some o ≡ true → slice_get (take count items) i ≡ Some None → ⊥
+  kept_in items count i o le lt is other none = absurd (cc (there_in items count i o le lt is, other, none))
+
+  pub nothing_past : (items : List (Option Row)) (count i : ℕ) → count ≤ length items → count ≤ i → slice_get (take count items) i ≡ Some None → ⊥
+  nothing_past items count i le past none = absurd (cc (slice_get_past (take count items) i (subst (λ n. n ≤ i) (sym (length-take-le count items le)) past), none))
+
+  -- its row was told, and is kept now
+  comes_to_be_kept : ((x : Item) (q r : Row) → with_row (with_row x q) r ≡ with_row x r) → (xs : List Item) (rs : List (Option Row)) (i : ℕ) (x : Item) (before : Row)
+      → Some x ≡ slice_get xs i → slice_get rs i ≡ Some None → with_row x before ≡ x → told (now_at xs i) (set rs i (Some before)) ≡ told xs rs
+  comes_to_be_kept last [] rs i x before at none own = absurd (cc)
+  comes_to_be_kept last (y ∷ xs) [] i x before at none own = absurd (cc)
+  comes_to_be_kept last (y ∷ xs) (None ∷ rs) zero x before at none own =
+      ap (λ z. z ∷ told xs rs) (last y row before ∙ subst (λ z. with_row z before ≡ z) (sym (same_Some y x (sym at))) own)
+  comes_to_be_kept last (y ∷ xs) (Some r ∷ rs) zero x before at none own = absurd (cc)
+  comes_to_be_kept last (y ∷ xs) (o ∷ rs) (suc i) x before at none own = ap (λ ys. told_item with_row y o ∷ ys) (comes_to_be_kept last xs rs i x before at none own)
+
+  pub kept_now_in : ((x : Item) (q r : Row) → with_row (with_row x q) r ≡ with_row x r) → (xs : List Item) (items : List (Option Row)) (count i : ℕ) (x : Item) (before : Row) (o : Option Row)
+      → Some x ≡ slice_get xs i → with_row x before ≡ x → count ≤ length items → i < count → o ≡ get_or items i o → is_some o ≡ false
+      → told (now_at xs i) (take count (set items i (Some before))) ≡ told xs (take count items)
+  kept_now_in last xs items count i x before o at own le lt is none =
+      ap (λ rs. told (now_at xs i) rs) (take-set-lt count items i (Some before) lt)
+      ∙ comes_to_be_kept last xs (take count items) i x before at (there_in items count i o le lt is ∙ ap Some (nothing_is o none)) own
+    where
+      nothing_is : (o : Option Row) → is_some o ≡ false → o ≡ None
+      nothing_is None none = refl
+      nothing_is (Some r) none = absurd (cc)
 
 -- what is left over at the end of a loop
 pub infos_done : {Item Info : Type 0} (info_of : Item → Info) (list : List Info) (xs : List Item) (i : ℕ) (total : List Info) → length xs ≤ i

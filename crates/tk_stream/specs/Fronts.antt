@@ -1,5 +1,6 @@
--- What stays known of the tables of the last whole line: their items are the first ones of the tables, and of each its row is kept.
-use Rattle.std.specs.Prelude.{ℕ, ◌≤◌, List, [], ◌∷◌, ◌++◌, length, Bool, true, not, Option}
+-- What stays known of the tables of the last whole line: their items are the first ones of the tables, and of each the row is
+-- kept that was told, where it is another now.
+use Rattle.std.specs.Prelude.{ℕ, ◌≤◌, List, [], ◌∷◌, ◌++◌, length, Bool, true, not, Option, Some, None}
 use Rattle.std.specs.Option.{option_map_or}
 use Rattle.tk_ids.specs.declared.info.Dropped.{Dropped}
 use Rattle.tk_core.specs.declared.op.row.OpRow.{OpRow}
@@ -11,14 +12,19 @@ use Rattle.tk_stream.specs.declared.task.Task.{Task}
 use Rattle.tk_stream.specs.Tables.{TablesView, PollCounts}
 use Rattle.tk_stream.specs.Kept.{kept}
 
--- the rows that were told of the first items of a list, and for how many there is room
+-- of each of the first items of a list the row that was told, where it is another now, and for how many items there is room
 pub record Telling (Row : Type 0) : Type 0 where
-  pub rows : List Row
+  pub rows : List (Option Row)
   pub room : ℕ
 
 -- none, and no room
 abbrev pub no_telling : {Row : Type 0} → Telling Row
 no_telling = record { rows = []; room = 0 }
+
+-- an item as it was told: with the row of then, where it is another now
+abbrev pub told_item : {Item Row : Type 0} → (Item → Row → Item) → Item → Option Row → Item
+told_item with_row x (Some row) = with_row x row
+told_item with_row x None = x
 
 -- items with these rows, as far as there are rows
 abbrev pub with_rows : {Item Row : Type 0} → (Item → Row → Item) → List Item → List Row → List Item
@@ -64,25 +70,25 @@ op_at o row = record o { row = row }
 abbrev pub counts_at : PollCounts → ℕ × ℕ → PollCounts
 counts_at c row = (c.0, row.0, row.1)
 
--- the tables that were told: the first items of these tables, with the rows that were told of them. The moment is theirs
+-- the tables that were told: the first items of these tables, as they were told. The moment is theirs
 abbrev pub told_tables : ToldView → TablesView → TablesView
 told_tables told tables = record {
-  tasks = with_rows task_at tables.tasks told.tasks.rows;
-  resources = with_rows resource_at tables.resources told.resources.rows;
-  ops = with_rows op_at tables.ops told.ops.rows;
-  counts = with_rows counts_at tables.counts told.counts.rows;
+  tasks = with_rows (told_item task_at) tables.tasks told.tasks.rows;
+  resources = with_rows (told_item resource_at) tables.resources told.resources.rows;
+  ops = with_rows (told_item op_at) tables.ops told.ops.rows;
+  counts = with_rows (told_item counts_at) tables.counts told.counts.rows;
   dropped = told.dropped;
   now = tables.now;
 }
 
--- no more rows were told than there are items
+-- no more items were told of than there are
 pub record FitsIn (told : ToldView) (tables : TablesView) : Type 0 where
   pub tasks : length told.tasks.rows ≤ length tables.tasks
   pub resources : length told.resources.rows ≤ length tables.resources
   pub ops : length told.ops.rows ≤ length tables.ops
   pub counts : length told.counts.rows ≤ length tables.counts
 
--- there is room for a row of each item
+-- there is room for what was told of each item
 pub record HaveRoom (told : ToldView) (tables : TablesView) : Type 0 where
   pub tasks : length tables.tasks ≤ told.tasks.room
   pub resources : length tables.resources ≤ told.resources.room

@@ -5,9 +5,7 @@ use Rattle.std.specs.Option.{option_map_or}
 use Rattle.tk_core.specs.declared.op.row.OpRow.{OpRow}
 use Rattle.tk_core.specs.declared.resource.row.ResourceRow.{ResourceRow}
 use Rattle.tk_core.specs.declared.task.row.TaskRow.{TaskRow}
-use Rattle.tk_ids.specs.Attributes.{kind_of}
-use Rattle.tk_ids.specs.declared.attr.AttrInfo.{AttrInfo}
-use Rattle.tk_ids.specs.declared.attr.AttrValue.{AttrValue}
+use Rattle.tk_ids.specs.Attributes.{HaveKinds}
 use Rattle.tk_ids.specs.declared.info.Dropped.{Dropped}
 use Rattle.tk_ids.specs.declared.info.TaskInfo.{TaskInfo}
 use Rattle.tk_ids.specs.declared.info.ResourceInfo.{ResourceInfo}
@@ -83,10 +81,6 @@ pub record AreDistinct (tables : TablesView) : Type 0 where
   pub resources : IsDistinct nat_eq (map resource_id tables.resources)
   pub ops : IsDistinct nat_eq (map op_id tables.ops)
   pub counts : IsDistinct nat_eq (map counts_id tables.counts)
-
--- values are as many as the attributes, and each of its attribute's kind
-abbrev pub HaveKinds : List AttrInfo → List AttrValue → Type 0
-HaveKinds attrs values = map kind_of values ≡ map (λ (a : AttrInfo). a.kind) attrs
 
 -- fit tables: no item stands twice, and each row has the attributes of its item
 pub record AreFit (tables : TablesView) : Type 0 where

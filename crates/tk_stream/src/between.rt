@@ -1,5 +1,5 @@
 //! What a line tells of the items of new tables.
-ghost use Rattle.std.specs.Prelude.{◌≡◌, ◌++◌, ◌≤◌, length, map, drop, option_map, IfOk, OnOk};
+ghost use Rattle.std.specs.Prelude.{◌≡◌, ◌++◌, ◌≤◌, length, IfOk, OnOk};
 ghost use Rattle.tk_stream.specs.Lines as lines;
 ghost use Rattle.tk_stream.specs.Kept.{kept};
 ghost use Rattle.tk_stream.specs.Fronts as fronts;
@@ -81,7 +81,7 @@ pub(crate) fn infos_behind<T: Described>(
     new: &Table<T>,
 ) -> Result<Vec<T::Info>, AllocError>
     requires { length told.now.rows ≤ length new.now }
-    ensures { IfOk result (λ v. v.items ≡ lines.new_infos T.id_of T.info_of (fronts.with_rows T.with_row new.now told.now.rows) new.now) }
+    ensures { IfOk result (λ v. v.items ≡ lines.new_infos T.id_of T.info_of (fronts.with_rows (fronts.told_item T.with_row) new.now told.now.rows) new.now) }
 {
     let mut list = Vec::new(alloc);
     for i in told.count()..new.len() {
@@ -90,27 +90,18 @@ pub(crate) fn infos_behind<T: Described>(
     Ok(list)
 }
 
-fn is_told_beside<T: Told>(told: Option<&T::Row>, item: &T) -> bool
-    ensures { result ≡ fronts.is_told_beside T.with_row T.same (option_map (λ row. row.now) told.entry) item.now }
-{
-    match told {
-        Some(row) => !item.has_row(row),
-        None => true,
-    }
-}
-
-/// What changes of the items whose row was not told, or is not the same as the one that was told.
+/// What changes of the items that were not told of, or whose row is not the same as the one that was told. No other row is read.
 pub(crate) fn stats_beside<T: Told>(
     alloc: Global,
     told: &ToldRows<T>,
     new: &Table<T>,
 ) -> Result<Vec<T::Stats>, AllocError>
-    ensures { IfOk result (λ v. v.items ≡ lines.told_stats T.id_of T.same T.stats_of (fronts.with_rows T.with_row new.now told.now.rows) new.now) }
+    ensures { IfOk result (λ v. v.items ≡ lines.told_stats T.id_of T.same T.stats_of (fronts.with_rows (fronts.told_item T.with_row) new.now told.now.rows) new.now) }
 {
     let mut list = Vec::new(alloc);
     for i in 0..new.len() {
         let item = new.at(i).unwrap();
-        keep_stats(&mut list, is_told_beside(told.at(i), item), item)?;
+        keep_stats(&mut list, told.differs(i, item), item)?;
     }
     Ok(list)
 }

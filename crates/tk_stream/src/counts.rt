@@ -22,6 +22,8 @@ impl Item for (ResourceId, u64, u64) {
 
     ghost own_row = { λ item. refl };
 
+    ghost last_row = { λ item first last. refl };
+
     ghost copies = { same_counts };
 
     fn id(&self) -> u64 {
@@ -58,6 +60,8 @@ impl Told for (ResourceId, u64, u64) {
         let id = self.0;
         id == self.0 && ready == self.1 && pending == self.2
     }
+
+    fn see_same(&self) {}
 
     fn stats(&self) -> (ResourceId, u64, u64) {
         *self

@@ -27,5 +27,7 @@ pub trait Item: Drop + Clone + Ranged {
 
     ghost own_row: { (item : Self) → with_row item (row_of item) ≡ item };
 
+    ghost last_row: { (item : Self) (first last : Self.Row) → with_row (with_row item first) last ≡ with_row item last };
+
     ghost copies: { (a b : Self) → Self.is_clone a b → b ≡ a };
 }

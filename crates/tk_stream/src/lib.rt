@@ -6,8 +6,8 @@
 //! - [`LineError`]: why a line was not made, read or written.
 //! - [`send`]: writes a text whole, or a proper front of it ([`Unsent`]).
 //! - [`laws`]: what holds of the definitions by themselves.
-//! - [`ToldTables`], [`ToldRows`], [`Table`], [`Item`], [`Ranged`]: what an aggregator keeps beside its tables, so that it makes
-//!   each line without a copy of them.
+//! - [`ToldTables`], [`ToldRows`], [`Table`], [`Item`], [`Told`], [`Ranged`]: what an aggregator keeps beside its tables, so
+//!   that it makes each line without a copy of them.
 #![tactic(auto)]
 
 mod between;
@@ -51,5 +51,6 @@ pub use sent::{Unsent, send};
 pub use table::Table;
 pub use tables::Tables;
 pub use task::Task;
+pub use told::Told;
 pub use told_rows::ToldRows;
 pub use told_tables::ToldTables;

@@ -47,6 +47,8 @@ impl Item for Task {
 
     ghost own_row = { λ item. refl };
 
+    ghost last_row = { λ item first last. refl };
+
     ghost copies = { λ a b e. sym e };
 
     fn id(&self) -> u64 {
@@ -90,6 +92,8 @@ impl Told for Task {
     fn has_row(&self, row: &TaskRow) -> bool {
         same_row(row, &self.row)
     }
+
+    fn see_same(&self) {}
 
     fn stats(&self) -> (TaskId, TaskRow) {
         (self.info.id, self.row)

@@ -1,11 +1,11 @@
 //! What lines tell of the items of tables.
-ghost use Rattle.std.specs.Prelude.{◌≡◌, Bool, IfOk};
+ghost use Rattle.std.specs.Prelude.{◌≡◌, Bool, true, IfOk};
 
 use crate::item::Item;
 use std::alloc::AllocError;
 
 /// An item of which a line tells what changes.
-pub(crate) trait Told: Item {
+pub trait Told: Item {
     /// What a line tells where the item is new or changed.
     type Stats: Copy;
 
@@ -16,9 +16,14 @@ pub(crate) trait Told: Item {
     fn is_same(&self, other: &Self) -> bool
         ensures { result ≡ same self.now other.now };
 
-    /// The same, beside a row that was told of it.
+    /// The same, beside itself with this row: that is its own then.
     fn has_row(&self, row: &Self::Row) -> bool
-        ensures { result ≡ same (Self.Item.with_row self.now row.now) self.now };
+        ensures same { result ≡ same (Self.Item.with_row self.now row.now) self.now }
+        ensures own { result ≡ true → Self.Item.with_row self.now row.now ≡ self.now };
+
+    /// It is the same as itself. This does nothing.
+    fn see_same(&self)
+        ensures { same self.now self.now ≡ true };
 
     fn stats(&self) -> Self::Stats
         ensures { result ≡ stats_of self.now };

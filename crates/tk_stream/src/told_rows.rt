@@ -1,17 +1,20 @@
-//! The rows that the last whole line told of.
-ghost use Rattle.std.specs.Prelude.{◌≡◌, ◌≤◌, ◌<◌, ◌+◌, [], length, map, slice_get, take, option_map, OnOk, OnErr};
-ghost use Rattle.tk_stream.specs.Fronts.{Telling, no_telling};
+//! What the last whole line told of the rows of a table.
+ghost use Rattle.std.specs.Prelude.{◌≡◌, ◌≤◌, ◌<◌, ◌+◌, [], length, map, None, slice_get, take, OnOk, OnErr};
+ghost use Rattle.tk_stream.specs.Fronts.{Telling, no_telling, told_item, is_told_beside, with_rows};
+ghost use Rattle.tk_stream.specs.Tables.{changed_at};
 
 use crate::item::Item;
 use crate::table::Table;
+use crate::told::Told;
 use std::alloc::{AllocError, Global};
 use std::marker::Model;
 
-/// The rows that the last whole line told of the first items of a table, and room for those of the next line.
+/// Of each of the first items of a table the row that the last whole line told, where it is another now, and room for that of
+/// each other item.
 #[derive(Drop)]
 pub struct ToldRows<T: Item> {
-    rows: Vec<T::Row>,
-    // How many of them were told.
+    rows: Vec<Option<T::Row>>,
+    // How many items were told of.
     count: usize,
 }
 
@@ -26,6 +29,15 @@ impl<T: Item> Model for ToldRows<T> {
     ghost invariant = { λ t. t.count ≤ length t.rows.items };
 }
 
+// Most rows did not change, and what is none already is not written.
+fn forget<R: Copy>(row: &mut Option<R>)
+    ensures { row.new ≡ None }
+{
+    if row.is_some() {
+        *row = None;
+    }
+}
+
 impl<T: Item> ToldRows<T> {
     pub fn new(alloc: Global) -> ToldRows<T>
         ensures { result ≡ no_telling }
@@ -36,7 +48,7 @@ impl<T: Item> ToldRows<T> {
         }
     }
 
-    /// How many rows were told.
+    /// How many items were told of.
     pub fn count(&self) -> usize
         ensures count { result ≡ length self.now.rows }
         ensures within { result ≤ self.now.room }
@@ -44,26 +56,15 @@ impl<T: Item> ToldRows<T> {
         self.count
     }
 
-    /// The row that was told of the item at a place.
-    pub fn at(&self, i: usize) -> Option<&T::Row>
-        ensures { option_map (λ row. row.now) result ≡ slice_get self.now.rows i }
-    {
-        if i < self.count {
-            self.rows.get(i)
-        } else {
-            None
-        }
-    }
-
-    /// Makes room for one more row than there are items, where there is none yet. The row fills it for the time being.
-    pub fn make_room(&mut self, items: usize, filler: T::Row) -> Result<(), AllocError>
+    /// Makes room for one more than there are items, where there is none yet.
+    pub fn make_room(&mut self, items: usize) -> Result<(), AllocError>
         requires { items ≤ self.old.room }
         ensures rows { self.new.rows ≡ self.old.rows }
         ensures room { OnOk result (items < self.new.room) }
         ensures kept { self.old.room ≤ self.new.room }
     {
         if self.rows.len() == items {
-            self.rows.push(filler)?;
+            self.rows.push(None)?;
         }
         Ok(())
     }
@@ -71,12 +72,49 @@ impl<T: Item> ToldRows<T> {
     /// The rows of all items were told.
     pub fn tell(&mut self, table: &Table<T>)
         requires { length table.now ≤ self.old.room }
-        ensures { self.new ≡ record { rows = map T.row_of table.now; room = self.old.room } }
+        ensures { self.new ≡ record { rows = map (λ item. None) table.now; room = self.old.room } }
     {
         let count = table.len();
         for i in 0..count {
-            self.rows[i] = table.at(i).unwrap().row();
+            forget(&mut self.rows[i]);
         }
         self.count = count;
+    }
+}
+
+impl<T: Told> ToldRows<T> {
+    /// Whether a line tells what changes of the item at a place.
+    pub(crate) fn differs(&self, i: usize, item: &T) -> bool
+        ensures { result ≡ is_told_beside (told_item T.with_row) T.same (slice_get self.now.rows i) item.now }
+    {
+        if i >= self.count {
+            return true;
+        }
+        match &self.rows[i] {
+            Some(row) => !item.has_row(row),
+            None => {
+                item.see_same();
+                false
+            }
+        }
+    }
+
+    /// Replaces the row of the item at a place. What was told of it stays known. Where the row is the same, nothing is written.
+    pub fn set(&mut self, table: &mut Table<T>, i: usize, row: T::Row)
+        requires { i < length table.old }
+        ensures table { table.new ≡ changed_at (λ item. T.with_row item row) table.old i }
+        ensures told { with_rows (told_item T.with_row) table.new self.new.rows ≡ with_rows (told_item T.with_row) table.old self.old.rows }
+        ensures count { length self.new.rows ≡ length self.old.rows }
+        ensures room { self.new.room ≡ self.old.room }
+    {
+        let item = table.at(i).unwrap();
+        if item.has_row(&row) {
+            return;
+        }
+        let before = item.row();
+        table.set(i, row);
+        if i < self.count && self.rows[i].is_none() {
+            self.rows[i] = Some(before);
+        }
     }
 }

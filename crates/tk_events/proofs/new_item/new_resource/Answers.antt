@@ -1,4 +1,5 @@
-use Rattle.std.proofs.Common.{◌≡◌, List, ap, sym, ◌∙◌}
+use Rattle.std.proofs.Common.{◌≡◌, List, ap, sym, ◌∙◌, subst}
+use Rattle.tk_ids.specs.Attributes.{HaveKinds}
 use Rattle.tk_ids.specs.declared.attr.AttrInfo.{AttrInfo}
 use Rattle.tk_ids.specs.declared.attr.AttrValue.{AttrValue}
 use Rattle.tk_core.specs.declared.resource.call.ResourceCall.{ResourceCall}
@@ -6,7 +7,7 @@ use Rattle.tk_core.specs.declared.resource.row.ResourceRow.{ResourceRow}
 use Rattle.tk_core.specs.declared.reply.Reply.{Reply}
 use Rattle.tk_core.specs.Resource.{opening_row}
 use Rattle.tk_cell.specs.declared.view.View.{View}
-use Rattle.tk_events.specs.Items.{first_values, kinds_of, kinds_told}
+use Rattle.tk_events.specs.Items.{first_values, infos_of}
 use Rattle.tk_events.proofs.AttrLemmas.{same_kinds}
 use Rattle.tk_events.proofs.new_item.new_resource.Goals as goal
 
@@ -18,6 +19,6 @@ returns-clause-agrees g c =
       (
         row,
         ap (λ (v : View ResourceRow ResourceCall (Reply ResourceRow)). v.opening) c.in-Some-resource_ledger.ensures.inspector,
-        ap (λ (l : List AttrValue). kinds_of l) values ∙ (same_kinds c.args.spec.attrs ∙ sym (ap (λ (l : List AttrInfo). kinds_told l) c.in-Some.ensures.infos)),
+        subst (λ (l : List AttrInfo). HaveKinds l row.attrs) (sym c.in-Some.ensures.infos) (subst (λ (l : List AttrValue). HaveKinds (infos_of c.args.spec.attrs) l) (sym values) (same_kinds c.args.spec.attrs)),
       ),
     )

@@ -1,4 +1,4 @@
-use Rattle.std.proofs.Common.{◌≡◌, subst}
+use Rattle.std.proofs.Common.{◌≡◌, ◌∙◌, subst}
 use Rattle.tk_stream.specs.Polls.{counted}
 use Rattle.tk_aggregator.specs.Aggregates.{Aggregating}
 use Rattle.tk_aggregator.proofs.StandingLemmas.{whole}
@@ -8,12 +8,22 @@ use Rattle.tk_aggregator.proofs.aggregator.Aggregator.count_poll.Goals as goal
 pub invariant_of-self-2 : goal.invariant_of-self-2
 invariant_of-self-2 c =
     let a = c.self.inside in
-    poll_stands a.tables a.told a.tasks.items a.resources.items a.ops.items a.held a.last c.args.resource c.args.ready c.put_poll.new.told.counts.room c.put_poll.new.tables c.put_poll.new.told
-    c.self.invariant c.in_ok-put_poll.ensures.ok c.put_poll.ensures.told c.in_ok-put_poll.ensures.room
+    let k = c.put_poll.ensures in
+    poll_stands a.tables a.told a.tasks.items a.resources.items a.ops.items a.held a.last c.self.invariant c.put_poll.new.tables c.put_poll.new.told
+    (counted c.args.resource c.args.ready a.tables.counts) c.in_ok-put_poll.ensures.ok k.alone k.fit k.room k.told
 
 pub returns-clause-ok : goal.returns-clause-ok
 returns-clause-ok c =
     let a = c.self.inside in
+    let k = c.put_poll.ensures in
     subst (λ (old : Aggregating). whole c.put_poll.new.tables c.put_poll.new.told a.tasks.items a.resources.items a.ops.items a.held a.last a.broken ≡ record old { tables = record old.tables { counts = counted c.args.resource c.args.ready old.tables.counts } }) c.self.view_is
-    (poll_counts a.tables a.told a.tasks.items a.resources.items a.ops.items a.held a.last a.broken c.args.resource c.args.ready c.put_poll.new.told.counts.room c.put_poll.new.tables c.put_poll.new.told
-    c.self.invariant c.in_ok-put_poll.ensures.ok c.put_poll.ensures.told)
+    (poll_counts a.tables a.told a.tasks.items a.resources.items a.ops.items a.held a.last c.self.invariant c.put_poll.new.tables c.put_poll.new.told
+    (counted c.args.resource c.args.ready a.tables.counts) c.in_ok-put_poll.ensures.ok k.alone k.fit k.room k.told a.broken)
+
+-- at want of memory
+pub invariant_of-self : goal.invariant_of-self
+invariant_of-self c =
+    let a = c.self.inside in
+    let k = c.put_poll.ensures in
+    poll_stands a.tables a.told a.tasks.items a.resources.items a.ops.items a.held a.last c.self.invariant c.put_poll.new.tables c.put_poll.new.told
+    a.tables.counts c.in_err-put_poll.ensures.err k.alone k.fit k.room k.told

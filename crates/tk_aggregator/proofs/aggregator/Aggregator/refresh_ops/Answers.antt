@@ -1,6 +1,5 @@
-use Rattle.std.proofs.Common.{sym, subst}
+use Rattle.std.proofs.Common.{subst}
 use Rattle.tk_aggregator.specs.Aggregates.{ReadOp, ReadsOps}
-use Rattle.tk_aggregator.specs.Standing.{IsStanding}
 use Rattle.tk_aggregator.proofs.StandingLemmas.{whole}
 use Rattle.tk_aggregator.proofs.HandledLemmas.{pairs-count}
 use Rattle.tk_aggregator.proofs.RefreshLemmas.{ops_standing, ops_read}
@@ -12,9 +11,14 @@ read_ops-requires g c = pairs-count ReadOp _ _ c.self.invariant.ops
 pub invariant_of-self : goal.invariant_of-self
 invariant_of-self g c =
     let a = c.self.inside in
-    subst (λ shown. IsStanding shown a.told a.tasks.items a.resources.items c.read_ops.new.handles.items a.held a.last) (sym c.read_ops.ensures.2) (ops_standing a.tables a.told a.tasks.items a.resources.items a.ops.items a.held a.last c.self.invariant c.read_ops.ensures.0 c.read_ops.new.handles.items c.read_ops.ensures.1)
+    let k = c.read_ops.ensures in
+    ops_standing a.tables a.told a.tasks.items a.resources.items a.ops.items a.held a.last c.self.invariant c.read_ops.new.tables c.read_ops.new.told
+    k.reads.0 c.read_ops.new.handles.items k.reads.1 k.reads.2 k.alone k.told
 
 pub returns : goal.returns
 returns g c =
     let a = c.self.inside in
-    subst (λ old. ReadsOps old (whole c.read_ops.new.tables a.told a.tasks.items a.resources.items c.read_ops.new.handles.items a.held a.last a.broken)) c.self.view_is (ops_read a.tables a.told a.tasks.items a.resources.items a.ops.items a.held a.last c.self.invariant c.read_ops.ensures.0 c.read_ops.new.handles.items c.read_ops.ensures.1 a.broken c.read_ops.new.tables c.read_ops.ensures.2)
+    let k = c.read_ops.ensures in
+    subst (λ old. ReadsOps old (whole c.read_ops.new.tables c.read_ops.new.told a.tasks.items a.resources.items c.read_ops.new.handles.items a.held a.last a.broken)) c.self.view_is
+    (ops_read a.tables a.told a.tasks.items a.resources.items a.ops.items a.held a.last c.self.invariant c.read_ops.new.tables c.read_ops.new.told
+    k.reads.0 c.read_ops.new.handles.items k.reads.1 k.reads.2 k.alone k.told a.broken)

@@ -1,6 +1,5 @@
-use Rattle.std.proofs.Common.{sym, subst}
+use Rattle.std.proofs.Common.{subst}
 use Rattle.tk_aggregator.specs.Aggregates.{ReadResource, ReadsResources}
-use Rattle.tk_aggregator.specs.Standing.{IsStanding}
 use Rattle.tk_aggregator.proofs.StandingLemmas.{whole}
 use Rattle.tk_aggregator.proofs.HandledLemmas.{pairs-count}
 use Rattle.tk_aggregator.proofs.RefreshLemmas.{resources_standing, resources_read}
@@ -12,9 +11,14 @@ read_resources-requires g c = pairs-count ReadResource _ _ c.self.invariant.reso
 pub invariant_of-self : goal.invariant_of-self
 invariant_of-self g c =
     let a = c.self.inside in
-    subst (λ shown. IsStanding shown a.told a.tasks.items c.read_resources.new.handles.items a.ops.items a.held a.last) (sym c.read_resources.ensures.2) (resources_standing a.tables a.told a.tasks.items a.resources.items a.ops.items a.held a.last c.self.invariant c.read_resources.ensures.0 c.read_resources.new.handles.items c.read_resources.ensures.1)
+    let k = c.read_resources.ensures in
+    resources_standing a.tables a.told a.tasks.items a.resources.items a.ops.items a.held a.last c.self.invariant c.read_resources.new.tables c.read_resources.new.told
+    k.reads.0 c.read_resources.new.handles.items k.reads.1 k.reads.2 k.alone k.told
 
 pub returns : goal.returns
 returns g c =
     let a = c.self.inside in
-    subst (λ old. ReadsResources old (whole c.read_resources.new.tables a.told a.tasks.items c.read_resources.new.handles.items a.ops.items a.held a.last a.broken)) c.self.view_is (resources_read a.tables a.told a.tasks.items a.resources.items a.ops.items a.held a.last c.self.invariant c.read_resources.ensures.0 c.read_resources.new.handles.items c.read_resources.ensures.1 a.broken c.read_resources.new.tables c.read_resources.ensures.2)
+    let k = c.read_resources.ensures in
+    subst (λ old. ReadsResources old (whole c.read_resources.new.tables c.read_resources.new.told a.tasks.items c.read_resources.new.handles.items a.ops.items a.held a.last a.broken)) c.self.view_is
+    (resources_read a.tables a.told a.tasks.items a.resources.items a.ops.items a.held a.last c.self.invariant c.read_resources.new.tables c.read_resources.new.told
+    k.reads.0 c.read_resources.new.handles.items k.reads.1 k.reads.2 k.alone k.told a.broken)

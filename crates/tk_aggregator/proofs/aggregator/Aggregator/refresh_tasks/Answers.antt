@@ -1,6 +1,5 @@
-use Rattle.std.proofs.Common.{sym, subst}
+use Rattle.std.proofs.Common.{subst}
 use Rattle.tk_aggregator.specs.Aggregates.{ReadTask, ReadsTasks}
-use Rattle.tk_aggregator.specs.Standing.{IsStanding}
 use Rattle.tk_aggregator.proofs.StandingLemmas.{whole}
 use Rattle.tk_aggregator.proofs.HandledLemmas.{pairs-count}
 use Rattle.tk_aggregator.proofs.RefreshLemmas.{tasks_standing, tasks_read}
@@ -12,9 +11,14 @@ read_tasks-requires g c = pairs-count ReadTask _ _ c.self.invariant.tasks
 pub invariant_of-self : goal.invariant_of-self
 invariant_of-self g c =
     let a = c.self.inside in
-    subst (λ shown. IsStanding shown a.told c.read_tasks.new.handles.items a.resources.items a.ops.items a.held a.last) (sym c.read_tasks.ensures.2) (tasks_standing a.tables a.told a.tasks.items a.resources.items a.ops.items a.held a.last c.self.invariant c.read_tasks.ensures.0 c.read_tasks.new.handles.items c.read_tasks.ensures.1)
+    let k = c.read_tasks.ensures in
+    tasks_standing a.tables a.told a.tasks.items a.resources.items a.ops.items a.held a.last c.self.invariant c.read_tasks.new.tables c.read_tasks.new.told
+    k.reads.0 c.read_tasks.new.handles.items k.reads.1 k.reads.2 k.alone k.told
 
 pub returns : goal.returns
 returns g c =
     let a = c.self.inside in
-    subst (λ old. ReadsTasks old (whole c.read_tasks.new.tables a.told c.read_tasks.new.handles.items a.resources.items a.ops.items a.held a.last a.broken)) c.self.view_is (tasks_read a.tables a.told a.tasks.items a.resources.items a.ops.items a.held a.last c.self.invariant c.read_tasks.ensures.0 c.read_tasks.new.handles.items c.read_tasks.ensures.1 a.broken c.read_tasks.new.tables c.read_tasks.ensures.2)
+    let k = c.read_tasks.ensures in
+    subst (λ old. ReadsTasks old (whole c.read_tasks.new.tables c.read_tasks.new.told c.read_tasks.new.handles.items a.resources.items a.ops.items a.held a.last a.broken)) c.self.view_is
+    (tasks_read a.tables a.told a.tasks.items a.resources.items a.ops.items a.held a.last c.self.invariant c.read_tasks.new.tables c.read_tasks.new.told
+    k.reads.0 c.read_tasks.new.handles.items k.reads.1 k.reads.2 k.alone k.told a.broken)
