@@ -3,18 +3,26 @@
 # A run must answer want of memory by its name, with status 1 and only whole lines of the output before it, or it
 # can do without that allocation and writes the whole output. After ten of the latter in a row no allocation is left.
 #
-# Usage: tests/refused_memory.sh [--built] [FIRST [LAST]], from allocation FIRST (1) to at most LAST (400).
+# Usage: tests/refused_memory.sh [--built] [--view] [FIRST [LAST]], from allocation FIRST (1) to at most LAST (400).
 #
-# Each run is a trial without proof that is compiled anew, JOBS (2) at a time. There are 116 allocations, so it takes
+# With --view it views a stream in place of running a script: examples/semaphore.script.stdout, which has items of each
+# kind and a warning. Then want of memory comes before any output.
+#
+# Each run is a trial without proof that is compiled anew, JOBS (2) at a time. A script has 116 allocations, so it takes
 # about half an hour on two processors (14 runs took 187 s where this was written).
 # With --built it runs the program that `rt run` left in crates/taskscope/out, whose allocations a small C library
 # refuses (cc and LD_PRELOAD): all of it in a second.
 
 built=
-if [ "$1" = --built ]; then
-    built=yes
+word=run
+while :; do
+    case $1 in
+        --built) built=yes ;;
+        --view) word=view ;;
+        *) break ;;
+    esac
     shift
-fi
+done
 first=${1:-1}
 last=${2:-400}
 jobs=${JOBS:-2}
@@ -25,7 +33,11 @@ trap 'rm -rf "$work"' EXIT
 trap 'exit 2' HUP INT TERM
 began=$(date +%s)
 
-printf 'task 100 spawn main\npublish 200\npublish 300\n' > "$work/script"
+if [ "$word" = view ]; then
+    cp "$root/examples/semaphore.script.stdout" "$work/input" || exit 2
+else
+    printf 'task 100 spawn main\npublish 200\npublish 300\n' > "$work/input"
+fi
 
 if [ "$built" ]; then
     [ -x "$program" ] || { echo "the program is not built: $program" >&2; exit 2; }
@@ -62,14 +74,14 @@ fi
 # Runs the program with allocation number $1 refused, and none for 0. Leaves what it wrote, its faults and its status.
 try() {
     if [ "$built" ]; then
-        REFUSE=$1 LD_PRELOAD=$work/refuse.so "$program" run \
-            < "$work/script" > "$work/$1.out" 2> "$work/$1.err"
+        REFUSE=$1 LD_PRELOAD=$work/refuse.so "$program" "$word" \
+            < "$work/input" > "$work/$1.out" 2> "$work/$1.err"
     elif [ "$1" = 0 ]; then
-        (cd "$root/crates/taskscope" && rt try -- run) \
-            < "$work/script" > "$work/$1.out" 2> "$work/$1.err"
+        (cd "$root/crates/taskscope" && rt try -- "$word") \
+            < "$work/input" > "$work/$1.out" 2> "$work/$1.err"
     else
-        (cd "$root/crates/taskscope" && rt try --fail-alloc "$1" -- run) \
-            < "$work/script" > "$work/$1.out" 2> "$work/$1.err"
+        (cd "$root/crates/taskscope" && rt try --fail-alloc "$1" -- "$word") \
+            < "$work/input" > "$work/$1.out" 2> "$work/$1.err"
     fi
     echo $? > "$work/$1.status"
 }
@@ -80,6 +92,7 @@ is_refused() {
     grep '^fault: ' "$work/$1.err" > "$work/$1.fault"
     [ "$(wc -l < "$work/$1.fault")" -eq 1 ] || return 1
     grep -q -x -e 'fault: Memory' -e 'fault: line [0-9][0-9]*: Memory' "$work/$1.fault" || return 1
+    [ "$word" = run ] || [ ! -s "$work/$1.out" ] || return 1
     head -n "$(wc -l < "$work/$1.out")" "$work/0.out" | cmp -s - "$work/$1.out"
 }
 

@@ -1,3 +1,4 @@
 pub mod Numbers
+pub mod ParseLemmas
 pub mod WordLemmas
 pub mod WordRows

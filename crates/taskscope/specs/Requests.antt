@@ -4,7 +4,7 @@ use Rattle.std.specs.List.{list_all}
 use Rattle.std.specs.Str.{bytes_eq}
 use Rattle.std.specs.Str.Parse.{digits_value, without_leading_plus}
 use Rattle.clap.specs.Simple.{App, Shape, new_app, new_rule, new_shape, on_top, subcommand_of, with_rule, with_subcommand}
-use Rattle.clap.specs.Kinds.{Kinds, or_else}
+use Rattle.clap.specs.Kinds.{Kinds}
 use Rattle.clap.specs.Faults.{fault_of}
 use Rattle.clap.specs.ValueTests.{is_unsigned_in}
 use Rattle.clap.specs.Walk.{Row, Rule, Text, one_of}
@@ -95,10 +95,9 @@ asked words = asked_in (subcommand_of program words)
 abbrev pub texts : {Z : Type 0} → List (String Z) → List (List ℕ)
 texts = map (λ w. w.bytes.items)
 
--- the kinds of error by which a parse may refuse the words, and else a number that no lints take; there are none where
--- the words ask for something
+-- the kinds of error by which a parse may refuse the words. There are none where the words ask for something, and only there
 abbrev pub refusals : List (List ℕ) → Kinds
-refusals words = or_else (fault_of program words) (if is_some (asked words) then [] else kind.ValueValidation ∷ [])
+refusals = fault_of program
 
 -- the words ask for this: a parse takes them, and they name it
 abbrev pub AsksFor : Request → List (List ℕ) → Type 0

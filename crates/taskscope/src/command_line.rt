@@ -198,15 +198,12 @@ fn asked_in(matches: &ArgMatches) -> Option<Request>
 
 /// What the words ask for, the first of which is the program's name. Else a mistake in them, or the help that they ask for.
 pub(crate) fn request_of(alloc: Global, words: &[String]) -> Result<Request, Error>
-    // A request where nothing refuses the words, and else a kind of error that they may be refused by; or want of memory.
+    // A request where a parse takes the words, and else a kind of error by which it refuses them; or want of memory.
     ensures fails { FailsBy (refusals (texts words.now)) result }
     ensures asked { IfOk result (λ request. spec.asked (texts words.now) ≡ Some request) }
 {
     let mut command = command_line(alloc)?;
     let matches = command.try_get_matches_from_mut(words)?;
-    match asked_in(&matches) {
-        Some(request) => Ok(request),
-        // The parse has checked the numbers, and a command is required.
-        None => Err(command.error(ErrorKind::ValueValidation, "a number is out of range")?),
-    }
+    // A command is required, and the parse has checked its numbers.
+    Ok(asked_in(&matches).unwrap())
 }

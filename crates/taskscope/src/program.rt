@@ -1,7 +1,7 @@
 //! A run of the program, from its words to its status.
-ghost use Rattle.std.specs.Prelude.{◌≡◌, ◌≢◌, ◌≤◌, ◌⊎◌, true, [], codes};
+ghost use Rattle.std.specs.Prelude.{◌≡◌, ◌≢◌, ◌≤◌, ◌⊎◌, true, [], codes, IsSome};
 ghost use Rattle.clap.specs.Values.{kind_of};
-ghost use Rattle.taskscope.specs.Requests.{AsksFor, AsksForHelp, IsMistake, IsPlain, is_mistake, plain_lints, refusals, texts};
+ghost use Rattle.taskscope.specs.Requests.{AsksFor, AsksForHelp, IsMistake, IsPlain, asked, is_mistake, plain_lints, refusals, texts};
 ghost use Rattle.taskscope.specs.Program.{Does, status_at, status_of, view_status};
 
 use crate::command_line::{Request, request_of};
@@ -134,6 +134,8 @@ pub(crate) fn run_program<I: Read, O: Write, E: Write>(
     ensures run { IsPlain (codes "run") (texts words.now) → AsksFor Request.Run (texts words.now) }
     ensures view { IsPlain (codes "view") (texts words.now) → AsksFor (Request.Show View.Report plain_lints) (texts words.now) }
     ensures lint { IsPlain (codes "lint") (texts words.now) → AsksFor (Request.Show View.Lint plain_lints) (texts words.now) }
+    // All words that a parse takes ask for a run or a view.
+    ensures asks { refusals (texts words.now) ≡ [] → IsSome (asked (texts words.now)) }
     // Other words leave the input as it is.
     ensures unread { refusals (texts words.now) ≢ [] → input.new ≡ input.old }
     // A mistake writes nothing to the output. Its status is 2, or 1 where memory ran out.

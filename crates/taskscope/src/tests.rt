@@ -75,6 +75,54 @@ Options:
           Print help (see a summary with '-h')
 ";
 
+const VIEW_HELP: &str =
+    "Reads a stream from standard input and writes the report of its tables to standard output.
+
+  taskscope run < examples/first.script | taskscope view
+
+The report has a line for each task, resource and async operation, and one for each warning:
+`taskscope lint --help` says what they mean. docs/FORMATS.md explains the lines. A last line of the stream
+without its line end is ignored. After a fault nothing is written.
+
+Usage: taskscope view [OPTIONS]
+
+Options:
+      --self-wake-percent <N>
+          Warns where more of a hundred wakes are a task's own\n          \n          [default: 50]
+
+      --never-yielded-ns <N>
+          Warns where a first poll has run for so many nanoseconds\n          \n          [default: 1000000000]
+
+  -h, --help
+          Print help (see a summary with '-h')
+";
+
+const LINT_HELP: &str =
+    "Reads a stream from standard input and writes the warnings about its tasks to standard output.
+
+  taskscope run < examples/lost-waker.script | taskscope lint
+
+A task has these warnings:
+  lost-waker     nobody is left who could wake it: keep a waker of it until the wake
+  self-wakes     too many wakes are its own: let what it waits for wake it
+  never-yielded  its first poll runs too long: move work that blocks to a blocking task
+
+A last line of the stream without its line end is ignored. After a fault nothing is written. The status is 3
+where there are warnings.
+
+Usage: taskscope lint [OPTIONS]
+
+Options:
+      --self-wake-percent <N>
+          Warns where more of a hundred wakes are a task's own\n          \n          [default: 50]
+
+      --never-yielded-ns <N>
+          Warns where a first poll has run for so many nanoseconds\n          \n          [default: 1000000000]
+
+  -h, --help
+          Print help (see a summary with '-h')
+";
+
 const NO_WORD: &str = "error: 'taskscope' requires a subcommand but one was not provided
   [subcommands: run, view, lint, help]
 
@@ -176,12 +224,14 @@ const VIEWS: [Call; 6] = [
 
 // Help goes to the output. No script is read for it.
 #[rattlefmt::skip]
-const HELPS: [Call; 5] = [
+const HELPS: [Call; 7] = [
     Call { case: "--help", words: &["--help"], script: MAIN, status: 0, output: HELP, faults: "" },
     Call { case: "help", words: &["help"], script: MAIN, status: 0, output: HELP, faults: "" },
     Call { case: "-h", words: &["-h"], script: MAIN, status: 0, output: SHORT_HELP, faults: "" },
     Call { case: "run --help", words: &["run", "--help"], script: MAIN, status: 0, output: RUN_HELP, faults: "" },
     Call { case: "help run", words: &["help", "run"], script: MAIN, status: 0, output: RUN_HELP, faults: "" },
+    Call { case: "view --help", words: &["view", "--help"], script: MAIN, status: 0, output: VIEW_HELP, faults: "" },
+    Call { case: "help lint", words: &["help", "lint"], script: MAIN, status: 0, output: LINT_HELP, faults: "" },
 ];
 
 // Words that ask for nothing that the program does.

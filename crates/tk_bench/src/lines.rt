@@ -156,7 +156,13 @@ pub(crate) fn changed(old: &Tables, every: usize, waker: Waker) -> Result<Tables
     }
 }
 
-fn line_between(alloc: Global, old: &Tables, new: &Tables, seq: u64) -> Result<Line, BenchError> {
+/// The line of that number between tables.
+pub(crate) fn line_between(
+    alloc: Global,
+    old: &Tables,
+    new: &Tables,
+    seq: u64,
+) -> Result<Line, BenchError> {
     if seq == 0 || seq > 1 << 63 {
         return Err(BenchError::Refused);
     }
@@ -173,8 +179,8 @@ fn ended(mut text: Vec<u8>) -> Result<Vec<u8>, BenchError> {
     }
 }
 
-// The text of a line and its end.
-fn ended_text(line: &Line) -> Result<Vec<u8>, BenchError> {
+/// The text of a line and its end.
+pub(crate) fn ended_text(line: &Line) -> Result<Vec<u8>, BenchError> {
     match line.write() {
         Ok(text) => ended(text),
         Err(_) => Err(BenchError::Memory),
@@ -193,7 +199,8 @@ fn text_between(
     }
 }
 
-fn first_text(alloc: Global, tables: &Tables) -> Result<Vec<u8>, BenchError> {
+/// The text of a first line, which tells of the tables, and its end.
+pub(crate) fn first_text(alloc: Global, tables: &Tables) -> Result<Vec<u8>, BenchError> {
     match Tables::new(alloc) {
         Ok(empty) => text_between(alloc, &empty, tables, 1),
         Err(_) => Err(BenchError::Memory),
@@ -236,7 +243,8 @@ pub(crate) struct Stream {
 }
 
 impl Stream {
-    fn new(alloc: Global) -> Result<Stream, BenchError> {
+    /// A client that has taken no line.
+    pub(crate) fn new(alloc: Global) -> Result<Stream, BenchError> {
         match Client::new(alloc, MAX_LINE) {
             Ok(client) => Ok(Stream { client, seq: 2 }),
             Err(_) => Err(BenchError::Memory),
@@ -262,7 +270,8 @@ impl Stream {
         }
     }
 
-    fn feed<R: Clock>(&mut self, rt: &R, text: &[u8]) -> Result<u64, BenchError> {
+    /// The nanoseconds in which the client takes the text.
+    pub(crate) fn feed<R: Clock>(&mut self, rt: &R, text: &[u8]) -> Result<u64, BenchError> {
         let start = Instant::now(rt)?;
         if self.client.feed(text).is_err() {
             return Err(BenchError::Refused);

@@ -13,6 +13,9 @@ mod live_report;
 mod report;
 mod rounds;
 mod scripts;
+mod text_report;
+mod texts;
+mod views;
 
 use error::BenchError;
 use std::env::Env;

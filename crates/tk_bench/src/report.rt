@@ -3,9 +3,9 @@
 use crate::error::BenchError;
 use crate::ledgers::{Call, on_a_row, on_one_task, on_own_tasks};
 use crate::lines::{LineTimes, Part, Stream, Waker, changed, tables_of};
-use crate::live_report;
 use crate::rounds::{ROUNDS, Rounds};
 use crate::scripts::{script_of, time_of};
+use crate::{live_report, text_report};
 use std::alloc::Global;
 use std::io::Write;
 use std::sync::Wait;
@@ -131,8 +131,8 @@ fn calls<R: Wait + Threads + Clock + Sync, W: Write>(
     Ok(())
 }
 
-// Megabytes in a second.
-fn rate(bytes: u64, nanos: u64) -> (u64, u64) {
+/// Megabytes in a second.
+pub(crate) fn rate(bytes: u64, nanos: u64) -> (u64, u64) {
     tenths(bytes.saturating_mul(1000), nanos)
 }
 
@@ -371,6 +371,7 @@ pub(crate) fn all<R: Wait + Threads + Clock + Sync, W: Write>(
     lines(rt, alloc, out, 10_000)?;
     lines(rt, alloc, out, 100_000)?;
     warnings(rt, alloc, out, 100_000)?;
+    text_report::all(rt, alloc, out)?;
     live_report::all(rt, alloc, out)?;
     scripts(rt, alloc, out, 49_999)
 }
@@ -388,6 +389,7 @@ pub(crate) fn small<R: Wait + Threads + Clock + Sync, W: Write>(
         }
     }
     small_line(rt, alloc, out)?;
+    text_report::small(alloc, out)?;
     live_report::small(rt, alloc, out)?;
     let script = script_of(alloc, 5)?;
     let (_, bytes) = time_of(rt, alloc, &script)?;

@@ -1,11 +1,15 @@
 //! Laws of the definitions: each is the contract of a function that does nothing.
-ghost use Rattle.std.specs.Prelude.{◌≡◌, ◌+◌, ◌++◌, ℕ, List, [], length, take};
-ghost use Rattle.tk_stream.specs.Tables.{TablesView, empty_tables};
+ghost use Rattle.std.specs.Prelude.{◌≡◌, ◌+◌, ◌++◌, ℕ, List, [], Some, length, take};
+ghost use Rattle.std.specs.List.{AllByRecursion};
+ghost use Rattle.tk_stream.specs.declared.task.Task.{Task};
+ghost use Rattle.tk_stream.specs.Tables.{AreDistinct, TablesView, empty_tables, task_with};
 ghost use Rattle.tk_client.specs.declared.fault.Fault.{Fault};
 ghost use Rattle.tk_client.specs.declared.fault.FeedError.{FeedError};
+ghost use Rattle.tk_client.specs.declared.warning.Warning.{Warning};
 ghost use Rattle.tk_client.specs.Feeding.{ClientView, Took, Stopped};
 ghost use Rattle.tk_client.specs.Meaning.{Start, empty_start, goes, stops, meaning, after};
 ghost use Rattle.tk_client.specs.Streams.{AreShort, HasNoFault};
+ghost use Rattle.tk_client.specs.Warnings.{LintsView, warnings_of};
 ghost use Rattle.tk_stream.specs.Streams.{Sending, IsUninterrupted, lines_sent, bytes_sent, tables_sent};
 
 use tk_stream::laws::{lines_lead_on, lines_read_back};
@@ -58,3 +62,9 @@ pub fn streams_are_fed()
     lines_lead_on();
     lines_read_back();
 }
+
+/// In tables in which no task stands twice, each warning finds by its id the task that it is about.
+pub fn warnings_find_their_tasks()
+    ensures { (lints : LintsView) (tables : TablesView) → AreDistinct tables
+        → AllByRecursion (λ (t : Task). AllByRecursion (λ (w : Warning). task_with w.task tables.tasks ≡ Some t) (warnings_of lints tables.now t)) tables.tasks }
+{}

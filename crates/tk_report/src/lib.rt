@@ -2,10 +2,12 @@
 //!
 //! - [`report`]: what tables show, and the warnings about their tasks, as text.
 //! - [`view_stream`], [`View`]: reads a stream to its end, and writes the report of its tables, or its warning lines alone.
+//! - [`laws`]: what warning lines tell of.
 //! - [`AppFault`]: what a run of the program stops at.
 #![tactic(auto)]
 
 mod fault;
+pub mod laws;
 mod lines;
 mod reporting;
 mod view;

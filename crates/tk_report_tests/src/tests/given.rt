@@ -15,6 +15,16 @@ task 1.1 spawn idle polls 1 wakes 0 self 0 clones 0 drops 0 busy 20 sched 50 nam
 warn 1.1 lost-waker
 ";
 
+// A task that woke itself twice and has no waker left, and one in its first poll since 150, at 1000000150.
+pub(super) const ODD: &[u8] =
+    b"{\"dropped\":[0,0,0],\"new_ops\":[],\"new_resources\":[],\"new_tasks\":[{\"id\":1099511627777,\"kind\":\"spawn\",\"loc\":[\"script\",1,1],\"name\":\"main\"},{\"id\":1099511627778,\"kind\":\"spawn\",\"loc\":[\"script\",2,1],\"name\":\"resize\"}],\"now\":1000000150,\"op_stats\":[],\"poll_counts\":[],\"resource_stats\":[],\"seq\":1,\"snapshot\":false,\"task_stats\":[{\"busy\":20,\"clones\":1,\"created\":100,\"dropped\":null,\"drops\":1,\"first_poll\":150,\"handles\":2,\"id\":1099511627777,\"last_ended\":370,\"last_started\":360,\"last_wake\":310,\"polling\":false,\"polls\":2,\"sched\":100,\"scheduled\":false,\"self_wakes\":2,\"wakes\":3},{\"busy\":0,\"clones\":0,\"created\":100,\"dropped\":null,\"drops\":0,\"first_poll\":150,\"handles\":1,\"id\":1099511627778,\"last_ended\":null,\"last_started\":150,\"last_wake\":null,\"polling\":true,\"polls\":1,\"sched\":50,\"scheduled\":false,\"self_wakes\":0,\"wakes\":0}],\"v\":1}\n";
+
+// Its warnings: each kind of them.
+pub(super) const ODD_WARNINGS: &str = "warn 1.1 self-wakes 2 of 3
+warn 1.1 lost-waker
+warn 1.2 never-yielded 1000000000
+";
+
 // A task, a resource with two attributes and a poll operation, and an operation: the stream of a script that publishes at 50.
 pub(super) const SEMAPHORE: &[u8] =
     b"{\"dropped\":[0,0,0],\"new_ops\":[{\"attrs\":[],\"id\":1099511627777,\"parent\":null,\"resource\":1099511627777,\"source\":\"Semaphore::acquire\"}],\"new_resources\":[{\"attrs\":[[\"permits\",null,\"u64\"],[\"closed\",null,\"bool\"]],\"id\":1099511627777,\"kind\":\"Sync\",\"loc\":[\"script\",2,1],\"parent\":null,\"type\":\"Semaphore\"}],\"new_tasks\":[{\"id\":1099511627777,\"kind\":\"spawn\",\"loc\":[\"script\",1,1],\"name\":\"worker\"}],\"now\":50,\"op_stats\":[{\"attrs\":[],\"busy\":5,\"created\":30,\"dropped\":null,\"first_poll\":40,\"handles\":1,\"id\":1099511627777,\"last_ended\":45,\"last_started\":40,\"polling\":false,\"polls\":1,\"task\":1099511627777}],\"poll_counts\":[[1099511627777,1,0]],\"resource_stats\":[{\"attrs\":[3,false],\"created\":20,\"dropped\":null,\"handles\":2,\"id\":1099511627777}],\"seq\":1,\"snapshot\":false,\"task_stats\":[{\"busy\":0,\"clones\":0,\"created\":10,\"dropped\":null,\"drops\":0,\"first_poll\":null,\"handles\":1,\"id\":1099511627777,\"last_ended\":null,\"last_started\":null,\"last_wake\":null,\"polling\":false,\"polls\":0,\"sched\":0,\"scheduled\":true,\"self_wakes\":0,\"wakes\":0}],\"v\":1}\n";

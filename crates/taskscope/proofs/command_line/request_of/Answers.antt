@@ -24,9 +24,9 @@ module _ (a : App) (words : List Text) (same : a ≡ program) where
   is_free = ap is_simple_and_free same ∙ is_free_program
 
   refused_as : (e : Error) → HasKind (fault_of a words) e → HasKind (refusals words) e
-  refused_as e h = refused_by_parse words e (subst (λ x. HasKind (fault_of x words) e) same h)
+  refused_as e h = subst (λ x. HasKind (fault_of x words) e) same h
 
-  taken_as : fault_of a words ≡ [] → fault_of program words ≡ []
+  taken_as : fault_of a words ≡ [] → refusals words ≡ []
   taken_as h = subst (λ x. fault_of x words ≡ []) same h
 
   -- what the matches ask for is what the words do
@@ -39,11 +39,3 @@ returns-in_err-matches-clause-fails c =
     let app_is : app_of c.in_ok-command.command ≡ program = c.in_ok-command.ensures.ok in
     let p = err_from_is_err_and c.from_residual-in_err-matches.result c.from_residual-in_err-matches.ensures.1 in
     rw (p.1, p.2) (refused_as _ words app_is c.in_err-matches.field-0.0 (c.in_err-matches.ensures.kinds (is_free _ words app_is)))
-
-pub returns-in-Some-clause-fails : goal.returns-in-Some-clause-fails
-returns-in-Some-clause-fails c =
-    let words = texts c.args.words.now in
-    let app_is : app_of c.in_ok-command.command ≡ program = c.in_ok-command.ensures.ok in
-    let none = taken_as _ words app_is (c.in_ok-matches.ensures.kinds (is_free _ words app_is)) in
-    let asks = asked_as _ words app_is (subcommand_rows_of c.in_ok-matches.matches) (λ simple. (c.in_ok-matches.ensures.ok.2 simple).1) in
-    taken words c.in-Some.request none (sym asks ∙ (sym c.asked_in.ensures ∙ c.in-Some.is))

@@ -1,0 +1,579 @@
+-- Where a parse takes words, they ask for something: whatever the parse has held of an option's number passed its parser.
+use Rattle.std.proofs.Common.{◌≡◌, ◌^◌, refl, sym, subst, ap, ap₂, ◌∙◌, ℕ, zero, suc, Bool, true, false, cond, List, [], ◌∷◌, ◌++◌, length, codes, Option, Some, None, is_some, true≢false, arith, ◌&&◌, ◌||◌, ◌==◌, inl, inr, ◌⊎◌, nat_le, nat_lt}
+use Rattle.std.specs.Prelude.{option_and_then, encode_utf8, slice_get, drop, IsSome, not}
+use Rattle.std.specs.List.{find, fold, list_any}
+use Rattle.std.specs.Option.{option_map, option_map_or}
+use Rattle.std.specs.Str.{bytes_eq, chars}
+use Rattle.std.specs.Str.Parse.{digits_value, without_leading_plus}
+use Rattle.std.proofs.lemmas.Bool.{ne_eqb}
+use Rattle.clap.specs.Faults.{bundle_fault, bundle_step_fault, check_fault, defaults_fault, entered_fault, fault_of, flag_word_fault, flags_fault, level_fault, long_fault, option_fault, other_fault, positional_fault, react_fault, repeat_fault, settle_fault, short_fault, step_fault, stray_fault, turn_fault, use_fault, values_fault, walk_fault, word_fault}
+use Rattle.clap.specs.Kinds.{Kinds, or_else, range_kinds, value_kinds}
+use Rattle.clap.specs.Lexer.{long_of, short_of}
+use Rattle.clap.specs.Simple.{App, Shape, argument_words, built, entered, filled, help_rule, names_of, rows_at, subcommand_of, with_index}
+use Rattle.clap.specs.Values.{read_as}
+use Rattle.clap.specs.ValueTests.{is_numeral, is_unsigned_in}
+use Rattle.clap.specs.Walk.{Held, Names, Outcome, Row, Rule, Step, Text, Waiting, Walk, after_flag, after_step, arg_by_id, arg_by_index, arg_by_long, arg_by_short, at_row, attached_value, bundle, bundle_met, bundle_step, done, finished, flag_met, has_row, idle, is_empty, is_pending, long_met, long_or_other, more_values, next, nothing_held, option, option_met, option_word, plain, plain_word, positional, pushed, reacted, refused, rows_after, settled, settled_rows, short_met, short_or_plain, stop_after, subcommand, subcommand_met, subcommand_or_other, takes_several, takes_values, to_positional, trailing, used, used_by_id, value, waits, walk, walk_from, walked, walked_from, with_default, with_values, without, word_met, row_text, one_of}
+use Rattle.clap.specs.declared.builder.value_parser.Reading.{Reading}
+use Rattle.clap.specs.declared.builder.value_parser.Reading.TheVariants as reading
+use Rattle.clap.specs.declared.builder.value_parser.ValueParser.TheVariants as vp
+use Rattle.clap.specs.declared.error.kind.ErrorKind.{ErrorKind}
+use Rattle.clap.specs.declared.error.kind.ErrorKind.TheVariants.{TooManyValues, ValueValidation, WrongNumberOfValues}
+use Rattle.clap.specs.declared.parser.matches.ValueSource.{ValueSource}
+use Rattle.clap.specs.declared.parser.matches.ValueSource.TheVariants.{CommandLine, DefaultValue}
+use Rattle.clap.proofs.ValueTestLemmas.{Accepts-accepts, accepts-Accepts}
+use Rattle.clap.proofs.WalkLemmas.{both}
+use Rattle.tk_client.specs.Warnings.{LintsView}
+use Rattle.tk_report.specs.declared.view.View.{View}
+use Rattle.tk_report.specs.declared.view.View.TheVariants.{Report, Lint}
+use Rattle.taskscope.specs.declared.command_line.Request.TheVariants.{Show}
+use Rattle.taskscope.specs.Requests.{asked, asked_in, lints_in, number_of, number_option, program}
+
+-- ---- lists of kinds
+
+abbrev is_none : Kinds → Bool
+is_none [] = true
+is_none (k ∷ ks) = false
+
+some_kind : (k : ErrorKind) (ks : Kinds) → k ∷ ks ≡ [] → ⊥
+some_kind k ks e = true≢false (sym (ap is_none e))
+
+first_none : (a b : Kinds) → or_else a b ≡ [] → a ≡ []
+first_none [] b e = refl
+first_none (k ∷ ks) b e = e
+
+next_none : (a b : Kinds) → or_else a b ≡ [] → b ≡ []
+next_none [] b e = e
+next_none (k ∷ ks) b e = absurd (some_kind k ks e)
+
+-- a test whose failure is an error passes
+taken_if : (b : Bool) (k : ErrorKind) → cond b [] (k ∷ []) ≡ [] → b ≡ true
+taken_if true k e = refl
+taken_if false k e = absurd (some_kind k [] e)
+
+-- ---- rows whose numbers passed
+
+-- the row of a number that passed its parser
+abbrev NumberRow : ℕ → Row → Type 0
+NumberRow most r = (r.reading ≡ reading.AsWritten) × (text : Text) × (rest : List Text) × (r.values ≡ text ∷ rest) × (is_unsigned_in 0 most text ≡ true)
+
+abbrev percent_id : Text
+percent_id = codes "self-wake-percent"
+
+abbrev limit_id : Text
+limit_id = codes "never-yielded-ns"
+
+abbrev most : ℕ
+most = 18446744073709551615
+
+abbrev IsGood : Row → Type 0
+IsGood r = (bytes_eq r.id percent_id ≡ true → NumberRow 100 r) × (bytes_eq r.id limit_id ≡ true → NumberRow most r)
+
+abbrev AreGood : List Row → Type 0
+AreGood [] = Unit {0}
+AreGood (r ∷ rs) = IsGood r × AreGood rs
+
+-- ---- rows with a use of an argument more
+
+good_append : (xs ys : List Row) → AreGood xs → AreGood ys → AreGood (xs ++ ys)
+good_append [] ys a b = b
+good_append (x ∷ xs) ys a b = (a.0, good_append xs ys a.1 b)
+
+-- a change of the row of an id, or a row more where there is none
+good_at : (id : Text) (change : Row → List Row) (missing rows : List Row) → AreGood rows → ((r : Row) → IsGood r → AreGood (change r)) → AreGood missing
+    → AreGood (at_row id change missing rows)
+good_at id change missing [] good changed new = new
+good_at id change missing (r ∷ rs) good changed new = go (good_at id change missing rs good.1 changed new) (bytes_eq r.id id)
+  where
+    go : AreGood (at_row id change missing rs) → (b : Bool) → AreGood (cond b (change r ++ rs) (r ∷ at_row id change missing rs))
+    go others true = good_append (change r) rs (changed r good.0) good.1
+    go others false = (good.0, others)
+
+more_number : (n : ℕ) (s : ValueSource) (values : List Text) (r : Row) → NumberRow n r
+    → NumberRow n (record r { values = r.values ++ values })
+more_number n s values r number = (number.0, number.1, number.2 ++ values, ap (λ vs. vs ++ values) number.3, number.4)
+
+good_more : (s : ValueSource) (values : List Text) (r : Row) → IsGood r → AreGood (more_values s values r)
+good_more s values r good = ((λ is. more_number 100 s values r (good.0 is), λ is. more_number most s values r (good.1 is)), tt)
+
+-- ---- what an option of a number asks of its uses
+
+abbrev Sound : Rule → Type 0
+Sound a = (again : Bool) (values : List Text) (rows : List Row) → AreGood rows → use_fault again a values rows ≡ [] → AreGood (used a values rows)
+
+abbrev SoundIf : Option Rule → Type 0
+SoundIf None = Unit {0}
+SoundIf (Some a) = Sound a
+
+abbrev AreSound : List Rule → Type 0
+AreSound [] = Unit {0}
+AreSound (a ∷ rest) = Sound a × AreSound rest
+
+found_sound : (p : Rule → Bool) (c : List Rule) → AreSound c → SoundIf (find p c)
+found_sound p [] sound = tt
+found_sound p (a ∷ c) sound = go (found_sound p c sound.1) (p a)
+  where
+    go : SoundIf (find p c) → (b : Bool) → SoundIf (cond b (Some a) (find p c))
+    go later true = sound.0
+    go later false = later
+
+abbrev number_rule : Text → Text → ℕ → Rule
+number_rule id default n = with_index 1 (filled (number_option id default n))
+
+-- where one value is wanted, two are too many
+two_values : (n : ℕ) → range_kinds 1 1 (suc (suc n)) ≡ WrongNumberOfValues ∷ []
+two_values n = rw (ne_eqb (suc (suc n)) 0 (λ e. omega (arith, e)), ne_eqb 1 (suc (suc n)) (λ e. omega (arith, e))) refl
+
+-- a use of it has one value, which passed
+number_use : (again : Bool) (id default : Text) (n : ℕ) (values : List Text) (rows : List Row) → use_fault again (number_rule id default n) values rows ≡ []
+    → (v : Text) × (values ≡ v ∷ []) × (is_unsigned_in 0 n v ≡ true)
+number_use again id default n [] rows none = absurd (some_kind _ _ none)
+number_use again id default n (v ∷ []) rows none =
+    let values = values_fault (number_rule id default n) (v ∷ []) in
+    let passed : values ≡ [] = next_none (repeat_fault again id rows) values none in
+    (v, refl, taken_if (is_unsigned_in 0 n v) ValueValidation (first_none (value_kinds false (vp.Unsigned 0 n) v) [] passed))
+number_use again id default n (v ∷ w ∷ vs) rows none = absurd (some_kind _ _ (sym (two_values (length vs)) ∙ first_none _ _ none))
+
+abbrev new_row : Text → ValueSource → Text → Row
+new_row id s v = record {
+  id = id;
+  values = v ∷ [];
+  count = None;
+  source = Some s;
+  reading = reading.AsWritten;
+}
+
+sound_number : (id default : Text) (n : ℕ) → ((v : Text) → is_unsigned_in 0 n v ≡ true → IsGood (new_row id CommandLine v)) → Sound (number_rule id default n)
+sound_number id default n new again values rows good none =
+    let one = number_use again id default n values rows none in
+    rw one.1 (good_at id (more_values CommandLine (one.0 ∷ [])) (new_row id CommandLine one.0 ∷ []) (without id rows)
+    (good_at id (λ _. []) [] rows good (λ r g. tt) tt) (good_more CommandLine (one.0 ∷ [])) (new one.0 one.2, tt))
+
+new_percent : (s : ValueSource) (v : Text) → is_unsigned_in 0 100 v ≡ true → IsGood (new_row percent_id s v)
+new_percent s v passed = (λ is. (refl, v, [], refl, passed), λ is. absurd (true≢false (sym is)))
+
+new_limit : (s : ValueSource) (v : Text) → is_unsigned_in 0 most v ≡ true → IsGood (new_row limit_id s v)
+new_limit s v passed = (λ is. absurd (true≢false (sym is)), λ is. (refl, v, [], refl, passed))
+
+-- a use of the help flag ends the parse
+sound_help : Sound (with_index 1 (filled help_rule))
+sound_help again values rows good none = absurd (some_kind _ _ (next_none _ _ none))
+
+abbrev rules : List Rule
+rules = number_rule percent_id (codes "50") 100 ∷ number_rule limit_id (codes "1000000000") most ∷ with_index 1 (filled help_rule) ∷ []
+
+sound_rules : AreSound rules
+sound_rules = (
+  sound_number percent_id (codes "50") 100 (new_percent CommandLine),
+  (sound_number limit_id (codes "1000000000") most (new_limit CommandLine), (sound_help, tt)),
+)
+
+-- ---- the walk keeps rows good
+
+module _ (c : List Rule) (again : Bool) (sound : AreSound c) where
+  by_id : (o : Option Rule) → SoundIf o → (values : List Text) (rows : List Row) → AreGood rows
+      → option_map_or (λ a. use_fault again a values rows) o [] ≡ [] → AreGood (used_by_id o values rows)
+  by_id None sounds values rows good none = good
+  by_id (Some a) sounds values rows good none = sounds again values rows good none
+
+  settled_good : (h : Held) → AreGood h.rows → settle_fault c again h ≡ [] → AreGood (settled c h).rows
+  settled_good h good none = go h.pending none
+    where
+      go : (p : Option (Text × List Text)) → option_map_or (λ q. option_map_or (λ a. use_fault again a q.1 h.rows) (arg_by_id c q.0) []) p [] ≡ []
+          → AreGood (settled_rows c p h.rows)
+      go None e = good
+      go (Some q) e = by_id (arg_by_id c q.0) (found_sound (λ a. bytes_eq a.id q.0) c sound) q.1 h.rows good e
+
+  reacted_good : (a : Rule) → Sound a → (values : List Text) (h : Held) → AreGood h.rows → react_fault c again a values h ≡ [] → AreGood (reacted c a values h).rows
+  reacted_good a sounds values h good none =
+      sounds again values (settled c h).rows (settled_good h good (first_none _ _ none)) (next_none (settle_fault c again h) _ none)
+
+  option_good : (a : Rule) → Sound a → (v : Option Text) (h : Held) → AreGood h.rows → option_fault c again a v h ≡ [] → AreGood (option_met c a v h).0.rows
+  option_good a sounds (Some v) h good none = reacted_good a sounds (v ∷ []) h good none
+  option_good a sounds None h good none = settled_good h good none
+
+  flag_good : (a : Rule) → Sound a → (v : Option Text) (h : Held) → AreGood h.rows
+      → cond (is_some v) (TooManyValues ∷ []) (react_fault c again a [] h) ≡ [] → AreGood (flag_met c a v h).0.rows
+  flag_good a sounds (Some v) h good none = good
+  flag_good a sounds None h good none = reacted_good a sounds [] h good none
+
+  long_good : (o : Option Rule) → SoundIf o → (v : Option Text) (h : Held) → AreGood h.rows → long_fault c again o v h ≡ [] → AreGood (long_met c o v h).0.rows
+  long_good None sounds v h good none = good
+  long_good (Some a) sounds v h good none = go (takes_values a) none
+    where
+      go : (b : Bool) → cond b (option_fault c again a v h) (cond (is_some v) (TooManyValues ∷ []) (react_fault c again a [] h)) ≡ []
+          → AreGood (cond b (option_met c a v h) (flag_met c a v h)).0.rows
+      go true e = option_good a sounds v h good e
+      go false e = flag_good a sounds v h good e
+
+  plain_good : (waiting : Waiting) (word : Text) (h : Held) → AreGood h.rows → AreGood (plain_word c waiting word h).0.rows
+  plain_good idle word h good = good
+  plain_good positional word h good = good
+  plain_good (option id) word h good = go (arg_by_id c id)
+    where
+      go : (o : Option Rule) → AreGood (option_word o id word h).0.rows
+      go None = good
+      go (Some a) = good
+
+  after_flag_good : (waiting : Waiting) (word : Text) (h : Held) (outcome : Outcome) → AreGood h.rows → AreGood (after_flag c waiting word h outcome).0.rows
+  after_flag_good waiting word h done good = good
+  after_flag_good waiting word h (waits id) good = good
+  after_flag_good waiting word h plain good = plain_good waiting word h good
+  after_flag_good waiting word h refused good = plain_good waiting word h good
+
+  short_good : (o : Option Rule) → SoundIf o → (rest : Text) (h : Held) (fails : Held → Kinds) (goes : Held → Held × Outcome) → AreGood h.rows
+      → ((k : Held) → AreGood k.rows → fails k ≡ [] → AreGood (goes k).0.rows)
+      → short_fault c again o rest h fails ≡ [] → AreGood (short_met c o rest h goes).0.rows
+  short_good None sounds rest h fails goes good later none = good
+  short_good (Some a) sounds rest h fails goes good later none = go (takes_values a) none
+    where
+      go : (b : Bool) → cond b (option_fault c again a (attached_value rest) h) (or_else (react_fault c again a [] h) (fails (reacted c a [] h))) ≡ []
+          → AreGood (cond b (option_met c a (attached_value rest) h) (goes (reacted c a [] h))).0.rows
+      go true e = option_good a sounds (attached_value rest) h good e
+      go false e = later (reacted c a [] h) (reacted_good a sounds [] h good (first_none _ _ e)) (next_none (react_fault c again a [] h) _ e)
+
+  bundle_good : (k : ℕ) (flags : Text) (skip : ℕ) (so_far : Outcome) (h : Held) → AreGood h.rows → flags_fault c again k flags skip h ≡ []
+      → AreGood (bundle_met c k flags skip so_far h).0.rows
+  unfolding bundle_met flags_fault
+  bundle_good zero flags skip so_far h good none = good
+  bundle_good (suc k) flags skip so_far h good none = go (bundle_good k) (slice_get (chars flags) 0) skip none
+    where
+      go : ((flags : Text) (skip : ℕ) (so_far : Outcome) (h : Held) → AreGood h.rows → flags_fault c again k flags skip h ≡ [] → AreGood (bundle_met c k flags skip so_far h).0.rows)
+          → (x : Option ℕ) (n : ℕ) → bundle_step_fault c again x flags n h (flags_fault c again k) ≡ []
+          → AreGood (bundle_step c x flags n so_far h (bundle_met c k)).0.rows
+      go later None n e = good
+      go later (Some x) zero e = short_good (arg_by_short c x) (found_sound _ c sound) _ h _ _ good (λ m. later _ 0 done m) e
+      go later (Some x) (suc n) e = later _ n so_far h good e
+
+  word_good : (s : Option (Text × Option Text)) (waiting : Waiting) (word : Text) (h : Held) → AreGood h.rows → flag_word_fault c again s word h ≡ []
+      → AreGood (long_or_other c waiting word s h).0.rows
+  word_good (Some p) waiting word h good none =
+      let met = long_met c (arg_by_long c p.0) p.1 h in
+      after_flag_good waiting word met.0 met.1 (long_good (arg_by_long c p.0) (found_sound _ c sound) p.1 h good none)
+  word_good None waiting word h good none = go (short_of word) none
+    where
+      go : (o : Option Text) → option_map_or (λ flags. bundle_fault c again flags h) o [] ≡ [] → AreGood (short_or_plain c waiting word o h).0.rows
+      go None e = plain_good waiting word h good
+      go (Some flags) e =
+          let met = bundle c flags h in
+          after_flag_good waiting word met.0 met.1 (bundle_good (length flags) flags h.skip plain (record h { skip = 0 }) good e)
+
+-- ---- a word, and all words
+
+module _ (s : Shape) (names : Names) (sound : AreSound s.rules) where
+  word_met_good : (is_trailing : Bool) (waiting : Waiting) (position : ℕ) (word : Text) (h : Held) → AreGood h.rows
+      → word_fault s names is_trailing waiting word h ≡ [] → AreGood (word_met s.rules names is_trailing waiting position word h).0.rows
+  word_met_good true waiting position word h good none = good
+  word_met_good false waiting position word h good none = go (subcommand_met names waiting word) none
+    where
+      other : (b : Bool) → cond b [] (flag_word_fault s.rules s.args_override_self (long_of word) word h) ≡ []
+          → AreGood (cond b (h, trailing position) (long_or_other s.rules waiting word (long_of word) h)).0.rows
+      other true e = good
+      other false e = word_good s.rules s.args_override_self sound (long_of word) waiting word h good e
+      go : (o : Option Text) → other_fault s o word h ≡ [] → AreGood (subcommand_or_other s.rules o waiting position word h).0.rows
+      go (Some name) e = good
+      go None e = other (bytes_eq word (45 ∷ 45 ∷ [])) e
+
+  after_step_good : (word : Text) (w : Walk) (h : Held) (step : Step) → AreGood h.rows → step_fault s w.position h step ≡ []
+      → AreGood (after_step s.rules word w h step).held.rows
+  after_step_good word w h (next waiting) good none = good
+  after_step_good word w h (trailing position) good none = good
+  after_step_good word w h (subcommand name) good none = good
+  after_step_good word w h value good none = go (arg_by_index s.rules w.position) none
+    where
+      put : (a : Rule) (b : Bool) → cond b [] (settle_fault s.rules s.args_override_self h) ≡ [] → AreGood (pushed a.id word (cond b h (settled s.rules h))).rows
+      put a true e = good
+      put a false e = settled_good s.rules s.args_override_self sound h good e
+      go : (o : Option Rule) → option_map_or (λ a. positional_fault s.rules s.args_override_self a h) o (stray_fault s) ≡ [] → AreGood (to_positional s.rules o word w h).held.rows
+      go None e = good
+      go (Some a) e = put a (is_pending a h.pending && takes_several a) e
+
+  turn_good : (w : Walk) (word : Text) → AreGood w.held.rows → turn_fault s names w word ≡ [] → AreGood (walked s.rules names w word).held.rows
+  unfolding walked
+  turn_good w word good none = go w.stopped none
+    where
+      go : (p : Option (Text × List Text))
+          → cond (is_some p) [] (or_else (word_fault s names w.is_trailing w.waiting word w.held)
+          (step_fault s w.position (word_met s.rules names w.is_trailing w.waiting w.position word w.held).0 (word_met s.rules names w.is_trailing w.waiting w.position word w.held).1)) ≡ []
+          → AreGood (walked_from s.rules names p w word).held.rows
+      go (Some p) e = good
+      go None e =
+          let met = word_met s.rules names w.is_trailing w.waiting w.position word w.held in
+          after_step_good word w met.0 met.1 (word_met_good w.is_trailing w.waiting w.position word w.held good (first_none _ _ e))
+          (next_none (word_fault s names w.is_trailing w.waiting word w.held) _ e)
+
+  walk_good : (w : Walk) (words : List Text) → AreGood w.held.rows → walk_fault s names w words ≡ [] → AreGood (fold (walked s.rules names) w words).held.rows
+  unfolding walk_fault
+  walk_good w [] good none = good
+  walk_good w (word ∷ words) good none =
+      walk_good (walked s.rules names w word) words (turn_good w word good (first_none _ _ none)) (next_none (turn_fault s names w word) _ none)
+
+-- ---- defaults
+
+-- a change of other rows leaves the row of an id, and so does a row more
+row_stays : (id other : Text) (s : ValueSource) (values : List Text) (new rows : List Row) → has_row id rows ≡ true
+    → has_row id (at_row other (more_values s values) new rows) ≡ true
+row_stays id other s values new [] has = absurd (true≢false (sym has))
+row_stays id other s values new (r ∷ rs) has = go (row_stays id other s values new rs) (bytes_eq r.id other)
+  where
+    later : (a b c : Bool) → (b ≡ true → c ≡ true) → (a || b) ≡ true → (a || c) ≡ true
+    later true b c f e = refl
+    later false b c f e = f e
+    go : (has_row id rs ≡ true → has_row id (at_row other (more_values s values) new rs) ≡ true) → (b : Bool)
+        → has_row id (cond b (more_values s values r ++ rs) (r ∷ at_row other (more_values s values) new rs)) ≡ true
+    go rest true = has
+    go rest false = later (bytes_eq r.id id) (has_row id rs) (has_row id (at_row other (more_values s values) new rs)) rest has
+
+-- the row of an id is there once it was put there
+row_put : (id : Text) (s : ValueSource) (values : List Text) (new : Row) (rows : List Row) → bytes_eq new.id id ≡ true
+    → has_row id (at_row id (more_values s values) (new ∷ []) rows) ≡ true
+row_put id s values new [] same = rw same refl
+row_put id s values new (r ∷ rs) same = go (row_put id s values new rs same) (bytes_eq r.id id) refl
+  where
+    put : (a b : Bool) → b ≡ true → (a || b) ≡ true
+    put true b e = refl
+    put false b e = e
+    go : has_row id (at_row id (more_values s values) (new ∷ []) rs) ≡ true → (b : Bool) → bytes_eq r.id id ≡ b
+        → has_row id (cond b (more_values s values r ++ rs) (r ∷ at_row id (more_values s values) (new ∷ []) rs)) ≡ true
+    go rest true is = rw is refl
+    go rest false is = put (bytes_eq r.id id) _ rest
+
+-- a default is a row more where the option was not used
+module _ (id default : Text) (n : ℕ) where
+  default_good : (rows : List Row) → AreGood rows → IsGood (new_row id DefaultValue default) → AreGood (with_default rows (number_rule id default n))
+  default_good rows good new = go (has_row id rows)
+    where
+      go : (b : Bool) → AreGood (cond b rows (at_row id (more_values DefaultValue (default ∷ [])) (new_row id DefaultValue default ∷ []) rows))
+      go true = good
+      go false = good_at id (more_values DefaultValue (default ∷ [])) (new_row id DefaultValue default ∷ []) rows good (good_more DefaultValue (default ∷ [])) (new, tt)
+
+  default_there : (rows : List Row) → bytes_eq id id ≡ true → has_row id (with_default rows (number_rule id default n)) ≡ true
+  default_there rows same = go (has_row id rows) refl
+    where
+      go : (b : Bool) → has_row id rows ≡ b
+          → has_row id (cond b rows (at_row id (more_values DefaultValue (default ∷ [])) (new_row id DefaultValue default ∷ []) rows)) ≡ true
+      go true has = has
+      go false has = row_put id DefaultValue (default ∷ []) (new_row id DefaultValue default) rows same
+
+  default_keeps : (other : Text) (rows : List Row) → has_row other rows ≡ true → has_row other (with_default rows (number_rule id default n)) ≡ true
+  default_keeps other rows has = go (has_row id rows)
+    where
+      go : (b : Bool) → has_row other (cond b rows (at_row id (more_values DefaultValue (default ∷ [])) (new_row id DefaultValue default ∷ []) rows)) ≡ true
+      go true = has
+      go false = row_stays other id DefaultValue (default ∷ []) (new_row id DefaultValue default ∷ []) rows has
+
+-- an argument without a default adds no row
+no_default : (rows : List Row) → with_default rows (with_index 1 (filled help_rule)) ≡ rows
+no_default rows = go (has_row (codes "help") rows)
+  where
+    go : (b : Bool) → cond b rows rows ≡ rows
+    go true = refl
+    go false = refl
+
+-- good rows, with one of each number
+HaveNumbers : List Row → Type 0
+HaveNumbers rows = AreGood rows × (has_row percent_id rows ≡ true) × (has_row limit_id rows ≡ true)
+
+with_defaults : (rows : List Row) → AreGood rows → HaveNumbers (fold with_default rows rules)
+unfolding HaveNumbers
+with_defaults rows good =
+    let percents = with_default rows (number_rule percent_id (codes "50") 100) in
+    let limits = with_default percents (number_rule limit_id (codes "1000000000") most) in
+    let first : AreGood percents = default_good percent_id (codes "50") 100 rows good (new_percent DefaultValue (codes "50") refl) in
+    let second : AreGood limits = default_good limit_id (codes "1000000000") most percents first (new_limit DefaultValue (codes "1000000000") refl) in
+    rw (no_default limits) (
+      second,
+      default_keeps limit_id (codes "1000000000") most percent_id percents (default_there percent_id (codes "50") 100 rows refl),
+      default_there limit_id (codes "1000000000") most percents refl,
+    )
+
+-- ---- numbers that passed are read
+
+text_of_row : (n : ℕ) (r : Row) → NumberRow n r → (text : Text) × (row_text r ≡ Some text) × (is_unsigned_in 0 n text ≡ true)
+text_of_row n r row = (row.1, ap₂ (λ (how : Reading) (vs : List Text). option_map (read_as how) (slice_get vs 0)) row.0 row.3, row.4)
+
+row_found : (id : Text) (n : ℕ) (rows : List Row) → AreGood rows → ((r : Row) → IsGood r → bytes_eq r.id id ≡ true → NumberRow n r) → has_row id rows ≡ true
+    → (text : Text) × (one_of id rows ≡ Some text) × (is_unsigned_in 0 n text ≡ true)
+row_found id n [] good number has = absurd (true≢false (sym has))
+row_found id n (r ∷ rs) good number has = go (row_found id n rs good.1 number) (bytes_eq r.id id) refl has
+  where
+    go : (has_row id rs ≡ true → (text : Text) × (one_of id rs ≡ Some text) × (is_unsigned_in 0 n text ≡ true)) → (b : Bool) → bytes_eq r.id id ≡ b
+        → (b || has_row id rs) ≡ true
+        → (text : Text) × (option_and_then row_text (cond b (Some r) (find (λ x. bytes_eq x.id id) rs)) ≡ Some text) × (is_unsigned_in 0 n text ≡ true)
+    go rest true is e = text_of_row n r (number r good.0 is)
+    go rest false is e = rest e
+
+-- a number up to n that is below 2^64, as an option reads it
+number_passed : (n : ℕ) (text : Text) → nat_le n most ≡ true → is_unsigned_in 0 n text ≡ true
+    → (number_of text ≡ Some (digits_value 10 (without_leading_plus text))) × (nat_le (digits_value 10 (without_leading_plus text)) n ≡ true)
+number_passed n text small passed =
+    let within = accepts-Accepts false (vp.Unsigned 0 n) text passed in
+    let wide : is_unsigned_in 0 most text ≡ true = Accepts-accepts false (vp.Unsigned 0 most) text (within.0, within.1, within.2, omega (arith, within.1)) in
+    let value = digits_value 10 (without_leading_plus text) in
+    let in_range = (both (nat_lt value (2 ^ 64)) _ (both (is_numeral (without_leading_plus text)) _ passed).1).1 in
+    (rw wide refl, (both (nat_le 0 value) _ in_range).1)
+
+lints_there : (rows : List Row) → HaveNumbers rows → IsSome (lints_in rows)
+unfolding HaveNumbers
+lints_there rows numbers =
+    let percent = row_found percent_id 100 rows numbers.0 (λ r g. g.0) numbers.1 in
+    let limit = row_found limit_id most rows numbers.0 (λ r g. g.1) numbers.2 in
+    let percent_is = number_passed 100 percent.0 refl percent.2 in
+    let limit_is = number_passed most limit.0 refl limit.2 in
+    rw (percent.1, limit.1, percent_is.0, limit_is.0, percent_is.1) refl
+
+-- ---- the command that the words name
+
+view_asks : (view : View) (lints : Option LintsView) → IsSome lints → IsSome (option_and_then (λ l. Some (Show view l)) lints)
+view_asks view None some = absurd (true≢false (sym some))
+view_asks view (Some l) some = refl
+
+abbrev there : App
+there = built program
+
+-- one of the commands that take a stream's numbers, or a run
+abbrev IsCommand : Text → Type 0
+IsCommand name = (name ≡ codes "run") ⊎ ((name ≡ codes "view") ⊎ (name ≡ codes "lint"))
+
+abbrev MeetsCommand : Option Text → Type 0
+MeetsCommand None = Unit {0}
+MeetsCommand (Some name) = IsCommand name
+
+abbrev StopsAtCommand : Option (Text × List Text) → Type 0
+StopsAtCommand None = Unit {0}
+StopsAtCommand (Some p) = IsCommand p.0
+
+abbrev EntersCommand : Step → Type 0
+EntersCommand (next waiting) = Unit {0}
+EntersCommand (trailing position) = Unit {0}
+EntersCommand (subcommand name) = IsCommand name
+EntersCommand value = Unit {0}
+
+abbrev met : Bool → Bool → Bool → Bool → Option (Text × List Text)
+met a b c d = cond a (Some (codes "run", [])) (cond b (Some (codes "view", [])) (cond c (Some (codes "lint", [])) (cond d (Some (codes "help", [])) None)))
+
+-- `help` is answered, so that no parse enters it
+meets_command : (waiting : Waiting) (word : Text) (h : Held) → other_fault there.top (subcommand_met (names_of there) waiting word) word h ≡ []
+    → MeetsCommand (subcommand_met (names_of there) waiting word)
+meets_command (option id) word h none = tt
+meets_command positional word h none = tt
+meets_command idle word h none = go (bytes_eq (codes "run") word || false) (bytes_eq (codes "view") word || false) (bytes_eq (codes "lint") word || false) (bytes_eq (codes "help") word || false) none
+  where
+    go : (a b c d : Bool) → other_fault there.top (option_map (λ s. s.0) (met a b c d)) word h ≡ [] → MeetsCommand (option_map (λ s. s.0) (met a b c d))
+    go true b c d e = inl refl
+    go false true c d e = inr (inl refl)
+    go false false true d e = inr (inr refl)
+    go false false false true e = absurd (some_kind _ _ e)
+    go false false false false e = tt
+
+module _ (c : List Rule) where
+  plain_enters : (waiting : Waiting) (word : Text) (h : Held) → EntersCommand (plain_word c waiting word h).1
+  plain_enters idle word h = tt
+  plain_enters positional word h = tt
+  plain_enters (option id) word h = tt
+
+  after_flag_enters : (waiting : Waiting) (word : Text) (h : Held) (outcome : Outcome) → EntersCommand (after_flag c waiting word h outcome).1
+  after_flag_enters waiting word h done = tt
+  after_flag_enters waiting word h (waits id) = tt
+  after_flag_enters waiting word h plain = plain_enters waiting word h
+  after_flag_enters waiting word h refused = plain_enters waiting word h
+
+  other_enters : (s : Option (Text × Option Text)) (waiting : Waiting) (word : Text) (h : Held) → EntersCommand (long_or_other c waiting word s h).1
+  other_enters (Some p) waiting word h =
+      let met = long_met c (arg_by_long c p.0) p.1 h in
+      after_flag_enters waiting word met.0 met.1
+  other_enters None waiting word h = go (short_of word)
+    where
+      go : (o : Option Text) → EntersCommand (short_or_plain c waiting word o h).1
+      go None = plain_enters waiting word h
+      go (Some flags) =
+          let met = bundle c flags h in
+          after_flag_enters waiting word met.0 met.1
+
+word_enters : (is_trailing : Bool) (waiting : Waiting) (position : ℕ) (word : Text) (h : Held)
+    → word_fault there.top (names_of there) is_trailing waiting word h ≡ []
+    → EntersCommand (word_met there.top.rules (names_of there) is_trailing waiting position word h).1
+word_enters true waiting position word h none = tt
+word_enters false waiting position word h none = go (subcommand_met (names_of there) waiting word) (meets_command waiting word h none)
+  where
+    other : (b : Bool) → EntersCommand (cond b (h, trailing position) (long_or_other there.top.rules waiting word (long_of word) h)).1
+    other true = tt
+    other false = other_enters there.top.rules (long_of word) waiting word h
+    go : (o : Option Text) → MeetsCommand o → EntersCommand (subcommand_or_other there.top.rules o waiting position word h).1
+    go (Some name) e = e
+    go None e = other (bytes_eq word (45 ∷ 45 ∷ []))
+
+step_stops : (word : Text) (w : Walk) (h : Held) (step : Step) → StopsAtCommand w.stopped → EntersCommand step
+    → StopsAtCommand (after_step there.top.rules word w h step).stopped
+step_stops word w h (next waiting) at enters = at
+step_stops word w h (trailing position) at enters = at
+step_stops word w h (subcommand name) at enters = enters
+step_stops word w h value at enters = go (arg_by_index there.top.rules w.position)
+  where
+    go : (o : Option Rule) → StopsAtCommand (to_positional there.top.rules o word w h).stopped
+    go None = at
+    go (Some a) = tt
+
+turn_stops : (w : Walk) (word : Text) → StopsAtCommand w.stopped → turn_fault there.top (names_of there) w word ≡ []
+    → StopsAtCommand (walked there.top.rules (names_of there) w word).stopped
+unfolding walked
+turn_stops w word at none = go w.stopped at none
+  where
+    go : (p : Option (Text × List Text)) → StopsAtCommand p
+        → cond (is_some p) [] (or_else (word_fault there.top (names_of there) w.is_trailing w.waiting word w.held)
+        (step_fault there.top w.position (word_met there.top.rules (names_of there) w.is_trailing w.waiting w.position word w.held).0
+        (word_met there.top.rules (names_of there) w.is_trailing w.waiting w.position word w.held).1)) ≡ []
+        → StopsAtCommand (walked_from there.top.rules (names_of there) p w word).stopped
+    go (Some p) stops e = stops
+    go None stops e =
+        let met = word_met there.top.rules (names_of there) w.is_trailing w.waiting w.position word w.held in
+        step_stops word w met.0 met.1 at (word_enters w.is_trailing w.waiting w.position word w.held (first_none _ _ e))
+
+walk_stops : (w : Walk) (words : List Text) → StopsAtCommand w.stopped → walk_fault there.top (names_of there) w words ≡ []
+    → StopsAtCommand (fold (walked there.top.rules (names_of there)) w words).stopped
+unfolding walk_fault
+walk_stops w [] at none = at
+walk_stops w (word ∷ words) at none =
+    walk_stops (walked there.top.rules (names_of there) w word) words (turn_stops w word at (first_none _ _ none))
+    (next_none (turn_fault there.top (names_of there) w word) _ none)
+
+-- a command whose own words are taken has both numbers
+numbers_there : (s : Shape) (words : List Text) → s.rules ≡ rules → level_fault s [] nothing_held words false [] ≡ []
+    → HaveNumbers (rows_after s.rules [] words)
+numbers_there s words is none =
+    let sound : AreSound s.rules = subst AreSound (sym is) sound_rules in
+    let end = (walk s.rules [] nothing_held words).held in
+    let walks = walk_good s [] sound (walk_from nothing_held) words tt (first_none _ _ none) in
+    let after = next_none (walk_fault s [] (walk_from nothing_held) words) _ none in
+    let held = settled_good s.rules s.args_override_self sound end walks (first_none _ _ after) in
+    subst (λ c. HaveNumbers (fold with_default (settled s.rules end).rows c)) (sym is) (with_defaults (settled s.rules end).rows held)
+
+abbrev TakenAsks : Text → List Text → Type 0
+TakenAsks name words = entered_fault there (Some (name, words)) ≡ [] → IsSome (asked_in (entered there (Some (name, words))))
+
+run_asks : (words : List Text) → TakenAsks (codes "run") words
+run_asks words none = refl
+
+show_asks : (words : List Text) → TakenAsks (codes "view") words
+show_asks words none = view_asks Report _ (lints_there _ (numbers_there _ words refl none))
+
+lint_asks : (words : List Text) → TakenAsks (codes "lint") words
+lint_asks words none = view_asks Lint _ (lints_there _ (numbers_there _ words refl none))
+
+stop_asks : (stop : Option (Text × List Text)) (rows : List Row) → StopsAtCommand stop → entered_fault there stop ≡ []
+    → check_fault there.top rows (is_some (entered there stop)) ≡ [] → IsSome (asked_in (entered there stop))
+stop_asks None rows at none checked = absurd (some_kind _ _ checked)
+stop_asks (Some (name, words)) rows (inl is) none checked = subst (λ n. TakenAsks n words) (sym is) (run_asks words) none
+stop_asks (Some (name, words)) rows (inr (inl is)) none checked = subst (λ n. TakenAsks n words) (sym is) (show_asks words) none
+stop_asks (Some (name, words)) rows (inr (inr is)) none checked = subst (λ n. TakenAsks n words) (sym is) (lint_asks words) none
+
+-- words that a parse takes ask for something
+pub taken_words_ask : (words : List Text) → fault_of program words ≡ [] → IsSome (asked words)
+taken_words_ask words none =
+    let given = argument_words program words in
+    let end = walk there.top.rules (names_of there) nothing_held given in
+    let stops = walk_stops (walk_from nothing_held) given tt (first_none _ _ none) in
+    let inside = next_none (walk_fault there.top (names_of there) (walk_from nothing_held) given) _ none in
+    let settles = next_none (entered_fault there end.stopped) _ inside in
+    let defaults = next_none (settle_fault there.top.rules there.top.args_override_self end.held) _ settles in
+    let checks = next_none (defaults_fault (settled there.top.rules end.held).rows there.top.rules) _ defaults in
+    stop_asks end.stopped (finished there.top.rules end.held) stops (first_none _ _ inside) checks
