@@ -10,7 +10,7 @@ use Rattle.tk_exec.specs.Places.{value_at, values_at, AreKept}
 use Rattle.futures.specs.Poll.{IfReady, OnPending}
 use Rattle.tk_exec.specs.Seats.{Seat, Tasks, unfinished, outputs_of, output_or, LookedAt, PolledAt}
 use Rattle.tk_exec.specs.Turns.{ComesBefore, PassedOver, TurnPolls, TurnDoes}
-use Rattle.tk_exec.specs.Drives.{Driving, idle_after, EndsPolled, EndsIdle, IsOutput, Gives, GaveAll, Stalls, RanGives, DriverGives}
+use Rattle.tk_exec.specs.Drives.{Driving, idle_after, EndsPolled, EndsIdle, IsOutput, Gives, GaveAll, Stalls, RanGives, DriverGives, OneTurn}
 use Rattle.tk_exec.specs.declared.driver.Ran.{Ran}
 use Rattle.tk_exec.specs.declared.driver.Ran.TheVariants.{Finished, Stalled}
 use Rattle.tk_exec.specs.declared.executor.Turn.{Turn}
@@ -28,7 +28,7 @@ pub no_output : {A : Type 0} (before rest whole : List A) (o : Option A) → o �
 no_output {A} before rest whole o is e = ap (λ (p : Option A). before ++ cons_option p rest) (sym is) ∙ e
 
 module _ {W A : Type 0} where
-  counted : (s : Seat W A) (seats : List (Seat W A)) → unfinished (s ∷ seats) ≡ cond (not (is_some s.out)) 1 0 + unfinished seats
+  pub counted : (s : Seat W A) (seats : List (Seat W A)) → unfinished (s ∷ seats) ≡ cond (not (is_some s.out)) 1 0 + unfinished seats
   counted s seats = go (not (is_some s.out)) (filter (λ (seat : Seat W A). not (is_some seat.out)) seats)
     where
       go : (b : Bool) (rest : List (Seat W A)) → length (cond b (s ∷ rest) rest) ≡ cond b 1 0 + length rest
@@ -242,8 +242,16 @@ module _ {W A C : Type 0} (reads : C → ℕ → C → Type 0) (gives : W → A 
   driver_gives run tasks clock idle max_idle driver ran view is gave =
       subst (λ (d : Driving W A C). DriverGives reads gives d ran) view (subst (λ (r : Option (Tasks W A)). RanGives reads gives r clock idle max_idle ran) (sym is) gave)
 
+  -- a driver made one turn
+  pub one_turn : (run : Option (Tasks W A)) (before after : Tasks W A) (answer : Turn) (clock clock' : C) (idle idle' max_idle : ℕ) (driver : Driving W A C)
+      → record { tasks = run; clock = clock; idle = idle; max_idle = max_idle } ≡ driver → run ≡ Some before → TurnDoes reads gives before answer after clock clock' → idle' ≡ idle_after idle answer
+      → OneTurn reads gives driver (record { tasks = Some after; clock = clock'; idle = idle'; max_idle = max_idle })
+  one_turn run before after answer clock clock' idle idle' max_idle driver view is turned behind =
+      subst (λ (d : Driving W A C). OneTurn reads gives d (record { tasks = Some after; clock = clock'; idle = idle'; max_idle = max_idle })) view
+      (record { before = before; after = after; answer = answer; stood = is; stands = refl; turned = turned; idle = behind; most = refl })
+
   -- what is given after a turn is given before it
   pub given_before : (old new : Tasks W A) (clock clock' : C) (idle max_idle : ℕ) (answer : Turn) → TurnDoes reads gives old answer new clock clock'
       → (ran : Ran A) → RanGives reads gives (Some new) clock' (idle_after idle answer) max_idle ran → RanGives reads gives (Some old) clock idle max_idle ran
-  given_before old new clock clock' idle max_idle answer t (Finished outputs) gave = gave_before old new clock clock' answer t outputs.items gave
+  given_before old new clock clock' idle max_idle answer t (Finished outputs) gave = gave_before old new clock clock' answer t outputs gave
   given_before old new clock clock' idle max_idle answer t (Stalled n) s = stalls_later old new clock clock' idle max_idle n answer t s

@@ -1,5 +1,5 @@
 pub mod PollLemmas
 pub mod PlaceLemmas
 pub mod TurnLemmas
-pub mod SoughtLemmas
 pub mod DriveLemmas
+pub mod OrderLemmas

@@ -67,7 +67,7 @@ module _ {W A C : Type 0} (reads : C → ℕ → C → Type 0) (gives : W → A 
   -- one output for each task, or a stall; after its answer a stall with none unfinished
   abbrev pub RanGives : Option (Tasks W A) → C → ℕ → ℕ → Ran A → Type 0
   RanGives None clock idle max_idle ran = ran ≡ Stalled 0
-  RanGives (Some tasks) clock idle max_idle (Finished outputs) = GaveAll gives tasks.seats outputs.items
+  RanGives (Some tasks) clock idle max_idle (Finished outputs) = GaveAll gives tasks.seats outputs
   RanGives (Some tasks) clock idle max_idle (Stalled n) = Stalls tasks clock idle max_idle n
 
   -- what a driver may answer

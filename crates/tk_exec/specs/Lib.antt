@@ -1,8 +1,8 @@
 -- What a caller must believe: what works give, what their polls leave in the ledgers of their tasks, and what an executor does
 pub mod Works
 pub mod Polls
-pub mod Places
 pub mod Seats
+pub mod Places
 pub mod Turns
 pub mod Drives
 pub mod Errors

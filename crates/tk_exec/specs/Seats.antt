@@ -1,5 +1,5 @@
 -- The tasks that an executor holds, and what happens to one of them.
-use Rattle.std.specs.Prelude.{◌≡◌, ◌≢◌, ℕ, Bool, true, false, List, [], ◌∷◌, length, filter, filter_map, Option, Some, None, is_some, not, ◌==◌, ◌&&◌, ◌||◌}
+use Rattle.std.specs.Prelude.{◌≡◌, ◌≢◌, ℕ, Bool, true, false, List, [], ◌∷◌, length, filter, filter_map, Option, Some, None, is_some, not}
 use Rattle.std.specs.List.{slice_get}
 use Rattle.futures.specs.declared.task.Poll.{Poll}
 use Rattle.futures.specs.declared.task.Poll.TheVariants.{Ready, Pending}
@@ -45,10 +45,6 @@ output_or (Ready x) old = Some x
 output_or Pending old = old
 
 module _ {W A : Type 0} where
-  -- the task of this id, where only finished ones are sought a finished one
-  abbrev pub is_sought : ℕ → Bool → Seat W A → Bool
-  is_sought id finished seat = (seat.task.id == id) && (is_some seat.out || not finished)
-
   -- how many tasks are not finished
   abbrev pub unfinished : List (Seat W A) → ℕ
   unfinished seats = length (filter (λ seat. not (is_some seat.out)) seats)

@@ -2,7 +2,7 @@
 use Rattle.std.specs.Prelude.{◌≡◌, ℕ, ◌+◌, ◌<◌, ◌≤◌, ◌⊎◌, Bool, true, false, List, length, Option, Some, is_some}
 use Rattle.std.specs.List.{slice_get, remove}
 use Rattle.tk_ledgers.specs.Tasks.{TaskSight}
-use Rattle.tk_exec.specs.Seats.{Seat, Tasks, is_sought, LookedAt, PolledAt, ChangesAt}
+use Rattle.tk_exec.specs.Seats.{Seat, Tasks, LookedAt, PolledAt, ChangesAt}
 use Rattle.tk_exec.specs.declared.error.ExecError.{ExecError}
 use Rattle.tk_exec.specs.declared.error.ExecError.TheVariants as errors
 use Rattle.tk_exec.specs.declared.executor.Turn.{Turn}
@@ -83,10 +83,6 @@ module _ {W A : Type 0} where
   abbrev pub RefusedFor : ExecError → List (Seat W A) → ℕ → Type 0
   RefusedFor errors.Repeated seats id = HoldsId seats id
   RefusedFor errors.Memory seats id = HoldsId seats id → ⊥
-
-  -- before a place no task of this id stands, and where only finished ones are sought no finished one
-  abbrev pub NoneSought : ℕ → Bool → ℕ → List (Seat W A) → Type 0
-  NoneSought id finished end seats = (place : ℕ) (seat : Seat W A) → place < end → slice_get seats place ≡ Some seat → is_sought id finished seat ≡ false
 
   -- no task of this id that is held is finished
   abbrev pub NoneFinished : List (Seat W A) → ℕ → Type 0

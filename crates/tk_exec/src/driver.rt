@@ -5,6 +5,7 @@ ghost use Rattle.tk_exec.specs.Drives.{idle_after};
 
 use crate::error::ExecError;
 use crate::executor::{Executor, Turn};
+use crate::outputs::Outputs;
 use crate::run::Run;
 use crate::work::{Clock, Work};
 use futures::Future;
@@ -17,10 +18,12 @@ use std::sync::Wait;
 #[derive(Drop)]
 pub enum Ran<T: Drop> {
     /// One output for each task, in order of spawn.
-    Finished(Vec<T>),
-    /// As many idle turns in a row as the driver waits for, with the number of tasks that are not finished then; or 0, where
-    /// the driver has answered before.
-    Stalled(usize),
+    Finished(Outputs<T>),
+    /// There were as many idle turns in a row as the driver waits for.
+    Stalled {
+        /// How many tasks are not finished: at least 1, or 0 where the driver has answered before.
+        unfinished: usize,
+    },
 }
 
 /// Polls the tasks of an executor until all are finished, one turn in each of its own polls, which take no memory of their
@@ -104,7 +107,7 @@ impl<R: Wait, W: Work, C: Clock + Drop> Future for Driver<'_, R, W, C> {
         ensures kept { Keeps cx.old cx.new }
     {
         let Some(mut run) = self.run.take() else {
-            return Poll::Ready(Ran::Stalled(0));
+            return Poll::Ready(Ran::Stalled { unfinished: 0 });
         };
         if run.unfinished() == 0 {
             return Poll::Ready(Ran::Finished(run.into_outputs()));
@@ -112,7 +115,9 @@ impl<R: Wait, W: Work, C: Clock + Drop> Future for Driver<'_, R, W, C> {
         let turn = run.turn(self.rt, &mut self.clock);
         let idle = idle_after(self.idle, turn);
         if idle >= self.max_idle {
-            return Poll::Ready(Ran::Stalled(run.unfinished()));
+            return Poll::Ready(Ran::Stalled {
+                unfinished: run.unfinished(),
+            });
         }
         self.idle = idle;
         self.run = Some(run);

@@ -1,14 +1,17 @@
 //! Tasks that are polled in turn.
-ghost use Rattle.std.specs.Prelude.{◌≡◌, ◌≢◌, ◌+◌, ◌<◌, ◌≤◌, ◌⊎◌, true, false, None, [], ◌∷◌, ◌++◌, length, is_some, IfOk, IfErr, OnOk, IfSome, IfNone};
+ghost use Rattle.std.specs.Prelude.{◌≡◌, ◌≢◌, ◌+◌, ◌<◌, ◌≤◌, ◌⊎◌, true, false, None, [], ◌∷◌, ◌++◌, cond, length, is_some, IfOk, IfErr, OnOk, IfSome, IfNone};
 ghost use Rattle.std.specs.List.{slice_get};
 ghost use Rattle.std.specs.Vec.{vec_len, vec_capacity};
-ghost use Rattle.tk_exec.specs.Seats.{ChangesAt, LookedAt, is_sought, unfinished, outputs_of};
-ghost use Rattle.tk_exec.specs.Turns.{TurnDoes, PollsAt, Passed, Found, HoldsId, RefusedFor, NoneSought, NoneFinished, Takes};
+ghost use Rattle.tk_exec.specs.Places.{IsOnlyAt};
+ghost use Rattle.tk_exec.specs.Seats.{ChangesAt, LookedAt, unfinished, outputs_of};
+ghost use Rattle.tk_exec.specs.Turns.{TurnDoes, PollsAt, Passed, Found, HoldsId, RefusedFor, NoneFinished, Takes};
+ghost use Rattle.tk_exec.specs.declared.error.ExecError.TheVariants.{Memory};
 
 use crate::error::ExecError;
 use crate::instrumented::Instrumented;
 use crate::slot::Slot;
 use crate::work::{Clock, Work};
+use indexmap::IndexMap;
 use slab::Slab;
 use std::alloc::Global;
 use std::marker::Model;
@@ -27,25 +30,27 @@ pub enum Turn {
 
 /// Works that are polled in turn, each one where its task is scheduled.
 ///
-/// The tasks are kept in a slab; `order` has their keys in order of spawn, and `next` is the place in it that the next
-/// turn begins at: after the task that was polled last.
+/// The tasks are kept in a slab, whose keys `order` has under the tasks' ids, in order of spawn. A task is found by its id
+/// without a look at the others, and those that are not finished are counted as they come and go.
 #[derive(Drop)]
 pub struct Executor<W: Work> {
     tasks: Slab<Slot<W>>,
-    order: Vec<usize>,
+    order: IndexMap<u64, usize>,
+    // The place that the next turn begins at: after the task that was polled last.
     next: usize,
+    unfinished: usize,
 }
 
 impl<W: Work> Model for Executor<W> {
-    ghost use Rattle.std.specs.Prelude.{◌≤◌, length};
-    ghost use Rattle.tk_exec.specs.Places.{values_at, AreKept};
+    ghost use Rattle.std.specs.Map.{values_of};
+    ghost use Rattle.tk_exec.specs.Places.{values_at, AreOrdered};
     ghost use Rattle.tk_exec.specs.Seats.{Tasks};
 
     ghost Value = { Tasks W W.Out };
 
-    ghost view = { λ e. record { seats = values_at e.tasks.slots e.order.items; next = e.next } };
+    ghost view = { λ e. record { seats = values_at e.tasks.slots (values_of e.order.entries); next = e.next } };
 
-    ghost invariant = { λ e. AreKept e.tasks.slots e.order.items × (e.next ≤ length e.order.items) };
+    ghost invariant = { λ e. AreOrdered e.tasks.slots e.order.entries e.next e.unfinished };
 }
 
 // The place that the next turn begins at, once another place is gone: that of the same task as before.
@@ -55,31 +60,34 @@ fn next_without(next: usize, place: usize) -> usize
     if place < next { next - 1 } else { next }
 }
 
+// How many tasks are not finished, once one of them was polled.
+fn unfinished_after(unfinished: usize, ready: bool) -> usize
+    requires { 1 ≤ unfinished }
+    ensures { result + cond ready 1 0 ≡ unfinished }
+{
+    if ready { unfinished - 1 } else { unfinished }
+}
+
 impl<W: Work> Executor<W> {
-    /// An executor without tasks, with room for 16.
+    /// An executor without tasks, with room for 16. Refused with `Memory`.
     pub fn new(alloc: Global) -> Result<Executor<W>, ExecError>
-        ensures { IfOk result (λ made. (made.seats ≡ []) × (made.next ≡ 0)) }
+        ensures ok { IfOk result (λ made. (made.seats ≡ []) × (made.next ≡ 0)) }
+        ensures memory { IfErr result (λ error. error ≡ Memory) }
     {
         Ok(Executor {
             tasks: Slab::with_capacity(alloc, 16)?,
-            order: Vec::with_capacity(alloc, 16)?,
+            order: IndexMap::with_capacity(alloc, 16)?,
             next: 0,
+            unfinished: 0,
         })
     }
 
-    // The first place of the task of this id, where only finished ones are sought of a finished one.
-    fn place_of(&self, id: TaskId, finished: bool) -> Option<usize>
-        ensures within { IfSome result (λ place. place < length self.now.seats) }
-        ensures found { IfSome result (λ place. IfSome (slice_get self.now.seats place) (λ seat. is_sought id finished seat ≡ true)) }
-        ensures absent { IfNone result (NoneSought id finished (length self.now.seats) self.now.seats) }
+    // The place of the task of this id.
+    fn place_of(&self, id: TaskId) -> Option<usize>
+        ensures found { IfSome result (λ place. IsOnlyAt self.now.seats id place) }
+        ensures absent { IfNone result (HoldsId self.now.seats id → ⊥) }
     {
-        for place in 0..self.order.len() {
-            let key = self.order[place];
-            if self.tasks[key].is_sought(id, finished) {
-                return Some(place);
-            }
-        }
-        None
+        self.order.get_index_of(&id.value())
     }
 
     /// Takes in a task, which stands last in the order of spawn. Refused with `Repeated` where a task of its id is held,
@@ -91,31 +99,41 @@ impl<W: Work> Executor<W> {
         ensures refused { IfErr result (λ back. RefusedFor back.0 self.old.seats task.id) }
         ensures back { IfErr result (λ back. (back.1 ≡ task) × (self.new ≡ self.old)) }
     {
-        if self.place_of(task.id(), false).is_some() {
+        let id = task.id();
+        if self.place_of(id).is_some() {
             return Err((ExecError::Repeated, task));
         }
         if self.order.reserve(1).is_err() {
             return Err((ExecError::Memory, task));
         }
+        // The length says that one more can be counted.
+        let _held = self.order.len();
         match self.tasks.insert(Slot::new(task)) {
             Ok(key) => {
-                self.order.push_reserved(key);
+                let Ok(_) = self.order.insert(id.value(), key) else {
+                    unreachable!()
+                };
+                self.unfinished += 1;
                 Ok(())
             }
             Err(refused) => Err((ExecError::Memory, refused.value.into_task())),
         }
     }
 
-    /// The output and the receipt of the task of this id, which leaves the executor, if it is finished.
+    /// The output and the receipt of the task of this id, which leaves the executor, if it is finished. No other task is
+    /// looked at; those behind it move up by one place.
     pub fn take(&mut self, id: TaskId) -> Option<(W::Out, TaskReceipt)>
         ensures some { IfSome result (λ answer. Takes self.old self.new id answer.0 answer.1) }
         ensures none { IfNone result (NoneFinished self.old.seats id × (self.new ≡ self.old)) }
     {
-        let place = self.place_of(id, true)?;
-        let key = self.order.remove(place);
-        let slot = self.tasks.remove(key);
+        let place = self.place_of(id)?;
+        let key = self.order[place];
+        if !self.tasks[key].is_finished() {
+            return None;
+        }
+        self.order.shift_remove_index(place);
         self.next = next_without(self.next, place);
-        slot.into_answer()
+        self.tasks.remove(key).into_answer()
     }
 
     // Looks at one place: its owner reads.
@@ -138,6 +156,9 @@ impl<W: Work> Executor<W> {
         let key = self.order[place];
         let id = self.tasks[key].id();
         let ready = self.tasks[key].poll(rt, clock);
+        self.unfinished = unfinished_after(self.unfinished, ready);
+        // The length says that the place behind this one is a number.
+        let _held = self.order.len();
         self.next = place + 1;
         Turn::Polled(id, ready)
     }
@@ -185,14 +206,7 @@ impl<W: Work> Executor<W> {
     pub fn unfinished(&self) -> usize
         ensures { result ≡ unfinished self.now.seats }
     {
-        let mut count = 0;
-        for place in 0..self.order.len() {
-            let key = self.order[place];
-            if !self.tasks[key].is_finished() {
-                count += 1;
-            }
-        }
-        count
+        self.unfinished
     }
 
     /// Puts the outputs of the finished tasks behind others, in order of spawn.
@@ -202,7 +216,7 @@ impl<W: Work> Executor<W> {
     {
         let mut tasks = self.tasks;
         let mut outputs = outputs;
-        for key in self.order {
+        for key in self.order.into_values() {
             if let Some(output) = tasks.remove(key).into_output() {
                 outputs.push_reserved(output);
             }

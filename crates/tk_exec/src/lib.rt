@@ -2,6 +2,8 @@
 //!
 //! - [`Work`]: a future written by hand; [`Clock`]: what tells the moments of polls.
 //! - [`Instrumented`]: a work and the owner of its task. Each poll of the work is a poll of the task.
+//! - [`Executor`]: tasks that are polled in turn, where they are scheduled; [`Turn`]: what a turn did.
+//! - [`Driver`]: a future that makes turns until all tasks are finished, or none is scheduled; [`Ran`] and [`Outputs`]: its answer.
 //! - [`YieldTimes`], [`HoldWaker`], [`LoseWaker`], [`BusyUntil`], and [`Example`]: works to show what a task may do.
 #![tactic(auto)]
 
@@ -9,6 +11,7 @@ mod driver;
 mod error;
 mod executor;
 mod instrumented;
+mod outputs;
 mod run;
 mod slot;
 mod work;
@@ -18,5 +21,6 @@ pub use driver::{Driver, Ran};
 pub use error::ExecError;
 pub use executor::{Executor, Turn};
 pub use instrumented::Instrumented;
+pub use outputs::Outputs;
 pub use work::{Clock, Work};
 pub use works::{BusyUntil, Example, HoldWaker, LoseWaker, YieldTimes};

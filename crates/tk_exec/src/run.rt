@@ -6,6 +6,7 @@ ghost use Rattle.tk_exec.specs.Turns.{TurnDoes};
 
 use crate::error::ExecError;
 use crate::executor::{Executor, Turn};
+use crate::outputs::Outputs;
 use crate::work::{Clock, Work};
 use std::alloc::Global;
 use std::marker::Model;
@@ -57,9 +58,9 @@ impl<W: Work> Run<W> {
     }
 
     /// The outputs of the finished tasks, in order of spawn.
-    pub fn into_outputs(self) -> Vec<W::Out>
-        ensures { result.items ≡ outputs_of self.seats }
+    pub fn into_outputs(self) -> Outputs<W::Out>
+        ensures { result ≡ outputs_of self.seats }
     {
-        self.executor.into_outputs(self.outputs)
+        Outputs::new(self.executor.into_outputs(self.outputs))
     }
 }

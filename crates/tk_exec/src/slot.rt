@@ -1,6 +1,6 @@
 //! Inner: a task of an executor.
 ghost use Rattle.std.specs.Prelude.{◌≡◌, true, false, Some, None, is_some, IfSome};
-ghost use Rattle.tk_exec.specs.Seats.{LookedAt, PolledAt, is_sought};
+ghost use Rattle.tk_exec.specs.Seats.{LookedAt, PolledAt};
 
 use crate::instrumented::Instrumented;
 use crate::work::{Clock, Work};
@@ -43,13 +43,6 @@ impl<W: Work> Slot<W> {
         ensures { result ≡ self.now.task.id }
     {
         self.task.id()
-    }
-
-    /// Whether it is the task of this id, and finished, where only finished ones are sought.
-    pub fn is_sought(&self, id: TaskId, finished: bool) -> bool
-        ensures { result ≡ is_sought id finished self.now }
-    {
-        self.task.id() == id && (self.out.is_some() || !finished)
     }
 
     /// Whether the task is finished.

@@ -29,7 +29,7 @@ fn spawns_two<R: Wait>(rt: &R, alloc: Global, executor: &mut Executor<YieldTimes
 fn is_three_and_one(ran: &Ran<u64>) -> bool {
     match ran {
         Ran::Finished(outputs) => outputs.as_slice() == [3, 1].as_slice(),
-        Ran::Stalled(_) => false,
+        Ran::Stalled { .. } => false,
     }
 }
 
@@ -66,7 +66,7 @@ fn spawns_three<R: Wait>(rt: &R, alloc: Global, executor: &mut Executor<Example>
 
 fn is_stalled<T: Drop>(ran: &Ran<T>, wanted: usize) -> bool {
     match ran {
-        Ran::Stalled(unfinished) => *unfinished == wanted,
+        Ran::Stalled { unfinished } => *unfinished == wanted,
         Ran::Finished(_) => false,
     }
 }
@@ -172,10 +172,10 @@ fn a_poll_makes_one_turn(rt: HostRuntime) {
     }
 }
 
-fn is_finished_empty(ran: &Ran<u64>) -> bool {
+fn is_finished_empty(ran: Ran<u64>) -> bool {
     match ran {
-        Ran::Finished(outputs) => outputs.is_empty(),
-        Ran::Stalled(_) => false,
+        Ran::Finished(outputs) => outputs.into_vec().is_empty(),
+        Ran::Stalled { .. } => false,
     }
 }
 
@@ -188,7 +188,7 @@ fn finishes_at_once<R: Wait + RandomSource + AllocGlobal>(
         return false;
     };
     match poll_once(rt, &mut driver) {
-        Some(Some(ran)) => is_finished_empty(&ran),
+        Some(Some(ran)) => is_finished_empty(ran),
         _ => false,
     }
 }

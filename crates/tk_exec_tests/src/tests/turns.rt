@@ -164,3 +164,50 @@ fn tasks_are_polled_in_turn(rt: HostRuntime) {
         Err(_) => assert!(rt; false, "no executor"),
     }
 }
+
+fn holds(executor: &Executor<YieldTimes>, tasks: usize, unfinished: usize) -> bool {
+    executor.len() == tasks && executor.unfinished() == unfinished
+}
+
+fn counts_two<R: Wait>(
+    rt: &R,
+    alloc: Global,
+    executor: &mut Executor<YieldTimes>,
+    clock: &mut Ticks,
+) -> bool {
+    holds(executor, 0, 0)
+        && spawns(rt, alloc, executor, 1, YieldTimes::new(0))
+        && spawns(rt, alloc, executor, 2, YieldTimes::new(1))
+        && holds(executor, 2, 2)
+        && polls(rt, executor, clock, 1, true)
+        && holds(executor, 2, 1)
+        && takes_polls(executor, 1, 1)
+        && holds(executor, 1, 1)
+}
+
+fn takes_in_again<R: Wait>(
+    rt: &R,
+    alloc: Global,
+    executor: &mut Executor<YieldTimes>,
+    clock: &mut Ticks,
+) -> bool {
+    spawns(rt, alloc, executor, 1, YieldTimes::new(0))
+        && holds(executor, 2, 2)
+        && polls(rt, executor, clock, 2, false)
+        && polls(rt, executor, clock, 1, true)
+        && polls(rt, executor, clock, 2, true)
+        && holds(executor, 2, 0)
+}
+
+// A task that was taken leaves its id to another one, which stands last.
+#[test]
+fn an_id_may_come_again(rt: HostRuntime) {
+    let mut clock = Ticks::new();
+    match Executor::new(rt.alloc()) {
+        Ok(mut executor) => {
+            assert!(rt; counts_two(&rt, rt.alloc(), &mut executor, &mut clock));
+            assert!(rt; takes_in_again(&rt, rt.alloc(), &mut executor, &mut clock));
+        }
+        Err(_) => assert!(rt; false, "no executor"),
+    }
+}

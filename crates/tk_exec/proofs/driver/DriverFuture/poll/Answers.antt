@@ -1,10 +1,10 @@
 use Rattle.std.proofs.Common.{◌∙◌, ◌≤◌, List, Some, sym, subst}
 use Rattle.futures.specs.declared.task.Poll.{Poll}
 use Rattle.futures.specs.Poll.{OnPending}
-use Rattle.tk_exec.specs.Drives.{GaveAll, RanGives, DriverGives}
+use Rattle.tk_exec.specs.Drives.{GaveAll, RanGives, DriverGives, OneTurn}
 use Rattle.tk_exec.specs.declared.driver.Ran.{Ran}
 use Rattle.tk_exec.specs.declared.driver.Ran.TheVariants.{Finished, Stalled}
-use Rattle.tk_exec.proofs.DriveLemmas.{all_gave, stalls, driver_gives, given_before}
+use Rattle.tk_exec.proofs.DriveLemmas.{all_gave, stalls, driver_gives, given_before, one_turn}
 use Rattle.tk_exec.proofs.driver.DriverFuture.poll.Goals as goal
 
 pub returns-then-unfinished-eq0-clause-value : goal.returns-then-unfinished-eq0-clause-value
@@ -24,3 +24,9 @@ returns-clause-same g c =
     (λ x gave. driver_gives g.C.Clock.reads g.W.Work.gives c.self.inside.run c.in-Some.run' c.self.inside.clock c.self.inside.idle c.self.inside.max_idle c.args.self.now x c.self.view_is (sym c.take.ensures.value ∙ c.in-Some.is)
     (given_before g.C.Clock.reads g.W.Work.gives c.in-Some.run' c.turn-turn.new.self c.self.inside.clock c.turn-turn.new.clock c.self.inside.idle c.self.inside.max_idle c.turn-turn.result c.turn-turn.ensures x
     (subst (λ n. RanGives g.C.Clock.reads g.W.Work.gives (Some c.turn-turn.new.self) c.turn-turn.new.clock n c.self.inside.max_idle x) c.idle_after-idle.ensures gave)))
+
+pub returns-clause-turned : goal.returns-clause-turned
+returns-clause-turned g c =
+    subst (λ (p : Poll (Ran g.row.W-Out.Denot)). OnPending p (OneTurn g.C.Clock.reads g.W.Work.gives c.args.self.now (record { tasks = Some c.turn-turn.new.self; clock = c.turn-turn.new.clock; idle = c.idle_after-idle.result; max_idle = c.self.inside.max_idle }))) (sym c.yield_now.ensures.pending)
+    (one_turn g.C.Clock.reads g.W.Work.gives c.self.inside.run c.in-Some.run' c.turn-turn.new.self c.turn-turn.result c.self.inside.clock c.turn-turn.new.clock c.self.inside.idle c.idle_after-idle.result c.self.inside.max_idle c.args.self.now
+    c.self.view_is (sym c.take.ensures.value ∙ c.in-Some.is) c.turn-turn.ensures c.idle_after-idle.ensures)

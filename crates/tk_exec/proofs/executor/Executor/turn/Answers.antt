@@ -1,20 +1,20 @@
 use Rattle.std.proofs.Common.{◌≡◌, ℕ, refl, ap, subst, ◌∙◌, arith, length}
 use Rattle.tk_exec.specs.Seats.{Tasks}
 use Rattle.tk_exec.specs.Turns.{Found, Passed}
-use Rattle.tk_exec.proofs.PlaceLemmas.{whole}
+use Rattle.tk_exec.proofs.OrderLemmas.{whole}
 use Rattle.tk_exec.proofs.TurnLemmas.{found_first, found_second, shown_owner, turn_polls, turn_idles}
 use Rattle.tk_exec.proofs.executor.Executor.turn.Goals as goal
 
 pub scheduled_between-requires-clause-within : goal.scheduled_between-requires-clause-within
 scheduled_between-requires-clause-within g c =
-    let all = whole c.self.inside.tasks.slots c.self.inside.order.items c.self.invariant.0 c.self.inside.next c.args.self.now c.self.view_is in
-    omega (arith, all, c.self.ranges, c.len-last.ensures)
+    let all = whole c.self.inside.tasks.slots c.self.inside.order.entries c.self.inside.next c.self.inside.unfinished c.self.invariant c.self.inside.next c.args.self.now c.self.view_is in
+    omega (arith, all, c.len-last.ensures.len)
 
 pub poll_at-requires-clause-within : goal.poll_at-requires-clause-within
 poll_at-requires-clause-within g c =
-    let all = whole c.self.inside.tasks.slots c.self.inside.order.items c.self.invariant.0 c.self.inside.next c.args.self.now c.self.view_is in
+    let all = whole c.self.inside.tasks.slots c.self.inside.order.entries c.self.inside.next c.self.inside.unfinished c.self.invariant c.self.inside.next c.args.self.now c.self.view_is in
     let f = c.in-Some.ensures.some in
-    omega (arith, all, c.self.ranges, c.len-last.ensures, f.to, f.change.as_long, f.passed.as_long)
+    omega (arith, all, c.len-last.ensures.len, f.to, f.change.as_long, f.passed.as_long)
 
 pub poll_at-requires-clause-going : goal.poll_at-requires-clause-going
 poll_at-requires-clause-going g c =
@@ -30,16 +30,16 @@ returns-in-Some g c =
 
 pub scheduled_between-requires-2-clause-within : goal.scheduled_between-requires-2-clause-within
 scheduled_between-requires-2-clause-within g c =
-    let all = whole c.self.inside.tasks.slots c.self.inside.order.items c.self.invariant.0 c.self.inside.next c.args.self.now c.self.view_is in
+    let all = whole c.self.inside.tasks.slots c.self.inside.order.entries c.self.inside.next c.self.inside.unfinished c.self.invariant c.self.inside.next c.args.self.now c.self.view_is in
     let p = c.in_default.ensures.none in
-    omega (arith, all, c.self.invariant.1, p.as_long)
+    omega (arith, all, c.self.invariant.within, p.as_long)
 
 pub poll_at-requires-in-Some-scheduled_between-clause-within : goal.poll_at-requires-in-Some-scheduled_between-clause-within
 poll_at-requires-in-Some-scheduled_between-clause-within g c =
-    let all = whole c.self.inside.tasks.slots c.self.inside.order.items c.self.invariant.0 c.self.inside.next c.args.self.now c.self.view_is in
+    let all = whole c.self.inside.tasks.slots c.self.inside.order.entries c.self.inside.next c.self.inside.unfinished c.self.invariant c.self.inside.next c.args.self.now c.self.view_is in
     let p = c.in_default.ensures.none in
     let f = c.in-Some-scheduled_between.ensures.some in
-    omega (arith, all, c.self.invariant.1, p.as_long, f.to, f.change.as_long, f.passed.as_long)
+    omega (arith, all, c.self.invariant.within, p.as_long, f.to, f.change.as_long, f.passed.as_long)
 
 pub poll_at-requires-in-Some-scheduled_between-clause-going : goal.poll_at-requires-in-Some-scheduled_between-clause-going
 poll_at-requires-in-Some-scheduled_between-clause-going g c =
@@ -49,9 +49,9 @@ poll_at-requires-in-Some-scheduled_between-clause-going g c =
 
 pub returns-in-Some-scheduled_between : goal.returns-in-Some-scheduled_between
 returns-in-Some-scheduled_between g c =
-    let all = whole c.self.inside.tasks.slots c.self.inside.order.items c.self.invariant.0 c.self.inside.next c.args.self.now c.self.view_is in
+    let all = whole c.self.inside.tasks.slots c.self.inside.order.entries c.self.inside.next c.self.inside.unfinished c.self.invariant c.self.inside.next c.args.self.now c.self.view_is in
     let begin : c.self.inside.next ≡ c.args.self.now.next = ap (λ (t : Tasks g.row.W.Denot g.row.W-Out.Denot). t.next) c.self.view_is in
-    let last : c.len-last.result ≡ length c.args.self.now.seats = omega (arith, all, c.self.ranges, c.len-last.ensures) in
+    let last : c.len-last.result ≡ length c.args.self.now.seats = omega (arith, all, c.len-last.ensures.len) in
     let p = subst (λ (n : ℕ). Passed n (length c.args.self.now.seats) c.args.self.now.seats c.scheduled_between.new.self.seats) begin
     (subst (λ (n : ℕ). Passed c.self.inside.next n c.args.self.now.seats c.scheduled_between.new.self.seats) last c.in_default.ensures.none) in
     let f = subst (λ (n : ℕ). Found 0 n c.in-Some-scheduled_between.place c.scheduled_between.new.self.seats c.scheduled_between-2.new.self.seats) begin c.in-Some-scheduled_between.ensures.some in
@@ -60,9 +60,9 @@ returns-in-Some-scheduled_between g c =
 
 pub returns : goal.returns
 returns g c =
-    let all = whole c.self.inside.tasks.slots c.self.inside.order.items c.self.invariant.0 c.self.inside.next c.args.self.now c.self.view_is in
+    let all = whole c.self.inside.tasks.slots c.self.inside.order.entries c.self.inside.next c.self.inside.unfinished c.self.invariant c.self.inside.next c.args.self.now c.self.view_is in
     let begin : c.self.inside.next ≡ c.args.self.now.next = ap (λ (t : Tasks g.row.W.Denot g.row.W-Out.Denot). t.next) c.self.view_is in
-    let last : c.len-last.result ≡ length c.args.self.now.seats = omega (arith, all, c.self.ranges, c.len-last.ensures) in
+    let last : c.len-last.result ≡ length c.args.self.now.seats = omega (arith, all, c.len-last.ensures.len) in
     let p = subst (λ (n : ℕ). Passed n (length c.args.self.now.seats) c.args.self.now.seats c.scheduled_between.new.self.seats) begin
     (subst (λ (n : ℕ). Passed c.self.inside.next n c.args.self.now.seats c.scheduled_between.new.self.seats) last c.in_default.ensures.none) in
     let q = subst (λ (n : ℕ). Passed 0 n c.scheduled_between.new.self.seats c.scheduled_between-2.new.self.seats) begin c.in_default-scheduled_between.ensures.none in
