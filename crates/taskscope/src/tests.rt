@@ -5,6 +5,7 @@ use std::alloc::{AllocError, Global};
 use std::io;
 use std::io::{Read, Write};
 use std::process::Abort;
+use std::sync::Wait;
 use std::test::Fail;
 
 const HELP: &str = "Shows what the tasks of an async program did, as tokio-console would.
@@ -213,6 +214,7 @@ fn assert_answers<R: Abort + AllocGlobal>(rt: &R, calls: &[Call]) -> Result<(), 
         let mut output = Vec::new(rt.alloc());
         let mut faults = Vec::new(rt.alloc());
         let status = run_program(
+            &rt,
             rt.alloc(),
             words.as_slice(),
             &mut input,
@@ -247,13 +249,19 @@ fn views_streams(rt: HostRuntime) -> Result<(), Fail> {
 }
 
 // What a command makes of the stream of `LOST`: the status, and whether it wrote this.
-fn of_lost(alloc: Global, command: &str, text: &str) -> Result<(u8, bool), AllocError> {
+fn of_lost<R: Wait + AllocGlobal>(
+    rt: &R,
+    command: &str,
+    text: &str,
+) -> Result<(u8, bool), AllocError> {
+    let alloc = rt.alloc();
     let mut stream = Vec::new(alloc);
     let run = words_of(alloc, &["run"])?;
-    let _ = run_program(alloc, run.as_slice(), &mut LOST, &mut stream, &mut Broken);
+    let _ = run_program(rt, alloc, run.as_slice(), &mut LOST, &mut stream, &mut Broken);
     let words = words_of(alloc, &[command])?;
     let mut output = Vec::new(alloc);
     let status = run_program(
+        rt,
         alloc,
         words.as_slice(),
         &mut stream.as_slice(),
@@ -266,9 +274,9 @@ fn of_lost(alloc: Global, command: &str, text: &str) -> Result<(u8, bool), Alloc
 // `lint` tells of warnings by its status, and `view` does not.
 #[test]
 fn warns_of_a_lost_waker(rt: HostRuntime) -> Result<(), Fail> {
-    let lint = of_lost(rt.alloc(), "lint", "warn 1.1 lost-waker\n")?;
+    let lint = of_lost(&rt, "lint", "warn 1.1 lost-waker\n")?;
     assert_eq!(rt; lint, (3, true));
-    let view = of_lost(rt.alloc(), "view", LOST_REPORT)?;
+    let view = of_lost(&rt, "view", LOST_REPORT)?;
     assert_eq!(rt; view, (0, true));
     Ok(())
 }
@@ -309,12 +317,13 @@ fn tells_of_broken_streams(rt: HostRuntime) -> Result<(), Fail> {
     let mut output = Vec::new(alloc);
     let mut unread = Vec::new(alloc);
     let run = words_of(alloc, &["run"])?;
-    let status = run_program(alloc, run.as_slice(), &mut Broken, &mut output, &mut unread);
+    let status = run_program(&rt, alloc, run.as_slice(), &mut Broken, &mut output, &mut unread);
     assert_eq!(rt; (status, output.len()), (1, 0));
     assert_eq!(rt; str::from_utf8(unread.as_slice())?, "fault: Read\n");
 
     let mut unwritten = Vec::new(alloc);
     let status = run_program(
+        &rt,
         alloc,
         run.as_slice(),
         &mut MAIN,
@@ -329,7 +338,7 @@ fn tells_of_broken_streams(rt: HostRuntime) -> Result<(), Fail> {
 
     let help = words_of(alloc, &["help"])?;
     let mut unshown = Vec::new(alloc);
-    let status = run_program(alloc, help.as_slice(), &mut MAIN, &mut Broken, &mut unshown);
+    let status = run_program(&rt, alloc, help.as_slice(), &mut MAIN, &mut Broken, &mut unshown);
     assert_eq!(rt; status, 1);
     assert_eq!(rt; str::from_utf8(unshown.as_slice())?, "fault: Write\n");
     Ok(())
@@ -340,10 +349,11 @@ fn tells_of_broken_streams(rt: HostRuntime) -> Result<(), Fail> {
 fn faults_that_no_one_reads(rt: HostRuntime) -> Result<(), Fail> {
     let alloc = rt.alloc();
     let run = words_of(alloc, &["run"])?;
-    let status = run_program(alloc, run.as_slice(), &mut Broken, &mut Broken, &mut Broken);
+    let status = run_program(&rt, alloc, run.as_slice(), &mut Broken, &mut Broken, &mut Broken);
     assert_eq!(rt; status, 1);
     let view = words_of(alloc, &["view"])?;
     let status = run_program(
+        &rt,
         alloc,
         view.as_slice(),
         &mut Broken,
@@ -353,6 +363,7 @@ fn faults_that_no_one_reads(rt: HostRuntime) -> Result<(), Fail> {
     assert_eq!(rt; status, 1);
     let demo = words_of(alloc, &["demo"])?;
     let status = run_program(
+        &rt,
         alloc,
         demo.as_slice(),
         &mut Broken,
