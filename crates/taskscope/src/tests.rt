@@ -257,7 +257,14 @@ fn of_lost<R: Wait + AllocGlobal>(
     let alloc = rt.alloc();
     let mut stream = Vec::new(alloc);
     let run = words_of(alloc, &["run"])?;
-    let _ = run_program(rt, alloc, run.as_slice(), &mut LOST, &mut stream, &mut Broken);
+    let _ = run_program(
+        rt,
+        alloc,
+        run.as_slice(),
+        &mut LOST,
+        &mut stream,
+        &mut Broken,
+    );
     let words = words_of(alloc, &[command])?;
     let mut output = Vec::new(alloc);
     let status = run_program(
@@ -317,7 +324,14 @@ fn tells_of_broken_streams(rt: HostRuntime) -> Result<(), Fail> {
     let mut output = Vec::new(alloc);
     let mut unread = Vec::new(alloc);
     let run = words_of(alloc, &["run"])?;
-    let status = run_program(&rt, alloc, run.as_slice(), &mut Broken, &mut output, &mut unread);
+    let status = run_program(
+        &rt,
+        alloc,
+        run.as_slice(),
+        &mut Broken,
+        &mut output,
+        &mut unread,
+    );
     assert_eq!(rt; (status, output.len()), (1, 0));
     assert_eq!(rt; str::from_utf8(unread.as_slice())?, "fault: Read\n");
 
@@ -338,7 +352,14 @@ fn tells_of_broken_streams(rt: HostRuntime) -> Result<(), Fail> {
 
     let help = words_of(alloc, &["help"])?;
     let mut unshown = Vec::new(alloc);
-    let status = run_program(&rt, alloc, help.as_slice(), &mut MAIN, &mut Broken, &mut unshown);
+    let status = run_program(
+        &rt,
+        alloc,
+        help.as_slice(),
+        &mut MAIN,
+        &mut Broken,
+        &mut unshown,
+    );
     assert_eq!(rt; status, 1);
     assert_eq!(rt; str::from_utf8(unshown.as_slice())?, "fault: Write\n");
     Ok(())
@@ -349,7 +370,14 @@ fn tells_of_broken_streams(rt: HostRuntime) -> Result<(), Fail> {
 fn faults_that_no_one_reads(rt: HostRuntime) -> Result<(), Fail> {
     let alloc = rt.alloc();
     let run = words_of(alloc, &["run"])?;
-    let status = run_program(&rt, alloc, run.as_slice(), &mut Broken, &mut Broken, &mut Broken);
+    let status = run_program(
+        &rt,
+        alloc,
+        run.as_slice(),
+        &mut Broken,
+        &mut Broken,
+        &mut Broken,
+    );
     assert_eq!(rt; status, 1);
     let view = words_of(alloc, &["view"])?;
     let status = run_program(

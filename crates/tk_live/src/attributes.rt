@@ -48,10 +48,7 @@ fn spec_of(alloc: Global, name: &[u8], first: AttrValue) -> Result<AttrSpec, IdE
 }
 
 /// The attributes that words declare, if they do: at most 6, no two of one name.
-pub(crate) fn attributes_of(
-    alloc: Global,
-    words: Pieces<'_>,
-) -> Result<Option<Attrs>, AllocError>
+pub(crate) fn attributes_of(alloc: Global, words: Pieces<'_>) -> Result<Option<Attrs>, AllocError>
     ensures { IfOk result (λ o. o ≡ spec.attrs_by (pieces_left words.entry)) }
 {
     let mut attrs = Vec::new(alloc);

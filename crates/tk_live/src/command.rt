@@ -391,10 +391,7 @@ fn line_command<'a>(word: &[u8], words: Pieces<'a>) -> Option<Command<'a>>
 /// The command that a line of text says, if it says one: its words between single spaces.
 ///
 /// The error is want of memory, for the attributes that it declares.
-pub fn command_of<'a>(
-    alloc: Global,
-    line: &'a [u8],
-) -> Result<Option<Command<'a>>, AllocError>
+pub fn command_of<'a>(alloc: Global, line: &'a [u8]) -> Result<Option<Command<'a>>, AllocError>
     ensures said { IfOk result (λ o. option_map spec.view o ≡ spec.said line.now) }
     ensures good { IfOk result (λ o. IfSome o (λ c. spec.IsGood (spec.view c))) }
 {
