@@ -110,6 +110,7 @@ fn examples_are_taken(rt: HostRuntime) -> Result<(), Fail> {
     assert!(rt; is_taken(&rt, script::wakes_itself(), 5), "wakes-itself");
     assert!(rt; is_taken(&rt, script::semaphore(), 3), "semaphore");
     assert!(rt; is_taken(&rt, script::lost_waker(), 3), "lost-waker");
+    assert!(rt; is_taken(&rt, script::burst(), 5), "burst");
     Ok(())
 }
 
