@@ -14,7 +14,7 @@ use tk_ids::{AttrValue, Attrs, TaskKind, is_name};
 const MAX_CAPACITY: u64 = 65_536;
 
 /// What a line of a script says. It names items by their numbers from 1, and moments are in nanoseconds.
-#[derive(Debug, Drop)]
+#[derive(Drop)]
 pub enum Command<'a> {
     /// A task, created at a moment.
     Task {
