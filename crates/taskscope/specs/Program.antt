@@ -1,10 +1,8 @@
 -- What a run of the program does with a script, and with a stream.
-use Rattle.std.specs.Prelude.{◌≡◌, ◌==◌, ℕ, List, Option, Result, Ok, Err, IfErr, OnOk, if◌then◌else◌}
+use Rattle.std.specs.Prelude.{◌≡◌, ◌==◌, ℕ, List, Option, Result, Ok, Err, IfErr, if◌then◌else◌}
 use Rattle.std.specs.Io.KnownBytes.{Appends}
-use Rattle.tk_app.specs.Script.{ReadsAndRuns}
-use Rattle.tk_app.specs.Stream.{output_of}
-use Rattle.tk_app.specs.Transfer.{IsScript}
 use Rattle.tk_client.specs.Warnings.{LintsView}
+use Rattle.tk_live.specs.Script.{ReadsAndRuns}
 use Rattle.tk_report.specs.Views.{IsOfWriter, Views}
 use Rattle.tk_report.specs.declared.fault.AppFault.{AppFault}
 use Rattle.tk_report.specs.declared.view.View.{View}
@@ -21,12 +19,10 @@ status_of (Err fault) = 1
 pub record RunsScript (known old new : Option (List ℕ)) (status : ℕ) : Type 0 where
   pub outcome : Result (Unit {0}) AppFault
   pub told : status ≡ status_of outcome
-  -- line by line, up to its first fault
+  -- line by line, up to its first fault: what its text tells is a function of the text
   pub written : List ℕ
   pub runs : ReadsAndRuns known outcome written
   pub appends : Appends old new written
-  -- without a fault the output is a function of the script
-  pub stream : OnOk outcome ((script : List ℕ) × IsScript known script × Appends old new (output_of script))
 
 -- the status of a view with so many warnings: `lint` alone tells of them, by 3
 abbrev pub status_at : View → ℕ → ℕ

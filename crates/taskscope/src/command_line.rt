@@ -44,6 +44,7 @@ const RUN_LONG_ABOUT: &str =
     "Runs a script from standard input and writes its stream to standard output.
 
 A script has one command a line, its words between single spaces:
+  capacity COUNT         holds so many events between two lines, 1 to 65536; only as the first command
   task MOMENT KIND NAME  makes a task, of kind spawn or blocking
   start TASK MOMENT      starts a poll of the task
   selfwake TASK MOMENT   wakes the task from within its poll
@@ -60,6 +61,9 @@ Resources have the commands resource, radd, rsub, rset and rclose, async operati
 opstart, opend, opclose, oadd, osub, oset and pollop: docs/FORMATS.md has their words.
 Items are numbered from 1 in the order in which they are made, each kind by itself, and so are wakers.
 A moment is a number of nanoseconds. Empty lines and lines that begin with # are skipped.
+
+A new item and a poll operation are events. Of those since the line before 1024 are held where no capacity is
+said; where there are more, `dropped` counts what was lost: publish more often, or begin with a greater capacity.
 
 A script has at most 1,048,576 bytes. It stops at its first fault, and the lines before it stay.";
 

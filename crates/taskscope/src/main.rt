@@ -19,6 +19,7 @@ fn main(rt: HostRuntime) -> ExitCode {
     let faults = rt.stderr();
     let status = match words(&rt) {
         Ok(words) => run_program(
+            &rt,
             rt.alloc(),
             words.as_slice(),
             &mut rt.reader(),

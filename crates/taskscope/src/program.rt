@@ -9,6 +9,7 @@ use clap::Error;
 use clap::error::ErrorKind;
 use std::alloc::Global;
 use std::io::{ErrorKind as IoErrorKind, Read, Write};
+use std::sync::Wait;
 use tk_app::{AppFault, Open, View, run_script, view_stream};
 
 /// All was done, which may be to show help.
@@ -61,7 +62,8 @@ fn tell_view<E: Write>(view: View, outcome: Result<u64, AppFault>, faults: &mut 
 }
 
 // Does what is asked for, and answers the status.
-fn fulfil<I: Read, O: Write, E: Write>(
+fn fulfil<R: Wait, I: Read, O: Write, E: Write>(
+    rt: &R,
     alloc: Global,
     request: Request,
     input: &mut I,
@@ -72,7 +74,7 @@ fn fulfil<I: Read, O: Write, E: Write>(
     ensures status { (result ≤ FAULT) ⊎ (result ≡ WARNED) }
 {
     match request {
-        Request::Run => tell_outcome(run_script(alloc, input, output, &Open), faults),
+        Request::Run => tell_outcome(run_script(rt, alloc, input, output, &Open), faults),
         Request::Show { view, lints } => {
             tell_view(
                 view,
@@ -119,7 +121,8 @@ pub(crate) fn refuse_words<E: Write>(kind: IoErrorKind, faults: &mut E) -> u8
 /// Does what the words ask for, the first of which is the program's name, and answers the status.
 ///
 /// What goes to `faults` is only tested.
-pub(crate) fn run_program<I: Read, O: Write, E: Write>(
+pub(crate) fn run_program<R: Wait, I: Read, O: Write, E: Write>(
+    rt: &R,
     alloc: Global,
     words: &[String],
     input: &mut I,
@@ -147,7 +150,7 @@ pub(crate) fn run_program<I: Read, O: Write, E: Write>(
     ensures status { result ≤ WARNED }
 {
     match request_of(alloc, words) {
-        Ok(request) => fulfil(alloc, request, input, output, faults),
+        Ok(request) => fulfil(rt, alloc, request, input, output, faults),
         Err(error) => answer(error, output, faults),
     }
 }

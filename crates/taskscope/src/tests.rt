@@ -5,6 +5,7 @@ use std::alloc::{AllocError, Global};
 use std::io;
 use std::io::{Read, Write};
 use std::process::Abort;
+use std::sync::Wait;
 use std::test::Fail;
 
 const HELP: &str = "Shows what the tasks of an async program did, as tokio-console would.
@@ -49,6 +50,7 @@ nothing that the program does, and 3 where `lint` found warnings.
 const RUN_HELP: &str = "Runs a script from standard input and writes its stream to standard output.
 
 A script has one command a line, its words between single spaces:
+  capacity COUNT         holds so many events between two lines, 1 to 65536; only as the first command
   task MOMENT KIND NAME  makes a task, of kind spawn or blocking
   start TASK MOMENT      starts a poll of the task
   selfwake TASK MOMENT   wakes the task from within its poll
@@ -65,6 +67,9 @@ Resources have the commands resource, radd, rsub, rset and rclose, async operati
 opstart, opend, opclose, oadd, osub, oset and pollop: docs/FORMATS.md has their words.
 Items are numbered from 1 in the order in which they are made, each kind by itself, and so are wakers.
 A moment is a number of nanoseconds. Empty lines and lines that begin with # are skipped.
+
+A new item and a poll operation are events. Of those since the line before 1024 are held where no capacity is
+said; where there are more, `dropped` counts what was lost: publish more often, or begin with a greater capacity.
 
 A script has at most 1,048,576 bytes. It stops at its first fault, and the lines before it stay.
 
@@ -263,6 +268,7 @@ fn assert_answers<R: Abort + AllocGlobal>(rt: &R, calls: &[Call]) -> Result<(), 
         let mut output = Vec::new(rt.alloc());
         let mut faults = Vec::new(rt.alloc());
         let status = run_program(
+            &rt,
             rt.alloc(),
             words.as_slice(),
             &mut input,
@@ -297,13 +303,26 @@ fn views_streams(rt: HostRuntime) -> Result<(), Fail> {
 }
 
 // What a command makes of the stream of `LOST`: the status, and whether it wrote this.
-fn of_lost(alloc: Global, command: &str, text: &str) -> Result<(u8, bool), AllocError> {
+fn of_lost<R: Wait + AllocGlobal>(
+    rt: &R,
+    command: &str,
+    text: &str,
+) -> Result<(u8, bool), AllocError> {
+    let alloc = rt.alloc();
     let mut stream = Vec::new(alloc);
     let run = words_of(alloc, &["run"])?;
-    let _ = run_program(alloc, run.as_slice(), &mut LOST, &mut stream, &mut Broken);
+    let _ = run_program(
+        rt,
+        alloc,
+        run.as_slice(),
+        &mut LOST,
+        &mut stream,
+        &mut Broken,
+    );
     let words = words_of(alloc, &[command])?;
     let mut output = Vec::new(alloc);
     let status = run_program(
+        rt,
         alloc,
         words.as_slice(),
         &mut stream.as_slice(),
@@ -316,9 +335,9 @@ fn of_lost(alloc: Global, command: &str, text: &str) -> Result<(u8, bool), Alloc
 // `lint` tells of warnings by its status, and `view` does not.
 #[test]
 fn warns_of_a_lost_waker(rt: HostRuntime) -> Result<(), Fail> {
-    let lint = of_lost(rt.alloc(), "lint", "warn 1.1 lost-waker\n")?;
+    let lint = of_lost(&rt, "lint", "warn 1.1 lost-waker\n")?;
     assert_eq!(rt; lint, (3, true));
-    let view = of_lost(rt.alloc(), "view", LOST_REPORT)?;
+    let view = of_lost(&rt, "view", LOST_REPORT)?;
     assert_eq!(rt; view, (0, true));
     Ok(())
 }
@@ -359,12 +378,20 @@ fn tells_of_broken_streams(rt: HostRuntime) -> Result<(), Fail> {
     let mut output = Vec::new(alloc);
     let mut unread = Vec::new(alloc);
     let run = words_of(alloc, &["run"])?;
-    let status = run_program(alloc, run.as_slice(), &mut Broken, &mut output, &mut unread);
+    let status = run_program(
+        &rt,
+        alloc,
+        run.as_slice(),
+        &mut Broken,
+        &mut output,
+        &mut unread,
+    );
     assert_eq!(rt; (status, output.len()), (1, 0));
     assert_eq!(rt; str::from_utf8(unread.as_slice())?, "fault: Read\n");
 
     let mut unwritten = Vec::new(alloc);
     let status = run_program(
+        &rt,
         alloc,
         run.as_slice(),
         &mut MAIN,
@@ -379,7 +406,14 @@ fn tells_of_broken_streams(rt: HostRuntime) -> Result<(), Fail> {
 
     let help = words_of(alloc, &["help"])?;
     let mut unshown = Vec::new(alloc);
-    let status = run_program(alloc, help.as_slice(), &mut MAIN, &mut Broken, &mut unshown);
+    let status = run_program(
+        &rt,
+        alloc,
+        help.as_slice(),
+        &mut MAIN,
+        &mut Broken,
+        &mut unshown,
+    );
     assert_eq!(rt; status, 1);
     assert_eq!(rt; str::from_utf8(unshown.as_slice())?, "fault: Write\n");
     Ok(())
@@ -390,10 +424,18 @@ fn tells_of_broken_streams(rt: HostRuntime) -> Result<(), Fail> {
 fn faults_that_no_one_reads(rt: HostRuntime) -> Result<(), Fail> {
     let alloc = rt.alloc();
     let run = words_of(alloc, &["run"])?;
-    let status = run_program(alloc, run.as_slice(), &mut Broken, &mut Broken, &mut Broken);
+    let status = run_program(
+        &rt,
+        alloc,
+        run.as_slice(),
+        &mut Broken,
+        &mut Broken,
+        &mut Broken,
+    );
     assert_eq!(rt; status, 1);
     let view = words_of(alloc, &["view"])?;
     let status = run_program(
+        &rt,
         alloc,
         view.as_slice(),
         &mut Broken,
@@ -403,6 +445,7 @@ fn faults_that_no_one_reads(rt: HostRuntime) -> Result<(), Fail> {
     assert_eq!(rt; status, 1);
     let demo = words_of(alloc, &["demo"])?;
     let status = run_program(
+        &rt,
         alloc,
         demo.as_slice(),
         &mut Broken,

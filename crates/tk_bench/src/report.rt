@@ -333,7 +333,7 @@ fn warnings<R: Clock, W: Write>(
     Ok(())
 }
 
-fn scripts<R: Clock, W: Write>(
+fn scripts<R: Wait + Clock, W: Write>(
     rt: &R,
     alloc: Global,
     out: &mut W,

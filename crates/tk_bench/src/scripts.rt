@@ -3,6 +3,7 @@
 use crate::error::BenchError;
 use crate::rounds::nanos_since;
 use std::alloc::Global;
+use std::sync::Wait;
 use std::time::{Clock, Instant};
 use tk_app::{Open, run_script};
 
@@ -18,7 +19,7 @@ pub(crate) fn script_of(alloc: Global, polls: u64) -> Result<Vec<u8>, BenchError
 }
 
 /// The nanoseconds of the script's run, and how many bytes it wrote.
-pub(crate) fn time_of<R: Clock>(
+pub(crate) fn time_of<R: Wait + Clock>(
     rt: &R,
     alloc: Global,
     script: &[u8],
@@ -26,7 +27,7 @@ pub(crate) fn time_of<R: Clock>(
     let mut reader = script;
     let mut written = Vec::new(alloc);
     let start = Instant::now(rt)?;
-    if run_script(alloc, &mut reader, &mut written, &Open).is_err() {
+    if run_script(rt, alloc, &mut reader, &mut written, &Open).is_err() {
         return Err(BenchError::Refused);
     }
     Ok((nanos_since(rt, &start)?, written.len() as u64))

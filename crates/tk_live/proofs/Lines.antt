@@ -1,21 +1,24 @@
 -- Lines, one after the other.
-use Rattle.std.proofs.Common.{◌≡◌, ℕ, ◌+◌, List, [], ◌∷◌, ◌++◌, length, Bool, Option, Result, Ok, Err, refl, sym, ap, ◌∙◌, subst, arith}
-use Rattle.std.specs.Prelude.{fold}
+use Rattle.std.proofs.Common.{◌≡◌, ℕ, ◌+◌, ◌≤◌, List, [], ◌∷◌, ◌++◌, length, length-append, Bool, Option, Some, None, Result, Ok, Err, inr, refl, sym, ap, ◌∙◌, subst, arith}
+use Rattle.std.specs.Prelude.{◌==◌, fold}
+use Rattle.std.specs.Option.{option_map_or}
 use Rattle.std.specs.List.{enumerate_from}
 use Rattle.std.proofs.KnownBytes.{Appends-nil}
 use Rattle.std.proofs.lemmas.List.{append-nil}
-use Rattle.std.proofs.lemmas.List.Sums.{fold-append}
+use Rattle.std.proofs.lemmas.List.Sums.{fold-append, count_by-le-length}
+use Rattle.std.proofs.lemmas.List.Splits.{length-slice_split}
 use Rattle.tk_stream.specs.Streams.{Sending}
-use Rattle.tk_live.specs.Commands.{Said, view}
+use Rattle.tk_live.specs.Commands.{Said, Line, says, bad}
+use Rattle.tk_live.specs.Commands as said
 use Rattle.tk_live.specs.Course.{Course, step, step_on, start_of_all, line_after, course_of}
+use Rattle.tk_live.specs.Pieces.{pieces_at}
 use Rattle.tk_live.specs.Runs.{StandsFor, Does, Came, Comes, LineCame}
 use Rattle.tk_live.specs.Script.{FrontOf}
 use Rattle.tk_live.specs.Stops.{Goes, AllGo}
-use Rattle.tk_live.specs.declared.command.Command.{Command}
-use Rattle.tk_live.specs.declared.command.Line.{Line}
-use Rattle.tk_live.specs.declared.command.Line.TheVariants as lines
 use Rattle.tk_live.specs.declared.interpreter.Interpreter.{Interpreter}
 use Rattle.tk_live.specs.declared.stop.Stop.{Stop}
+use Rattle.tk_live.specs.declared.stop.Stop.TheVariants.{Memory}
+use Rattle.tk_live.proofs.Standing.{rests}
 
 -- no line was sent
 pub unsent : (i : Interpreter) (capacity : ℕ) (k : Course) (kept : List Bool) (sent : List Sending) → StandsFor i capacity k kept sent → StandsFor i capacity k kept (sent ++ [])
@@ -52,10 +55,41 @@ begun i new capacity c line s kept sent stands is = subst (λ (n : Interpreter).
 })
 
 -- a line that says a command
-pub said_came : (n capacity : ℕ) (c : Course) (kept : List Bool) (sent : List Sending) (command : Command) (new : Interpreter) (result : Result (Unit {0}) Stop) (before behind : Option (List ℕ))
-    → Came step_on capacity c kept sent n (view command) new result before behind → LineCame capacity c kept sent n (lines.Says command) new result before behind
-said_came n capacity c kept sent command new (Ok done) before behind h = h
-said_came n capacity c kept sent command new (Err stop) before behind h = h
+pub said_came : (n capacity : ℕ) (c : Course) (kept : List Bool) (sent : List Sending) (s : Said) (new : Interpreter) (result : Result (Unit {0}) Stop) (before behind : Option (List ℕ))
+    → Came step_on capacity c kept sent n s new result before behind → LineCame capacity c kept sent n (says s) new result before behind
+said_came n capacity c kept sent s new (Ok done) before behind h = h
+said_came n capacity c kept sent s new (Err stop) before behind h = h
+
+-- nothing goes out of a command that memory is lacking for
+no_front : (sent : List Sending) (s : Said) → FrontOf sent s Memory []
+no_front sent (said.task at kind name) = refl
+no_front sent (said.start n m) = refl
+no_front sent (said.finish n m) = refl
+no_front sent (said.close n m) = refl
+no_front sent (said.self_wake n m) = refl
+no_front sent (said.clone n) = refl
+no_front sent (said.again n) = refl
+no_front sent (said.wake_ref n m) = refl
+no_front sent (said.wake n m) = refl
+no_front sent (said.release n) = refl
+no_front sent (said.resource at kind concrete attrs) = refl
+no_front sent (said.close_resource n m) = refl
+no_front sent (said.change_resource n i change) = refl
+no_front sent (said.op at r source attrs) = refl
+no_front sent (said.op_task n t) = refl
+no_front sent (said.start_op n m) = refl
+no_front sent (said.finish_op n m) = refl
+no_front sent (said.close_op n m) = refl
+no_front sent (said.change_op n i change) = refl
+no_front sent (said.poll_op r o t name ready) = refl
+no_front sent (said.capacity n) = refl
+no_front sent (said.publish m whole) = refl
+
+-- a line that memory is lacking for, before it is known what it says
+pub lacked : (i : Interpreter) (n capacity : ℕ) (k : Course) (kept : List Bool) (sent : List Sending) (bytes : Option (List ℕ)) (o : Option Said) → StandsFor i capacity k kept sent
+    → LineCame capacity k kept sent n (option_map_or says o bad) i (Err Memory) bytes bytes
+lacked i n capacity k kept sent bytes None stands = (tt, record { left = k; is_left = refl; kept = kept; keeps = stands.keeps }, [], refl, Appends-nil bytes)
+lacked i n capacity k kept sent bytes (Some s) stands = (inr tt, rests i capacity k n s kept sent stands.keeps, [], no_front sent s, Appends-nil bytes)
 
 -- a line more has the next number
 pub enumerate_push : {X : Type 0} (n : ℕ) (xs : List X) (x : X) → enumerate_from n (xs ++ x ∷ []) ≡ enumerate_from n xs ++ (n + length xs, x) ∷ []
@@ -78,3 +112,8 @@ pub goes_more : (before : List Line) (number : ℕ) (line : Line) → number ≡
 goes_more before number line counted all goes =
     let e : number ≡ 1 + length before = omega (arith, counted) in
     subst (λ ls. AllGo start_of_all ls) (ap (λ n. enumerate_from 1 before ++ (n, line) ∷ []) e ∙ sym (enumerate_push 1 before line)) (all_go_push start_of_all (enumerate_from 1 before) (number, line) all goes)
+
+-- there are at most as many lines as bytes, and one more
+pub few_lines : (script : List ℕ) (before more : List (List ℕ)) → pieces_at 10 script ≡ before ++ more → length before ≤ length script + 1
+few_lines script before more cut =
+    omega (arith, length-slice_split (λ b. b == 10) script, count_by-le-length (λ b. b == 10) script, ap length cut, length-append before more)

@@ -1,17 +1,16 @@
 -- A whole run, once the taker is finished.
-use Rattle.std.proofs.Common.{ℕ, ◌≤◌, List, Bool, [], ◌∷◌, Result, Ok, Err, arith}
-use Rattle.std.specs.List.{AllByRecursion}
+use Rattle.std.proofs.Common.{ℕ, List, Bool, [], Option, Result, Ok, Err, refl}
+use Rattle.std.specs.Io.KnownBytes.{Appends}
+use Rattle.std.proofs.KnownBytes.{Appends-nil}
+use Rattle.tk_report.specs.declared.fault.AppFault.{AppFault}
+use Rattle.tk_report.specs.declared.fault.AppFault.TheVariants as faults
 use Rattle.tk_stream.specs.Streams.{Sending}
-use Rattle.tk_live.specs.Commands.{Said, IsGood, IsGoodLine, view, own_capacity, capacity_of}
-use Rattle.tk_live.specs.Commands as said
+use Rattle.tk_live.specs.Commands.{Line, capacity_of}
 use Rattle.tk_live.specs.Course.{Course, course_of}
 use Rattle.tk_live.specs.Ran.{CameOf, picked, Each, IsLineOf}
 use Rattle.tk_live.specs.Runs.{Stays, LinesCame}
-use Rattle.tk_live.specs.Script.{RunWrites}
-use Rattle.tk_live.specs.declared.command.Line.{Line}
-use Rattle.tk_live.specs.declared.command.Line.TheVariants as lines
-use Rattle.tk_live.specs.declared.fault.AppFault.{AppFault}
-use Rattle.tk_live.specs.declared.fault.AppFault.TheVariants as faults
+use Rattle.tk_live.specs.Script.{LinesWrite, RunWrites, ReadsAndRuns}
+use Rattle.tk_live.specs.Transfer.{IsReading, IsScript}
 use Rattle.tk_live.specs.declared.interpreter.Interpreter.{Interpreter}
 
 -- what a finished taker tells of an interpreter
@@ -22,8 +21,11 @@ Ends i = (capacity : ℕ) (c : Course) (kept : List Bool) (sent : List Sending) 
 pub stays_of : (script : List Line) (capacity : ℕ) (i : Interpreter) (result : Result (Unit {0}) AppFault) (text : List ℕ) → LinesCame script capacity i result text
     → (capacity : ℕ) × (c : Course) × (kept : List Bool) × (sent : List Sending) × Stays i capacity c kept sent
 stays_of script capacity i (Ok done) text came = (capacity, course_of script, came.1, came.2, came.3.keeps)
-stays_of script capacity i (Err (faults.Script number stop)) text came = (capacity, came.rests.left, came.rests.kept, came.sent, came.rests.keeps)
+stays_of script capacity i (Err (faults.Script number name)) text came = (capacity, came.rests.left, came.rests.kept, came.sent, came.rests.keeps)
 stays_of script capacity i (Err faults.Memory) text came = absurd came
+stays_of script capacity i (Err faults.Read) text came = absurd came
+stays_of script capacity i (Err faults.Write) text came = absurd came
+stays_of script capacity i (Err (faults.Stream lines fault)) text came = absurd came
 
 -- what came of it
 came_of : (i : Interpreter) (capacity : ℕ) (c : Course) (kept : List Bool) (sent : List Sending) → Stays i capacity c kept sent → Ends i → CameOf capacity c sent
@@ -36,9 +38,9 @@ came_of i capacity c kept sent keeps ends = record {
 }
 
 -- what was written
-pub writes : (script : List Line) (i : Interpreter) (result : Result (Unit {0}) AppFault) (text : List ℕ) → LinesCame script (capacity_of script) i result text → Ends i → RunWrites script result text
+pub writes : (script : List Line) (i : Interpreter) (result : Result (Unit {0}) AppFault) (text : List ℕ) → LinesCame script (capacity_of script) i result text → Ends i → LinesWrite script result text
 writes script i (Ok done) text came ends = (came.2, record { goes = came.0; came = came_of i (capacity_of script) (course_of script) came.1 came.2 came.3.keeps ends }, came.4)
-writes script i (Err (faults.Script number stop)) text came ends = record {
+writes script i (Err (faults.Script number name)) text came ends = record {
   before = came.before;
   line = came.line;
   behind = came.behind;
@@ -49,40 +51,31 @@ writes script i (Err (faults.Script number stop)) text came ends = record {
   leaves = came.rests.is_left;
   sent = came.sent;
   came = came_of i (capacity_of script) came.rests.left came.rests.kept came.sent came.rests.keeps ends;
+  stop = came.stop;
   stops = came.stops;
+  named = came.named;
   front = came.front;
   fronts = came.fronts;
   all = came.all;
 }
 writes script i (Err faults.Memory) text came ends = absurd came
+writes script i (Err faults.Read) text came ends = absurd came
+writes script i (Err faults.Write) text came ends = absurd came
+writes script i (Err (faults.Stream lines fault)) text came ends = absurd came
 
-own_good : (s : Said) → IsGood s → (1 ≤ own_capacity s) × (own_capacity s ≤ 65536)
-own_good (said.task at kind name) h = (omega arith, omega arith)
-own_good (said.start n m) h = (omega arith, omega arith)
-own_good (said.finish n m) h = (omega arith, omega arith)
-own_good (said.close n m) h = (omega arith, omega arith)
-own_good (said.self_wake n m) h = (omega arith, omega arith)
-own_good (said.clone n) h = (omega arith, omega arith)
-own_good (said.again n) h = (omega arith, omega arith)
-own_good (said.wake_ref n m) h = (omega arith, omega arith)
-own_good (said.wake n m) h = (omega arith, omega arith)
-own_good (said.release n) h = (omega arith, omega arith)
-own_good (said.resource at kind concrete attrs) h = (omega arith, omega arith)
-own_good (said.close_resource n m) h = (omega arith, omega arith)
-own_good (said.change_resource n i change) h = (omega arith, omega arith)
-own_good (said.op at r source attrs) h = (omega arith, omega arith)
-own_good (said.op_task n t) h = (omega arith, omega arith)
-own_good (said.start_op n m) h = (omega arith, omega arith)
-own_good (said.finish_op n m) h = (omega arith, omega arith)
-own_good (said.close_op n m) h = (omega arith, omega arith)
-own_good (said.change_op n i change) h = (omega arith, omega arith)
-own_good (said.poll_op r o t name ready) h = (omega arith, omega arith)
-own_good (said.capacity n) h = h
-own_good (said.publish m whole) h = (omega arith, omega arith)
+-- nothing is written where nothing was read
+pub read_fails : (known bytes : Option (List ℕ)) (f : AppFault) → IsReading f → (written : List ℕ) × ReadsAndRuns known (Err f) written × Appends bytes bytes written
+read_fails known bytes faults.Memory h = ([], refl, Appends-nil bytes)
+read_fails known bytes faults.Read h = ([], refl, Appends-nil bytes)
+read_fails known bytes faults.Write h = absurd h
+read_fails known bytes (faults.Script line name) h = absurd h
+read_fails known bytes (faults.Stream lines fault) h = absurd h
 
--- a capacity is in range
-pub capacity_good : (ls : List Line) → AllByRecursion IsGoodLine ls → (1 ≤ capacity_of ls) × (capacity_of ls ≤ 65536)
-capacity_good [] h = (omega arith, omega arith)
-capacity_good (lines.Skipped ∷ ls) h = capacity_good ls h.1
-capacity_good (lines.Bad ∷ ls) h = capacity_good ls h.1
-capacity_good (lines.Says command ∷ ls) h = own_good (view command) h.0
+-- what the run of a script that was read writes
+pub read_runs : (known : Option (List ℕ)) (script : List ℕ) (r : Result (Unit {0}) AppFault) (written : List ℕ) → IsScript known script → RunWrites script r written → ReadsAndRuns known r written
+read_runs known script (Ok done) written is h = (script, is, h)
+read_runs known script (Err (faults.Script number name)) written is h = (script, is, h)
+read_runs known script (Err faults.Memory) written is h = h
+read_runs known script (Err faults.Read) written is h = absurd h
+read_runs known script (Err faults.Write) written is h = absurd h
+read_runs known script (Err (faults.Stream lines fault)) written is h = absurd h

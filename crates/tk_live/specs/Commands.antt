@@ -1,13 +1,18 @@
--- What a line says.
-use Rattle.std.specs.Prelude.{◌≡◌, ℕ, ◌≤◌, List, [], ◌∷◌, Bool, true}
+-- What a line of a script says.
+use Rattle.std.specs.Prelude.{◌≡◌, ℕ, ◌≤◌, List, [], ◌∷◌, map, if◌then◌else◌, Option, Some, None, option_map, option_and_then, codes, Bool, true, false, ◌==◌, ◌&&◌, nat_le}
+use Rattle.std.specs.Option.{option_or, option_map_or}
+use Rattle.std.specs.Str.{bytes_eq}
 use Rattle.tk_ids.specs.Names.{is_name}
 use Rattle.tk_ids.specs.declared.spec.TaskKind.{TaskKind}
 use Rattle.tk_ids.specs.declared.attr.AttrSpec.{AttrSpec}
+use Rattle.tk_ids.specs.declared.attr.AttrValue.{AttrValue}
 use Rattle.tk_core.specs.declared.attrs.AttrOp.{AttrOp}
+use Rattle.tk_core.specs.declared.attrs.AttrOp.TheVariants.{Add, Sub, Override}
+use Rattle.tk_live.specs.Attributes.{attrs_by, value_of}
+use Rattle.tk_live.specs.Pieces.{pieces_at}
+use Rattle.tk_live.specs.Words.{moment, kind, readiness, one_number, two_numbers}
 use Rattle.tk_live.specs.declared.command.Command.{Command}
 use Rattle.tk_live.specs.declared.command.Command.TheVariants as commands
-use Rattle.tk_live.specs.declared.command.Line.{Line}
-use Rattle.tk_live.specs.declared.command.Line.TheVariants as lines
 
 -- a command. It names items by their numbers from 1
 pub data Said : Type 0 where
@@ -57,10 +62,10 @@ view (commands.Again number) = again number
 view (commands.WakeRef number moment) = wake_ref number moment
 view (commands.Wake number moment) = wake number moment
 view (commands.Release number) = release number
-view (commands.Resource moment kind concrete attrs) = resource moment kind.now concrete.now attrs.now
+view (commands.Resource moment kind concrete attrs) = resource moment kind.now concrete.now attrs
 view (commands.CloseResource number moment) = close_resource number moment
 view (commands.ChangeResource number index change) = change_resource number index change
-view (commands.Op moment r source attrs) = op moment r source.now attrs.now
+view (commands.Op moment r source attrs) = op moment r source.now attrs
 view (commands.OpTask number t) = op_task number t
 view (commands.StartOp number moment) = start_op number moment
 view (commands.EndOp number moment) = finish_op number moment
@@ -79,10 +84,112 @@ IsGood (poll_op r o t name ready) = is_name name ≡ true
 IsGood (capacity n) = (1 ≤ n) × (n ≤ 65536)
 IsGood _ = Unit {0}
 
--- the commands of a line are good
-abbrev pub IsGoodLine : Line → Type 0
-IsGoodLine (lines.Says command) = IsGood (view command)
-IsGoodLine _ = Unit {0}
+-- ---- what a line's text says
+
+-- a moment, a kind and a name
+abbrev pub task_by : List (List ℕ) → Option Said
+task_by (m ∷ k ∷ n ∷ []) = option_and_then (λ at. option_and_then (λ of. if is_name n then Some (task at of n) else None) (kind k)) (moment m)
+task_by _ = None
+
+-- a task, or a call of its owner
+abbrev pub task_said : List ℕ → List (List ℕ) → Option Said
+task_said w words =
+    if bytes_eq w (codes "task") then task_by words else
+    (if bytes_eq w (codes "start") then option_map (λ p. start p.0 p.1) (two_numbers words) else
+    (if bytes_eq w (codes "end") then option_map (λ p. finish p.0 p.1) (two_numbers words) else
+    (if bytes_eq w (codes "close") then option_map (λ p. close p.0 p.1) (two_numbers words) else
+    (if bytes_eq w (codes "selfwake") then option_map (λ p. self_wake p.0 p.1) (two_numbers words) else
+    (if bytes_eq w (codes "clone") then option_map (λ n. clone n) (one_number words) else None)))))
+
+-- a call of a waker
+abbrev pub waker_said : List ℕ → List (List ℕ) → Option Said
+waker_said w words =
+    if bytes_eq w (codes "again") then option_map (λ n. again n) (one_number words) else
+    (if bytes_eq w (codes "wakeref") then option_map (λ p. wake_ref p.0 p.1) (two_numbers words) else
+    (if bytes_eq w (codes "wake") then option_map (λ p. wake p.0 p.1) (two_numbers words) else
+    (if bytes_eq w (codes "release") then option_map (λ n. release n) (one_number words) else None)))
+
+-- a moment, a kind, a type and attributes
+abbrev pub resource_by : List (List ℕ) → Option Said
+resource_by (m ∷ k ∷ t ∷ words) = option_and_then (λ at. if is_name k && is_name t then option_map (resource at k t) (attrs_by words) else None) (moment m)
+resource_by _ = None
+
+-- the number of an item, the index of an attribute, and a value
+abbrev pub change_by : List (List ℕ) → Option (ℕ × ℕ × AttrValue)
+change_by (n ∷ i ∷ v ∷ []) = option_and_then (λ number. option_and_then (λ index. option_map (λ value. (number, index, value)) (value_of v)) (moment i)) (moment n)
+change_by _ = None
+
+-- a change of an attribute by a resource's user, or a close by its owner
+abbrev pub resource_call_said : List ℕ → List (List ℕ) → Option Said
+resource_call_said w words =
+    if bytes_eq w (codes "radd") then option_map (λ p. change_resource p.0 p.1 (Add p.2)) (change_by words) else
+    (if bytes_eq w (codes "rsub") then option_map (λ p. change_resource p.0 p.1 (Sub p.2)) (change_by words) else
+    (if bytes_eq w (codes "rset") then option_map (λ p. change_resource p.0 p.1 (Override p.2)) (change_by words) else
+    (if bytes_eq w (codes "rclose") then option_map (λ p. close_resource p.0 p.1) (two_numbers words) else None)))
+
+-- a moment, a resource, a source and attributes
+abbrev pub op_by : List (List ℕ) → Option Said
+op_by (m ∷ r ∷ source ∷ words) =
+    option_and_then (λ at. option_and_then (λ n. if is_name source then option_map (op at n source) (attrs_by words) else None) (moment r)) (moment m)
+op_by _ = None
+
+-- a call of the owner of an async operation
+abbrev pub op_call_said : List ℕ → List (List ℕ) → Option Said
+op_call_said w words =
+    if bytes_eq w (codes "optask") then option_map (λ p. op_task p.0 p.1) (two_numbers words) else
+    (if bytes_eq w (codes "opstart") then option_map (λ p. start_op p.0 p.1) (two_numbers words) else
+    (if bytes_eq w (codes "opend") then option_map (λ p. finish_op p.0 p.1) (two_numbers words) else
+    (if bytes_eq w (codes "opclose") then option_map (λ p. close_op p.0 p.1) (two_numbers words) else
+    (if bytes_eq w (codes "oadd") then option_map (λ p. change_op p.0 p.1 (Add p.2)) (change_by words) else
+    (if bytes_eq w (codes "osub") then option_map (λ p. change_op p.0 p.1 (Sub p.2)) (change_by words) else
+    (if bytes_eq w (codes "oset") then option_map (λ p. change_op p.0 p.1 (Override p.2)) (change_by words) else None))))))
+
+-- a resource, an operation, a task, the name of the poll operation, and how it ended
+abbrev pub poll_op_by : List (List ℕ) → Option Said
+poll_op_by (r ∷ o ∷ t ∷ name ∷ end ∷ []) =
+    option_and_then (λ on. option_and_then (λ by. option_and_then (λ of. if is_name name then option_map (poll_op on by of name) (readiness end) else None) (moment t)) (moment o)) (moment r)
+poll_op_by _ = None
+
+-- how many events the console holds, from 1 to 65,536
+abbrev pub capacity_by : List (List ℕ) → Option Said
+capacity_by words = option_and_then (λ n. if nat_le 1 n && nat_le n 65536 then Some (capacity n) else None) (one_number words)
+
+-- a line of the stream, or how many events the console holds
+abbrev pub line_said : List ℕ → List (List ℕ) → Option Said
+line_said w words =
+    if bytes_eq w (codes "publish") then option_map (λ at. publish at false) (one_number words) else
+    (if bytes_eq w (codes "snapshot") then option_map (λ at. publish at true) (one_number words) else
+    (if bytes_eq w (codes "capacity") then capacity_by words else None))
+
+-- by the first word, and then by the rest
+abbrev pub said_by : List (List ℕ) → Option Said
+said_by [] = None
+said_by (w ∷ words) = if bytes_eq w (codes "resource") then resource_by words else if bytes_eq w (codes "op") then op_by words else option_or (task_said w words) (option_or (waker_said w words) (option_or (resource_call_said w words) (option_or (op_call_said w words) (if bytes_eq w (codes "pollop") then poll_op_by words else line_said w words))))
+
+-- what a line says: its words stand between single spaces
+abbrev pub said : List ℕ → Option Said
+said line = said_by (pieces_at 32 line)
+
+-- ---- lines
+
+-- an empty line says nothing, and a line that begins with `#` is a comment
+abbrev pub is_skipped : List ℕ → Bool
+is_skipped [] = true
+is_skipped (b ∷ bs) = b == 35
+
+-- a line: it is skipped, it says no command, or it says this one
+pub data Line : Type 0 where
+  skipped : Line
+  bad : Line
+  says : Said → Line
+
+-- what a line of text is
+abbrev pub line_of : List ℕ → Line
+line_of line = if is_skipped line then skipped else option_map_or says (said line) bad
+
+-- the lines of a script end at the bytes 0x0A
+abbrev pub lines_of : List ℕ → List Line
+lines_of script = map line_of (pieces_at 10 script)
 
 -- the capacity that a command says, if it is said first
 abbrev pub own_capacity : Said → ℕ
@@ -92,5 +199,6 @@ own_capacity _ = 1024
 -- the capacity of a script: that of a `capacity` command before all others, else 1,024
 abbrev pub capacity_of : List Line → ℕ
 capacity_of [] = 1024
-capacity_of (lines.Says command ∷ more) = own_capacity (view command)
-capacity_of (_ ∷ more) = capacity_of more
+capacity_of (skipped ∷ more) = capacity_of more
+capacity_of (bad ∷ more) = 1024
+capacity_of (says s ∷ more) = own_capacity s

@@ -23,9 +23,7 @@ use Rattle.tk_core.specs.Resource as resource_rules
 use Rattle.tk_core.specs.Task.{opening_row}
 use Rattle.tk_events.specs.Items.{infos_of, first_values}
 use Rattle.tk_aggregator.specs.Told.{Told, made_task, made_resource, made_op, polled}
-use Rattle.tk_live.specs.Commands.{Said, view, task, start, finish, close, self_wake, clone, again, wake_ref, wake, release, resource, close_resource, change_resource, op, op_task, start_op, finish_op, close_op, change_op, poll_op, capacity, publish}
-use Rattle.tk_live.specs.declared.command.Line.{Line}
-use Rattle.tk_live.specs.declared.command.Line.TheVariants as lines
+use Rattle.tk_live.specs.Commands.{Said, Line, skipped, bad, says, task, start, finish, close, self_wake, clone, again, wake_ref, wake, release, resource, close_resource, change_resource, op, op_task, start_op, finish_op, close_op, change_op, poll_op, capacity, publish}
 use Rattle.tk_live.specs.Known.{Handled, and_call, drawn_from}
 use Rattle.tk_live.specs.Named.{live_item, with_item, with_change}
 
@@ -159,7 +157,7 @@ step_on c line s = record (step c line s) { begun = true }
 
 -- what a line more comes to, of this number
 abbrev pub line_after : Course → ℕ × Line → Course
-line_after c (n, lines.Says command) = step_on c n (view command)
+line_after c (n, says s) = step_on c n s
 line_after c (n, _) = c
 
 -- what lines come to, one after the other, numbered from 1

@@ -1,8 +1,17 @@
+-- A script's text
+pub mod Pieces
+pub mod Words
+pub mod Attributes
+pub mod Commands
+-- What its lines come to
 pub mod Named
 pub mod Known
-pub mod Commands
 pub mod Course
+pub mod Refusals
 pub mod Stops
 pub mod Ran
+-- Reading a script, and what its run writes
+pub mod Transfer
 pub mod Script
+-- Inner: no public clause cites it
 pub mod Runs

@@ -11,7 +11,7 @@ use Rattle.tk_aggregator.specs.Aggregates.{Pairs, ReadTask, ReadResource, ReadOp
 use Rattle.tk_aggregator.specs.Told.{Told}
 use Rattle.tk_live.specs.Course.{Due, Course, start_of_all, course_of}
 use Rattle.tk_live.specs.Stops.{AllGo}
-use Rattle.tk_live.specs.declared.command.Line.{Line}
+use Rattle.tk_live.specs.Commands.{Line}
 
 -- infos and poll counts of all that was told, in order
 abbrev pub infos_told : List Told → Infos

@@ -7,20 +7,20 @@ use Rattle.tk_events.specs.declared.item.Offer.{Offer}
 use Rattle.tk_events.specs.Handles.{Recording, Taking, offers_made}
 use Rattle.tk_events.specs.Offers.{tasks_in, resources_in, ops_in}
 use Rattle.tk_ledgers.specs.Tasks.{TaskSight}
+use Rattle.tk_report.specs.declared.fault.AppFault.{AppFault}
+use Rattle.tk_report.specs.declared.fault.AppFault.TheVariants as faults
 use Rattle.tk_stream.specs.Streams.{Sending, GoesOn, lines_sent, bytes_sent, tables_sent, last_sent}
 use Rattle.tk_stream.specs.Tables.{empty_tables}
 use Rattle.tk_aggregator.specs.Aggregates.{Aggregating, FollowsTaker}
 use Rattle.tk_aggregator.specs.Told.{Told, tells}
-use Rattle.tk_live.specs.Commands.{Said}
+use Rattle.tk_live.specs.Commands.{Said, Line}
 use Rattle.tk_live.specs.Course.{Names, Due, Course, start_of_all, step, line_after, course_of}
 use Rattle.tk_live.specs.Known.{owner_of, caller_of}
 use Rattle.tk_live.specs.Named.{EachLive}
 use Rattle.tk_live.specs.Ran.{picked, Each, IsLineOf, written_by}
+use Rattle.tk_live.specs.Refusals.{stop_name}
 use Rattle.tk_live.specs.Script.{FrontOf, Fronts}
 use Rattle.tk_live.specs.Stops.{Stops, stop_of, Leaves, Goes, AllGo, LineStops, LineLeaves}
-use Rattle.tk_live.specs.declared.command.Line.{Line}
-use Rattle.tk_live.specs.declared.fault.AppFault.{AppFault}
-use Rattle.tk_live.specs.declared.fault.AppFault.TheVariants as faults
 use Rattle.tk_live.specs.declared.interpreter.Interpreter.{Interpreter}
 use Rattle.tk_live.specs.declared.stop.Stop.{Stop}
 
@@ -145,24 +145,26 @@ abbrev pub LineComes : ℕ → Line → Interpreter → Interpreter → Result (
 LineComes n line old new result before behind =
     (capacity : ℕ) (c : Course) (kept : List Bool) (sent : List Sending) → StandsFor old capacity c kept sent → LineCame capacity c kept sent n line new result before behind
 
--- the line of this number stops the lines
-pub record Halts (script : List Line) (capacity number : ℕ) (stop : Stop) (new : Interpreter) (text : List ℕ) : Type 0 where
+-- the line of this number stops the lines, by this name
+pub record Halts (ls : List Line) (capacity number : ℕ) (name : List ℕ) (new : Interpreter) (text : List ℕ) : Type 0 where
   pub before : List Line
   pub line : Line
   pub behind : List Line
-  pub lines : script ≡ before ++ line ∷ behind
+  pub lines : ls ≡ before ++ line ∷ behind
   pub counted : number ≡ length before + 1
   pub sent : List Sending
   pub goes : AllGo start_of_all (enumerate_from 1 before)
   pub rests : Rests new capacity (LineLeaves (course_of before) (number, line)) sent
+  pub stop : Stop
   pub stops : LineStops (course_of before) line stop
+  pub named : name ≡ stop_name stop
   pub front : List ℕ
   pub fronts : Fronts sent line stop front
   pub all : text ≡ written_by sent ++ front
 
 -- this came of lines
 abbrev pub LinesCame : List Line → ℕ → Interpreter → Result (Unit {0}) AppFault → List ℕ → Type 0
-LinesCame script capacity new (Ok done) text =
-    AllGo start_of_all (enumerate_from 1 script) × (kept : List Bool) × (sent : List Sending) × StandsFor new capacity (course_of script) kept sent × (text ≡ written_by sent)
-LinesCame script capacity new (Err (faults.Script number stop)) text = Halts script capacity number stop new text
-LinesCame script capacity new (Err faults.Memory) text = ⊥
+LinesCame ls capacity new (Ok done) text =
+    AllGo start_of_all (enumerate_from 1 ls) × (kept : List Bool) × (sent : List Sending) × StandsFor new capacity (course_of ls) kept sent × (text ≡ written_by sent)
+LinesCame ls capacity new (Err (faults.Script number name)) text = Halts ls capacity number name.now new text
+LinesCame ls capacity new (Err other) text = ⊥

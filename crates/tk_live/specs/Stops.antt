@@ -18,12 +18,10 @@ use Rattle.tk_core.specs.OpMeaning.{op_meaning}
 use Rattle.tk_core.specs.ResourceMeaning.{resource_meaning}
 use Rattle.tk_core.specs.TaskMeaning.{task_meaning}
 use Rattle.tk_cell.specs.Calls.{entry}
-use Rattle.tk_live.specs.Commands.{Said, view, task, start, finish, close, self_wake, clone, again, wake_ref, wake, release, resource, close_resource, change_resource, op, op_task, start_op, finish_op, close_op, change_op, poll_op, capacity, publish}
+use Rattle.tk_live.specs.Commands.{Said, Line, skipped, bad, says, task, start, finish, close, self_wake, clone, again, wake_ref, wake, release, resource, close_resource, change_resource, op, op_task, start_op, finish_op, close_op, change_op, poll_op, capacity, publish}
 use Rattle.tk_live.specs.Course.{Course, TaskHandled, OpHandled, new_resource, step, line_after}
 use Rattle.tk_live.specs.Known.{Handled}
 use Rattle.tk_live.specs.Named.{made_item, live_item}
-use Rattle.tk_live.specs.declared.command.Line.{Line}
-use Rattle.tk_live.specs.declared.command.Line.TheVariants as lines
 use Rattle.tk_live.specs.declared.stop.Stop.{Stop}
 use Rattle.tk_live.specs.declared.stop.Stop.TheVariants.{BadCommand, NoSuchItem, Call, OffersSpent, Clock, NumbersSpent, Memory, WriteFault}
 
@@ -119,22 +117,24 @@ Leaves c line s left = left ≡ c
 
 -- a line that the text doesn't stop
 abbrev pub Goes : Course → ℕ × Line → Type 0
-Goes c (n, lines.Says command) = stop_of c (view command) ≡ None
-Goes c (n, lines.Skipped) = Unit {0}
-Goes c (n, lines.Bad) = ⊥
+Goes c (n, says s) = stop_of c s ≡ None
+Goes c (n, skipped) = Unit {0}
+Goes c (n, bad) = ⊥
 
 -- lines of which the text stops none
 abbrev pub AllGo : Course → List (ℕ × Line) → Type 0
 AllGo c [] = Unit {0}
 AllGo c (l ∷ ls) = Goes c l × AllGo (line_after c l) ls
 
--- why a line stops, behind lines that come to this
+-- why a line stops, behind lines that come to this. What is no command may need memory before that shows
 abbrev pub LineStops : Course → Line → Stop → Type 0
-LineStops c lines.Bad stop = stop ≡ BadCommand
-LineStops c (lines.Says command) stop = Stops c (view command) stop
-LineStops c lines.Skipped stop = ⊥
+LineStops c (says s) stop = Stops c s stop
+LineStops c bad BadCommand = Unit {0}
+LineStops c bad Memory = Unit {0}
+LineStops c bad stop = ⊥
+LineStops c skipped stop = ⊥
 
 -- what a line leaves that stops
 abbrev pub LineLeaves : Course → ℕ × Line → Course → Type 0
-LineLeaves c (n, lines.Says command) left = Leaves c n (view command) left
+LineLeaves c (n, says s) left = Leaves c n s left
 LineLeaves c (n, _) left = left ≡ c

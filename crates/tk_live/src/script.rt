@@ -1,33 +1,51 @@
-//! Lines, one after the other.
-ghost use Rattle.std.specs.Prelude.{◌≡◌, ◌≤◌, ◌∷◌, [], ℕ, List, Bool, length};
-ghost use Rattle.std.specs.List.{list_all, AllByRecursion};
+//! Scripts: read whole, and run line by line.
+//!
+//! A line is a command, its words between single spaces. Empty lines and lines that begin with `#` are
+//! skipped, and counted. A script stops at its first fault, and what the lines before it wrote stays.
+ghost use Rattle.std.specs.Prelude.{◌≡◌, ◌≤◌, ◌∷◌, [], ℕ, List, Bool, length, IfOk};
 ghost use Rattle.std.specs.Io.KnownBytes.{Appends};
-ghost use Rattle.tk_live.specs.Commands.{IsGoodLine, capacity_of};
+ghost use Rattle.tk_live.specs.Commands.{is_skipped, line_of, lines_of, capacity_of};
 ghost use Rattle.tk_live.specs.Course.{start_of_all};
 ghost use Rattle.tk_live.specs.Runs.{StandsFor, LineComes, LinesCame};
-ghost use Rattle.tk_live.specs.Script.{RunWrites};
+ghost use Rattle.tk_live.specs.Script.{RunWrites, ReadsAndRuns};
 
-use crate::command::{Command, Line};
-use crate::fault::AppFault;
+use crate::command::{Command, command_of};
+use crate::gate::Gate;
 use crate::interpreter::Interpreter;
+use crate::pieces::Pieces;
 use crate::stop::Stop;
-use std::alloc::Global;
-use std::io::Write;
+use crate::transfer::{MAX_SCRIPT, read_script};
+use std::alloc::{AllocError, Global};
+use std::io::{Read, Write};
 use std::sync::Wait;
+use tk_report::AppFault;
+
+/// How many events the console holds where the script doesn't say.
+const CAPACITY: u64 = 1_024;
+
+fn is_skipped(line: &[u8]) -> bool
+    ensures { result ≡ is_skipped line.now }
+{
+    match line.first() {
+        Some(byte) => *byte == b'#',
+        None => true,
+    }
+}
 
 // The capacity that a script asks for.
-fn capacity_in(script: &[Line<'_>]) -> u64
-    ensures { result ≡ capacity_of script.now }
+fn capacity_in(alloc: Global, script: &[u8]) -> Result<u64, AllocError>
+    ensures said { IfOk result (λ n. n ≡ capacity_of (lines_of script.now)) }
+    ensures fits { IfOk result (λ n. (1 ≤ n) × (n ≤ 65536)) }
 {
-    for line in script {
-        if let Line::Says(command) = line {
-            return match command {
-                Command::Capacity { count } => *count,
-                _ => 1024,
+    for line in Pieces::new(script, b'\n') {
+        if !is_skipped(line) {
+            return match command_of(alloc, line)? {
+                Some(Command::Capacity { count }) => Ok(count),
+                _ => Ok(CAPACITY),
             };
         }
     }
-    1024
+    Ok(CAPACITY)
 }
 
 // One line, of this number from 1.
@@ -36,66 +54,64 @@ fn run_line<R: Wait, W: Write>(
     alloc: Global,
     interpreter: &mut Interpreter,
     number: u32,
-    line: Line<'_>,
+    line: &[u8],
     writer: &mut W,
 ) -> Result<(), Stop>
-    requires good { IsGoodLine line }
-    ensures { LineComes number line.entry interpreter.old interpreter.new result
+    ensures { LineComes number (line_of line.now) interpreter.old interpreter.new result
         (W.contents writer.old) (W.contents writer.new) }
 {
-    match line {
-        Line::Skipped => Ok(()),
-        Line::Bad => Err(Stop::BadCommand),
-        Line::Says(command) => interpreter.run(rt, alloc, number, command, writer),
+    if is_skipped(line) {
+        return Ok(());
+    }
+    let Ok(said) = command_of(alloc, line) else {
+        return Err(Stop::Memory);
+    };
+    match said {
+        Some(command) => interpreter.run(rt, alloc, number, command, writer),
+        None => Err(Stop::BadCommand),
     }
 }
 
-// The lines of a script, one after the other.
+// The lines of a script that was read, one after the other.
 fn run_lines<R: Wait, W: Write>(
     rt: &R,
     alloc: Global,
     interpreter: &mut Interpreter,
-    script: &[Line<'_>],
+    script: &[u8],
     writer: &mut W,
 ) -> Result<(), AppFault>
-    requires good { AllByRecursion IsGoodLine script.now }
-    requires short { length script.now ≤ 4294967294 }
-    requires fresh { StandsFor interpreter.old (capacity_of script.now) start_of_all [] [] }
-    ensures { (text : List ℕ) × LinesCame script.now (capacity_of script.now) interpreter.new result text
+    requires short { length script.now ≤ MAX_SCRIPT }
+    requires fresh { StandsFor interpreter.old (capacity_of (lines_of script.now)) start_of_all [] [] }
+    ensures { (text : List ℕ) × LinesCame (lines_of script.now) (capacity_of (lines_of script.now)) interpreter.new result text
         × Appends (W.contents writer.old) (W.contents writer.new) text }
 {
     let mut number = 0u32;
-    for line in script {
+    for line in Pieces::new(script, b'\n') {
         number += 1;
-        if let Err(stop) = run_line(rt, alloc, interpreter, number, *line, writer) {
+        if let Err(stop) = run_line(rt, alloc, interpreter, number, line, writer) {
             return Err(AppFault::Script {
                 line: number as u64,
-                stop,
+                name: stop.name(),
             });
         }
     }
     Ok(())
 }
 
-/// Runs the lines of a script one after the other, and writes the lines of the stream that are due.
-///
-/// A line that says `capacity` before every other command says how many events the console holds; without one these are 1,024.
-///
-/// - `Memory`: there was none to begin. Nothing was written.
-/// - `Script`: a line stopped it, of this number from 1. The lines before it were run, and what they published went out; at a
-///   `WriteFault` a proper front of its own line as well.
-pub fn run<R: Wait, W: Write>(
+// A script that was read. At its end, be it a fault, the recorder is retired and the taker finished.
+fn run<R: Wait, W: Write>(
     rt: &R,
     alloc: Global,
-    script: &[Line<'_>],
+    script: &[u8],
     writer: &mut W,
 ) -> Result<(), AppFault>
-    requires good { AllByRecursion IsGoodLine script.now }
-    requires short { length script.now ≤ 4294967294 }
+    requires short { length script.now ≤ MAX_SCRIPT }
     ensures { (written : List ℕ) × RunWrites script.now result written
         × Appends (W.contents writer.old) (W.contents writer.new) written }
 {
-    let capacity = capacity_in(script);
+    let Ok(capacity) = capacity_in(alloc, script) else {
+        return Err(AppFault::Memory);
+    };
     let Ok(mut interpreter) = Interpreter::new(alloc, capacity) else {
         return Err(AppFault::Memory);
     };
@@ -105,4 +121,34 @@ pub fn run<R: Wait, W: Write>(
     let done = run_lines(rt, alloc, &mut interpreter, script, writer);
     interpreter.finish(room);
     done
+}
+
+/// Reads a script, runs it over live ledgers, and writes the stream that it publishes.
+///
+/// The reader is read to its end. The script's items are recorded by one recorder, of number 1, in a console that holds as
+/// many events as a `capacity` command before every other one says, from 1 to 65,536, and 1,024 without one. Each `publish`
+/// and each `snapshot` takes what the console holds, reads the ledgers of the items that are known by then, and writes one
+/// line. What did not fit into the console is counted as dropped; an item that was dropped keeps its number and its ledger.
+/// The gate is for blocks of threads, which no command opens yet.
+///
+/// - `Memory`: the script could not be kept, or the run not begun, for want of memory. Nothing was written.
+/// - `Read`: the reader failed, gave no end within 2^32 reads, or gave more than 1,048,576 bytes. Nothing was written.
+/// - `Script`: a line was refused, and what the lines before it published stands. Its name is `BadCommand`
+///   (no command, or `capacity` behind another command), `NoSuchItem` (an item that was not made, or is spent), the name of
+///   the refused call's refusal, `OffersSpent` (2^40 - 1 events were recorded), `Clock` (a moment below the last line's),
+///   `NumbersSpent` (2^63 lines were written), `Memory`, or `WriteFault` (a proper front of the next line went out).
+pub fn run_script<R: Wait, I: Read, W: Write, G: Gate>(
+    rt: &R,
+    alloc: Global,
+    reader: &mut I,
+    writer: &mut W,
+    _gate: &G,
+) -> Result<(), AppFault>
+    // The script runs line by line, and stops at its first fault with the lines before it written. What its text tells is a
+    // function of the text; what came of that is one record.
+    ensures run { (written : List ℕ) × ReadsAndRuns (I.remaining reader.old) result written
+        × Appends (W.contents writer.old) (W.contents writer.new) written }
+{
+    let script = read_script(alloc, reader)?;
+    run(rt, alloc, script.as_slice(), writer)
 }

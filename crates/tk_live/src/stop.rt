@@ -1,4 +1,6 @@
 //! Why a line of a script stops it.
+ghost use Rattle.std.specs.Prelude.{◌≡◌};
+ghost use Rattle.tk_live.specs.Refusals as spec;
 
 use tk_core::Refusal;
 
@@ -21,4 +23,37 @@ pub enum Stop {
     Memory,
     /// The writer gave an error or took nothing, and a proper front of the line went out.
     WriteFault,
+}
+
+fn name_of(refusal: Refusal) -> &'static str
+    ensures { result.now ≡ spec.name_of refusal }
+{
+    match refusal {
+        Refusal::AlreadyPolling => "AlreadyPolling",
+        Refusal::NotPolling => "NotPolling",
+        Refusal::Closed => "Closed",
+        Refusal::HandlesSpent => "HandlesSpent",
+        Refusal::NoAttribute => "NoAttribute",
+        Refusal::WrongKind => "WrongKind",
+        Refusal::OutOfRange => "OutOfRange",
+        Refusal::Memory => "Memory",
+    }
+}
+
+impl Stop {
+    /// The name by which a script stops.
+    pub fn name(self) -> &'static str
+        ensures { result.now ≡ spec.stop_name self }
+    {
+        match self {
+            Stop::BadCommand => "BadCommand",
+            Stop::NoSuchItem => "NoSuchItem",
+            Stop::Call(refusal) => name_of(refusal),
+            Stop::OffersSpent => "OffersSpent",
+            Stop::Clock => "Clock",
+            Stop::NumbersSpent => "NumbersSpent",
+            Stop::Memory => "Memory",
+            Stop::WriteFault => "WriteFault",
+        }
+    }
 }

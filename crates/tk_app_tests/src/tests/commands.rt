@@ -5,8 +5,7 @@ use super::readers::Trickle;
 
 // Commands that scripts do not have yet.
 #[rattlefmt::skip]
-const LATER: [&[u8]; 4] = [
-    b"capacity 16",
+const LATER: [&[u8]; 3] = [
     b"par", b"1 wakeref 1 5", b"join",
 ];
 
@@ -82,9 +81,6 @@ fn a_name_has_at_most_1024_bytes(rt: HostRuntime) {
             padding: length,
             fails: false,
         };
-        assert!(rt;
-            runs_from(rt.alloc(), &mut reader, fault, ""),
-            "{length} bytes"
-        );
+        assert!(rt; runs_from(&rt, &mut reader, fault, ""), "{length} bytes");
     }
 }

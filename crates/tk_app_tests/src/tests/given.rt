@@ -6,6 +6,7 @@
 use std::alloc::Global;
 use std::io::{Read, Write};
 use std::process::Abort;
+use std::sync::Wait;
 use tk_app::{AppFault, Open, run_script};
 
 // A task that is made, and a line that tells of it.
@@ -24,22 +25,27 @@ pub(super) fn is_text_of(alloc: Global, fault: AppFault, text: &str) -> bool {
 }
 
 // Whether running stops at the fault of this text, or at none where that is empty.
-pub(super) fn stops_at<R: Read, W: Write>(
-    alloc: Global,
-    reader: &mut R,
+pub(super) fn stops_at<R: Wait + AllocGlobal, I: Read, W: Write>(
+    rt: &R,
+    reader: &mut I,
     writer: &mut W,
     fault: &str,
 ) -> bool {
-    match run_script(alloc, reader, writer, &Open) {
+    match run_script(rt, rt.alloc(), reader, writer, &Open) {
         Ok(()) => fault.is_empty(),
-        Err(stop) => is_text_of(alloc, stop, fault),
+        Err(stop) => is_text_of(rt.alloc(), stop, fault),
     }
 }
 
 // Whether it does, and has written this text.
-pub(super) fn runs_from<R: Read>(alloc: Global, reader: &mut R, fault: &str, wanted: &str) -> bool {
-    let mut written = Vec::new(alloc);
-    stops_at(alloc, reader, &mut written, fault) && written.as_slice() == wanted.as_bytes()
+pub(super) fn runs_from<R: Wait + AllocGlobal, I: Read>(
+    rt: &R,
+    reader: &mut I,
+    fault: &str,
+    wanted: &str,
+) -> bool {
+    let mut written = Vec::new(rt.alloc());
+    stops_at(rt, reader, &mut written, fault) && written.as_slice() == wanted.as_bytes()
 }
 
 // Lines, each with its line end.
@@ -53,27 +59,32 @@ pub(super) fn text_of(alloc: Global, lines: &[&str]) -> Option<String> {
 }
 
 // Whether the script stops at this fault, or at none where its text is empty, and has written these lines.
-pub(super) fn runs(alloc: Global, script: &'static [u8], fault: &str, lines: &[&str]) -> bool {
+pub(super) fn runs<R: Wait + AllocGlobal>(
+    rt: &R,
+    script: &'static [u8],
+    fault: &str,
+    lines: &[&str],
+) -> bool {
     let mut reader = script;
-    match text_of(alloc, lines) {
-        Some(wanted) => runs_from(alloc, &mut reader, fault, wanted.as_str()),
+    match text_of(rt.alloc(), lines) {
+        Some(wanted) => runs_from(rt, &mut reader, fault, wanted.as_str()),
         None => false,
     }
 }
 
 // The script stops at this fault, or at none where its text is empty, and has written these lines.
-pub(super) fn assert_runs<R: Abort + AllocGlobal>(
+pub(super) fn assert_runs<R: Abort + Wait + AllocGlobal>(
     rt: &R,
     case: &str,
     script: &'static [u8],
     fault: &str,
     lines: &[&str],
 ) {
-    assert!(rt; runs(rt.alloc(), script, fault, lines), "{case}");
+    assert!(rt; runs(rt, script, fault, lines), "{case}");
 }
 
 // Each script stops at its fault, or at none where its text is empty, and has written its lines.
-pub(super) fn assert_all_run<R: Abort + AllocGlobal>(
+pub(super) fn assert_all_run<R: Abort + Wait + AllocGlobal>(
     rt: &R,
     cases: &[(&str, &'static [u8], &str, &[&str])],
 ) {
@@ -83,7 +94,7 @@ pub(super) fn assert_all_run<R: Abort + AllocGlobal>(
 }
 
 // Each script stops at its fault, and has written nothing.
-pub(super) fn assert_all_stop<R: Abort + AllocGlobal>(
+pub(super) fn assert_all_stop<R: Abort + Wait + AllocGlobal>(
     rt: &R,
     cases: &[(&str, &'static [u8], &str)],
 ) {
@@ -93,7 +104,7 @@ pub(super) fn assert_all_stop<R: Abort + AllocGlobal>(
 }
 
 // Each script has no fault, and has written its lines.
-pub(super) fn assert_all_write<R: Abort + AllocGlobal>(
+pub(super) fn assert_all_write<R: Abort + Wait + AllocGlobal>(
     rt: &R,
     cases: &[(&str, &'static [u8], &[&str])],
 ) {
@@ -103,7 +114,7 @@ pub(super) fn assert_all_write<R: Abort + AllocGlobal>(
 }
 
 // None of these lines is a command.
-pub(super) fn assert_are_bad<R: Abort + AllocGlobal>(rt: &R, lines: &[&'static [u8]]) {
+pub(super) fn assert_are_bad<R: Abort + Wait + AllocGlobal>(rt: &R, lines: &[&'static [u8]]) {
     for line in lines {
         let case = str::from_utf8(line).unwrap_or("a line that is no text");
         assert_runs(rt, case, line, "line 1: BadCommand", &[]);

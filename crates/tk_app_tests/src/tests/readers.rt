@@ -1,10 +1,10 @@
 //! Readers that give little, too much, or a fault.
 
 use super::given::{MAIN, MAIN_LINE, runs_from, text_of};
-use std::alloc::Global;
 use std::io;
 use std::io::Read;
 use std::process::Abort;
+use std::sync::Wait;
 
 // Gives one byte a read, then as many bytes x as its padding says, and then its end or a fault.
 #[derive(Drop)]
@@ -56,17 +56,17 @@ const READERS: [(&str, &[u8], usize, bool, &str); 7] = [
 ];
 
 // Whether running stops at this fault and has written nothing, or at none and has written the line.
-fn comes_to(alloc: Global, reader: &mut Trickle, fault: &str) -> bool {
+fn comes_to<R: Wait + AllocGlobal>(rt: &R, reader: &mut Trickle, fault: &str) -> bool {
     if !fault.is_empty() {
-        return runs_from(alloc, reader, fault, "");
+        return runs_from(rt, reader, fault, "");
     }
-    match text_of(alloc, &[MAIN_LINE]) {
-        Some(line) => runs_from(alloc, reader, fault, line.as_str()),
+    match text_of(rt.alloc(), &[MAIN_LINE]) {
+        Some(line) => runs_from(rt, reader, fault, line.as_str()),
         None => false,
     }
 }
 
-fn assert_all_come_to<R: Abort + AllocGlobal>(
+fn assert_all_come_to<R: Abort + Wait + AllocGlobal>(
     rt: &R,
     cases: &[(&str, &'static [u8], usize, bool, &str)],
 ) {
@@ -76,7 +76,7 @@ fn assert_all_come_to<R: Abort + AllocGlobal>(
             padding: *padding,
             fails: *fails,
         };
-        assert!(rt; comes_to(rt.alloc(), &mut reader, fault), "{case}");
+        assert!(rt; comes_to(rt, &mut reader, fault), "{case}");
     }
 }
 

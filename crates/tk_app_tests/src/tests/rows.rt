@@ -1,8 +1,8 @@
 //! The statistics of a task behind its owner's calls, as a line tells them.
 
 use super::given::runs;
-use std::alloc::Global;
 use std::process::Abort;
+use std::sync::Wait;
 
 // A line that tells of one new task, up to the task's statistics and behind them.
 const HEAD: &str =
@@ -93,20 +93,20 @@ publish 200",            POLLED_AND_CLOSED),
 ];
 
 // Whether the script's one line tells of a task with these statistics.
-fn tells_row(alloc: Global, script: &'static [u8], row: &str) -> bool {
-    match format!(in alloc; "{HEAD}{row}{TAIL}") {
-        Ok(line) => runs(alloc, script, "", &[line.as_str()]),
+fn tells_row<R: Wait + AllocGlobal>(rt: &R, script: &'static [u8], row: &str) -> bool {
+    match format!(in rt.alloc(); "{HEAD}{row}{TAIL}") {
+        Ok(line) => runs(rt, script, "", &[line.as_str()]),
         Err(_) => false,
     }
 }
 
 // Each script's one line tells of a task with its statistics.
-pub(super) fn assert_all_tell<R: Abort + AllocGlobal>(
+pub(super) fn assert_all_tell<R: Abort + Wait + AllocGlobal>(
     rt: &R,
     cases: &[(&str, &'static [u8], &str)],
 ) {
     for (case, script, row) in cases {
-        assert!(rt; tells_row(rt.alloc(), script, row), "{case}");
+        assert!(rt; tells_row(rt, script, row), "{case}");
     }
 }
 

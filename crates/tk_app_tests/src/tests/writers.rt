@@ -1,10 +1,10 @@
 //! Writers that take little, nothing, or fail.
 
 use super::given::{MAIN, MAIN_LINE, stops_at, text_of};
-use std::alloc::Global;
 use std::io;
 use std::io::Write;
 use std::process::Abort;
+use std::sync::Wait;
 
 // Takes at most so many bytes a write, as long as there is room. Then it gives an error, or takes nothing.
 #[derive(Drop)]
@@ -33,8 +33,8 @@ impl Write for Narrow {
 
 // Whether a script that is run into a writer of this kind stops at this fault, or at none where its text is empty, and these
 // bytes went out.
-fn runs_into(
-    alloc: Global,
+fn runs_into<R: Wait + AllocGlobal>(
+    rt: &R,
     script: &'static [u8],
     most: usize,
     room: usize,
@@ -44,29 +44,29 @@ fn runs_into(
 ) -> bool {
     let mut reader = script;
     let mut writer = Narrow {
-        got: Vec::new(alloc),
+        got: Vec::new(rt.alloc()),
         most,
         room,
         is_silent,
     };
-    stops_at(alloc, &mut reader, &mut writer, fault) && writer.got.as_slice() == wanted
+    stops_at(rt, &mut reader, &mut writer, fault) && writer.got.as_slice() == wanted
 }
 
-fn goes_out_byte_by_byte(alloc: Global, line: &[u8]) -> bool {
-    runs_into(alloc, MAIN, 1, line.len(), false, "", line)
+fn goes_out_byte_by_byte<R: Wait + AllocGlobal>(rt: &R, line: &[u8]) -> bool {
+    runs_into(rt, MAIN, 1, line.len(), false, "", line)
 }
 
 #[test]
 fn a_writer_may_take_one_byte_at_a_time(rt: HostRuntime) {
     match text_of(rt.alloc(), &[MAIN_LINE]) {
-        Some(line) => assert!(rt; goes_out_byte_by_byte(rt.alloc(), line.as_bytes())),
+        Some(line) => assert!(rt; goes_out_byte_by_byte(&rt, line.as_bytes())),
         None => assert!(rt; false, "no line"),
     }
 }
 
-fn keeps_front(alloc: Global, front: &[u8], is_silent: bool) -> bool {
+fn keeps_front<R: Wait + AllocGlobal>(rt: &R, front: &[u8], is_silent: bool) -> bool {
     runs_into(
-        alloc,
+        rt,
         MAIN,
         7,
         front.len(),
@@ -76,11 +76,11 @@ fn keeps_front(alloc: Global, front: &[u8], is_silent: bool) -> bool {
     )
 }
 
-fn assert_keeps_fronts<R: Abort + AllocGlobal>(rt: &R, line: &[u8]) {
+fn assert_keeps_fronts<R: Abort + Wait + AllocGlobal>(rt: &R, line: &[u8]) {
     for room in 0..line.len() {
         for is_silent in [false, true] {
             assert!(rt;
-                keeps_front(rt.alloc(), &line[..room], is_silent),
+                keeps_front(rt, &line[..room], is_silent),
                 "after {room} bytes"
             );
         }
@@ -97,23 +97,15 @@ fn a_failing_writer_keeps_what_it_took(rt: HostRuntime) {
 
 const LATER: &[u8] = b"task 100 spawn main\npublish 200\n# again\npublish 300\n";
 
-fn keeps_first(alloc: Global, line: &[u8]) -> bool {
-    runs_into(
-        alloc,
-        LATER,
-        7,
-        line.len(),
-        false,
-        "line 4: WriteFault",
-        line,
-    )
+fn keeps_first<R: Wait + AllocGlobal>(rt: &R, line: &[u8]) -> bool {
+    runs_into(rt, LATER, 7, line.len(), false, "line 4: WriteFault", line)
 }
 
 // The first line went out whole, and the second did not begin.
 #[test]
 fn a_fault_in_a_later_line_keeps_the_first(rt: HostRuntime) {
     match text_of(rt.alloc(), &[MAIN_LINE]) {
-        Some(line) => assert!(rt; keeps_first(rt.alloc(), line.as_bytes())),
+        Some(line) => assert!(rt; keeps_first(&rt, line.as_bytes())),
         None => assert!(rt; false, "no line"),
     }
 }

@@ -8,7 +8,6 @@ ghost use Rattle.tk_core.specs.OpMeaning.{op_meaning};
 ghost use Rattle.tk_cell.specs.Calls.{Calls};
 
 use super::Interpreter;
-use crate::attributes::copy_of;
 use crate::seats::{is_made, put_seat, take_seat};
 use crate::stop::Stop;
 use std::alloc::Global;
@@ -35,13 +34,12 @@ fn task_id(number: u64) -> Result<TaskId, IdError>
 }
 
 // What is told of an operation on a resource.
-fn spec_of(alloc: Global, resource: u64, source: &[u8], attrs: &Attrs) -> Result<OpSpec, IdError>
+fn spec_of(alloc: Global, resource: u64, source: &[u8], attrs: Attrs) -> Result<OpSpec, IdError>
     requires { 1 ≤ resource }
-    ensures { IfOk result (λ spec. (spec.source ≡ source.now) × (spec.resource ≡ id_of 1 resource) × (spec.parent ≡ None) × (spec.attrs ≡ attrs.now)) }
+    ensures { IfOk result (λ spec. (spec.source ≡ source.now) × (spec.resource ≡ id_of 1 resource) × (spec.parent ≡ None) × (spec.attrs ≡ attrs)) }
 {
     let resource = resource_id(resource)?;
     let source = Name::new(alloc, source)?;
-    let attrs = copy_of(alloc, attrs)?;
     Ok(OpSpec {
         source,
         resource,
@@ -78,10 +76,10 @@ impl Interpreter {
         created: u64,
         resource: u64,
         source: &[u8],
-        attrs: &Attrs,
+        attrs: Attrs,
     ) -> Result<(), Stop>
         requires named { is_name source.now ≡ true }
-        ensures { (line : ℕ) → Does line (said.op created resource source.now attrs.now) self.old self.new result }
+        ensures { (line : ℕ) → Does line (said.op created resource source.now attrs) self.old self.new result }
     {
         if !is_made(&self.resources, resource) {
             return Err(Stop::NoSuchItem);

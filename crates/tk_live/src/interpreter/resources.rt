@@ -9,7 +9,6 @@ ghost use Rattle.tk_live.specs.Course as course;
 
 use super::Interpreter;
 use super::tasks::place_of;
-use crate::attributes::copy_of;
 use crate::seats::{put_seat, take_seat};
 use crate::stop::Stop;
 use std::alloc::Global;
@@ -25,15 +24,14 @@ fn spec_of(
     line: u32,
     kind: &[u8],
     concrete: &[u8],
-    attrs: &Attrs,
+    attrs: Attrs,
 ) -> Result<ResourceSpec, IdError>
     ensures { IfOk result (λ spec. (spec.parent ≡ None) × (spec.concrete ≡ concrete.now) × (spec.kind ≡ kind.now)
-        × (spec.location ≡ course.place line) × (spec.attrs ≡ attrs.now)) }
+        × (spec.location ≡ course.place line) × (spec.attrs ≡ attrs)) }
 {
     let concrete = Name::new(alloc, concrete)?;
     let kind = Name::new(alloc, kind)?;
     let location = place_of(alloc, line)?;
-    let attrs = copy_of(alloc, attrs)?;
     Ok(ResourceSpec {
         parent: None,
         concrete,
@@ -71,10 +69,10 @@ impl Interpreter {
         created: u64,
         kind: &[u8],
         concrete: &[u8],
-        attrs: &Attrs,
+        attrs: Attrs,
     ) -> Result<(), Stop>
         requires named { (is_name kind.now ≡ true) × (is_name concrete.now ≡ true) }
-        ensures { Does line (said.resource created kind.now concrete.now attrs.now) self.old self.new result }
+        ensures { Does line (said.resource created kind.now concrete.now attrs) self.old self.new result }
     {
         let Ok(spec) = spec_of(alloc, line, kind, concrete, attrs) else {
             return Err(Stop::Memory);

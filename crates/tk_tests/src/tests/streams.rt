@@ -5,6 +5,7 @@ ghost use Rattle.tk_stream.specs.Tables.{empty_tables};
 
 use super::scripts as script;
 use std::alloc::Global;
+use std::sync::Wait;
 use std::test::*;
 use tk_app::{Open, run_script};
 use tk_client::{Client, Lints, Warning, WarningKind};
@@ -13,10 +14,10 @@ use tk_stream::{Line, Tables};
 // Each helper owns one of these at most, and lends it to the next: so their proofs stay short.
 
 // What a script writes, if it has no fault.
-fn stream_of(alloc: Global, script: &'static [u8]) -> Option<Vec<u8>> {
+fn stream_of<R: Wait + AllocGlobal>(rt: &R, script: &'static [u8]) -> Option<Vec<u8>> {
     let mut reader = script;
-    let mut written = Vec::new(alloc);
-    match run_script(alloc, &mut reader, &mut written, &Open) {
+    let mut written = Vec::new(rt.alloc());
+    match run_script(rt, rt.alloc(), &mut reader, &mut written, &Open) {
         Ok(()) => Some(written),
         Err(_) => None,
     }
@@ -94,28 +95,28 @@ fn is_taken_by_all_sizes(alloc: Global, bytes: &[u8], lines: u64) -> bool {
 }
 
 // Whether a script ends without a fault, and a client takes its stream of so many lines in pieces of any size.
-fn is_taken(alloc: Global, script: &'static [u8], lines: u64) -> bool {
-    match stream_of(alloc, script) {
-        Some(bytes) => is_taken_by_all_sizes(alloc, bytes.as_slice(), lines),
+fn is_taken<R: Wait + AllocGlobal>(rt: &R, script: &'static [u8], lines: u64) -> bool {
+    match stream_of(rt, script) {
+        Some(bytes) => is_taken_by_all_sizes(rt.alloc(), bytes.as_slice(), lines),
         None => false,
     }
 }
 
 #[test]
 fn examples_are_taken(rt: HostRuntime) -> Result<(), Fail> {
-    let alloc = rt.alloc();
-    assert!(rt; is_taken(alloc, script::first(), 3), "first");
-    assert!(rt; is_taken(alloc, script::long_poll(), 4), "long-poll");
-    assert!(rt; is_taken(alloc, script::never_woken(), 2), "never-woken");
-    assert!(rt; is_taken(alloc, script::wakes_itself(), 5), "wakes-itself");
-    assert!(rt; is_taken(alloc, script::semaphore(), 3), "semaphore");
-    assert!(rt; is_taken(alloc, script::lost_waker(), 3), "lost-waker");
+    assert!(rt; is_taken(&rt, script::first(), 3), "first");
+    assert!(rt; is_taken(&rt, script::long_poll(), 4), "long-poll");
+    assert!(rt; is_taken(&rt, script::never_woken(), 2), "never-woken");
+    assert!(rt; is_taken(&rt, script::wakes_itself(), 5), "wakes-itself");
+    assert!(rt; is_taken(&rt, script::semaphore(), 3), "semaphore");
+    assert!(rt; is_taken(&rt, script::lost_waker(), 3), "lost-waker");
+    assert!(rt; is_taken(&rt, script::burst(), 5), "burst");
     Ok(())
 }
 
 #[test]
 fn every_command_is_taken(rt: HostRuntime) -> Result<(), Fail> {
-    assert!(rt; is_taken(rt.alloc(), script::every_command(), 4));
+    assert!(rt; is_taken(&rt, script::every_command(), 4));
     Ok(())
 }
 
@@ -149,17 +150,21 @@ fn client_warns(alloc: Global, bytes: &[u8], number: u64, kind: WarningKind) -> 
 }
 
 // Whether a client that took the stream of a script warns once: of the task of this number.
-fn warns(alloc: Global, script: &'static [u8], number: u64, kind: WarningKind) -> bool {
-    match stream_of(alloc, script) {
-        Some(bytes) => client_warns(alloc, bytes.as_slice(), number, kind),
+fn warns<R: Wait + AllocGlobal>(
+    rt: &R,
+    script: &'static [u8],
+    number: u64,
+    kind: WarningKind,
+) -> bool {
+    match stream_of(rt, script) {
+        Some(bytes) => client_warns(rt.alloc(), bytes.as_slice(), number, kind),
         None => false,
     }
 }
 
 #[test]
 fn warns_of_what_the_examples_show(rt: HostRuntime) -> Result<(), Fail> {
-    let alloc = rt.alloc();
-    assert!(rt; warns(alloc, script::wakes_itself(), 1, WarningKind::SelfWakes));
-    assert!(rt; warns(alloc, script::lost_waker(), 1, WarningKind::LostWaker));
+    assert!(rt; warns(&rt, script::wakes_itself(), 1, WarningKind::SelfWakes));
+    assert!(rt; warns(&rt, script::lost_waker(), 1, WarningKind::LostWaker));
     Ok(())
 }

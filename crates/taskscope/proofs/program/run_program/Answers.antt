@@ -24,7 +24,6 @@ nothing_done Run given known status told = record {
   written = [];
   runs = refl;
   appends = nothing_more known;
-  stream = tt;
 }
 nothing_done (Show shown lints) given known status told = record {
   outcome = Err faults.Memory;

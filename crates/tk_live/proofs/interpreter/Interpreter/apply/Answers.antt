@@ -53,7 +53,7 @@ returns-in-Capacity g c =
 
 pub returns-in-Resource : goal.returns-in-Resource
 returns-in-Resource g c =
-    rw c.in-Resource.is (quietly c.args.line (said.resource c.in-Resource.moment c.in-Resource.kind.now c.in-Resource.concrete.now c.in-Resource.attrs.now) c.args.self.now c.make_resource.new.self c.make_resource.result (g.W.Write.contents c.args.writer.now) c.make_resource.ensures (λ sent stop. refl {A = List ℕ} {a = []}))
+    rw c.in-Resource.is (quietly c.args.line (said.resource c.in-Resource.moment c.in-Resource.kind.now c.in-Resource.concrete.now c.in-Resource.attrs) c.args.self.now c.make_resource.new.self c.make_resource.result (g.W.Write.contents c.args.writer.now) c.make_resource.ensures (λ sent stop. refl {A = List ℕ} {a = []}))
 
 pub returns-in-CloseResource : goal.returns-in-CloseResource
 returns-in-CloseResource g c =
@@ -65,7 +65,7 @@ returns-in-ChangeResource g c =
 
 pub returns-in-Op : goal.returns-in-Op
 returns-in-Op g c =
-    rw c.in-Op.is (quietly c.args.line (said.op c.in-Op.moment c.in-Op.resource c.in-Op.source.now c.in-Op.attrs.now) c.args.self.now c.make_op.new.self c.make_op.result (g.W.Write.contents c.args.writer.now) (c.make_op.ensures c.args.line) (λ sent stop. refl {A = List ℕ} {a = []}))
+    rw c.in-Op.is (quietly c.args.line (said.op c.in-Op.moment c.in-Op.resource c.in-Op.source.now c.in-Op.attrs) c.args.self.now c.make_op.new.self c.make_op.result (g.W.Write.contents c.args.writer.now) (c.make_op.ensures c.args.line) (λ sent stop. refl {A = List ℕ} {a = []}))
 
 pub returns-in-OpTask : goal.returns-in-OpTask
 returns-in-OpTask g c =

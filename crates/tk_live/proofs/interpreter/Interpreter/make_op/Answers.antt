@@ -22,7 +22,7 @@ returns-in-Ok-async_op g c line capacity k kept sent stands =
     let o = stands.keeps.offered in
     let owner = c.in-Ok-async_op.owner in
     let n = length k.names.ops + 1 in
-    let attrs = c.args.attrs.now in
+    let attrs = c.args.attrs in
     let r_is = told_made owner_of c.args.resource i.resources.items k.names.resources stands.holds.resources_are ∙ sym c.if-not-is_made.ensures.made in
     let one = op_offered i.recorder c.async_op.new.self i.taker i.aggregator capacity k kept sent c.in-Ok.spec owner c.in-Ok-async_op._became c.args.created c.args.resource c.args.source.now attrs stands.keeps s e.same e.kept e.refused e.alone in
     let known = new_owner owner (id_of 1 n) Enlist (opening_row c.args.created (first_values c.in-Ok.spec.attrs)) (e.id ∙ op_id_is i.recorder capacity k kept o) e.owner
@@ -55,5 +55,5 @@ returns-in-Err-OffersSpent-default g c line capacity k kept sent stands =
     let e = c.in-Err-OffersSpent-default.ensures in
     let r_is = told_made owner_of c.args.resource i.resources.items k.names.resources stands.holds.resources_are ∙ sym c.if-not-is_made.ensures.made in (
       inl (is_there _ _ r_is ∙ spent i.recorder capacity (numbers_of k.names) k kept stands.keeps.offered (e.spent.0 (λ j. Err (c.in-Err-OffersSpent-default.field-0-0-is j, e.err.0 j)))),
-      rests _ capacity k line (said.op c.args.created c.args.resource c.args.source.now c.args.attrs.now) kept sent (subst (λ r. Keeps r i.taker i.aggregator capacity k kept sent) (sym e.err.1) stands.keeps),
+      rests _ capacity k line (said.op c.args.created c.args.resource c.args.source.now c.args.attrs) kept sent (subst (λ r. Keeps r i.taker i.aggregator capacity k kept sent) (sym e.err.1) stands.keeps),
     )

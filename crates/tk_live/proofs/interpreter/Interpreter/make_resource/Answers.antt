@@ -28,7 +28,7 @@ returns-in-Ok-user g c capacity k kept sent stands =
     let u = c.in-Ok-user.ensures in
     let after = c.user.new.self in
     let n = length k.names.resources + 1 in
-    let attrs = c.args.attrs.now in
+    let attrs = c.args.attrs in
     let h = new_resource n c.args.created attrs in
     let one = resource_offered i.recorder c.resource.new.self i.taker i.aggregator capacity k kept sent c.in-Ok.spec owner c.in-Ok-resource._became c.args.line c.args.created c.args.kind.now c.args.concrete.now attrs stands.keeps s e.same e.kept e.refused e.alone in
     let first = new_owner owner (id_of 1 n) Enlist (opening_row c.args.created (first_values c.in-Ok.spec.attrs)) (e.id ∙ resource_id_is i.recorder capacity k kept o) e.owner
@@ -65,7 +65,7 @@ returns-in-Err-HandlesSpent g c capacity k kept sent stands =
     let s = c.in-Ok.ensures in
     let owner = c.in-Ok-resource.owner in
     let n = length k.names.resources + 1 in
-    let attrs = c.args.attrs.now in
+    let attrs = c.args.attrs in
     let h = new_resource n c.args.created attrs in
     let one = resource_offered i.recorder c.resource.new.self i.taker i.aggregator capacity k kept sent c.in-Ok.spec owner c.in-Ok-resource._became c.args.line c.args.created c.args.kind.now c.args.concrete.now attrs stands.keeps s e.same e.kept e.refused e.alone in
     let opening = sym (ap (λ v. v.opening) e.owner ∙ ap (λ a. Some (opening_row c.args.created (first_values a))) s.4) in
@@ -80,7 +80,7 @@ returns g c capacity k kept sent stands =
     let i = c.args.self.now in
     let e = c.in-Ok-resource.ensures in
     let s = c.in-Ok.ensures in
-    let attrs = c.args.attrs.now in
+    let attrs = c.args.attrs in
     let one = resource_offered i.recorder c.resource.new.self i.taker i.aggregator capacity k kept sent c.in-Ok.spec c.in-Ok-resource.owner c.in-Ok-resource._became c.args.line c.args.created c.args.kind.now c.args.concrete.now attrs stands.keeps s e.same e.kept e.refused e.alone in (
       inr tt,
       record { left = step k c.args.line (said.resource c.args.created c.args.kind.now c.args.concrete.now attrs); is_left = inr refl; kept = kept ++ one.0 ∷ []; keeps = one.1 },
