@@ -79,8 +79,7 @@ pub(crate) fn refresh_all<T: Ledgered, R: Wait>(
     ensures told { TellsSame T.with_row table.old told.old table.new told.new }
 {
     for i in 0..handles.len() {
-        let row = T::read(&mut handles[i], rt);
-        told.set(table, i, &row);
+        told.set(table, i, &T::read(&mut handles[i], rt));
     }
 }
 
