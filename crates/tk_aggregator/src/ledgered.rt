@@ -79,8 +79,7 @@ pub(crate) fn refresh_all<T: Ledgered, R: Wait>(
     ensures told { TellsSame T.with_row table.old told.old table.new told.new }
 {
     for i in 0..handles.len() {
-        let row = T::read(&mut handles[i], rt);
-        told.set(table, i, row);
+        told.set(table, i, &T::read(&mut handles[i], rt));
     }
 }
 
@@ -302,7 +301,8 @@ pub(crate) fn put_poll(
     let (ready, pending) = one_more(ready, tables.poll_counts(resource));
     match tables.counts_place(resource) {
         Some(place) => {
-            told.counts.set(&mut tables.counts, place, (ready, pending));
+            told.counts
+                .set(&mut tables.counts, place, &(ready, pending));
             Ok(())
         }
         None => {

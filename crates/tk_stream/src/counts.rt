@@ -55,6 +55,7 @@ impl Told for (ResourceId, u64, u64) {
         self.0 == other.0 && self.1 == other.1 && self.2 == other.2
     }
 
+    #[inline]
     fn has_row(&self, row: &(u64, u64)) -> bool {
         let (ready, pending) = *row;
         let id = self.0;

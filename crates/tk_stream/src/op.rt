@@ -89,6 +89,7 @@ impl Told for Op {
         same_op_row(&self.row, &other.row)
     }
 
+    #[inline]
     fn has_row(&self, row: &OpRow) -> bool {
         same_op_row(row, &self.row)
     }

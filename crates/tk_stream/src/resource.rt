@@ -89,6 +89,7 @@ impl Told for Resource {
         same_resource_row(&self.row, &other.row)
     }
 
+    #[inline]
     fn has_row(&self, row: &ResourceRow) -> bool {
         same_resource_row(row, &self.row)
     }

@@ -89,6 +89,7 @@ impl Told for Task {
         same_row(&self.row, &other.row)
     }
 
+    #[inline]
     fn has_row(&self, row: &TaskRow) -> bool {
         same_row(row, &self.row)
     }

@@ -100,19 +100,19 @@ impl<T: Told> ToldRows<T> {
     }
 
     /// Replaces the row of the item at a place. What was told of it stays known. Where the row is the same, nothing is written.
-    pub fn set(&mut self, table: &mut Table<T>, i: usize, row: T::Row)
+    pub fn set(&mut self, table: &mut Table<T>, i: usize, row: &T::Row)
         requires { i < length table.old }
-        ensures table { table.new ≡ changed_at (λ item. T.with_row item row) table.old i }
+        ensures table { table.new ≡ changed_at (λ item. T.with_row item row.now) table.old i }
         ensures told { with_rows (told_item T.with_row) table.new self.new.rows ≡ with_rows (told_item T.with_row) table.old self.old.rows }
         ensures count { length self.new.rows ≡ length self.old.rows }
         ensures room { self.new.room ≡ self.old.room }
     {
         let item = table.at(i).unwrap();
-        if item.has_row(&row) {
+        if item.has_row(row) {
             return;
         }
         let before = item.row();
-        table.set(i, row);
+        table.set(i, *row);
         if i < self.count && self.rows[i].is_none() {
             self.rows[i] = Some(before);
         }
