@@ -5,7 +5,7 @@
 #
 # Usage: tests/refused_memory.sh [--built] [FIRST [LAST]], from allocation FIRST (1) to at most LAST (400).
 #
-# Each run is a trial without proof that is compiled anew, JOBS (2) at a time. There are 116 allocations, so it takes
+# Each run is a trial without proof that is compiled anew, JOBS (2) at a time. There are 87 allocations, so it takes
 # about half an hour on two processors (14 runs took 187 s where this was written).
 # With --built it runs the program that `rt run` left in crates/taskscope/out, whose allocations a small C library
 # refuses (cc and LD_PRELOAD): all of it in a second.

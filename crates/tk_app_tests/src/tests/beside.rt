@@ -108,8 +108,8 @@ fn random_scripts_run_as_on_plain_rows(rt: HostRuntime) {
         dropped: 0,
         names: Vec::new(rt.alloc()),
     };
-    let alike = count_alike(&rt, &mut seen, 400).unwrap_or(0);
-    assert!(rt; alike == 400, "{alike} scripts ran alike");
+    let alike = count_alike(&rt, &mut seen, 1_000).unwrap_or(0);
+    assert!(rt; alike == 1_000, "{alike} scripts ran alike");
     assert!(rt;
         seen.done > 100 && seen.stopped > 100 && seen.dropped > 50,
         "{} {} {}",
