@@ -5,7 +5,8 @@ use super::random::add_lines;
 use rand_pcg::Pcg32;
 use std::alloc::{AllocError, Global};
 use std::sync::Wait;
-use tk_app::{AppFault, Open, run_script};
+use tk_live::{Open, run_script};
+use tk_report::AppFault;
 
 // What ends came, and by which names scripts were stopped.
 #[derive(Drop)]
