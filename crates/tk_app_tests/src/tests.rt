@@ -1,15 +1,12 @@
 //! Scripts that are run in memory: what they write, and what they stop at.
 
-mod beside;
 mod capacity;
 mod commands;
 mod faults;
 mod given;
 mod items;
 mod ops;
-mod plain;
 mod polls;
-mod random;
 mod readers;
 mod resources;
 mod rows;

@@ -5,7 +5,8 @@ use super::random::add_lines;
 use rand_pcg::Pcg32;
 use std::alloc::{AllocError, Global};
 use std::sync::Wait;
-use tk_app::{AppFault, Open, run_script};
+use tk_live::{Open, run_script};
+use tk_report::AppFault;
 
 // What ends came, and by which names scripts were stopped.
 #[derive(Drop)]
@@ -108,8 +109,8 @@ fn random_scripts_run_as_on_plain_rows(rt: HostRuntime) {
         dropped: 0,
         names: Vec::new(rt.alloc()),
     };
-    let alike = count_alike(&rt, &mut seen, 400).unwrap_or(0);
-    assert!(rt; alike == 400, "{alike} scripts ran alike");
+    let alike = count_alike(&rt, &mut seen, 1_000).unwrap_or(0);
+    assert!(rt; alike == 1_000, "{alike} scripts ran alike");
     assert!(rt;
         seen.done > 100 && seen.stopped > 100 && seen.dropped > 50,
         "{} {} {}",
