@@ -8,8 +8,8 @@
 # With --view it views a stream in place of running a script: examples/semaphore.script.stdout, which has items of each
 # kind and a warning. Then want of memory comes before any output.
 #
-# Each run is a trial without proof that is compiled anew, JOBS (2) at a time. A script has 87 allocations, so it takes
-# about half an hour on two processors (14 runs took 187 s where this was written).
+# Each run is a trial without proof that is compiled anew, JOBS (2) at a time. The script has 87 allocations, the view
+# 200, so it takes half an hour and more on two processors (14 runs took 187 s where this was written).
 # With --built it runs the program that `rt run` left in crates/taskscope/out, whose allocations a small C library
 # refuses (cc and LD_PRELOAD): all of it in a second.
 

@@ -1,7 +1,7 @@
 -- Where a parse takes words, they ask for something: whatever the parse has held of an option's number passed its parser.
-use Rattle.std.proofs.Common.{◌≡◌, ◌^◌, refl, sym, subst, ap, ap₂, ◌∙◌, ℕ, zero, suc, Bool, true, false, cond, List, [], ◌∷◌, ◌++◌, length, codes, Option, Some, None, is_some, true≢false, arith, ◌&&◌, ◌||◌, ◌==◌, inl, inr, ◌⊎◌, nat_le, nat_lt}
-use Rattle.std.specs.Prelude.{option_and_then, encode_utf8, slice_get, drop, IsSome, not}
-use Rattle.std.specs.List.{find, fold, list_any}
+use Rattle.std.proofs.Common.{◌≡◌, ◌^◌, refl, sym, subst, ap, ap₂, ◌∙◌, ℕ, zero, suc, Bool, true, false, cond, List, [], ◌∷◌, ◌++◌, length, codes, Option, Some, None, is_some, true≢false, arith, ◌&&◌, ◌||◌, inl, inr, ◌⊎◌, nat_le, nat_lt}
+use Rattle.std.specs.Prelude.{option_and_then, slice_get, IsSome}
+use Rattle.std.specs.List.{find, fold}
 use Rattle.std.specs.Option.{option_map, option_map_or}
 use Rattle.std.specs.Str.{bytes_eq, chars}
 use Rattle.std.specs.Str.Parse.{digits_value, without_leading_plus}
@@ -9,10 +9,10 @@ use Rattle.std.proofs.lemmas.Bool.{ne_eqb}
 use Rattle.clap.specs.Faults.{bundle_fault, bundle_step_fault, check_fault, defaults_fault, entered_fault, fault_of, flag_word_fault, flags_fault, level_fault, long_fault, option_fault, other_fault, positional_fault, react_fault, repeat_fault, settle_fault, short_fault, step_fault, stray_fault, turn_fault, use_fault, values_fault, walk_fault, word_fault}
 use Rattle.clap.specs.Kinds.{Kinds, or_else, range_kinds, value_kinds}
 use Rattle.clap.specs.Lexer.{long_of, short_of}
-use Rattle.clap.specs.Simple.{App, Shape, argument_words, built, entered, filled, help_rule, names_of, rows_at, subcommand_of, with_index}
+use Rattle.clap.specs.Simple.{App, Shape, argument_words, built, entered, filled, help_rule, names_of, with_index}
 use Rattle.clap.specs.Values.{read_as}
 use Rattle.clap.specs.ValueTests.{is_numeral, is_unsigned_in}
-use Rattle.clap.specs.Walk.{Held, Names, Outcome, Row, Rule, Step, Text, Waiting, Walk, after_flag, after_step, arg_by_id, arg_by_index, arg_by_long, arg_by_short, at_row, attached_value, bundle, bundle_met, bundle_step, done, finished, flag_met, has_row, idle, is_empty, is_pending, long_met, long_or_other, more_values, next, nothing_held, option, option_met, option_word, plain, plain_word, positional, pushed, reacted, refused, rows_after, settled, settled_rows, short_met, short_or_plain, stop_after, subcommand, subcommand_met, subcommand_or_other, takes_several, takes_values, to_positional, trailing, used, used_by_id, value, waits, walk, walk_from, walked, walked_from, with_default, with_values, without, word_met, row_text, one_of}
+use Rattle.clap.specs.Walk.{Held, Names, Outcome, Row, Rule, Step, Text, Waiting, Walk, after_flag, after_step, arg_by_id, arg_by_index, arg_by_long, arg_by_short, at_row, attached_value, bundle, bundle_met, bundle_step, done, finished, flag_met, has_row, idle, is_pending, long_met, long_or_other, more_values, next, nothing_held, option, option_met, option_word, plain, plain_word, positional, pushed, reacted, refused, rows_after, settled, settled_rows, short_met, short_or_plain, subcommand, subcommand_met, subcommand_or_other, takes_several, takes_values, to_positional, trailing, used, used_by_id, value, waits, walk, walk_from, walked, walked_from, with_default, without, word_met, row_text, one_of}
 use Rattle.clap.specs.declared.builder.value_parser.Reading.{Reading}
 use Rattle.clap.specs.declared.builder.value_parser.Reading.TheVariants as reading
 use Rattle.clap.specs.declared.builder.value_parser.ValueParser.TheVariants as vp
@@ -269,6 +269,7 @@ module _ (s : Shape) (names : Names) (sound : AreSound s.rules) where
           → AreGood (cond b (h, trailing position) (long_or_other s.rules waiting word (long_of word) h)).0.rows
       other true e = good
       other false e = word_good s.rules s.args_override_self sound (long_of word) waiting word h good e
+
       go : (o : Option Text) → other_fault s o word h ≡ [] → AreGood (subcommand_or_other s.rules o waiting position word h).0.rows
       go (Some name) e = good
       go None e = other (bytes_eq word (45 ∷ 45 ∷ [])) e
@@ -283,6 +284,7 @@ module _ (s : Shape) (names : Names) (sound : AreSound s.rules) where
       put : (a : Rule) (b : Bool) → cond b [] (settle_fault s.rules s.args_override_self h) ≡ [] → AreGood (pushed a.id word (cond b h (settled s.rules h))).rows
       put a true e = good
       put a false e = settled_good s.rules s.args_override_self sound h good e
+
       go : (o : Option Rule) → option_map_or (λ a. positional_fault s.rules s.args_override_self a h) o (stray_fault s) ≡ [] → AreGood (to_positional s.rules o word w h).held.rows
       go None e = good
       go (Some a) e = put a (is_pending a h.pending && takes_several a) e
@@ -318,6 +320,7 @@ row_stays id other s values new (r ∷ rs) has = go (row_stays id other s values
     later : (a b c : Bool) → (b ≡ true → c ≡ true) → (a || b) ≡ true → (a || c) ≡ true
     later true b c f e = refl
     later false b c f e = f e
+
     go : (has_row id rs ≡ true → has_row id (at_row other (more_values s values) new rs) ≡ true) → (b : Bool)
         → has_row id (cond b (more_values s values r ++ rs) (r ∷ at_row other (more_values s values) new rs)) ≡ true
     go rest true = has
@@ -332,6 +335,7 @@ row_put id s values new (r ∷ rs) same = go (row_put id s values new rs same) (
     put : (a b : Bool) → b ≡ true → (a || b) ≡ true
     put true b e = refl
     put false b e = e
+
     go : has_row id (at_row id (more_values s values) (new ∷ []) rs) ≡ true → (b : Bool) → bytes_eq r.id id ≡ b
         → has_row id (cond b (more_values s values r ++ rs) (r ∷ at_row id (more_values s values) (new ∷ []) rs)) ≡ true
     go rest true is = rw is refl
@@ -498,6 +502,7 @@ word_enters false waiting position word h none = go (subcommand_met (names_of th
     other : (b : Bool) → EntersCommand (cond b (h, trailing position) (long_or_other there.top.rules waiting word (long_of word) h)).1
     other true = tt
     other false = other_enters there.top.rules (long_of word) waiting word h
+
     go : (o : Option Text) → MeetsCommand o → EntersCommand (subcommand_or_other there.top.rules o waiting position word h).1
     go (Some name) e = e
     go None e = other (bytes_eq word (45 ∷ 45 ∷ []))

@@ -1,11 +1,11 @@
 -- What words of a command line ask for, word by word.
-use Rattle.std.proofs.Common.{◌≡◌, refl, ℕ, List, [], ◌∷◌, Some, codes, true≢false, sym, ap}
+use Rattle.std.proofs.Common.{◌≡◌, refl, ℕ, List, [], ◌∷◌, codes, true≢false, sym, ap}
 use Rattle.clap.specs.Walk.{is_empty}
 use Rattle.clap.specs.declared.error.kind.ErrorKind.TheVariants.{ArgumentConflict, DisplayHelp, InvalidSubcommand, MissingSubcommand, UnknownArgument, ValueValidation}
 use Rattle.clap.proofs.OnLiterals.{clap_on_literals}
 use Rattle.tk_report.specs.declared.view.View.TheVariants.{Report, Lint}
 use Rattle.taskscope.specs.declared.command_line.Request.TheVariants.{Run, Show}
-use Rattle.taskscope.specs.Requests.{AsksFor, AsksForHelp, IsMistake, asked, plain_lints, refusals}
+use Rattle.taskscope.specs.Requests.{AsksFor, AsksForHelp, IsMistake, plain_lints, refusals}
 
 -- the program is called by some name
 module _ (name : List ℕ) where

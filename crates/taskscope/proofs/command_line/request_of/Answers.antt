@@ -1,4 +1,4 @@
-use Rattle.std.proofs.Common.{rules, ◌≡◌, ap, ◌∙◌, sym, refl, subst, List, [], Option, Some, None, true}
+use Rattle.std.proofs.Common.{◌≡◌, ap, ◌∙◌, refl, subst, List, [], Option, true, is_some}
 use Rattle.std.proofs.lemmas.Result.{err_from_is_err_and}
 use Rattle.clap.specs.Faults.{fault_of, is_simple_and_free}
 use Rattle.clap.specs.Kinds.{HasKind}
@@ -7,7 +7,7 @@ use Rattle.clap.specs.Walk.{Row, Text}
 use Rattle.clap.specs.declared.error.Error.{Error}
 use Rattle.clap.proofs.OnLiterals.{clap_on_literals}
 use Rattle.taskscope.specs.Requests.{asked, asked_in, program, refusals, texts}
-use Rattle.taskscope.proofs.WordLemmas.{refused_by_parse, taken}
+use Rattle.taskscope.proofs.ParseLemmas.{taken_words_ask}
 use Rattle.taskscope.proofs.command_line.request_of.Goals as goal
 
 -- what `clap` promises of a parse holds of this program's
@@ -39,3 +39,14 @@ returns-in_err-matches-clause-fails c =
     let app_is : app_of c.in_ok-command.command ≡ program = c.in_ok-command.ensures.ok in
     let p = err_from_is_err_and c.from_residual-in_err-matches.result c.from_residual-in_err-matches.ensures.1 in
     rw (p.1, p.2) (refused_as _ words app_is c.in_err-matches.field-0.0 (c.in_err-matches.ensures.kinds (is_free _ words app_is)))
+
+pub unwrap-requires : goal.unwrap-requires
+unwrap-requires c =
+    let words = texts c.args.words.now in
+    let app_is : app_of c.in_ok-command.command ≡ program = c.in_ok-command.ensures.ok in
+    let none = taken_as _ words app_is (c.in_ok-matches.ensures.kinds (is_free _ words app_is)) in
+    let asks = asked_as _ words app_is (subcommand_rows_of c.in_ok-matches.matches) (λ simple. (c.in_ok-matches.ensures.ok.2 simple).1) in
+    ap is_some (c.asked_in.ensures ∙ asks) ∙ taken_words_ask words none
+
+pub returns-clause-fails : goal.returns-clause-fails
+returns-clause-fails c = taken_as _ (texts c.args.words.now) c.in_ok-command.ensures.ok (c.in_ok-matches.ensures.kinds (is_free _ (texts c.args.words.now) c.in_ok-command.ensures.ok))

@@ -1,4 +1,4 @@
-use Rattle.std.proofs.Common.{◌≡◌, [], ◌∷◌, List, ℕ, Option, Some, None, Ok, Err, sym, refl, ap, subst, ◌∙◌, inl, inr}
+use Rattle.std.proofs.Common.{◌≡◌, [], ◌∷◌, List, ℕ, Option, Some, None, Err, sym, refl, ap, subst, ◌∙◌, inl, inr}
 use Rattle.std.specs.Io.KnownBytes.{Appends}
 use Rattle.std.proofs.lemmas.List.{append-nil}
 use Rattle.clap.specs.Values.{kind_of}
@@ -7,6 +7,7 @@ use Rattle.taskscope.specs.Program.{Does}
 use Rattle.taskscope.specs.Requests.{AsksFor, IsPlain, asked, refusals, texts}
 use Rattle.taskscope.specs.declared.command_line.Request.{Request}
 use Rattle.taskscope.specs.declared.command_line.Request.TheVariants.{Run, Show}
+use Rattle.taskscope.proofs.ParseLemmas.{taken_words_ask}
 use Rattle.taskscope.proofs.WordLemmas.{memory_alone, mistake_among, some_is}
 use Rattle.taskscope.proofs.WordRows.{lint, run, view}
 use Rattle.taskscope.proofs.program.run_program.Goals as goal
@@ -72,3 +73,6 @@ returns-in-Ok-clause-view g c = plain _ _ view (texts c.args.words.now)
 
 pub returns-in-Ok-clause-lint : goal.returns-in-Ok-clause-lint
 returns-in-Ok-clause-lint g c = plain _ _ lint (texts c.args.words.now)
+
+pub returns-in-Err-clause-asks : goal.returns-in-Err-clause-asks
+returns-in-Err-clause-asks g c = taken_words_ask (texts c.args.words.now)
