@@ -79,7 +79,8 @@ pub(crate) fn refresh_all<T: Ledgered, R: Wait>(
     ensures told { TellsSame T.with_row table.old told.old table.new told.new }
 {
     for i in 0..handles.len() {
-        told.set(table, i, &T::read(&mut handles[i], rt));
+        let row = T::read(&mut handles[i], rt);
+        told.set(table, i, &row);
     }
 }
 

@@ -13,8 +13,8 @@ set-requires g c =
 pub loop-i-preserved : goal.loop-i-preserved
 loop-i-preserved g c =
     let so_far = c.loop-i.invariant.1 in (
-      subst (λ table. Went g.T.Item.with_row g.T.Ledgered.reads (c.loop-i.i + 1) c.args.table.now c.args.handles.now.items table (set c.loop-i.handles.items c.loop-i.i c.read.new.handle)) (sym c.set.ensures.table)
-          (went_on g.T.Item.with_row g.T.Ledgered.reads c.loop-i.i _ _ _ _ c.index_mut.result.now c.read.result c.read.new.handle c.loop-i.invariant.0 (omega (arith, c.loop-i-test.true, c.len-i-end.ensures)) c.index_mut.ensures.value c.read.ensures),
+      subst (λ table. Went g.T.Item.with_row g.T.Ledgered.reads (c.loop-i.i + 1) c.args.table.now c.args.handles.now.items table (set c.loop-i.handles.items c.loop-i.i c.read-row.new.handle)) (sym c.set.ensures.table)
+          (went_on g.T.Item.with_row g.T.Ledgered.reads c.loop-i.i _ _ _ _ c.index_mut.result.now c.read-row.result c.read-row.new.handle c.loop-i.invariant.0 (omega (arith, c.loop-i-test.true, c.len-i-end.ensures)) c.index_mut.ensures.value c.read-row.ensures),
       record { same = c.set.ensures.told ∙ so_far.same; count = c.set.ensures.count ∙ so_far.count; room = c.set.ensures.room ∙ so_far.room },
     )
 
