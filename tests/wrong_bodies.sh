@@ -82,6 +82,7 @@ try_crate() {
         mkdir -p "$work/crates/$name/out" || exit 2
         grep -E "^$name[ :]" "$root/crates.txt" >> "$work/crates.txt"
         for part in src specs proofs; do
+            [ -d "$root/crates/$name/$part" ] || continue
             cp -R "$root/crates/$name/$part" "$work/crates/$name/" || exit 2
         done
         if [ "$name" = "$crate" ]; then
