@@ -261,14 +261,14 @@ fn words_of(alloc: Global, words: &[&str]) -> Result<Vec<String>, AllocError> {
     Ok(owned)
 }
 
-fn assert_answers<R: Abort + AllocGlobal>(rt: &R, calls: &[Call]) -> Result<(), Fail> {
+fn assert_answers<R: Abort + AllocGlobal + Wait>(rt: &R, calls: &[Call]) -> Result<(), Fail> {
     for call in calls {
         let words = words_of(rt.alloc(), call.words)?;
         let mut input = call.script;
         let mut output = Vec::new(rt.alloc());
         let mut faults = Vec::new(rt.alloc());
         let status = run_program(
-            &rt,
+            rt,
             rt.alloc(),
             words.as_slice(),
             &mut input,
