@@ -1,4 +1,4 @@
-use Rattle.std.proofs.Common.{◌≡◌, None, refl, length, take, set, ap, sym, ◌∙◌, arith}
+use Rattle.std.proofs.Common.{◌∙◌, arith}
 use Rattle.std.proofs.lemmas.List.{length-set}
 use Rattle.tk_stream.proofs.FrontLemmas.{goes_on_told}
 use Rattle.tk_stream.proofs.told_rows.ToldRows.tell.Goals as goal

@@ -1,4 +1,4 @@
-use Rattle.std.proofs.Common.{None, refl, ap, ◌∙◌}
+use Rattle.std.proofs.Common.{None, ap, ◌∙◌}
 use Rattle.std.specs.Prelude.{map}
 use Rattle.tk_stream.specs.Fronts.{told_item, with_rows, task_at, resource_at, op_at, counts_at}
 use Rattle.tk_stream.proofs.FrontLemmas.{all_told}
