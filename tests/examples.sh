@@ -1,7 +1,8 @@
 #!/bin/sh
 # Compares what the proved program writes for each of examples/*.script with the files beside it, byte for byte: its
 # stream by `run` with *.script.stdout, what `view` writes of that stream with *.script.report, and what `lint` writes of
-# it with the warning lines of the report; the status of `lint` is 3 where there are any.
+# it with the warning lines of the report; the status of `lint` is 3 where there are any. What `demo` writes is compared with
+# examples/demo.report.
 #
 # Usage: tests/examples.sh, behind `rt ci` or `rt run` in crates/taskscope.
 #
@@ -24,7 +25,7 @@ try() {
         passed=$((passed + 1))
     else
         failed=$((failed + 1))
-        echo "FAILED: $(basename "$1") $2 < examples/$(basename "$3")"
+        echo "FAILED: $(basename "$1") $2 < $(basename "$3")"
     fi
 }
 
@@ -38,6 +39,7 @@ for program in "$out/taskscope" "$out/taskscope.by-rattle"; do
         try "$program" view "$script.stdout" 0 "$script.report"
         try "$program" lint "$script.stdout" "$warned" "$warnings"
     done
+    try "$program" demo /dev/null 0 "$root/examples/demo.report"
 done
 [ "$passed" -gt 0 ] || failed=$((failed + 1))
 echo "$passed passed, $failed failed"

@@ -434,9 +434,9 @@ view_asks view (Some l) some = refl
 abbrev there : App
 there = built program
 
--- one of the commands that take a stream's numbers, or a run
+-- one of the commands
 abbrev IsCommand : Text → Type 0
-IsCommand name = (name ≡ codes "run") ⊎ ((name ≡ codes "view") ⊎ (name ≡ codes "lint"))
+IsCommand name = (name ≡ codes "run") ⊎ ((name ≡ codes "view") ⊎ ((name ≡ codes "lint") ⊎ (name ≡ codes "demo")))
 
 abbrev MeetsCommand : Option Text → Type 0
 MeetsCommand None = Unit {0}
@@ -452,22 +452,23 @@ EntersCommand (trailing position) = Unit {0}
 EntersCommand (subcommand name) = IsCommand name
 EntersCommand value = Unit {0}
 
-abbrev met : Bool → Bool → Bool → Bool → Option (Text × List Text)
-met a b c d = cond a (Some (codes "run", [])) (cond b (Some (codes "view", [])) (cond c (Some (codes "lint", [])) (cond d (Some (codes "help", [])) None)))
+abbrev met : Bool → Bool → Bool → Bool → Bool → Option (Text × List Text)
+met a b c d e = cond a (Some (codes "run", [])) (cond b (Some (codes "view", [])) (cond c (Some (codes "lint", [])) (cond d (Some (codes "demo", [])) (cond e (Some (codes "help", [])) None))))
 
 -- `help` is answered, so that no parse enters it
 meets_command : (waiting : Waiting) (word : Text) (h : Held) → other_fault there.top (subcommand_met (names_of there) waiting word) word h ≡ []
     → MeetsCommand (subcommand_met (names_of there) waiting word)
 meets_command (option id) word h none = tt
 meets_command positional word h none = tt
-meets_command idle word h none = go (bytes_eq (codes "run") word || false) (bytes_eq (codes "view") word || false) (bytes_eq (codes "lint") word || false) (bytes_eq (codes "help") word || false) none
+meets_command idle word h none = go (bytes_eq (codes "run") word || false) (bytes_eq (codes "view") word || false) (bytes_eq (codes "lint") word || false) (bytes_eq (codes "demo") word || false) (bytes_eq (codes "help") word || false) none
   where
-    go : (a b c d : Bool) → other_fault there.top (option_map (λ s. s.0) (met a b c d)) word h ≡ [] → MeetsCommand (option_map (λ s. s.0) (met a b c d))
-    go true b c d e = inl refl
-    go false true c d e = inr (inl refl)
-    go false false true d e = inr (inr refl)
-    go false false false true e = absurd (some_kind _ _ e)
-    go false false false false e = tt
+    go : (a b c d e : Bool) → other_fault there.top (option_map (λ s. s.0) (met a b c d e)) word h ≡ [] → MeetsCommand (option_map (λ s. s.0) (met a b c d e))
+    go true b c d e none = inl refl
+    go false true c d e none = inr (inl refl)
+    go false false true d e none = inr (inr (inl refl))
+    go false false false true e none = inr (inr (inr refl))
+    go false false false false true none = absurd (some_kind _ _ none)
+    go false false false false false none = tt
 
 module _ (c : List Rule) where
   plain_enters : (waiting : Waiting) (word : Text) (h : Held) → EntersCommand (plain_word c waiting word h).1
@@ -564,12 +565,16 @@ show_asks words none = view_asks Report _ (lints_there _ (numbers_there _ words 
 lint_asks : (words : List Text) → TakenAsks (codes "lint") words
 lint_asks words none = view_asks Lint _ (lints_there _ (numbers_there _ words refl none))
 
+demo_asks : (words : List Text) → TakenAsks (codes "demo") words
+demo_asks words none = refl
+
 stop_asks : (stop : Option (Text × List Text)) (rows : List Row) → StopsAtCommand stop → entered_fault there stop ≡ []
     → check_fault there.top rows (is_some (entered there stop)) ≡ [] → IsSome (asked_in (entered there stop))
 stop_asks None rows at none checked = absurd (some_kind _ _ checked)
 stop_asks (Some (name, words)) rows (inl is) none checked = subst (λ n. TakenAsks n words) (sym is) (run_asks words) none
 stop_asks (Some (name, words)) rows (inr (inl is)) none checked = subst (λ n. TakenAsks n words) (sym is) (show_asks words) none
-stop_asks (Some (name, words)) rows (inr (inr is)) none checked = subst (λ n. TakenAsks n words) (sym is) (lint_asks words) none
+stop_asks (Some (name, words)) rows (inr (inr (inl is))) none checked = subst (λ n. TakenAsks n words) (sym is) (lint_asks words) none
+stop_asks (Some (name, words)) rows (inr (inr (inr is))) none checked = subst (λ n. TakenAsks n words) (sym is) (demo_asks words) none
 
 -- words that a parse takes ask for something
 pub taken_words_ask : (words : List Text) → fault_of program words ≡ [] → IsSome (asked words)

@@ -4,7 +4,7 @@ use Rattle.clap.specs.Walk.{is_empty}
 use Rattle.clap.specs.declared.error.kind.ErrorKind.TheVariants.{ArgumentConflict, DisplayHelp, InvalidSubcommand, MissingSubcommand, UnknownArgument, ValueValidation}
 use Rattle.clap.proofs.OnLiterals.{clap_on_literals}
 use Rattle.tk_report.specs.declared.view.View.TheVariants.{Report, Lint}
-use Rattle.taskscope.specs.declared.command_line.Request.TheVariants.{Run, Show}
+use Rattle.taskscope.specs.declared.command_line.Request.TheVariants.{Demo, Run, Show}
 use Rattle.taskscope.specs.Requests.{AsksFor, AsksForHelp, IsMistake, plain_lints, refusals}
 
 -- the program is called by some name
@@ -20,6 +20,10 @@ module _ (name : List ℕ) where
   pub lint : AsksFor (Show Lint plain_lints) (name ∷ codes "lint" ∷ [])
   unfolding clap_on_literals
   lint = (refl, refl)
+
+  pub demo : AsksFor Demo (name ∷ codes "demo" ∷ [])
+  unfolding clap_on_literals
+  demo = (refl, refl)
 
   run_and_no_more : AsksFor Run (name ∷ codes "run" ∷ codes "--" ∷ [])
   unfolding clap_on_literals
@@ -59,11 +63,11 @@ module _ (name : List ℕ) where
   unfolding clap_on_literals
   help_command = refl
 
-  another_word : refusals (name ∷ codes "demo" ∷ []) ≡ UnknownArgument ∷ InvalidSubcommand ∷ []
+  another_word : refusals (name ∷ codes "show" ∷ []) ≡ UnknownArgument ∷ InvalidSubcommand ∷ []
   unfolding clap_on_literals
   another_word = refl
 
-  another_word_is_a_mistake : IsMistake (name ∷ codes "demo" ∷ [])
+  another_word_is_a_mistake : IsMistake (name ∷ codes "show" ∷ [])
   unfolding clap_on_literals
   another_word_is_a_mistake = ((λ e. true≢false (sym (ap is_empty e))), refl)
 

@@ -1,14 +1,15 @@
--- What a run of the program does with a script, and with a stream.
+-- What a run of the program does with a script, with a stream, and for the demo.
 use Rattle.std.specs.Prelude.{◌≡◌, ◌==◌, ℕ, List, Option, Result, Ok, Err, IfErr, if◌then◌else◌}
 use Rattle.std.specs.Io.KnownBytes.{Appends}
 use Rattle.tk_client.specs.Warnings.{LintsView}
+use Rattle.tk_app.specs.Demo.{Demonstrates}
 use Rattle.tk_live.specs.Script.{ReadsAndRuns}
 use Rattle.tk_report.specs.Views.{IsOfWriter, Views}
 use Rattle.tk_report.specs.declared.fault.AppFault.{AppFault}
 use Rattle.tk_report.specs.declared.view.View.{View}
 use Rattle.tk_report.specs.declared.view.View.TheVariants.{Report, Lint}
 use Rattle.taskscope.specs.declared.command_line.Request.{Request}
-use Rattle.taskscope.specs.declared.command_line.Request.TheVariants.{Run, Show}
+use Rattle.taskscope.specs.declared.command_line.Request.TheVariants.{Demo, Run, Show}
 
 -- the status that tells an outcome: 0 without a fault, 1 with one
 abbrev pub status_of : Result (Unit {0}) AppFault → ℕ
@@ -42,7 +43,15 @@ pub record ViewsStream (view : View) (lints : LintsView) (given left old new : O
   -- only a writer's fault comes once something was written
   pub unwritten : IfErr outcome (λ fault. (IsOfWriter fault → ⊥) → new ≡ old)
 
+-- the demo is shown, nothing is read, and the status tells the outcome
+pub record ShowsDemo (given left old new : Option (List ℕ)) (status : ℕ) : Type 0 where
+  pub outcome : Result (Unit {0}) AppFault
+  pub told : status ≡ status_of outcome
+  pub shows : Demonstrates outcome old new
+  pub unread : left ≡ given
+
 -- what is asked for is done: of the input's bytes before and after, of the output's, and the status
 abbrev pub Does : Request → Option (List ℕ) → Option (List ℕ) → Option (List ℕ) → Option (List ℕ) → ℕ → Type 0
 Does Run given left old new status = RunsScript given old new status
 Does (Show view lints) given left old new status = ViewsStream view lints given left old new status
+Does Demo given left old new status = ShowsDemo given left old new status

@@ -15,7 +15,7 @@ use Rattle.tk_client.specs.Warnings.{LintsView}
 use Rattle.tk_report.specs.declared.view.View.{View}
 use Rattle.tk_report.specs.declared.view.View.TheVariants.{Report, Lint}
 use Rattle.taskscope.specs.declared.command_line.Request.{Request}
-use Rattle.taskscope.specs.declared.command_line.Request.TheVariants.{Run, Show}
+use Rattle.taskscope.specs.declared.command_line.Request.TheVariants.{Demo, Run, Show}
 
 -- ---- the words that there are
 
@@ -42,12 +42,13 @@ view_command name = with_rule (with_rule (new_app name) percent_option) limit_op
 abbrev pub requiring : App → App
 requiring = on_top (λ s. record s { subcommand_required = true })
 
--- the program as a parse of its words reads it: `run`, `view` and `lint`
+-- the program as a parse of its words reads it: `run`, `view`, `lint` and `demo`
 abbrev pub program : App
 program =
     let runs = with_subcommand (requiring (new_app (codes "taskscope"))) (new_shape (codes "run")) in
     let views = with_subcommand runs (view_command (codes "view")).top in
-    with_subcommand views (view_command (codes "lint")).top
+    let lints = with_subcommand views (view_command (codes "lint")).top in
+    with_subcommand lints (new_shape (codes "demo"))
 
 -- ---- what they ask for
 
@@ -82,6 +83,7 @@ asked_by name options =
     if bytes_eq name (codes "run") then Some Run
     else if bytes_eq name (codes "view") then view_with Report options
     else if bytes_eq name (codes "lint") then view_with Lint options
+    else if bytes_eq name (codes "demo") then Some Demo
     else None
 
 abbrev pub asked_in : Option (Text × List Row) → Option Request

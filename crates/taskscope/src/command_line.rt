@@ -23,6 +23,8 @@ pub(crate) enum Request {
     Run,
     /// To show what a stream's tables come to, with warnings by these lints.
     Show { view: View, lints: Lints },
+    /// To show three tasks of this project's own works.
+    Demo,
 }
 
 const ABOUT: &str = "Shows what the tasks of an async program did, as tokio-console would";
@@ -95,6 +97,15 @@ A task has these warnings:
 A last line of the stream without its line end is ignored. After a fault nothing is written. The status is 3
 where there are warnings.";
 
+const DEMO_ABOUT: &str = "Runs three small tasks and writes their report to standard output";
+
+const DEMO_LONG_ABOUT: &str = "Runs three small tasks and writes their report to standard output.
+
+`yield` wakes itself three times and is ready, `lose` drops the only waker that it had, and `hold` keeps its
+own, which nobody calls. They run on an executor over live ledgers, by a clock that tells 1000, 2000 and so on,
+until none is scheduled. An aggregator then reads them, and the report shows what it found.
+README.md has the code. Nothing is read from standard input.";
+
 const PERCENT: &str = "self-wake-percent";
 
 const PERCENT_HELP: &str = "Warns where more of a hundred wakes are a task's own";
@@ -144,6 +155,9 @@ fn command_line<'a>(alloc: Global) -> Result<Command<'a>, Error>
         .long_about(RUN_LONG_ABOUT);
     let view = view_command(alloc, "view", VIEW_ABOUT, VIEW_LONG_ABOUT)?;
     let lint = view_command(alloc, "lint", LINT_ABOUT, LINT_LONG_ABOUT)?;
+    let demo = Command::new(alloc, "demo")
+        .about(DEMO_ABOUT)
+        .long_about(DEMO_LONG_ABOUT);
     Ok(
         Command::new(alloc, "taskscope")
             // Else the usage calls the program by the path that it was started by.
@@ -154,7 +168,8 @@ fn command_line<'a>(alloc: Global) -> Result<Command<'a>, Error>
             .subcommand_required(true)
             .subcommand(run)?
             .subcommand(view)?
-            .subcommand(lint)?,
+            .subcommand(lint)?
+            .subcommand(demo)?,
     )
 }
 
@@ -187,6 +202,7 @@ fn asked_by(name: &str, options: &ArgMatches) -> Option<Request>
         "run" => Some(Request::Run),
         "view" => view_with(View::Report, options),
         "lint" => view_with(View::Lint, options),
+        "demo" => Some(Request::Demo),
         _ => None,
     }
 }

@@ -7,10 +7,11 @@ ghost use Rattle.taskscope.specs.Program.{Does, status_at, status_of, view_statu
 use crate::command_line::{Request, request_of};
 use clap::Error;
 use clap::error::ErrorKind;
-use std::alloc::Global;
+use std::alloc::{AllocGlobal, Global};
 use std::io::{ErrorKind as IoErrorKind, Read, Write};
+use std::random::RandomSource;
 use std::sync::Wait;
-use tk_app::{AppFault, Open, View, run_script, view_stream};
+use tk_app::{AppFault, Open, View, demo, run_script, view_stream};
 
 /// All was done, which may be to show help.
 const DONE: u8 = 0;
@@ -32,7 +33,7 @@ fn tell_fault<E: Write>(fault: AppFault, faults: &mut E) -> u8
     FAULT
 }
 
-// The status of a script's run.
+// The status of a script's run, or of the demo.
 fn tell_outcome<E: Write>(outcome: Result<(), AppFault>, faults: &mut E) -> u8
     ensures { result ≡ status_of outcome }
 {
@@ -62,7 +63,7 @@ fn tell_view<E: Write>(view: View, outcome: Result<u64, AppFault>, faults: &mut 
 }
 
 // Does what is asked for, and answers the status.
-fn fulfil<R: Wait, I: Read, O: Write, E: Write>(
+fn fulfil<R: Wait + RandomSource + AllocGlobal, I: Read, O: Write, E: Write>(
     rt: &R,
     alloc: Global,
     request: Request,
@@ -82,6 +83,7 @@ fn fulfil<R: Wait, I: Read, O: Write, E: Write>(
                 faults,
             )
         }
+        Request::Demo => tell_outcome(demo(rt, alloc, output), faults),
     }
 }
 
@@ -121,7 +123,7 @@ pub(crate) fn refuse_words<E: Write>(kind: IoErrorKind, faults: &mut E) -> u8
 /// Does what the words ask for, the first of which is the program's name, and answers the status.
 ///
 /// What goes to `faults` is only tested.
-pub(crate) fn run_program<R: Wait, I: Read, O: Write, E: Write>(
+pub(crate) fn run_program<R: Wait + RandomSource + AllocGlobal, I: Read, O: Write, E: Write>(
     rt: &R,
     alloc: Global,
     words: &[String],
@@ -129,15 +131,16 @@ pub(crate) fn run_program<R: Wait, I: Read, O: Write, E: Write>(
     output: &mut O,
     faults: &mut E,
 ) -> u8
-    // What is asked for is done: a run reads and writes as `run_script` does, and a view as `view_stream` does. The status is
-    // 1 exactly where there was a fault, and 3 exactly where `lint` found warnings.
+    // What is asked for is done: a run reads and writes as `run_script` does, a view as `view_stream` does, and the demo
+    // writes as `demo` does. The status is 1 exactly where there was a fault, and 3 exactly where `lint` found warnings.
     ensures does { (request : Request) → AsksFor request (texts words.now)
         → Does request (I.remaining input.old) (I.remaining input.new) (O.contents output.old) (O.contents output.new) result }
     // A command alone asks for it with the lints of its defaults.
     ensures run { IsPlain (codes "run") (texts words.now) → AsksFor Request.Run (texts words.now) }
     ensures view { IsPlain (codes "view") (texts words.now) → AsksFor (Request.Show View.Report plain_lints) (texts words.now) }
     ensures lint { IsPlain (codes "lint") (texts words.now) → AsksFor (Request.Show View.Lint plain_lints) (texts words.now) }
-    // All words that a parse takes ask for a run or a view.
+    ensures demo { IsPlain (codes "demo") (texts words.now) → AsksFor Request.Demo (texts words.now) }
+    // All words that a parse takes ask for a run, a view or the demo.
     ensures asks { refusals (texts words.now) ≡ [] → IsSome (asked (texts words.now)) }
     // Other words leave the input as it is.
     ensures unread { refusals (texts words.now) ≢ [] → input.new ≡ input.old }

@@ -5,6 +5,7 @@ use std::alloc::{AllocError, Global};
 use std::io;
 use std::io::{Read, Write};
 use std::process::Abort;
+use std::random::RandomSource;
 use std::sync::Wait;
 use std::test::Fail;
 
@@ -20,6 +21,7 @@ Commands:
   run   Runs a script from standard input and writes its stream to standard output
   view  Reads a stream from standard input and writes the report of its tables to standard output
   lint  Reads a stream from standard input and writes the warnings about its tasks to standard output
+  demo  Runs three small tasks and writes their report to standard output
   help  Print this message or the help of the given subcommand(s)
 
 Options:
@@ -38,6 +40,7 @@ Commands:
   run   Runs a script from standard input and writes its stream to standard output
   view  Reads a stream from standard input and writes the report of its tables to standard output
   lint  Reads a stream from standard input and writes the warnings about its tasks to standard output
+  demo  Runs three small tasks and writes their report to standard output
   help  Print this message or the help of the given subcommand(s)
 
 Options:
@@ -129,7 +132,7 @@ Options:
 ";
 
 const NO_WORD: &str = "error: 'taskscope' requires a subcommand but one was not provided
-  [subcommands: run, view, lint, help]
+  [subcommands: run, view, lint, demo, help]
 
 Usage: taskscope <COMMAND>
 
@@ -155,11 +158,26 @@ Usage: taskscope lint [OPTIONS]
 For more information, try '--help'.
 ";
 
-const DEMO: &str = "error: unrecognized subcommand 'demo'
+const DEMO_HELP: &str = "Runs three small tasks and writes their report to standard output.
 
-Usage: taskscope <COMMAND>
+`yield` wakes itself three times and is ready, `lose` drops the only waker that it had, and `hold` keeps its
+own, which nobody calls. They run on an executor over live ledgers, by a clock that tells 1000, 2000 and so on,
+until none is scheduled. An aggregator then reads them, and the report shows what it found.
+README.md has the code. Nothing is read from standard input.
 
-For more information, try '--help'.
+Usage: taskscope demo
+
+Options:
+  -h, --help
+          Print help (see a summary with '-h')
+";
+
+const DEMO_REPORT: &str = "now 16000 dropped 0 0 0
+task 1.1 spawn closed polls 4 wakes 3 self 3 clones 0 drops 0 busy 4000 sched 10000 name yield
+task 1.2 spawn idle polls 1 wakes 0 self 0 clones 1 drops 1 busy 1000 sched 4000 name lose
+task 1.3 spawn idle polls 1 wakes 0 self 0 clones 1 drops 0 busy 1000 sched 5000 name hold
+warn 1.1 self-wakes 3 of 3
+warn 1.2 lost-waker
 ";
 
 const STOP: &str = "error: unrecognized subcommand 'stop'
@@ -205,14 +223,15 @@ struct Call {
     faults: &'static str,
 }
 
-// Scripts, and their statuses.
+// Scripts and the demo, and their statuses.
 #[rattlefmt::skip]
-const RUNS: [Call; 6] = [
+const RUNS: [Call; 7] = [
     Call { case: "a script", words: &["run"], script: MAIN, status: 0, output: MAIN_LINE, faults: "" },
     Call { case: "an end of the words", words: &["run", "--"], script: MAIN, status: 0, output: MAIN_LINE, faults: "" },
     Call { case: "an empty script", words: &["run"], script: b"", status: 0, output: "", faults: "" },
     Call { case: "a fault", words: &["run"], script: STARTED_TWICE, status: 1, output: "", faults: "fault: line 3: AlreadyPolling\n" },
     Call { case: "a fault behind a line", words: &["run"], script: STOPPED_LATER, status: 1, output: MAIN_LINE, faults: "fault: line 3: NotPolling\n" },
+    Call { case: "the demo", words: &["demo"], script: MAIN, status: 0, output: DEMO_REPORT, faults: "" },
     Call { case: "no command", words: &["run"], script: b"tusk", status: 1, output: "", faults: "fault: line 1: BadCommand\n" },
 ];
 
@@ -229,7 +248,7 @@ const VIEWS: [Call; 6] = [
 
 // Help goes to the output. No script is read for it.
 #[rattlefmt::skip]
-const HELPS: [Call; 7] = [
+const HELPS: [Call; 8] = [
     Call { case: "--help", words: &["--help"], script: MAIN, status: 0, output: HELP, faults: "" },
     Call { case: "help", words: &["help"], script: MAIN, status: 0, output: HELP, faults: "" },
     Call { case: "-h", words: &["-h"], script: MAIN, status: 0, output: SHORT_HELP, faults: "" },
@@ -237,16 +256,16 @@ const HELPS: [Call; 7] = [
     Call { case: "help run", words: &["help", "run"], script: MAIN, status: 0, output: RUN_HELP, faults: "" },
     Call { case: "view --help", words: &["view", "--help"], script: MAIN, status: 0, output: VIEW_HELP, faults: "" },
     Call { case: "help lint", words: &["help", "lint"], script: MAIN, status: 0, output: LINT_HELP, faults: "" },
+    Call { case: "demo --help", words: &["demo", "--help"], script: MAIN, status: 0, output: DEMO_HELP, faults: "" },
 ];
 
 // Words that ask for nothing that the program does.
 #[rattlefmt::skip]
-const MISTAKES: [Call; 7] = [
+const MISTAKES: [Call; 6] = [
     Call { case: "no word", words: &[], script: MAIN, status: 2, output: "", faults: NO_WORD },
     Call { case: "a percentage above 100", words: &["view", "--self-wake-percent", "101"], script: MAIN, status: 2, output: "", faults: PERCENT_ABOVE },
     Call { case: "a limit above 64 bits", words: &["lint", "--never-yielded-ns=18446744073709551616"], script: MAIN, status: 2, output: "", faults: LIMIT_ABOVE },
     Call { case: "an option twice", words: &["lint", "--never-yielded-ns=1", "--never-yielded-ns=1"], script: MAIN, status: 2, output: "", faults: TWICE },
-    Call { case: "demo", words: &["demo"], script: MAIN, status: 2, output: "", faults: DEMO },
     Call { case: "an unknown word", words: &["stop"], script: MAIN, status: 2, output: "", faults: STOP },
     Call { case: "a word too many", words: &["run", "fast"], script: MAIN, status: 2, output: "", faults: WORD_TOO_MANY },
 ];
@@ -261,7 +280,10 @@ fn words_of(alloc: Global, words: &[&str]) -> Result<Vec<String>, AllocError> {
     Ok(owned)
 }
 
-fn assert_answers<R: Abort + AllocGlobal + Wait>(rt: &R, calls: &[Call]) -> Result<(), Fail> {
+fn assert_answers<R: Abort + AllocGlobal + RandomSource + Wait>(
+    rt: &R,
+    calls: &[Call],
+) -> Result<(), Fail> {
     for call in calls {
         let words = words_of(rt.alloc(), call.words)?;
         let mut input = call.script;
@@ -303,7 +325,7 @@ fn views_streams(rt: HostRuntime) -> Result<(), Fail> {
 }
 
 // What a command makes of the stream of `LOST`: the status, and whether it wrote this.
-fn of_lost<R: Wait + AllocGlobal>(
+fn of_lost<R: Wait + AllocGlobal + RandomSource>(
     rt: &R,
     command: &str,
     text: &str,
@@ -452,7 +474,7 @@ fn faults_that_no_one_reads(rt: HostRuntime) -> Result<(), Fail> {
         &mut Broken,
         &mut Broken,
     );
-    assert_eq!(rt; status, 2);
+    assert_eq!(rt; status, 1);
     Ok(())
 }
 

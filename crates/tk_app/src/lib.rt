@@ -1,5 +1,9 @@
-//! What the program does: a script is run, and its stream is written; a stream is read, and its tables are shown.
+//! What the program does: a script is run, and its stream is written; a stream is read, and its tables are shown; and a demo,
+//! which shows how the layers are used together.
 #![tactic(auto)]
 
+mod demonstration;
+
+pub use demonstration::demo;
 pub use tk_live::{Gate, Open, run_script};
 pub use tk_report::{AppFault, View, report, view_stream};

@@ -6,10 +6,10 @@ use Rattle.tk_report.specs.declared.fault.AppFault.TheVariants as faults
 use Rattle.taskscope.specs.Program.{Does}
 use Rattle.taskscope.specs.Requests.{AsksFor, IsPlain, asked, refusals, texts}
 use Rattle.taskscope.specs.declared.command_line.Request.{Request}
-use Rattle.taskscope.specs.declared.command_line.Request.TheVariants.{Run, Show}
+use Rattle.taskscope.specs.declared.command_line.Request.TheVariants.{Demo, Run, Show}
 use Rattle.taskscope.proofs.ParseLemmas.{taken_words_ask}
 use Rattle.taskscope.proofs.WordLemmas.{memory_alone, mistake_among, some_is}
-use Rattle.taskscope.proofs.WordRows.{lint, run, view}
+use Rattle.taskscope.proofs.WordRows.{demo, lint, run, view}
 use Rattle.taskscope.proofs.program.run_program.Goals as goal
 
 -- nothing was written
@@ -31,6 +31,12 @@ nothing_done (Show shown lints) given known status told = record {
   told = told;
   views = tt;
   unwritten = λ other. refl;
+}
+nothing_done Demo given known status told = record {
+  outcome = Err faults.Memory;
+  told = told;
+  shows = refl;
+  unread = refl;
 }
 
 plain : (command : List ℕ) (request : Request) → ((name : List ℕ) → AsksFor request (name ∷ command ∷ [])) → (words : List (List ℕ)) → IsPlain command words → AsksFor request words
@@ -65,6 +71,9 @@ returns-in-Err-clause-view g c = plain _ _ view (texts c.args.words.now)
 pub returns-in-Err-clause-lint : goal.returns-in-Err-clause-lint
 returns-in-Err-clause-lint g c = plain _ _ lint (texts c.args.words.now)
 
+pub returns-in-Err-clause-demo : goal.returns-in-Err-clause-demo
+returns-in-Err-clause-demo g c = plain _ _ demo (texts c.args.words.now)
+
 pub returns-in-Ok-clause-run : goal.returns-in-Ok-clause-run
 returns-in-Ok-clause-run g c = plain _ _ run (texts c.args.words.now)
 
@@ -73,6 +82,9 @@ returns-in-Ok-clause-view g c = plain _ _ view (texts c.args.words.now)
 
 pub returns-in-Ok-clause-lint : goal.returns-in-Ok-clause-lint
 returns-in-Ok-clause-lint g c = plain _ _ lint (texts c.args.words.now)
+
+pub returns-in-Ok-clause-demo : goal.returns-in-Ok-clause-demo
+returns-in-Ok-clause-demo g c = plain _ _ demo (texts c.args.words.now)
 
 pub returns-in-Err-clause-asks : goal.returns-in-Err-clause-asks
 returns-in-Err-clause-asks g c = taken_words_ask (texts c.args.words.now)

@@ -1,0 +1,2 @@
+-- What the demo writes
+pub mod Demo
