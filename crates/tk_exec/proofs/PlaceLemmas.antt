@@ -229,13 +229,6 @@ module _ {W A : Type 0} (slots : List (Option (Seat W A))) (keys : List ℕ) (ar
         go None e p = absurd cc
         go (Some x) e p = let same : x ≡ old = cc in subst (λ (s : Seat W A). P s) same p
 
-  -- there are as many tasks as keys
-  pub whole : (next : ℕ) (t : Tasks W A) → record { seats = values_at slots keys; next = next } ≡ t → length t.seats ≡ length keys
-  whole next t view = ap (λ (u : Tasks W A). length u.seats) (sym view) ∙ as_many slots keys are.kept
-
-pub longer : (next : ℕ) (keys : List ℕ) (k : ℕ) → next ≤ length keys → next ≤ length (keys ++ k ∷ [])
-longer next keys k less = let long = length-append keys (k ∷ []) in omega (arith, less, long)
-
 -- the tasks with one more
 pub spawned : {W A : Type 0} (slots slots' : List (Option (Seat W A))) (keys keys' : List ℕ) (k : ℕ) (x y : Seat W A) (next : ℕ) (t : Tasks W A)
     → record { seats = values_at slots keys; next = next } ≡ t → keys' ≡ keys ++ k ∷ [] → x ≡ y → values_at slots' (keys ++ k ∷ []) ≡ values_at slots keys ++ x ∷ []

@@ -4,7 +4,7 @@ use Rattle.std.specs.Prelude.{map, filter, not, is_none, is_some}
 use Rattle.std.specs.Option.{option_map_or}
 use Rattle.std.specs.List.{AllByRecursion, IsDistinct}
 use Rattle.std.proofs.Math.Seq.{drop-nil, take-set-lt}
-use Rattle.std.proofs.lemmas.List.{take_more_set, append-nil, drop_all, get_or-take, length-take-le}
+use Rattle.std.proofs.lemmas.List.{take_more_set, append-nil, drop_all, get_or-take, get_or-map, get_or_default, length-take-le, map-set}
 use Rattle.std.proofs.lemmas.Option.{same_Some, slice_get_read, slice_get_past}
 use Rattle.tk_stream.specs.Fronts.{told_item, with_rows, is_told_beside, stats_beside}
 use Rattle.tk_stream.specs.Kept.{kept}
@@ -164,6 +164,16 @@ pub keeps_told : {Item Row : Type 0} (id_of : Item → ℕ) (with_row : Item →
 keeps_told id_of with_row keeps x None = refl
 keeps_told id_of with_row keeps x (Some r) = keeps x r
 
+-- ---- a mark for each place tells whether a row is kept there
+
+pub marked : {Row : Type 0} (items : List (Option Row)) (marks : List Bool) (i : ℕ) (mark : Bool) (row : Option Row) → marks ≡ map is_some items → i < length items
+    → mark ≡ get_or marks i mark → row ≡ get_or items i row → mark ≡ is_some row
+marked items marks i mark row are lt at kept = at ∙ ap (λ ms. get_or ms i mark) are ∙ get_or-map is_some items i row mark lt ∙ ap is_some (sym kept)
+
+pub marks_stay : {Row : Type 0} (items : List (Option Row)) (marks : List Bool) (i : ℕ) (mark : Bool) (row : Option Row) → marks ≡ map is_some items → mark ≡ is_some row
+    → set marks i mark ≡ map is_some (set items i row)
+marks_stay items marks i mark row are is = ap₂ (λ ms m. set ms i m) are is ∙ sym (map-set is_some items i row)
+
 -- ---- another row of one item
 
 module _ {Item Row : Type 0} (with_row : Item → Row → Item) (row : Row) where
@@ -191,8 +201,14 @@ module _ {Item Row : Type 0} (with_row : Item → Row → Item) (row : Row) wher
   there_in : (items : List (Option Row)) (count i : ℕ) (o : Option Row) → count ≤ length items → i < count → o ≡ get_or items i o → slice_get (take count items) i ≡ Some o
   there_in items count i o le lt is = slice_get_read (take count items) count i o (sym (length-take-le count items le)) lt (is ∙ sym (get_or-take count items i o lt))
 
-  pub kept_in : (items : List (Option Row)) (count i : ℕ) (o : Option Row) → count ≤ length items → i < count → o ≡ get_or items i o → is_some o ≡ true → slice_get (take count items) i ≡ Some None → ⊥
+  kept_in : (items : List (Option Row)) (count i : ℕ) (o : Option Row) → count ≤ length items → i < count → o ≡ get_or items i o → is_some o ≡ true → slice_get (take count items) i ≡ Some None → ⊥
   kept_in items count i o le lt is other none = absurd (cc (there_in items count i o le lt is, other, none))
+
+  pub kept_where_marked : (items : List (Option Row)) (marks : List Bool) (count i : ℕ) (mark : Bool) → count ≤ length items → i < count → marks ≡ map is_some items
+      → mark ≡ get_or marks i mark → mark ≡ true → slice_get (take count items) i ≡ Some None → ⊥
+  kept_where_marked items marks count i mark le lt are at is none =
+      let here = get_or_default items i None (get_or items i None) (omega (arith, lt, le)) in
+      kept_in items count i (get_or items i None) le lt here (sym (marked items marks i mark (get_or items i None) are (omega (arith, lt, le)) at here) ∙ is) none
 
   pub nothing_past : (items : List (Option Row)) (count i : ℕ) → count ≤ length items → count ≤ i → slice_get (take count items) i ≡ Some None → ⊥
   nothing_past items count i le past none = absurd (cc (slice_get_past (take count items) i (subst (λ n. n ≤ i) (sym (length-take-le count items le)) past), none))

@@ -1,5 +1,5 @@
 //! What the last whole line told of the rows of a table.
-ghost use Rattle.std.specs.Prelude.{◌≡◌, ◌≤◌, ◌<◌, ◌+◌, [], length, map, None, slice_get, take, OnOk, OnErr};
+ghost use Rattle.std.specs.Prelude.{◌≡◌, ◌≤◌, ◌<◌, ◌+◌, [], length, map, false, None, is_some, slice_get, take, OnOk, OnErr};
 ghost use Rattle.tk_stream.specs.Fronts.{Telling, no_telling, told_item, is_told_beside, with_rows};
 ghost use Rattle.tk_stream.specs.Tables.{changed_at};
 
@@ -14,27 +14,32 @@ use std::marker::Model;
 #[derive(Drop)]
 pub struct ToldRows<T: Item> {
     rows: Vec<Option<T::Row>>,
+    // Whether a row is kept at each place. A row lies a hundred bytes and more behind the last, and marks side by side.
+    marks: Vec<bool>,
     // How many items were told of.
     count: usize,
 }
 
 impl<T: Item> Model for ToldRows<T> {
-    ghost use Rattle.std.specs.Prelude.{◌≤◌, length, take};
+    ghost use Rattle.std.specs.Prelude.{◌≡◌, ◌≤◌, length, map, take, is_some};
     ghost use Rattle.tk_stream.specs.Fronts.{Telling};
 
     ghost Value = { Telling T.Row };
 
     ghost view = { λ t. record { rows = take t.count t.rows.items; room = length t.rows.items } };
 
-    ghost invariant = { λ t. t.count ≤ length t.rows.items };
+    ghost invariant = { λ t. (t.count ≤ length t.rows.items) × (t.marks.items ≡ map is_some t.rows.items) };
 }
 
-// Most rows did not change, and what is none already is not written.
-fn forget<R: Copy>(row: &mut Option<R>)
-    ensures { row.new ≡ None }
+// Most rows did not change, and a row without a mark is not looked at.
+fn forget<R: Copy>(row: &mut Option<R>, mark: &mut bool)
+    requires { mark.old ≡ is_some row.old }
+    ensures row { row.new ≡ None }
+    ensures mark { mark.new ≡ false }
 {
-    if row.is_some() {
+    if *mark {
         *row = None;
+        *mark = false;
     }
 }
 
@@ -44,6 +49,7 @@ impl<T: Item> ToldRows<T> {
     {
         ToldRows {
             rows: Vec::new(alloc),
+            marks: Vec::new(alloc),
             count: 0,
         }
     }
@@ -65,6 +71,10 @@ impl<T: Item> ToldRows<T> {
     {
         if self.rows.len() == items {
             self.rows.push(None)?;
+            let Ok(()) = self.marks.push(false) else {
+                self.rows.pop();
+                return Err(AllocError);
+            };
         }
         Ok(())
     }
@@ -76,7 +86,7 @@ impl<T: Item> ToldRows<T> {
     {
         let count = table.len();
         for i in 0..count {
-            forget(&mut self.rows[i]);
+            forget(&mut self.rows[i], &mut self.marks[i]);
         }
         self.count = count;
     }
@@ -89,6 +99,10 @@ impl<T: Told> ToldRows<T> {
     {
         if i >= self.count {
             return true;
+        }
+        if !self.marks[i] {
+            item.see_same();
+            return false;
         }
         match &self.rows[i] {
             Some(row) => !item.has_row(row),
@@ -113,8 +127,9 @@ impl<T: Told> ToldRows<T> {
         }
         let before = item.row();
         table.set(i, *row);
-        if i < self.count && self.rows[i].is_none() {
+        if i < self.count && !self.marks[i] {
             self.rows[i] = Some(before);
+            self.marks[i] = true;
         }
     }
 }
