@@ -1,5 +1,5 @@
 -- What new items make of the items of one kind, one after the other, and a line without a fault.
-use Rattle.std.proofs.Common.{◌≡◌, ℕ, suc, ◌+◌, ◌<◌, List, [], ◌∷◌, ◌++◌, length, get_or, drop, Bool, true, false, cond, nat_eq, Option, Some, None, Ok, Err, refl, ap, ap₂, sym, ◌∙◌, append_assoc, add-one, drop-cons, arith}
+use Rattle.std.proofs.Common.{◌≡◌, ℕ, List, [], ◌∷◌, ◌++◌, Bool, true, false, cond, nat_eq, Option, Some, None, Ok, Err, refl, ap, ap₂, sym, ◌∙◌, append_assoc, arith}
 use Rattle.std.specs.Prelude.{map, option_map, option_and_then, is_some, ◌||◌}
 use Rattle.std.specs.List.{list_any}
 use Rattle.std.proofs.lemmas.Bool.{or_parts}
@@ -10,9 +10,6 @@ use Rattle.tk_stream.specs.Applied.{Kind, new_items, tables_after}
 use Rattle.tk_client.specs.declared.fault.Fault.TheVariants.{Misfit}
 use Rattle.tk_client.specs.Taking.{has_twice, has_id, are_fitting, fitting, repeats_id, has_strange_id, line_applied}
 use Rattle.tk_client.specs.Told.{id_by, info_id_by, made, told_of, has_info, with_new, or_misfit}
-
-pub one_step : {X : Type 0} (xs : List X) (i : ℕ) (x : X) → i < length xs → x ≡ get_or xs i x → drop i xs ≡ x ∷ drop (i + 1) xs
-one_step xs i x lt e = rw add-one (drop-cons xs i x lt ∙ ap (λ y. y ∷ drop (suc i) xs) (sym e))
 
 module _ {Item Info Stats : Type 0} (k : Kind Item Info Stats) where
   -- ---- ids

@@ -150,6 +150,10 @@ tables_grown old l =
 
 -- ---- the parts of a line
 
+-- a line that has given the infos of its new items away
+abbrev pub spent : LineView → LineView
+spent l = record l { new_ops = []; new_resources = []; new_tasks = [] }
+
 -- counts with these behind them, where their resource has none
 abbrev pub count_added : PollCounts → List PollCounts → List PollCounts
 count_added c counts = if is_some (item_with counts_id c.0 counts) then counts else counts ++ c ∷ []

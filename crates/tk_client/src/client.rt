@@ -87,7 +87,7 @@ fn take_line(alloc: Global, shown: &mut Shown, last: Option<u64>, text: &[u8]) -
     ensures kept { OnErr result (shown.new ≡ shown.old) }
     ensures number { IfOk result (λ n. n ≤ 2 ^ 63) }
 {
-    let line = Line::read(alloc, text)?;
+    let mut line = Line::read(alloc, text)?;
     let found = line.seq();
     if !is_next(last, &line) {
         return Err(Fault::Gap {
@@ -95,7 +95,7 @@ fn take_line(alloc: Global, shown: &mut Shown, last: Option<u64>, text: &[u8]) -
             found,
         });
     }
-    shown.apply(alloc, &line)?;
+    shown.apply(alloc, &mut line)?;
     Ok(found)
 }
 

@@ -44,9 +44,9 @@ pub(crate) trait Listed: Drop {
         requires { i < length (items tables.old) }
         ensures { tables.new ≡ with_items tables.old (inner.retold_at kind (items tables.old) i (Some stats.now)) };
 
-    fn add(tables: &mut Tables, info: &Self::Info, stats: &Self::Stats) -> Result<(), AllocError>
-        requires { inner.has_info kind (items tables.old) info.now ≡ false }
-        ensures ok { OnOk result (tables.new ≡ with_items tables.old (items tables.old ++ inner.made kind info.now stats.now ∷ [])) }
+    fn add(tables: &mut Tables, info: Self::Info, stats: &Self::Stats) -> Result<(), AllocError>
+        requires { inner.has_info kind (items tables.old) info ≡ false }
+        ensures ok { OnOk result (tables.new ≡ with_items tables.old (items tables.old ++ inner.made kind info stats.now ∷ [])) }
         ensures err { OnErr result (tables.new ≡ tables.old) };
 
     ghost grows: { (t : TablesView) (xs : List Self) → inner.Begins (items t) xs → inner.Grown t (with_items t xs) };

@@ -48,10 +48,9 @@ impl Listed for Op {
 
     fn add(
         tables: &mut Tables,
-        info: &OpInfo,
+        info: OpInfo,
         stats: &(AsyncOpId, OpRow),
     ) -> Result<(), AllocError> {
-        let info = info.clone()?;
         match tables.add_op(info, stats.1) {
             Ok(()) => Ok(()),
             Err((refused, _)) => Err(refused),

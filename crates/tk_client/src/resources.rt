@@ -48,10 +48,9 @@ impl Listed for Resource {
 
     fn add(
         tables: &mut Tables,
-        info: &ResourceInfo,
+        info: ResourceInfo,
         stats: &(ResourceId, ResourceRow),
     ) -> Result<(), AllocError> {
-        let info = info.clone()?;
         match tables.add_resource(info, stats.1) {
             Ok(()) => Ok(()),
             Err((refused, _)) => Err(refused),

@@ -75,19 +75,19 @@ impl Shown {
     }
 
     // Applies a line that is no snapshot. Room for what will change in the list of places is made first.
-    fn go_on(&mut self, alloc: Global, line: &Line) -> Result<(), Fault>
-        ensures applied { Answers (λ _. self.new) result (line_applied self.old line.now) }
+    fn go_on(&mut self, alloc: Global, line: &mut Line) -> Result<(), Fault>
+        ensures applied { Answers (λ _. self.new) result (line_applied self.old line.old) }
         ensures kept { OnErr result (self.new ≡ self.old) }
     {
-        let told = line.task_stats();
-        let Some(room) = self.places.len().checked_add(told.len()) else {
+        let told = line.task_stats().len();
+        let Some(room) = self.places.len().checked_add(told) else {
             return Err(Fault::Memory);
         };
-        let mut changes = Vec::with_capacity(alloc, told.len())?;
+        let mut changes = Vec::with_capacity(alloc, told)?;
         self.spare.reserve(room)?;
         match apply_line(alloc, &mut self.tables, line) {
             Ok(()) => {
-                list_changes(&mut changes, &self.places, &self.tables, told);
+                list_changes(&mut changes, &self.places, &self.tables, line.task_stats());
                 relist(&mut self.places, &mut self.spare, &mut changes);
                 Ok(())
             }
@@ -95,9 +95,9 @@ impl Shown {
         }
     }
 
-    /// Applies a line, or leaves the tables as they are. A snapshot stands for itself.
-    pub(crate) fn apply(&mut self, alloc: Global, line: &Line) -> Result<(), Fault>
-        ensures applied { Answers (λ _. self.new) result (line_applied (base_of self.old line.now) line.now) }
+    /// Applies a line, or leaves the tables as they are. A snapshot stands for itself. The infos of new items leave the line.
+    pub(crate) fn apply(&mut self, alloc: Global, line: &mut Line) -> Result<(), Fault>
+        ensures applied { Answers (λ _. self.new) result (line_applied (base_of self.old line.old) line.old) }
         ensures kept { OnErr result (self.new ≡ self.old) }
     {
         if !line.snapshot() {

@@ -180,17 +180,17 @@ fn told_of<T: Listed>(told: &Ids, stats: &[T::Stats], id: u64) -> Option<T::Stat
 fn add_each<T: Listed>(
     tables: &mut Tables,
     told: &Ids,
-    infos: &[T::Info],
+    infos: Vec<T::Info>,
     stats: &[T::Stats],
 ) -> Result<(), Fault>
     requires ids { told.now ≡ map (inner.stats_id_by T.kind) stats.now }
-    requires once { spec.repeats_kind T.kind (T.items tables.old) infos.now stats.now ≡ false }
+    requires once { spec.repeats_kind T.kind (T.items tables.old) infos.items stats.now ≡ false }
     ensures added { Answers (λ _. tables.new) result
-        (inner.with_new T.with_items tables.old (T.items tables.old) (new_items T.kind stats.now infos.now)) }
+        (inner.with_new T.with_items tables.old (T.items tables.old) (new_items T.kind stats.now infos.items)) }
     ensures grown { inner.Grown tables.old tables.new }
 {
     for info in infos {
-        let Some(own) = told_of::<T>(told, stats, T::info_id(info)) else {
+        let Some(own) = told_of::<T>(told, stats, T::info_id(&info)) else {
             return Err(Fault::Misfit);
         };
         T::add(tables, info, &own)?;
@@ -202,12 +202,12 @@ fn add_each<T: Listed>(
 fn add_all<T: Listed>(
     alloc: Global,
     tables: &mut Tables,
-    infos: &[T::Info],
+    infos: Vec<T::Info>,
     stats: &[T::Stats],
 ) -> Result<(), Fault>
-    requires { spec.repeats_kind T.kind (T.items tables.old) infos.now stats.now ≡ false }
+    requires { spec.repeats_kind T.kind (T.items tables.old) infos.items stats.now ≡ false }
     ensures added { Answers (λ _. tables.new) result
-        (inner.with_new T.with_items tables.old (T.items tables.old) (new_items T.kind stats.now infos.now)) }
+        (inner.with_new T.with_items tables.old (T.items tables.old) (new_items T.kind stats.now infos.items)) }
     ensures grown { inner.Grown tables.old tables.new }
 {
     let ids = told_ids::<T>(alloc, stats)?;
@@ -221,12 +221,12 @@ fn add_all<T: Listed>(
 fn add_new<T: Listed>(
     alloc: Global,
     tables: &mut Tables,
-    infos: &[T::Info],
+    infos: Vec<T::Info>,
     stats: &[T::Stats],
 ) -> Result<(), Fault>
-    requires { spec.repeats_kind T.kind (T.items tables.old) infos.now stats.now ≡ false }
+    requires { spec.repeats_kind T.kind (T.items tables.old) infos.items stats.now ≡ false }
     ensures added { Answers (λ _. tables.new) result
-        (inner.with_new T.with_items tables.old (T.items tables.old) (new_items T.kind stats.now infos.now)) }
+        (inner.with_new T.with_items tables.old (T.items tables.old) (new_items T.kind stats.now infos.items)) }
     ensures grown { inner.Grown tables.old tables.new }
 {
     if infos.is_empty() {
@@ -236,15 +236,19 @@ fn add_new<T: Listed>(
     }
 }
 
-// New items and new counts go last.
-fn grow(alloc: Global, tables: &mut Tables, line: &Line) -> Result<(), Fault>
-    requires { spec.repeats_id tables.old line.now ≡ false }
-    ensures added { Answers (λ _. tables.new) result (inner.or_misfit (inner.tables_grown tables.old line.now)) }
+// New items, whose infos leave the line, and new counts go last.
+fn grow(alloc: Global, tables: &mut Tables, line: &mut Line) -> Result<(), Fault>
+    requires { spec.repeats_id tables.old line.old ≡ false }
+    ensures added { Answers (λ _. tables.new) result (inner.or_misfit (inner.tables_grown tables.old line.old)) }
     ensures grown { inner.Grown tables.old tables.new }
+    ensures spent { OnOk result (line.new ≡ inner.spent line.old) }
 {
-    add_new::<Task>(alloc, tables, line.new_tasks(), line.task_stats())?;
-    add_new::<Resource>(alloc, tables, line.new_resources(), line.resource_stats())?;
-    add_new::<Op>(alloc, tables, line.new_ops(), line.op_stats())?;
+    let tasks = line.take_new_tasks();
+    add_new::<Task>(alloc, tables, tasks, line.task_stats())?;
+    let resources = line.take_new_resources();
+    add_new::<Resource>(alloc, tables, resources, line.resource_stats())?;
+    let ops = line.take_new_ops();
+    add_new::<Op>(alloc, tables, ops, line.op_stats())?;
     add_counts(tables, line.poll_counts())?;
     Ok(())
 }
@@ -283,13 +287,14 @@ fn tell_line(tables: &mut Tables, line: &Line)
 }
 
 // What goes in behind the others, where the line then has no fault.
-fn grow_fitting(alloc: Global, tables: &mut Tables, line: &Line) -> Result<(), Fault>
-    requires once { spec.repeats_id tables.old line.now ≡ false }
-    requires known { spec.has_strange_id tables.old line.now ≡ false }
+fn grow_fitting(alloc: Global, tables: &mut Tables, line: &mut Line) -> Result<(), Fault>
+    requires once { spec.repeats_id tables.old line.old ≡ false }
+    requires known { spec.has_strange_id tables.old line.old ≡ false }
     requires fit { spec.are_fitting tables.old ≡ true }
-    ensures applied { Answers (λ _. inner.tables_told tables.new line.now) result (spec.line_applied tables.old line.now) }
-    ensures counted { OnOk result (inner.AreCounted tables.new.counts line.now.poll_counts) }
+    ensures applied { Answers (λ _. inner.tables_told tables.new line.old) result (spec.line_applied tables.old line.old) }
+    ensures counted { OnOk result (inner.AreCounted tables.new.counts line.old.poll_counts) }
     ensures grown { inner.Grown tables.old tables.new }
+    ensures spent { OnOk result (line.new ≡ inner.spent line.old) }
 {
     match grow(alloc, tables, line) {
         Ok(()) => {
@@ -304,13 +309,14 @@ fn grow_fitting(alloc: Global, tables: &mut Tables, line: &Line) -> Result<(), F
 }
 
 // Grows the tables, or leaves them as they are.
-fn grow_or_cut(alloc: Global, tables: &mut Tables, line: &Line) -> Result<(), Fault>
-    requires once { spec.repeats_id tables.old line.now ≡ false }
-    requires known { spec.has_strange_id tables.old line.now ≡ false }
+fn grow_or_cut(alloc: Global, tables: &mut Tables, line: &mut Line) -> Result<(), Fault>
+    requires once { spec.repeats_id tables.old line.old ≡ false }
+    requires known { spec.has_strange_id tables.old line.old ≡ false }
     requires fit { spec.are_fitting tables.old ≡ true }
-    ensures applied { Answers (λ _. inner.tables_told tables.new line.now) result (spec.line_applied tables.old line.now) }
-    ensures counted { OnOk result (inner.AreCounted tables.new.counts line.now.poll_counts) }
+    ensures applied { Answers (λ _. inner.tables_told tables.new line.old) result (spec.line_applied tables.old line.old) }
+    ensures counted { OnOk result (inner.AreCounted tables.new.counts line.old.poll_counts) }
     ensures kept { OnErr result (tables.new ≡ tables.old) }
+    ensures spent { OnOk result (line.new ≡ inner.spent line.old) }
 {
     let tasks = tables.task_count();
     let resources = tables.resource_count();
@@ -324,12 +330,13 @@ fn grow_or_cut(alloc: Global, tables: &mut Tables, line: &Line) -> Result<(), Fa
 }
 
 // Applies a line without a repeated or a strange id.
-fn apply_sound(alloc: Global, tables: &mut Tables, line: &Line) -> Result<(), Fault>
-    requires once { spec.repeats_id tables.old line.now ≡ false }
-    requires known { spec.has_strange_id tables.old line.now ≡ false }
+fn apply_sound(alloc: Global, tables: &mut Tables, line: &mut Line) -> Result<(), Fault>
+    requires once { spec.repeats_id tables.old line.old ≡ false }
+    requires known { spec.has_strange_id tables.old line.old ≡ false }
     requires fit { spec.are_fitting tables.old ≡ true }
-    ensures applied { Answers (λ _. tables.new) result (spec.line_applied tables.old line.now) }
+    ensures applied { Answers (λ _. tables.new) result (spec.line_applied tables.old line.old) }
     ensures kept { OnErr result (tables.new ≡ tables.old) }
+    ensures spent { OnOk result (line.new ≡ inner.spent line.old) }
 {
     match grow_or_cut(alloc, tables, line) {
         Ok(()) => {
@@ -340,13 +347,14 @@ fn apply_sound(alloc: Global, tables: &mut Tables, line: &Line) -> Result<(), Fa
     }
 }
 
-/// Makes of tables what a line makes of them, or leaves them as they are.
+/// Makes of tables what a line makes of them, or leaves them as they are. The infos of new items go from the line into the tables.
 #[tactic(auto, unfolding(crate::specs::Taking::line_applied))]
-pub(crate) fn apply_line(alloc: Global, tables: &mut Tables, line: &Line) -> Result<(), Fault>
+pub(crate) fn apply_line(alloc: Global, tables: &mut Tables, line: &mut Line) -> Result<(), Fault>
     requires fit { spec.are_fitting tables.old ≡ true }
-    ensures applied { Answers (λ _. tables.new) result (spec.line_applied tables.old line.now) }
+    ensures applied { Answers (λ _. tables.new) result (spec.line_applied tables.old line.old) }
     ensures kept { OnErr result (tables.new ≡ tables.old) }
     ensures fit { spec.are_fitting tables.new ≡ true }
+    ensures spent { OnOk result (line.new ≡ inner.spent line.old) }
 {
     match look_at(alloc, tables, line)? {
         Finding::Repeats => Err(Fault::Repeated),

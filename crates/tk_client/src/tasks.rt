@@ -48,10 +48,9 @@ impl Listed for Task {
 
     fn add(
         tables: &mut Tables,
-        info: &TaskInfo,
+        info: TaskInfo,
         stats: &(TaskId, TaskRow),
     ) -> Result<(), AllocError> {
-        let info = info.clone()?;
         match tables.add_task(info, stats.1) {
             Ok(()) => Ok(()),
             Err((refused, _)) => Err(refused),

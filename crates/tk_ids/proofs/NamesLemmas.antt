@@ -1,5 +1,5 @@
 use Rattle.std.proofs.Common.{◌≡◌, ℕ, ◌<◌, rules, true, false, List, length, get_or, ◌∙◌, sym, arith}
-use Rattle.std.proofs.lemmas.Bool.{false_from_ne_true, true_from_ne_false, true≢false}
+use Rattle.std.proofs.lemmas.Bool.{true_from_ne_false, true≢false}
 use Rattle.std.proofs.lemmas.Bool.Decides.{nat_tests}
 use Rattle.std.proofs.lemmas.List.Folds.{list_all_at}
 use Rattle.std.proofs.lemmas.Str.{IsUtf8-from_ascii}
@@ -22,7 +22,6 @@ printable-IsAscii bytes h =
 name-printable : (bytes : List ℕ) → is_name bytes ≡ true → list_all is_printable bytes ≡ true
 name-printable bytes h = search rules
 
--- bytes that are no UTF-8 are no name
-pub is_name-not_utf8 : (bytes : List ℕ) → ¬ (IsUtf8 bytes) → is_name bytes ≡ false
-is_name-not_utf8 bytes not_utf8 =
-    false_from_ne_true (is_name bytes) (λ name. not_utf8 (IsUtf8-from_ascii bytes (printable-IsAscii bytes (name-printable bytes name))))
+-- a name is UTF-8
+pub is_name-utf8 : (bytes : List ℕ) → is_name bytes ≡ true → IsUtf8 bytes
+is_name-utf8 bytes name = IsUtf8-from_ascii bytes (printable-IsAscii bytes (name-printable bytes name))

@@ -49,12 +49,21 @@ impl Name {
         ensures err { IfErr result (λ e. e ≡
             if spec.is_name bytes.now then IdError.Memory else IdError.BadName) }
     {
-        let Ok(text) = str::from_utf8(bytes) else {
-            return Err(IdError::BadName);
-        };
         if !is_name(bytes) {
             return Err(IdError::BadName);
         }
+        Ok(Name::from_checked(alloc, bytes)?)
+    }
+
+    /// The name with these bytes, which are known to be one: nothing of them is checked again.
+    ///
+    /// It fails where there is no memory to keep the name.
+    pub fn from_checked(alloc: Global, bytes: &[u8]) -> Result<Name, AllocError>
+        requires { spec.is_name bytes.now ≡ true }
+        ensures { IfOk result (λ name. name ≡ bytes.now) }
+    {
+        // Printable bytes are ASCII, and so they are text.
+        let text = unsafe { str::from_utf8_unchecked(bytes) };
         let text = String::from_str(alloc, text)?;
         Ok(Name { text })
     }

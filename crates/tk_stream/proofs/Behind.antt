@@ -151,6 +151,10 @@ content_taken bs i lt is =
 pub plain_more : (bs : List ℕ) (i : ℕ) (escaped : Bool) → i < length bs → escaped ≡ is_escaped (get_or bs i 0) → escaped ≡ false → list_all is_plain (take i bs) ≡ true → list_all is_plain (take (i + 1) bs) ≡ true
 plain_more bs i escaped lt is so before = list_all_more is_plain bs i 0 lt ∙ rw (before, sym is ∙ so) refl
 
+-- one printable byte more
+pub printable_more : (bs : List ℕ) (i : ℕ) (printable : Bool) → i < length bs → printable ≡ is_printable (get_or bs i 0) → printable ≡ true → list_all is_printable (take i bs) ≡ true → list_all is_printable (take (i + 1) bs) ≡ true
+printable_more bs i printable lt is so before = list_all_more is_printable bs i 0 lt ∙ rw (before, sym is ∙ so) refl
+
 pub name_taken : (bytes text rest name : List ℕ) → Takes bytes (text ++ 34 ∷ []) rest → list_all is_plain text ≡ true → name ≡ text → is_name text ≡ true → Takes bytes (escape name ++ 34 ∷ []) rest
 name_taken bytes text rest name h plain same named =
     record { is = h.is ∙ ap (λ xs. (xs ++ 34 ∷ []) ++ rest) (sym (plain_text text (printable_name text named) plain) ∙ ap escape (sym same)) }

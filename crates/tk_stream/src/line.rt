@@ -46,6 +46,7 @@ use crate::told_tables::ToldTables;
 use serde_json::Value;
 use std::alloc::{AllocError, Global};
 use std::marker::Model;
+use std::mem;
 use tk_core::{OpRow, ResourceRow, TaskRow};
 use tk_ids::{AsyncOpId, Dropped, OpInfo, ResourceId, ResourceInfo, TaskId, TaskInfo};
 
@@ -272,6 +273,33 @@ impl Line {
         ensures { result.now ≡ self.now.new_tasks }
     {
         self.new_tasks.as_slice()
+    }
+
+    /// Gives the infos of the new async operations away, in order of arrival: the line then tells of none.
+    pub fn take_new_ops(&mut self) -> Vec<OpInfo>
+        ensures infos { result.items ≡ self.old.new_ops }
+        ensures rest { self.new ≡ record self.old { new_ops = [] } }
+    {
+        let alloc = *self.new_ops.allocator();
+        mem::replace(&mut self.new_ops, Vec::new(alloc))
+    }
+
+    /// Gives the infos of the new resources away, in order of arrival: the line then tells of none.
+    pub fn take_new_resources(&mut self) -> Vec<ResourceInfo>
+        ensures infos { result.items ≡ self.old.new_resources }
+        ensures rest { self.new ≡ record self.old { new_resources = [] } }
+    {
+        let alloc = *self.new_resources.allocator();
+        mem::replace(&mut self.new_resources, Vec::new(alloc))
+    }
+
+    /// Gives the infos of the new tasks away, in order of arrival: the line then tells of none.
+    pub fn take_new_tasks(&mut self) -> Vec<TaskInfo>
+        ensures infos { result.items ≡ self.old.new_tasks }
+        ensures rest { self.new ≡ record self.old { new_tasks = [] } }
+    {
+        let alloc = *self.new_tasks.allocator();
+        mem::replace(&mut self.new_tasks, Vec::new(alloc))
     }
 
     /// The moment of the line, in nanoseconds.

@@ -24,10 +24,7 @@ fn new_name(alloc: Global, text: &str) -> Result<Name, LineError>
     ensures ok { IfOk result (λ name. name ≡ text.now) }
     ensures memory { IfErr result (λ e. e ≡ LineError.Memory) }
 {
-    match Name::new(alloc, text.as_bytes()) {
-        Ok(name) => Ok(name),
-        Err(_) => Err(LineError::Memory),
-    }
+    Ok(Name::from_checked(alloc, text.as_bytes())?)
 }
 
 // ---- places

@@ -214,7 +214,7 @@ pub(crate) fn take_name<'a>(
         return Ok(None);
     };
     if let Some((text, rest)) = take_content(rest) {
-        let Some(name) = name_of(alloc, text)? else {
+        let Some(name) = short_name(alloc, text)? else {
             return Ok(None);
         };
         return Ok(Some((name, rest)));
@@ -237,6 +237,18 @@ fn name_of(alloc: Global, bytes: &[u8]) -> Result<Option<Name>, AllocError>
         Err(IdError::Memory) => Err(AllocError),
         Err(_) => Ok(None),
     }
+}
+
+// The name of these printable bytes, where they are one.
+fn short_name(alloc: Global, bytes: &[u8]) -> Result<Option<Name>, AllocError>
+    requires { list_all is_printable bytes.now ≡ true }
+    ensures { IfOk result (λ o. IfSome o (λ name. (name ≡ bytes.now) × (is_name bytes.now ≡ true))) }
+{
+    if bytes.is_empty() || bytes.len() > 1024 {
+        return Ok(None);
+    }
+    let name = Name::from_checked(alloc, bytes)?;
+    Ok(Some(name))
 }
 
 // The bytes before the quote that ends a text, without their backslashes, and the quote.
@@ -279,10 +291,11 @@ fn take_byte(bytes: &[u8]) -> Option<(u8, &[u8])>
     Some((*byte, rest))
 }
 
-// What stands before the next quote, and the quote.
+// What stands before the next quote, where each of its bytes stands for itself in a name, and the quote.
 fn take_content(bytes: &[u8]) -> Option<(&[u8], &[u8])>
     ensures text { IfSome result (λ x. Takes bytes.now (x.0.now ++ 34 ∷ []) x.1.now) }
     ensures plain { IfSome result (λ x. list_all is_plain x.0.now ≡ true) }
+    ensures printable { IfSome result (λ x. list_all is_printable x.0.now ≡ true) }
 {
     for (at, byte) in bytes.iter().enumerate() {
         if *byte == b'"' {
@@ -291,6 +304,15 @@ fn take_content(bytes: &[u8]) -> Option<(&[u8], &[u8])>
         if is_escaped(*byte) {
             return None;
         }
+        if !is_printable(*byte) {
+            return None;
+        }
     }
     None
+}
+
+fn is_printable(byte: u8) -> bool
+    ensures { result ≡ is_printable byte }
+{
+    0x20 <= byte && byte <= 0x7E
 }

@@ -8,12 +8,12 @@ returns-in-Err-clause-applied c = grown-fails c.args.tables.now c.args.line.now 
 pub returns-else-rows_fit-clause-applied : goal.returns-else-rows_fit-clause-applied
 returns-else-rows_fit-clause-applied c =
     grown-misfits c.args.tables.now c.args.line.now c.grow.new.tables c.requires.once c.requires.known c.requires.fit c.rows_fit.ensures.distinct c.in-Ok.ensures.added
-    (sym c.rows_fit.ensures.fit ∙ c.if-rows_fit.false)
+    (sym (rw c.in-Ok.ensures.spent at c.rows_fit.ensures.fit) ∙ c.if-rows_fit.false)
 
 pub returns-then-rows_fit-clause-applied : goal.returns-then-rows_fit-clause-applied
 returns-then-rows_fit-clause-applied c =
     grown-fits c.args.tables.now c.args.line.now c.grow.new.tables c.requires.once c.requires.known c.requires.fit c.rows_fit.ensures.distinct c.in-Ok.ensures.added
-    (sym c.rows_fit.ensures.fit ∙ c.if-rows_fit.true)
+    (sym (rw c.in-Ok.ensures.spent at c.rows_fit.ensures.fit) ∙ c.if-rows_fit.true)
 
 pub returns-then-rows_fit-clause-counted : goal.returns-then-rows_fit-clause-counted
 returns-then-rows_fit-clause-counted c = counted-grown c.args.tables.now c.args.line.now c.grow.new.tables c.in-Ok.ensures.added

@@ -17,7 +17,7 @@ list_changes-requires-clause-rising c = ap rise (c.deref.ensures.value ∙ c.sel
 
 pub list_changes-requires-clause-once : goal.list_changes-requires-clause-once
 list_changes-requires-clause-once c =
-    ap (λ stats. has_twice (map (stats_id_by task_kind) stats)) c.task_stats-told.ensures
+    ap (λ stats. has_twice (map (stats_id_by task_kind) stats)) (c.task_stats.ensures ∙ ap (λ (l : LineView). l.task_stats) c.in-Ok.ensures.spent)
     ∙ (applied-tasks c.self.inside.tables c.args.line.now c.apply_line.new.tables c.in-Ok.ensures.applied).1
 
 pub relist-requires-clause-rising : goal.relist-requires-clause-rising
@@ -32,7 +32,7 @@ invariant_of-self-in-Ok c =
     let raw : List Change = c.deref_mut.result.now in
     let changes : raw ≡ changes_of c.self.inside.places.items new.tasks line.task_stats =
     c.deref_mut.ensures.value ∙ c.list_changes.ensures.items
-    ∙ ap₂ (λ places stats. changes_of places new.tasks stats) c.deref.ensures.value c.task_stats-told.ensures in (
+    ∙ ap₂ (λ places stats. changes_of places new.tasks stats) c.deref.ensures.value (c.task_stats.ensures ∙ ap (λ (l : LineView). l.task_stats) c.in-Ok.ensures.spent) in (
       c.in-Ok.ensures.fit,
       c.relist.ensures.merged
           ∙ standing task_kind (λ x s. refl) (λ info s. refl) can_warn line.task_stats line.new_tasks old.tasks follow.items new.tasks c.self.inside.places.items raw c.relist.new.changes follow.are follow.now c.list_changes.ensures.distinct
