@@ -1,0 +1,193 @@
+//! Tasks, and their wakers.
+
+use crate::run::{Plain, Waker, place_of};
+use std::alloc::Global;
+use tk_core::{TaskCall, TaskRow};
+use tk_ids::{IdError, Location, Name, TaskId, TaskInfo, TaskKind};
+use tk_live::Stop;
+use tk_stream::Tables;
+
+/// A place on a line of the script.
+pub(crate) fn location_of(alloc: Global, line: u32) -> Result<Location, IdError> {
+    let file = Name::new(alloc, b"script")?;
+    Ok(Location {
+        file,
+        line,
+        column: 1,
+    })
+}
+
+fn info_of(
+    alloc: Global,
+    id: TaskId,
+    line: u32,
+    kind: TaskKind,
+    name: &[u8],
+) -> Result<TaskInfo, IdError> {
+    let name = Name::new(alloc, name)?;
+    let location = location_of(alloc, line)?;
+    Ok(TaskInfo {
+        id,
+        kind,
+        name,
+        location,
+    })
+}
+
+// The row of a new task, which its one reader has enlisted at.
+fn first_row(created: u64) -> TaskRow {
+    let (row, _) = TaskRow::opening(created).step(TaskCall::Enlist);
+    row
+}
+
+fn add(tables: &mut Tables, info: TaskInfo, row: TaskRow) -> Result<(), Stop> {
+    if tables.task(info.id).is_some() {
+        return Err(Stop::OffersSpent);
+    }
+    match tables.add_task(info, row) {
+        Ok(()) => Ok(()),
+        Err(_) => Err(Stop::Memory),
+    }
+}
+
+fn row_at(tables: &Tables, place: usize) -> Option<TaskRow> {
+    let task = tables.task_at(place)?;
+    Some(task.row)
+}
+
+/// The id of the task of a number, if it was made.
+pub(crate) fn made_task(tables: &Tables, number: u64) -> Option<TaskId> {
+    let task = tables.task_at(place_of(number)?)?;
+    Some(task.info.id)
+}
+
+// Steps the row of a task by a call.
+fn step(tables: &mut Tables, place: usize, call: TaskCall) -> Result<(), Stop> {
+    let Some(row) = row_at(tables, place) else {
+        return Err(Stop::NoSuchItem);
+    };
+    let (next, reply) = row.step(call);
+    if let Some(refusal) = reply.refusal() {
+        return Err(Stop::Call(refusal));
+    }
+    if place < tables.task_count() {
+        tables.set_task(place, next);
+    }
+    Ok(())
+}
+
+impl Plain {
+    pub(crate) fn make_task(
+        &mut self,
+        line: u32,
+        created: u64,
+        kind: TaskKind,
+        name: &[u8],
+    ) -> Result<(), Stop> {
+        let Ok(id) = self.ids.next_task() else {
+            return Err(Stop::OffersSpent);
+        };
+        let Ok(info) = info_of(self.alloc, id, line, kind, name) else {
+            return Err(Stop::Memory);
+        };
+        add(&mut self.tables, info, first_row(created))
+    }
+
+    // Where a task stands that is not closed.
+    fn open_task(&self, number: u64) -> Result<usize, Stop> {
+        let Some(place) = place_of(number) else {
+            return Err(Stop::NoSuchItem);
+        };
+        match row_at(&self.tables, place) {
+            Some(row) => {
+                if row.dropped.is_some() {
+                    return Err(Stop::NoSuchItem);
+                }
+                Ok(place)
+            }
+            None => Err(Stop::NoSuchItem),
+        }
+    }
+
+    /// A call of a task's owner, which a close spends.
+    pub(crate) fn call_task(&mut self, number: u64, call: TaskCall) -> Result<(), Stop> {
+        let place = self.open_task(number)?;
+        step(&mut self.tables, place, call)
+    }
+
+    /// A task wakes itself in its open poll.
+    pub(crate) fn wake_itself(&mut self, number: u64, moment: u64) -> Result<(), Stop> {
+        let place = self.open_task(number)?;
+        match row_at(&self.tables, place) {
+            Some(row) => {
+                if !row.polling {
+                    return Err(Stop::Call(tk_core::Refusal::NotPolling));
+                }
+                step(&mut self.tables, place, TaskCall::WakeRef(moment, true))
+            }
+            None => Err(Stop::NoSuchItem),
+        }
+    }
+
+    // A new waker of a task, be it closed or not.
+    fn draw(&mut self, number: u64) -> Result<(), Stop> {
+        let Some(place) = place_of(number) else {
+            return Err(Stop::NoSuchItem);
+        };
+        step(&mut self.tables, place, TaskCall::CloneWaker)?;
+        let waker = Waker {
+            task: number,
+            is_spent: false,
+        };
+        match self.wakers.push(waker) {
+            Ok(()) => Ok(()),
+            Err(_) => Err(Stop::Memory),
+        }
+    }
+
+    pub(crate) fn clone_waker(&mut self, number: u64) -> Result<(), Stop> {
+        self.open_task(number)?;
+        self.draw(number)
+    }
+
+    // The task of a waker that is not spent.
+    fn woken_by(&self, number: u64) -> Result<u64, Stop> {
+        let Some(place) = place_of(number) else {
+            return Err(Stop::NoSuchItem);
+        };
+        match self.wakers.get(place) {
+            Some(waker) => {
+                if waker.is_spent {
+                    return Err(Stop::NoSuchItem);
+                }
+                Ok(waker.task)
+            }
+            None => Err(Stop::NoSuchItem),
+        }
+    }
+
+    pub(crate) fn clone_of_waker(&mut self, number: u64) -> Result<(), Stop> {
+        let task = self.woken_by(number)?;
+        self.draw(task)
+    }
+
+    /// A call of a waker, which stays.
+    pub(crate) fn call_waker(&mut self, number: u64, call: TaskCall) -> Result<(), Stop> {
+        let task = self.woken_by(number)?;
+        match place_of(task) {
+            Some(place) => step(&mut self.tables, place, call),
+            None => Err(Stop::NoSuchItem),
+        }
+    }
+
+    /// The last call of a waker.
+    pub(crate) fn spend_waker(&mut self, number: u64, call: TaskCall) -> Result<(), Stop> {
+        self.call_waker(number, call)?;
+        if let Some(place) = place_of(number) {
+            if let Some(waker) = self.wakers.get_mut(place) {
+                waker.is_spent = true;
+            }
+        }
+        Ok(())
+    }
+}
