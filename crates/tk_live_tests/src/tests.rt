@@ -1,0 +1,4 @@
+//! Scripts that are made at random.
+
+mod beside;
+mod random;
