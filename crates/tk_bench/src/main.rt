@@ -12,6 +12,7 @@ mod live;
 mod live_report;
 mod report;
 mod rounds;
+mod script_report;
 mod scripts;
 mod text_report;
 mod texts;

@@ -4,8 +4,7 @@ use crate::error::BenchError;
 use crate::ledgers::{Call, on_a_row, on_one_task, on_own_tasks};
 use crate::lines::{LineTimes, Part, Stream, Waker, changed, tables_of};
 use crate::rounds::{ROUNDS, Rounds};
-use crate::scripts::{script_of, time_of};
-use crate::{live_report, text_report};
+use crate::{live_report, script_report, text_report};
 use std::alloc::Global;
 use std::io::Write;
 use std::sync::Wait;
@@ -333,32 +332,6 @@ fn warnings<R: Clock, W: Write>(
     Ok(())
 }
 
-fn scripts<R: Wait + Clock, W: Write>(
-    rt: &R,
-    alloc: Global,
-    out: &mut W,
-    polls: u64,
-) -> Result<(), BenchError> {
-    let script = script_of(alloc, polls)?;
-    let mut nanos = [0u64; ROUNDS];
-    for round in &mut nanos {
-        *round = time_of(rt, alloc, &script)?.0;
-    }
-    let rounds = Rounds::new(nanos);
-    let commands = polls.saturating_mul(2).saturating_add(2);
-    writeln!(out)?;
-    writeln!(out, "| nanoseconds of | commands | least | median | most |")?;
-    writeln!(out, "|---|---|---|---|---|")?;
-    let (least, least_tenth) = tenths(rounds.least(), commands);
-    let (median, median_tenth) = tenths(rounds.median(), commands);
-    let (most, most_tenth) = tenths(rounds.most(), commands);
-    writeln!(
-        out,
-        "| a command of a script | {commands} | {least}.{least_tenth} | {median}.{median_tenth} | {most}.{most_tenth} |"
-    )?;
-    Ok(())
-}
-
 /// Measures all, and writes the tables.
 pub(crate) fn all<R: Wait + Threads + Clock + Sync, W: Write>(
     rt: &R,
@@ -373,7 +346,7 @@ pub(crate) fn all<R: Wait + Threads + Clock + Sync, W: Write>(
     warnings(rt, alloc, out, 100_000)?;
     text_report::all(rt, alloc, out)?;
     live_report::all(rt, alloc, out)?;
-    scripts(rt, alloc, out, 49_999)
+    script_report::all(rt, alloc, out)
 }
 
 /// Does each thing once in a small size, and writes what was done.
@@ -391,10 +364,7 @@ pub(crate) fn small<R: Wait + Threads + Clock + Sync, W: Write>(
     small_line(rt, alloc, out)?;
     text_report::small(alloc, out)?;
     live_report::small(rt, alloc, out)?;
-    let script = script_of(alloc, 5)?;
-    let (_, bytes) = time_of(rt, alloc, &script)?;
-    writeln!(out, "a script of 12 commands: {bytes} bytes")?;
-    Ok(())
+    script_report::small(rt, alloc, out)
 }
 
 fn small_change<R: Clock, W: Write>(

@@ -1,0 +1,118 @@
+//! The table of scripts.
+
+use crate::error::BenchError;
+use crate::report::tenths;
+use crate::rounds::Rounds;
+use crate::scripts::{Way, polls_of, tasks_of};
+use std::alloc::Global;
+use std::io::Write;
+use std::sync::Wait;
+use std::time::Clock;
+
+// One row of the table: milliseconds of a run, and how often those on plain rows they are.
+fn write_run<W: Write>(
+    out: &mut W,
+    what: (&str, u64),
+    way: Way,
+    rounds: &Rounds,
+    plain: u64,
+) -> Result<(), BenchError> {
+    let (script, commands) = what;
+    let name = way.name();
+    let (least, least_tenth) = tenths(rounds.least(), 1_000_000);
+    let (median, median_tenth) = tenths(rounds.median(), 1_000_000);
+    let (most, most_tenth) = tenths(rounds.most(), 1_000_000);
+    let (ratio, ratio_tenth) = tenths(rounds.median(), plain);
+    writeln!(
+        out,
+        "| {script} | {commands} | {name} | {least}.{least_tenth} | {median}.{median_tenth} | {most}.{most_tenth} | {ratio}.{ratio_tenth} |"
+    )?;
+    Ok(())
+}
+
+fn runs<R: Wait + Clock, W: Write>(
+    rt: &R,
+    alloc: Global,
+    out: &mut W,
+    what: (&str, u64),
+    script: &str,
+) -> Result<(), BenchError> {
+    let plain = Way::PlainRows.rounds(rt, alloc, script)?;
+    let live = Way::Ledgers.rounds(rt, alloc, script)?;
+    write_run(out, what, Way::PlainRows, &plain, plain.median())?;
+    write_run(out, what, Way::Ledgers, &live, plain.median())
+}
+
+fn runs_of_polls<R: Wait + Clock, W: Write>(
+    rt: &R,
+    alloc: Global,
+    out: &mut W,
+    polls: u64,
+) -> Result<(), BenchError> {
+    let script = polls_of(alloc, polls)?;
+    let commands = polls.saturating_mul(2).saturating_add(2);
+    runs(rt, alloc, out, ("polls of one task", commands), &script)
+}
+
+fn runs_of_tasks<R: Wait + Clock, W: Write>(
+    rt: &R,
+    alloc: Global,
+    out: &mut W,
+    name: &str,
+    lines: u64,
+    tasks: u64,
+) -> Result<(), BenchError> {
+    let script = tasks_of(alloc, lines, tasks)?;
+    let commands = lines.saturating_mul(tasks.saturating_add(1));
+    runs(rt, alloc, out, (name, commands.saturating_add(1)), &script)
+}
+
+/// Measures, and writes the table.
+pub(crate) fn all<R: Wait + Clock, W: Write>(
+    rt: &R,
+    alloc: Global,
+    out: &mut W,
+) -> Result<(), BenchError> {
+    writeln!(out)?;
+    writeln!(
+        out,
+        "| milliseconds of a script of | commands | run | least | median | most | times plain rows' |"
+    )?;
+    writeln!(out, "|---|---|---|---|---|---|---|")?;
+    runs_of_polls(rt, alloc, out, 49_999)?;
+    runs_of_tasks(rt, alloc, out, "30,000 tasks in 1,000 lines", 1_000, 30)?;
+    runs_of_tasks(rt, alloc, out, "65,000 tasks in one line", 1, 65_000)
+}
+
+// Whether a script writes as much over ledgers as on plain rows.
+fn small_script<R: Wait, W: Write>(
+    rt: &R,
+    alloc: Global,
+    out: &mut W,
+    name: &str,
+    script: &str,
+) -> Result<(), BenchError> {
+    let live = Way::Ledgers.run(rt, alloc, script)?;
+    let plain = Way::PlainRows.run(rt, alloc, script)?;
+    let alike = if live == plain {
+        "as many"
+    } else {
+        "not as many"
+    };
+    writeln!(out, "a script of {name}: {alike} bytes as on plain rows")?;
+    Ok(())
+}
+
+/// Does it once in a small size, and writes what was done.
+pub(crate) fn small<R: Wait, W: Write>(
+    rt: &R,
+    alloc: Global,
+    out: &mut W,
+) -> Result<(), BenchError> {
+    let polls = polls_of(alloc, 5)?;
+    let bytes = Way::Ledgers.run(rt, alloc, &polls)?;
+    writeln!(out, "a script of 12 commands: {bytes} bytes")?;
+    small_script(rt, alloc, out, "5 polls of one task", &polls)?;
+    let tasks = tasks_of(alloc, 3, 2)?;
+    small_script(rt, alloc, out, "6 tasks in 3 lines", &tasks)
+}
