@@ -90,11 +90,35 @@ fn spawn_three<R: Wait>(
     ensures { IfErr result (λ fault. fault ≡ AppFault.Memory) }
 {
     let created = clock.now();
-    spawn(rt, alloc, recorder, executor, created, b"yield", Example::Yield(YieldTimes::new(3)))?;
+    spawn(
+        rt,
+        alloc,
+        recorder,
+        executor,
+        created,
+        b"yield",
+        Example::Yield(YieldTimes::new(3)),
+    )?;
     let created = clock.now();
-    spawn(rt, alloc, recorder, executor, created, b"lose", Example::Lose(LoseWaker::new()))?;
+    spawn(
+        rt,
+        alloc,
+        recorder,
+        executor,
+        created,
+        b"lose",
+        Example::Lose(LoseWaker::new()),
+    )?;
     let created = clock.now();
-    spawn(rt, alloc, recorder, executor, created, b"hold", Example::Hold(HoldWaker::new()))
+    spawn(
+        rt,
+        alloc,
+        recorder,
+        executor,
+        created,
+        b"hold",
+        Example::Hold(HoldWaker::new()),
+    )
 }
 
 // Polls the tasks until none is scheduled.
@@ -107,7 +131,9 @@ fn drive<R: Wait + RandomSource + AllocGlobal>(
     ensures { IfErr result (λ fault. fault ≡ AppFault.Memory) }
 {
     match Driver::new(rt, alloc, executor, clock, 1) {
-        Ok(driver) => block_on(rt, driver).map(|_| ()).map_err(|_| AppFault::Memory),
+        Ok(driver) => block_on(rt, driver)
+            .map(|_| ())
+            .map_err(|_| AppFault::Memory),
         Err(_) => Err(AppFault::Memory),
     }
 }
@@ -179,12 +205,7 @@ fn report_by<R: Wait>(
     report(alloc, tables, &Lints::default())
 }
 
-fn text_of<R: Wait>(
-    rt: &R,
-    alloc: Global,
-    taker: &mut Taker,
-    now: u64,
-) -> Result<Vec<u8>, AppFault>
+fn text_of<R: Wait>(rt: &R, alloc: Global, taker: &mut Taker, now: u64) -> Result<Vec<u8>, AppFault>
     ensures ok { IfOk result (λ text. IsReportOfAStream text.items) }
     ensures memory { IfErr result (λ fault. fault ≡ AppFault.Memory) }
 {
