@@ -10,6 +10,7 @@ use clap::error::ErrorKind;
 use std::alloc::Global;
 use std::io::{ErrorKind as IoErrorKind, Read, Write};
 use std::sync::Wait;
+use std::thread::Threads;
 use tk_app::{AppFault, Open, View, run_script, view_stream};
 
 /// All was done, which may be to show help.
@@ -62,7 +63,7 @@ fn tell_view<E: Write>(view: View, outcome: Result<u64, AppFault>, faults: &mut 
 }
 
 // Does what is asked for, and answers the status.
-fn fulfil<R: Wait, I: Read, O: Write, E: Write>(
+fn fulfil<R: Threads + Wait + Sync, I: Read, O: Write, E: Write>(
     rt: &R,
     alloc: Global,
     request: Request,
@@ -121,7 +122,7 @@ pub(crate) fn refuse_words<E: Write>(kind: IoErrorKind, faults: &mut E) -> u8
 /// Does what the words ask for, the first of which is the program's name, and answers the status.
 ///
 /// What goes to `faults` is only tested.
-pub(crate) fn run_program<R: Wait, I: Read, O: Write, E: Write>(
+pub(crate) fn run_program<R: Threads + Wait + Sync, I: Read, O: Write, E: Write>(
     rt: &R,
     alloc: Global,
     words: &[String],

@@ -4,6 +4,7 @@ use crate::error::BenchError;
 use crate::rounds::nanos_since;
 use std::alloc::Global;
 use std::sync::Wait;
+use std::thread::Threads;
 use std::time::{Clock, Instant};
 use tk_app::{Open, run_script};
 
@@ -19,7 +20,7 @@ pub(crate) fn script_of(alloc: Global, polls: u64) -> Result<Vec<u8>, BenchError
 }
 
 /// The nanoseconds of the script's run, and how many bytes it wrote.
-pub(crate) fn time_of<R: Wait + Clock>(
+pub(crate) fn time_of<R: Threads + Wait + Sync + Clock>(
     rt: &R,
     alloc: Global,
     script: &[u8],
