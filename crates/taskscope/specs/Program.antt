@@ -1,5 +1,5 @@
 -- What a run of the program does with a script, with a stream, and for the demo.
-use Rattle.std.specs.Prelude.{◌≡◌, ◌==◌, ℕ, List, Option, Result, Ok, Err, IfErr, if◌then◌else◌}
+use Rattle.std.specs.Prelude.{◌≡◌, ◌==◌, ℕ, Bool, true, List, Option, Result, Ok, Err, IfErr, if◌then◌else◌}
 use Rattle.std.specs.Io.KnownBytes.{Appends}
 use Rattle.tk_client.specs.Warnings.{LintsView}
 use Rattle.tk_app.specs.Demo.{Demonstrates}
@@ -16,13 +16,17 @@ abbrev pub status_of : Result (Unit {0}) AppFault → ℕ
 status_of (Ok done) = 0
 status_of (Err fault) = 1
 
+-- the gate of the program is open to each worker
+abbrev pub open_gate : ℕ → Bool → Type 0
+open_gate worker answer = answer ≡ true
+
 -- a script is read and run, what it writes goes out, and the status tells the outcome
 pub record RunsScript (known old new : Option (List ℕ)) (status : ℕ) : Type 0 where
   pub outcome : Result (Unit {0}) AppFault
   pub told : status ≡ status_of outcome
   -- line by line, up to its first fault: what its text tells is a function of the text
   pub written : List ℕ
-  pub runs : ReadsAndRuns known outcome written
+  pub runs : ReadsAndRuns open_gate known outcome written
   pub appends : Appends old new written
 
 -- the status of a view with so many warnings: `lint` alone tells of them, by 3

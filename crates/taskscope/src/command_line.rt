@@ -57,6 +57,9 @@ A script has one command a line, its words between single spaces:
   wakeref WAKER MOMENT   wakes the waker's task, and keeps the waker
   wake WAKER MOMENT      wakes it, and uses the waker up
   release WAKER          drops the waker without a wake
+  par                    opens a block of two threads, up to `join`
+  1 COMMAND, 2 COMMAND   in a block: the first or second thread does a wakeref, wake or release
+  join                   runs the threads of the block, and waits for both
   publish MOMENT         writes a line with what is new since the line before
   snapshot MOMENT        writes a line that tells of all
 Resources have the commands resource, radd, rsub, rset and rclose, async operations op, optask,

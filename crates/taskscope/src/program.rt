@@ -11,6 +11,7 @@ use std::alloc::{AllocGlobal, Global};
 use std::io::{ErrorKind as IoErrorKind, Read, Write};
 use std::random::RandomSource;
 use std::sync::Wait;
+use std::thread::Threads;
 use tk_app::{AppFault, Open, View, demo, run_script, view_stream};
 
 /// All was done, which may be to show help.
@@ -63,7 +64,7 @@ fn tell_view<E: Write>(view: View, outcome: Result<u64, AppFault>, faults: &mut 
 }
 
 // Does what is asked for, and answers the status.
-fn fulfil<R: Wait + RandomSource + AllocGlobal, I: Read, O: Write, E: Write>(
+fn fulfil<R: Threads + Wait + Sync + RandomSource + AllocGlobal, I: Read, O: Write, E: Write>(
     rt: &R,
     alloc: Global,
     request: Request,
@@ -123,14 +124,12 @@ pub(crate) fn refuse_words<E: Write>(kind: IoErrorKind, faults: &mut E) -> u8
 /// Does what the words ask for, the first of which is the program's name, and answers the status.
 ///
 /// What goes to `faults` is only tested.
-pub(crate) fn run_program<R: Wait + RandomSource + AllocGlobal, I: Read, O: Write, E: Write>(
-    rt: &R,
-    alloc: Global,
-    words: &[String],
-    input: &mut I,
-    output: &mut O,
-    faults: &mut E,
-) -> u8
+pub(crate) fn run_program<
+    R: Threads + Wait + Sync + RandomSource + AllocGlobal,
+    I: Read,
+    O: Write,
+    E: Write,
+>(rt: &R, alloc: Global, words: &[String], input: &mut I, output: &mut O, faults: &mut E) -> u8
     // What is asked for is done: a run reads and writes as `run_script` does, a view as `view_stream` does, and the demo
     // writes as `demo` does. The status is 1 exactly where there was a fault, and 3 exactly where `lint` found warnings.
     ensures does { (request : Request) → AsksFor request (texts words.now)

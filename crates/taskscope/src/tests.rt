@@ -8,6 +8,7 @@ use std::process::Abort;
 use std::random::RandomSource;
 use std::sync::Wait;
 use std::test::Fail;
+use std::thread::Threads;
 
 const HELP: &str = "Shows what the tasks of an async program did, as tokio-console would.
 
@@ -64,6 +65,9 @@ A script has one command a line, its words between single spaces:
   wakeref WAKER MOMENT   wakes the waker's task, and keeps the waker
   wake WAKER MOMENT      wakes it, and uses the waker up
   release WAKER          drops the waker without a wake
+  par                    opens a block of two threads, up to `join`
+  1 COMMAND, 2 COMMAND   in a block: the first or second thread does a wakeref, wake or release
+  join                   runs the threads of the block, and waits for both
   publish MOMENT         writes a line with what is new since the line before
   snapshot MOMENT        writes a line that tells of all
 Resources have the commands resource, radd, rsub, rset and rclose, async operations op, optask,
@@ -280,7 +284,7 @@ fn words_of(alloc: Global, words: &[&str]) -> Result<Vec<String>, AllocError> {
     Ok(owned)
 }
 
-fn assert_answers<R: Abort + AllocGlobal + RandomSource + Wait>(
+fn assert_answers<R: Abort + AllocGlobal + RandomSource + Threads + Wait + Sync>(
     rt: &R,
     calls: &[Call],
 ) -> Result<(), Fail> {
@@ -325,7 +329,7 @@ fn views_streams(rt: HostRuntime) -> Result<(), Fail> {
 }
 
 // What a command makes of the stream of `LOST`: the status, and whether it wrote this.
-fn of_lost<R: Wait + AllocGlobal + RandomSource>(
+fn of_lost<R: Threads + Wait + Sync + AllocGlobal + RandomSource>(
     rt: &R,
     command: &str,
     text: &str,

@@ -1,5 +1,6 @@
 //! Scripts that are run in memory: what they write, and what they stop at.
 
+mod blocks;
 mod capacity;
 mod commands;
 mod faults;

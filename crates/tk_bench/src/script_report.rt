@@ -7,6 +7,7 @@ use crate::scripts::{Way, polls_of, tasks_of};
 use std::alloc::Global;
 use std::io::Write;
 use std::sync::Wait;
+use std::thread::Threads;
 use std::time::Clock;
 
 // One row of the table: milliseconds of a run, and how often those on plain rows they are.
@@ -30,7 +31,7 @@ fn write_run<W: Write>(
     Ok(())
 }
 
-fn runs<R: Wait + Clock, W: Write>(
+fn runs<R: Threads + Wait + Sync + Clock, W: Write>(
     rt: &R,
     alloc: Global,
     out: &mut W,
@@ -43,7 +44,7 @@ fn runs<R: Wait + Clock, W: Write>(
     write_run(out, what, Way::Ledgers, &live, plain.median())
 }
 
-fn runs_of_polls<R: Wait + Clock, W: Write>(
+fn runs_of_polls<R: Threads + Wait + Sync + Clock, W: Write>(
     rt: &R,
     alloc: Global,
     out: &mut W,
@@ -54,7 +55,7 @@ fn runs_of_polls<R: Wait + Clock, W: Write>(
     runs(rt, alloc, out, ("polls of one task", commands), &script)
 }
 
-fn runs_of_tasks<R: Wait + Clock, W: Write>(
+fn runs_of_tasks<R: Threads + Wait + Sync + Clock, W: Write>(
     rt: &R,
     alloc: Global,
     out: &mut W,
@@ -68,7 +69,7 @@ fn runs_of_tasks<R: Wait + Clock, W: Write>(
 }
 
 /// Measures, and writes the table.
-pub(crate) fn all<R: Wait + Clock, W: Write>(
+pub(crate) fn all<R: Threads + Wait + Sync + Clock, W: Write>(
     rt: &R,
     alloc: Global,
     out: &mut W,
@@ -85,7 +86,7 @@ pub(crate) fn all<R: Wait + Clock, W: Write>(
 }
 
 // Whether a script writes as much over ledgers as on plain rows.
-fn small_script<R: Wait, W: Write>(
+fn small_script<R: Threads + Wait + Sync, W: Write>(
     rt: &R,
     alloc: Global,
     out: &mut W,
@@ -104,7 +105,7 @@ fn small_script<R: Wait, W: Write>(
 }
 
 /// Does it once in a small size, and writes what was done.
-pub(crate) fn small<R: Wait, W: Write>(
+pub(crate) fn small<R: Threads + Wait + Sync, W: Write>(
     rt: &R,
     alloc: Global,
     out: &mut W,

@@ -5,6 +5,7 @@ use crate::rounds::{ROUNDS, Rounds, nanos_since};
 use std::alloc::Global;
 use std::fmt::Write;
 use std::sync::Wait;
+use std::thread::Threads;
 use std::time::{Clock, Instant};
 use tk_app::{Open, run_script};
 use tk_plain::run_plain;
@@ -40,7 +41,11 @@ pub(crate) fn tasks_of(alloc: Global, lines: u64, tasks: u64) -> Result<String, 
     Ok(script)
 }
 
-fn run_live<R: Wait>(rt: &R, alloc: Global, script: &str) -> Result<u64, BenchError> {
+fn run_live<R: Threads + Wait + Sync>(
+    rt: &R,
+    alloc: Global,
+    script: &str,
+) -> Result<u64, BenchError> {
     let mut reader = script.as_bytes();
     let mut written = Vec::new(alloc);
     match run_script(rt, alloc, &mut reader, &mut written, &Open) {
@@ -66,7 +71,7 @@ impl Way {
     }
 
     /// How many bytes the script writes.
-    pub(crate) fn run<R: Wait>(
+    pub(crate) fn run<R: Threads + Wait + Sync>(
         self,
         rt: &R,
         alloc: Global,
@@ -78,7 +83,7 @@ impl Way {
         }
     }
 
-    fn nanos<R: Wait + Clock>(
+    fn nanos<R: Threads + Wait + Sync + Clock>(
         self,
         rt: &R,
         alloc: Global,
@@ -90,7 +95,7 @@ impl Way {
     }
 
     /// How long each round of the script takes.
-    pub(crate) fn rounds<R: Wait + Clock>(
+    pub(crate) fn rounds<R: Threads + Wait + Sync + Clock>(
         self,
         rt: &R,
         alloc: Global,

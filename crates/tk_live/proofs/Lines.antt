@@ -12,12 +12,12 @@ use Rattle.tk_live.specs.Commands.{Said, Line, says, bad}
 use Rattle.tk_live.specs.Commands as said
 use Rattle.tk_live.specs.Course.{Course, step, step_on, start_of_all, line_after, course_of}
 use Rattle.tk_live.specs.Pieces.{pieces_at}
-use Rattle.tk_live.specs.Runs.{StandsFor, Does, Came, Comes, LineCame}
+use Rattle.tk_live.specs.Runs.{StandsFor, Does, Came, Comes}
 use Rattle.tk_live.specs.Script.{FrontOf}
 use Rattle.tk_live.specs.Stops.{Goes, AllGo}
 use Rattle.tk_live.specs.declared.interpreter.Interpreter.{Interpreter}
 use Rattle.tk_live.specs.declared.stop.Stop.{Stop}
-use Rattle.tk_live.specs.declared.stop.Stop.TheVariants.{Memory}
+use Rattle.tk_live.specs.declared.stop.Stop.TheVariants.{BadCommand, NoSuchItem, Call, OffersSpent, Clock, NumbersSpent, Memory, WriteFault, NoThread, Stopped}
 use Rattle.tk_live.proofs.Standing.{rests}
 
 -- no line was sent
@@ -54,42 +54,42 @@ begun i new capacity c line s kept sent stands is = subst (λ (n : Interpreter).
   going = stands.going;
 })
 
--- a line that says a command
-pub said_came : (n capacity : ℕ) (c : Course) (kept : List Bool) (sent : List Sending) (s : Said) (new : Interpreter) (result : Result (Unit {0}) Stop) (before behind : Option (List ℕ))
-    → Came step_on capacity c kept sent n s new result before behind → LineCame capacity c kept sent n (says s) new result before behind
-said_came n capacity c kept sent s new (Ok done) before behind h = h
-said_came n capacity c kept sent s new (Err stop) before behind h = h
+-- nothing goes out of a command that stops, but at a fault of the writer
+publish_front : (sent : List Sending) (m : ℕ) (whole : Bool) (stop : Stop) → (stop ≡ WriteFault → ⊥) → FrontOf sent (said.publish m whole) stop []
+publish_front sent m whole BadCommand ne = refl
+publish_front sent m whole NoSuchItem ne = refl
+publish_front sent m whole (Call refusal) ne = refl
+publish_front sent m whole OffersSpent ne = refl
+publish_front sent m whole Clock ne = refl
+publish_front sent m whole NumbersSpent ne = refl
+publish_front sent m whole Memory ne = refl
+publish_front sent m whole NoThread ne = refl
+publish_front sent m whole Stopped ne = refl
+publish_front sent m whole WriteFault ne = absurd (ne refl)
 
--- nothing goes out of a command that memory is lacking for
-no_front : (sent : List Sending) (s : Said) → FrontOf sent s Memory []
-no_front sent (said.task at kind name) = refl
-no_front sent (said.start n m) = refl
-no_front sent (said.finish n m) = refl
-no_front sent (said.close n m) = refl
-no_front sent (said.self_wake n m) = refl
-no_front sent (said.clone n) = refl
-no_front sent (said.again n) = refl
-no_front sent (said.wake_ref n m) = refl
-no_front sent (said.wake n m) = refl
-no_front sent (said.release n) = refl
-no_front sent (said.resource at kind concrete attrs) = refl
-no_front sent (said.close_resource n m) = refl
-no_front sent (said.change_resource n i change) = refl
-no_front sent (said.op at r source attrs) = refl
-no_front sent (said.op_task n t) = refl
-no_front sent (said.start_op n m) = refl
-no_front sent (said.finish_op n m) = refl
-no_front sent (said.close_op n m) = refl
-no_front sent (said.change_op n i change) = refl
-no_front sent (said.poll_op r o t name ready) = refl
-no_front sent (said.capacity n) = refl
-no_front sent (said.publish m whole) = refl
-
--- a line that memory is lacking for, before it is known what it says
-pub lacked : (i : Interpreter) (n capacity : ℕ) (k : Course) (kept : List Bool) (sent : List Sending) (bytes : Option (List ℕ)) (o : Option Said) → StandsFor i capacity k kept sent
-    → LineCame capacity k kept sent n (option_map_or says o bad) i (Err Memory) bytes bytes
-lacked i n capacity k kept sent bytes None stands = (tt, record { left = k; is_left = refl; kept = kept; keeps = stands.keeps }, [], refl, Appends-nil bytes)
-lacked i n capacity k kept sent bytes (Some s) stands = (inr tt, rests i capacity k n s kept sent stands.keeps, [], no_front sent s, Appends-nil bytes)
+pub no_front : (sent : List Sending) (s : Said) (stop : Stop) → (stop ≡ WriteFault → ⊥) → FrontOf sent s stop []
+no_front sent (said.task at kind name) stop ne = refl
+no_front sent (said.start n m) stop ne = refl
+no_front sent (said.finish n m) stop ne = refl
+no_front sent (said.close n m) stop ne = refl
+no_front sent (said.self_wake n m) stop ne = refl
+no_front sent (said.clone n) stop ne = refl
+no_front sent (said.again n) stop ne = refl
+no_front sent (said.wake_ref n m) stop ne = refl
+no_front sent (said.wake n m) stop ne = refl
+no_front sent (said.release n) stop ne = refl
+no_front sent (said.resource at kind concrete attrs) stop ne = refl
+no_front sent (said.close_resource n m) stop ne = refl
+no_front sent (said.change_resource n i change) stop ne = refl
+no_front sent (said.op at r source attrs) stop ne = refl
+no_front sent (said.op_task n t) stop ne = refl
+no_front sent (said.start_op n m) stop ne = refl
+no_front sent (said.finish_op n m) stop ne = refl
+no_front sent (said.close_op n m) stop ne = refl
+no_front sent (said.change_op n i change) stop ne = refl
+no_front sent (said.poll_op r o t name ready) stop ne = refl
+no_front sent (said.capacity n) stop ne = refl
+no_front sent (said.publish m whole) stop ne = publish_front sent m whole stop ne
 
 -- a line more has the next number
 pub enumerate_push : {X : Type 0} (n : ℕ) (xs : List X) (x : X) → enumerate_from n (xs ++ x ∷ []) ≡ enumerate_from n xs ++ (n + length xs, x) ∷ []

@@ -41,11 +41,11 @@ pub unmarked : (i : Interpreter) (capacity : ℕ) (k : Course) (kept : List Bool
 unmarked i capacity k kept sent stands = subst (λ (m : List Bool). StandsFor i capacity k m sent) (sym (append-nil kept)) stands
 
 -- handles went on, as the text tells of them
-pub on_handles : (i new : Interpreter) (capacity : ℕ) (k : Course) (names : Names) (kept : List Bool) (sent : List Sending) → StandsFor i capacity k kept sent
+pub went_on : (i new : Interpreter) (capacity : ℕ) (k : Course) (names : Names) (kept : List Bool) (sent : List Sending) → StandsFor i capacity k kept sent
     → new ≡ record i { tasks = new.tasks; wakers = new.wakers; resources = new.resources; users = new.users; ops = new.ops } → Holds new names → numbers_of names ≡ numbers_of k.names
-    → StandsFor new capacity (record k { names = names }) (kept ++ []) sent
-on_handles i new capacity k names kept sent stands is holds same =
-    unmarked new capacity (record k { names = names }) kept sent (subst (λ (n : Interpreter). Holds n names → StandsFor n capacity (record k { names = names }) kept sent) (sym is) (λ h. record {
+    → StandsFor new capacity (record k { names = names }) kept sent
+went_on i new capacity k names kept sent stands is holds same =
+    subst (λ (n : Interpreter). Holds n names → StandsFor n capacity (record k { names = names }) kept sent) (sym is) (λ h. record {
       keeps = record { offered = subst (λ (n : Numbers). Rattle.tk_live.specs.Runs.Offered i.recorder capacity n k.told kept) (sym same) stands.keeps.offered; takes = stands.keeps.takes; are = stands.keeps.are };
       holds = h;
       begun = stands.begun;
@@ -54,7 +54,14 @@ on_handles i new capacity k names kept sent stands is holds same =
       moment = stands.moment;
       numbers = stands.numbers;
       going = stands.going;
-    }) holds)
+    }) holds
+
+-- and nothing was recorded
+pub on_handles : (i new : Interpreter) (capacity : ℕ) (k : Course) (names : Names) (kept : List Bool) (sent : List Sending) → StandsFor i capacity k kept sent
+    → new ≡ record i { tasks = new.tasks; wakers = new.wakers; resources = new.resources; users = new.users; ops = new.ops } → Holds new names → numbers_of names ≡ numbers_of k.names
+    → StandsFor new capacity (record k { names = names }) (kept ++ []) sent
+on_handles i new capacity k names kept sent stands is holds same =
+    unmarked new capacity (record k { names = names }) kept sent (went_on i new capacity k names kept sent stands is holds same)
 
 -- what was there may be left
 pub leaves_same : (k : Course) (line : ℕ) (s : Said) → Leaves k line s k

@@ -1,5 +1,5 @@
 -- A whole run, once the taker is finished.
-use Rattle.std.proofs.Common.{ℕ, List, Bool, [], Option, Result, Ok, Err, refl}
+use Rattle.std.proofs.Common.{ℕ, List, Bool, [], Option, Result, Ok, Err, inl, inr, refl}
 use Rattle.std.specs.Io.KnownBytes.{Appends}
 use Rattle.std.proofs.KnownBytes.{Appends-nil}
 use Rattle.tk_report.specs.declared.fault.AppFault.{AppFault}
@@ -18,14 +18,15 @@ abbrev pub Ends : Interpreter → Type 0
 Ends i = (capacity : ℕ) (c : Course) (kept : List Bool) (sent : List Sending) → Stays i capacity c kept sent → Each (IsLineOf (picked kept c.told)) c.due sent
 
 -- it was there to be finished
-pub stays_of : (script : List Line) (capacity : ℕ) (i : Interpreter) (result : Result (Unit {0}) AppFault) (text : List ℕ) → LinesCame script capacity i result text
+pub stays_of : (answers : ℕ → Bool → Type 0) (last : ℕ) (script : List Line) (capacity : ℕ) (i : Interpreter) (result : Result (Unit {0}) AppFault) (text : List ℕ) → LinesCame answers last script capacity i result text
     → (capacity : ℕ) × (c : Course) × (kept : List Bool) × (sent : List Sending) × Stays i capacity c kept sent
-stays_of script capacity i (Ok done) text came = (capacity, course_of script, came.1, came.2, came.3.keeps)
-stays_of script capacity i (Err (faults.Script number name)) text came = (capacity, came.rests.left, came.rests.kept, came.sent, came.rests.keeps)
-stays_of script capacity i (Err faults.Memory) text came = absurd came
-stays_of script capacity i (Err faults.Read) text came = absurd came
-stays_of script capacity i (Err faults.Write) text came = absurd came
-stays_of script capacity i (Err (faults.Stream lines fault)) text came = absurd came
+stays_of answers last script capacity i (Ok done) text came = (capacity, course_of script, came.2, came.3, came.4.keeps)
+stays_of answers last script capacity i (Err (faults.Script number name)) text (inl came) = (capacity, came.rests.left, came.rests.kept, came.sent, came.rests.keeps)
+stays_of answers last script capacity i (Err (faults.Script number name)) text (inr came) = (capacity, course_of script, came.kept, came.sent, came.keeps)
+stays_of answers last script capacity i (Err faults.Memory) text came = absurd came
+stays_of answers last script capacity i (Err faults.Read) text came = absurd came
+stays_of answers last script capacity i (Err faults.Write) text came = absurd came
+stays_of answers last script capacity i (Err (faults.Stream lines fault)) text came = absurd came
 
 -- what came of it
 came_of : (i : Interpreter) (capacity : ℕ) (c : Course) (kept : List Bool) (sent : List Sending) → Stays i capacity c kept sent → Ends i → CameOf capacity c sent
@@ -38,9 +39,10 @@ came_of i capacity c kept sent keeps ends = record {
 }
 
 -- what was written
-pub writes : (script : List Line) (i : Interpreter) (result : Result (Unit {0}) AppFault) (text : List ℕ) → LinesCame script (capacity_of script) i result text → Ends i → LinesWrite script result text
-writes script i (Ok done) text came ends = (came.2, record { goes = came.0; came = came_of i (capacity_of script) (course_of script) came.1 came.2 came.3.keeps ends }, came.4)
-writes script i (Err (faults.Script number name)) text came ends = record {
+pub writes : (answers : ℕ → Bool → Type 0) (last : ℕ) (script : List Line) (i : Interpreter) (result : Result (Unit {0}) AppFault) (text : List ℕ) → LinesCame answers last script (capacity_of script) i result text → Ends i → LinesWrite answers last script result text
+writes answers last script i (Ok done) text came ends =
+    (came.3, record { goes = came.0; closed = came.1; came = came_of i (capacity_of script) (course_of script) came.2 came.3 came.4.keeps ends }, came.5)
+writes answers last script i (Err (faults.Script number name)) text (inl came) ends = inl (record {
   before = came.before;
   line = came.line;
   behind = came.behind;
@@ -57,25 +59,35 @@ writes script i (Err (faults.Script number name)) text came ends = record {
   front = came.front;
   fronts = came.fronts;
   all = came.all;
-}
-writes script i (Err faults.Memory) text came ends = absurd came
-writes script i (Err faults.Read) text came ends = absurd came
-writes script i (Err faults.Write) text came ends = absurd came
-writes script i (Err (faults.Stream lines fault)) text came ends = absurd came
+})
+writes answers last script i (Err (faults.Script number name)) text (inr came) ends = inr (record {
+  counted = came.counted;
+  goes = came.goes;
+  block = came.block;
+  is_open = came.is_open;
+  named = came.named;
+  sent = came.sent;
+  came = came_of i (capacity_of script) (course_of script) came.kept came.sent came.keeps ends;
+  all = came.all;
+})
+writes answers last script i (Err faults.Memory) text came ends = absurd came
+writes answers last script i (Err faults.Read) text came ends = absurd came
+writes answers last script i (Err faults.Write) text came ends = absurd came
+writes answers last script i (Err (faults.Stream lines fault)) text came ends = absurd came
 
 -- nothing is written where nothing was read
-pub read_fails : (known bytes : Option (List ℕ)) (f : AppFault) → IsReading f → (written : List ℕ) × ReadsAndRuns known (Err f) written × Appends bytes bytes written
-read_fails known bytes faults.Memory h = ([], refl, Appends-nil bytes)
-read_fails known bytes faults.Read h = ([], refl, Appends-nil bytes)
-read_fails known bytes faults.Write h = absurd h
-read_fails known bytes (faults.Script line name) h = absurd h
-read_fails known bytes (faults.Stream lines fault) h = absurd h
+pub read_fails : (answers : ℕ → Bool → Type 0) (known bytes : Option (List ℕ)) (f : AppFault) → IsReading f → (written : List ℕ) × ReadsAndRuns answers known (Err f) written × Appends bytes bytes written
+read_fails answers known bytes faults.Memory h = ([], refl, Appends-nil bytes)
+read_fails answers known bytes faults.Read h = ([], refl, Appends-nil bytes)
+read_fails answers known bytes faults.Write h = absurd h
+read_fails answers known bytes (faults.Script line name) h = absurd h
+read_fails answers known bytes (faults.Stream lines fault) h = absurd h
 
 -- what the run of a script that was read writes
-pub read_runs : (known : Option (List ℕ)) (script : List ℕ) (r : Result (Unit {0}) AppFault) (written : List ℕ) → IsScript known script → RunWrites script r written → ReadsAndRuns known r written
-read_runs known script (Ok done) written is h = (script, is, h)
-read_runs known script (Err (faults.Script number name)) written is h = (script, is, h)
-read_runs known script (Err faults.Memory) written is h = h
-read_runs known script (Err faults.Read) written is h = absurd h
-read_runs known script (Err faults.Write) written is h = absurd h
-read_runs known script (Err (faults.Stream lines fault)) written is h = absurd h
+pub read_runs : (answers : ℕ → Bool → Type 0) (known : Option (List ℕ)) (script : List ℕ) (r : Result (Unit {0}) AppFault) (written : List ℕ) → IsScript known script → RunWrites answers script r written → ReadsAndRuns answers known r written
+read_runs answers known script (Ok done) written is h = (script, is, h)
+read_runs answers known script (Err (faults.Script number name)) written is h = (script, is, h)
+read_runs answers known script (Err faults.Memory) written is h = h
+read_runs answers known script (Err faults.Read) written is h = absurd h
+read_runs answers known script (Err faults.Write) written is h = absurd h
+read_runs answers known script (Err (faults.Stream lines fault)) written is h = absurd h

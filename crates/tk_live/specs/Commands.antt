@@ -1,5 +1,6 @@
 -- What a line of a script says.
-use Rattle.std.specs.Prelude.{◌≡◌, ℕ, ◌≤◌, List, [], ◌∷◌, map, if◌then◌else◌, Option, Some, None, option_map, option_and_then, codes, Bool, true, false, ◌==◌, ◌&&◌, nat_le}
+use Rattle.std.specs.Prelude.{◌≡◌, ℕ, ◌-◌, ◌≤◌, List, [], ◌∷◌, length, map, if◌then◌else◌, Option, Some, None, option_map, option_and_then, codes, Bool, true, false, ◌==◌, ◌&&◌, nat_le}
+use Rattle.std.specs.List.{ends_with}
 use Rattle.std.specs.Option.{option_or, option_map_or}
 use Rattle.std.specs.Str.{bytes_eq}
 use Rattle.tk_ids.specs.Names.{is_name}
@@ -11,6 +12,13 @@ use Rattle.tk_core.specs.declared.attrs.AttrOp.TheVariants.{Add, Sub, Override}
 use Rattle.tk_live.specs.Attributes.{attrs_by, value_of}
 use Rattle.tk_live.specs.Pieces.{pieces_at}
 use Rattle.tk_live.specs.Words.{moment, kind, readiness, one_number, two_numbers}
+use Rattle.tk_live.specs.declared.block.BlockSaid.{BlockSaid}
+use Rattle.tk_live.specs.declared.block.BlockSaid.TheVariants as blocks
+use Rattle.tk_live.specs.declared.block.WakerCall.{WakerCall}
+use Rattle.tk_live.specs.declared.block.WakerCall.TheVariants.{WakeRef, Wake, Release}
+use Rattle.tk_live.specs.declared.block.Worker.{Worker}
+use Rattle.tk_live.specs.declared.block.Worker.TheVariants.{One, Two}
+use Rattle.tk_live.specs.declared.block.WorkerLine.{WorkerLine}
 use Rattle.tk_live.specs.declared.command.Command.{Command}
 use Rattle.tk_live.specs.declared.command.Command.TheVariants as commands
 
@@ -155,8 +163,8 @@ abbrev pub capacity_by : List (List ℕ) → Option Said
 capacity_by words = option_and_then (λ n. if nat_le 1 n && nat_le n 65536 then Some (capacity n) else None) (one_number words)
 
 -- a line of the stream, or how many events the console holds
-abbrev pub line_said : List ℕ → List (List ℕ) → Option Said
-line_said w words =
+abbrev pub line_command : List ℕ → List (List ℕ) → Option Said
+line_command w words =
     if bytes_eq w (codes "publish") then option_map (λ at. publish at false) (one_number words) else
     (if bytes_eq w (codes "snapshot") then option_map (λ at. publish at true) (one_number words) else
     (if bytes_eq w (codes "capacity") then capacity_by words else None))
@@ -164,7 +172,7 @@ line_said w words =
 -- by the first word, and then by the rest
 abbrev pub said_by : List (List ℕ) → Option Said
 said_by [] = None
-said_by (w ∷ words) = if bytes_eq w (codes "resource") then resource_by words else if bytes_eq w (codes "op") then op_by words else option_or (task_said w words) (option_or (waker_said w words) (option_or (resource_call_said w words) (option_or (op_call_said w words) (if bytes_eq w (codes "pollop") then poll_op_by words else line_said w words))))
+said_by (w ∷ words) = if bytes_eq w (codes "resource") then resource_by words else if bytes_eq w (codes "op") then op_by words else option_or (task_said w words) (option_or (waker_said w words) (option_or (resource_call_said w words) (option_or (op_call_said w words) (if bytes_eq w (codes "pollop") then poll_op_by words else line_command w words))))
 
 -- what a line says: its words stand between single spaces
 abbrev pub said : List ℕ → Option Said
@@ -177,15 +185,63 @@ abbrev pub is_skipped : List ℕ → Bool
 is_skipped [] = true
 is_skipped (b ∷ bs) = b == 35
 
--- a line: it is skipped, it says no command, or it says this one
+-- a line: it is skipped, it says no command, it says this one, it opens a block or joins its threads, or it is a worker's
 pub data Line : Type 0 where
   skipped : Line
   bad : Line
   says : Said → Line
+  opens : Line
+  joins : Line
+  works : Worker → WorkerLine → Line
+
+-- the worker that a word names
+abbrev pub worker_numbered : ℕ → Option Worker
+worker_numbered n = if n == 1 then Some One else (if n == 2 then Some Two else None)
+
+abbrev pub worker_of : List ℕ → Option Worker
+worker_of word = option_and_then worker_numbered (moment word)
+
+-- a call of a waker by its number
+abbrev pub waker_line : ℕ → WakerCall → WorkerLine
+waker_line n call = record { waker = n; call = call }
+
+-- what a worker's line says behind the worker's number
+abbrev pub worker_line_by : List (List ℕ) → Option WorkerLine
+worker_line_by [] = None
+worker_line_by (w ∷ words) =
+    if bytes_eq w (codes "wakeref") then option_map (λ p. waker_line p.0 (WakeRef p.1)) (two_numbers words) else
+    (if bytes_eq w (codes "wake") then option_map (λ p. waker_line p.0 (Wake p.1)) (two_numbers words) else
+    (if bytes_eq w (codes "release") then option_map (λ n. waker_line n Release) (one_number words) else None))
+
+-- a word that stands alone
+abbrev pub alone : Line → List (List ℕ) → Option Line
+alone line [] = Some line
+alone line (w ∷ words) = None
+
+-- what only a block has: `par`, `join`, and the lines of workers
+abbrev pub block_said_by : List (List ℕ) → Option Line
+block_said_by [] = None
+block_said_by (w ∷ words) =
+    if bytes_eq w (codes "par") then alone opens words else
+    (if bytes_eq w (codes "join") then alone joins words else
+    option_and_then (λ k. option_map (works k) (worker_line_by words)) (worker_of w))
+
+abbrev pub block_said : List ℕ → Option Line
+block_said line = block_said_by (pieces_at 32 line)
+
+-- the same without where it lies
+abbrev pub block_line : BlockSaid → Line
+block_line blocks.Opens = opens
+block_line blocks.Joins = joins
+block_line (blocks.Works k l) = works k l
+
+-- what a line of text is that isn't skipped
+abbrev pub line_said : List ℕ → Line
+line_said line = option_map_or (λ l. l) (block_said line) (option_map_or says (said line) bad)
 
 -- what a line of text is
 abbrev pub line_of : List ℕ → Line
-line_of line = if is_skipped line then skipped else option_map_or says (said line) bad
+line_of line = if is_skipped line then skipped else line_said line
 
 -- the lines of a script end at the bytes 0x0A
 abbrev pub lines_of : List ℕ → List Line
@@ -202,3 +258,14 @@ capacity_of [] = 1024
 capacity_of (skipped ∷ more) = capacity_of more
 capacity_of (bad ∷ more) = 1024
 capacity_of (says s ∷ more) = own_capacity s
+capacity_of (opens ∷ more) = 1024
+capacity_of (joins ∷ more) = 1024
+capacity_of (works k l ∷ more) = 1024
+
+-- a script's last byte ends a line
+abbrev pub ends_line : List ℕ → Bool
+ends_line script = ends_with (λ a b. a == b) script (10 ∷ [])
+
+-- the number of the last line: a line end behind it opens no further one
+abbrev pub last_line : List ℕ → ℕ
+last_line script = if ends_line script then length (pieces_at 10 script) - 1 else length (pieces_at 10 script)

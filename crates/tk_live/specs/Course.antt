@@ -1,5 +1,5 @@
 -- What commands come to, as far as the text tells: what their numbers name, what they record, and the lines that are due.
-use Rattle.std.specs.Prelude.{ℕ, ◌+◌, List, [], ◌∷◌, ◌++◌, length, codes, fold, Bool, true, false, Option, Some, None}
+use Rattle.std.specs.Prelude.{ℕ, ◌+◌, List, [], ◌∷◌, ◌++◌, length, codes, fold, Bool, true, false, Option, Some, None, option_map}
 use Rattle.std.specs.List.{enumerate_from}
 use Rattle.std.specs.Option.{option_map_or}
 use Rattle.tk_ids.specs.Ids.{id_of}
@@ -23,7 +23,8 @@ use Rattle.tk_core.specs.Resource as resource_rules
 use Rattle.tk_core.specs.Task.{opening_row}
 use Rattle.tk_events.specs.Items.{infos_of, first_values}
 use Rattle.tk_aggregator.specs.Told.{Told, made_task, made_resource, made_op, polled}
-use Rattle.tk_live.specs.Commands.{Said, Line, skipped, bad, says, task, start, finish, close, self_wake, clone, again, wake_ref, wake, release, resource, close_resource, change_resource, op, op_task, start_op, finish_op, close_op, change_op, poll_op, capacity, publish}
+use Rattle.tk_live.specs.Blocks.{Block, no_lines, with_line, after_block}
+use Rattle.tk_live.specs.Commands.{Said, Line, skipped, bad, says, opens, joins, works, task, start, finish, close, self_wake, clone, again, wake_ref, wake, release, resource, close_resource, change_resource, op, op_task, start_op, finish_op, close_op, change_op, poll_op, capacity, publish}
 use Rattle.tk_live.specs.Known.{Handled, and_call, drawn_from}
 use Rattle.tk_live.specs.Named.{live_item, with_item, with_change}
 
@@ -51,13 +52,14 @@ pub record Due : Type 0 where
   pub whole : Bool
 
 -- what commands come to: what their numbers name, what the recording ones tell, in order, the lines that are due, the moment
--- of the last one, and whether there was a command at all
+-- of the last one, whether there was a command at all, and the lines of the block that is open, if one is
 pub record Course : Type 0 where
   pub names : Names
   pub told : List Told
   pub due : List Due
   pub now : ℕ
   pub begun : Bool
+  pub block : Option Block
 
 -- before any command nothing has a name
 abbrev pub no_names : Names
@@ -65,7 +67,7 @@ no_names = record { tasks = []; wakers = []; resources = []; users = []; ops = [
 
 -- before any command
 abbrev pub start_of_all : Course
-start_of_all = record { names = no_names; told = []; due = []; now = 0; begun = false }
+start_of_all = record { names = no_names; told = []; due = []; now = 0; begun = false; block = None }
 
 -- an item stands on a line of the script, at its first column
 abbrev pub place : ℕ → Location
@@ -155,9 +157,16 @@ step c line (publish moment whole) = record c { due = c.due ++ record { moment =
 abbrev pub step_on : Course → ℕ → Said → Course
 step_on c line s = record (step c line s) { begun = true }
 
+-- what a block comes to whose threads are joined: its wakers behind their lines. It is closed
+abbrev pub joined : Course → Block → Course
+joined c b = record c { names = record c.names { wakers = after_block b c.names.wakers }; block = None }
+
 -- what a line more comes to, of this number
 abbrev pub line_after : Course → ℕ × Line → Course
 line_after c (n, says s) = step_on c n s
+line_after c (n, opens) = record c { begun = true; block = Some no_lines }
+line_after c (n, works k l) = record c { block = option_map (with_line k l) c.block }
+line_after c (n, joins) = option_map_or (joined c) c.block c
 line_after c (n, _) = c
 
 -- what lines come to, one after the other, numbered from 1

@@ -2,10 +2,11 @@
 pub mod Pieces
 pub mod Words
 pub mod Attributes
+pub mod Known
+pub mod Named
+pub mod Blocks
 pub mod Commands
 -- What its lines come to
-pub mod Named
-pub mod Known
 pub mod Course
 pub mod Refusals
 pub mod Stops
@@ -13,5 +14,6 @@ pub mod Ran
 -- Reading a script, and what its run writes
 pub mod Transfer
 pub mod Script
--- Inner: no public clause cites it
+-- Inner: no public clause cites these
+pub mod Threads
 pub mod Runs

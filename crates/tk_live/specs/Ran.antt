@@ -1,5 +1,5 @@
 -- What came of commands.
-use Rattle.std.specs.Prelude.{◌≡◌, ℕ, ◌<◌, List, [], ◌∷◌, ◌++◌, length, slice_get, fold, Bool, true, if◌then◌else◌, Some}
+use Rattle.std.specs.Prelude.{◌≡◌, ℕ, ◌<◌, List, [], ◌∷◌, ◌++◌, length, slice_get, fold, Bool, true, if◌then◌else◌, Some, None}
 use Rattle.std.specs.List.{enumerate_from}
 use Rattle.tk_ledgers.specs.Ops.{OpSight}
 use Rattle.tk_ledgers.specs.Resources.{ResourceSight}
@@ -58,9 +58,10 @@ pub record CameOf (capacity : ℕ) (c : Course) (sent : List Sending) : Type 0 w
   pub lines : Each (IsLineOf (picked kept c.told)) c.due sent
   pub stream : GoesOn empty_tables 0 sent
 
--- the text stops none of the lines, and this came of them
+-- the text stops none of the lines, no block is open behind them, and this came of them
 pub record Ran (capacity : ℕ) (ls : List Line) (sent : List Sending) : Type 0 where
   pub goes : AllGo start_of_all (enumerate_from 1 ls)
+  pub closed : (course_of ls).block ≡ None
   pub came : CameOf capacity (course_of ls) sent
 
 -- the bytes of lines from number 1

@@ -3,7 +3,7 @@ use Rattle.std.specs.Prelude.{ℕ, List, codes}
 use Rattle.tk_core.specs.declared.reply.Refusal.{Refusal}
 use Rattle.tk_core.specs.declared.reply.Refusal.TheVariants as refusals
 use Rattle.tk_live.specs.declared.stop.Stop.{Stop}
-use Rattle.tk_live.specs.declared.stop.Stop.TheVariants.{BadCommand, NoSuchItem, Call, OffersSpent, Clock, NumbersSpent, Memory, WriteFault}
+use Rattle.tk_live.specs.declared.stop.Stop.TheVariants.{BadCommand, NoSuchItem, Call, OffersSpent, Clock, NumbersSpent, Memory, WriteFault, NoThread, Stopped}
 
 -- the name of a refused call
 abbrev pub name_of : Refusal → List ℕ
@@ -26,3 +26,5 @@ stop_name Clock = codes "Clock"
 stop_name NumbersSpent = codes "NumbersSpent"
 stop_name Memory = codes "Memory"
 stop_name WriteFault = codes "WriteFault"
+stop_name NoThread = codes "NoThread"
+stop_name Stopped = codes "Stopped"

@@ -1,5 +1,5 @@
 -- What an interpreter stands for. Inner: no public clause cites it.
-use Rattle.std.specs.Prelude.{◌≡◌, ℕ, ◌+◌, ◌<◌, List, [], ◌∷◌, ◌++◌, map, length, slice_get, Bool, true, false, Option, Some, None, option_map, Result, Ok, Err}
+use Rattle.std.specs.Prelude.{◌≡◌, ℕ, ◌+◌, ◌<◌, ◌⊎◌, List, [], ◌∷◌, ◌++◌, map, length, slice_get, Bool, true, false, Option, Some, None, option_map, Result, Ok, Err}
 use Rattle.std.specs.List.{enumerate_from}
 use Rattle.std.specs.Io.KnownBytes.{Appends}
 use Rattle.tk_ids.specs.IdBlocks.{last_number}
@@ -13,6 +13,7 @@ use Rattle.tk_stream.specs.Streams.{Sending, GoesOn, lines_sent, bytes_sent, tab
 use Rattle.tk_stream.specs.Tables.{empty_tables}
 use Rattle.tk_aggregator.specs.Aggregates.{Aggregating, FollowsTaker}
 use Rattle.tk_aggregator.specs.Told.{Told, tells}
+use Rattle.tk_live.specs.Blocks.{Block}
 use Rattle.tk_live.specs.Commands.{Said, Line}
 use Rattle.tk_live.specs.Course.{Names, Due, Course, start_of_all, step, line_after, course_of}
 use Rattle.tk_live.specs.Known.{owner_of, caller_of}
@@ -20,9 +21,12 @@ use Rattle.tk_live.specs.Named.{EachLive}
 use Rattle.tk_live.specs.Ran.{picked, Each, IsLineOf, written_by}
 use Rattle.tk_live.specs.Refusals.{stop_name}
 use Rattle.tk_live.specs.Script.{FrontOf, Fronts}
-use Rattle.tk_live.specs.Stops.{Stops, stop_of, Leaves, Goes, AllGo, LineStops, LineLeaves}
+use Rattle.tk_live.specs.Stops.{Stops, stop_of, line_stop, Leaves, Goes, AllGo, LineStops, LineLeaves}
+use Rattle.tk_live.specs.Threads.{Apart}
+use Rattle.tk_live.specs.declared.block.OpenBlock.{OpenBlock}
 use Rattle.tk_live.specs.declared.interpreter.Interpreter.{Interpreter}
 use Rattle.tk_live.specs.declared.stop.Stop.{Stop}
+use Rattle.tk_live.specs.declared.stop.Stop.TheVariants.{BadCommand}
 
 -- what an offer tells
 abbrev pub offer_tells : Offer → Told
@@ -134,19 +138,37 @@ abbrev pub Comes : (Course → ℕ → Said → Course) → ℕ → Said → Int
 Comes next line s old new result before behind =
     (capacity : ℕ) (c : Course) (kept : List Bool) (sent : List Sending) → StandsFor old capacity c kept sent → Came next capacity c kept sent line s new result before behind
 
--- whatever the interpreter stood for, this came of a line
-abbrev pub LineCame : ℕ → Course → List Bool → List Sending → ℕ → Line → Interpreter → Result (Unit {0}) Stop → Option (List ℕ) → Option (List ℕ) → Type 0
-LineCame capacity c kept sent n line new (Ok done) before behind =
-    Goes c (n, line) × (marks : List Bool) × (more : List Sending) × StandsFor new capacity (line_after c (n, line)) (kept ++ marks) (sent ++ more) × Appends before behind (bytes_behind sent more)
-LineCame capacity c kept sent n line new (Err stop) before behind =
-    LineStops c line stop × Rests new capacity (LineLeaves c (n, line)) sent × (front : List ℕ) × Fronts sent line stop front × Appends before behind front
+-- the lines of a block
+abbrev pub block_of : OpenBlock → Block
+block_of b = record { first = b.first.items; second = b.second.items }
 
-abbrev pub LineComes : ℕ → Line → Interpreter → Interpreter → Result (Unit {0}) Stop → Option (List ℕ) → Option (List ℕ) → Type 0
-LineComes n line old new result before behind =
-    (capacity : ℕ) (c : Course) (kept : List Bool) (sent : List Sending) → StandsFor old capacity c kept sent → LineCame capacity c kept sent n line new result before behind
+-- the block that is open, if one is, has the lines that the text tells, and no waker with lines of both workers
+pub record IsOpen (block : Option OpenBlock) (c : Course) : Type 0 where
+  pub is : option_map block_of block ≡ c.block
+  pub apart : (b : Block) → c.block ≡ Some b → Apart b.first b.second
+
+-- a line that is no command went on, or it stopped and changed nothing
+abbrev pub BlockCame : (ℕ → Bool → Type 0) → ℕ → Course → List Bool → List Sending → ℕ → Line → Interpreter → Option OpenBlock → Result (Unit {0}) Stop → Type 0
+BlockCame answers capacity c kept sent n line new block (Ok done) = (line_stop c line ≡ None) × StandsFor new capacity (line_after c (n, line)) kept sent × IsOpen block (line_after c (n, line))
+BlockCame answers capacity c kept sent n line new block (Err stop) = LineStops answers c line stop × Stays new capacity c kept sent
+
+abbrev pub BlockComes : (ℕ → Bool → Type 0) → ℕ → Line → Interpreter → Option OpenBlock → Interpreter → Option OpenBlock → Result (Unit {0}) Stop → Type 0
+BlockComes answers n line old was new block result =
+    (capacity : ℕ) (c : Course) (kept : List Bool) (sent : List Sending) → StandsFor old capacity c kept sent → IsOpen was c → BlockCame answers capacity c kept sent n line new block result
+
+-- whatever the interpreter stood for, this came of a line
+abbrev pub LineCame : (ℕ → Bool → Type 0) → ℕ → Course → List Bool → List Sending → ℕ → Line → Interpreter → Option OpenBlock → Result (Unit {0}) Stop → Option (List ℕ) → Option (List ℕ) → Type 0
+LineCame answers capacity c kept sent n line new block (Ok done) before behind =
+    Goes c (n, line) × (marks : List Bool) × (more : List Sending) × StandsFor new capacity (line_after c (n, line)) (kept ++ marks) (sent ++ more) × IsOpen block (line_after c (n, line)) × Appends before behind (bytes_behind sent more)
+LineCame answers capacity c kept sent n line new block (Err stop) before behind =
+    LineStops answers c line stop × Rests new capacity (LineLeaves c (n, line)) sent × (front : List ℕ) × Fronts sent line stop front × Appends before behind front
+
+abbrev pub LineComes : (ℕ → Bool → Type 0) → ℕ → Line → Interpreter → Option OpenBlock → Interpreter → Option OpenBlock → Result (Unit {0}) Stop → Option (List ℕ) → Option (List ℕ) → Type 0
+LineComes answers n line old was new block result before behind =
+    (capacity : ℕ) (c : Course) (kept : List Bool) (sent : List Sending) → StandsFor old capacity c kept sent → IsOpen was c → LineCame answers capacity c kept sent n line new block result before behind
 
 -- the line of this number stops the lines, by this name
-pub record Halts (ls : List Line) (capacity number : ℕ) (name : List ℕ) (new : Interpreter) (text : List ℕ) : Type 0 where
+pub record Halts (answers : ℕ → Bool → Type 0) (ls : List Line) (capacity number : ℕ) (name : List ℕ) (new : Interpreter) (text : List ℕ) : Type 0 where
   pub before : List Line
   pub line : Line
   pub behind : List Line
@@ -156,15 +178,27 @@ pub record Halts (ls : List Line) (capacity number : ℕ) (name : List ℕ) (new
   pub goes : AllGo start_of_all (enumerate_from 1 before)
   pub rests : Rests new capacity (LineLeaves (course_of before) (number, line)) sent
   pub stop : Stop
-  pub stops : LineStops (course_of before) line stop
+  pub stops : LineStops answers (course_of before) line stop
   pub named : name ≡ stop_name stop
   pub front : List ℕ
   pub fronts : Fronts sent line stop front
   pub all : text ≡ written_by sent ++ front
 
--- this came of lines
-abbrev pub LinesCame : List Line → ℕ → Interpreter → Result (Unit {0}) AppFault → List ℕ → Type 0
-LinesCame ls capacity new (Ok done) text =
-    AllGo start_of_all (enumerate_from 1 ls) × (kept : List Bool) × (sent : List Sending) × StandsFor new capacity (course_of ls) kept sent × (text ≡ written_by sent)
-LinesCame ls capacity new (Err (faults.Script number name)) text = Halts ls capacity number name.now new text
-LinesCame ls capacity new (Err other) text = ⊥
+-- a block is open behind the last line
+pub record Unended (ls : List Line) (capacity last number : ℕ) (name : List ℕ) (new : Interpreter) (text : List ℕ) : Type 0 where
+  pub counted : number ≡ last
+  pub goes : AllGo start_of_all (enumerate_from 1 ls)
+  pub block : Block
+  pub is_open : (course_of ls).block ≡ Some block
+  pub named : name ≡ stop_name BadCommand
+  pub kept : List Bool
+  pub sent : List Sending
+  pub keeps : Stays new capacity (course_of ls) kept sent
+  pub all : text ≡ written_by sent
+
+-- this came of lines, of which the last has this number
+abbrev pub LinesCame : (ℕ → Bool → Type 0) → ℕ → List Line → ℕ → Interpreter → Result (Unit {0}) AppFault → List ℕ → Type 0
+LinesCame answers last ls capacity new (Ok done) text =
+    AllGo start_of_all (enumerate_from 1 ls) × ((course_of ls).block ≡ None) × (kept : List Bool) × (sent : List Sending) × StandsFor new capacity (course_of ls) kept sent × (text ≡ written_by sent)
+LinesCame answers last ls capacity new (Err (faults.Script number name)) text = Halts answers ls capacity number name.now new text ⊎ Unended ls capacity last number name.now new text
+LinesCame answers last ls capacity new (Err other) text = ⊥

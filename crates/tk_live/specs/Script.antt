@@ -1,5 +1,5 @@
 -- What the run of a script has written at its end.
-use Rattle.std.specs.Prelude.{◌≡◌, ℕ, ◌+◌, ◌∷◌, List, [], ◌++◌, length, Option, Result, Ok, Err}
+use Rattle.std.specs.Prelude.{◌≡◌, ℕ, ◌+◌, ◌⊎◌, Bool, ◌∷◌, List, [], ◌++◌, length, Option, Some, Result, Ok, Err}
 use Rattle.std.specs.List.{enumerate_from}
 use Rattle.tk_report.specs.declared.fault.AppFault.{AppFault}
 use Rattle.tk_report.specs.declared.fault.AppFault.TheVariants as faults
@@ -7,14 +7,15 @@ use Rattle.tk_stream.specs.Sent.{IsCut}
 use Rattle.tk_stream.specs.Streams.{Sending, MaySend, line_sent, tables_sent, last_sent}
 use Rattle.tk_stream.specs.Spelling.{sent_text}
 use Rattle.tk_stream.specs.Tables.{empty_tables}
-use Rattle.tk_live.specs.Commands.{Said, Line, says, publish, lines_of, capacity_of}
+use Rattle.tk_live.specs.Blocks.{Block}
+use Rattle.tk_live.specs.Commands.{Said, Line, says, publish, lines_of, last_line, capacity_of}
 use Rattle.tk_live.specs.Course.{Course, start_of_all, course_of}
 use Rattle.tk_live.specs.Ran.{Ran, CameOf, written_by}
 use Rattle.tk_live.specs.Refusals.{stop_name}
 use Rattle.tk_live.specs.Stops.{AllGo, LineStops, LineLeaves}
 use Rattle.tk_live.specs.Transfer.{IsScript}
 use Rattle.tk_live.specs.declared.stop.Stop.{Stop}
-use Rattle.tk_live.specs.declared.stop.Stop.TheVariants.{WriteFault}
+use Rattle.tk_live.specs.declared.stop.Stop.TheVariants.{BadCommand, WriteFault}
 
 -- what went out of a command that stops: at a fault of the writer a proper front of the line that was due, else nothing
 abbrev pub FrontOf : List Sending → Said → Stop → List ℕ → Type 0
@@ -29,7 +30,7 @@ Fronts sent (says s) stop front = FrontOf sent s stop front
 Fronts sent line stop front = front ≡ []
 
 -- lines stop at the one of this number, by this name, and this is what was written then
-pub record StopsAt (ls : List Line) (number : ℕ) (name : List ℕ) (written : List ℕ) : Type 0 where
+pub record StopsAt (answers : ℕ → Bool → Type 0) (ls : List Line) (number : ℕ) (name : List ℕ) (written : List ℕ) : Type 0 where
   pub before : List Line
   pub line : Line
   pub behind : List Line
@@ -44,25 +45,37 @@ pub record StopsAt (ls : List Line) (number : ℕ) (name : List ℕ) (written : 
   pub came : CameOf (capacity_of ls) left sent
   -- and how it stops
   pub stop : Stop
-  pub stops : LineStops (course_of before) line stop
+  pub stops : LineStops answers (course_of before) line stop
   pub named : name ≡ stop_name stop
   pub front : List ℕ
   pub fronts : Fronts sent line stop front
   pub all : written ≡ written_by sent ++ front
 
--- what the run of lines has written at its end. Where there is no memory to begin, it is nothing
-abbrev pub LinesWrite : List Line → Result (Unit {0}) AppFault → List ℕ → Type 0
-LinesWrite ls (Ok done) written = (sent : List Sending) × Ran (capacity_of ls) ls sent × (written ≡ written_by sent)
-LinesWrite ls (Err (faults.Script number name)) written = StopsAt ls number name.now written
-LinesWrite ls (Err faults.Memory) written = written ≡ []
-LinesWrite ls (Err other) written = ⊥
+-- no line stops, and a block is open behind the last, which has this number
+pub record StaysOpen (ls : List Line) (last number : ℕ) (name : List ℕ) (written : List ℕ) : Type 0 where
+  pub counted : number ≡ last
+  pub goes : AllGo start_of_all (enumerate_from 1 ls)
+  pub block : Block
+  pub is_open : (course_of ls).block ≡ Some block
+  pub named : name ≡ stop_name BadCommand
+  pub sent : List Sending
+  pub came : CameOf (capacity_of ls) (course_of ls) sent
+  pub all : written ≡ written_by sent
+
+-- what the run of lines has written at its end, of which the last has this number, with what the gate may answer to each worker.
+-- Where there is no memory to begin, it is nothing
+abbrev pub LinesWrite : (ℕ → Bool → Type 0) → ℕ → List Line → Result (Unit {0}) AppFault → List ℕ → Type 0
+LinesWrite answers last ls (Ok done) written = (sent : List Sending) × Ran (capacity_of ls) ls sent × (written ≡ written_by sent)
+LinesWrite answers last ls (Err (faults.Script number name)) written = StopsAt answers ls number name.now written ⊎ StaysOpen ls last number name.now written
+LinesWrite answers last ls (Err faults.Memory) written = written ≡ []
+LinesWrite answers last ls (Err other) written = ⊥
 
 -- what the run of a script has written at its end
-abbrev pub RunWrites : List ℕ → Result (Unit {0}) AppFault → List ℕ → Type 0
-RunWrites script = LinesWrite (lines_of script)
+abbrev pub RunWrites : (ℕ → Bool → Type 0) → List ℕ → Result (Unit {0}) AppFault → List ℕ → Type 0
+RunWrites answers script = LinesWrite answers (last_line script) (lines_of script)
 
 -- nothing is written where the script can't be read
-abbrev pub ReadsAndRuns : Option (List ℕ) → Result (Unit {0}) AppFault → List ℕ → Type 0
-ReadsAndRuns known (Err faults.Memory) written = written ≡ []
-ReadsAndRuns known (Err faults.Read) written = written ≡ []
-ReadsAndRuns known result written = (script : List ℕ) × IsScript known script × RunWrites script result written
+abbrev pub ReadsAndRuns : (ℕ → Bool → Type 0) → Option (List ℕ) → Result (Unit {0}) AppFault → List ℕ → Type 0
+ReadsAndRuns answers known (Err faults.Memory) written = written ≡ []
+ReadsAndRuns answers known (Err faults.Read) written = written ≡ []
+ReadsAndRuns answers known result written = (script : List ℕ) × IsScript known script × RunWrites answers script result written

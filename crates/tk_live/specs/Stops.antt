@@ -1,5 +1,6 @@
 -- Why a command stops a script.
-use Rattle.std.specs.Prelude.{◌≡◌, ℕ, ◌+◌, ◌^◌, ◌⊎◌, ◌==◌, List, [], ◌∷◌, ◌++◌, length, nat_lt, nat_le, Bool, true, false, Option, Some, None, option_map, if◌then◌else◌}
+use Rattle.std.specs.Prelude.{◌≡◌, ℕ, ◌+◌, ◌^◌, ◌⊎◌, ◌==◌, ◌<◌, List, [], ◌∷◌, ◌++◌, length, nat_lt, nat_le, Bool, true, false, Option, Some, None, option_map, if◌then◌else◌}
+use Rattle.std.specs.Option.{option_map_or}
 use Rattle.tk_ids.specs.IdBlocks.{last_number}
 use Rattle.tk_core.specs.declared.history.Entry.{Entry}
 use Rattle.tk_core.specs.declared.reply.Refusal.{Refusal}
@@ -18,12 +19,14 @@ use Rattle.tk_core.specs.OpMeaning.{op_meaning}
 use Rattle.tk_core.specs.ResourceMeaning.{resource_meaning}
 use Rattle.tk_core.specs.TaskMeaning.{task_meaning}
 use Rattle.tk_cell.specs.Calls.{entry}
-use Rattle.tk_live.specs.Commands.{Said, Line, skipped, bad, says, task, start, finish, close, self_wake, clone, again, wake_ref, wake, release, resource, close_resource, change_resource, op, op_task, start_op, finish_op, close_op, change_op, poll_op, capacity, publish}
+use Rattle.tk_live.specs.Blocks.{Block, Wakers, after_lines, is_named, lines_of_worker, lines_of_other}
+use Rattle.tk_live.specs.Commands.{Said, Line, skipped, bad, says, opens, joins, works, task, start, finish, close, self_wake, clone, again, wake_ref, wake, release, resource, close_resource, change_resource, op, op_task, start_op, finish_op, close_op, change_op, poll_op, capacity, publish}
 use Rattle.tk_live.specs.Course.{Course, TaskHandled, OpHandled, new_resource, step, line_after}
 use Rattle.tk_live.specs.Known.{Handled}
 use Rattle.tk_live.specs.Named.{made_item, live_item}
 use Rattle.tk_live.specs.declared.stop.Stop.{Stop}
-use Rattle.tk_live.specs.declared.stop.Stop.TheVariants.{BadCommand, NoSuchItem, Call, OffersSpent, Clock, NumbersSpent, Memory, WriteFault}
+use Rattle.tk_live.specs.declared.stop.Stop.TheVariants.{BadCommand, NoSuchItem, Call, OffersSpent, Clock, NumbersSpent, Memory, WriteFault, NoThread, Stopped}
+use Rattle.tk_live.specs.declared.block.WorkerLine.{WorkerLine}
 
 -- a poll of a task is open, by the calls of its owner
 abbrev pub is_polled : TaskHandled → Bool
@@ -115,24 +118,74 @@ abbrev pub Leaves : Course → ℕ → Said → Course → Type 0
 Leaves c line (resource at kind concrete attrs) left = (left ≡ c) ⊎ (left ≡ step c line (resource at kind concrete attrs))
 Leaves c line s left = left ≡ c
 
+-- the stop that the text tells of a worker's line: its waker has lines of the other worker, or isn't there behind the worker's own
+abbrev pub work_stop : List WorkerLine → List WorkerLine → Wakers → WorkerLine → Option Stop
+work_stop own others wakers l = if is_named l.waker others then Some BadCommand else if_there (live_item l.waker (after_lines own wakers)) None
+
+-- the stop that the text tells of a line outside blocks
+abbrev pub stop_outside : Course → Line → Option Stop
+stop_outside c skipped = None
+stop_outside c bad = Some BadCommand
+stop_outside c (says s) = stop_of c s
+stop_outside c opens = None
+stop_outside c joins = Some BadCommand
+stop_outside c (works k l) = Some BadCommand
+
+-- and of one in a block
+abbrev pub stop_inside : Course → Block → Line → Option Stop
+stop_inside c b skipped = None
+stop_inside c b bad = Some BadCommand
+stop_inside c b (says s) = Some BadCommand
+stop_inside c b opens = Some BadCommand
+stop_inside c b joins = None
+stop_inside c b (works k l) = work_stop (lines_of_worker k b) (lines_of_other k b) c.names.wakers l
+
+-- the stop that the text tells of a line, if it tells one
+abbrev pub line_stop : Course → Line → Option Stop
+line_stop c line = option_map_or (λ b. stop_inside c b line) c.block (stop_outside c line)
+
 -- a line that the text doesn't stop
 abbrev pub Goes : Course → ℕ × Line → Type 0
-Goes c (n, says s) = stop_of c s ≡ None
-Goes c (n, skipped) = Unit {0}
-Goes c (n, bad) = ⊥
+Goes c (n, line) = line_stop c line ≡ None
 
 -- lines of which the text stops none
 abbrev pub AllGo : Course → List (ℕ × Line) → Type 0
 AllGo c [] = Unit {0}
 AllGo c (l ∷ ls) = Goes c l × AllGo (line_after c l) ls
 
--- why a line stops, behind lines that come to this. What is no command may need memory before that shows
-abbrev pub LineStops : Course → Line → Stop → Type 0
-LineStops c (says s) stop = Stops c s stop
-LineStops c bad BadCommand = Unit {0}
-LineStops c bad Memory = Unit {0}
-LineStops c bad stop = ⊥
-LineStops c skipped stop = ⊥
+-- a gate stopped a worker that has lines
+abbrev pub Closes : (ℕ → Bool → Type 0) → Block → Type 0
+Closes answers b = ((0 < length b.first) × answers 1 false) ⊎ ((0 < length b.second) × answers 2 false)
+
+-- why threads aren't joined: want of memory, one that couldn't be started, or a gate
+abbrev pub EndsIn : Type 0 → Stop → Type 0
+EndsIn Closed Memory = Unit {0}
+EndsIn Closed NoThread = Unit {0}
+EndsIn Closed Stopped = Closed
+EndsIn Closed stop = ⊥
+
+-- what else may stop a line outside blocks. What is no command may need memory before that shows
+abbrev pub MayFailOutside : Course → Line → Stop → Type 0
+MayFailOutside c (says s) stop = MayFail c s stop
+MayFailOutside c bad Memory = Unit {0}
+MayFailOutside c line stop = ⊥
+
+-- and one in a block, with what the gate may answer
+abbrev pub MayFailInside : (ℕ → Bool → Type 0) → Block → Line → Stop → Type 0
+MayFailInside answers b joins stop = EndsIn (Closes answers b) stop
+MayFailInside answers b (works k l) Memory = Unit {0}
+MayFailInside answers b line stop = ⊥
+
+abbrev pub MayFailWhere : (ℕ → Bool → Type 0) → Course → Option Block → Line → Stop → Type 0
+MayFailWhere answers c None line stop = MayFailOutside c line stop
+MayFailWhere answers c (Some b) line stop = MayFailInside answers b line stop
+
+abbrev pub LineMayFail : (ℕ → Bool → Type 0) → Course → Line → Stop → Type 0
+LineMayFail answers c line stop = MayFailWhere answers c c.block line stop
+
+-- why a line stops, behind lines that come to this: by what the text tells, or else where it may fail
+abbrev pub LineStops : (ℕ → Bool → Type 0) → Course → Line → Stop → Type 0
+LineStops answers c line stop = (line_stop c line ≡ Some stop) ⊎ LineMayFail answers c line stop
 
 -- what a line leaves that stops
 abbrev pub LineLeaves : Course → ℕ × Line → Course → Type 0

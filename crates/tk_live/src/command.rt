@@ -368,7 +368,7 @@ fn capacity_of(words: Pieces<'_>) -> Option<Command<'_>>
 
 // A line of the stream, or how many events the console holds.
 fn line_command<'a>(word: &[u8], words: Pieces<'a>) -> Option<Command<'a>>
-    ensures said { option_map spec.view result ≡ spec.line_said word.now (pieces_left words.entry) }
+    ensures said { option_map spec.view result ≡ spec.line_command word.now (pieces_left words.entry) }
     ensures good { IfSome result (λ c. spec.IsGood (spec.view c)) }
 {
     if word == b"publish".as_slice() {

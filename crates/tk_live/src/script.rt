@@ -4,11 +4,13 @@
 //! skipped, and counted. A script stops at its first fault, and what the lines before it wrote stays.
 ghost use Rattle.std.specs.Prelude.{◌≡◌, ◌≤◌, ◌∷◌, [], ℕ, List, Bool, length, IfOk};
 ghost use Rattle.std.specs.Io.KnownBytes.{Appends};
-ghost use Rattle.tk_live.specs.Commands.{is_skipped, line_of, lines_of, capacity_of};
+ghost use Rattle.tk_live.specs.Commands.{is_skipped, ends_line, last_line, block_line, line_of, lines_of, capacity_of};
 ghost use Rattle.tk_live.specs.Course.{start_of_all};
-ghost use Rattle.tk_live.specs.Runs.{StandsFor, LineComes, LinesCame};
+ghost use Rattle.tk_live.specs.Pieces.{pieces_at};
+ghost use Rattle.tk_live.specs.Runs.{StandsFor, BlockComes, LineComes, LinesCame};
 ghost use Rattle.tk_live.specs.Script.{RunWrites, ReadsAndRuns};
 
+use crate::block::{BlockSaid, OpenBlock, block_said};
 use crate::command::{Command, command_of};
 use crate::gate::Gate;
 use crate::interpreter::Interpreter;
@@ -18,6 +20,7 @@ use crate::transfer::{MAX_SCRIPT, read_script};
 use std::alloc::{AllocError, Global};
 use std::io::{Read, Write};
 use std::sync::Wait;
+use std::thread::Threads;
 use tk_report::AppFault;
 
 /// How many events the console holds where the script doesn't say.
@@ -39,6 +42,9 @@ fn capacity_in(alloc: Global, script: &[u8]) -> Result<u64, AllocError>
 {
     for line in Pieces::new(script, b'\n') {
         if !is_skipped(line) {
+            if block_said(line).is_some() {
+                return Ok(CAPACITY);
+            }
             return match command_of(alloc, line)? {
                 Some(Command::Capacity { count }) => Ok(count),
                 _ => Ok(CAPACITY),
@@ -48,20 +54,60 @@ fn capacity_in(alloc: Global, script: &[u8]) -> Result<u64, AllocError>
     Ok(CAPACITY)
 }
 
-// One line, of this number from 1.
-fn run_line<R: Wait, W: Write>(
+// A line that only blocks have.
+fn run_block_line<R: Threads + Wait + Sync, G: Gate + Sync>(
     rt: &R,
     alloc: Global,
+    gate: &G,
     interpreter: &mut Interpreter,
+    block: &mut Option<OpenBlock>,
+    said: BlockSaid,
+) -> Result<(), Stop>
+    ensures { (number : ℕ) → BlockComes (G.answers gate.now) number (block_line said) interpreter.old block.old interpreter.new block.new result }
+{
+    match said {
+        BlockSaid::Opens => {
+            if block.is_some() {
+                return Err(Stop::BadCommand);
+            }
+            *block = Some(OpenBlock::new(alloc));
+            interpreter.begun = true;
+            Ok(())
+        }
+        BlockSaid::Joins => match block.take() {
+            Some(open) => interpreter.join(rt, alloc, gate, &open),
+            None => Err(Stop::BadCommand),
+        },
+        BlockSaid::Works(worker, line) => match block {
+            Some(open) => open.add(&interpreter.wakers, worker, line),
+            None => Err(Stop::BadCommand),
+        },
+    }
+}
+
+// One line, of this number from 1, where this block is open.
+fn run_line<R: Threads + Wait + Sync, W: Write, G: Gate + Sync>(
+    rt: &R,
+    alloc: Global,
+    gate: &G,
+    interpreter: &mut Interpreter,
+    block: &mut Option<OpenBlock>,
     number: u32,
     line: &[u8],
     writer: &mut W,
 ) -> Result<(), Stop>
-    ensures { LineComes number (line_of line.now) interpreter.old interpreter.new result
+    ensures { LineComes (G.answers gate.now) number (line_of line.now) interpreter.old block.old interpreter.new block.new result
         (W.contents writer.old) (W.contents writer.new) }
 {
     if is_skipped(line) {
         return Ok(());
+    }
+    if let Some(said) = block_said(line) {
+        return run_block_line(rt, alloc, gate, interpreter, block, said);
+    }
+    // In a block stand only its own lines.
+    if block.is_some() {
+        return Err(Stop::BadCommand);
     }
     let Ok(said) = command_of(alloc, line) else {
         return Err(Stop::Memory);
@@ -72,41 +118,77 @@ fn run_line<R: Wait, W: Write>(
     }
 }
 
+fn ends_line(script: &[u8]) -> bool
+    ensures { result ≡ ends_line script.now }
+{
+    script.ends_with(b"\n")
+}
+
+// The number of a script's last line, of so many pieces between line ends.
+fn last_line(script: &[u8], pieces: u32) -> u64
+    requires { pieces ≡ length (pieces_at 10 script.now) }
+    ensures { result ≡ last_line script.now }
+{
+    if ends_line(script) {
+        pieces.saturating_sub(1) as u64
+    } else {
+        pieces as u64
+    }
+}
+
 // The lines of a script that was read, one after the other.
-fn run_lines<R: Wait, W: Write>(
+fn run_lines<R: Threads + Wait + Sync, W: Write, G: Gate + Sync>(
     rt: &R,
     alloc: Global,
+    gate: &G,
     interpreter: &mut Interpreter,
     script: &[u8],
     writer: &mut W,
 ) -> Result<(), AppFault>
     requires short { length script.now ≤ MAX_SCRIPT }
     requires fresh { StandsFor interpreter.old (capacity_of (lines_of script.now)) start_of_all [] [] }
-    ensures { (text : List ℕ) × LinesCame (lines_of script.now) (capacity_of (lines_of script.now)) interpreter.new result text
+    ensures { (text : List ℕ) × LinesCame (G.answers gate.now) (last_line script.now) (lines_of script.now) (capacity_of (lines_of script.now)) interpreter.new result text
         × Appends (W.contents writer.old) (W.contents writer.new) text }
 {
+    let mut block = None;
     let mut number = 0u32;
     for line in Pieces::new(script, b'\n') {
         number += 1;
-        if let Err(stop) = run_line(rt, alloc, interpreter, number, line, writer) {
+        if let Err(stop) = run_line(
+            rt,
+            alloc,
+            gate,
+            interpreter,
+            &mut block,
+            number,
+            line,
+            writer,
+        ) {
             return Err(AppFault::Script {
                 line: number as u64,
                 name: stop.name(),
             });
         }
     }
+    if block.is_some() {
+        return Err(AppFault::Script {
+            line: last_line(script, number),
+            name: Stop::BadCommand.name(),
+        });
+    }
     Ok(())
 }
 
 // A script that was read. At its end, be it a fault, the recorder is retired and the taker finished.
-fn run<R: Wait, W: Write>(
+fn run<R: Threads + Wait + Sync, W: Write, G: Gate + Sync>(
     rt: &R,
     alloc: Global,
+    gate: &G,
     script: &[u8],
     writer: &mut W,
 ) -> Result<(), AppFault>
     requires short { length script.now ≤ MAX_SCRIPT }
-    ensures { (written : List ℕ) × RunWrites script.now result written
+    ensures { (written : List ℕ) × RunWrites (G.answers gate.now) script.now result written
         × Appends (W.contents writer.old) (W.contents writer.new) written }
 {
     let Ok(capacity) = capacity_in(alloc, script) else {
@@ -118,7 +200,7 @@ fn run<R: Wait, W: Write>(
     let Ok(room) = Vec::with_capacity(alloc, 1) else {
         return Err(AppFault::Memory);
     };
-    let done = run_lines(rt, alloc, &mut interpreter, script, writer);
+    let done = run_lines(rt, alloc, gate, &mut interpreter, script, writer);
     interpreter.finish(room);
     done
 }
@@ -129,26 +211,31 @@ fn run<R: Wait, W: Write>(
 /// many events as a `capacity` command before every other one says, from 1 to 65,536, and 1,024 without one. Each `publish`
 /// and each `snapshot` takes what the console holds, reads the ledgers of the items that are known by then, and writes one
 /// line. What did not fit into the console is counted as dropped; an item that was dropped keeps its number and its ledger.
-/// The gate is for blocks of threads, which no command opens yet.
+/// A block of threads, from `par` to `join`, is run at its `join`: each of its two workers that has lines is one thread, which
+/// owns the wakers of its lines and passes the gate before each of its calls. Behind the block the wakers that are not spent
+/// are there again.
 ///
 /// - `Memory`: the script could not be kept, or the run not begun, for want of memory. Nothing was written.
 /// - `Read`: the reader failed, gave no end within 2^32 reads, or gave more than 1,048,576 bytes. Nothing was written.
 /// - `Script`: a line was refused, and what the lines before it published stands. Its name is `BadCommand`
-///   (no command, or `capacity` behind another command), `NoSuchItem` (an item that was not made, or is spent), the name of
+///   (no command, `capacity` behind another command, a line that may not stand in its block or needs one, a waker with lines of
+///   both workers, or, at the last line, a block that is not joined), `NoSuchItem` (an item that was not made, or is spent, in
+///   a block by the lines before), the name of
 ///   the refused call's refusal, `OffersSpent` (2^40 - 1 events were recorded), `Clock` (a moment below the last line's),
-///   `NumbersSpent` (2^63 lines were written), `Memory`, or `WriteFault` (a proper front of the next line went out).
-pub fn run_script<R: Wait, I: Read, W: Write, G: Gate>(
+///   `NumbersSpent` (2^63 lines were written), `Memory`, `WriteFault` (a proper front of the next line went out), or, at a
+///   `join`, `NoThread` (a thread could not be started) or `Stopped` (the gate stopped a worker).
+pub fn run_script<R: Threads + Wait + Sync, I: Read, W: Write, G: Gate + Sync>(
     rt: &R,
     alloc: Global,
     reader: &mut I,
     writer: &mut W,
-    _gate: &G,
+    gate: &G,
 ) -> Result<(), AppFault>
     // The script runs line by line, and stops at its first fault with the lines before it written. What its text tells is a
     // function of the text; what came of that is one record.
-    ensures run { (written : List ℕ) × ReadsAndRuns (I.remaining reader.old) result written
+    ensures run { (written : List ℕ) × ReadsAndRuns (G.answers gate.now) (I.remaining reader.old) result written
         × Appends (W.contents writer.old) (W.contents writer.new) written }
 {
     let script = read_script(alloc, reader)?;
-    run(rt, alloc, script.as_slice(), writer)
+    run(rt, alloc, gate, script.as_slice(), writer)
 }

@@ -9,6 +9,19 @@ pub(crate) fn is_made<H: Drop>(seats: &Vec<Option<H>>, number: u64) -> bool
     1 <= number && number as usize <= seats.len()
 }
 
+/// Whether a number names a handle that was made and is not spent.
+pub(crate) fn is_live<H: Drop>(seats: &Vec<Option<H>>, number: u64) -> bool
+    ensures { result ≡ is_some (live_item number seats.now.items) }
+{
+    match number.checked_sub(1) {
+        Some(index) => match seats.get(index as usize) {
+            Some(seat) => seat.is_some(),
+            None => false,
+        },
+        None => false,
+    }
+}
+
 /// Takes out the handle of a number, if it was made and is not spent.
 pub(crate) fn take_seat<H: Drop>(seats: &mut Vec<Option<H>>, number: u64) -> Option<H>
     ensures taken { result ≡ live_item number seats.old.items }

@@ -7,7 +7,8 @@ use tk_core::Refusal;
 /// Why a line of a script stops it, in the order in which these are tried.
 #[derive(Clone, Copy, Debug, PartialEq, Eq)]
 pub enum Stop {
-    /// The line says no command, or `capacity` behind another command.
+    /// The line says no command, `capacity` behind another command, or what may not stand there: in a block what is no line of it,
+    /// outside of blocks a `join` or a worker's line; or a block is open at the script's end.
     BadCommand,
     /// A number names nothing, or what is spent.
     NoSuchItem,
@@ -23,6 +24,10 @@ pub enum Stop {
     Memory,
     /// The writer gave an error or took nothing, and a proper front of the line went out.
     WriteFault,
+    /// A thread of a block could not be started.
+    NoThread,
+    /// The gate stopped a worker of a block.
+    Stopped,
 }
 
 fn name_of(refusal: Refusal) -> &'static str
@@ -54,6 +59,8 @@ impl Stop {
             Stop::NumbersSpent => "NumbersSpent",
             Stop::Memory => "Memory",
             Stop::WriteFault => "WriteFault",
+            Stop::NoThread => "NoThread",
+            Stop::Stopped => "Stopped",
         }
     }
 }

@@ -7,6 +7,7 @@ use std::alloc::Global;
 use std::io::{Read, Write};
 use std::process::Abort;
 use std::sync::Wait;
+use std::thread::Threads;
 use tk_app::{AppFault, Open, run_script};
 
 // A task that is made, and a line that tells of it.
@@ -25,7 +26,7 @@ pub(super) fn is_text_of(alloc: Global, fault: AppFault, text: &str) -> bool {
 }
 
 // Whether running stops at the fault of this text, or at none where that is empty.
-pub(super) fn stops_at<R: Wait + AllocGlobal, I: Read, W: Write>(
+pub(super) fn stops_at<R: Threads + Wait + Sync + AllocGlobal, I: Read, W: Write>(
     rt: &R,
     reader: &mut I,
     writer: &mut W,
@@ -38,7 +39,7 @@ pub(super) fn stops_at<R: Wait + AllocGlobal, I: Read, W: Write>(
 }
 
 // Whether it does, and has written this text.
-pub(super) fn runs_from<R: Wait + AllocGlobal, I: Read>(
+pub(super) fn runs_from<R: Threads + Wait + Sync + AllocGlobal, I: Read>(
     rt: &R,
     reader: &mut I,
     fault: &str,
@@ -59,7 +60,7 @@ pub(super) fn text_of(alloc: Global, lines: &[&str]) -> Option<String> {
 }
 
 // Whether the script stops at this fault, or at none where its text is empty, and has written these lines.
-pub(super) fn runs<R: Wait + AllocGlobal>(
+pub(super) fn runs<R: Threads + Wait + Sync + AllocGlobal>(
     rt: &R,
     script: &'static [u8],
     fault: &str,
@@ -73,7 +74,7 @@ pub(super) fn runs<R: Wait + AllocGlobal>(
 }
 
 // The script stops at this fault, or at none where its text is empty, and has written these lines.
-pub(super) fn assert_runs<R: Abort + Wait + AllocGlobal>(
+pub(super) fn assert_runs<R: Abort + Threads + Wait + Sync + AllocGlobal>(
     rt: &R,
     case: &str,
     script: &'static [u8],
@@ -84,7 +85,7 @@ pub(super) fn assert_runs<R: Abort + Wait + AllocGlobal>(
 }
 
 // Each script stops at its fault, or at none where its text is empty, and has written its lines.
-pub(super) fn assert_all_run<R: Abort + Wait + AllocGlobal>(
+pub(super) fn assert_all_run<R: Abort + Threads + Wait + Sync + AllocGlobal>(
     rt: &R,
     cases: &[(&str, &'static [u8], &str, &[&str])],
 ) {
@@ -94,7 +95,7 @@ pub(super) fn assert_all_run<R: Abort + Wait + AllocGlobal>(
 }
 
 // Each script stops at its fault, and has written nothing.
-pub(super) fn assert_all_stop<R: Abort + Wait + AllocGlobal>(
+pub(super) fn assert_all_stop<R: Abort + Threads + Wait + Sync + AllocGlobal>(
     rt: &R,
     cases: &[(&str, &'static [u8], &str)],
 ) {
@@ -104,7 +105,7 @@ pub(super) fn assert_all_stop<R: Abort + Wait + AllocGlobal>(
 }
 
 // Each script has no fault, and has written its lines.
-pub(super) fn assert_all_write<R: Abort + Wait + AllocGlobal>(
+pub(super) fn assert_all_write<R: Abort + Threads + Wait + Sync + AllocGlobal>(
     rt: &R,
     cases: &[(&str, &'static [u8], &[&str])],
 ) {
@@ -114,7 +115,7 @@ pub(super) fn assert_all_write<R: Abort + Wait + AllocGlobal>(
 }
 
 // None of these lines is a command.
-pub(super) fn assert_are_bad<R: Abort + Wait + AllocGlobal>(rt: &R, lines: &[&'static [u8]]) {
+pub(super) fn assert_are_bad<R: Abort + Threads + Wait + Sync + AllocGlobal>(rt: &R, lines: &[&'static [u8]]) {
     for line in lines {
         let case = str::from_utf8(line).unwrap_or("a line that is no text");
         assert_runs(rt, case, line, "line 1: BadCommand", &[]);

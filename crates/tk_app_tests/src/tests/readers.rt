@@ -5,6 +5,7 @@ use std::io;
 use std::io::Read;
 use std::process::Abort;
 use std::sync::Wait;
+use std::thread::Threads;
 
 // Gives one byte a read, then as many bytes x as its padding says, and then its end or a fault.
 #[derive(Drop)]
@@ -56,7 +57,7 @@ const READERS: [(&str, &[u8], usize, bool, &str); 7] = [
 ];
 
 // Whether running stops at this fault and has written nothing, or at none and has written the line.
-fn comes_to<R: Wait + AllocGlobal>(rt: &R, reader: &mut Trickle, fault: &str) -> bool {
+fn comes_to<R: Threads + Wait + Sync + AllocGlobal>(rt: &R, reader: &mut Trickle, fault: &str) -> bool {
     if !fault.is_empty() {
         return runs_from(rt, reader, fault, "");
     }
@@ -66,7 +67,7 @@ fn comes_to<R: Wait + AllocGlobal>(rt: &R, reader: &mut Trickle, fault: &str) ->
     }
 }
 
-fn assert_all_come_to<R: Abort + Wait + AllocGlobal>(
+fn assert_all_come_to<R: Abort + Threads + Wait + Sync + AllocGlobal>(
     rt: &R,
     cases: &[(&str, &'static [u8], usize, bool, &str)],
 ) {

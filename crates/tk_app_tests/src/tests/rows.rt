@@ -3,6 +3,7 @@
 use super::given::runs;
 use std::process::Abort;
 use std::sync::Wait;
+use std::thread::Threads;
 
 // A line that tells of one new task, up to the task's statistics and behind them.
 const HEAD: &str =
@@ -93,7 +94,7 @@ publish 200",            POLLED_AND_CLOSED),
 ];
 
 // Whether the script's one line tells of a task with these statistics.
-fn tells_row<R: Wait + AllocGlobal>(rt: &R, script: &'static [u8], row: &str) -> bool {
+fn tells_row<R: Threads + Wait + Sync + AllocGlobal>(rt: &R, script: &'static [u8], row: &str) -> bool {
     match format!(in rt.alloc(); "{HEAD}{row}{TAIL}") {
         Ok(line) => runs(rt, script, "", &[line.as_str()]),
         Err(_) => false,
@@ -101,7 +102,7 @@ fn tells_row<R: Wait + AllocGlobal>(rt: &R, script: &'static [u8], row: &str) ->
 }
 
 // Each script's one line tells of a task with its statistics.
-pub(super) fn assert_all_tell<R: Abort + Wait + AllocGlobal>(
+pub(super) fn assert_all_tell<R: Abort + Threads + Wait + Sync + AllocGlobal>(
     rt: &R,
     cases: &[(&str, &'static [u8], &str)],
 ) {

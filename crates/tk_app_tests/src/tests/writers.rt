@@ -5,6 +5,7 @@ use std::io;
 use std::io::Write;
 use std::process::Abort;
 use std::sync::Wait;
+use std::thread::Threads;
 
 // Takes at most so many bytes a write, as long as there is room. Then it gives an error, or takes nothing.
 #[derive(Drop)]
@@ -33,7 +34,7 @@ impl Write for Narrow {
 
 // Whether a script that is run into a writer of this kind stops at this fault, or at none where its text is empty, and these
 // bytes went out.
-fn runs_into<R: Wait + AllocGlobal>(
+fn runs_into<R: Threads + Wait + Sync + AllocGlobal>(
     rt: &R,
     script: &'static [u8],
     most: usize,
@@ -52,7 +53,7 @@ fn runs_into<R: Wait + AllocGlobal>(
     stops_at(rt, &mut reader, &mut writer, fault) && writer.got.as_slice() == wanted
 }
 
-fn goes_out_byte_by_byte<R: Wait + AllocGlobal>(rt: &R, line: &[u8]) -> bool {
+fn goes_out_byte_by_byte<R: Threads + Wait + Sync + AllocGlobal>(rt: &R, line: &[u8]) -> bool {
     runs_into(rt, MAIN, 1, line.len(), false, "", line)
 }
 
@@ -64,7 +65,7 @@ fn a_writer_may_take_one_byte_at_a_time(rt: HostRuntime) {
     }
 }
 
-fn keeps_front<R: Wait + AllocGlobal>(rt: &R, front: &[u8], is_silent: bool) -> bool {
+fn keeps_front<R: Threads + Wait + Sync + AllocGlobal>(rt: &R, front: &[u8], is_silent: bool) -> bool {
     runs_into(
         rt,
         MAIN,
@@ -76,7 +77,7 @@ fn keeps_front<R: Wait + AllocGlobal>(rt: &R, front: &[u8], is_silent: bool) -> 
     )
 }
 
-fn assert_keeps_fronts<R: Abort + Wait + AllocGlobal>(rt: &R, line: &[u8]) {
+fn assert_keeps_fronts<R: Abort + Threads + Wait + Sync + AllocGlobal>(rt: &R, line: &[u8]) {
     for room in 0..line.len() {
         for is_silent in [false, true] {
             assert!(rt;
@@ -97,7 +98,7 @@ fn a_failing_writer_keeps_what_it_took(rt: HostRuntime) {
 
 const LATER: &[u8] = b"task 100 spawn main\npublish 200\n# again\npublish 300\n";
 
-fn keeps_first<R: Wait + AllocGlobal>(rt: &R, line: &[u8]) -> bool {
+fn keeps_first<R: Threads + Wait + Sync + AllocGlobal>(rt: &R, line: &[u8]) -> bool {
     runs_into(rt, LATER, 7, line.len(), false, "line 4: WriteFault", line)
 }
 

@@ -1,16 +1,26 @@
 //! Wakers, and their calls.
 
 use super::Interpreter;
+use crate::block::OpenBlock;
+use crate::gate::Gate;
+use crate::join::run_block;
 use crate::seats::{put_seat, take_seat};
 use crate::stop::Stop;
+use std::alloc::Global;
+use std::mem;
 use std::sync::Wait;
+use std::thread::Threads;
 use tk_core::Refusal;
 use tk_ledgers::Origin;
 
 impl Interpreter {
-    ghost use Rattle.std.specs.Prelude.{ℕ};
+    ghost use Rattle.std.specs.Prelude.{◌≡◌, ℕ, List, Bool, OnOk, IfErr};
+    ghost use Rattle.tk_stream.specs.Streams.{Sending};
     ghost use Rattle.tk_live.specs.Commands as said;
-    ghost use Rattle.tk_live.specs.Runs.{Does};
+    ghost use Rattle.tk_live.specs.Course.{Course, joined};
+    ghost use Rattle.tk_live.specs.Runs.{Does, StandsFor, block_of};
+    ghost use Rattle.tk_live.specs.Stops.{Closes, EndsIn};
+    ghost use Rattle.tk_live.specs.Threads.{Apart};
 
     // A new waker of a task.
     pub(super) fn clone_waker<R: Wait>(&mut self, rt: &R, task: u64) -> Result<(), Stop>
@@ -81,6 +91,24 @@ impl Interpreter {
             return Err(Stop::NoSuchItem);
         };
         waker.release(rt);
+        Ok(())
+    }
+
+    // The threads of a block run its lines, and are joined.
+    pub(crate) fn join<R: Threads + Wait + Sync, G: Gate + Sync>(
+        &mut self,
+        rt: &R,
+        alloc: Global,
+        gate: &G,
+        block: &OpenBlock,
+    ) -> Result<(), Stop>
+        ensures ok { OnOk result ((capacity : ℕ) (c : Course) (kept : List Bool) (sent : List Sending) → Apart block.now.first.items block.now.second.items
+            → StandsFor self.old capacity c kept sent → StandsFor self.new capacity (joined c (block_of block.now)) kept sent) }
+        ensures same { (self.new.recorder ≡ self.old.recorder) × (self.new.taker ≡ self.old.taker) × (self.new.aggregator ≡ self.old.aggregator) }
+        ensures err { IfErr result (EndsIn (Closes (G.answers gate.now) (block_of block.now))) }
+    {
+        let wakers = mem::replace(&mut self.wakers, Vec::new(alloc));
+        self.wakers = run_block(rt, alloc, gate, wakers, block)?;
         Ok(())
     }
 }

@@ -5,6 +5,7 @@ use rand_pcg::Pcg32;
 use std::alloc::Global;
 use std::process::Abort;
 use std::sync::Wait;
+use std::thread::Threads;
 use tk_live::{Open, run_script};
 use tk_plain::run_plain;
 use tk_report::AppFault;
@@ -85,7 +86,12 @@ fn is_alike(alloc: Global, script: &[u8], end: Result<(), AppFault>, live: &[u8]
     }
 }
 
-fn runs_alike<R: Wait>(rt: &R, alloc: Global, script: &[u8], came: &mut Came) -> bool {
+fn runs_alike<R: Threads + Wait + Sync>(
+    rt: &R,
+    alloc: Global,
+    script: &[u8],
+    came: &mut Came,
+) -> bool {
     let mut reader = script;
     let mut written = Vec::new(alloc);
     let end = run_script(rt, alloc, &mut reader, &mut written, &Open);
@@ -93,7 +99,11 @@ fn runs_alike<R: Wait>(rt: &R, alloc: Global, script: &[u8], came: &mut Came) ->
     is_alike(alloc, script, end, written.as_slice())
 }
 
-fn assert_alike<R: Abort + Wait + AllocGlobal>(rt: &R, random: &mut Pcg32, came: &mut Came) {
+fn assert_alike<R: Abort + Threads + Wait + Sync + AllocGlobal>(
+    rt: &R,
+    random: &mut Pcg32,
+    came: &mut Came,
+) {
     match script_of(rt.alloc(), random) {
         Ok(script) => assert!(rt;
             runs_alike(rt, rt.alloc(), script.as_bytes(), came),

@@ -6,6 +6,7 @@ ghost use Rattle.tk_stream.specs.Tables.{empty_tables};
 use super::scripts as script;
 use std::alloc::Global;
 use std::sync::Wait;
+use std::thread::Threads;
 use std::test::*;
 use tk_app::{Open, run_script};
 use tk_client::{Client, Lints, Warning, WarningKind};
@@ -14,7 +15,7 @@ use tk_stream::{Line, Tables};
 // Each helper owns one of these at most, and lends it to the next: so their proofs stay short.
 
 // What a script writes, if it has no fault.
-fn stream_of<R: Wait + AllocGlobal>(rt: &R, script: &'static [u8]) -> Option<Vec<u8>> {
+fn stream_of<R: Threads + Wait + Sync + AllocGlobal>(rt: &R, script: &'static [u8]) -> Option<Vec<u8>> {
     let mut reader = script;
     let mut written = Vec::new(rt.alloc());
     match run_script(rt, rt.alloc(), &mut reader, &mut written, &Open) {
@@ -95,7 +96,7 @@ fn is_taken_by_all_sizes(alloc: Global, bytes: &[u8], lines: u64) -> bool {
 }
 
 // Whether a script ends without a fault, and a client takes its stream of so many lines in pieces of any size.
-fn is_taken<R: Wait + AllocGlobal>(rt: &R, script: &'static [u8], lines: u64) -> bool {
+fn is_taken<R: Threads + Wait + Sync + AllocGlobal>(rt: &R, script: &'static [u8], lines: u64) -> bool {
     match stream_of(rt, script) {
         Some(bytes) => is_taken_by_all_sizes(rt.alloc(), bytes.as_slice(), lines),
         None => false,
@@ -150,7 +151,7 @@ fn client_warns(alloc: Global, bytes: &[u8], number: u64, kind: WarningKind) -> 
 }
 
 // Whether a client that took the stream of a script warns once: of the task of this number.
-fn warns<R: Wait + AllocGlobal>(
+fn warns<R: Threads + Wait + Sync + AllocGlobal>(
     rt: &R,
     script: &'static [u8],
     number: u64,

@@ -1,4 +1,4 @@
-use Rattle.std.proofs.Common.{◌≡◌, ℕ, ◌+◌, List, ◌∷◌, ◌++◌, [], length, map, length-append, append_assoc, append-nil, refl, ap, sym, ◌∙◌, subst, arith}
+use Rattle.std.proofs.Common.{◌≡◌, ℕ, ◌+◌, List, ◌∷◌, ◌++◌, [], length, map, length-append, append_assoc, append-nil, refl, ap, sym, ◌∙◌, subst, arith, Option, Some, None, inl, inr}
 use Rattle.std.specs.List.{enumerate_from}
 use Rattle.std.specs.Io.KnownBytes.{Appends}
 use Rattle.std.proofs.KnownBytes.{Appends-nil, Appends-trans}
@@ -7,8 +7,9 @@ use Rattle.tk_live.specs.Commands.{Line, line_of, lines_of, capacity_of}
 use Rattle.tk_live.specs.Course.{Course, start_of_all, course_of}
 use Rattle.tk_live.specs.Pieces.{pieces_at, pieces_left}
 use Rattle.tk_live.specs.Ran.{written_by}
-use Rattle.tk_live.specs.Runs.{StandsFor}
+use Rattle.tk_live.specs.Runs.{StandsFor, Stays, IsOpen}
 use Rattle.tk_live.specs.Stops.{AllGo}
+use Rattle.tk_live.proofs.Blocks.{none_open, open_none, open_some}
 use Rattle.tk_live.proofs.Lines.{course_push, goes_more, few_lines}
 use Rattle.tk_live.proofs.Streams.{written_append}
 use Rattle.tk_live.proofs.script.run_lines.Goals as goal
@@ -22,7 +23,7 @@ loop-line-init g c = record {
   counted = refl;
   cut = sym c.new-line-items.ensures ∙ ap pieces_left (sym c.into_iter-line-iterator.ensures.into_iter_gives);
   goes = tt;
-  came = ([], [], c.requires.fresh, Appends-nil _);
+  came = ([], [], c.requires.fresh, none_open, Appends-nil _);
 }
 
 pub returns-in-Err : goal.returns-in-Err
@@ -34,9 +35,9 @@ returns-in-Err g c =
     let more = pieces_left c.next.new.self in
     let cut : pieces_at 10 script ≡ texts ++ text ∷ more = c.loop-line.invariant.cut ∙ ap (λ p. texts ++ p) c.in-Some.ensures.steps in
     let did = c.loop-line.invariant.came in
-    let h = c.in-Err.ensures (capacity_of (lines_of script)) (course_of before) did.0 did.1 did.2 in (
+    let h = c.in-Err.ensures (capacity_of (lines_of script)) (course_of before) did.0 did.1 did.2 did.3 in (
       written_by did.1 ++ h.2,
-      record {
+      inl (record {
         before = before;
         line = line_of text;
         behind = map line_of more;
@@ -51,8 +52,8 @@ returns-in-Err g c =
         front = h.2;
         fronts = h.3;
         all = refl;
-      },
-      Appends-trans _ _ _ (written_by did.1) h.2 did.3 h.4,
+      }),
+      Appends-trans _ _ _ (written_by did.1) h.2 did.4 h.4,
     )
 
 pub loop-line-preserved : goal.loop-line-preserved
@@ -65,7 +66,7 @@ loop-line-preserved g c =
     let more = pieces_left c.next.new.self in
     let line : Line = line_of text in
     let did = c.loop-line.invariant.came in
-    let h = c.in_default.ensures (capacity_of (lines_of script)) (course_of before) did.0 did.1 did.2 in
+    let h = c.in_default.ensures (capacity_of (lines_of script)) (course_of before) did.0 did.1 did.2 did.3 in
     let longer : map (λ x. x.now) (c.loop-line.yielded ++ c.in-Some.line ∷ []) ≡ texts ++ text ∷ [] = map-append (λ x. x.now) c.loop-line.yielded (c.in-Some.line ∷ []) in
     let t : map line_of (map (λ x. x.now) (c.loop-line.yielded ++ c.in-Some.line ∷ [])) ≡ before ++ line ∷ [] = ap (map line_of) longer ∙ map-append line_of texts (text ∷ []) in
     let counted : number ≡ length before + 1 = omega (arith, c.loop-line.invariant.counted, length-map c.loop-line.yielded (λ x. x.now), length-map texts line_of) in
@@ -78,9 +79,38 @@ loop-line-preserved g c =
         did.0 ++ h.1,
         did.1 ++ h.2,
         subst (λ (k : Course). StandsFor c.run_line.new.interpreter (capacity_of (lines_of script)) k (did.0 ++ h.1) (did.1 ++ h.2)) (sym (ap course_of t ∙ course_push before number line counted)) h.3,
-        subst (λ text. Appends (g.W.Write.contents c.args.writer.now) (g.W.Write.contents c.run_line.new.writer) text) (sym (written_append did.1 h.2)) (Appends-trans _ _ _ (written_by did.1) _ did.3 h.4),
+        subst (λ (k : Course). IsOpen c.run_line.new.block k) (sym (ap course_of t ∙ course_push before number line counted)) h.4,
+        subst (λ text. Appends (g.W.Write.contents c.args.writer.now) (g.W.Write.contents c.run_line.new.writer) text) (sym (written_append did.1 h.2)) (Appends-trans _ _ _ (written_by did.1) _ did.4 h.5),
       );
     }
+
+pub last_line-requires : goal.last_line-requires
+last_line-requires g c =
+    let texts : List (List ℕ) = map (λ x. x.now) c.loop-line.yielded in
+    let all : pieces_at 10 c.args.script.now ≡ texts = c.loop-line.invariant.cut ∙ ap (λ p. texts ++ p) c.in-None.ensures.steps.0 ∙ append-nil texts in
+    c.loop-line.invariant.counted ∙ (sym (length-map c.loop-line.yielded (λ x. x.now)) ∙ ap length (sym all))
+
+pub returns-then-is_some : goal.returns-then-is_some
+returns-then-is_some g c =
+    let script : List ℕ = c.args.script.now in
+    let texts : List (List ℕ) = map (λ x. x.now) c.loop-line.yielded in
+    let whole : lines_of script ≡ map line_of texts = ap (map line_of) (c.loop-line.invariant.cut ∙ ap (λ p. texts ++ p) c.in-None.ensures.steps.0 ∙ append-nil texts) in
+    let did = c.loop-line.invariant.came in
+    let there = open_some c.loop-line.block (course_of (map line_of texts)) did.3 c.if-is_some.ensures in (
+      written_by did.1,
+      inr (record {
+        counted = c.last_line.ensures;
+        goes = subst (λ ls. AllGo start_of_all (enumerate_from 1 ls)) (sym whole) c.loop-line.invariant.goes;
+        block = there.0;
+        is_open = subst (λ ls. (course_of ls).block ≡ Some there.0) (sym whole) there.1;
+        named = c.name-then-is_some.ensures;
+        kept = did.0;
+        sent = did.1;
+        keeps = subst (λ ls. Stays c.loop-line.interpreter (capacity_of (lines_of script)) (course_of ls) did.0 did.1) (sym whole) did.2.keeps;
+        all = refl;
+      }),
+      did.4,
+    )
 
 pub returns : goal.returns
 returns g c =
@@ -91,10 +121,11 @@ returns g c =
       written_by did.1,
       (
         subst (λ ls. AllGo start_of_all (enumerate_from 1 ls)) (sym whole) c.loop-line.invariant.goes,
+        subst (λ ls. (course_of ls).block ≡ None) (sym whole) (open_none c.loop-line.block (course_of (map line_of texts)) did.3 c.if-is_some.ensures),
         did.0,
         did.1,
         subst (λ ls. StandsFor c.loop-line.interpreter (capacity_of (lines_of script)) (course_of ls) did.0 did.1) (sym whole) did.2,
         refl,
       ),
-      did.3,
+      did.4,
     )
