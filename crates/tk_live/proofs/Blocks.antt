@@ -1,11 +1,11 @@
 -- Blocks: what stands behind their lines.
-use Rattle.std.proofs.Common.{◌≡◌, ℕ, ◌==◌, ◌⊎◌, ◌&&◌, ◌||◌, Bool, true, false, List, [], ◌∷◌, ◌++◌, length, Option, Some, None, Result, Ok, Err, inl, inr, refl, sym, ap, ◌∙◌, subst, ◌≢◌, true≢false}
+use Rattle.std.proofs.Common.{◌≡◌, ℕ, ◌⊎◌, Bool, true, false, List, [], ◌∷◌, ◌++◌, Option, Some, None, Result, Ok, Err, inl, inr, refl, sym, ap, ◌∙◌, subst, ◌≢◌, true≢false}
 use Rattle.std.proofs.KnownBytes.{Appends-nil}
-use Rattle.std.specs.Prelude.{option_map, option_and_then, is_some, not, OnOk, IfErr}
+use Rattle.std.specs.Prelude.{option_map, is_some, OnOk, IfErr}
 use Rattle.std.proofs.lemmas.Bool.{cases_eq}
 use Rattle.std.specs.Option.{option_map_or}
 use Rattle.tk_stream.specs.Streams.{Sending}
-use Rattle.tk_live.specs.Blocks.{Block, Wakers, no_lines, after_lines, after_block, is_named, with_line, lines_of_worker, lines_of_other}
+use Rattle.tk_live.specs.Blocks.{Block, Wakers, no_lines, is_named, with_line, lines_of_worker, lines_of_other}
 use Rattle.tk_live.specs.Commands.{Said, Line, says, bad, skipped, joins, works, is_skipped, block_said, block_line, line_of}
 use Rattle.tk_live.specs.Commands as said
 use Rattle.tk_live.specs.Course.{Course, start_of_all, step, step_on, joined, line_after}

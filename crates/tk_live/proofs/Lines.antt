@@ -1,7 +1,6 @@
 -- Lines, one after the other.
 use Rattle.std.proofs.Common.{◌≡◌, ℕ, ◌+◌, ◌≤◌, List, [], ◌∷◌, ◌++◌, length, length-append, Bool, Option, Some, None, Result, Ok, Err, inr, refl, sym, ap, ◌∙◌, subst, arith}
 use Rattle.std.specs.Prelude.{◌==◌, fold}
-use Rattle.std.specs.Option.{option_map_or}
 use Rattle.std.specs.List.{enumerate_from}
 use Rattle.std.proofs.KnownBytes.{Appends-nil}
 use Rattle.std.proofs.lemmas.List.{append-nil}
@@ -12,13 +11,12 @@ use Rattle.tk_live.specs.Commands.{Said, Line, says, bad}
 use Rattle.tk_live.specs.Commands as said
 use Rattle.tk_live.specs.Course.{Course, step, step_on, start_of_all, line_after, course_of}
 use Rattle.tk_live.specs.Pieces.{pieces_at}
-use Rattle.tk_live.specs.Runs.{StandsFor, Does, Came, Comes}
+use Rattle.tk_live.specs.Runs.{StandsFor, Does, Comes}
 use Rattle.tk_live.specs.Script.{FrontOf}
 use Rattle.tk_live.specs.Stops.{Goes, AllGo}
 use Rattle.tk_live.specs.declared.interpreter.Interpreter.{Interpreter}
 use Rattle.tk_live.specs.declared.stop.Stop.{Stop}
 use Rattle.tk_live.specs.declared.stop.Stop.TheVariants.{BadCommand, NoSuchItem, Call, OffersSpent, Clock, NumbersSpent, Memory, WriteFault, NoThread, Stopped}
-use Rattle.tk_live.proofs.Standing.{rests}
 
 -- no line was sent
 pub unsent : (i : Interpreter) (capacity : ℕ) (k : Course) (kept : List Bool) (sent : List Sending) → StandsFor i capacity k kept sent → StandsFor i capacity k kept (sent ++ [])

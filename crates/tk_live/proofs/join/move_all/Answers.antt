@@ -1,4 +1,4 @@
-use Rattle.std.proofs.Common.{◌∙◌, sym, length, arith}
+use Rattle.std.proofs.Common.{◌∙◌, sym, arith}
 use Rattle.tk_live.proofs.Moving.{moves_none, moves_next}
 use Rattle.tk_live.proofs.join.move_all.Goals as goal
 

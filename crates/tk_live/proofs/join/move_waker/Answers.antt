@@ -1,6 +1,5 @@
 use Rattle.std.proofs.Common.{sym, ◌∙◌}
 use Rattle.tk_live.proofs.Moving.{moved}
-use Rattle.tk_live.proofs.Places.{live_within}
 use Rattle.tk_live.proofs.join.move_waker.Goals as goal
 
 pub returns-in-Some : goal.returns-in-Some

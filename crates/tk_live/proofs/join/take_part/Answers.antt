@@ -1,4 +1,4 @@
-use Rattle.std.proofs.Common.{◌≡◌, ◌∙◌, length, None, subst, sym, ap, rules}
+use Rattle.std.proofs.Common.{◌≡◌, length, None, subst, rules}
 use Rattle.std.specs.Prelude.{replicate}
 use Rattle.tk_live.specs.Threads.{Moves}
 use Rattle.tk_live.proofs.join.take_part.Goals as goal

@@ -1,4 +1,3 @@
-use Rattle.std.proofs.Common.{◌≤◌, ℕ, sym, subst}
 use Rattle.tk_live.specs.Commands.{capacity_of, last_line, lines_of}
 use Rattle.tk_live.proofs.Whole.{stays_of, writes}
 use Rattle.tk_live.proofs.script.run.Goals as goal

@@ -1,8 +1,8 @@
-use Rattle.std.proofs.Common.{◌≡◌, List, ℕ, Bool, ◌++◌, length, map}
+use Rattle.std.proofs.Common.{◌≡◌, List, Bool, ◌++◌, length, map}
 use Rattle.std.specs.List.{enumerate_from}
 use Rattle.std.specs.Io.KnownBytes.{Appends}
 use Rattle.tk_stream.specs.Streams.{Sending}
-use Rattle.tk_live.specs.Commands.{Line, line_of, lines_of, capacity_of}
+use Rattle.tk_live.specs.Commands.{line_of, lines_of, capacity_of}
 use Rattle.tk_live.specs.Course.{start_of_all, course_of}
 use Rattle.tk_live.specs.Pieces.{pieces_at, pieces_left}
 use Rattle.tk_live.specs.Ran.{written_by}

@@ -1,11 +1,9 @@
-use Rattle.std.proofs.Common.{◌≡◌, false, Some, refl, ap, subst}
+use Rattle.std.proofs.Common.{false, Some, refl, ap, subst}
 use Rattle.tk_core.specs.declared.task.call.TaskCall.TheVariants.{WakeRef}
 use Rattle.tk_core.specs.declared.reply.Reply.TheVariants.{Woken}
 use Rattle.tk_core.specs.TaskMeaning.{task_meaning}
 use Rattle.tk_cell.specs.Calls.{Calls}
 use Rattle.tk_ledgers.specs.Tasks.{names}
-use Rattle.tk_live.specs.Blocks.{after_call}
-use Rattle.tk_live.specs.Known.{caller_of}
 use Rattle.tk_live.proofs.Standing.{caller_called}
 use Rattle.tk_live.proofs.worker.make_call.Goals as goal
 

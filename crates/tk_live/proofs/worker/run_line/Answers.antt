@@ -1,11 +1,11 @@
 use Rattle.std.proofs.Common.{◌≡◌, Some, None, refl, sym, ap, ◌∙◌}
 use Rattle.std.specs.Prelude.{option_map}
 use Rattle.std.specs.Option.{option_map_or}
-use Rattle.tk_live.specs.Blocks.{after_call, after_line}
+use Rattle.tk_live.specs.Blocks.{after_call}
 use Rattle.tk_live.specs.Known.{caller_of}
 use Rattle.tk_live.specs.Named.{live_item, with_item}
 use Rattle.tk_live.specs.Threads.{callers}
-use Rattle.tk_live.proofs.Places.{put_back, used_up, place_left}
+use Rattle.tk_live.proofs.Places.{put_back, used_up}
 use Rattle.tk_live.proofs.Standing.{told_live}
 use Rattle.tk_live.proofs.worker.run_line.Goals as goal
 
