@@ -3,7 +3,6 @@ ghost use Rattle.std.specs.Prelude.{◌≡◌, ◌⊎◌, ◌++◌, ◌∷◌, [
 ghost use Rattle.tk_live.specs.Blocks as blocks;
 ghost use Rattle.tk_live.specs.Commands as spec;
 ghost use Rattle.tk_live.specs.Pieces.{pieces_left};
-ghost use Rattle.tk_live.specs.Runs.{block_of};
 ghost use Rattle.tk_live.specs.Stops.{work_stop};
 ghost use Rattle.tk_live.specs.Threads.{callers, spends};
 ghost use Rattle.tk_live.specs.declared.stop.Stop.TheVariants as stops;
@@ -12,8 +11,8 @@ use crate::pieces::Pieces;
 use crate::seats::is_live;
 use crate::stop::Stop;
 use crate::words::{moment_of, one_number, two_numbers};
+use crate::worker::Wakers;
 use std::alloc::Global;
-use tk_ledgers::WakerHandle;
 
 /// A worker of a block, which is one thread.
 #[derive(Clone, Copy, Debug, PartialEq, Eq)]
@@ -146,7 +145,7 @@ fn is_spent(lines: &[WorkerLine], waker: u64) -> bool
 fn push_line(
     own: &mut Vec<WorkerLine>,
     others: &[WorkerLine],
-    wakers: &Vec<Option<WakerHandle>>,
+    wakers: &Wakers,
     line: WorkerLine,
 ) -> Result<(), Stop>
     ensures ok { OnOk result ((work_stop own.old.items others.now (callers wakers.now.items) line ≡ None) × (own.new.items ≡ own.old.items ++ line ∷ [])) }
@@ -191,7 +190,7 @@ impl OpenBlock {
     /// One line more of a worker, where these wakers are there before the block.
     pub(crate) fn add(
         &mut self,
-        wakers: &Vec<Option<WakerHandle>>,
+        wakers: &Wakers,
         worker: Worker,
         line: WorkerLine,
     ) -> Result<(), Stop>

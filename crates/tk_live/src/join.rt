@@ -1,5 +1,5 @@
 //! A block of threads: each worker that has lines is one thread.
-ghost use Rattle.std.specs.Prelude.{◌≡◌, ◌<◌, ◌⊎◌, length, replicate, Some, None, true, false, IfSome, IfNone, IfOk, IfErr};
+ghost use Rattle.std.specs.Prelude.{◌≡◌, ◌<◌, length, replicate, Some, None, true, false, IfOk, IfErr};
 ghost use Rattle.tk_live.specs.Blocks.{after_lines, after_block};
 ghost use Rattle.tk_live.specs.Threads.{callers, Apart, Moved, Moves, Worked};
 ghost use Rattle.tk_live.specs.Runs.{block_of};
@@ -10,15 +10,14 @@ use crate::block::{OpenBlock, WorkerLine};
 use crate::gate::Gate;
 use crate::seats::{put_seat, take_seat};
 use crate::stop::Stop;
-use crate::worker::work;
+use crate::worker::{Wakers, work};
 use std::alloc::{AllocError, Global};
 use std::snapshot::Snapshot;
 use std::sync::Wait;
 use std::thread::{Promise, PromisedHandle, Scope, Threads, scope, scope_env};
-use tk_ledgers::WakerHandle;
 
 // So many empty places.
-fn no_wakers(alloc: Global, count: usize) -> Result<Vec<Option<WakerHandle>>, AllocError>
+fn no_wakers(alloc: Global, count: usize) -> Result<Wakers, AllocError>
     ensures { IfOk result (λ places. places.items ≡ replicate count None) }
 {
     let mut places = Vec::with_capacity(alloc, count)?;
@@ -29,7 +28,7 @@ fn no_wakers(alloc: Global, count: usize) -> Result<Vec<Option<WakerHandle>>, Al
 }
 
 // The waker of a line goes to the same place of another list, if it is there.
-fn move_waker(from: &mut Vec<Option<WakerHandle>>, to: &mut Vec<Option<WakerHandle>>, number: u64)
+fn move_waker(from: &mut Wakers, to: &mut Wakers, number: u64)
     requires { length to.old.items ≡ length from.old.items }
     ensures { Moved number from.old.items to.old.items from.new.items to.new.items }
 {
@@ -39,11 +38,7 @@ fn move_waker(from: &mut Vec<Option<WakerHandle>>, to: &mut Vec<Option<WakerHand
 }
 
 // Those of all lines do so.
-fn move_all(
-    from: &mut Vec<Option<WakerHandle>>,
-    to: &mut Vec<Option<WakerHandle>>,
-    lines: &[WorkerLine],
-)
+fn move_all(from: &mut Wakers, to: &mut Wakers, lines: &[WorkerLine])
     requires { length to.old.items ≡ length from.old.items }
     ensures { Moves lines.now from.old.items to.old.items from.new.items to.new.items }
 {
@@ -53,11 +48,7 @@ fn move_all(
 }
 
 // Takes the wakers that lines name out of their places, to the same places of another list.
-fn take_part(
-    alloc: Global,
-    wakers: &mut Vec<Option<WakerHandle>>,
-    lines: &[WorkerLine],
-) -> Result<Vec<Option<WakerHandle>>, AllocError>
+fn take_part(alloc: Global, wakers: &mut Wakers, lines: &[WorkerLine]) -> Result<Wakers, AllocError>
     ensures { IfOk result (λ part. Moves lines.now wakers.old.items (replicate (length wakers.old.items) None) wakers.new.items part.items) }
 {
     let mut part = no_wakers(alloc, wakers.len())?;
@@ -66,11 +57,7 @@ fn take_part(
 }
 
 // Puts them back.
-fn put_back(
-    wakers: &mut Vec<Option<WakerHandle>>,
-    part: Vec<Option<WakerHandle>>,
-    lines: &[WorkerLine],
-)
+fn put_back(wakers: &mut Wakers, part: Wakers, lines: &[WorkerLine])
     requires { length wakers.old.items ≡ length part.items }
     ensures { (left : _) × Moves lines.now part.items wakers.old.items left wakers.new.items }
 {
@@ -84,10 +71,10 @@ struct WorkOf<'a, G: Gate> {
     gate: &'a G,
     k: u64,
     lines: &'a [WorkerLine],
-    wakers: Snapshot<Vec<Option<WakerHandle>>>,
+    wakers: Snapshot<Wakers>,
 }
 
-impl<'a, G: Gate> Promise<Option<Vec<Option<WakerHandle>>>> for WorkOf<'a, G> {
+impl<'a, G: Gate> Promise<Option<Wakers>> for WorkOf<'a, G> {
     ghost use Rattle.tk_live.specs.Threads.{Worked};
 
     ghost kept_by = { λ p after. Worked (G.answers p.gate.now p.k) p.lines.now p.wakers.value.items after };
@@ -99,9 +86,9 @@ fn start<'s, E, R: Threads + Wait + Sync, G: Gate + Sync>(
     rt: &'s R,
     gate: &'s G,
     k: u64,
-    wakers: Vec<Option<WakerHandle>>,
+    wakers: Wakers,
     lines: &'s [WorkerLine],
-) -> Result<PromisedHandle<Option<Vec<Option<WakerHandle>>>, WorkOf<'s, G>>, Stop>
+) -> Result<PromisedHandle<Option<Wakers>, WorkOf<'s, G>>, Stop>
     ensures gate { IfOk result (λ h. (h.promise.gate.now ≡ gate.now) × (h.promise.k ≡ k)) }
     ensures part { IfOk result (λ h. (h.promise.lines.now ≡ lines.now) × (h.promise.wakers.value.items ≡ wakers.items)) }
     ensures err { IfErr result (λ stop. stop ≡ stops.NoThread) }
@@ -112,7 +99,7 @@ fn start<'s, E, R: Threads + Wait + Sync, G: Gate + Sync>(
         lines,
         wakers: Snapshot::of(&wakers),
     };
-    let body = move || -> Option<Vec<Option<WakerHandle>>>
+    let body = move || -> Option<Wakers>
         ensures { Worked (G.answers gate.entry.now k) lines.entry.now wakers.items result }
     { work(rt, gate, k, wakers, lines) };
     match threads.spawn_with(promise, body) {
@@ -126,16 +113,16 @@ fn run_one<R: Threads + Wait + Sync, G: Gate + Sync>(
     rt: &R,
     gate: &G,
     k: u64,
-    wakers: Vec<Option<WakerHandle>>,
+    wakers: Wakers,
     lines: &[WorkerLine],
-) -> Result<Option<Vec<Option<WakerHandle>>>, Stop>
+) -> Result<Option<Wakers>, Stop>
     ensures ok { IfOk result (Worked (G.answers gate.now k) lines.now wakers.items) }
     ensures err { IfErr result (λ stop. stop ≡ stops.NoThread) }
 {
     scope(
         scope_env(),
         rt,
-        |threads| -> Result<Option<Vec<Option<WakerHandle>>>, Stop>
+        |threads| -> Result<Option<Wakers>, Stop>
             ensures ok { IfOk result (Worked (G.answers gate.entry.now k) lines.entry.now wakers.items) }
             ensures err { IfErr result (λ stop. stop ≡ stops.NoThread) }
         {
@@ -149,17 +136,11 @@ fn run_one<R: Threads + Wait + Sync, G: Gate + Sync>(
 fn run_two<R: Threads + Wait + Sync, G: Gate + Sync>(
     rt: &R,
     gate: &G,
-    one: Vec<Option<WakerHandle>>,
+    one: Wakers,
     first: &[WorkerLine],
-    two: Vec<Option<WakerHandle>>,
+    two: Wakers,
     second: &[WorkerLine],
-) -> Result<
-    (
-        Option<Vec<Option<WakerHandle>>>,
-        Option<Vec<Option<WakerHandle>>>,
-    ),
-    Stop,
->
+) -> Result<(Option<Wakers>, Option<Wakers>), Stop>
     ensures one { IfOk result (λ d. Worked (G.answers gate.now 1) first.now one.items d.0) }
     ensures two { IfOk result (λ d. Worked (G.answers gate.now 2) second.now two.items d.1) }
     ensures err { IfErr result (λ stop. stop ≡ stops.NoThread) }
@@ -167,13 +148,7 @@ fn run_two<R: Threads + Wait + Sync, G: Gate + Sync>(
     scope(
         scope_env(),
         rt,
-        |threads| -> Result<
-            (
-                Option<Vec<Option<WakerHandle>>>,
-                Option<Vec<Option<WakerHandle>>>,
-            ),
-            Stop,
-        >
+        |threads| -> Result<(Option<Wakers>, Option<Wakers>), Stop>
             ensures one { IfOk result (λ d. Worked (G.answers gate.entry.now 1) first.entry.now one.items d.0) }
             ensures two { IfOk result (λ d. Worked (G.answers gate.entry.now 2) second.entry.now two.items d.1) }
             ensures err { IfErr result (λ stop. stop ≡ stops.NoThread) }
@@ -190,9 +165,9 @@ fn run_alone<R: Threads + Wait + Sync, G: Gate + Sync>(
     rt: &R,
     gate: &G,
     k: u64,
-    wakers: Vec<Option<WakerHandle>>,
+    wakers: Wakers,
     lines: &[WorkerLine],
-) -> Result<Vec<Option<WakerHandle>>, Stop>
+) -> Result<Wakers, Stop>
     ensures asked { IfOk result (λ after. 0 < length lines.now → G.answers gate.now k true) }
     ensures made { IfOk result (λ after. callers after.items ≡ after_lines lines.now (callers wakers.items)) }
     ensures err { IfErr result (EndsIn ((0 < length lines.now) × G.answers gate.now k false)) }
@@ -207,7 +182,7 @@ fn run_alone<R: Threads + Wait + Sync, G: Gate + Sync>(
 }
 
 // What a worker hands back, if its gate did not stop it.
-fn unstopped(done: Option<Vec<Option<WakerHandle>>>) -> Result<Vec<Option<WakerHandle>>, Stop>
+fn unstopped(done: Option<Wakers>) -> Result<Wakers, Stop>
     ensures ok { IfOk result (λ wakers. done ≡ Some wakers) }
     ensures err { IfErr result (λ stop. (stop ≡ stops.Stopped) × (done ≡ None)) }
 {
@@ -225,9 +200,9 @@ pub(crate) fn run_block<R: Threads + Wait + Sync, G: Gate + Sync>(
     rt: &R,
     alloc: Global,
     gate: &G,
-    wakers: Vec<Option<WakerHandle>>,
+    wakers: Wakers,
     block: &OpenBlock,
-) -> Result<Vec<Option<WakerHandle>>, Stop>
+) -> Result<Wakers, Stop>
     ensures made { IfOk result (λ after. Apart block.now.first.items block.now.second.items → callers after.items ≡ after_block (block_of block.now) (callers wakers.items)) }
     ensures first_asked { IfOk result (λ after. 0 < length block.now.first.items → G.answers gate.now 1 true) }
     ensures second_asked { IfOk result (λ after. 0 < length block.now.second.items → G.answers gate.now 2 true) }

@@ -10,6 +10,9 @@ use crate::seats::{put_seat, take_seat};
 use std::sync::Wait;
 use tk_ledgers::{Origin, WakerHandle};
 
+/// The wakers of their places, from number 1, where they are there.
+pub(crate) type Wakers = Vec<Option<WakerHandle>>;
+
 // A waker makes a call, and is there behind it or spent.
 fn make_call<R: Wait>(rt: &R, waker: WakerHandle, call: WakerCall) -> Option<WakerHandle>
     ensures { option_map caller_of result ≡ after_call call (caller_of waker) }
@@ -32,7 +35,7 @@ fn make_call<R: Wait>(rt: &R, waker: WakerHandle, call: WakerCall) -> Option<Wak
 }
 
 // The waker that a line names makes its call.
-fn run_line<R: Wait>(rt: &R, wakers: &mut Vec<Option<WakerHandle>>, line: WorkerLine)
+fn run_line<R: Wait>(rt: &R, wakers: &mut Wakers, line: WorkerLine)
     ensures { callers wakers.new.items ≡ after_line (callers wakers.old.items) line }
 {
     let Some(waker) = take_seat(wakers, line.waker) else {
@@ -49,9 +52,9 @@ pub(crate) fn work<R: Wait, G: Gate>(
     rt: &R,
     gate: &G,
     k: u64,
-    wakers: Vec<Option<WakerHandle>>,
+    wakers: Wakers,
     lines: &[WorkerLine],
-) -> Option<Vec<Option<WakerHandle>>>
+) -> Option<Wakers>
     ensures asked { IfSome result (λ after. 0 < length lines.now → G.answers gate.now k true) }
     ensures made { IfSome result (λ after. callers after.items ≡ after_lines lines.now (callers wakers.items)) }
     ensures stopped { IfNone result (G.answers gate.now k false) }

@@ -40,19 +40,28 @@ fn blocks_change_the_statistics(rt: HostRuntime) {
 // Blocks without lines start no thread, and may follow each other.
 #[test]
 fn blocks_may_be_empty(rt: HostRuntime) {
-    assert_runs(&rt, "two blocks", b"par\njoin\npar\n# nothing\njoin\n", "", &[]);
+    assert_runs(
+        &rt,
+        "two blocks",
+        b"par\njoin\npar\n# nothing\njoin\n",
+        "",
+        &[],
+    );
 }
 
 // No commands, outside of blocks as in them.
 #[test]
 fn workers_have_three_commands(rt: HostRuntime) {
-    assert_are_bad(&rt, &[
-        b"join".as_slice(),
-        b"par 1".as_slice(),
-        b"join 1".as_slice(),
-        b"1".as_slice(),
-        b"1 wakeref 1 5".as_slice(),
-    ]);
+    assert_are_bad(
+        &rt,
+        &[
+            b"join".as_slice(),
+            b"par 1".as_slice(),
+            b"join 1".as_slice(),
+            b"1".as_slice(),
+            b"1 wakeref 1 5".as_slice(),
+        ],
+    );
 }
 
 // Each script stops at its last command, or at its last line where a block is open behind it.
@@ -144,7 +153,15 @@ impl Gate for ClosedTo {
 fn a_closed_gate_stops_the_script_at_the_join(rt: HostRuntime) {
     assert!(rt; runs_under(&rt, &ClosedTo(1), BOTH, "line 10: Stopped", &[]));
     assert!(rt; runs_under(&rt, &ClosedTo(2), BOTH, "line 10: Stopped", &[]));
-    assert!(rt; runs_under(&rt, &ClosedTo(2), b"task 0 spawn a\nclone 1\npar\n1 release 1\njoin\n", "", &[]));
+    assert!(rt;
+        runs_under(
+            &rt,
+            &ClosedTo(2),
+            b"task 0 spawn a\nclone 1\npar\n1 release 1\njoin\n",
+            "",
+            &[]
+        )
+    );
 }
 
 /// An open gate that counts how often each worker came to it.

@@ -3,17 +3,6 @@
 use super::given::{assert_are_bad, runs_from};
 use super::readers::Trickle;
 
-// Commands that scripts do not have yet.
-#[rattlefmt::skip]
-const LATER: [&[u8]; 3] = [
-    b"par", b"1 wakeref 1 5", b"join",
-];
-
-#[test]
-fn later_commands_are_not_there(rt: HostRuntime) {
-    assert_are_bad(&rt, LATER.as_slice());
-}
-
 // Words that are no command, and a byte that is no text.
 #[rattlefmt::skip]
 const UNKNOWN: [&[u8]; 7] = [

@@ -115,7 +115,10 @@ pub(super) fn assert_all_write<R: Abort + Threads + Wait + Sync + AllocGlobal>(
 }
 
 // None of these lines is a command.
-pub(super) fn assert_are_bad<R: Abort + Threads + Wait + Sync + AllocGlobal>(rt: &R, lines: &[&'static [u8]]) {
+pub(super) fn assert_are_bad<R: Abort + Threads + Wait + Sync + AllocGlobal>(
+    rt: &R,
+    lines: &[&'static [u8]],
+) {
     for line in lines {
         let case = str::from_utf8(line).unwrap_or("a line that is no text");
         assert_runs(rt, case, line, "line 1: BadCommand", &[]);

@@ -57,7 +57,11 @@ const READERS: [(&str, &[u8], usize, bool, &str); 7] = [
 ];
 
 // Whether running stops at this fault and has written nothing, or at none and has written the line.
-fn comes_to<R: Threads + Wait + Sync + AllocGlobal>(rt: &R, reader: &mut Trickle, fault: &str) -> bool {
+fn comes_to<R: Threads + Wait + Sync + AllocGlobal>(
+    rt: &R,
+    reader: &mut Trickle,
+    fault: &str,
+) -> bool {
     if !fault.is_empty() {
         return runs_from(rt, reader, fault, "");
     }

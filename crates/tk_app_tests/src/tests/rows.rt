@@ -94,7 +94,11 @@ publish 200",            POLLED_AND_CLOSED),
 ];
 
 // Whether the script's one line tells of a task with these statistics.
-fn tells_row<R: Threads + Wait + Sync + AllocGlobal>(rt: &R, script: &'static [u8], row: &str) -> bool {
+fn tells_row<R: Threads + Wait + Sync + AllocGlobal>(
+    rt: &R,
+    script: &'static [u8],
+    row: &str,
+) -> bool {
     match format!(in rt.alloc(); "{HEAD}{row}{TAIL}") {
         Ok(line) => runs(rt, script, "", &[line.as_str()]),
         Err(_) => false,

@@ -65,7 +65,11 @@ fn a_writer_may_take_one_byte_at_a_time(rt: HostRuntime) {
     }
 }
 
-fn keeps_front<R: Threads + Wait + Sync + AllocGlobal>(rt: &R, front: &[u8], is_silent: bool) -> bool {
+fn keeps_front<R: Threads + Wait + Sync + AllocGlobal>(
+    rt: &R,
+    front: &[u8],
+    is_silent: bool,
+) -> bool {
     runs_into(
         rt,
         MAIN,

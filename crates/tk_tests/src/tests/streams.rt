@@ -6,8 +6,8 @@ ghost use Rattle.tk_stream.specs.Tables.{empty_tables};
 use super::scripts as script;
 use std::alloc::Global;
 use std::sync::Wait;
-use std::thread::Threads;
 use std::test::*;
+use std::thread::Threads;
 use tk_app::{Open, run_script};
 use tk_client::{Client, Lints, Warning, WarningKind};
 use tk_stream::{Line, Tables};
@@ -15,7 +15,10 @@ use tk_stream::{Line, Tables};
 // Each helper owns one of these at most, and lends it to the next: so their proofs stay short.
 
 // What a script writes, if it has no fault.
-fn stream_of<R: Threads + Wait + Sync + AllocGlobal>(rt: &R, script: &'static [u8]) -> Option<Vec<u8>> {
+fn stream_of<R: Threads + Wait + Sync + AllocGlobal>(
+    rt: &R,
+    script: &'static [u8],
+) -> Option<Vec<u8>> {
     let mut reader = script;
     let mut written = Vec::new(rt.alloc());
     match run_script(rt, rt.alloc(), &mut reader, &mut written, &Open) {
@@ -96,7 +99,11 @@ fn is_taken_by_all_sizes(alloc: Global, bytes: &[u8], lines: u64) -> bool {
 }
 
 // Whether a script ends without a fault, and a client takes its stream of so many lines in pieces of any size.
-fn is_taken<R: Threads + Wait + Sync + AllocGlobal>(rt: &R, script: &'static [u8], lines: u64) -> bool {
+fn is_taken<R: Threads + Wait + Sync + AllocGlobal>(
+    rt: &R,
+    script: &'static [u8],
+    lines: u64,
+) -> bool {
     match stream_of(rt, script) {
         Some(bytes) => is_taken_by_all_sizes(rt.alloc(), bytes.as_slice(), lines),
         None => false,
@@ -112,6 +119,7 @@ fn examples_are_taken(rt: HostRuntime) -> Result<(), Fail> {
     assert!(rt; is_taken(&rt, script::semaphore(), 3), "semaphore");
     assert!(rt; is_taken(&rt, script::lost_waker(), 3), "lost-waker");
     assert!(rt; is_taken(&rt, script::burst(), 5), "burst");
+    assert!(rt; is_taken(&rt, script::two_threads(), 3), "two-threads");
     Ok(())
 }
 
