@@ -1,0 +1,213 @@
+"""Tries the wrong bodies that the gate leaves out; tests/wrong_bodies.sh says how."""
+
+import os
+import re
+import shutil
+import subprocess
+import sys
+import tempfile
+from concurrent.futures import ThreadPoolExecutor
+
+ROOT = os.path.dirname(os.path.dirname(os.path.abspath(__file__)))
+CRATES = os.path.join(ROOT, "crates")
+# So many edits of a crate are tried in one check at most.
+GROUP = 12
+# An edit with such a word may change more than a body, so it is tried alone.
+STATES = re.compile(r"\b(ensures|requires|ghost|struct|enum|impl|trait|use|fn|derive)\b")
+# What a proof says that only misses a name which an edit took away tells little of the contract.
+MISSES = re.compile(r"^(\./)?proofs/.*(has no field|is not in scope|has no `|was not admitted)")
+
+
+class BadEdit(Exception):
+    pass
+
+
+class Edit:
+    """A wrong body: the texts that it puts in the place of others, and the function whose proof must fail."""
+
+    def __init__(self, path):
+        self.name = os.path.basename(path)[: -len(".edit")]
+        self.function = None
+        self.changes = []
+        file = old = None
+        with open(path) as lines:
+            for line in lines.read().split("\n")[1:]:
+                if line.startswith("function: "):
+                    self.function = line[len("function: "):]
+                elif line.startswith("file: "):
+                    file = line[len("file: "):]
+                elif line.startswith("old: "):
+                    old = line[len("old: "):]
+                elif line.startswith("new:"):
+                    self.changes.append((file, old, line[len("new: "):]))
+
+    def is_one_body(self):
+        return len(self.changes) == 1 and all(
+            file.startswith("src/") and not STATES.search(old + " " + new) for file, old, new in self.changes
+        )
+
+    def files(self):
+        return {file for file, _, _ in self.changes}
+
+    def apply(self, crate):
+        if not self.function:
+            raise BadEdit("it names no function")
+        if not self.changes:
+            raise BadEdit("it has no old and new text")
+        for file, old, new in self.changes:
+            path = os.path.join(crate, file)
+            with open(path) as source:
+                text = source.read()
+            if text.count(old) != 1:
+                raise BadEdit(f"an old text does not stand once in {file}")
+            with open(path, "w") as source:
+                source.write(text.replace(old, new))
+
+
+def groups_of(edits):
+    """Edits that one check can tell apart: each changes the body of another function."""
+    groups = []
+    for edit in edits:
+        for group in groups:
+            if (
+                edit.is_one_body()
+                and len(group) < GROUP
+                and all(other.is_one_body() and other.function != edit.function for other in group)
+            ):
+                group.append(edit)
+                break
+        else:
+            groups.append([edit])
+    return groups
+
+
+def crates_under(crate):
+    """The crates of this repository that a crate stands on, itself first."""
+    found = [crate]
+    with open(os.path.join(ROOT, "crates.txt")) as lines:
+        for line in lines:
+            name, _, uses = line.partition(":")
+            if name.split()[:1] == [crate]:
+                for use in uses.split():
+                    if os.path.isdir(os.path.join(CRATES, use)):
+                        found += [below for below in crates_under(use) if below not in found]
+    return found
+
+
+def copy_of(crate, work):
+    """A copy of the crate, over the libraries below it and the work that its own check kept."""
+    below = crates_under(crate)
+    shutil.copy(os.path.join(ROOT, "HANDLES"), work)
+    with open(os.path.join(ROOT, "crates.txt")) as lines, open(os.path.join(work, "crates.txt"), "w") as kept:
+        kept.writelines(line for line in lines if re.split(r"[ :]", line)[0] in below)
+    for name in below:
+        source, copy = os.path.join(CRATES, name), os.path.join(work, "crates", name)
+        os.makedirs(os.path.join(copy, "out"))
+        for part in ("src", "specs", "proofs"):
+            if os.path.isdir(os.path.join(source, part)):
+                shutil.copytree(os.path.join(source, part), os.path.join(copy, part))
+        part = "incremental" if name == crate else "rlib"
+        subprocess.run(
+            ["cp", "-R", "--reflink=auto", os.path.join(source, "out", part), os.path.join(copy, "out")], check=True
+        )
+    return os.path.join(work, "crates", crate)
+
+
+def check(copy, edits):
+    only = [word for edit in edits for word in ("--only", edit.function)]
+    run = subprocess.run(["rt", "check", "--jobs", "1", *only], cwd=copy, capture_output=True, text=True)
+    return run.returncode, run.stdout + run.stderr
+
+
+def reason(said, place=""):
+    """The first error of a check, if it is one at this place and does not only miss a name."""
+    for line in said.split("\n"):
+        if re.match(r"(note: )?[^ ]+:\d+:\d+: ", line) and ("error" in line or line.startswith("note: ")):
+            if place in line and not MISSES.match(line):
+                return line[:160]
+    return None
+
+
+def judge_alone(status, said):
+    """What a check of one edit says: that it was refused, or what is wrong with the edit."""
+    if not re.search(r"^only=\d+ proved=\d+", said, re.M):
+        error = re.search(r"^.*(?:^|[ :])error: .*$", said, re.M)
+        return "BAD EDIT: it did not reach the prover: " + (error.group(0)[:200] if error else "")
+    if status == 0:
+        return "LET THROUGH: the function is still proved"
+    if status != 1:
+        return "BAD EDIT: the prover could not tell"
+    first = reason(said)
+    if first:
+        return "refused: " + first
+    if re.search("not proved|no proof", said):
+        return "refused (a proof file misses a name that the edit took away)"
+    return "BAD EDIT: nothing says why it was refused"
+
+
+def judge_among(edit, said):
+    """What a check of several edits says of this one, where it tells: the proof of its own function fails."""
+    path = edit.function.replace("::", "/")
+    if re.search(rf"^fn \S*::{re.escape(edit.function)}: not proved", said, re.M):
+        first = reason(said, f"/{path}/") or reason(said, edit.changes[0][0] + ":")
+        return f"refused: {first}" if first else None
+    return None
+
+
+def restore(crate, copy, edits):
+    for file in {file for edit in edits for file in edit.files()}:
+        shutil.copy(os.path.join(CRATES, crate, file), os.path.join(copy, file))
+
+
+def try_edits(crate, copy, edits):
+    """Tries edits in one check, and again without those of which it tells, until it tells of none."""
+    said = {}
+    try:
+        for edit in edits:
+            edit.apply(copy)
+        status, text = check(copy, edits)
+        for edit in edits:
+            said[edit] = judge_alone(status, text) if len(edits) == 1 else judge_among(edit, text)
+    except BadEdit as bad:
+        said = {edit: f"BAD EDIT: {bad}" if len(edits) == 1 else None for edit in edits}
+    restore(crate, copy, edits)
+    told = [edit for edit in edits if said[edit]]
+    rest = [edit for edit in edits if not said[edit]]
+    for edit in told:
+        print(f"{crate}/{edit.name}: {said[edit]}", flush=True)
+        yield said[edit]
+    for group in [rest] if told else [[edit] for edit in rest]:
+        if group:
+            yield from try_edits(crate, copy, group)
+
+
+def try_crate(crate, only):
+    folder = os.path.join(CRATES, crate, "wrong-bodies")
+    edits = [Edit(os.path.join(folder, name)) for name in sorted(os.listdir(folder)) if name.endswith(".edit")]
+    edits = [edit for edit in edits if only in (None, edit.name)]
+    run = subprocess.run(["rt", "check"], cwd=os.path.join(CRATES, crate), capture_output=True, text=True)
+    if run.returncode:
+        why = f"{crate}: NOT PROVED as it stands, so that no wrong body was tried: {run.stdout.strip()[-200:]}"
+        print(why, flush=True)
+        return [why]
+    with tempfile.TemporaryDirectory() as work:
+        copy = copy_of(crate, work)
+        return [said for group in groups_of(edits) for said in try_edits(crate, copy, group)]
+
+
+def main(words):
+    crates = words[:1] or sorted(
+        name for name in os.listdir(CRATES) if os.path.isdir(os.path.join(CRATES, name, "wrong-bodies"))
+    )
+    for crate in crates:
+        if not os.path.isdir(os.path.join(CRATES, crate, "wrong-bodies")):
+            sys.exit(f"there are no wrong bodies of {crate}")
+    only = words[1] if len(words) > 1 else None
+    with ThreadPoolExecutor(int(os.environ.get("JOBS", "2"))) as pool:
+        said = [line for lines in pool.map(lambda crate: try_crate(crate, only), crates) for line in lines]
+    refused = sum(line.startswith("refused") for line in said)
+    print(f"{refused} refused, {len(said) - refused} let through")
+    sys.exit(0 if said and refused == len(said) else 1)
+
+
+main(sys.argv[1:])
