@@ -1,9 +1,11 @@
 //! The calls of handles as tables, and handles on two threads.
 
 mod changes;
+mod crowd;
 mod given;
 mod polls;
 mod readings;
+mod rising;
 mod scopes;
 mod threads;
 mod wakes;
