@@ -1,147 +1,195 @@
 #!/bin/sh
-# Runs a small script again and again, and refuses one allocation each time: the first, the second, and so on.
-# A run must answer want of memory by its name, with status 1 and only whole lines of the output before it, or it
-# can do without that allocation and writes the whole output. After ten of the latter in a row no allocation is left.
+# Refuses one request for memory after the other: in each call of crates/tk_memory, and in the program's `run` and `view`.
 #
-# Usage: tests/refused_memory.sh [--built] [--view] [FIRST [LAST]], from allocation FIRST (1) to at most LAST (400).
+# Usage: tests/refused_memory.sh
 #
-# With --view it views a stream in place of running a script: examples/semaphore.script.stdout, which has items of each
-# kind and a warning. Then want of memory comes before any output.
+# It takes the two programs that `rt run` left in crates/tk_memory/out and crates/taskscope/out. A small C library (cc and
+# LD_PRELOAD) counts their requests and refuses one of them, the first, the second and so on, until a run meets no refusal.
+# In tk_memory a case is what lies between two marks, which are requests of sizes that nothing else asks for. The program
+# itself says of each case whether all is right (src/verdict.rt). A call whose name begins with `none: ` may make no request.
+# A refused `run` or `view` must answer want of memory by its name, with status 1 and only whole lines of the output before
+# it, or do without that request and write the whole output.
 #
-# Each run is a trial without proof that is compiled anew, JOBS (2) at a time. The script has 87 allocations, the view
-# 200, so it takes half an hour and more on two processors (14 runs took 187 s where this was written).
-# With --built it runs the program that `rt run` left in crates/taskscope/out, whose allocations a small C library
-# refuses (cc and LD_PRELOAD): all of it in a second.
+# Of each call it says how many requests it met, and how many of them were told as want of memory. The last line is
+# `N passed, M failed`, and the status 1 where M isn't 0.
 
-built=
-word=run
-while :; do
-    case $1 in
-        --built) built=yes ;;
-        --view) word=view ;;
-        *) break ;;
-    esac
-    shift
-done
-first=${1:-1}
-last=${2:-400}
-jobs=${JOBS:-2}
 root=$(CDPATH= cd -P -- "$(dirname -- "$0")/.." && pwd) || exit 2
+cases=$root/crates/tk_memory/out/tk_memory
 program=$root/crates/taskscope/out/taskscope
 work=$(mktemp -d) || exit 2
 trap 'rm -rf "$work"' EXIT
 trap 'exit 2' HUP INT TERM
-began=$(date +%s)
+for built in "$cases" "$program"; do
+    [ -x "$built" ] || { echo "the program is not built: $built" >&2; exit 2; }
+done
 
-if [ "$word" = view ]; then
-    cp "$root/examples/semaphore.script.stdout" "$work/input" || exit 2
-else
-    printf 'task 100 spawn main\npublish 200\npublish 300\n' > "$work/input"
-fi
-
-if [ "$built" ]; then
-    [ -x "$program" ] || { echo "the program is not built: $program" >&2; exit 2; }
-    cat > "$work/refuse.c" <<'C'
+cat > "$work/refuse.c" <<'C'
 #define _GNU_SOURCE
 #include <dlfcn.h>
+#include <stdatomic.h>
+#include <stdio.h>
 #include <stdlib.h>
 
-/* Whether this is the call whose number the environment gives, from 1 on. 0 refuses none. */
-static int is_refused(void) {
-    static long left = -1;
-    if (left < 0)
-        left = getenv("REFUSE") ? atol(getenv("REFUSE")) : 0;
-    return left > 0 && --left == 0;
+/* The sizes of the marks, as src/marks.rt has them. */
+#define BEGIN 100003
+#define END 100019
+
+/* Of which case which request is refused, from 1 on. Case 0 is a program without marks, and request 0 is none. */
+static long wanted, refuse;
+static FILE *counts;
+static long begun;
+static atomic_long met;
+static atomic_int inside;
+
+static long number(const char *name) {
+    return getenv(name) ? atol(getenv(name)) : 0;
+}
+
+__attribute__((constructor)) static void start(void) {
+    wanted = number("CASE");
+    refuse = number("REFUSE");
+    counts = fopen(getenv("COUNTS"), "w");
+    inside = wanted == 0;
+}
+
+__attribute__((destructor)) static void stop(void) {
+    inside = 0;
+    if (wanted == 0)
+        fprintf(counts, "%ld\n", met);
+    fclose(counts);
+}
+
+static int is_refused(size_t size) {
+    if (size == BEGIN) {
+        begun++;
+        met = 0;
+        inside = 1;
+        return 0;
+    }
+    if (size == END) {
+        inside = 0;
+        fprintf(counts, "%ld\n", met);
+        /* By this the case learns that a request was refused. */
+        return begun == wanted && refuse > 0 && met >= refuse;
+    }
+    return inside && atomic_fetch_add(&met, 1) + 1 == refuse && begun == wanted;
 }
 
 void *malloc(size_t size) {
     static void *(*next)(size_t);
     if (!next)
         next = (void *(*)(size_t))dlsym(RTLD_NEXT, "malloc");
-    return is_refused() ? NULL : next(size);
+    return is_refused(size) ? NULL : next(size);
+}
+
+void *calloc(size_t count, size_t size) {
+    static void *(*next)(size_t, size_t);
+    if (!next)
+        next = (void *(*)(size_t, size_t))dlsym(RTLD_NEXT, "calloc");
+    return is_refused(count * size) ? NULL : next(count, size);
 }
 
 void *realloc(void *old, size_t size) {
     static void *(*next)(void *, size_t);
     if (!next)
         next = (void *(*)(void *, size_t))dlsym(RTLD_NEXT, "realloc");
-    return is_refused() ? NULL : next(old, size);
+    return is_refused(size) ? NULL : next(old, size);
 }
 C
-    ${CC:-cc} -shared -fPIC -o "$work/refuse.so" "$work/refuse.c" -ldl || exit 2
-fi
+${CC:-cc} -shared -fPIC -o "$work/refuse.so" "$work/refuse.c" -ldl || exit 2
 
-# Runs the program with allocation number $1 refused, and none for 0. Leaves what it wrote, its faults and its status.
-try() {
-    if [ "$built" ]; then
-        REFUSE=$1 LD_PRELOAD=$work/refuse.so "$program" "$word" \
-            < "$work/input" > "$work/$1.out" 2> "$work/$1.err"
-    elif [ "$1" = 0 ]; then
-        (cd "$root/crates/taskscope" && rt try -- "$word") \
-            < "$work/input" > "$work/$1.out" 2> "$work/$1.err"
-    else
-        (cd "$root/crates/taskscope" && rt try --fail-alloc "$1" -- "$word") \
-            < "$work/input" > "$work/$1.out" 2> "$work/$1.err"
-    fi
-    echo $? > "$work/$1.status"
+passed=0
+failed=0
+all=0
+
+# Runs a program with request $2 of case $1 refused. Leaves its output, its faults and how many requests each case met.
+refuse() {
+    case=$1
+    request=$2
+    shift 2
+    CASE=$case REFUSE=$request COUNTS=$work/counts LD_PRELOAD=$work/refuse.so "$@" \
+        < "$work/input" > "$work/out" 2> "$work/err"
 }
 
-# Whether a run answered want of memory, behind whole lines of the output.
-is_refused() {
-    [ "$(cat "$work/$1.status")" = 1 ] || return 1
-    grep '^fault: ' "$work/$1.err" > "$work/$1.fault"
-    [ "$(wc -l < "$work/$1.fault")" -eq 1 ] || return 1
-    grep -q -x -e 'fault: Memory' -e 'fault: line [0-9][0-9]*: Memory' "$work/$1.fault" || return 1
-    [ "$word" = run ] || [ ! -s "$work/$1.out" ] || return 1
-    head -n "$(wc -l < "$work/$1.out")" "$work/0.out" | cmp -s - "$work/$1.out"
-}
-
-is_whole() {
-    [ "$(cat "$work/$1.status")" = 0 ] && cmp -s "$work/0.out" "$work/$1.out"
-}
-
+# Tells of one call: its name, its requests, how many were told, and what was wrong, if anything.
 finish() {
-    echo "from allocation $first on, $refused were refused and told, and the run did without $spare more: $(($(date +%s) - began)) s"
-    exit "$1"
+    all=$((all + $2))
+    if [ "$4" ]; then
+        failed=$((failed + 1))
+        echo "FAILED $1, at request $2: $4"
+    else
+        passed=$((passed + 1))
+        echo "$1: $2 requests, $3 told"
+    fi
 }
 
-try 0
-if [ "$(cat "$work/0.status")" != 0 ]; then
-    cat "$work/0.err" >&2
-    exit 2
-fi
-
-refused=0
-spare=0
-in_a_row=0
-n=$first
-while [ "$n" -le "$last" ]; do
-    pids=
-    i=$n
-    while [ "$i" -lt $((n + jobs)) ]; do
-        try "$i" &
-        pids="$pids $!"
-        i=$((i + 1))
-    done
-    # shellcheck disable=SC2086
-    wait $pids
-    while [ "$n" -lt "$i" ]; do
-        if is_refused "$n"; then
-            refused=$((refused + 1))
-            spare=$((spare + in_a_row))
-            in_a_row=0
-            echo "allocation $n: $(cat "$work/$n.fault"), behind $(wc -l < "$work/$n.out") lines"
-        elif is_whole "$n"; then
-            in_a_row=$((in_a_row + 1))
-            echo "allocation $n: the whole output"
-            [ "$in_a_row" -lt 10 ] || finish 0
-        else
-            echo "allocation $n: status $(cat "$work/$n.status"), and neither want of memory nor the whole output" >&2
-            cat "$work/$n.out" "$work/$n.err" >&2
-            finish 1
-        fi
+# Refuses each request of case $1, whose line without a refusal is $2.
+refuse_case() {
+    name=${2%: ok}
+    told=0
+    n=0
+    wrong=
+    sed "$1d" "$work/plain" > "$work/others"
+    while [ ! "$wrong" ]; do
+        refuse "$1" $((n + 1)) "$cases" || wrong="status $?"
+        line=$(sed -n "$1p" "$work/out")
+        [ "$(sed -n "$1p" "$work/counts")" -gt "$n" ] || break
         n=$((n + 1))
+        case $line in
+            "$name: ok, want of memory") told=$((told + 1)) ;;
+            "$name: ok, did without") ;;
+            *) wrong=$line ;;
+        esac
+        sed "$1d" "$work/out" | cmp -s - "$work/others" || wrong="another case than this: $line"
     done
-done
-echo "allocation $last was the last that was tried"
-finish 0
+    [ "$line" = "$2" ] || wrong=$line
+    [ "$n" = 0 ] || [ "$name" = "${name#none: }" ] || wrong="it asked for memory"
+    finish "$name" "$n" "$told" "$wrong"
+}
+
+# Whether the last run answered want of memory, behind whole lines of the output. A view's comes before any.
+is_told() {
+    grep -c '^fault: ' "$work/err" | grep -q -x 1 || return 1
+    grep -q -x -e 'fault: Memory' -e 'fault: line [0-9][0-9]*: Memory' "$work/err" || return 1
+    [ "$1" = run ] || [ ! -s "$work/out" ] || return 1
+    head -n "$(wc -l < "$work/out")" "$work/plain" | cmp -s - "$work/out"
+}
+
+# Refuses each request of the program's command $1.
+refuse_program() {
+    told=0
+    n=0
+    wrong=
+    while [ ! "$wrong" ]; do
+        refuse 0 $((n + 1)) "$program" "$1"
+        status=$?
+        [ "$(cat "$work/counts")" -gt "$n" ] || break
+        n=$((n + 1))
+        if [ "$status" = 1 ] && is_told "$1"; then
+            told=$((told + 1))
+        elif [ "$status" != 0 ] || ! cmp -s "$work/plain" "$work/out"; then
+            wrong="status $status, and neither want of memory nor the whole output"
+        fi
+    done
+    cmp -s "$work/plain" "$work/out" || wrong=${wrong:-another output}
+    finish "taskscope $1" "$n" "$told" "$wrong"
+}
+
+: > "$work/input"
+"$cases" > "$work/plain" || { cat "$work/plain"; exit 1; }
+k=0
+while IFS= read -r line <&3; do
+    k=$((k + 1))
+    refuse_case "$k" "$line"
+done 3< "$work/plain"
+
+printf 'task 100 spawn main\npublish 200\npublish 300\n' > "$work/input"
+"$program" run < "$work/input" > "$work/plain" || exit 2
+refuse_program run
+cp "$root/examples/semaphore.script.stdout" "$work/input" || exit 2
+"$program" view < "$work/input" > "$work/plain" || exit 2
+refuse_program view
+
+echo "$all requests were refused"
+echo "$passed passed, $failed failed"
+[ "$failed" = 0 ]

@@ -46,11 +46,8 @@ const ROOM: usize = 1_048_576 - COMMENTED.len();
 
 // What becomes of a script that would write one line, by how its reader goes on behind it.
 #[rattlefmt::skip]
-const READERS: [(&str, &[u8], usize, bool, &str); 7] = [
+const READERS: [(&str, &[u8], usize, bool, &str); 4] = [
     ("it ends",                              MAIN,      0,                        false, ""),
-    ("it fails at its end",                  MAIN,      0,                        true,  "Read"),
-    ("it fails within a line",               b"task 1", 0,                        true,  "Read"),
-    ("it fails before any byte",             b"",       0,                        true,  "Read"),
     ("it gives as many bytes as it may",     COMMENTED, ROOM,                      false, ""),
     ("it gives one byte too many",           COMMENTED, ROOM + 1,                  false, "Read"),
     ("it gives bytes for ever",              COMMENTED, 9_223_372_036_854_775_807, false, "Read"),
@@ -82,6 +79,22 @@ fn assert_all_come_to<R: Abort + Threads + Wait + Sync + AllocGlobal>(
             fails: *fails,
         };
         assert!(rt; comes_to(rt, &mut reader, fault), "{case}");
+    }
+}
+
+fn fails_after<R: Threads + Wait + Sync + AllocGlobal>(rt: &R, front: &'static [u8]) -> bool {
+    let mut reader = Trickle {
+        bytes: front,
+        padding: 0,
+        fails: true,
+    };
+    runs_from(rt, &mut reader, "Read", "")
+}
+
+#[test]
+fn a_reader_that_fails_after_any_front_writes_nothing(rt: HostRuntime) {
+    for k in 0..=MAIN.len() {
+        assert!(rt; fails_after(&rt, &MAIN[..k]), "after {k} bytes");
     }
 }
 
