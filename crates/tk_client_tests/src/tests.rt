@@ -5,7 +5,6 @@ mod faults;
 mod given;
 mod memory;
 mod pieces;
-mod plain;
 mod random;
 mod rows;
 mod spelled;

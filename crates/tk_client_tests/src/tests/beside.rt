@@ -1,12 +1,12 @@
 //! Random lines, fed to a client and taken plainly: faults, tables and warnings are the same behind each.
 
 use super::given::{Came, fed, holds};
-use super::plain::{Held, Plain};
-use super::random::{Given, line_behind};
+use super::random::line_behind;
 use super::spelled::{Row, is_spawn, row_of, text_of};
 use rand_pcg::Pcg32;
 use std::alloc::{AllocError, Global};
 use tk_client::{Client, Lints, Warning, WarningKind};
+use tk_plain_client::{Given, Held, Plain};
 
 const ALLOWED: usize = 65_536;
 

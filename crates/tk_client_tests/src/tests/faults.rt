@@ -5,12 +5,23 @@ use super::given::{
 };
 use super::texts as text;
 use std::alloc::Global;
-use tk_client::Client;
+use tk_client::{Client, Fault, FeedError};
 
 const ALLOWED: usize = 16_777_216;
 
+// What comes of the byte at which a stream fails that is fed byte by byte.
+fn fed_to_fault(client: &mut Client, bytes: &[u8]) -> Option<Came> {
+    for piece in bytes.chunks(1) {
+        let came = fed(client, piece);
+        if came.code != 0 {
+            return Some(came);
+        }
+    }
+    None
+}
+
 // Whether the bytes come to this, whole and byte by byte, whether the tables are then those of that text, whether the client
-// then answers `Failed`, and whether it takes line 1 after a restart.
+// then answers `Failed`, and whether it takes line 1 after a restart. The call with the fault takes one byte and applies no line.
 fn comes(
     alloc: Global,
     client: &mut Client,
@@ -19,15 +30,23 @@ fn comes(
     tables: &[u8],
     first: &[u8],
 ) -> bool {
+    let at_last_byte = Came {
+        code: wanted.code,
+        lines: 0,
+        used: 1,
+    };
     let whole = fed(client, bytes);
     let stays = holds(alloc, client, tables);
     let failed = fed(client, bytes);
     client.restart();
     let bytewise = fed_in_pieces(client, bytes, 1);
     client.restart();
+    let last = fed_to_fault(client, bytes);
+    client.restart();
     let again = fed(client, first);
     whole == wanted
         && bytewise == wanted
+        && last == Some(at_last_byte)
         && stays
         && failed.code == 9
         && failed.lines == 0
@@ -89,47 +108,59 @@ fn faults(alloc: Global, bytes: Option<Vec<u8>>, code: u32, lines: u64, before: 
     }
 }
 
-fn is_no_json(client: &mut Client, bytes: &[u8]) -> bool {
-    let wanted = Came {
-        code: 2,
-        lines: 0,
-        used: bytes.len(),
-    };
-    client.restart();
-    let whole = fed(client, bytes);
-    client.restart();
-    let bytewise = fed_in_pieces(client, bytes, 1);
-    whole == wanted && bytewise == wanted
-}
-
-fn front_is_no_json(alloc: Global, client: &mut Client, front: &[u8]) -> bool {
-    match both(alloc, front, b"\n") {
-        Some(bytes) => is_no_json(client, &bytes),
-        None => false,
-    }
-}
-
 // Whether a line end behind each front of a line is no JSON.
-fn no_front_is_json(alloc: Global, client: &mut Client, line: &[u8]) -> bool {
-    for n in 0..line.len() {
-        if n + 1 < line.len() && !front_is_no_json(alloc, client, &line[..n]) {
+fn no_front_is_json(alloc: Global, line: &[u8]) -> bool {
+    for n in 0..line.len().saturating_sub(1) {
+        if !faults(alloc, both(alloc, &line[..n], b"\n"), 2, 0, b"") {
             return false;
         }
     }
     true
 }
 
-fn new_client_finds_no_json(alloc: Global, line: &[u8]) -> bool {
+#[test]
+fn fronts_are_no_json(rt: HostRuntime) {
+    match first_line(rt.alloc()) {
+        Some(line) => assert!(rt; no_front_is_json(rt.alloc(), &line)),
+        None => assert!(rt; false, "no line"),
+    }
+}
+
+fn is_held(alloc: Global, front: &[u8]) -> bool {
+    let wanted = Came {
+        code: 0,
+        lines: 0,
+        used: front.len(),
+    };
     match Client::new(alloc, ALLOWED) {
-        Ok(mut client) => no_front_is_json(alloc, &mut client, line),
+        Ok(mut client) => fed(&mut client, front) == wanted,
         Err(_) => false,
     }
 }
 
+// Whether each front of a line is held without a fault, and the snapshot behind one that isn't empty is no JSON.
+fn no_front_goes_on(alloc: Global, line: &[u8], snapshot: &[u8]) -> bool {
+    for k in 0..line.len() {
+        let front = &line[..k];
+        let goes_on = !front.is_empty() && !faults(alloc, both(alloc, front, snapshot), 2, 0, b"");
+        if goes_on || !is_held(alloc, front) {
+            return false;
+        }
+    }
+    true
+}
+
+fn no_front_goes_on_in_snapshot(alloc: Global, line: &[u8]) -> bool {
+    match opened_line(alloc, "1", "true", "200", text::main_task()) {
+        Some(snapshot) => no_front_goes_on(alloc, line, &snapshot),
+        None => false,
+    }
+}
+
 #[test]
-fn fronts_are_no_json(rt: HostRuntime) {
+fn a_snapshot_goes_on_behind_no_front(rt: HostRuntime) {
     match first_line(rt.alloc()) {
-        Some(line) => assert!(rt; new_client_finds_no_json(rt.alloc(), &line)),
+        Some(line) => assert!(rt; no_front_goes_on_in_snapshot(rt.alloc(), &line)),
         None => assert!(rt; false, "no line"),
     }
 }
@@ -173,6 +204,55 @@ fn other_shapes_are_no_lines(rt: HostRuntime) {
 // Whether the first line twice comes to a gap.
 fn repeated_line_is_gap(alloc: Global, first: &[u8]) -> bool {
     faults(alloc, both(alloc, first, first), 4, 1, first)
+}
+
+// The number that was expected and the one that was found, in pieces of a size.
+fn gap_in(client: &mut Client, bytes: &[u8], size: usize) -> Option<(u64, u64)> {
+    client.restart();
+    for piece in bytes.chunks(size.max(1)) {
+        if let Err(
+            FeedError {
+                fault: Fault::Gap { expected, found },
+                ..
+            },
+        ) = client.feed(piece)
+        {
+            return Some((expected, found));
+        }
+    }
+    None
+}
+
+fn has_gap(alloc: Global, bytes: &[u8], wanted: (u64, u64)) -> bool {
+    match Client::new(alloc, ALLOWED) {
+        Ok(mut client) => {
+            gap_in(&mut client, bytes, bytes.len()) == Some(wanted)
+                && gap_in(&mut client, bytes, 1) == Some(wanted)
+        }
+        Err(_) => false,
+    }
+}
+
+fn tells_gap(alloc: Global, bytes: Option<Vec<u8>>, wanted: (u64, u64)) -> bool {
+    match bytes {
+        Some(bytes) => has_gap(alloc, &bytes, wanted),
+        None => false,
+    }
+}
+
+fn repeated_line_tells_gap(alloc: Global, first: &[u8]) -> bool {
+    tells_gap(alloc, both(alloc, first, first), (2, 1))
+}
+
+#[test]
+fn gaps_tell_both_numbers(rt: HostRuntime) {
+    let alloc = rt.alloc();
+    match first_line(alloc) {
+        Some(first) => assert!(rt; repeated_line_tells_gap(alloc, &first)),
+        None => assert!(rt; false, "no line"),
+    }
+    let late = opened_line(alloc, "3", "false", "5", "[]");
+    assert!(rt; tells_gap(alloc, late, (1, 3)));
 }
 
 // The number comes before the ids: the late line also tells of an unknown item.
@@ -222,10 +302,12 @@ fn are_too_long(client: &mut Client, line: &[u8]) -> bool {
     let whole = fed(client, b"aaaaaaaaaaa");
     client.restart();
     let bytewise = fed_in_pieces(client, b"aaaaaaaaaaa", 1);
+    let failed = fed(client, line);
     client.restart();
     let again = fed(client, line);
     whole == wanted
         && bytewise == wanted
+        && failed.code == 9
         && again == wanted
         && client.tables().task_count() == 0
         && client.tables().now() == 0

@@ -3,49 +3,7 @@
 use rand_core::Rng;
 use rand_pcg::Pcg32;
 use std::alloc::{AllocError, Global};
-
-/// A new item: its id, and which of four lists of attributes it has, or which kind of task it is.
-#[derive(Clone, Copy)]
-pub(super) struct New {
-    pub(super) id: u64,
-    pub(super) shape: u64,
-}
-
-/// What is told of an item: its id, the list of attributes that its values are of, and a number that its row is made from.
-#[derive(Clone, Copy)]
-pub(super) struct Told {
-    pub(super) id: u64,
-    pub(super) shape: u64,
-    pub(super) seed: u64,
-}
-
-/// What a line says of one kind of item.
-#[derive(Drop)]
-pub(super) struct Part {
-    pub(super) news: Vec<New>,
-    pub(super) told: Vec<Told>,
-}
-
-/// How a line is spoilt.
-#[derive(Clone, Copy, Drop, PartialEq, Eq)]
-pub(super) enum Spoilt {
-    Whole,
-    NoJson,
-    NoLine,
-}
-
-/// A line.
-#[derive(Drop)]
-pub(super) struct Given {
-    pub(super) tasks: Part,
-    pub(super) resources: Part,
-    pub(super) ops: Part,
-    pub(super) counts: Vec<(u64, u64, u64)>,
-    pub(super) seq: u64,
-    pub(super) snapshot: bool,
-    pub(super) now: u64,
-    pub(super) spoilt: Spoilt,
-}
+use tk_plain_client::{Given, New, Part, Spoilt, Told};
 
 /// A number below another one.
 pub(super) fn below(random: &mut Pcg32, limit: u32) -> u64 {

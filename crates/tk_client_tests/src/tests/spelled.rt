@@ -1,7 +1,7 @@
 //! The texts of the random lines, in the order and spelling of a line that is written.
 
-use super::random::{Given, New, Spoilt, Told};
 use std::alloc::{AllocError, Global};
+use tk_plain_client::{Given, New, Spoilt, Told};
 
 /// What the warnings look at in a task's row.
 #[derive(Clone, Copy)]

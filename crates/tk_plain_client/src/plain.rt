@@ -1,24 +1,24 @@
 //! What a client makes of lines, computed plainly: each rule by a look through whole lists.
 
-use super::random::{Given, New, Part, Spoilt, Told};
+use crate::line::{Given, New, Part, Spoilt, Told};
 use std::alloc::{AllocError, Global};
 
 /// An item that is held.
 #[derive(Clone, Copy)]
-pub(super) struct Held {
-    pub(super) new: New,
-    pub(super) told: Told,
+pub struct Held {
+    pub new: New,
+    pub told: Told,
 }
 
 /// What is held.
 #[derive(Drop)]
-pub(super) struct Plain {
-    pub(super) tasks: Vec<Held>,
-    pub(super) resources: Vec<Held>,
-    pub(super) ops: Vec<Held>,
-    pub(super) counts: Vec<(u64, u64, u64)>,
-    pub(super) now: u64,
-    pub(super) last: Option<u64>,
+pub struct Plain {
+    pub tasks: Vec<Held>,
+    pub resources: Vec<Held>,
+    pub ops: Vec<Held>,
+    pub counts: Vec<(u64, u64, u64)>,
+    pub now: u64,
+    pub last: Option<u64>,
 }
 
 fn has(held: &[Held], id: u64) -> bool {
@@ -176,7 +176,7 @@ fn part_of(alloc: Global, held: &[Held]) -> Result<Part, AllocError> {
 }
 
 impl Plain {
-    pub(super) fn new(alloc: Global) -> Plain {
+    pub fn new(alloc: Global) -> Plain {
         Plain {
             tasks: Vec::new(alloc),
             resources: Vec::new(alloc),
@@ -188,7 +188,7 @@ impl Plain {
     }
 
     /// The number that is next.
-    pub(super) fn next(&self) -> u64 {
+    pub fn next(&self) -> u64 {
         match self.last {
             Some(last) => last.saturating_add(1),
             None => 1,
@@ -196,7 +196,7 @@ impl Plain {
     }
 
     /// The tasks, resources and operations that are held.
-    pub(super) fn held(&self, alloc: Global) -> Result<(Vec<New>, Vec<New>, Vec<New>), AllocError> {
+    pub fn held(&self, alloc: Global) -> Result<(Vec<New>, Vec<New>, Vec<New>), AllocError> {
         let tasks = news_of(alloc, &self.tasks)?;
         let resources = news_of(alloc, &self.resources)?;
         let ops = news_of(alloc, &self.ops)?;
@@ -251,7 +251,7 @@ impl Plain {
     }
 
     /// Takes a line. It answers the fault's number, 0 without one; a line with a fault changes nothing.
-    pub(super) fn take(&mut self, alloc: Global, line: &Given) -> Result<u32, AllocError> {
+    pub fn take(&mut self, alloc: Global, line: &Given) -> Result<u32, AllocError> {
         match line.spoilt {
             Spoilt::NoJson => return Ok(2),
             Spoilt::NoLine => return Ok(3),
@@ -272,7 +272,7 @@ impl Plain {
     }
 
     /// A line that tells of all that is held, as a snapshot of number 1.
-    pub(super) fn snapshot(&self, alloc: Global) -> Result<Given, AllocError> {
+    pub fn snapshot(&self, alloc: Global) -> Result<Given, AllocError> {
         let tasks = part_of(alloc, &self.tasks)?;
         let resources = part_of(alloc, &self.resources)?;
         let ops = part_of(alloc, &self.ops)?;

@@ -1,0 +1,44 @@
+//! What a line says, as far as it decides how a client takes it.
+
+/// A new item: its id, and a number for the kinds of its attributes, or for which kind of task it is.
+#[derive(Clone, Copy)]
+pub struct New {
+    pub id: u64,
+    pub shape: u64,
+}
+
+/// What is told of an item: its id, a number for the kinds of its attributes' values, and one that its row is made from.
+#[derive(Clone, Copy)]
+pub struct Told {
+    pub id: u64,
+    pub shape: u64,
+    pub seed: u64,
+}
+
+/// What a line says of one kind of item.
+#[derive(Drop)]
+pub struct Part {
+    pub news: Vec<New>,
+    pub told: Vec<Told>,
+}
+
+/// How a line is spoilt.
+#[derive(Clone, Copy, Drop, PartialEq, Eq)]
+pub enum Spoilt {
+    Whole,
+    NoJson,
+    NoLine,
+}
+
+/// A line.
+#[derive(Drop)]
+pub struct Given {
+    pub tasks: Part,
+    pub resources: Part,
+    pub ops: Part,
+    pub counts: Vec<(u64, u64, u64)>,
+    pub seq: u64,
+    pub snapshot: bool,
+    pub now: u64,
+    pub spoilt: Spoilt,
+}

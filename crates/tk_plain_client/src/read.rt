@@ -1,0 +1,156 @@
+//! A line, by its text.
+
+use crate::items::{Kind, new_of, told_of};
+use crate::line::{Given, New, Part, Spoilt, Told};
+use crate::values::{flag, has_members, id_of, list, number};
+use serde_json::Value;
+use std::alloc::{AllocError, Global};
+
+/// Why there is no line.
+#[derive(Clone, Copy, PartialEq, Eq)]
+enum Unread {
+    NoJson,
+    NoLine,
+    Memory,
+}
+
+fn list_at<'v>(value: &'v Value, key: &str) -> Result<&'v [Value], Unread> {
+    list(value, key).ok_or(Unread::NoLine)
+}
+
+fn news_at(alloc: Global, value: &Value, key: &str, kind: Kind) -> Result<Vec<New>, Unread> {
+    let mut news = Vec::new(alloc);
+    for item in list_at(value, key)? {
+        let found = new_of(kind, item).ok_or(Unread::NoLine)?;
+        if news.push(found).is_err() {
+            return Err(Unread::Memory);
+        }
+    }
+    Ok(news)
+}
+
+fn told_at(alloc: Global, value: &Value, key: &str, kind: Kind) -> Result<Vec<Told>, Unread> {
+    let mut told = Vec::new(alloc);
+    for row in list_at(value, key)? {
+        let found = told_of(kind, row).ok_or(Unread::NoLine)?;
+        if told.push(found).is_err() {
+            return Err(Unread::Memory);
+        }
+    }
+    Ok(told)
+}
+
+fn part_at(alloc: Global, value: &Value, keys: (&str, &str), kind: Kind) -> Result<Part, Unread> {
+    let news = news_at(alloc, value, keys.0, kind)?;
+    let told = told_at(alloc, value, keys.1, kind)?;
+    Ok(Part { news, told })
+}
+
+// A resource with its ready and its pending polls.
+fn count_of(value: &Value) -> Option<(u64, u64, u64)> {
+    match value.as_array()?.as_slice() {
+        [resource, ready, pending] => {
+            Some((id_of(resource)?, ready.as_u64()?, pending.as_u64()?))
+        }
+        _ => None,
+    }
+}
+
+fn counts_at(alloc: Global, value: &Value) -> Result<Vec<(u64, u64, u64)>, Unread> {
+    let mut counts = Vec::new(alloc);
+    for count in list_at(value, "poll_counts")? {
+        let found = count_of(count).ok_or(Unread::NoLine)?;
+        if counts.push(found).is_err() {
+            return Err(Unread::Memory);
+        }
+    }
+    Ok(counts)
+}
+
+fn are_three_numbers(value: &Value, key: &str) -> bool {
+    match list(value, key) {
+        Some([tasks, resources, ops]) => {
+            tasks.as_u64().is_some() && resources.as_u64().is_some() && ops.as_u64().is_some()
+        }
+        _ => false,
+    }
+}
+
+// Whether the value has the keys of a line, of version 1.
+fn is_framed(value: &Value) -> bool {
+    has_members(value, 12) && are_three_numbers(value, "dropped") && number(value, "v") == Some(1)
+}
+
+// The line's number, from 1 to 2^63.
+fn seq_of(value: &Value) -> Option<u64> {
+    match number(value, "seq") {
+        Some(seq) if seq >= 1 && seq <= 1 << 63 => Some(seq),
+        _ => None,
+    }
+}
+
+fn of_value(alloc: Global, value: &Value) -> Result<Given, Unread> {
+    if !is_framed(value) {
+        return Err(Unread::NoLine);
+    }
+    let seq = seq_of(value).ok_or(Unread::NoLine)?;
+    let now = number(value, "now").ok_or(Unread::NoLine)?;
+    let snapshot = flag(value, "snapshot").ok_or(Unread::NoLine)?;
+    let tasks = part_at(alloc, value, ("new_tasks", "task_stats"), Kind::Task)?;
+    let resources = part_at(
+        alloc,
+        value,
+        ("new_resources", "resource_stats"),
+        Kind::Resource,
+    )?;
+    let ops = part_at(alloc, value, ("new_ops", "op_stats"), Kind::Op)?;
+    let counts = counts_at(alloc, value)?;
+    Ok(Given {
+        tasks,
+        resources,
+        ops,
+        counts,
+        seq,
+        snapshot,
+        now,
+        spoilt: Spoilt::Whole,
+    })
+}
+
+fn of_text(alloc: Global, text: &[u8]) -> Result<Given, Unread> {
+    match Value::from_slice(alloc, text) {
+        Ok(value) => of_value(alloc, &value),
+        Err(error) if error.is_memory() => Err(Unread::Memory),
+        Err(_) => Err(Unread::NoJson),
+    }
+}
+
+fn nothing(alloc: Global) -> Part {
+    Part {
+        news: Vec::new(alloc),
+        told: Vec::new(alloc),
+    }
+}
+
+fn spoilt_line(alloc: Global, spoilt: Spoilt) -> Given {
+    Given {
+        tasks: nothing(alloc),
+        resources: nothing(alloc),
+        ops: nothing(alloc),
+        counts: Vec::new(alloc),
+        seq: 0,
+        snapshot: false,
+        now: 0,
+        spoilt,
+    }
+}
+
+/// The line of a text, its end left out.
+pub(crate) fn line_of(alloc: Global, text: &[u8]) -> Result<Given, AllocError> {
+    match of_text(alloc, text) {
+        Ok(line) => Ok(line),
+        Err(Unread::NoJson) => Ok(spoilt_line(alloc, Spoilt::NoJson)),
+        Err(Unread::NoLine) => Ok(spoilt_line(alloc, Spoilt::NoLine)),
+        Err(Unread::Memory) => Err(AllocError),
+    }
+}
