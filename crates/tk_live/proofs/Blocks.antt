@@ -241,7 +241,7 @@ join_came answers n capacity c kept sent i new b (Err stop) is apart stands ran 
 
 -- a worker's line goes on, or it doesn't
 pub work_came : (answers : ℕ → Bool → Type 0) (n capacity : ℕ) (c : Course) (kept : List Bool) (sent : List Sending) (i : Interpreter) (old new : OpenBlock) (k : Worker) (l : WorkerLine) (ws : Wakers) (result : Result (Unit {0}) Stop)
-    → c.block ≡ Some (block_of old) → Apart old.first.items old.second.items → StandsFor i capacity c kept sent → ws ≡ c.names.wakers
+    → c.block ≡ Some (block_of old) → Apart old.first old.second → StandsFor i capacity c kept sent → ws ≡ c.names.wakers
     → OnOk result (work_stop (lines_of_worker k (block_of old)) (lines_of_other k (block_of old)) ws l ≡ None)
     → OnOk result (block_of new ≡ with_line k l (block_of old))
     → IfErr result (λ stop. (work_stop (lines_of_worker k (block_of old)) (lines_of_other k (block_of old)) ws l ≡ Some stop) ⊎ (stop ≡ Memory)) → BlockCame answers capacity c kept sent n (works k l) i (Some new) result

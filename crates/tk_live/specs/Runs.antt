@@ -140,7 +140,7 @@ Comes next line s old new result before behind =
 
 -- the lines of a block
 abbrev pub block_of : OpenBlock → Block
-block_of b = record { first = b.first.items; second = b.second.items }
+block_of b = record { first = b.first; second = b.second }
 
 -- the block that is open, if one is, has the lines that the text tells, and no waker with lines of both workers
 pub record IsOpen (block : Option OpenBlock) (c : Course) : Type 0 where

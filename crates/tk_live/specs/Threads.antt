@@ -1,6 +1,7 @@
 -- The wakers of a block's threads. Inner: no public clause cites it.
-use Rattle.std.specs.Prelude.{◌≡◌, ℕ, ◌<◌, ◌==◌, ◌&&◌, List, map, length, Bool, true, false, Option, Some, None, option_map}
+use Rattle.std.specs.Prelude.{◌≡◌, ℕ, ◌<◌, ◌==◌, ◌&&◌, nat_eq, List, map, length, Bool, true, false, Option, Some, None, option_map, if◌then◌else◌}
 use Rattle.std.specs.Global.{Vec}
+use Rattle.std.specs.HashMap.{HashMap, get}
 use Rattle.std.specs.List.{list_any}
 use Rattle.std.specs.Option.{option_or}
 use Rattle.tk_ledgers.specs.Tasks.{TaskSight}
@@ -20,6 +21,10 @@ Apart first second = (n : ℕ) → is_named n first ≡ true → is_named n seco
 -- lines have the last call of a waker
 abbrev pub spends : ℕ → List WorkerLine → Bool
 spends n ls = list_any (λ l. (l.waker == n) && is_last l.call) ls
+
+-- marks tell of each waker whether lines name it, and whether they have its last call
+abbrev pub AreMarked : {S : Type 0} → List WorkerLine → HashMap ℕ Bool S → Type 0
+AreMarked ls marks = (n : ℕ) → get nat_eq marks n ≡ if is_named n ls then Some (spends n ls) else None
 
 -- the waker of a number went to the same place of another list, if it was there
 pub record Moved {X : Type 0} (n : ℕ) (from to from' to' : List (Option X)) : Type 0 where

@@ -1,10 +1,9 @@
 //! Blocks of threads: what their lines say, and the lines of one that is open.
 ghost use Rattle.std.specs.Prelude.{◌≡◌, ◌⊎◌, ◌++◌, ◌∷◌, [], None, Some, option_map, OnOk, IfErr};
-ghost use Rattle.tk_live.specs.Blocks as blocks;
 ghost use Rattle.tk_live.specs.Commands as spec;
 ghost use Rattle.tk_live.specs.Pieces.{pieces_left};
 ghost use Rattle.tk_live.specs.Stops.{work_stop};
-ghost use Rattle.tk_live.specs.Threads.{callers, spends};
+ghost use Rattle.tk_live.specs.Threads.{callers};
 ghost use Rattle.tk_live.specs.declared.stop.Stop.TheVariants as stops;
 
 use crate::pieces::Pieces;
@@ -12,6 +11,7 @@ use crate::seats::is_live;
 use crate::stop::Stop;
 use crate::words::{moment_of, one_number, two_numbers};
 use crate::worker::Wakers;
+use crate::worker_lines::WorkerLines;
 use std::alloc::Global;
 
 /// A worker of a block, which is one thread.
@@ -117,44 +117,20 @@ pub fn block_said(line: &[u8]) -> Option<BlockSaid>
     Some(BlockSaid::Works(worker, line))
 }
 
-fn is_last(call: WakerCall) -> bool
-    ensures { result ≡ blocks.is_last call }
-{
-    match call {
-        WakerCall::WakeRef(_) => false,
-        WakerCall::Wake(_) | WakerCall::Release => true,
-    }
-}
-
-fn is_named(lines: &[WorkerLine], waker: u64) -> bool
-    ensures { result ≡ blocks.is_named waker lines.now }
-{
-    lines.iter().any(|line| line.waker == waker)
-}
-
-// Whether lines have the last call of a waker.
-fn is_spent(lines: &[WorkerLine], waker: u64) -> bool
-    ensures { result ≡ spends waker lines.now }
-{
-    lines
-        .iter()
-        .any(|line| line.waker == waker && is_last(line.call))
-}
-
 // One line more of a worker, beside the lines of the other.
 fn push_line(
-    own: &mut Vec<WorkerLine>,
-    others: &[WorkerLine],
+    own: &mut WorkerLines,
+    others: &WorkerLines,
     wakers: &Wakers,
     line: WorkerLine,
 ) -> Result<(), Stop>
-    ensures ok { OnOk result ((work_stop own.old.items others.now (callers wakers.now.items) line ≡ None) × (own.new.items ≡ own.old.items ++ line ∷ [])) }
-    ensures err { IfErr result (λ stop. (work_stop own.old.items others.now (callers wakers.now.items) line ≡ Some stop) ⊎ (stop ≡ stops.Memory)) }
+    ensures ok { OnOk result ((work_stop own.old others.now (callers wakers.now.items) line ≡ None) × (own.new ≡ own.old ++ line ∷ [])) }
+    ensures err { IfErr result (λ stop. (work_stop own.old others.now (callers wakers.now.items) line ≡ Some stop) ⊎ (stop ≡ stops.Memory)) }
 {
-    if is_named(others, line.waker) {
+    if others.names(line.waker) {
         return Err(Stop::BadCommand);
     }
-    if !is_live(wakers, line.waker) || is_spent(own.as_slice(), line.waker) {
+    if !is_live(wakers, line.waker) || own.spends(line.waker) {
         return Err(Stop::NoSuchItem);
     }
     match own.push(line) {
@@ -166,8 +142,8 @@ fn push_line(
 /// The lines of a block that is open: those of each worker, in order.
 #[derive(Drop)]
 pub(crate) struct OpenBlock {
-    pub(crate) first: Vec<WorkerLine>,
-    pub(crate) second: Vec<WorkerLine>,
+    pub(crate) first: WorkerLines,
+    pub(crate) second: WorkerLines,
 }
 
 impl OpenBlock {
@@ -182,8 +158,8 @@ impl OpenBlock {
         ensures { block_of result ≡ blocks.no_lines }
     {
         OpenBlock {
-            first: Vec::new(alloc),
-            second: Vec::new(alloc),
+            first: WorkerLines::new(alloc),
+            second: WorkerLines::new(alloc),
         }
     }
 
@@ -199,8 +175,8 @@ impl OpenBlock {
         ensures err { IfErr result (λ stop. (work_stop (blocks.lines_of_worker worker (block_of self.old)) (blocks.lines_of_other worker (block_of self.old)) (callers wakers.now.items) line ≡ Some stop) ⊎ (stop ≡ stops.Memory)) }
     {
         match worker {
-            Worker::One => push_line(&mut self.first, self.second.as_slice(), wakers, line),
-            Worker::Two => push_line(&mut self.second, self.first.as_slice(), wakers, line),
+            Worker::One => push_line(&mut self.first, &self.second, wakers, line),
+            Worker::Two => push_line(&mut self.second, &self.first, wakers, line),
         }
     }
 }

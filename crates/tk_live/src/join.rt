@@ -203,9 +203,9 @@ pub(crate) fn run_block<R: Threads + Wait + Sync, G: Gate + Sync>(
     wakers: Wakers,
     block: &OpenBlock,
 ) -> Result<Wakers, Stop>
-    ensures made { IfOk result (λ after. Apart block.now.first.items block.now.second.items → callers after.items ≡ after_block (block_of block.now) (callers wakers.items)) }
-    ensures first_asked { IfOk result (λ after. 0 < length block.now.first.items → G.answers gate.now 1 true) }
-    ensures second_asked { IfOk result (λ after. 0 < length block.now.second.items → G.answers gate.now 2 true) }
+    ensures made { IfOk result (λ after. Apart block.now.first block.now.second → callers after.items ≡ after_block (block_of block.now) (callers wakers.items)) }
+    ensures first_asked { IfOk result (λ after. 0 < length block.now.first → G.answers gate.now 1 true) }
+    ensures second_asked { IfOk result (λ after. 0 < length block.now.second → G.answers gate.now 2 true) }
     ensures err { IfErr result (EndsIn (Closes (G.answers gate.now) (block_of block.now))) }
 {
     let first = block.first.as_slice();

@@ -21,6 +21,7 @@ mod stop;
 mod transfer;
 mod words;
 mod worker;
+mod worker_lines;
 
 pub use block::{BlockSaid, WakerCall, Worker, WorkerLine, block_said};
 pub use command::{Command, command_of};

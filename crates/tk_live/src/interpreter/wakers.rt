@@ -102,7 +102,7 @@ impl Interpreter {
         gate: &G,
         block: &OpenBlock,
     ) -> Result<(), Stop>
-        ensures ok { OnOk result ((capacity : ℕ) (c : Course) (kept : List Bool) (sent : List Sending) → Apart block.now.first.items block.now.second.items
+        ensures ok { OnOk result ((capacity : ℕ) (c : Course) (kept : List Bool) (sent : List Sending) → Apart block.now.first block.now.second
             → StandsFor self.old capacity c kept sent → StandsFor self.new capacity (joined c (block_of block.now)) kept sent) }
         ensures same { (self.new.recorder ≡ self.old.recorder) × (self.new.taker ≡ self.old.taker) × (self.new.aggregator ≡ self.old.aggregator) }
         ensures err { IfErr result (EndsIn (Closes (G.answers gate.now) (block_of block.now))) }
