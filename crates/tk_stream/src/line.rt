@@ -50,6 +50,15 @@ use std::mem;
 use tk_core::{OpRow, ResourceRow, TaskRow};
 use tk_ids::{AsyncOpId, Dropped, OpInfo, ResourceId, ResourceInfo, TaskId, TaskInfo};
 
+// So many bytes most texts have at most: the keys of a line, an info, the poll counts of a resource, and a row.
+const KEYS_ROOM: usize = 256;
+
+const INFO_ROOM: usize = 256;
+
+const COUNTS_ROOM: usize = 48;
+
+const ROW_ROOM: usize = 384;
+
 /// What one line of a stream says. A line is made by [`Line::between`] and [`Line::read`] alone.
 #[derive(Debug, Drop)]
 pub struct Line {
@@ -223,9 +232,23 @@ impl Line {
         ensures memory { IfErr result (λ e. e ≡ LineError.Memory) }
         ensures reads_back { IfOk result (λ text. line_of_text text.items ≡ Ok self.now) }
     {
-        let mut out = Vec::new(*self.new_tasks.allocator());
+        let mut out = Vec::with_capacity(*self.new_tasks.allocator(), self.room())?;
         self.put(&mut out)?;
         Ok(out)
+    }
+
+    // Room for the texts of most lines, so that few of them grow while they are written.
+    fn room(&self) -> usize {
+        let infos = (self.new_ops.len())
+            .saturating_add(self.new_resources.len())
+            .saturating_add(self.new_tasks.len());
+        let rows = (self.op_stats.len())
+            .saturating_add(self.resource_stats.len())
+            .saturating_add(self.task_stats.len());
+        KEYS_ROOM
+            .saturating_add(infos.saturating_mul(INFO_ROOM))
+            .saturating_add(self.poll_counts.len().saturating_mul(COUNTS_ROOM))
+            .saturating_add(rows.saturating_mul(ROW_ROOM))
     }
 
     fn put(&self, out: &mut Vec<u8>) -> Result<(), AllocError>

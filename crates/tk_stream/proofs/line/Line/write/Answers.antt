@@ -9,7 +9,7 @@ use Rattle.tk_stream.proofs.line.Line.write.Goals as goal
 pub returns : goal.returns
 returns c =
     let text : c.put.new.out.items ≡ line_text c.args.self.now =
-    c.in_ok-put.ensures.is ∙ ap (λ xs. xs ++ line_text c.args.self.now) c.new-out.ensures.items in
+    c.in_ok-put.ensures.is ∙ ap (λ xs. xs ++ line_text c.args.self.now) c.in_ok-out.ensures.items in
     record {
       text = text;
       one_line = ap is_one_line text ∙ text_is_one_line c.args.self.now;
