@@ -16,7 +16,7 @@ ghost use Rattle.tk_events.specs.declared.event.Event.TheVariants as events;
 ghost use Rattle.tk_events.specs.Items.{Agrees};
 ghost use Rattle.tk_aggregator.specs.Absorbing.{infos_of};
 ghost use Rattle.tk_aggregator.specs.Finished.{HoldAllKept};
-ghost use Rattle.tk_aggregator.specs.Aggregates.{Aggregating, new_aggregating, IsSound, IsLaterOf, IsSameStream, Refreshes, ReadsTasks, ReadsResources, ReadsOps, TakesIn, Collects, RunsOut, TookMore, FollowsTaker, GathersUpTo, Comes, TellsTotals, WasEmpty, dropped_in, line_at, sending_at, after_line, MayGoOn, IsDue, Refuses};
+ghost use Rattle.tk_aggregator.specs.Aggregates.{new_aggregating, IsSound, IsLaterOf, IsSameStream, Refreshes, ReadsTasks, ReadsResources, ReadsOps, TakesIn, Collects, RunsOut, TookMore, FollowsTaker, GathersUpTo, Comes, TellsTotals, WasEmpty, dropped_in, line_at, sending_at, after_line, MayGoOn, IsDue, Refuses};
 ghost use Rattle.tk_stream.specs.Polls.{counted};
 ghost use Rattle.tk_stream.specs.Spelling.{sent_text};
 ghost use Rattle.tk_stream.specs.Streams.{IsStreamTo, MaySend};

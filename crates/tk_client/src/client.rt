@@ -100,7 +100,7 @@ fn take_line(alloc: Global, shown: &mut Shown, last: Option<u64>, text: &[u8]) -
 }
 
 impl Client {
-    ghost use Rattle.tk_client.specs.Meaning.{empty_start, meaning, goes};
+    ghost use Rattle.tk_client.specs.Meaning.{empty_start};
     ghost use Rattle.tk_client.specs.Feeding.{Fed};
     ghost use Rattle.tk_client.specs.Warnings.{warnings_in};
 

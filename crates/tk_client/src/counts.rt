@@ -1,5 +1,5 @@
 //! Poll counts that lines tell.
-ghost use Rattle.std.specs.Prelude.{◌≡◌, ◌++◌, map, filter, true, false, OnOk, OnErr, IsSome};
+ghost use Rattle.std.specs.Prelude.{◌≡◌, ◌++◌, map, filter, false, OnOk, OnErr, IsSome};
 ghost use Rattle.tk_stream.specs.Applied.{counts_after};
 ghost use Rattle.tk_stream.specs.Lines.{is_new};
 ghost use Rattle.tk_stream.specs.Tables.{counts_id, item_with, with_counts};

@@ -1,11 +1,8 @@
 //! A kind of item that tables list, and that lines tell of.
-ghost use Rattle.std.specs.Prelude.{◌≡◌, ◌<◌, ◌++◌, ◌∷◌, [], List, length, map, slice_get, Some, None, IfOk, OnOk, OnErr, option_map, false};
-ghost use Rattle.std.specs.List.{list_any};
-ghost use Rattle.tk_stream.specs.Applied.{Kind, told_item, new_items};
+ghost use Rattle.std.specs.Prelude.{◌≡◌, ◌<◌, ◌++◌, ◌∷◌, [], List, length, Some, OnOk, OnErr, false};
+ghost use Rattle.tk_stream.specs.Applied.{Kind};
 ghost use Rattle.tk_stream.specs.Tables.{TablesView};
-ghost use Rattle.tk_client.specs.Taking as spec;
 ghost use Rattle.tk_client.specs.Told as inner;
-ghost use Rattle.tk_client.specs.Told.{Answers};
 
 use crate::fault::Fault;
 use std::alloc::{AllocError, Global};

@@ -2,10 +2,10 @@
 //!
 //! A line is checked in the order of its faults. Then its new items and counts go in behind the others, which may want memory;
 //! then rows and counts that are there are replaced, which wants none. What went in is cut off again where the line isn't taken.
-ghost use Rattle.std.specs.Prelude.{◌≡◌, ◌==◌, ◌||◌, IfOk, OnOk, OnErr, IfSome, IfNone, map, true, false};
+ghost use Rattle.std.specs.Prelude.{◌≡◌, ◌||◌, IfOk, OnOk, OnErr, map, true, false};
 ghost use Rattle.std.specs.List.{list_any};
 ghost use Rattle.tk_stream.specs.Applied.{told_item, new_items};
-ghost use Rattle.tk_stream.specs.Tables.{counts_id, AreDistinct};
+ghost use Rattle.tk_stream.specs.Tables.{counts_id};
 ghost use Rattle.tk_client.specs.Taking as spec;
 ghost use Rattle.tk_client.specs.Told as inner;
 ghost use Rattle.tk_client.specs.Told.{Answers};

@@ -1,5 +1,4 @@
 //! Tasks that lines tell of.
-ghost use Rattle.std.specs.Prelude.{◌≡◌};
 
 use crate::listed::Listed;
 use std::alloc::AllocError;

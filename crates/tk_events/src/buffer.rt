@@ -2,7 +2,7 @@
 //!
 //! Each recorder has a pass, which knows what it offered; the taker's pass knows what it took. What was taken of a
 //! recorder, and then what the queue holds of it, is what the recorder's pass knows as kept (`specs/Buffer.antt`).
-ghost use Rattle.std.specs.Prelude.{◌≡◌, ◌+◌, ◌<◌, [], ◌∷◌, Some, None, All, List, IfOk, IfSome, IfNone};
+ghost use Rattle.std.specs.Prelude.{◌≡◌, ◌<◌, Some, All, List, IfOk, IfSome, IfNone};
 ghost use Rattle.std.specs.Arc.{arc_value};
 ghost use Rattle.crossbeam_queue.specs.Fifo.{Held};
 ghost use Rattle.crossbeam_queue.specs.Passes.{view, IsSamePass, IsPassOf, ruled_capacity};

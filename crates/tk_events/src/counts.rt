@@ -2,11 +2,11 @@
 //!
 //! Recorder p, from 1, has the words 3 * (p - 1) + k, where k is the kind. Its seat knows what it counted, the taker's
 //! seat what it read last; a word never falls (`specs/Counts.antt`).
-ghost use Rattle.std.specs.Prelude.{◌≡◌, ◌≢◌, ℕ, ◌+◌, ◌*◌, ◌-◌, ◌^◌, ◌<◌, ◌≤◌, [], length, slice_index, slice_set, IfOk};
+ghost use Rattle.std.specs.Prelude.{◌≡◌, ◌≢◌, ℕ, ◌+◌, ◌*◌, ◌-◌, ◌<◌, ◌≤◌, [], length, slice_index, IfOk};
 ghost use mathlib.Core.Option.{none};
 ghost use Rattle.atomic_table.specs.Table.{step};
 ghost use Rattle.tk_events.specs.declared.counts.view.Role.TheVariants.{Reads as ReadsRole, Adds as AddsRole};
-ghost use Rattle.tk_events.specs.Counts.{first, adds, makes, newborn, tally, takes_in, most, word_of, Reads, total_of, counted_of, IsWhole};
+ghost use Rattle.tk_events.specs.Counts.{first, adds, makes, newborn, takes_in, most, Reads, total_of, counted_of, IsWhole};
 
 pub mod plays;
 pub mod view;

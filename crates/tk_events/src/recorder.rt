@@ -1,5 +1,5 @@
 //! A recorder, which offers events to the buffer.
-ghost use Rattle.std.specs.Prelude.{◌≡◌, ◌↔◌, Err, ◌+◌, ◌-◌, ◌^◌, ◌<◌, ◌≤◌, [], Some, All, length, OnOk, IfOk, IfErr, IsErr};
+ghost use Rattle.std.specs.Prelude.{◌≡◌, ◌↔◌, Err, ◌+◌, ◌-◌, ◌^◌, ◌<◌, ◌≤◌, Some, All, length, OnOk, IfOk, IfErr, IsErr};
 ghost use Rattle.std.specs.Arc.{arc_value};
 ghost use Rattle.crossbeam_queue.specs.Fifo.{Held};
 ghost use Rattle.crossbeam_queue.specs.Passes.{view, IsSamePass, IsPassOf, ruled_capacity};

@@ -1,5 +1,5 @@
 //! A future that drives an executor.
-ghost use Rattle.std.specs.Prelude.{◌≡◌, ℕ, ◌+◌, ◌<◌, ◌≤◌, ◌^◌, Some, IfOk, IfErr};
+ghost use Rattle.std.specs.Prelude.{◌≡◌, ◌+◌, ◌<◌, ◌≤◌, ◌^◌, Some, IfOk, IfErr};
 ghost use Rattle.tk_exec.specs.declared.error.ExecError.TheVariants.{Memory};
 ghost use Rattle.tk_exec.specs.Drives.{idle_after};
 

@@ -1,5 +1,5 @@
 //! A work whose polls are recorded.
-ghost use Rattle.std.specs.Prelude.{◌≡◌, true, false, not, Some, None, IfOk, IfErr, OnErr, is_ok, is_some};
+ghost use Rattle.std.specs.Prelude.{◌≡◌, false, not, Some, None, IfOk, IfErr, OnErr, is_ok, is_some};
 ghost use Rattle.futures.specs.Poll.{IfReady, OnPending};
 ghost use Rattle.tk_core.specs.declared.reply.Refusal.TheVariants.{Closed};
 ghost use Rattle.tk_ledgers.specs.Tasks.{is_polling};

@@ -2,7 +2,7 @@
 //!
 //! A line is a command, its words between single spaces. Empty lines and lines that begin with `#` are
 //! skipped, and counted. A script stops at its first fault, and what the lines before it wrote stays.
-ghost use Rattle.std.specs.Prelude.{◌≡◌, ◌≤◌, ◌∷◌, [], ℕ, List, Bool, length, IfOk};
+ghost use Rattle.std.specs.Prelude.{◌≡◌, ◌≤◌, [], ℕ, List, length, IfOk};
 ghost use Rattle.std.specs.Io.KnownBytes.{Appends};
 ghost use Rattle.tk_live.specs.Commands.{is_skipped, ends_line, last_line, block_line, line_of, lines_of, capacity_of};
 ghost use Rattle.tk_live.specs.Course.{start_of_all};

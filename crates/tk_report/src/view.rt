@@ -1,6 +1,5 @@
 //! Views of a stream: what its tables show, once it was read to its end.
-ghost use Rattle.std.specs.Prelude.{◌≡◌, ◌≤◌, ◌<◌, ◌+◌, ◌^◌, ◌++◌, ℕ, List, length, IfOk, IfErr, OnErr};
-ghost use Rattle.tk_report.specs.Report as spec;
+ghost use Rattle.std.specs.Prelude.{◌≡◌, ◌≤◌, ◌<◌, ◌+◌, ◌^◌, ◌++◌, ℕ, List, length, IfOk, IfErr};
 ghost use Rattle.tk_report.specs.Taken.{HasTaken, Takes, TakesAll, stop_of};
 ghost use Rattle.tk_report.specs.Views as shown;
 ghost use Rattle.tk_client.specs.Warnings.{LintsView, warnings_in};

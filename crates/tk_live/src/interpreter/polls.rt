@@ -1,7 +1,6 @@
 //! Poll operations.
 ghost use Rattle.std.specs.Prelude.{◌≡◌, ◌≤◌, IfOk};
 ghost use Rattle.tk_ids.specs.Ids.{id_of};
-ghost use Rattle.tk_ids.specs.IdBlocks.{last_number};
 
 use super::Interpreter;
 use crate::seats::is_made;
