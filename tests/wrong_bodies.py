@@ -11,7 +11,7 @@ from concurrent.futures import ThreadPoolExecutor
 ROOT = os.path.dirname(os.path.dirname(os.path.abspath(__file__)))
 CRATES = os.path.join(ROOT, "crates")
 # So many edits of a crate are tried in one check at most.
-GROUP = 12
+GROUP = int(os.environ.get("GROUP", "12"))
 # An edit with such a word may change more than a body, so it is tried alone.
 STATES = re.compile(r"\b(ensures|requires|ghost|struct|enum|impl|trait|use|fn|derive)\b")
 # What a proof says that only misses a name which an edit took away tells little of the contract.

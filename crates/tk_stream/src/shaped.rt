@@ -1,5 +1,5 @@
 //! What is read of JSON, and lists of it.
-ghost use Rattle.std.specs.Prelude.{◌≡◌, Option, map};
+ghost use Rattle.std.specs.Prelude.{Option, map};
 ghost use Rattle.serde_json.specs.Data.{Data};
 ghost use Rattle.serde_json.specs.View.{view};
 ghost use Rattle.tk_stream.specs.Outcome.{Answers, shaped};

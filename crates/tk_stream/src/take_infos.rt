@@ -1,5 +1,5 @@
 //! Infos of tasks, resources and async operations, and their attributes, taken from the front of a line's text.
-ghost use Rattle.std.specs.Prelude.{◌≡◌, ◌++◌, false, map, IfSome, IfOk};
+ghost use Rattle.std.specs.Prelude.{◌++◌, false, map, IfSome, IfOk};
 ghost use Rattle.json.specs.Print.{quoted};
 ghost use Rattle.serde_json.specs.View.{items_of};
 ghost use Rattle.serde_json.specs.Written.{compact_text, items_text};

@@ -1,7 +1,7 @@
 //! Pieces of a line's text, each taken from the front of the bytes.
 //!
 //! These take a text as [`crate::Line::write`] spells it. `None` says no more than that it is spelled in another way.
-ghost use Rattle.std.specs.Prelude.{◌≡◌, ◌<◌, ◌+◌, ◌*◌, ◌^◌, ◌∷◌, ◌++◌, [], true, IfSome, IfOk, decimal, option_map};
+ghost use Rattle.std.specs.Prelude.{◌≡◌, ◌<◌, ◌+◌, ◌*◌, ◌^◌, ◌∷◌, ◌++◌, [], true, IfSome, IfOk, decimal};
 ghost use Rattle.std.specs.List.{list_all};
 ghost use Rattle.json.specs.Print.{escape, escape_byte};
 ghost use Rattle.serde_json.specs.Data.{boolean};

@@ -1,6 +1,6 @@
 //! What the last whole line told of the rows of a table.
-ghost use Rattle.std.specs.Prelude.{◌≡◌, ◌≤◌, ◌<◌, ◌+◌, [], length, map, false, None, is_some, slice_get, take, OnOk, OnErr};
-ghost use Rattle.tk_stream.specs.Fronts.{Telling, no_telling, told_item, is_told_beside, with_rows};
+ghost use Rattle.std.specs.Prelude.{◌≡◌, ◌≤◌, ◌<◌, length, map, false, None, is_some, slice_get, OnOk};
+ghost use Rattle.tk_stream.specs.Fronts.{no_telling, told_item, is_told_beside, with_rows};
 ghost use Rattle.tk_stream.specs.Tables.{changed_at};
 
 use crate::item::Item;

@@ -1,5 +1,5 @@
 //! What is kept of the tables of the last whole line.
-ghost use Rattle.std.specs.Prelude.{◌≡◌, ◌≤◌, length, IfOk, OnOk};
+ghost use Rattle.std.specs.Prelude.{◌≡◌};
 ghost use Rattle.tk_stream.specs.Fronts.{no_told, told_tables, FitsIn, HaveRoom};
 
 use crate::op::Op;
