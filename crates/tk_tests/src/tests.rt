@@ -1,5 +1,4 @@
 //! Scripts whose streams a client is fed.
 
-mod damaged;
 mod scripts;
 mod streams;
