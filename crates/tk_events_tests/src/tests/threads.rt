@@ -8,33 +8,42 @@ use std::sync::Wait;
 use std::sync::atomic::{AtomicBool, AtomicU64, Ordering};
 use std::thread;
 use std::thread::{Threads, join, map_vec};
-use tk_events::{Console, Event, Recorded, Recorder, RetiredRecorder, Taker};
+use tk_events::{Console, Event, Limits, Recorded, Recorder, RetiredRecorder, Taker};
 use tk_ids::Dropped;
 
 // How often a taker looks whether the recorders are done.
 const TURNS: u32 = 10_000_000;
 
-// A number for each of four recorders.
+// A number for each recorder.
 #[derive(Drop)]
 struct Tally {
-    of: [AtomicU64; 4],
+    of: Vec<AtomicU64>,
 }
 
 impl Tally {
-    fn new() -> Tally {
-        Tally {
-            of: [
-                AtomicU64::new(0),
-                AtomicU64::new(0),
-                AtomicU64::new(0),
-                AtomicU64::new(0),
-            ],
+    fn new(alloc: Global, recorders: u64) -> Option<Tally> {
+        let mut of = Vec::new(alloc);
+        for _ in 0..recorders {
+            of.push(AtomicU64::new(0)).ok()?;
         }
+        Some(Tally { of })
+    }
+
+    fn word(&self, recorder: u64) -> Option<&AtomicU64> {
+        self.of.get(recorder.saturating_sub(1) as usize)
     }
 
     fn add(&self, recorder: u64, count: u64) {
-        if let Some(word) = self.of.get(recorder.saturating_sub(1) as usize) {
+        if let Some(word) = self.word(recorder) {
             word.fetch_add(count, Ordering::SeqCst);
+        }
+    }
+
+    // The number before, in whose place this one is put.
+    fn replace(&self, recorder: u64, number: u64) -> u64 {
+        match self.word(recorder) {
+            Some(word) => word.swap(number, Ordering::SeqCst),
+            None => 0,
         }
     }
 
@@ -46,17 +55,52 @@ impl Tally {
     }
 
     fn total(&self) -> u64 {
-        self.at(0)
-            .saturating_add(self.at(1))
-            .saturating_add(self.at(2))
-            .saturating_add(self.at(3))
+        let mut total = 0u64;
+        for place in 0..self.of.len() {
+            total = total.saturating_add(self.at(place));
+        }
+        total
     }
 
     fn is_as(&self, other: &Tally) -> bool {
-        self.at(0) == other.at(0)
-            && self.at(1) == other.at(1)
-            && self.at(2) == other.at(2)
-            && self.at(3) == other.at(3)
+        for place in 0..self.of.len() {
+            if self.at(place) != other.at(place) {
+                return false;
+            }
+        }
+        true
+    }
+}
+
+// The polls that were taken: of each recorder how many, and the last of them.
+#[derive(Drop)]
+struct Taken {
+    counts: Tally,
+    last: Tally,
+    falls: AtomicBool,
+}
+
+impl Taken {
+    fn new(alloc: Global, recorders: u64) -> Option<Taken> {
+        let counts = Tally::new(alloc, recorders)?;
+        let last = Tally::new(alloc, recorders)?;
+        Some(Taken {
+            counts,
+            last,
+            falls: AtomicBool::new(false),
+        })
+    }
+
+    fn add(&self, recorder: u64, number: u64) {
+        self.counts.add(recorder, 1);
+        if self.last.replace(recorder, number) >= number {
+            self.falls.store(true, Ordering::SeqCst);
+        }
+    }
+
+    // Of each recorder as many as it kept, in the order of their numbers.
+    fn are_those(&self, kept: &Tally) -> bool {
+        self.counts.is_as(kept) && !self.falls.load(Ordering::SeqCst)
     }
 }
 
@@ -125,9 +169,13 @@ fn keeps_one<R: Threads + Wait + Sync>(
 ) -> bool
     requires { All (λ r. r.console ≡ taker.old.console) recorders.items }
 {
-    let kept = Tally::new();
-    let retired = offer_in_threads(rt, alloc, recorders, 100, &kept);
-    finish(taker, retired) && kept.total() == 1
+    match Tally::new(alloc, 2) {
+        Some(kept) => {
+            let retired = offer_in_threads(rt, alloc, recorders, 100, &kept);
+            finish(taker, retired) && kept.total() == 1
+        }
+        None => false,
+    }
 }
 
 fn dropped_and_left_one<R: Wait>(rt: &R, taker: &mut Taker) -> bool {
@@ -151,13 +199,13 @@ fn two_recorders_fill_a_buffer_of_one(rt: HostRuntime) {
 }
 
 // Counts the event at the recorder whose task polled.
-fn count_event(event: &Event, taken: &Tally) {
+fn count_event(event: &Event, taken: &Taken) {
     if let Event::Poll(poll) = event {
-        taken.add(poll.task.parts().0, 1);
+        taken.add(poll.task.parts().0, poll.op.parts().1);
     }
 }
 
-fn take_one<R: Wait>(rt: &R, taker: &mut Taker, taken: &Tally) -> bool
+fn take_one<R: Wait>(rt: &R, taker: &mut Taker, taken: &Taken) -> bool
     ensures { taker.new.console ≡ taker.old.console }
 {
     match taker.take(rt) {
@@ -170,7 +218,7 @@ fn take_one<R: Wait>(rt: &R, taker: &mut Taker, taken: &Tally) -> bool
 }
 
 // Takes until an empty answer comes after the recorders are done.
-fn take_beside<R: Wait>(rt: &R, mut taker: Taker, done: &AtomicBool, taken: &Tally) -> Taker
+fn take_beside<R: Wait>(rt: &R, mut taker: Taker, done: &AtomicBool, taken: &Taken) -> Taker
     ensures { result.console ≡ taker.console }
 {
     for _turn in 0..TURNS {
@@ -189,12 +237,13 @@ fn offer_until_done<R: Threads + Wait + Sync>(
     rt: &R,
     alloc: Global,
     recorders: Vec<Recorder>,
+    count: u64,
     kept: &Tally,
     done: &AtomicBool,
 ) -> Option<Vec<RetiredRecorder>>
     ensures { (console : Place) → All (λ r. r.console ≡ console) recorders.items → IfSome result (λ all. All (λ r. r.console ≡ console) all.items) }
 {
-    let retired = offer_in_threads(rt, alloc, recorders, 1000, kept);
+    let retired = offer_in_threads(rt, alloc, recorders, count, kept);
     done.store(true, Ordering::SeqCst);
     retired
 }
@@ -205,8 +254,9 @@ fn offer_and_take<R: Threads + Wait + Sync>(
     alloc: Global,
     recorders: Vec<Recorder>,
     taker: Taker,
+    count: u64,
     kept: &Tally,
-    taken: &Tally,
+    taken: &Taken,
 ) -> (bool, Taker)
     requires { All (λ r. r.console ≡ taker.console) recorders.items }
 {
@@ -215,7 +265,7 @@ fn offer_and_take<R: Threads + Wait + Sync>(
         rt,
         || -> Option<Vec<RetiredRecorder>>
             ensures { (console : Place) → All (λ r. r.console ≡ console) recorders.items → IfSome result (λ all. All (λ r. r.console ≡ console) all.items) }
-        { offer_until_done(rt, alloc, recorders, kept, &done) },
+        { offer_until_done(rt, alloc, recorders, count, kept, &done) },
         || -> Taker
             ensures { result.console ≡ taker.console }
         { take_beside(rt, taker, &done, taken) },
@@ -223,29 +273,58 @@ fn offer_and_take<R: Threads + Wait + Sync>(
     (finish(&mut taker, retired), taker)
 }
 
-// Each of four thousand polls is taken or dropped, and of each recorder what it kept is taken.
+// Each poll is taken or dropped, and of each recorder what it kept is taken, in order.
 fn none_is_lost<R: Threads + Wait + Sync>(
     rt: &R,
     alloc: Global,
-    recorders: Vec<Recorder>,
-    taker: Taker,
-) -> bool
-    requires { All (λ r. r.console ≡ taker.console) recorders.items }
-{
-    let kept = Tally::new();
-    let taken = Tally::new();
-    let (finished, mut taker) = offer_and_take(rt, alloc, recorders, taker, &kept, &taken);
+    limits: Limits,
+    kept: &Tally,
+    taken: &Taken,
+) -> bool {
+    match Console::open(alloc, limits) {
+        Ok((recorders, taker)) => {
+            let (finished, mut taker) = offer_and_take(
+                rt,
+                alloc,
+                recorders,
+                taker,
+                limits.offers,
+                kept,
+                taken,
+            );
+            finished && are_all_taken(rt, &mut taker, limits, kept, taken)
+        }
+        Err(_) => false,
+    }
+}
+
+fn are_all_taken<R: Wait>(
+    rt: &R,
+    taker: &mut Taker,
+    limits: Limits,
+    kept: &Tally,
+    taken: &Taken,
+) -> bool {
     let dropped = taker.dropped().resources;
-    finished
-        && taker.take(rt).is_none()
-        && taken.is_as(&kept)
-        && taken.total().saturating_add(dropped) == 4000
+    taker.take(rt).is_none()
+        && taken.are_those(kept)
+        && kept.total().saturating_add(dropped)
+            == limits.recorders.saturating_mul(limits.offers)
+}
+
+fn is_followed<R: Threads + Wait + Sync>(rt: &R, alloc: Global, limits: Limits) -> bool {
+    match (Tally::new(alloc, limits.recorders), Taken::new(alloc, limits.recorders)) {
+        (Some(kept), Some(taken)) => none_is_lost(rt, alloc, limits, &kept, &taken),
+        _ => false,
+    }
 }
 
 #[test]
 fn four_recorders_beside_a_taker(rt: HostRuntime) {
-    match Console::open(rt.alloc(), limits(4, 16, 1000)) {
-        Ok((recorders, taker)) => assert!(rt; none_is_lost(&rt, rt.alloc(), recorders, taker)),
-        Err(_) => assert!(rt; false, "no console"),
-    }
+    assert!(rt; is_followed(&rt, rt.alloc(), limits(4, 16, 1000)));
+}
+
+#[test]
+fn sixty_four_recorders_beside_a_taker(rt: HostRuntime) {
+    assert!(rt; is_followed(&rt, rt.alloc(), limits(64, 1024, 10_000)));
 }
