@@ -308,12 +308,14 @@ fn are_all_taken<R: Wait>(
     let dropped = taker.dropped().resources;
     taker.take(rt).is_none()
         && taken.are_those(kept)
-        && kept.total().saturating_add(dropped)
-            == limits.recorders.saturating_mul(limits.offers)
+        && kept.total().saturating_add(dropped) == limits.recorders.saturating_mul(limits.offers)
 }
 
 fn is_followed<R: Threads + Wait + Sync>(rt: &R, alloc: Global, limits: Limits) -> bool {
-    match (Tally::new(alloc, limits.recorders), Taken::new(alloc, limits.recorders)) {
+    match (
+        Tally::new(alloc, limits.recorders),
+        Taken::new(alloc, limits.recorders),
+    ) {
         (Some(kept), Some(taken)) => none_is_lost(rt, alloc, limits, &kept, &taken),
         _ => false,
     }
