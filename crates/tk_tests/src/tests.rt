@@ -1,4 +1,5 @@
 //! Scripts whose streams a client is fed.
 
+mod damaged;
 mod scripts;
 mod streams;

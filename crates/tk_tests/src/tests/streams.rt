@@ -15,7 +15,7 @@ use tk_stream::{Line, Tables};
 // Each helper owns one of these at most, and lends it to the next: so their proofs stay short.
 
 // What a script writes, if it has no fault.
-fn stream_of<R: Threads + Wait + Sync + AllocGlobal>(
+pub(super) fn stream_of<R: Threads + Wait + Sync + AllocGlobal>(
     rt: &R,
     script: &'static [u8],
 ) -> Option<Vec<u8>> {
