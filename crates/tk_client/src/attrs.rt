@@ -38,7 +38,7 @@ fn fits_resource(tables: &Tables, told: &(ResourceId, ResourceRow)) -> bool
     ensures { result ≡ fits_told resource_kind spec.fits_resource tables.now.resources told.now }
 {
     match tables.resource(told.0) {
-        Some(resource) => fit_attrs(resource.info.attrs.as_slice(), told.1.attrs.as_slice()),
+        Some(resource) => fit_attrs(resource.info.attrs.as_slice(), told.1.attrs.list().as_slice()),
         None => true,
     }
 }
@@ -47,7 +47,7 @@ fn fits_op(tables: &Tables, told: &(AsyncOpId, OpRow)) -> bool
     ensures { result ≡ fits_told op_kind spec.fits_op tables.now.ops told.now }
 {
     match tables.op(told.0) {
-        Some(op) => fit_attrs(op.info.attrs.as_slice(), told.1.attrs.as_slice()),
+        Some(op) => fit_attrs(op.info.attrs.as_slice(), told.1.attrs.list().as_slice()),
         None => true,
     }
 }

@@ -1,58 +1,80 @@
 //! Attribute values as words, and as bits of the flags.
 ghost use Rattle.std.specs.Prelude.{◌≡◌, ◌<◌, ◌/◌, ◌%◌, ◌^◌, map, slice_get, take, get_or};
+ghost use Rattle.tk_core.specs.AttrValues as values;
 ghost use Rattle.tk_core.specs.Words.{number_of_bits};
 ghost use Rattle.tk_core.specs.AttrWords.{attr_word, is_bool, attr_flags};
-ghost use Rattle.tk_core.specs.Laws.AttrReadBack.{attr_from, word_or_zero, kind_bit, six_from};
+ghost use Rattle.tk_core.specs.Laws.AttrReadBack.{six_from, word_or_zero};
 
 use crate::attr_values::AttrValues;
-use tk_ids::AttrValue;
+use tk_ids::{AttrKind, AttrValue};
 
-fn word(value: AttrValue) -> u64
+pub(crate) fn word(value: AttrValue) -> u64
     ensures { result ≡ attr_word value }
 {
     match value {
         AttrValue::U64(n) => n,
-        AttrValue::Bool(b) => { if b { 1 } else { 0 } }
+        AttrValue::Bool(b) => u64::from(b),
     }
 }
 
-fn is_bool(value: AttrValue) -> bool
-    ensures { result ≡ is_bool value }
+pub(crate) fn value_by(word: u64, kind: AttrKind) -> AttrValue
+    ensures { result ≡ values.value_by word kind }
 {
-    matches!(value, AttrValue::Bool(_))
+    match kind {
+        AttrKind::U64 => AttrValue::U64(word),
+        AttrKind::Bool => AttrValue::Bool(word == 1),
+    }
 }
 
-fn from_word(is_bool: bool, word: u64) -> AttrValue
-    ensures { result ≡ attr_from is_bool word }
+/// The word of the value at an index, or 0.
+pub(crate) fn word_in(list: &[AttrValue], index: usize) -> u64
+    ensures { result ≡ word_or_zero (slice_get list.now index) }
+{
+    match list.get(index) {
+        Some(value) => word(*value),
+        None => 0,
+    }
+}
+
+/// The kind of the value at an index, or `U64`.
+pub(crate) fn kind_in(list: &[AttrValue], index: usize) -> AttrKind
+    ensures { result ≡ values.kind_or_u64 (slice_get list.now index) }
+{
+    match list.get(index) {
+        Some(value) => value.kind(),
+        None => AttrKind::U64,
+    }
+}
+
+/// The word of a value that is kept, and otherwise 0.
+pub(crate) fn kept_word(kept: bool, word: u64, kind: AttrKind) -> u64
+    ensures { result ≡ values.kept_word kept word kind }
+{
+    if kept {
+        self::word(value_by(word, kind))
+    } else {
+        0
+    }
+}
+
+/// The kind of a value that is kept, and otherwise `U64`.
+pub(crate) fn kept_kind(kept: bool, kind: AttrKind) -> AttrKind
+    ensures { result ≡ values.kept_kind kept kind }
+{
+    if kept { kind } else { AttrKind::U64 }
+}
+
+fn kind_of_bit(is_bool: bool) -> AttrKind
+    ensures { result ≡ values.kind_of_bit is_bool }
 {
     if is_bool {
-        AttrValue::Bool(word == 1)
+        AttrKind::Bool
     } else {
-        AttrValue::U64(word)
+        AttrKind::U64
     }
 }
 
 impl AttrValues {
-    /// The word of the value at an index, or 0.
-    pub(crate) fn word_at(&self, index: u64) -> u64
-        ensures { result ≡ word_or_zero (slice_get self.now index) }
-    {
-        match self.get(index) {
-            Some(value) => word(value),
-            None => 0,
-        }
-    }
-
-    fn kind_at(&self, index: u64) -> u64
-        ensures value { result ≡ kind_bit (slice_get self.now index) }
-        ensures bit { result < 2 }
-    {
-        match self.get(index) {
-            Some(value) => { if is_bool(value) { 1 } else { 0 } }
-            None => 0,
-        }
-    }
-
     fn kinds(&self) -> u64
         ensures value { result ≡ number_of_bits (map is_bool self.now) }
         ensures bits { result < 64 }
@@ -85,14 +107,14 @@ impl AttrValues {
         let from_3 = from_2 / 2;
         let from_4 = from_3 / 2;
         let from_5 = from_4 / 2;
-        let values = [
-            from_word(kinds % 2 == 1, words[0]),
-            from_word(from_1 % 2 == 1, words[1]),
-            from_word(from_2 % 2 == 1, words[2]),
-            from_word(from_3 % 2 == 1, words[3]),
-            from_word(from_4 % 2 == 1, words[4]),
-            from_word(from_5 % 2 == 1, words[5]),
+        let kinds = [
+            kind_of_bit(kinds % 2 == 1),
+            kind_of_bit(from_1 % 2 == 1),
+            kind_of_bit(from_2 % 2 == 1),
+            kind_of_bit(from_3 % 2 == 1),
+            kind_of_bit(from_4 % 2 == 1),
+            kind_of_bit(from_5 % 2 == 1),
         ];
-        AttrValues::first_of(&values, flags / 256 % 8)
+        AttrValues::first_of(words, &kinds, flags / 256 % 8)
     }
 }

@@ -6,7 +6,7 @@
 //! - [`TaskRow`], [`TaskCall`]: a task's statistics, and the calls on it.
 //! - [`ResourceRow`], [`ResourceCall`]: a resource's.
 //! - [`OpRow`], [`OpCall`]: an async operation's.
-//! - [`AttrValues`], [`AttrOp`]: the values of an item's attributes, and their changes.
+//! - [`AttrValues`], [`AttrList`], [`AttrOp`]: the values of an item's attributes, and their changes.
 //! - [`Reply`], [`Refusal`], [`WakeReply`]: what a call is answered.
 //! - [`Entry`]: an entry of a history: caller, call and reply.
 //! - [`Sequential`]: any object of sixteen words that is stepped by calls.
@@ -25,7 +25,7 @@ mod resource;
 mod sequential;
 mod task;
 
-pub use attr_values::AttrValues;
+pub use attr_values::{AttrList, AttrValues};
 pub use attrs::AttrOp;
 pub use history::Entry;
 pub use limits::MOST_HANDLES;

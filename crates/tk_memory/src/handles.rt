@@ -555,7 +555,7 @@ fn changes<R: Wait>(rt: &R, user: &mut ResourceUser) -> bool {
     user.add(rt, 0, AttrValue::U64(4)) == Ok(())
         && user.sub(rt, 0, AttrValue::U64(1)) == Ok(())
         && user.set(rt, 0, AttrValue::U64(9)) == Ok(())
-        && user.read(rt).attrs.as_slice() == [AttrValue::U64(9)].as_slice()
+        && user.read(rt).attrs.list().as_slice() == [AttrValue::U64(9)].as_slice()
 }
 
 fn change_and_retire<R: Wait>(rt: &R, alloc: Global, mut user: ResourceUser) -> Verdict {

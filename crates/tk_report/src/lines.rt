@@ -148,7 +148,7 @@ pub(crate) fn put_resource(
     put_attrs(
         out,
         resource.info.attrs.as_slice(),
-        resource.row.attrs.as_slice(),
+        resource.row.attrs.list().as_slice(),
     )?;
     Ok(())
 }
@@ -197,7 +197,7 @@ pub(crate) fn put_op(out: &mut String, op: &Op) -> Result<(), AllocError>
     ensures { OnOk result (Puts (string_bytes out.old) (string_bytes out.new) (spec.op_lines op.now)) }
 {
     put_op_line(out, op)?;
-    put_attrs(out, op.info.attrs.as_slice(), op.row.attrs.as_slice())?;
+    put_attrs(out, op.info.attrs.as_slice(), op.row.attrs.list().as_slice())?;
     Ok(())
 }
 

@@ -18,7 +18,20 @@ pub(crate) fn put_number(out: &mut Vec<u8>, before: &[u8], n: u64) -> Result<(),
     ensures { OnOk result (Puts out.old.items out.new.items
         (before.now ++ compact_text (spec.number_data n))) }
 {
-    out.extend_from_slice(before)?;
+    put_text(out, before)?;
+    put_digits(out, n)?;
+    Ok(())
+}
+
+/// A number's digits. One digit, as many of a row's numbers have, needs no buffer.
+#[inline(always)]
+fn put_digits(out: &mut Vec<u8>, n: u64) -> Result<(), AllocError>
+    ensures { OnOk result (Puts out.old.items out.new.items (compact_text (spec.number_data n))) }
+{
+    if n < 10 {
+        out.push(b'0' + n as u8)?;
+        return Ok(());
+    }
     let mut buffer = Buffer::new();
     out.extend_from_slice(buffer.format(n).as_bytes())
 }

@@ -164,7 +164,7 @@ fn see_values(values: &AttrValues)
     ensures { ranges.AreValues values.now }
 {
     values.len();
-    see_each(values.as_slice());
+    see_each(values.list().as_slice());
 }
 
 // ---- infos

@@ -23,7 +23,7 @@ pub(crate) fn same_resource_row(a: &ResourceRow, b: &ResourceRow) -> bool
     a.created == b.created
         && a.dropped == b.dropped
         && a.handles == b.handles
-        && same_values(a.attrs.as_slice(), b.attrs.as_slice())
+        && same_values(a.attrs.list().as_slice(), b.attrs.list().as_slice())
 }
 
 pub(crate) fn same_op_row(a: &OpRow, b: &OpRow) -> bool
@@ -39,5 +39,5 @@ pub(crate) fn same_op_row(a: &OpRow, b: &OpRow) -> bool
         && a.handles == b.handles
         && a.task == b.task
         && a.polling == b.polling
-        && same_values(a.attrs.as_slice(), b.attrs.as_slice())
+        && same_values(a.attrs.list().as_slice(), b.attrs.list().as_slice())
 }

@@ -49,7 +49,7 @@ fn write_resource_stats(out: &mut Vec<u8>, id: u64, row: &ResourceRow) -> Result
     ensures { OnOk result (Puts out.old.items out.new.items
         (compact_text (spec.resource_stats_data (id, row.now)))) }
 {
-    put_list(out, b"{\"attrs\":", row.attrs.as_slice())?;
+    put_list(out, b"{\"attrs\":", row.attrs.list().as_slice())?;
     put_number(out, b",\"created\":", row.created)?;
     put_optional(out, b",\"dropped\":", row.dropped)?;
     put_number(out, b",\"handles\":", row.handles)?;
@@ -81,7 +81,7 @@ fn write_op_stats(out: &mut Vec<u8>, id: u64, row: &OpRow) -> Result<(), AllocEr
     ensures { OnOk result (Puts out.old.items out.new.items
         (compact_text (spec.op_stats_data (id, row.now)))) }
 {
-    put_list(out, b"{\"attrs\":", row.attrs.as_slice())?;
+    put_list(out, b"{\"attrs\":", row.attrs.list().as_slice())?;
     put_number(out, b",\"busy\":", row.busy)?;
     put_number(out, b",\"created\":", row.created)?;
     put_optional(out, b",\"dropped\":", row.dropped)?;

@@ -48,7 +48,7 @@ fn an_opening_resource_is_read_back(rt: HostRuntime) -> Result<(), Fail> {
     let Reply::Shown(shown) = first_reply(&rt, rt.alloc(), row, ResourceCall::Read)? else {
         return Err(Fail::from("no row was shown"));
     };
-    assert_eq!(rt; shown.attrs.as_slice(), [AttrValue::U64(5)].as_slice());
+    assert_eq!(rt; shown.attrs.list().as_slice(), [AttrValue::U64(5)].as_slice());
     assert_eq!(rt; shown, row);
     Ok(())
 }

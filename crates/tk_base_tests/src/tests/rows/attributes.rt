@@ -64,14 +64,14 @@ impl Change {
     fn is_of_resource(&self) -> bool {
         let row = ResourceRow::opening(1, &[self.value]);
         let (row, reply) = row.step(ResourceCall::Attr(self.index, self.op));
-        row.attrs.as_slice() == [self.after].as_slice() && reply == self.reply_of_resource()
+        row.attrs.list().as_slice() == [self.after].as_slice() && reply == self.reply_of_resource()
     }
 
     // Whether it comes to this of an operation.
     fn is_of_op(&self) -> bool {
         let row = OpRow::opening(1, &[self.value]);
         let (row, reply) = row.step(OpCall::Attr(self.index, self.op));
-        row.attrs.as_slice() == [self.after].as_slice() && reply == self.reply_of_op()
+        row.attrs.list().as_slice() == [self.after].as_slice() && reply == self.reply_of_op()
     }
 }
 
@@ -95,7 +95,7 @@ fn each_attribute_has_its_own_value(rt: HostRuntime) {
     let change = ResourceCall::Attr(2, AttrOp::Sub(AttrValue::U64(3)));
     let (row, _) = ResourceRow::opening(1, &values).step(change);
     let after = [AttrValue::U64(5), AttrValue::Bool(false), AttrValue::U64(4)];
-    assert!(rt; row.attrs.as_slice() == after.as_slice());
+    assert!(rt; row.attrs.list().as_slice() == after.as_slice());
     assert_eq!(rt; row.attrs.len(), 3);
     assert!(rt; !row.attrs.is_empty());
     assert!(rt; ResourceRow::opening(1, &[]).attrs.is_empty());

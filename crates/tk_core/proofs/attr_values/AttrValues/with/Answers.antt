@@ -1,9 +1,15 @@
-use Rattle.std.proofs.Common.{◌<◌, length, ap, arith}
-use Rattle.std.proofs.lemmas.List.{length-take}
-use Rattle.std.proofs.Math.Seq.{take-set-lt}
+use Rattle.std.proofs.Common.{◌≡◌, ◌<◌, ◌≤◌, length, ap, arith}
+use Rattle.std.proofs.Math.ListN.{set}
+use Rattle.tk_core.specs.AttrValues.{fields_of}
+use Rattle.tk_core.proofs.AttrParts.{shown, set_parts, is_padded, is_viewed}
 use Rattle.tk_core.proofs.attr_values.AttrValues.with.Goals as goal
+
+pub invariant_of-result : goal.invariant_of-result
+invariant_of-result c =
+    let is = shown c.self.inside c.args.self.now c.self.invariant c.self.view_is in
+    rw (c.word.ensures, c.kind.ensures) (is_padded _ (set c.args.self.now c.args.index c.args.value) (set_parts c.self.inside c.args.self.now c.args.index c.args.value is c.requires) c.self.invariant.0)
 
 pub returns : goal.returns
 returns c =
-    let within : c.args.index < c.self.inside.count = omega (arith, length-take c.self.inside.count c.self.inside.values, ap length c.self.view_is) in
-    rw (← c.self.view_is) (take-set-lt _ _ _ _ within)
+    let is = shown c.self.inside c.args.self.now c.self.invariant c.self.view_is in
+    rw (c.word.ensures, c.kind.ensures) (is_viewed _ _ (set_parts c.self.inside c.args.self.now c.args.index c.args.value is c.requires))
