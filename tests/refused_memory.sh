@@ -1,5 +1,5 @@
 #!/bin/sh
-# Refuses one request for memory after the other: in each call of crates/tk_memory, and in the program's `run` and `view`.
+# Refuses one request for memory after the other: in each call of crates/tk_memory, and in the program's `run`, `view`, `lint` and `demo`.
 #
 # Usage: tests/refused_memory.sh
 #
@@ -7,8 +7,8 @@
 # LD_PRELOAD) counts their requests and refuses one of them, the first, the second and so on, until a run meets no refusal.
 # In tk_memory a case is what lies between two marks, which are requests of sizes that nothing else asks for. The program
 # itself says of each case whether all is right (src/verdict.rt). A call whose name begins with `none: ` may make no request.
-# A refused `run` or `view` must answer want of memory by its name, with status 1 and only whole lines of the output before
-# it, or do without that request and write the whole output.
+# A refused `run` must answer want of memory by its name, with status 1 and only whole lines of the output before it; `view`,
+# `lint` and `demo` likewise, with no output before it. Or they do without that request, and write the whole output.
 #
 # Of each call it says how many requests it met, and how many of them were told as want of memory. The last line is
 # `N passed, M failed`, and the status 1 where M isn't 0.
@@ -34,7 +34,7 @@ cat > "$work/refuse.c" <<'C'
 #define BEGIN 100003
 #define END 100019
 
-/* Of which case which request is refused, from 1 on. Case 0 is a program without marks, and request 0 is none. */
+/* Which allocation is refused, and in which of the cases, both counted from 1. Without a case the program has no marks. */
 static long wanted, refuse;
 static FILE *counts;
 static long begun;
@@ -155,11 +155,14 @@ is_told() {
     head -n "$(wc -l < "$work/out")" "$work/plain" | cmp -s - "$work/out"
 }
 
-# Refuses each request of the program's command $1.
+# Refuses each request of the program's command $1, whose status is $2 where it has memory.
 refuse_program() {
     told=0
     n=0
     wrong=
+    refuse 0 0 "$program" "$1"
+    [ $? = "$2" ] || wrong="another status than $2 with memory"
+    cp "$work/out" "$work/plain"
     while [ ! "$wrong" ]; do
         refuse 0 $((n + 1)) "$program" "$1"
         status=$?
@@ -167,7 +170,7 @@ refuse_program() {
         n=$((n + 1))
         if [ "$status" = 1 ] && is_told "$1"; then
             told=$((told + 1))
-        elif [ "$status" != 0 ] || ! cmp -s "$work/plain" "$work/out"; then
+        elif [ "$status" != "$2" ] || ! cmp -s "$work/plain" "$work/out"; then
             wrong="status $status, and neither want of memory nor the whole output"
         fi
     done
@@ -184,11 +187,13 @@ while IFS= read -r line <&3; do
 done 3< "$work/plain"
 
 printf 'task 100 spawn main\npublish 200\npublish 300\n' > "$work/input"
-"$program" run < "$work/input" > "$work/plain" || exit 2
-refuse_program run
+refuse_program run 0
 cp "$root/examples/semaphore.script.stdout" "$work/input" || exit 2
-"$program" view < "$work/input" > "$work/plain" || exit 2
-refuse_program view
+refuse_program view 0
+cp "$root/examples/lost-waker.script.stdout" "$work/input" || exit 2
+refuse_program lint 3
+: > "$work/input"
+refuse_program demo 0
 
 echo "$all requests were refused"
 echo "$passed passed, $failed failed"

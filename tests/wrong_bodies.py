@@ -23,17 +23,20 @@ class BadEdit(Exception):
 
 
 class Edit:
-    """A wrong body: the texts that it puts in the place of others, and the function whose proof must fail."""
+    """A wrong body: the texts that it puts in the place of others, and the function whose proof, or the crate whose tests, must fail."""
 
     def __init__(self, path):
         self.name = os.path.basename(path)[: -len(".edit")]
         self.function = None
+        self.tests = None
         self.changes = []
         file = old = None
         with open(path) as lines:
             for line in lines.read().split("\n")[1:]:
                 if line.startswith("function: "):
                     self.function = line[len("function: "):]
+                elif line.startswith("tests: "):
+                    self.tests = line[len("tests: "):]
                 elif line.startswith("file: "):
                     file = line[len("file: "):]
                 elif line.startswith("old: "):
@@ -50,8 +53,8 @@ class Edit:
         return {file for file, _, _ in self.changes}
 
     def apply(self, crate):
-        if not self.function:
-            raise BadEdit("it names no function")
+        if (self.function is None) == (self.tests is None):
+            raise BadEdit("it names no function and no tests, or both")
         if not self.changes:
             raise BadEdit("it has no old and new text")
         for file, old, new in self.changes:
@@ -94,18 +97,23 @@ def crates_under(crate):
     return found
 
 
+def copy_sources(crates, work):
+    shutil.copy(os.path.join(ROOT, "HANDLES"), work)
+    with open(os.path.join(ROOT, "crates.txt")) as lines, open(os.path.join(work, "crates.txt"), "w") as kept:
+        kept.writelines(line for line in lines if re.split(r"[ :]", line)[0] in crates)
+    for name in crates:
+        for part in ("src", "specs", "proofs"):
+            if os.path.isdir(os.path.join(CRATES, name, part)):
+                shutil.copytree(os.path.join(CRATES, name, part), os.path.join(work, "crates", name, part))
+
+
 def copy_of(crate, work):
     """A copy of the crate, over the libraries below it and the work that its own check kept."""
     below = crates_under(crate)
-    shutil.copy(os.path.join(ROOT, "HANDLES"), work)
-    with open(os.path.join(ROOT, "crates.txt")) as lines, open(os.path.join(work, "crates.txt"), "w") as kept:
-        kept.writelines(line for line in lines if re.split(r"[ :]", line)[0] in below)
+    copy_sources(below, work)
     for name in below:
         source, copy = os.path.join(CRATES, name), os.path.join(work, "crates", name)
         os.makedirs(os.path.join(copy, "out"))
-        for part in ("src", "specs", "proofs"):
-            if os.path.isdir(os.path.join(source, part)):
-                shutil.copytree(os.path.join(source, part), os.path.join(copy, part))
         part = "incremental" if name == crate else "rlib"
         subprocess.run(
             ["cp", "-R", "--reflink=auto", os.path.join(source, "out", part), os.path.join(copy, "out")], check=True
@@ -154,6 +162,22 @@ def judge_among(edit, said):
     return None
 
 
+def try_tests(crate, edit):
+    """Runs the tests that an edit names on a copy of the sources: some must fail."""
+    with tempfile.TemporaryDirectory() as work:
+        copy_sources(crates_under(edit.tests), work)
+        try:
+            edit.apply(os.path.join(work, "crates", crate))
+        except BadEdit as bad:
+            return f"BAD EDIT: {bad}"
+        tests = os.path.join(work, "crates", edit.tests)
+        run = subprocess.run(["rt", "try", "--test", "--seconds", "300"], cwd=tests, capture_output=True, text=True)
+    failed = re.search(r"^test result: FAILED.*?(\d+) passed.*?(\d+) failed", run.stdout, re.M)
+    if failed:
+        return f"refused: {failed.group(2)} tests of {edit.tests} fail, {failed.group(1)} pass"
+    return f"LET THROUGH: no test of {edit.tests} fails: " + (run.stdout + run.stderr).strip()[-200:]
+
+
 def restore(crate, copy, edits):
     for file in {file for edit in edits for file in edit.files()}:
         shutil.copy(os.path.join(CRATES, crate, file), os.path.join(copy, file))
@@ -185,14 +209,21 @@ def try_crate(crate, only):
     folder = os.path.join(CRATES, crate, "wrong-bodies")
     edits = [Edit(os.path.join(folder, name)) for name in sorted(os.listdir(folder)) if name.endswith(".edit")]
     edits = [edit for edit in edits if only in (None, edit.name)]
+    said = []
+    for edit in [edit for edit in edits if edit.tests]:
+        said.append(try_tests(crate, edit))
+        print(f"{crate}/{edit.name}: {said[-1]}", flush=True)
+    edits = [edit for edit in edits if not edit.tests]
+    if not edits:
+        return said
     run = subprocess.run(["rt", "check"], cwd=os.path.join(CRATES, crate), capture_output=True, text=True)
     if run.returncode:
         why = f"{crate}: NOT PROVED as it stands, so that no wrong body was tried: {run.stdout.strip()[-200:]}"
         print(why, flush=True)
-        return [why]
+        return said + [why]
     with tempfile.TemporaryDirectory() as work:
         copy = copy_of(crate, work)
-        return [said for group in groups_of(edits) for said in try_edits(crate, copy, group)]
+        return said + [line for group in groups_of(edits) for line in try_edits(crate, copy, group)]
 
 
 def main(words):

@@ -1,9 +1,10 @@
 #!/bin/sh
-# Tries the wrong bodies that the gate leaves out, crates/NAME/wrong-bodies/*.edit: the prover must refuse each.
+# Tries the wrong bodies that the gate leaves out, crates/NAME/wrong-bodies/*.edit: the prover, or a test, must refuse each.
 #
 # Usage: tests/wrong_bodies.sh [CRATE [NAME]], of all crates, of one, or one wrong body alone.
 #
-# An edit has the form of those in must-fail/, and one line more, `function: PATH`: the function whose proof must fail.
+# An edit has the form of those in must-fail/, and one line more. `function: PATH` is the function whose proof must fail. Where
+# no contract can refuse it, `tests: CRATE` is the crate of which a test must fail, as `rt try --test` runs them on a copy.
 # The crate is proved first, over the work that earlier checks kept in its out/; then the edits are applied to a copy,
 # several at a time where each changes the body of another function, and `rt check --only PATH ..` is run there. Edits that
 # such a check doesn't tell of are tried again without the others, and at last alone. JOBS (2) crates at a time; a check may take 4 GB.

@@ -4,11 +4,14 @@
 //! calls with memory.
 #![tactic(auto)]
 
+mod aggregators;
+mod clients;
 mod events;
 mod exec;
 mod given;
 mod handles;
 mod ids;
+mod lines;
 mod marks;
 mod tables;
 mod verdict;
@@ -29,9 +32,12 @@ fn tell_all<R: Threads + Wait + Sync + RandomSource + AllocGlobal, W: Write>(
 ) {
     ids::tell(alloc, tale);
     tables::tell(alloc, tale);
+    lines::tell(alloc, tale);
+    clients::tell(alloc, tale);
     handles::tell(rt, alloc, tale);
     exec::tell(rt, alloc, tale);
     events::tell(rt, alloc, tale);
+    aggregators::tell(rt, alloc, tale);
 }
 
 fn main(rt: HostRuntime) -> ExitCode {

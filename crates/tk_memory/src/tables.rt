@@ -6,7 +6,7 @@ use crate::verdict::{Tale, UNPREPARED, Verdict, answered, told, took_none};
 use std::alloc::{AllocError, Global};
 use std::io::Write;
 use tk_core::{OpRow, ResourceRow, TaskRow};
-use tk_ids::{AsyncOpId, Dropped, OpInfo, ResourceId, ResourceInfo, TaskId, TaskInfo};
+use tk_ids::{AsyncOpId, AttrValue, Dropped, OpInfo, ResourceId, ResourceInfo, TaskId, TaskInfo};
 use tk_stream::{Line, Tables};
 
 const TOTALS: Dropped = Dropped {
@@ -14,6 +14,9 @@ const TOTALS: Dropped = Dropped {
     resources: 2,
     ops: 3,
 };
+
+// The value of an item's one attribute.
+const VALUES: [AttrValue; 1] = [AttrValue::U64(3)];
 
 // ---- filling
 
@@ -32,7 +35,7 @@ fn put_resource(tables: &mut Tables, info: ResourceInfo) -> Result<(), Option<Re
     if tables.resource(info.id).is_some() {
         return Err(None);
     }
-    match tables.add_resource(info, ResourceRow::opening(6, &[])) {
+    match tables.add_resource(info, ResourceRow::opening(6, VALUES.as_slice())) {
         Ok(()) => Ok(()),
         Err((_, back)) => Err(Some(back)),
     }
@@ -42,7 +45,7 @@ fn put_op(tables: &mut Tables, info: OpInfo) -> Result<(), Option<OpInfo>> {
     if tables.op(info.id).is_some() {
         return Err(None);
     }
-    match tables.add_op(info, OpRow::opening(7, &[])) {
+    match tables.add_op(info, OpRow::opening(7, VALUES.as_slice())) {
         Ok(()) => Ok(()),
         Err((_, back)) => Err(Some(back)),
     }
@@ -63,8 +66,8 @@ fn fill(alloc: Global, tables: &mut Tables) -> Option<()> {
     if put_counts(tables) { Some(()) } else { None }
 }
 
-// Tables with one item of each kind.
-fn filled(alloc: Global) -> Option<Tables> {
+/// Tables with one item of each kind.
+pub(crate) fn filled(alloc: Global) -> Option<Tables> {
     let mut tables = Tables::new(alloc).ok()?;
     fill(alloc, &mut tables)?;
     Some(tables)

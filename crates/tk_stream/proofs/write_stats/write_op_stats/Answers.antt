@@ -4,7 +4,7 @@ use Rattle.tk_stream.proofs.write_stats.write_op_stats.Goals as goal
 
 pub returns : goal.returns
 unfolding escape_byte
-returns c = rw (← c.as_slice.ensures, ← c.task_value.ensures)
+returns c = rw (← c.list.ensures, ← c.as_slice.ensures, ← c.task_value.ensures)
     (both c.in_ok-put_list.ensures
     (both c.in_ok-put_number.ensures
     (both c.in_ok-put_number-2.ensures

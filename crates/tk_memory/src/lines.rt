@@ -1,0 +1,109 @@
+//! Lines: between tables, written, and read.
+
+use crate::marks::{begin, was_refused};
+use crate::tables::filled;
+use crate::verdict::{Tale, UNPREPARED, Verdict, answered, told};
+use std::alloc::Global;
+use std::io::Write;
+use tk_stream::{Line, LineError, Tables};
+
+/// The line that tells of tables with one item of each kind.
+pub(crate) const TEXT: &[u8] =
+    b"{\"dropped\":[1,2,3],\"new_ops\":[{\"attrs\":[[\"permits\",\"count\",\"u64\"]],\"id\":1099511627777,\"parent\":null,\"resource\":1099511627777,\"source\":\"Semaphore::acquire\"}],\"new_resources\":[{\"attrs\":[[\"permits\",\"count\",\"u64\"]],\"id\":1099511627777,\"kind\":\"Sync\",\"loc\":[\"main.rs\",7,3],\"parent\":null,\"type\":\"Semaphore\"}],\"new_tasks\":[{\"id\":1099511627777,\"kind\":\"spawn\",\"loc\":[\"main.rs\",7,3],\"name\":\"main\"}],\"now\":9,\"op_stats\":[{\"attrs\":[3],\"busy\":0,\"created\":7,\"dropped\":null,\"first_poll\":null,\"handles\":0,\"id\":1099511627777,\"last_ended\":null,\"last_started\":null,\"polling\":false,\"polls\":0,\"task\":null}],\"poll_counts\":[[1099511627777,1,2]],\"resource_stats\":[{\"attrs\":[3],\"created\":6,\"dropped\":null,\"handles\":0,\"id\":1099511627777}],\"seq\":1,\"snapshot\":true,\"task_stats\":[{\"busy\":0,\"clones\":0,\"created\":5,\"dropped\":null,\"drops\":0,\"first_poll\":null,\"handles\":0,\"id\":1099511627777,\"last_ended\":null,\"last_started\":null,\"last_wake\":null,\"polling\":false,\"polls\":0,\"sched\":0,\"scheduled\":true,\"self_wakes\":0,\"wakes\":0}],\"v\":1}";
+
+fn is_written(line: &Line, text: &[u8]) -> bool {
+    match line.write() {
+        Ok(own) => own.as_slice() == text,
+        Err(_) => false,
+    }
+}
+
+// ---- Line::between
+
+fn makes(alloc: Global, none: &Tables, tables: &Tables) -> bool {
+    match Line::between(alloc, none, tables, 1, true) {
+        Ok(line) => is_written(&line, TEXT),
+        Err(_) => false,
+    }
+}
+
+fn make(alloc: Global, none: &Tables, tables: &Tables) -> Verdict {
+    begin(alloc);
+    let made = Line::between(alloc, none, tables, 1, true);
+    let refused = was_refused(alloc);
+    match made {
+        Ok(line) => answered(refused, is_written(&line, TEXT)),
+        Err(_) => told(refused, true, true, makes(alloc, none, tables)),
+    }
+}
+
+fn make_from(alloc: Global, none: &Tables) -> Verdict {
+    match filled(alloc) {
+        Some(tables) => make(alloc, none, &tables),
+        None => UNPREPARED,
+    }
+}
+
+fn between(alloc: Global) -> Verdict {
+    match Tables::new(alloc) {
+        Ok(none) => make_from(alloc, &none),
+        Err(_) => UNPREPARED,
+    }
+}
+
+// ---- Line::write
+
+fn write_this(alloc: Global, line: &Line) -> Verdict {
+    begin(alloc);
+    let written = line.write();
+    let refused = was_refused(alloc);
+    match written {
+        Ok(own) => answered(refused, own.as_slice() == TEXT),
+        Err(_) => told(refused, true, true, is_written(line, TEXT)),
+    }
+}
+
+fn write(alloc: Global) -> Verdict {
+    match Line::read(alloc, TEXT) {
+        Ok(line) => write_this(alloc, &line),
+        Err(_) => UNPREPARED,
+    }
+}
+
+// ---- Line::read
+
+fn reads(alloc: Global, text: &[u8]) -> bool {
+    match Line::read(alloc, text) {
+        Ok(line) => is_written(&line, TEXT),
+        Err(_) => false,
+    }
+}
+
+fn read(alloc: Global, text: &[u8]) -> Verdict {
+    begin(alloc);
+    let taken = Line::read(alloc, text);
+    let refused = was_refused(alloc);
+    match taken {
+        Ok(line) => answered(refused, is_written(&line, TEXT)),
+        Err(error) => {
+            let is_named = error == LineError::Memory && error.code() == 1;
+            told(refused, is_named, true, reads(alloc, text))
+        }
+    }
+}
+
+// The same line with a space before it, which is read as any JSON.
+fn read_other(alloc: Global) -> Verdict {
+    let mut other = Vec::new(alloc);
+    if other.push(b' ').is_err() || other.extend_from_slice(TEXT).is_err() {
+        return UNPREPARED;
+    }
+    read(alloc, other.as_slice())
+}
+
+pub(crate) fn tell<W: Write>(alloc: Global, tale: &mut Tale<W>) {
+    tale.tell("Line::between", between(alloc));
+    tale.tell("Line::write", write(alloc));
+    tale.tell("Line::read", read(alloc, TEXT));
+    tale.tell("Line::read of another text", read_other(alloc));
+}
