@@ -284,36 +284,40 @@ fn words_of(alloc: Global, words: &[&str]) -> Result<Vec<String>, AllocError> {
     Ok(owned)
 }
 
+// The status of the program with these words and these three streams.
+fn ask<R: Abort + AllocGlobal + RandomSource + Threads + Wait + Sync, I: Read, O: Write, F: Write>(
+    rt: &R,
+    words: &[&str],
+    input: &mut I,
+    output: &mut O,
+    faults: &mut F,
+) -> Result<u8, AllocError> {
+    let words = words_of(rt.alloc(), words)?;
+    let status = run_program(rt, rt.alloc(), words.as_slice(), input, output, faults);
+    Ok(status)
+}
+
+fn is_answered<R: Abort + AllocGlobal + RandomSource + Threads + Wait + Sync>(
+    rt: &R,
+    call: &Call,
+) -> Result<bool, AllocError> {
+    let mut input = call.script;
+    let mut output = Vec::new(rt.alloc());
+    let mut faults = Vec::new(rt.alloc());
+    let status = ask(rt, call.words, &mut input, &mut output, &mut faults)?;
+    Ok(
+        status == call.status
+            && output.as_slice() == call.output.as_bytes()
+            && faults.as_slice() == call.faults.as_bytes(),
+    )
+}
+
 fn assert_answers<R: Abort + AllocGlobal + RandomSource + Threads + Wait + Sync>(
     rt: &R,
     calls: &[Call],
 ) -> Result<(), Fail> {
     for call in calls {
-        let words = words_of(rt.alloc(), call.words)?;
-        let mut input = call.script;
-        let mut output = Vec::new(rt.alloc());
-        let mut faults = Vec::new(rt.alloc());
-        let status = run_program(
-            rt,
-            rt.alloc(),
-            words.as_slice(),
-            &mut input,
-            &mut output,
-            &mut faults,
-        );
-        assert_eq!(rt; status, call.status, "{}", call.case);
-        assert_eq!(rt;
-            str::from_utf8(output.as_slice())?,
-            call.output,
-            "{}",
-            call.case
-        );
-        assert_eq!(rt;
-            str::from_utf8(faults.as_slice())?,
-            call.faults,
-            "{}",
-            call.case
-        );
+        assert!(rt; is_answered(rt, call)?, "{}", call.case);
     }
     Ok(())
 }
@@ -328,43 +332,34 @@ fn views_streams(rt: HostRuntime) -> Result<(), Fail> {
     assert_answers(&rt, VIEWS.as_slice())
 }
 
-// What a command makes of the stream of `LOST`: the status, and whether it wrote this.
-fn of_lost<R: Threads + Wait + Sync + AllocGlobal + RandomSource>(
+fn stream_of_lost<R: Abort + AllocGlobal + RandomSource + Threads + Wait + Sync>(
+    rt: &R,
+) -> Result<Vec<u8>, AllocError> {
+    let mut stream = Vec::new(rt.alloc());
+    ask(rt, &["run"], &mut LOST, &mut stream, &mut Broken)?;
+    Ok(stream)
+}
+
+// Whether a command on this stream has this status and writes this.
+fn writes<R: Abort + AllocGlobal + RandomSource + Threads + Wait + Sync>(
     rt: &R,
     command: &str,
+    stream: &[u8],
+    status: u8,
     text: &str,
-) -> Result<(u8, bool), AllocError> {
-    let alloc = rt.alloc();
-    let mut stream = Vec::new(alloc);
-    let run = words_of(alloc, &["run"])?;
-    let _ = run_program(
-        rt,
-        alloc,
-        run.as_slice(),
-        &mut LOST,
-        &mut stream,
-        &mut Broken,
-    );
-    let words = words_of(alloc, &[command])?;
-    let mut output = Vec::new(alloc);
-    let status = run_program(
-        rt,
-        alloc,
-        words.as_slice(),
-        &mut stream.as_slice(),
-        &mut output,
-        &mut Broken,
-    );
-    Ok((status, output.as_slice() == text.as_bytes()))
+) -> Result<bool, AllocError> {
+    let mut input = stream;
+    let mut output = Vec::new(rt.alloc());
+    let answered = ask(rt, &[command], &mut input, &mut output, &mut Broken)?;
+    Ok(answered == status && output.as_slice() == text.as_bytes())
 }
 
 // `lint` tells of warnings by its status, and `view` does not.
 #[test]
 fn warns_of_a_lost_waker(rt: HostRuntime) -> Result<(), Fail> {
-    let lint = of_lost(&rt, "lint", "warn 1.1 lost-waker\n")?;
-    assert_eq!(rt; lint, (3, true));
-    let view = of_lost(&rt, "view", LOST_REPORT)?;
-    assert_eq!(rt; view, (0, true));
+    let stream = stream_of_lost(&rt)?;
+    assert!(rt; writes(&rt, "lint", stream.as_slice(), 3, "warn 1.1 lost-waker\n")?);
+    assert!(rt; writes(&rt, "view", stream.as_slice(), 0, LOST_REPORT)?);
     Ok(())
 }
 
@@ -398,87 +393,44 @@ impl Write for Broken {
     }
 }
 
+// Whether the program ends with status 1, and tells of this fault.
+fn fails<R: Abort + AllocGlobal + RandomSource + Threads + Wait + Sync, I: Read, O: Write>(
+    rt: &R,
+    word: &str,
+    input: &mut I,
+    output: &mut O,
+    text: &str,
+) -> Result<bool, AllocError> {
+    let mut faults = Vec::new(rt.alloc());
+    let status = ask(rt, &[word], input, output, &mut faults)?;
+    Ok(status == 1 && faults.as_slice() == text.as_bytes())
+}
+
 #[test]
 fn tells_of_broken_streams(rt: HostRuntime) -> Result<(), Fail> {
-    let alloc = rt.alloc();
-    let mut output = Vec::new(alloc);
-    let mut unread = Vec::new(alloc);
-    let run = words_of(alloc, &["run"])?;
-    let status = run_program(
-        &rt,
-        alloc,
-        run.as_slice(),
-        &mut Broken,
-        &mut output,
-        &mut unread,
+    let mut output = Vec::new(rt.alloc());
+    assert!(rt; fails(&rt, "run", &mut Broken, &mut output, "fault: Read\n")?);
+    assert!(rt; output.is_empty());
+    assert!(rt;
+        fails(
+            &rt,
+            "run",
+            &mut MAIN,
+            &mut Broken,
+            "fault: line 2: WriteFault\n"
+        )?
     );
-    assert_eq!(rt; (status, output.len()), (1, 0));
-    assert_eq!(rt; str::from_utf8(unread.as_slice())?, "fault: Read\n");
-
-    let mut unwritten = Vec::new(alloc);
-    let status = run_program(
-        &rt,
-        alloc,
-        run.as_slice(),
-        &mut MAIN,
-        &mut Broken,
-        &mut unwritten,
-    );
-    assert_eq!(rt; status, 1);
-    assert_eq!(rt;
-        str::from_utf8(unwritten.as_slice())?,
-        "fault: line 2: WriteFault\n"
-    );
-
-    let help = words_of(alloc, &["help"])?;
-    let mut unshown = Vec::new(alloc);
-    let status = run_program(
-        &rt,
-        alloc,
-        help.as_slice(),
-        &mut MAIN,
-        &mut Broken,
-        &mut unshown,
-    );
-    assert_eq!(rt; status, 1);
-    assert_eq!(rt; str::from_utf8(unshown.as_slice())?, "fault: Write\n");
+    assert!(rt; fails(&rt, "help", &mut MAIN, &mut Broken, "fault: Write\n")?);
     Ok(())
 }
 
 // The status is told where its text can't be.
 #[test]
 fn faults_that_no_one_reads(rt: HostRuntime) -> Result<(), Fail> {
-    let alloc = rt.alloc();
-    let run = words_of(alloc, &["run"])?;
-    let status = run_program(
-        &rt,
-        alloc,
-        run.as_slice(),
-        &mut Broken,
-        &mut Broken,
-        &mut Broken,
-    );
-    assert_eq!(rt; status, 1);
-    let view = words_of(alloc, &["view"])?;
-    let status = run_program(
-        &rt,
-        alloc,
-        view.as_slice(),
-        &mut Broken,
-        &mut Broken,
-        &mut Broken,
-    );
-    assert_eq!(rt; status, 1);
-    let demo = words_of(alloc, &["demo"])?;
-    let status = run_program(
-        &rt,
-        alloc,
-        demo.as_slice(),
-        &mut Broken,
-        &mut Broken,
-        &mut Broken,
-    );
-    assert_eq!(rt; status, 1);
+    for word in ["run", "view", "demo"] {
+        let status = ask(&rt, &[word], &mut Broken, &mut Broken, &mut Broken)?;
+        assert!(rt; status == 1, "{word}");
+    }
     Ok(())
 }
 
@@ -493,8 +445,11 @@ const WORDS_REFUSED: [(io::ErrorKind, u8, &str); 2] = [
 fn refuses_words_that_it_cannot_have(rt: HostRuntime) -> Result<(), Fail> {
     for (kind, status, text) in WORDS_REFUSED {
         let mut faults = Vec::new(rt.alloc());
-        assert_eq!(rt; refuse_words(kind, &mut faults), status);
-        assert_eq!(rt; str::from_utf8(faults.as_slice())?, text);
+        let answered = refuse_words(kind, &mut faults);
+        assert!(rt;
+            answered == status && faults.as_slice() == text.as_bytes(),
+            "{text}"
+        );
     }
     Ok(())
 }

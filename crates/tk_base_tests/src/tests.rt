@@ -2,4 +2,5 @@
 
 mod cells;
 mod ids;
+mod printed;
 mod rows;

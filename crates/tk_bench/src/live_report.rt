@@ -2,8 +2,8 @@
 
 use crate::error::BenchError;
 use crate::live::{LivePart, LiveTimes, line, lines, publish_time, record};
-use crate::report::tenths;
 use crate::rounds::{ROUNDS, Rounds};
+use crate::table::{tenths, write_head, write_row};
 use std::alloc::Global;
 use std::io::Write;
 use std::sync::Wait;
@@ -38,16 +38,10 @@ fn write_part<W: Write>(
     rounds: &Rounds,
     readings: u64,
 ) -> Result<(), BenchError> {
-    let name = part.name();
-    let (least, least_tenth) = tenths(rounds.least(), 1_000);
-    let (median, median_tenth) = tenths(rounds.median(), 1_000);
-    let (most, most_tenth) = tenths(rounds.most(), 1_000);
-    let (ratio, ratio_tenth) = tenths(rounds.median(), readings);
-    writeln!(
-        out,
-        "| {name} | {tasks} | {every} | {least}.{least_tenth} | {median}.{median_tenth} | {most}.{most_tenth} | {ratio}.{ratio_tenth} |"
-    )?;
-    Ok(())
+    let [least, median, most] = rounds.each_of(1_000);
+    let ratio = tenths(rounds.median(), readings);
+    let counts = [tasks as u64, every as u64];
+    write_row(out, &[part.name()], &counts, &[least, median, most, ratio])
 }
 
 fn write_parts<W: Write>(
@@ -103,18 +97,23 @@ fn lines_over<R: Wait + Clock, W: Write>(
     }
 }
 
+const HEADS: [&str; 7] = [
+    "microseconds of",
+    "tasks",
+    "one changed of",
+    "least",
+    "median",
+    "most",
+    "times bare readings",
+];
+
 /// Measures, and writes the table.
 pub(crate) fn all<R: Wait + Clock, W: Write>(
     rt: &R,
     alloc: Global,
     out: &mut W,
 ) -> Result<(), BenchError> {
-    writeln!(out)?;
-    writeln!(
-        out,
-        "| microseconds of | tasks | one changed of | least | median | most | times bare readings |"
-    )?;
-    writeln!(out, "|---|---|---|---|---|---|---|")?;
+    write_head(out, &HEADS)?;
     for tasks in [1_000u64, 10_000, 100_000] {
         lines_over(rt, alloc, out, tasks)?;
     }

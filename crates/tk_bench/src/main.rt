@@ -5,6 +5,7 @@
 #![tactic(auto)]
 
 mod error;
+mod floor;
 mod ids;
 mod ledgers;
 mod lines;
@@ -14,6 +15,7 @@ mod report;
 mod rounds;
 mod script_report;
 mod scripts;
+mod table;
 mod text_report;
 mod texts;
 mod views;

@@ -4,7 +4,8 @@ use crate::error::BenchError;
 use crate::ledgers::{Call, on_a_row, on_one_task, on_own_tasks};
 use crate::lines::{LineTimes, Part, Stream, Waker, changed, tables_of};
 use crate::rounds::{ROUNDS, Rounds};
-use crate::{live_report, script_report, text_report};
+use crate::table::{tenths, write_head, write_row};
+use crate::{floor, live_report, script_report, text_report};
 use std::alloc::Global;
 use std::io::Write;
 use std::sync::Wait;
@@ -73,12 +74,6 @@ impl Measure {
     }
 }
 
-/// A quotient, and its first digit behind the point.
-pub(crate) fn tenths(above: u64, below: u64) -> (u64, u64) {
-    let all = above.saturating_mul(10).checked_div(below).unwrap_or(0);
-    (all / 10, all % 10)
-}
-
 fn row_rounds<R: Clock>(rt: &R, times: u64) -> Result<Rounds, BenchError> {
     let mut nanos = [0u64; ROUNDS];
     for round in &mut nanos {
@@ -96,15 +91,9 @@ fn write_calls<W: Write>(
     times: u64,
     alone: u64,
 ) -> Result<(), BenchError> {
-    let (least, least_tenth) = tenths(rounds.least(), times);
-    let (median, median_tenth) = tenths(rounds.median(), times);
-    let (most, most_tenth) = tenths(rounds.most(), times);
-    let (ratio, ratio_tenth) = tenths(rounds.median(), alone);
-    writeln!(
-        out,
-        "| {name} | {threads} | {least}.{least_tenth} | {median}.{median_tenth} | {most}.{most_tenth} | {ratio}.{ratio_tenth} |"
-    )?;
-    Ok(())
+    let [least, median, most] = rounds.each_of(times);
+    let ratio = tenths(rounds.median(), alone);
+    write_row(out, &[name], &[threads], &[least, median, most, ratio])
 }
 
 fn calls<R: Wait + Threads + Clock + Sync, W: Write>(
@@ -113,11 +102,17 @@ fn calls<R: Wait + Threads + Clock + Sync, W: Write>(
     out: &mut W,
     times: u64,
 ) -> Result<(), BenchError> {
-    writeln!(
+    write_head(
         out,
-        "| nanoseconds of | threads | least | median | most | times a row's |"
+        &[
+            "nanoseconds of",
+            "threads",
+            "least",
+            "median",
+            "most",
+            "times a row's",
+        ],
     )?;
-    writeln!(out, "|---|---|---|---|---|---|")?;
     let row = row_rounds(rt, times)?;
     let alone = row.median();
     write_calls(out, "a wake of a row alone", 1, &row, times, alone)?;
@@ -130,11 +125,6 @@ fn calls<R: Wait + Threads + Clock + Sync, W: Write>(
     Ok(())
 }
 
-/// Megabytes in a second.
-pub(crate) fn rate(bytes: u64, nanos: u64) -> (u64, u64) {
-    tenths(bytes.saturating_mul(1000), nanos)
-}
-
 fn write_rate<W: Write>(
     out: &mut W,
     what: &str,
@@ -143,15 +133,10 @@ fn write_rate<W: Write>(
     bytes: u64,
     rounds: &Rounds,
 ) -> Result<(), BenchError> {
-    let (least, least_tenth) = rate(bytes, rounds.most());
-    let (median, median_tenth) = rate(bytes, rounds.median());
-    let (most, most_tenth) = rate(bytes, rounds.least());
-    let (micros, micros_tenth) = tenths(rounds.median(), 1_000);
-    writeln!(
-        out,
-        "| {what} | {tasks} | {every} | {bytes} | {micros}.{micros_tenth} | {least}.{least_tenth} | {median}.{median_tenth} | {most}.{most_tenth} |"
-    )?;
-    Ok(())
+    let [least, median, most] = rounds.rates(bytes);
+    let micros = tenths(rounds.median(), 1_000);
+    let counts = [tasks as u64, every as u64, bytes];
+    write_row(out, &[what], &counts, &[micros, least, median, most])
 }
 
 // A round's nanoseconds for each part of a line's way.
@@ -275,15 +260,16 @@ fn lines<R: Clock, W: Write>(
     }
 }
 
-fn write_head<W: Write>(out: &mut W) -> Result<(), BenchError> {
-    writeln!(out)?;
-    writeln!(
-        out,
-        "| a line is | tasks | one row changed of | bytes | microseconds, median | MB/s, least | median | most |"
-    )?;
-    writeln!(out, "|---|---|---|---|---|---|---|---|")?;
-    Ok(())
-}
+const LINE_HEADS: [&str; 8] = [
+    "a line is",
+    "tasks",
+    "one row changed of",
+    "bytes",
+    "microseconds, median",
+    "MB/s, least",
+    "median",
+    "most",
+];
 
 fn warning_rounds<R: Clock>(rt: &R, stream: &Stream) -> Result<(usize, Rounds), BenchError> {
     let mut nanos = [0u64; ROUNDS];
@@ -306,14 +292,8 @@ fn warnings_of<R: Clock, W: Write>(
     let (stream, _, _) = Stream::of(rt, alloc, tables)?;
     let (count, rounds) = warning_rounds(rt, &stream)?;
     let tasks = tables.task_count();
-    let (least, least_tenth) = tenths(rounds.least(), 1_000);
-    let (median, median_tenth) = tenths(rounds.median(), 1_000);
-    let (most, most_tenth) = tenths(rounds.most(), 1_000);
-    writeln!(
-        out,
-        "| {count} warnings | {tasks} | {least}.{least_tenth} | {median}.{median_tenth} | {most}.{most_tenth} |"
-    )?;
-    Ok(())
+    let counts = [count as u64, tasks as u64];
+    write_row(out, &["warnings"], &counts, &rounds.each_of(1_000))
 }
 
 fn warnings<R: Clock, W: Write>(
@@ -322,9 +302,15 @@ fn warnings<R: Clock, W: Write>(
     out: &mut W,
     tasks: u64,
 ) -> Result<(), BenchError> {
-    writeln!(out)?;
-    writeln!(out, "| microseconds of | tasks | least | median | most |")?;
-    writeln!(out, "|---|---|---|---|---|")?;
+    let heads = [
+        "microseconds of",
+        "how many",
+        "tasks",
+        "least",
+        "median",
+        "most",
+    ];
+    write_head(out, &heads)?;
     for waker in [Waker::Kept, Waker::Lost] {
         let tables = tables_of(alloc, tasks, waker)?;
         warnings_of(rt, alloc, out, &tables)?;
@@ -339,7 +325,8 @@ pub(crate) fn all<R: Wait + Threads + Clock + Sync, W: Write>(
     out: &mut W,
 ) -> Result<(), BenchError> {
     calls(rt, alloc, out, 200_000)?;
-    write_head(out)?;
+    floor::all(rt, alloc, out)?;
+    write_head(out, &LINE_HEADS)?;
     lines(rt, alloc, out, 1_000)?;
     lines(rt, alloc, out, 10_000)?;
     lines(rt, alloc, out, 100_000)?;
@@ -361,6 +348,7 @@ pub(crate) fn small<R: Wait + Threads + Clock + Sync, W: Write>(
             writeln!(out, "{}, threads {threads}: 100", measure.name())?;
         }
     }
+    floor::small(rt, alloc, out)?;
     small_line(rt, alloc, out)?;
     text_report::small(alloc, out)?;
     live_report::small(rt, alloc, out)?;

@@ -1,6 +1,7 @@
 //! The times of some rounds of one thing.
 
 use crate::error::BenchError;
+use crate::table::{rate, tenths};
 use std::time::{Clock, Instant};
 
 /// How many rounds there are of each thing.
@@ -18,16 +19,26 @@ impl Rounds {
         Rounds { nanos }
     }
 
-    pub(crate) fn least(&self) -> u64 {
-        self.nanos[0]
+    /// The least, the median and the most as numbers of such a unit, with their first digit behind the point.
+    pub(crate) fn each_of(&self, unit: u64) -> [(u64, u64); 3] {
+        [
+            tenths(self.nanos[0], unit),
+            tenths(self.nanos[2], unit),
+            tenths(self.nanos[4], unit),
+        ]
+    }
+
+    /// The least, the median and the most of megabytes in a second, where each round takes so many bytes.
+    pub(crate) fn rates(&self, bytes: u64) -> [(u64, u64); 3] {
+        [
+            rate(bytes, self.nanos[4]),
+            rate(bytes, self.nanos[2]),
+            rate(bytes, self.nanos[0]),
+        ]
     }
 
     pub(crate) fn median(&self) -> u64 {
         self.nanos[2]
-    }
-
-    pub(crate) fn most(&self) -> u64 {
-        self.nanos[4]
     }
 }
 

@@ -1,9 +1,9 @@
 //! The table of scripts.
 
 use crate::error::BenchError;
-use crate::report::tenths;
 use crate::rounds::Rounds;
 use crate::scripts::{Way, polls_of, tasks_of};
+use crate::table::{tenths, write_head, write_row};
 use std::alloc::Global;
 use std::io::Write;
 use std::sync::Wait;
@@ -19,16 +19,14 @@ fn write_run<W: Write>(
     plain: u64,
 ) -> Result<(), BenchError> {
     let (script, commands) = what;
-    let name = way.name();
-    let (least, least_tenth) = tenths(rounds.least(), 1_000_000);
-    let (median, median_tenth) = tenths(rounds.median(), 1_000_000);
-    let (most, most_tenth) = tenths(rounds.most(), 1_000_000);
-    let (ratio, ratio_tenth) = tenths(rounds.median(), plain);
-    writeln!(
+    let [least, median, most] = rounds.each_of(1_000_000);
+    let ratio = tenths(rounds.median(), plain);
+    write_row(
         out,
-        "| {script} | {commands} | {name} | {least}.{least_tenth} | {median}.{median_tenth} | {most}.{most_tenth} | {ratio}.{ratio_tenth} |"
-    )?;
-    Ok(())
+        &[script, way.name()],
+        &[commands],
+        &[least, median, most, ratio],
+    )
 }
 
 fn runs<R: Threads + Wait + Sync + Clock, W: Write>(
@@ -68,18 +66,23 @@ fn runs_of_tasks<R: Threads + Wait + Sync + Clock, W: Write>(
     runs(rt, alloc, out, (name, commands.saturating_add(1)), &script)
 }
 
+const HEADS: [&str; 7] = [
+    "milliseconds of a script of",
+    "run",
+    "commands",
+    "least",
+    "median",
+    "most",
+    "times plain rows'",
+];
+
 /// Measures, and writes the table.
 pub(crate) fn all<R: Threads + Wait + Sync + Clock, W: Write>(
     rt: &R,
     alloc: Global,
     out: &mut W,
 ) -> Result<(), BenchError> {
-    writeln!(out)?;
-    writeln!(
-        out,
-        "| milliseconds of a script of | commands | run | least | median | most | times plain rows' |"
-    )?;
-    writeln!(out, "|---|---|---|---|---|---|---|")?;
+    write_head(out, &HEADS)?;
     runs_of_polls(rt, alloc, out, 49_999)?;
     runs_of_tasks(rt, alloc, out, "30,000 tasks in 1,000 lines", 1_000, 30)?;
     runs_of_tasks(rt, alloc, out, "65,000 tasks in one line", 1, 65_000)

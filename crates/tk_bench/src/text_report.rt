@@ -2,8 +2,7 @@
 
 use crate::error::BenchError;
 use crate::lines::{Waker, changed, tables_of};
-use crate::report::{rate, tenths};
-use crate::rounds::Rounds;
+use crate::table::{tenths, write_head, write_row};
 use crate::texts::{Sample, Told, Way, spaced, text_of};
 use crate::views::{Whole, report_size, stream_of};
 use std::alloc::Global;
@@ -16,24 +15,6 @@ const TOLD: [Told; 4] = [Told::Rows, Told::Tasks, Told::Resources, Told::Ops];
 const WAYS: [Way; 4] = [Way::Read, Way::JsonRead, Way::Write, Way::JsonWrite];
 
 const WHOLES: [Whole; 3] = [Whole::View, Whole::Feed, Whole::Json];
-
-// Bytes, and megabytes in a second.
-fn write_rates<W: Write>(
-    out: &mut W,
-    bytes: u64,
-    times: u64,
-    rounds: &Rounds,
-) -> Result<(), BenchError> {
-    let all = bytes.saturating_mul(times);
-    let (least, least_tenth) = rate(all, rounds.most());
-    let (median, median_tenth) = rate(all, rounds.median());
-    let (most, most_tenth) = rate(all, rounds.least());
-    writeln!(
-        out,
-        " {bytes} | {least}.{least_tenth} | {median}.{median_tenth} | {most}.{most_tenth} |"
-    )?;
-    Ok(())
-}
 
 // The rows of a text, which a round takes so often.
 fn ways<R: Clock, W: Write>(
@@ -48,8 +29,9 @@ fn ways<R: Clock, W: Write>(
     let (told, layout, items) = what;
     for way in WAYS {
         let rounds = sample.rounds(rt, alloc, text, way)?;
-        write!(out, "| {told}, {layout} | {items} | {} |", way.name())?;
-        write_rates(out, text.len() as u64, times, &rounds)?;
+        let bytes = text.len() as u64;
+        let rates = rounds.rates(bytes.saturating_mul(times));
+        write_row(out, &[told, layout, way.name()], &[items, bytes], &rates)?;
     }
     Ok(())
 }
@@ -88,17 +70,26 @@ fn wholes<R: Clock, W: Write>(
     out: &mut W,
     bytes: &[u8],
 ) -> Result<(), BenchError> {
-    writeln!(out)?;
-    writeln!(
-        out,
-        "| what | milliseconds, median | bytes | MB/s, least | median | most |"
-    )?;
-    writeln!(out, "|---|---|---|---|---|---|")?;
+    let heads = [
+        "what",
+        "bytes",
+        "milliseconds, median",
+        "MB/s, least",
+        "median",
+        "most",
+    ];
+    write_head(out, &heads)?;
+    let size = bytes.len() as u64;
     for whole in WHOLES {
         let rounds = whole.rounds(rt, alloc, bytes)?;
-        let (median, tenth) = tenths(rounds.median(), 1_000_000);
-        write!(out, "| {} | {median}.{tenth} |", whole.name())?;
-        write_rates(out, bytes.len() as u64, 1, &rounds)?;
+        let [least, median, most] = rounds.rates(size);
+        let millis = tenths(rounds.median(), 1_000_000);
+        write_row(
+            out,
+            &[whole.name()],
+            &[size],
+            &[millis, least, median, most],
+        )?;
     }
     Ok(())
 }
@@ -119,18 +110,24 @@ fn views<R: Clock, W: Write>(rt: &R, alloc: Global, out: &mut W) -> Result<(), B
     wholes(rt, alloc, out, &bytes)
 }
 
+const HEADS: [&str; 8] = [
+    "a line of",
+    "written",
+    "what",
+    "items",
+    "bytes",
+    "MB/s, least",
+    "median",
+    "most",
+];
+
 /// Measures all, and writes the tables.
 pub(crate) fn all<R: Clock, W: Write>(
     rt: &R,
     alloc: Global,
     out: &mut W,
 ) -> Result<(), BenchError> {
-    writeln!(out)?;
-    writeln!(
-        out,
-        "| a line of | items | what | bytes | MB/s, least | median | most |"
-    )?;
-    writeln!(out, "|---|---|---|---|---|---|---|")?;
+    write_head(out, &HEADS)?;
     texts(rt, alloc, out, 1, 10_000)?;
     texts(rt, alloc, out, 100, 100)?;
     texts(rt, alloc, out, 10_000, 1)?;

@@ -26,7 +26,7 @@ fn first_reply<O: Sequential, R: Wait>(
 fn an_opening_task_is_read_back(rt: HostRuntime) -> Result<(), Fail> {
     let row = TaskRow::opening(7);
     let shown = first_reply(&rt, rt.alloc(), row, TaskCall::Read)?;
-    assert_eq!(rt; shown, Reply::Shown(row));
+    assert!(rt; shown == Reply::Shown(row));
     Ok(())
 }
 
@@ -37,8 +37,7 @@ fn an_opening_operation_is_read_back(rt: HostRuntime) -> Result<(), Fail> {
     let Reply::Shown(shown) = first_reply(&rt, rt.alloc(), row, OpCall::Read)? else {
         return Err(Fail::from("no row was shown"));
     };
-    assert_eq!(rt; shown.task, no_task);
-    assert_eq!(rt; shown.to_words(), row.to_words());
+    assert!(rt; shown.task == no_task && shown.to_words() == row.to_words());
     Ok(())
 }
 
@@ -48,7 +47,6 @@ fn an_opening_resource_is_read_back(rt: HostRuntime) -> Result<(), Fail> {
     let Reply::Shown(shown) = first_reply(&rt, rt.alloc(), row, ResourceCall::Read)? else {
         return Err(Fail::from("no row was shown"));
     };
-    assert_eq!(rt; shown.attrs.list().as_slice(), [AttrValue::U64(5)].as_slice());
-    assert_eq!(rt; shown, row);
+    assert!(rt; shown.attrs.list().as_slice() == [AttrValue::U64(5)].as_slice() && shown == row);
     Ok(())
 }

@@ -119,14 +119,10 @@ fn wakes_of_two_threads_add_up(rt: HostRuntime) -> Result<(), Fail> {
     let (shared, mut owner) = Shared::new(&rt, rt.alloc(), TaskRow::opening(7))?;
     let one = clone_waker(&rt, &shared, &mut owner).ok_or("no waker")?;
     let two = clone_waker(&rt, &shared, &mut owner).ok_or("no second waker")?;
-    assert_eq!(rt; one.token.caller(), 1);
-    assert_eq!(rt; two.token.caller(), 2);
+    assert!(rt; one.token.caller() == 1 && two.token.caller() == 2);
     let Reply::Shown(row) = wake_twice(&rt, &shared, &mut owner, one, two) else {
         return Err(Fail::from("no row was shown"));
     };
-    assert_eq!(rt; row.wakes, 2 * WAKES);
-    assert_eq!(rt; row.clones, 2);
-    assert_eq!(rt; row.drops, 0);
-    assert_eq!(rt; owner.caller(), 0);
+    assert!(rt; row.wakes == 2 * WAKES && row.clones == 2 && row.drops == 0 && owner.caller() == 0);
     Ok(())
 }

@@ -1,6 +1,7 @@
 //! Numbers and texts of refusals.
 
-use std::test::*;
+use crate::tests::printed::is_printed;
+use std::alloc::Global;
 use tk_core::Refusal;
 
 #[rattlefmt::skip]
@@ -16,11 +17,12 @@ const REFUSALS: [(Refusal, u32, &str); 8] = [
 ];
 
 #[test]
-fn each_refusal_has_a_number_and_a_text(rt: HostRuntime) -> Result<(), Fail> {
+fn each_refusal_has_a_number_and_a_text(rt: HostRuntime) {
+    let alloc: Global = rt.alloc();
     for (refusal, code, text) in REFUSALS {
-        assert_eq!(rt; refusal.code(), code, "{text}");
-        let printed = format!(in rt.alloc(); "{refusal}")?;
-        assert_eq!(rt; printed.as_str(), text);
+        assert!(rt;
+            refusal.code() == code && is_printed(alloc, &refusal, text),
+            "{text}"
+        );
     }
-    Ok(())
 }
