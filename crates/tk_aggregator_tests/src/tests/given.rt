@@ -1,6 +1,7 @@
 //! What several tests begin with: items that are recorded, and an aggregator that takes them in.
 //!
 //! Each function owns at most one aggregator, owner or text, and lends it to the next: that keeps the proofs short.
+ghost use Rattle.std.specs.Prelude.{◌≤◌, ◌^◌};
 
 use std::alloc::Global;
 use std::io::Write;
@@ -105,11 +106,24 @@ pub(super) fn take_in_task<R: Wait>(
     }
 }
 
-// An aggregator that shows a task `main`, created at 100, and has told nothing.
-pub(super) fn with_main<R: Wait>(rt: &R, alloc: Global) -> Option<Aggregator> {
-    let mut aggregator = Aggregator::new(alloc, 0).ok()?;
-    take_in_task(rt, alloc, &mut aggregator, b"main", 100)?;
-    Some(aggregator)
+// Whether a check holds of a new aggregator behind so many lines. It is owned here alone, so its end is proved once.
+pub(super) fn on_new<F: FnOnce(&mut Aggregator) -> bool>(
+    alloc: Global,
+    after: u64,
+    check: F,
+) -> bool
+    requires after { after ≤ 2 ^ 63 }
+    requires callable { F.IsAlwaysCallable check }
+{
+    match Aggregator::new(alloc, after) {
+        Ok(mut aggregator) => check(&mut aggregator),
+        Err(_) => false,
+    }
+}
+
+// Whether the aggregator takes in a task `main`, created at 100.
+pub(super) fn takes_in_main<R: Wait>(rt: &R, alloc: Global, aggregator: &mut Aggregator) -> bool {
+    take_in_task(rt, alloc, aggregator, b"main", 100).is_some()
 }
 
 // The number of the line that reads all rows anew and tells of them.

@@ -1,6 +1,6 @@
 //! Items of each kind and a poll operation, recorded, changed, read and told.
 
-use super::given::{FIRST, collects, limits, location, make_task, refresh_and_publish};
+use super::given::{FIRST, collects, limits, location, make_task, on_new, refresh_and_publish};
 use super::texts::WORKED;
 use std::alloc::Global;
 use std::sync::Wait;
@@ -132,10 +132,11 @@ fn tells_of_four<R: Wait>(
     user: &mut ResourceUser,
     owner: &mut OpOwner,
 ) -> bool {
-    match Aggregator::new(alloc, 0) {
-        Ok(mut aggregator) => { collects_and_tells(rt, alloc, &mut aggregator, taker, user, owner) }
-        Err(_) => false,
-    }
+    on_new(
+        alloc,
+        0,
+        |aggregator| collects_and_tells(rt, alloc, aggregator, taker, user, owner),
+    )
 }
 
 fn makes_op<R: Wait>(

@@ -1,6 +1,6 @@
 //! What is refused, in which order, and what stays.
 
-use super::given::{collects, limits, make_task};
+use super::given::{collects, limits, make_task, on_new};
 use super::writers::{cuts, is_broken};
 use std::alloc::Global;
 use std::sync::Wait;
@@ -41,10 +41,7 @@ fn keeps_its_clock(alloc: Global, aggregator: &mut Aggregator) -> bool {
 }
 
 pub(super) fn never_runs_backwards(alloc: Global) -> bool {
-    match Aggregator::new(alloc, 0) {
-        Ok(mut aggregator) => keeps_its_clock(alloc, &mut aggregator),
-        Err(_) => false,
-    }
+    on_new(alloc, 0, |aggregator| keeps_its_clock(alloc, aggregator))
 }
 
 fn has_no_number(alloc: Global, aggregator: &mut Aggregator) -> bool {
@@ -53,10 +50,7 @@ fn has_no_number(alloc: Global, aggregator: &mut Aggregator) -> bool {
 }
 
 pub(super) fn writes_no_line_behind_the_last(alloc: Global) -> bool {
-    match Aggregator::new(alloc, MOST) {
-        Ok(mut aggregator) => has_no_number(alloc, &mut aggregator),
-        Err(_) => false,
-    }
+    on_new(alloc, MOST, |aggregator| has_no_number(alloc, aggregator))
 }
 
 // A line that was cut off is told before the clock is looked at, and a snapshot mends it.
@@ -76,14 +70,16 @@ fn looks_at_the_clock_first(alloc: Global, aggregator: &mut Aggregator) -> bool 
         && refuses(alloc, aggregator, 7, StreamError::NumbersSpent)
 }
 
+fn keeps_its_order(alloc: Global, aggregator: &mut Aggregator) -> bool {
+    is_broken_before_all(alloc, aggregator) && looks_at_the_clock_first(alloc, aggregator)
+}
+
 pub(super) fn refuses_in_order(alloc: Global) -> bool {
-    match Aggregator::new(alloc, MOST - 2) {
-        Ok(mut aggregator) => {
-            is_broken_before_all(alloc, &mut aggregator)
-                && looks_at_the_clock_first(alloc, &mut aggregator)
-        },
-        Err(_) => false,
-    }
+    on_new(
+        alloc,
+        MOST - 2,
+        |aggregator| keeps_its_order(alloc, aggregator),
+    )
 }
 
 fn makes_two<R: Wait>(rt: &R, alloc: Global, recorders: &mut Vec<Recorder>) -> bool {
@@ -108,16 +104,15 @@ fn takes<R: Wait>(
     collects(rt, aggregator, taker, limit, count) && aggregator.tables().task_count() == tasks
 }
 
+fn takes_both<R: Wait>(rt: &R, aggregator: &mut Aggregator, taker: &mut Taker) -> bool {
+    takes(rt, aggregator, taker, 0, 0, 0)
+        && takes(rt, aggregator, taker, 1, 1, 1)
+        && takes(rt, aggregator, taker, 9, 1, 2)
+        && takes(rt, aggregator, taker, 9, 0, 2)
+}
+
 fn takes_at_most<R: Wait>(rt: &R, alloc: Global, taker: &mut Taker) -> bool {
-    match Aggregator::new(alloc, 0) {
-        Ok(mut aggregator) => {
-            takes(rt, &mut aggregator, taker, 0, 0, 0)
-                && takes(rt, &mut aggregator, taker, 1, 1, 1)
-                && takes(rt, &mut aggregator, taker, 9, 1, 2)
-                && takes(rt, &mut aggregator, taker, 9, 0, 2)
-        }
-        Err(_) => false,
-    }
+    on_new(alloc, 0, |aggregator| takes_both(rt, aggregator, taker))
 }
 
 pub(super) fn takes_no_more_than_its_limit<R: Wait>(rt: &R, alloc: Global) -> bool {

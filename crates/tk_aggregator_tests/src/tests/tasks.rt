@@ -1,6 +1,6 @@
 //! A task's poll, a snapshot, and a task that is dropped, as lines tell of them.
 
-use super::given::{collects, limits, make_task, refresh_and_publish, take_in_task};
+use super::given::{collects, limits, make_task, on_new, refresh_and_publish, take_in_task};
 use super::texts::{DROPPED, EMPTY_TWICE, POLLED};
 use std::alloc::Global;
 use std::sync::Wait;
@@ -53,10 +53,11 @@ fn polls_and_tells<R: Wait>(rt: &R, alloc: Global, aggregator: &mut Aggregator) 
 }
 
 pub(super) fn tells_of_a_poll_and_all<R: Wait>(rt: &R, alloc: Global) -> bool {
-    match Aggregator::new(alloc, 0) {
-        Ok(mut aggregator) => polls_and_tells(rt, alloc, &mut aggregator),
-        Err(_) => false,
-    }
+    on_new(
+        alloc,
+        0,
+        |aggregator| polls_and_tells(rt, alloc, aggregator),
+    )
 }
 
 fn tells_nothing_twice(alloc: Global, aggregator: &mut Aggregator) -> bool {
@@ -67,10 +68,11 @@ fn tells_nothing_twice(alloc: Global, aggregator: &mut Aggregator) -> bool {
 }
 
 pub(super) fn tells_of_no_items(alloc: Global) -> bool {
-    match Aggregator::new(alloc, 0) {
-        Ok(mut aggregator) => tells_nothing_twice(alloc, &mut aggregator),
-        Err(_) => false,
-    }
+    on_new(
+        alloc,
+        0,
+        |aggregator| tells_nothing_twice(alloc, aggregator),
+    )
 }
 
 // Whether a task is made that starts a poll.
@@ -116,10 +118,11 @@ fn writes_dropped<R: Wait>(
 }
 
 fn tells_of_dropped<R: Wait>(rt: &R, alloc: Global, taker: &mut Taker) -> bool {
-    match Aggregator::new(alloc, 0) {
-        Ok(mut aggregator) => writes_dropped(rt, alloc, &mut aggregator, taker),
-        Err(_) => false,
-    }
+    on_new(
+        alloc,
+        0,
+        |aggregator| writes_dropped(rt, alloc, aggregator, taker),
+    )
 }
 
 // The task whose event is dropped starts a poll, and no line tells of it.

@@ -1,6 +1,6 @@
 //! Two recorders on threads of their own, while in a third an aggregator takes, reads and tells. A client follows its stream.
 
-use super::given::{are_taken, limits, make_task, refresh_and_publish};
+use super::given::{are_taken, limits, make_task, on_new, refresh_and_publish};
 use std::alloc::Global;
 use std::sync::Wait;
 use std::sync::atomic::{AtomicBool, Ordering};
@@ -155,10 +155,11 @@ fn tells_beside<R: Threads + Wait + Sync>(
     recorders: Vec<Recorder>,
     taker: &mut Taker,
 ) -> bool {
-    match Aggregator::new(alloc, 0) {
-        Ok(mut aggregator) => is_followed(rt, alloc, recorders, taker, &mut aggregator),
-        Err(_) => false,
-    }
+    on_new(
+        alloc,
+        0,
+        |aggregator| is_followed(rt, alloc, recorders, taker, aggregator),
+    )
 }
 
 pub(super) fn is_followed_beside_two_recorders<R: Wait + Threads + Sync>(

@@ -1,6 +1,6 @@
 //! No lock is held through a write: a writer waits inside its write until a recorder in another thread has made an offer.
 
-use super::given::{collects, limits, make_task};
+use super::given::{collects, limits, make_task, on_new};
 use std::alloc::Global;
 use std::io::Write;
 use std::sync::Wait;
@@ -90,13 +90,9 @@ fn is_offered_meanwhile<R: Wait + Threads + Sync>(
     taker: &mut Taker,
     flags: &Flags,
 ) -> bool {
-    match Aggregator::new(alloc, 0) {
-        Ok(mut aggregator) => {
-            both(rt, alloc, &mut aggregator, recorder, flags)
-                && collects(rt, &mut aggregator, taker, 9, 1)
-        }
-        Err(_) => false,
-    }
+    on_new(alloc, 0, |aggregator| {
+        both(rt, alloc, aggregator, recorder, flags) && collects(rt, aggregator, taker, 9, 1)
+    })
 }
 
 fn first_offers_meanwhile<R: Wait + Threads + Sync>(

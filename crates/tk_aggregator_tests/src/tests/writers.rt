@@ -1,6 +1,6 @@
 //! Writers that take little, nothing, or fail.
 
-use super::given::{are_taken, with_main};
+use super::given::{are_taken, on_new, takes_in_main};
 use super::texts::{MAIN, MAIN_AGAIN};
 use std::alloc::Global;
 use std::io;
@@ -51,10 +51,9 @@ fn writes_byte_by_byte(alloc: Global, aggregator: &mut Aggregator) -> bool {
 }
 
 pub(super) fn goes_out_byte_by_byte<R: Wait>(rt: &R, alloc: Global) -> bool {
-    match with_main(rt, alloc) {
-        Some(mut aggregator) => writes_byte_by_byte(alloc, &mut aggregator),
-        None => false,
-    }
+    on_new(alloc, 0, |aggregator| {
+        takes_in_main(rt, alloc, aggregator) && writes_byte_by_byte(alloc, aggregator)
+    })
 }
 
 // This front of the line at 200 goes out, and the tables are of no line.
@@ -78,15 +77,22 @@ fn is_mended(alloc: Global, aggregator: &mut Aggregator) -> bool {
         && are_taken(alloc, written.as_slice(), 1, aggregator.tables())
 }
 
+fn is_mended_behind(
+    alloc: Global,
+    aggregator: &mut Aggregator,
+    front: &[u8],
+    is_silent: bool,
+) -> bool {
+    keeps_front(alloc, aggregator, front, is_silent)
+        && is_broken(alloc, aggregator, 200)
+        && is_mended(alloc, aggregator)
+}
+
 fn is_cut_and_mended<R: Wait>(rt: &R, alloc: Global, front: &[u8], is_silent: bool) -> bool {
-    match with_main(rt, alloc) {
-        Some(mut aggregator) => {
-            keeps_front(alloc, &mut aggregator, front, is_silent)
-                && is_broken(alloc, &mut aggregator, 200)
-                && is_mended(alloc, &mut aggregator)
-        }
-        None => false,
-    }
+    on_new(alloc, 0, |aggregator| {
+        takes_in_main(rt, alloc, aggregator)
+            && is_mended_behind(alloc, aggregator, front, is_silent)
+    })
 }
 
 fn assert_all_are_mended<R: Abort + Wait + AllocGlobal>(rt: &R, line: &[u8]) {
@@ -127,10 +133,9 @@ fn is_cut_in_the_second(alloc: Global, aggregator: &mut Aggregator) -> bool {
 }
 
 pub(super) fn goes_on_behind_a_cut_second_line<R: Wait>(rt: &R, alloc: Global) -> bool {
-    match with_main(rt, alloc) {
-        Some(mut aggregator) => is_cut_in_the_second(alloc, &mut aggregator),
-        None => false,
-    }
+    on_new(alloc, 0, |aggregator| {
+        takes_in_main(rt, alloc, aggregator) && is_cut_in_the_second(alloc, aggregator)
+    })
 }
 
 // Takes nothing of a line at this moment.

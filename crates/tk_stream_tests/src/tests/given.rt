@@ -7,6 +7,16 @@ use tk_core::{OpRow, ResourceRow, TaskRow};
 use tk_ids::{OpInfo, ResourceInfo, TaskInfo};
 use tk_stream::{Line, Tables};
 
+// Whether a check holds of new tables. They are owned here alone, so their end is proved once.
+pub(super) fn on_new<F: FnOnce(&mut Tables) -> bool>(alloc: Global, check: F) -> bool
+    requires { F.IsAlwaysCallable check }
+{
+    match Tables::new(alloc) {
+        Ok(mut tables) => check(&mut tables),
+        Err(_) => false,
+    }
+}
+
 pub(super) fn put_task(tables: &mut Tables, info: TaskInfo, row: TaskRow) -> Option<()> {
     if tables.task(info.id).is_some() {
         return None;

@@ -1,16 +1,16 @@
 //! Lines between tables, by their whole texts.
 
-use super::given::{fill, leads, put_counts, writes};
+use super::given::{fill, leads, on_new, put_counts, writes};
 use super::texts::{CHANGED, FIRST, FULL, UNCHANGED};
 use std::alloc::Global;
 use tk_stream::{Line, Tables};
 
 // Whether the line from empty tables to these, with the line's number, writes itself so.
 fn leads_from_empty(alloc: Global, new: &Tables, line: &Line, text: &str) -> bool {
-    match Tables::new(alloc) {
-        Ok(empty) => leads(alloc, &empty, new, line, text.as_bytes()),
-        Err(_) => false,
-    }
+    on_new(
+        alloc,
+        |empty| leads(alloc, empty, new, line, text.as_bytes()),
+    )
 }
 
 // The same of their copy.
@@ -22,10 +22,11 @@ fn copy_leads_from_empty(alloc: Global, new: &Tables, line: &Line, text: &str) -
 }
 
 fn leads_to_filled(alloc: Global, line: &Line, text: &str) -> bool {
-    let mut tables = Tables::new(alloc).unwrap();
-    fill(&mut tables, line).is_some()
-        && leads_from_empty(alloc, &tables, line, text)
-        && copy_leads_from_empty(alloc, &tables, line, text)
+    on_new(alloc, |tables| {
+        fill(tables, line).is_some()
+            && leads_from_empty(alloc, tables, line, text)
+            && copy_leads_from_empty(alloc, tables, line, text)
+    })
 }
 
 // Tables that are filled from a line, and their copy, have that line between them and empty ones.
@@ -37,17 +38,18 @@ fn tells_all_of_what_is_new(rt: HostRuntime) {
     }
 }
 
-fn is_snapshot(alloc: Global, new: &Tables, line: &Line, text: &str) -> bool {
-    let empty = Tables::new(alloc).unwrap();
-    match Line::between(alloc, &empty, new, line.seq(), true) {
+fn is_snapshot(alloc: Global, empty: &Tables, new: &Tables, line: &Line, text: &str) -> bool {
+    match Line::between(alloc, empty, new, line.seq(), true) {
         Ok(line) => writes(&line, text.as_bytes()),
         Err(_) => false,
     }
 }
 
 fn is_snapshot_of_filled(alloc: Global, line: &Line, text: &str) -> bool {
-    let mut tables = Tables::new(alloc).unwrap();
-    fill(&mut tables, line).is_some() && is_snapshot(alloc, &tables, line, text)
+    on_new(alloc, |tables| {
+        fill(tables, line).is_some()
+            && on_new(alloc, |empty| is_snapshot(alloc, empty, tables, line, text))
+    })
 }
 
 #[test]
@@ -102,8 +104,9 @@ fn leads_to_changed(alloc: Global, old: &Tables, line: &Line, text: &str) -> boo
 }
 
 fn leads_from_filled(alloc: Global, first: &Line, line: &Line, text: &str) -> bool {
-    let mut old = Tables::new(alloc).unwrap();
-    fill(&mut old, first).is_some() && leads_to_changed(alloc, &old, line, text)
+    on_new(alloc, |old| {
+        fill(old, first).is_some() && leads_to_changed(alloc, old, line, text)
+    })
 }
 
 fn leads_from_first(alloc: Global, line: &Line, text: &str) -> bool {

@@ -1,6 +1,6 @@
 //! A line of many tasks.
 
-use super::given::{put_task, writes};
+use super::given::{on_new, put_task, writes};
 use super::texts::FIRST;
 use std::alloc::Global;
 use tk_ids::{TaskId, TaskInfo};
@@ -51,13 +51,16 @@ fn line_reads_back(alloc: Global, old: &Tables, new: &Tables, line: &Line, count
 }
 
 fn tables_read_back(alloc: Global, new: &Tables, line: &Line, count: u32) -> bool {
-    let empty = Tables::new(alloc).unwrap();
-    line_reads_back(alloc, &empty, new, line, count)
+    on_new(
+        alloc,
+        |empty| line_reads_back(alloc, empty, new, line, count),
+    )
 }
 
 fn many_read_back(alloc: Global, line: &Line, count: u32) -> bool {
-    let mut tables = Tables::new(alloc).unwrap();
-    put_many(&mut tables, line, count) && tables_read_back(alloc, &tables, line, count)
+    on_new(alloc, |tables| {
+        put_many(tables, line, count) && tables_read_back(alloc, tables, line, count)
+    })
 }
 
 #[test]

@@ -1,6 +1,6 @@
 //! Tables, filled, changed and cut.
 
-use super::given::{fill, put_counts, put_task};
+use super::given::{fill, on_new, put_counts, put_task};
 use super::texts::TWO;
 use std::alloc::Global;
 use tk_ids::{AsyncOpId, ResourceId, TaskId};
@@ -44,15 +44,18 @@ fn created_of_op_at(tables: &Tables, i: usize) -> Option<u64> {
     Some(tables.op_at(i)?.row.created)
 }
 
+fn are_empty(tables: &Tables) -> bool {
+    tables.task_count() == 0
+        && tables.resource_count() == 0
+        && tables.op_count() == 0
+        && tables.counted() == 0
+        && tables.dropped().ops == 0
+        && tables.now() == 0
+}
+
 #[test]
 fn begins_empty(rt: HostRuntime) {
-    let tables = Tables::new(rt.alloc()).unwrap();
-    assert_eq!(rt; tables.task_count(), 0);
-    assert_eq!(rt; tables.resource_count(), 0);
-    assert_eq!(rt; tables.op_count(), 0);
-    assert_eq!(rt; tables.counted(), 0);
-    assert_eq!(rt; tables.dropped().ops, 0);
-    assert_eq!(rt; tables.now(), 0);
+    assert!(rt; on_new(rt.alloc(), |tables| are_empty(tables)));
 }
 
 fn holds_tasks(tables: &Tables, line: &Line) -> Option<bool> {
@@ -113,8 +116,10 @@ fn holds_all(tables: &Tables, line: &Line) -> bool {
 }
 
 fn filled_hold_all(alloc: Global, line: &Line) -> bool {
-    let mut tables = Tables::new(alloc).unwrap();
-    fill(&mut tables, line).is_some() && holds_all(&tables, line)
+    on_new(
+        alloc,
+        |tables| fill(tables, line).is_some() && holds_all(tables, line),
+    )
 }
 
 #[test]
@@ -153,8 +158,10 @@ fn cuts(tables: &mut Tables, line: &Line) -> bool {
 }
 
 fn filled_are_cut(alloc: Global, line: &Line) -> bool {
-    let mut tables = Tables::new(alloc).unwrap();
-    fill(&mut tables, line).is_some() && cuts(&mut tables, line)
+    on_new(
+        alloc,
+        |tables| fill(tables, line).is_some() && cuts(tables, line),
+    )
 }
 
 #[test]
@@ -179,8 +186,7 @@ fn replaces_first(tables: &mut Tables, line: &Line) -> Option<bool> {
 }
 
 fn filled_are_replaced(alloc: Global, line: &Line) -> bool {
-    let mut tables = Tables::new(alloc).unwrap();
-    replaces_first(&mut tables, line) == Some(true)
+    on_new(alloc, |tables| replaces_first(tables, line) == Some(true))
 }
 
 #[test]
