@@ -38,8 +38,9 @@ fn tells_all_of_what_is_new(rt: HostRuntime) {
     }
 }
 
-fn is_snapshot(alloc: Global, empty: &Tables, new: &Tables, line: &Line, text: &str) -> bool {
-    match Line::between(alloc, empty, new, line.seq(), true) {
+fn is_snapshot(alloc: Global, new: &Tables, line: &Line, text: &str) -> bool {
+    let empty = Tables::new(alloc).unwrap();
+    match Line::between(alloc, &empty, new, line.seq(), true) {
         Ok(line) => writes(&line, text.as_bytes()),
         Err(_) => false,
     }
@@ -47,8 +48,7 @@ fn is_snapshot(alloc: Global, empty: &Tables, new: &Tables, line: &Line, text: &
 
 fn is_snapshot_of_filled(alloc: Global, line: &Line, text: &str) -> bool {
     on_new(alloc, |tables| {
-        fill(tables, line).is_some()
-            && on_new(alloc, |empty| is_snapshot(alloc, empty, tables, line, text))
+        fill(tables, line).is_some() && is_snapshot(alloc, tables, line, text)
     })
 }
 
