@@ -38,7 +38,10 @@ fn fits_resource(tables: &Tables, told: &(ResourceId, ResourceRow)) -> bool
     ensures { result ≡ fits_told resource_kind spec.fits_resource tables.now.resources told.now }
 {
     match tables.resource(told.0) {
-        Some(resource) => fit_attrs(resource.info.attrs.as_slice(), told.1.attrs.list().as_slice()),
+        Some(resource) => fit_attrs(
+            resource.info.attrs.as_slice(),
+            told.1.attrs.list().as_slice(),
+        ),
         None => true,
     }
 }

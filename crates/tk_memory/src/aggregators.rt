@@ -2,7 +2,6 @@
 
 use crate::given::{op_spec, poll_op, resource_spec, task_spec};
 use crate::marks::{begin, was_refused};
-use crate::tables::are_same;
 use crate::verdict::{Tale, UNPREPARED, Verdict, answered, told, took_none};
 use std::alloc::Global;
 use std::io::Write;
@@ -72,22 +71,30 @@ fn taker_of_each<R: Wait>(rt: &R, alloc: Global) -> Option<Taker> {
     Some(taker)
 }
 
-// An aggregator that has taken in one event of each kind.
-fn with_each<R: Wait>(rt: &R, alloc: Global) -> Option<Aggregator> {
-    let mut taker = taker_of_each(rt, alloc)?;
-    let mut aggregator = Aggregator::new(alloc, 0).ok()?;
-    if aggregator.collect(rt, &mut taker, 9) != Ok(4) {
-        return None;
+// The line that tells of them, and the snapshot.
+const PUBLISHED: &[u8] =
+    b"{\"dropped\":[0,0,0],\"new_ops\":[{\"attrs\":[[\"permits\",null,\"u64\"]],\"id\":1099511627777,\"parent\":null,\"resource\":1099511627777,\"source\":\"Semaphore::acquire\"}],\"new_resources\":[{\"attrs\":[[\"permits\",null,\"u64\"]],\"id\":1099511627777,\"kind\":\"Sync\",\"loc\":[\"main.rs\",7,3],\"parent\":null,\"type\":\"Semaphore\"}],\"new_tasks\":[{\"id\":1099511627777,\"kind\":\"spawn\",\"loc\":[\"main.rs\",7,3],\"name\":\"main\"}],\"now\":9,\"op_stats\":[{\"attrs\":[3],\"busy\":0,\"created\":4,\"dropped\":null,\"first_poll\":null,\"handles\":1,\"id\":1099511627777,\"last_ended\":null,\"last_started\":null,\"polling\":false,\"polls\":0,\"task\":null}],\"poll_counts\":[[1099511627777,1,0]],\"resource_stats\":[{\"attrs\":[3],\"created\":4,\"dropped\":null,\"handles\":1,\"id\":1099511627777}],\"seq\":1,\"snapshot\":false,\"task_stats\":[{\"busy\":0,\"clones\":0,\"created\":4,\"dropped\":null,\"drops\":0,\"first_poll\":null,\"handles\":1,\"id\":1099511627777,\"last_ended\":null,\"last_started\":null,\"last_wake\":null,\"polling\":false,\"polls\":0,\"sched\":0,\"scheduled\":true,\"self_wakes\":0,\"wakes\":0}],\"v\":1}\n";
+
+const SNAPSHOT: &[u8] =
+    b"{\"dropped\":[0,0,0],\"new_ops\":[{\"attrs\":[[\"permits\",null,\"u64\"]],\"id\":1099511627777,\"parent\":null,\"resource\":1099511627777,\"source\":\"Semaphore::acquire\"}],\"new_resources\":[{\"attrs\":[[\"permits\",null,\"u64\"]],\"id\":1099511627777,\"kind\":\"Sync\",\"loc\":[\"main.rs\",7,3],\"parent\":null,\"type\":\"Semaphore\"}],\"new_tasks\":[{\"id\":1099511627777,\"kind\":\"spawn\",\"loc\":[\"main.rs\",7,3],\"name\":\"main\"}],\"now\":9,\"op_stats\":[{\"attrs\":[3],\"busy\":0,\"created\":4,\"dropped\":null,\"first_poll\":null,\"handles\":1,\"id\":1099511627777,\"last_ended\":null,\"last_started\":null,\"polling\":false,\"polls\":0,\"task\":null}],\"poll_counts\":[[1099511627777,1,0]],\"resource_stats\":[{\"attrs\":[3],\"created\":4,\"dropped\":null,\"handles\":1,\"id\":1099511627777}],\"seq\":1,\"snapshot\":true,\"task_stats\":[{\"busy\":0,\"clones\":0,\"created\":4,\"dropped\":null,\"drops\":0,\"first_poll\":null,\"handles\":1,\"id\":1099511627777,\"last_ended\":null,\"last_started\":null,\"last_wake\":null,\"polling\":false,\"polls\":0,\"sched\":0,\"scheduled\":true,\"self_wakes\":0,\"wakes\":0}],\"v\":1}\n";
+
+// What a check says of a new aggregator. It is owned here alone, so its end is proved once.
+fn on_new<F: FnOnce(&mut Aggregator) -> Verdict>(alloc: Global, check: F) -> Verdict
+    requires { F.IsAlwaysCallable check }
+{
+    match Aggregator::new(alloc, 0) {
+        Ok(mut aggregator) => check(&mut aggregator),
+        Err(_) => UNPREPARED,
     }
-    Some(aggregator)
 }
 
-// Whether it has taken in one event of each kind, and no more.
-fn has_each<R: Wait>(rt: &R, alloc: Global, aggregator: &Aggregator) -> bool {
-    match with_each(rt, alloc) {
-        Some(other) => are_same(alloc, aggregator.tables(), other.tables()),
-        None => false,
-    }
+fn takes_each<R: Wait>(rt: &R, aggregator: &mut Aggregator, taker: &mut Taker) -> bool {
+    aggregator.collect(rt, taker, 9) == Ok(4)
+}
+
+fn tells(alloc: Global, aggregator: &mut Aggregator) -> bool {
+    let mut out = Vec::new(alloc);
+    aggregator.publish(9, &mut out) == Ok(1) && out.as_slice() == PUBLISHED
 }
 
 // ---- Aggregator::new
@@ -97,9 +104,9 @@ fn is_empty(aggregator: &Aggregator) -> bool {
 }
 
 fn makes(alloc: Global) -> bool {
-    match Aggregator::new(alloc, 0) {
-        Ok(aggregator) => is_empty(&aggregator),
-        Err(_) => false,
+    match on_new(alloc, |aggregator| answered(false, is_empty(aggregator))) {
+        Verdict::Answered => true,
+        _ => false,
     }
 }
 
@@ -122,7 +129,7 @@ fn collects_rest<R: Wait>(
     aggregator: &mut Aggregator,
     taker: &mut Taker,
 ) -> bool {
-    aggregator.collect(rt, taker, 9).is_ok() && has_each(rt, alloc, aggregator)
+    aggregator.collect(rt, taker, 9).is_ok() && tells(alloc, aggregator)
 }
 
 fn collect_each<R: Wait>(
@@ -135,7 +142,7 @@ fn collect_each<R: Wait>(
     let taken = aggregator.collect(rt, taker, 9);
     let refused = was_refused(alloc);
     match taken {
-        Ok(count) => answered(refused, count == 4 && has_each(rt, alloc, aggregator)),
+        Ok(count) => answered(refused, count == 4 && tells(alloc, aggregator)),
         Err(error) => {
             let comes_again = collects_rest(rt, alloc, aggregator, taker);
             told(refused, is_memory(error), true, comes_again)
@@ -143,18 +150,11 @@ fn collect_each<R: Wait>(
     }
 }
 
-fn collect_from<R: Wait>(rt: &R, alloc: Global, taker: &mut Taker) -> Verdict {
-    match Aggregator::new(alloc, 0) {
-        Ok(mut aggregator) => collect_each(rt, alloc, &mut aggregator, taker),
-        Err(_) => UNPREPARED,
-    }
-}
-
-fn collect<R: Wait>(rt: &R, alloc: Global) -> Verdict {
-    match taker_of_each(rt, alloc) {
-        Some(mut taker) => collect_from(rt, alloc, &mut taker),
-        None => UNPREPARED,
-    }
+fn collect<R: Wait>(rt: &R, alloc: Global, taker: &mut Taker) -> Verdict {
+    on_new(
+        alloc,
+        |aggregator| collect_each(rt, alloc, aggregator, taker),
+    )
 }
 
 // ---- Aggregator::publish and snapshot
@@ -167,8 +167,9 @@ fn send(aggregator: &mut Aggregator, whole: bool, out: &mut Vec<u8>) -> Result<u
     }
 }
 
-fn is_line(out: &Vec<u8>) -> bool {
-    out.starts_with(b"{\"dropped\":[0,0,0],\"new_ops\":[{") && out.ends_with(b"\"v\":1}\n")
+fn is_line(out: &Vec<u8>, whole: bool) -> bool {
+    let text = if whole { SNAPSHOT } else { PUBLISHED };
+    out.as_slice() == text
 }
 
 fn send_into(
@@ -181,10 +182,10 @@ fn send_into(
     let sent = send(aggregator, whole, out);
     let refused = was_refused(alloc);
     match sent {
-        Ok(number) => answered(refused, number == 1 && is_line(out)),
+        Ok(number) => answered(refused, number == 1 && is_line(out, whole)),
         Err(error) => {
             let stands = out.is_empty();
-            let comes_again = send(aggregator, whole, out) == Ok(1) && is_line(out);
+            let comes_again = send(aggregator, whole, out) == Ok(1) && is_line(out, whole);
             told(refused, is_memory(error), stands, comes_again)
         }
     }
@@ -198,34 +199,86 @@ fn send_this(alloc: Global, aggregator: &mut Aggregator, whole: bool) -> Verdict
     }
 }
 
-fn line<R: Wait>(rt: &R, alloc: Global, whole: bool) -> Verdict {
-    match with_each(rt, alloc) {
-        Some(mut aggregator) => send_this(alloc, &mut aggregator, whole),
-        None => UNPREPARED,
+fn send_each<R: Wait>(
+    rt: &R,
+    alloc: Global,
+    aggregator: &mut Aggregator,
+    taker: &mut Taker,
+    whole: bool,
+) -> Verdict {
+    if !takes_each(rt, aggregator, taker) {
+        return UNPREPARED;
     }
+    send_this(alloc, aggregator, whole)
+}
+
+fn publish<R: Wait>(rt: &R, alloc: Global, taker: &mut Taker) -> Verdict {
+    on_new(
+        alloc,
+        |aggregator| send_each(rt, alloc, aggregator, taker, false),
+    )
+}
+
+fn snapshot<R: Wait>(rt: &R, alloc: Global, taker: &mut Taker) -> Verdict {
+    on_new(
+        alloc,
+        |aggregator| send_each(rt, alloc, aggregator, taker, true),
+    )
 }
 
 // ---- what takes no memory
 
-fn refresh_this<R: Wait>(rt: &R, alloc: Global, aggregator: &mut Aggregator) -> Verdict {
+fn refresh_each<R: Wait>(
+    rt: &R,
+    alloc: Global,
+    aggregator: &mut Aggregator,
+    taker: &mut Taker,
+) -> Verdict {
+    if !takes_each(rt, aggregator, taker) {
+        return UNPREPARED;
+    }
     begin(alloc);
     aggregator.refresh(rt);
     let is_plain = aggregator.tables().task_count() == 1;
     let refused = was_refused(alloc);
-    took_none(refused, is_plain && has_each(rt, alloc, aggregator))
+    took_none(refused, is_plain && tells(alloc, aggregator))
 }
 
-fn refresh<R: Wait>(rt: &R, alloc: Global) -> Verdict {
-    match with_each(rt, alloc) {
-        Some(mut aggregator) => refresh_this(rt, alloc, &mut aggregator),
+fn refresh<R: Wait>(rt: &R, alloc: Global, taker: &mut Taker) -> Verdict {
+    on_new(
+        alloc,
+        |aggregator| refresh_each(rt, alloc, aggregator, taker),
+    )
+}
+
+// ---- all of them
+
+// What a case says with a taker that finds one event of each kind.
+fn on_each<R: Wait, F: FnOnce(&mut Taker) -> Verdict>(rt: &R, alloc: Global, case: F) -> Verdict
+    requires { F.IsAlwaysCallable case }
+{
+    match taker_of_each(rt, alloc) {
+        Some(mut taker) => case(&mut taker),
         None => UNPREPARED,
     }
 }
 
 pub(crate) fn tell<R: Wait, W: Write>(rt: &R, alloc: Global, tale: &mut Tale<W>) {
     tale.tell("Aggregator::new", new(alloc));
-    tale.tell("Aggregator::collect", collect(rt, alloc));
-    tale.tell("Aggregator::publish", line(rt, alloc, false));
-    tale.tell("Aggregator::snapshot", line(rt, alloc, true));
-    tale.tell("none: Aggregator::refresh, tables", refresh(rt, alloc));
+    tale.tell(
+        "Aggregator::collect",
+        on_each(rt, alloc, |taker| collect(rt, alloc, taker)),
+    );
+    tale.tell(
+        "Aggregator::publish",
+        on_each(rt, alloc, |taker| publish(rt, alloc, taker)),
+    );
+    tale.tell(
+        "Aggregator::snapshot",
+        on_each(rt, alloc, |taker| snapshot(rt, alloc, taker)),
+    );
+    tale.tell(
+        "none: Aggregator::refresh, tables",
+        on_each(rt, alloc, |taker| refresh(rt, alloc, taker)),
+    );
 }

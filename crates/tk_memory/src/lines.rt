@@ -9,7 +9,7 @@ use tk_stream::{Line, LineError, Tables};
 
 /// The line that tells of tables with one item of each kind.
 pub(crate) const TEXT: &[u8] =
-    b"{\"dropped\":[1,2,3],\"new_ops\":[{\"attrs\":[[\"permits\",\"count\",\"u64\"]],\"id\":1099511627777,\"parent\":null,\"resource\":1099511627777,\"source\":\"Semaphore::acquire\"}],\"new_resources\":[{\"attrs\":[[\"permits\",\"count\",\"u64\"]],\"id\":1099511627777,\"kind\":\"Sync\",\"loc\":[\"main.rs\",7,3],\"parent\":null,\"type\":\"Semaphore\"}],\"new_tasks\":[{\"id\":1099511627777,\"kind\":\"spawn\",\"loc\":[\"main.rs\",7,3],\"name\":\"main\"}],\"now\":9,\"op_stats\":[{\"attrs\":[3],\"busy\":0,\"created\":7,\"dropped\":null,\"first_poll\":null,\"handles\":0,\"id\":1099511627777,\"last_ended\":null,\"last_started\":null,\"polling\":false,\"polls\":0,\"task\":null}],\"poll_counts\":[[1099511627777,1,2]],\"resource_stats\":[{\"attrs\":[3],\"created\":6,\"dropped\":null,\"handles\":0,\"id\":1099511627777}],\"seq\":1,\"snapshot\":true,\"task_stats\":[{\"busy\":0,\"clones\":0,\"created\":5,\"dropped\":null,\"drops\":0,\"first_poll\":null,\"handles\":0,\"id\":1099511627777,\"last_ended\":null,\"last_started\":null,\"last_wake\":null,\"polling\":false,\"polls\":0,\"sched\":0,\"scheduled\":true,\"self_wakes\":0,\"wakes\":0}],\"v\":1}";
+    b"{\"dropped\":[1,2,3],\"new_ops\":[{\"attrs\":[[\"permits\",\"count\",\"u64\"]],\"id\":1099511627777,\"parent\":null,\"resource\":1099511627777,\"source\":\"Semaphore::acquire\"}],\"new_resources\":[{\"attrs\":[[\"permits\",\"count\",\"u64\"]],\"id\":1099511627777,\"kind\":\"Sync\",\"loc\":[\"main.rs\",7,3],\"parent\":null,\"type\":\"Semaphore\"}],\"new_tasks\":[{\"id\":1099511627777,\"kind\":\"spawn\",\"loc\":[\"main.rs\",7,3],\"name\":\"main\"}],\"now\":9,\"op_stats\":[{\"attrs\":[3],\"busy\":0,\"created\":7,\"dropped\":null,\"first_poll\":null,\"handles\":0,\"id\":1099511627777,\"last_ended\":null,\"last_started\":null,\"polling\":false,\"polls\":0,\"task\":null}],\"poll_counts\":[[1099511627777,1,2]],\"resource_stats\":[{\"attrs\":[3],\"created\":6,\"dropped\":null,\"handles\":0,\"id\":1099511627777}],\"seq\":1,\"snapshot\":false,\"task_stats\":[{\"busy\":0,\"clones\":0,\"created\":5,\"dropped\":null,\"drops\":0,\"first_poll\":null,\"handles\":0,\"id\":1099511627777,\"last_ended\":null,\"last_started\":null,\"last_wake\":null,\"polling\":false,\"polls\":0,\"sched\":0,\"scheduled\":true,\"self_wakes\":0,\"wakes\":0}],\"v\":1}";
 
 fn is_written(line: &Line, text: &[u8]) -> bool {
     match line.write() {
@@ -21,7 +21,7 @@ fn is_written(line: &Line, text: &[u8]) -> bool {
 // ---- Line::between
 
 fn makes(alloc: Global, none: &Tables, tables: &Tables) -> bool {
-    match Line::between(alloc, none, tables, 1, true) {
+    match Line::between(alloc, none, tables, 1, false) {
         Ok(line) => is_written(&line, TEXT),
         Err(_) => false,
     }
@@ -29,7 +29,7 @@ fn makes(alloc: Global, none: &Tables, tables: &Tables) -> bool {
 
 fn make(alloc: Global, none: &Tables, tables: &Tables) -> Verdict {
     begin(alloc);
-    let made = Line::between(alloc, none, tables, 1, true);
+    let made = Line::between(alloc, none, tables, 1, false);
     let refused = was_refused(alloc);
     match made {
         Ok(line) => answered(refused, is_written(&line, TEXT)),

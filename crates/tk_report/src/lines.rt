@@ -197,7 +197,11 @@ pub(crate) fn put_op(out: &mut String, op: &Op) -> Result<(), AllocError>
     ensures { OnOk result (Puts (string_bytes out.old) (string_bytes out.new) (spec.op_lines op.now)) }
 {
     put_op_line(out, op)?;
-    put_attrs(out, op.info.attrs.as_slice(), op.row.attrs.list().as_slice())?;
+    put_attrs(
+        out,
+        op.info.attrs.as_slice(),
+        op.row.attrs.list().as_slice(),
+    )?;
     Ok(())
 }
 
