@@ -78,16 +78,6 @@ const PUBLISHED: &[u8] =
 const SNAPSHOT: &[u8] =
     b"{\"dropped\":[0,0,0],\"new_ops\":[{\"attrs\":[[\"permits\",null,\"u64\"]],\"id\":1099511627777,\"parent\":null,\"resource\":1099511627777,\"source\":\"Semaphore::acquire\"}],\"new_resources\":[{\"attrs\":[[\"permits\",null,\"u64\"]],\"id\":1099511627777,\"kind\":\"Sync\",\"loc\":[\"main.rs\",7,3],\"parent\":null,\"type\":\"Semaphore\"}],\"new_tasks\":[{\"id\":1099511627777,\"kind\":\"spawn\",\"loc\":[\"main.rs\",7,3],\"name\":\"main\"}],\"now\":9,\"op_stats\":[{\"attrs\":[3],\"busy\":0,\"created\":4,\"dropped\":null,\"first_poll\":null,\"handles\":1,\"id\":1099511627777,\"last_ended\":null,\"last_started\":null,\"polling\":false,\"polls\":0,\"task\":null}],\"poll_counts\":[[1099511627777,1,0]],\"resource_stats\":[{\"attrs\":[3],\"created\":4,\"dropped\":null,\"handles\":1,\"id\":1099511627777}],\"seq\":1,\"snapshot\":true,\"task_stats\":[{\"busy\":0,\"clones\":0,\"created\":4,\"dropped\":null,\"drops\":0,\"first_poll\":null,\"handles\":1,\"id\":1099511627777,\"last_ended\":null,\"last_started\":null,\"last_wake\":null,\"polling\":false,\"polls\":0,\"sched\":0,\"scheduled\":true,\"self_wakes\":0,\"wakes\":0}],\"v\":1}\n";
 
-// What a check says of a new aggregator. It is owned here alone, so its end is proved once.
-fn on_new<F: FnOnce(&mut Aggregator) -> Verdict>(alloc: Global, check: F) -> Verdict
-    requires { F.IsAlwaysCallable check }
-{
-    match Aggregator::new(alloc, 0) {
-        Ok(mut aggregator) => check(&mut aggregator),
-        Err(_) => UNPREPARED,
-    }
-}
-
 fn takes_each<R: Wait>(rt: &R, aggregator: &mut Aggregator, taker: &mut Taker) -> bool {
     aggregator.collect(rt, taker, 9) == Ok(4)
 }
@@ -104,9 +94,9 @@ fn is_empty(aggregator: &Aggregator) -> bool {
 }
 
 fn makes(alloc: Global) -> bool {
-    match on_new(alloc, |aggregator| answered(false, is_empty(aggregator))) {
-        Verdict::Answered => true,
-        _ => false,
+    match Aggregator::new(alloc, 0) {
+        Ok(aggregator) => is_empty(&aggregator),
+        Err(_) => false,
     }
 }
 
@@ -148,13 +138,6 @@ fn collect_each<R: Wait>(
             told(refused, is_memory(error), true, comes_again)
         }
     }
-}
-
-fn collect<R: Wait>(rt: &R, alloc: Global, taker: &mut Taker) -> Verdict {
-    on_new(
-        alloc,
-        |aggregator| collect_each(rt, alloc, aggregator, taker),
-    )
 }
 
 // ---- Aggregator::publish and snapshot
@@ -212,20 +195,6 @@ fn send_each<R: Wait>(
     send_this(alloc, aggregator, whole)
 }
 
-fn publish<R: Wait>(rt: &R, alloc: Global, taker: &mut Taker) -> Verdict {
-    on_new(
-        alloc,
-        |aggregator| send_each(rt, alloc, aggregator, taker, false),
-    )
-}
-
-fn snapshot<R: Wait>(rt: &R, alloc: Global, taker: &mut Taker) -> Verdict {
-    on_new(
-        alloc,
-        |aggregator| send_each(rt, alloc, aggregator, taker, true),
-    )
-}
-
 // ---- what takes no memory
 
 fn refresh_each<R: Wait>(
@@ -244,41 +213,55 @@ fn refresh_each<R: Wait>(
     took_none(refused, is_plain && tells(alloc, aggregator))
 }
 
-fn refresh<R: Wait>(rt: &R, alloc: Global, taker: &mut Taker) -> Verdict {
-    on_new(
-        alloc,
-        |aggregator| refresh_each(rt, alloc, aggregator, taker),
-    )
-}
-
 // ---- all of them
 
-// What a case says with a taker that finds one event of each kind.
-fn on_each<R: Wait, F: FnOnce(&mut Taker) -> Verdict>(rt: &R, alloc: Global, case: F) -> Verdict
-    requires { F.IsAlwaysCallable case }
-{
+/// A call on an aggregator.
+#[derive(Clone, Copy, Drop, PartialEq, Eq)]
+enum Case {
+    Collect,
+    Publish,
+    Snapshot,
+    Refresh,
+}
+
+fn try_case<R: Wait>(
+    rt: &R,
+    alloc: Global,
+    aggregator: &mut Aggregator,
+    taker: &mut Taker,
+    case: Case,
+) -> Verdict {
+    match case {
+        Case::Collect => collect_each(rt, alloc, aggregator, taker),
+        Case::Publish => send_each(rt, alloc, aggregator, taker, false),
+        Case::Snapshot => send_each(rt, alloc, aggregator, taker, true),
+        Case::Refresh => refresh_each(rt, alloc, aggregator, taker),
+    }
+}
+
+// The aggregator is owned here alone, so its end is proved once.
+fn on_new<R: Wait>(rt: &R, alloc: Global, taker: &mut Taker, case: Case) -> Verdict {
+    match Aggregator::new(alloc, 0) {
+        Ok(mut aggregator) => try_case(rt, alloc, &mut aggregator, taker, case),
+        Err(_) => UNPREPARED,
+    }
+}
+
+// With a taker that finds one event of each kind.
+fn on_each<R: Wait>(rt: &R, alloc: Global, case: Case) -> Verdict {
     match taker_of_each(rt, alloc) {
-        Some(mut taker) => case(&mut taker),
+        Some(mut taker) => on_new(rt, alloc, &mut taker, case),
         None => UNPREPARED,
     }
 }
 
 pub(crate) fn tell<R: Wait, W: Write>(rt: &R, alloc: Global, tale: &mut Tale<W>) {
     tale.tell("Aggregator::new", new(alloc));
-    tale.tell(
-        "Aggregator::collect",
-        on_each(rt, alloc, |taker| collect(rt, alloc, taker)),
-    );
-    tale.tell(
-        "Aggregator::publish",
-        on_each(rt, alloc, |taker| publish(rt, alloc, taker)),
-    );
-    tale.tell(
-        "Aggregator::snapshot",
-        on_each(rt, alloc, |taker| snapshot(rt, alloc, taker)),
-    );
+    tale.tell("Aggregator::collect", on_each(rt, alloc, Case::Collect));
+    tale.tell("Aggregator::publish", on_each(rt, alloc, Case::Publish));
+    tale.tell("Aggregator::snapshot", on_each(rt, alloc, Case::Snapshot));
     tale.tell(
         "none: Aggregator::refresh, tables",
-        on_each(rt, alloc, |taker| refresh(rt, alloc, taker)),
+        on_each(rt, alloc, Case::Refresh),
     );
 }
