@@ -13,7 +13,7 @@ use std::time::Clock;
 // One row of the table: milliseconds of a run, and how often those on plain rows they are.
 fn write_run<W: Write>(
     out: &mut W,
-    what: (&str, u64),
+    what: (&'static str, u64),
     way: Way,
     rounds: &Rounds,
     plain: u64,
@@ -33,7 +33,7 @@ fn runs<R: Threads + Wait + Sync + Clock, W: Write>(
     rt: &R,
     alloc: Global,
     out: &mut W,
-    what: (&str, u64),
+    what: (&'static str, u64),
     script: &str,
 ) -> Result<(), BenchError> {
     let plain = Way::PlainRows.rounds(rt, alloc, script)?;
@@ -57,7 +57,7 @@ fn runs_of_tasks<R: Threads + Wait + Sync + Clock, W: Write>(
     rt: &R,
     alloc: Global,
     out: &mut W,
-    name: &str,
+    name: &'static str,
     lines: u64,
     tasks: u64,
 ) -> Result<(), BenchError> {

@@ -21,7 +21,7 @@ fn ways<R: Clock, W: Write>(
     rt: &R,
     alloc: Global,
     out: &mut W,
-    what: (&str, &str, u64),
+    what: (&'static str, &'static str, u64),
     text: &[u8],
     times: u64,
 ) -> Result<(), BenchError> {
@@ -40,7 +40,7 @@ fn layouts<R: Clock, W: Write>(
     rt: &R,
     alloc: Global,
     out: &mut W,
-    what: (&str, u64),
+    what: (&'static str, u64),
     text: &[u8],
     times: u64,
 ) -> Result<(), BenchError> {
