@@ -165,7 +165,10 @@ def judge_among(edit, said):
 def try_tests(crate, edit):
     """Runs the tests that an edit names on a copy of the sources: some must fail."""
     with tempfile.TemporaryDirectory() as work:
-        copy_sources(crates_under(edit.tests), work)
+        below = crates_under(edit.tests)
+        if crate not in below:
+            return f"BAD EDIT: {edit.tests} does not stand on {crate}"
+        copy_sources(below, work)
         try:
             edit.apply(os.path.join(work, "crates", crate))
         except BadEdit as bad:
@@ -175,7 +178,9 @@ def try_tests(crate, edit):
     failed = re.search(r"^test result: FAILED.*?(\d+) passed.*?(\d+) failed", run.stdout, re.M)
     if failed:
         return f"refused: {failed.group(2)} tests of {edit.tests} fail, {failed.group(1)} pass"
-    return f"LET THROUGH: no test of {edit.tests} fails: " + (run.stdout + run.stderr).strip()[-200:]
+    if re.search(r"^test result: ok", run.stdout, re.M):
+        return f"LET THROUGH: no test of {edit.tests} fails"
+    return "BAD EDIT: it did not come to the tests: " + (run.stdout + run.stderr).strip()[-200:]
 
 
 def restore(crate, copy, edits):
