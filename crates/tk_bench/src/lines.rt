@@ -1,5 +1,6 @@
 //! Lines of a stream: made, written, and fed to a client.
 
+use crate::boxes::boxed;
 use crate::error::BenchError;
 use crate::ids::id_above;
 use crate::rounds::{ROUNDS, nanos_since};
@@ -10,6 +11,9 @@ use tk_client::{Client, Lints};
 use tk_core::{TaskCall, TaskRow};
 use tk_ids::{Location, Name, TaskId, TaskInfo, TaskKind};
 use tk_stream::{Line, Tables};
+
+/// How many lines a piece has, where several are fed in one.
+pub(crate) const LINES: u64 = 20;
 
 // Longer than any line here.
 const MAX_LINE: usize = 1 << 30;
@@ -127,9 +131,20 @@ fn put_task(
     }
 }
 
+fn new_tables(alloc: Global) -> Result<Box<Tables>, BenchError> {
+    match Tables::new(alloc) {
+        Ok(tables) => boxed(alloc, tables),
+        Err(_) => Err(BenchError::Memory),
+    }
+}
+
 /// Tables with so many tasks.
-pub(crate) fn tables_of(alloc: Global, tasks: u64, waker: Waker) -> Result<Tables, BenchError> {
-    let mut tables = Tables::new(alloc)?;
+pub(crate) fn tables_of(
+    alloc: Global,
+    tasks: u64,
+    waker: Waker,
+) -> Result<Box<Tables>, BenchError> {
+    let mut tables = new_tables(alloc)?;
     for above in 0..tasks {
         put_task(alloc, &mut tables, above, waker)?;
     }
@@ -145,15 +160,23 @@ fn change(tables: &mut Tables, every: usize, waker: Waker) {
     }
 }
 
-/// The tables with one row of so many changed to one with that waker.
-pub(crate) fn changed(old: &Tables, every: usize, waker: Waker) -> Result<Tables, BenchError> {
-    match old.copy() {
-        Ok(mut tables) => {
-            change(&mut tables, every, waker);
-            Ok(tables)
-        }
+fn copy_of(alloc: Global, tables: &Tables) -> Result<Box<Tables>, BenchError> {
+    match tables.copy() {
+        Ok(copy) => boxed(alloc, copy),
         Err(_) => Err(BenchError::Memory),
     }
+}
+
+/// The tables with one row of so many changed to one with that waker.
+pub(crate) fn changed(
+    alloc: Global,
+    old: &Tables,
+    every: usize,
+    waker: Waker,
+) -> Result<Box<Tables>, BenchError> {
+    let mut tables = copy_of(alloc, old)?;
+    change(&mut tables, every, waker);
+    Ok(tables)
 }
 
 /// The line of that number between tables.
@@ -162,12 +185,12 @@ pub(crate) fn line_between(
     old: &Tables,
     new: &Tables,
     seq: u64,
-) -> Result<Line, BenchError> {
+) -> Result<Box<Line>, BenchError> {
     if seq == 0 || seq > 1 << 63 {
         return Err(BenchError::Refused);
     }
     match Line::between(alloc, old, new, seq, false) {
-        Ok(line) => Ok(line),
+        Ok(line) => boxed(alloc, line),
         Err(_) => Err(BenchError::Memory),
     }
 }
@@ -193,18 +216,28 @@ fn text_between(
     new: &Tables,
     seq: u64,
 ) -> Result<Vec<u8>, BenchError> {
-    match line_between(alloc, old, new, seq) {
-        Ok(line) => ended_text(&line),
-        Err(error) => Err(error),
-    }
+    let line = line_between(alloc, old, new, seq)?;
+    ended_text(&line)
+}
+
+/// Adds the text of the line of that number between tables, and its end.
+pub(crate) fn put_line(
+    alloc: Global,
+    bytes: &mut Vec<u8>,
+    old: &Tables,
+    new: &Tables,
+    seq: u64,
+) -> Result<(), BenchError> {
+    let line = line_between(alloc, old, new, seq)?;
+    let text = ended_text(&line)?;
+    bytes.extend_from_slice(&text)?;
+    Ok(())
 }
 
 /// The text of a first line, which tells of the tables, and its end.
 pub(crate) fn first_text(alloc: Global, tables: &Tables) -> Result<Vec<u8>, BenchError> {
-    match Tables::new(alloc) {
-        Ok(empty) => text_between(alloc, &empty, tables, 1),
-        Err(_) => Err(BenchError::Memory),
-    }
+    let empty = new_tables(alloc)?;
+    text_between(alloc, &empty, tables, 1)
 }
 
 // The nanoseconds in which the value is written. Its text is shorter than a line by the line end.
@@ -224,31 +257,42 @@ fn json_write_time<R: Clock>(
     }
 }
 
+/// The JSON value of a text.
+pub(crate) fn value_of(alloc: Global, text: &[u8]) -> Result<Box<Value>, BenchError> {
+    match Value::from_slice(alloc, text) {
+        Ok(value) => boxed(alloc, value),
+        Err(_) => Err(BenchError::Refused),
+    }
+}
+
 // The nanoseconds in which a JSON value is read of the text, and in which it is written.
 fn json_times<R: Clock>(rt: &R, alloc: Global, text: &[u8]) -> Result<(u64, u64), BenchError> {
     let start = Instant::now(rt)?;
-    let Ok(value) = Value::from_slice(alloc, text) else {
-        return Err(BenchError::Refused);
-    };
+    let value = value_of(alloc, text)?;
     let read = nanos_since(rt, &start)?;
     let write = json_write_time(rt, alloc, &value, text.len())?;
     Ok((read, write))
 }
 
+fn new_client(alloc: Global) -> Result<Box<Client>, BenchError> {
+    match Client::new(alloc, MAX_LINE) {
+        Ok(client) => boxed(alloc, client),
+        Err(_) => Err(BenchError::Memory),
+    }
+}
+
 /// A client, and the number of the next line.
 #[derive(Drop)]
 pub(crate) struct Stream {
-    client: Client,
+    client: Box<Client>,
     seq: u64,
 }
 
 impl Stream {
     /// A client that has taken no line.
     pub(crate) fn new(alloc: Global) -> Result<Stream, BenchError> {
-        match Client::new(alloc, MAX_LINE) {
-            Ok(client) => Ok(Stream { client, seq: 2 }),
-            Err(_) => Err(BenchError::Memory),
-        }
+        let client = new_client(alloc)?;
+        Ok(Stream { client, seq: 2 })
     }
 
     // A stream whose client has taken the text of a first line, its bytes, and the nanoseconds of the feed.
@@ -264,10 +308,8 @@ impl Stream {
         alloc: Global,
         tables: &Tables,
     ) -> Result<(Stream, u64, u64), BenchError> {
-        match first_text(alloc, tables) {
-            Ok(text) => Stream::fed(rt, alloc, &text),
-            Err(error) => Err(error),
-        }
+        let text = first_text(alloc, tables)?;
+        Stream::fed(rt, alloc, &text)
     }
 
     /// The nanoseconds in which the client takes the text.
@@ -342,5 +384,34 @@ impl Stream {
         let fourth = self.line(rt, alloc, old, new)?;
         let fifth = self.line(rt, alloc, new, old)?;
         Ok([first, second, third, fourth, fifth])
+    }
+
+    // Lines from the old tables to the new and back.
+    fn piece(&mut self, alloc: Global, old: &Tables, new: &Tables) -> Result<Vec<u8>, BenchError> {
+        let mut bytes = Vec::new(alloc);
+        for _ in 0..LINES / 2 {
+            put_line(alloc, &mut bytes, old, new, self.seq)?;
+            put_line(alloc, &mut bytes, new, old, self.seq.saturating_add(1))?;
+            self.seq = self.seq.saturating_add(2);
+        }
+        Ok(bytes)
+    }
+
+    /// Of lines that are fed in one piece, the bytes of each, and the nanoseconds in which the client takes it.
+    pub(crate) fn pieces<R: Clock>(
+        &mut self,
+        rt: &R,
+        alloc: Global,
+        old: &Tables,
+        new: &Tables,
+    ) -> Result<(u64, [u64; ROUNDS]), BenchError> {
+        let mut bytes = 0;
+        let mut nanos = [0u64; ROUNDS];
+        for round in &mut nanos {
+            let piece = self.piece(alloc, old, new)?;
+            bytes = piece.len() as u64 / LINES;
+            *round = self.feed(rt, &piece)? / LINES;
+        }
+        Ok((bytes, nanos))
     }
 }

@@ -87,7 +87,8 @@ fn spec_of(alloc: Global) -> Result<TaskSpec, BenchError> {
     })
 }
 
-fn task_of<R: Wait>(
+/// The owner of a task that is made through a recorder.
+pub(crate) fn task_of<R: Wait>(
     rt: &R,
     alloc: Global,
     recorder: &mut Recorder,

@@ -1,5 +1,6 @@
 //! The table of lines over the ledgers of tasks.
 
+use crate::boxes::boxed;
 use crate::error::BenchError;
 use crate::live::{LivePart, LiveTimes, line, lines, publish_time, record};
 use crate::rounds::{ROUNDS, Rounds};
@@ -85,16 +86,21 @@ fn lines_from<R: Wait + Clock, W: Write>(
     lines_of(rt, out, aggregator, &mut owners)
 }
 
+fn new_aggregator(alloc: Global) -> Result<Box<Aggregator>, BenchError> {
+    match Aggregator::new(alloc, 0) {
+        Ok(aggregator) => boxed(alloc, aggregator),
+        Err(_) => Err(BenchError::Memory),
+    }
+}
+
 fn lines_over<R: Wait + Clock, W: Write>(
     rt: &R,
     alloc: Global,
     out: &mut W,
     tasks: u64,
 ) -> Result<(), BenchError> {
-    match Aggregator::new(alloc, 0) {
-        Ok(mut aggregator) => lines_from(rt, alloc, out, &mut aggregator, tasks),
-        Err(_) => Err(BenchError::Memory),
-    }
+    let mut aggregator = new_aggregator(alloc)?;
+    lines_from(rt, alloc, out, &mut aggregator, tasks)
 }
 
 const HEADS: [&str; 7] = [
@@ -145,8 +151,6 @@ pub(crate) fn small<R: Wait + Clock, W: Write>(
     alloc: Global,
     out: &mut W,
 ) -> Result<(), BenchError> {
-    match Aggregator::new(alloc, 0) {
-        Ok(mut aggregator) => small_lines(rt, alloc, out, &mut aggregator),
-        Err(_) => Err(BenchError::Memory),
-    }
+    let mut aggregator = new_aggregator(alloc)?;
+    small_lines(rt, alloc, out, &mut aggregator)
 }

@@ -4,6 +4,7 @@
 //! sizes, and writes what was done without times.
 #![tactic(auto)]
 
+mod boxes;
 mod error;
 mod floor;
 mod ids;
@@ -11,6 +12,7 @@ mod ledgers;
 mod lines;
 mod live;
 mod live_report;
+mod making;
 mod report;
 mod rounds;
 mod script_report;
@@ -22,6 +24,7 @@ mod views;
 
 use error::BenchError;
 use std::env::Env;
+use std::fs::Files;
 use std::io::Write;
 use std::process::ExitCode;
 use std::sync::Wait;
@@ -38,7 +41,7 @@ fn asks_for_small<R: Env + AllocGlobal>(rt: &R) -> Result<bool, BenchError> {
     }
 }
 
-fn run<R: Env + AllocGlobal + Clock + Wait + Threads + Sync, W: Write>(
+fn run<R: Env + AllocGlobal + Files + Clock + Wait + Threads + Sync, W: Write>(
     rt: &R,
     out: &mut W,
 ) -> Result<(), BenchError> {

@@ -5,8 +5,9 @@ use crate::ledgers::{Call, on_a_row, on_one_task, on_own_tasks};
 use crate::lines::{LineTimes, Part, Stream, Waker, changed, tables_of};
 use crate::rounds::{ROUNDS, Rounds};
 use crate::table::{tenths, write_head, write_row};
-use crate::{floor, live_report, script_report, text_report};
-use std::alloc::Global;
+use crate::{floor, live_report, making, script_report, text_report};
+use std::alloc::{AllocGlobal, Global};
+use std::fs::Files;
 use std::io::Write;
 use std::sync::Wait;
 use std::thread::Threads;
@@ -185,10 +186,8 @@ fn lines_to_changed<R: Clock, W: Write>(
     old: &Tables,
     every: usize,
 ) -> Result<(), BenchError> {
-    match changed(old, every, Waker::Lost) {
-        Ok(new) => lines_between(rt, alloc, out, stream, (old, &new), every),
-        Err(error) => Err(error),
-    }
+    let new = changed(alloc, old, every, Waker::Lost)?;
+    lines_between(rt, alloc, out, stream, (old, &new), every)
 }
 
 // Lines that tell of one task, which can be warned of behind each second line.
@@ -220,10 +219,30 @@ fn lines_to_kept<R: Clock, W: Write>(
     stream: &mut Stream,
     old: &Tables,
 ) -> Result<(), BenchError> {
-    match changed(old, old.task_count(), Waker::Kept) {
-        Ok(new) => lines_between_standings(rt, alloc, out, stream, old, &new),
-        Err(error) => Err(error),
-    }
+    let new = changed(alloc, old, old.task_count(), Waker::Kept)?;
+    lines_between_standings(rt, alloc, out, stream, old, &new)
+}
+
+// Lines that tell of one task each, many in one piece, so that the client's memory is near.
+fn lines_in_pieces<R: Clock, W: Write>(
+    rt: &R,
+    alloc: Global,
+    out: &mut W,
+    stream: &mut Stream,
+    old: &Tables,
+) -> Result<(), BenchError> {
+    let tasks = old.task_count();
+    let new = changed(alloc, old, tasks, Waker::Lost)?;
+    let (bytes, nanos) = stream.pieces(rt, alloc, old, &new)?;
+    let rounds = Rounds::new(nanos);
+    write_rate(
+        out,
+        "fed, in a piece of 20 lines",
+        tasks,
+        tasks,
+        bytes,
+        &rounds,
+    )
 }
 
 fn lines_of<R: Clock, W: Write>(
@@ -245,6 +264,7 @@ fn lines_of<R: Clock, W: Write>(
     lines_to_changed(rt, alloc, out, &mut stream, tables, 1)?;
     lines_to_changed(rt, alloc, out, &mut stream, tables, 100)?;
     lines_to_changed(rt, alloc, out, &mut stream, tables, tables.task_count())?;
+    lines_in_pieces(rt, alloc, out, &mut stream, tables)?;
     lines_to_kept(rt, alloc, out, &mut stream, tables)
 }
 
@@ -254,10 +274,8 @@ fn lines<R: Clock, W: Write>(
     out: &mut W,
     tasks: u64,
 ) -> Result<(), BenchError> {
-    match tables_of(alloc, tasks, Waker::Lost) {
-        Ok(tables) => lines_of(rt, alloc, out, &tables),
-        Err(error) => Err(error),
-    }
+    let tables = tables_of(alloc, tasks, Waker::Lost)?;
+    lines_of(rt, alloc, out, &tables)
 }
 
 const LINE_HEADS: [&str; 8] = [
@@ -319,13 +337,14 @@ fn warnings<R: Clock, W: Write>(
 }
 
 /// Measures all, and writes the tables.
-pub(crate) fn all<R: Wait + Threads + Clock + Sync, W: Write>(
+pub(crate) fn all<R: Wait + Threads + Clock + Files + AllocGlobal + Sync, W: Write>(
     rt: &R,
     alloc: Global,
     out: &mut W,
 ) -> Result<(), BenchError> {
     calls(rt, alloc, out, 200_000)?;
     floor::all(rt, alloc, out)?;
+    making::all(rt, alloc, out)?;
     write_head(out, &LINE_HEADS)?;
     lines(rt, alloc, out, 1_000)?;
     lines(rt, alloc, out, 10_000)?;
@@ -337,7 +356,7 @@ pub(crate) fn all<R: Wait + Threads + Clock + Sync, W: Write>(
 }
 
 /// Does each thing once in a small size, and writes what was done.
-pub(crate) fn small<R: Wait + Threads + Clock + Sync, W: Write>(
+pub(crate) fn small<R: Wait + Threads + Clock + Files + AllocGlobal + Sync, W: Write>(
     rt: &R,
     alloc: Global,
     out: &mut W,
@@ -349,6 +368,7 @@ pub(crate) fn small<R: Wait + Threads + Clock + Sync, W: Write>(
         }
     }
     floor::small(rt, alloc, out)?;
+    making::small(rt, alloc, out)?;
     small_line(rt, alloc, out)?;
     text_report::small(alloc, out)?;
     live_report::small(rt, alloc, out)?;
@@ -362,9 +382,11 @@ fn small_change<R: Clock, W: Write>(
     stream: &mut Stream,
     tables: &Tables,
 ) -> Result<(), BenchError> {
-    let new = changed(tables, 5, Waker::Kept)?;
+    let new = changed(alloc, tables, 5, Waker::Kept)?;
     let times = stream.rounds(rt, alloc, tables, &new)?;
     writeln!(out, "a line of 2 changed tasks: {} bytes", times[0].bytes)?;
+    let (bytes, _) = stream.pieces(rt, alloc, tables, &new)?;
+    writeln!(out, "20 lines in a piece: {bytes} bytes each")?;
     Ok(())
 }
 
@@ -382,8 +404,6 @@ fn small_lines<R: Clock, W: Write>(
 }
 
 fn small_line<R: Clock, W: Write>(rt: &R, alloc: Global, out: &mut W) -> Result<(), BenchError> {
-    match tables_of(alloc, 10, Waker::Lost) {
-        Ok(tables) => small_lines(rt, alloc, out, &tables),
-        Err(error) => Err(error),
-    }
+    let tables = tables_of(alloc, 10, Waker::Lost)?;
+    small_lines(rt, alloc, out, &tables)
 }

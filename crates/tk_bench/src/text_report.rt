@@ -96,7 +96,7 @@ fn wholes<R: Clock, W: Write>(
 
 // A stream of so many pairs of lines between tables of which all rows differ.
 fn stream_between(alloc: Global, old: &Tables, pairs: u64) -> Result<Vec<u8>, BenchError> {
-    let new = changed(old, 1, Waker::Lost)?;
+    let new = changed(alloc, old, 1, Waker::Lost)?;
     stream_of(alloc, old, &new, pairs)
 }
 

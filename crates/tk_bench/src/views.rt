@@ -1,9 +1,8 @@
 //! The view of a stream of many lines, beside feeding its bytes and reading them as JSON alone.
 
 use crate::error::BenchError;
-use crate::lines::{Stream, ended_text, first_text, line_between};
+use crate::lines::{Stream, first_text, put_line, value_of};
 use crate::rounds::{ROUNDS, Rounds, nanos_since};
-use serde_json::Value;
 use std::alloc::Global;
 use std::time::{Clock, Instant};
 use tk_client::Lints;
@@ -50,19 +49,6 @@ impl Whole {
     }
 }
 
-fn put_line(
-    alloc: Global,
-    bytes: &mut Vec<u8>,
-    old: &Tables,
-    new: &Tables,
-    seq: u64,
-) -> Result<(), BenchError> {
-    let line = line_between(alloc, old, new, seq)?;
-    let text = ended_text(&line)?;
-    bytes.extend_from_slice(&text)?;
-    Ok(())
-}
-
 /// A stream: a first line that tells of the old tables, and so many pairs that lead to the new ones and back.
 pub(crate) fn stream_of(
     alloc: Global,
@@ -100,18 +86,11 @@ fn feed_time<R: Clock>(rt: &R, alloc: Global, bytes: &[u8]) -> Result<u64, Bench
     stream.feed(rt, bytes)
 }
 
-fn read(alloc: Global, line: &[u8]) -> Result<(), BenchError> {
-    match Value::from_slice(alloc, line) {
-        Ok(_) => Ok(()),
-        Err(_) => Err(BenchError::Refused),
-    }
-}
-
 fn json_time<R: Clock>(rt: &R, alloc: Global, bytes: &[u8]) -> Result<u64, BenchError> {
     let start = Instant::now(rt)?;
     for line in bytes.split(|byte| *byte == b'\n') {
         if !line.is_empty() {
-            read(alloc, line)?;
+            value_of(alloc, line)?;
         }
     }
     nanos_since(rt, &start)
