@@ -105,10 +105,13 @@ impl<O: Sequential> Shared<O> {
         ensures none { IfNone result (token.new.view ≡ token.old.view) }
     {
         let words = self.look::<K, R>(rt, token, call);
-        let Some(row) = O::from_words(&words) else {
-            unreachable!()
-        };
+        // No test that these are a row's words, and no words of the next row where a call only reads: the words are
+        // those of some history.
+        let row = O::decode(&words);
         let (next, reply) = row.step(call);
+        if O::reads_only(call) {
+            return Some(reply);
+        }
         let new = next.to_words();
         if new == words || self.exchange::<K, R>(rt, token, call, words, new) {
             Some(reply)

@@ -42,3 +42,11 @@ module _ {O C R : Type 0} (m : Meaning O C R) where
   -- what is read from words: a row exactly where these are its words
   abbrev pub IsRowOf : List ℕ → Option O → Type 0
   IsRowOf ws read = (row : O) → (read ≡ Some row) ↔ (m.words row ≡ ws)
+
+  -- what is read from words that are known to be some row's: that row
+  abbrev pub IsRowWith : List ℕ → O → Type 0
+  IsRowWith ws read = (row : O) → m.words row ≡ ws → read ≡ row
+
+  -- a call that reads alone: from whatever calls a row comes, it leaves that row
+  abbrev pub ReadsOnly : C → Type 0
+  ReadsOnly call = (opening : O) (calls : List C) → m.IsOpening opening → m.row_after opening (calls ++ call ∷ []) ≡ m.row_after opening calls

@@ -6,8 +6,8 @@
 /// answered; which number, if any, a reply answers; which calls the owner may make, and a caller whose
 /// number was answered to a given call; and which calls are a caller's last.
 pub trait Sequential: Copy {
-    ghost use Rattle.tk_core.specs.Meaning.{Meaning, AreToldApart, BeginsAtOpening, NumbersAreNew, StepsTo, IsRowOf};
-    ghost use Rattle.std.specs.Prelude.{◌≡◌};
+    ghost use Rattle.tk_core.specs.Meaning.{Meaning, AreToldApart, BeginsAtOpening, NumbersAreNew, StepsTo, IsRowOf, IsRowWith, ReadsOnly};
+    ghost use Rattle.std.specs.Prelude.{◌≡◌, IsTrue};
 
     /// A call on the object.
     type Call: Copy;
@@ -25,9 +25,18 @@ pub trait Sequential: Copy {
     fn from_words(words: &[u64; 16]) -> Option<Self>
         ensures { IsRowOf meaning words.now result };
 
+    /// The row that has these words, where there is one, and otherwise some row. It spares the test of
+    /// [`Sequential::from_words`] where the words are known to be a row's.
+    fn decode(words: &[u64; 16]) -> Self
+        ensures { IsRowWith meaning words.now result };
+
     /// One call: the next row, and the reply. A row that no calls leave gives some row and some reply.
     fn step(&self, call: Self::Call) -> (Self, Self::Reply)
         ensures { StepsTo meaning self.now call result.0 result.1 };
+
+    /// Whether a call is known to read alone. One that does leaves each row as it is; of others nothing is said.
+    fn reads_only(call: Self::Call) -> bool
+        ensures { IsTrue result → ReadsOnly meaning call };
 
     /// Words tell rows apart.
     ghost told_apart: { AreToldApart meaning };

@@ -4,21 +4,22 @@ use Rattle.std.specs.Prelude.{◌==◌}
 use Rattle.tk_core.specs.Lists.{capped, count_of, last_of}
 use Rattle.tk_core.specs.declared.history.Entry.{Entry}
 use Rattle.tk_core.specs.declared.reply.Reply.{Reply}
+use Rattle.tk_core.specs.declared.reply.Reply.TheVariants.{Shown}
 use Rattle.tk_core.specs.History.{accepted, calls_of}
-use Rattle.tk_core.specs.Fold.{number_of, fold_of, answer_at, HasItsAnswers, row_after}
+use Rattle.tk_core.specs.Fold.{number_of, fold_of, answer_at, HasItsAnswers, Follows, row_after}
 use Rattle.tk_core.specs.Legal.{IsLegal}
-use Rattle.tk_core.specs.Meaning.{AreToldApart, BeginsAtOpening, NumbersAreNew}
+use Rattle.tk_core.specs.Meaning.{AreToldApart, BeginsAtOpening, NumbersAreNew, ReadsOnly}
 use Rattle.tk_core.specs.Resource.{change_of, row_of, resource_kind}
 use Rattle.tk_core.specs.ResourceMeaning.{resource_meaning}
 use Rattle.tk_core.specs.declared.resource.row.ResourceRow.{ResourceRow}
 use Rattle.tk_core.specs.declared.resource.call.ResourceCall.{ResourceCall}
 use Rattle.tk_core.specs.declared.resource.call.ResourceCall.TheVariants.{Close, Attr, Enlist, Read}
-use Rattle.tk_core.specs.Laws.Folded.{after, fold_of-calls}
+use Rattle.tk_core.specs.Laws.Folded.{after, steps_to, fold_of-calls}
 use Rattle.tk_core.specs.Laws.LegalLaws.{has_its_answers}
 use Rattle.tk_core.specs.Laws.Drawn as drawn
 use Rattle.tk_core.specs.Laws.Handles.{draws_none, draws_next}
 use Rattle.tk_core.specs.Laws.AttributeSteps.{values_from-nil}
-use Rattle.tk_core.specs.Laws.ResourceSteps.{changed, Holds, grows, none}
+use Rattle.tk_core.specs.Laws.ResourceSteps.{changed, Holds, grows, none, follows}
 use Rattle.tk_core.specs.Laws.ResourceReadBack.{read_from, read_back, at_most_six}
 
 pub told_apart : AreToldApart resource_meaning
@@ -27,6 +28,13 @@ told_apart a b long e = sym (read_back a (at_most_six a long)) ∙ ap read_from 
 pub begins : BeginsAtOpening resource_meaning
 unfolding row_after fold_of accepted row_of count_of last_of
 begins opening is_opening = rw (values_from-nil change_of opening.attrs) (sym is_opening.0)
+
+-- a reading is answered with the row, and leaves it
+read_follows : (row : ResourceRow) → Follows resource_kind row Read (row, Shown row)
+read_follows row = follows row Read _ (λ within. refl)
+
+pub read_leaves : ReadsOnly resource_meaning Read
+read_leaves opening calls is_opening = let row = row_after resource_kind opening calls in sym (steps_to resource_kind row Read _ (read_follows row) opening calls refl).0
 
 -- a call that answers a number draws the next one
 draws : (row : ResourceRow) (call : ResourceCall) (n : ℕ) → number_of (answer_at resource_kind row call) ≡ Some n → (n ≡ row.handles + 1) × ((after resource_kind changed row call).handles ≡ capped (row.handles + 1))

@@ -4,20 +4,21 @@ use Rattle.std.specs.Prelude.{◌==◌}
 use Rattle.tk_core.specs.Lists.{any_of, any_since, capped, count_of, first_of, last_of, greatest_of, sum_of}
 use Rattle.tk_core.specs.declared.history.Entry.{Entry}
 use Rattle.tk_core.specs.declared.reply.Reply.{Reply}
+use Rattle.tk_core.specs.declared.reply.Reply.TheVariants.{Shown}
 use Rattle.tk_core.specs.History.{accepted, calls_of}
-use Rattle.tk_core.specs.Fold.{number_of, fold_of, answer_at, HasItsAnswers, row_after}
+use Rattle.tk_core.specs.Fold.{number_of, fold_of, answer_at, HasItsAnswers, Follows, row_after}
 use Rattle.tk_core.specs.Legal.{IsLegal}
-use Rattle.tk_core.specs.Meaning.{AreToldApart, BeginsAtOpening, NumbersAreNew}
+use Rattle.tk_core.specs.Meaning.{AreToldApart, BeginsAtOpening, NumbersAreNew, ReadsOnly}
 use Rattle.tk_core.specs.Task.{row_of, task_kind}
 use Rattle.tk_core.specs.TaskMeaning.{task_meaning}
 use Rattle.tk_core.specs.declared.task.row.TaskRow.{TaskRow}
 use Rattle.tk_core.specs.declared.task.call.TaskCall.{TaskCall}
 use Rattle.tk_core.specs.declared.task.call.TaskCall.TheVariants.{PollStart, PollEnd, Close, CloneWaker, WakeVal, WakeRef, Release, Enlist, Read}
-use Rattle.tk_core.specs.Laws.Folded.{after, fold_of-calls}
+use Rattle.tk_core.specs.Laws.Folded.{after, steps_to, fold_of-calls}
 use Rattle.tk_core.specs.Laws.LegalLaws.{has_its_answers}
 use Rattle.tk_core.specs.Laws.Drawn as drawn
 use Rattle.tk_core.specs.Laws.Handles.{draws_none, draws_next}
-use Rattle.tk_core.specs.Laws.TaskSteps.{changed, Holds, grows, none}
+use Rattle.tk_core.specs.Laws.TaskSteps.{changed, Holds, grows, none, follows}
 use Rattle.tk_core.specs.Laws.TaskReadBack.{read_from, read_back}
 
 pub told_apart : AreToldApart task_meaning
@@ -26,6 +27,13 @@ told_apart a b long e = sym (read_back a) ∙ ap read_from e ∙ read_back b
 pub begins : BeginsAtOpening task_meaning
 unfolding row_after fold_of accepted row_of any_of any_since count_of first_of last_of greatest_of sum_of
 begins opening is_opening = sym is_opening
+
+-- a reading is answered with the row, and leaves it
+read_follows : (row : TaskRow) → Follows task_kind row Read (row, Shown row)
+read_follows row = follows row Read _ (λ within. refl)
+
+pub read_leaves : ReadsOnly task_meaning Read
+read_leaves opening calls is_opening = let row = row_after task_kind opening calls in sym (steps_to task_kind row Read _ (read_follows row) opening calls refl).0
 
 -- a call that answers a number draws the next one
 draws : (row : TaskRow) (call : TaskCall) (n : ℕ) → number_of (answer_at task_kind row call) ≡ Some n → (n ≡ row.handles + 1) × ((after task_kind changed row call).handles ≡ capped (row.handles + 1))

@@ -22,8 +22,20 @@ impl Sequential for OpRow {
         OpRow::from_words(words)
     }
 
+    fn decode(words: &[u64; 16]) -> Self {
+        OpRow::decode(words)
+    }
+
     fn step(&self, call: OpCall) -> (OpRow, Reply<OpRow>) {
         self.step(call)
+    }
+
+    #[inline(always)]
+    fn reads_only(call: OpCall) -> bool {
+        match call {
+            OpCall::Read => true,
+            _ => false,
+        }
     }
 
     ghost told_apart = { laws.told_apart };

@@ -67,7 +67,7 @@ impl OpRow {
     }
 
     /// The row that has these words, where there is one, and otherwise some row.
-    fn decode(words: &[u64; 16]) -> Self
+    pub(crate) fn decode(words: &[u64; 16]) -> Self
         ensures { (row : OpRow) → words_of row ≡ words.now → result ≡ row }
     {
         // The flags from each bit on.

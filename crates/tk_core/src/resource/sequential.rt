@@ -22,8 +22,20 @@ impl Sequential for ResourceRow {
         ResourceRow::from_words(words)
     }
 
+    fn decode(words: &[u64; 16]) -> Self {
+        ResourceRow::decode(words)
+    }
+
     fn step(&self, call: ResourceCall) -> (ResourceRow, Reply<ResourceRow>) {
         self.step(call)
+    }
+
+    #[inline(always)]
+    fn reads_only(call: ResourceCall) -> bool {
+        match call {
+            ResourceCall::Read => true,
+            _ => false,
+        }
     }
 
     ghost told_apart = { laws.told_apart };

@@ -25,8 +25,21 @@ impl Sequential for TaskRow {
     }
 
     #[inline(always)]
+    fn decode(words: &[u64; 16]) -> Self {
+        TaskRow::decode(words)
+    }
+
+    #[inline(always)]
     fn step(&self, call: TaskCall) -> (TaskRow, Reply<TaskRow>) {
         self.step(call)
+    }
+
+    #[inline(always)]
+    fn reads_only(call: TaskCall) -> bool {
+        match call {
+            TaskCall::Read => true,
+            _ => false,
+        }
     }
 
     ghost told_apart = { laws.told_apart };

@@ -56,7 +56,7 @@ impl TaskRow {
 
     /// The row that has these words, where there is one, and otherwise some row.
     #[inline(always)]
-    fn decode(words: &[u64; 16]) -> Self
+    pub(crate) fn decode(words: &[u64; 16]) -> Self
         ensures { (row : TaskRow) → words_of row ≡ words.now → result ≡ row }
     {
         // The flags from each bit on.
