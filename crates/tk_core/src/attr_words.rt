@@ -97,6 +97,7 @@ impl AttrValues {
     }
 
     /// The values that these flags and words are those of, where they are those of any.
+    #[inline(always)]
     pub(crate) fn from_words(flags: u64, words: &[u64; 6]) -> Self
         ensures { result ≡ take (flags / 256 % 8) (six_from (flags / 65536) (get_or words.now 0 0) (get_or words.now 1 0) (get_or words.now 2 0) (get_or words.now 3 0) (get_or words.now 4 0) (get_or words.now 5 0)) }
     {

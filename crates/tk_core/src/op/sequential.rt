@@ -22,10 +22,12 @@ impl Sequential for OpRow {
         OpRow::from_words(words)
     }
 
+    #[inline(always)]
     fn decode(words: &[u64; 16]) -> Self {
         OpRow::decode(words)
     }
 
+    #[inline(always)]
     fn step(&self, call: OpCall) -> (OpRow, Reply<OpRow>) {
         self.step(call)
     }

@@ -10,6 +10,7 @@ use tk_ids::TaskId;
 
 impl OpRow {
     /// One call: the next row, and the reply.
+    #[inline(always)]
     pub fn step(&self, call: OpCall) -> (OpRow, Reply<OpRow>)
         ensures { Follows op_kind self.now call result }
     {

@@ -67,6 +67,7 @@ impl OpRow {
     }
 
     /// The row that has these words, where there is one, and otherwise some row.
+    #[inline(always)]
     pub(crate) fn decode(words: &[u64; 16]) -> Self
         ensures { (row : OpRow) → words_of row ≡ words.now → result ≡ row }
     {

@@ -22,10 +22,12 @@ impl Sequential for ResourceRow {
         ResourceRow::from_words(words)
     }
 
+    #[inline(always)]
     fn decode(words: &[u64; 16]) -> Self {
         ResourceRow::decode(words)
     }
 
+    #[inline(always)]
     fn step(&self, call: ResourceCall) -> (ResourceRow, Reply<ResourceRow>) {
         self.step(call)
     }

@@ -9,6 +9,7 @@ use crate::resource::{ResourceCall, ResourceRow};
 
 impl ResourceRow {
     /// One call: the next row, and the reply.
+    #[inline(always)]
     pub fn step(&self, call: ResourceCall) -> (ResourceRow, Reply<ResourceRow>)
         ensures { Follows resource_kind self.now call result }
     {

@@ -36,6 +36,7 @@ impl ResourceRow {
     }
 
     /// The row that has these words, where there is one, and otherwise some row.
+    #[inline(always)]
     pub(crate) fn decode(words: &[u64; 16]) -> Self
         ensures { (row : ResourceRow) → words_of row ≡ words.now → result ≡ row }
     {
