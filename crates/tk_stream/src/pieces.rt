@@ -78,6 +78,7 @@ pub(crate) fn put_text(out: &mut Vec<u8>, text: &[u8]) -> Result<(), AllocError>
 }
 
 /// What stands before a name, up to its first quote, and the name with its last quote.
+#[inline(always)]
 pub(crate) fn put_name(out: &mut Vec<u8>, before: &[u8], name: &Name) -> Result<(), AllocError>
     ensures { OnOk result (Puts out.old.items out.new.items
         (before.now ++ (escape name.now ++ 34 ∷ []))) }
@@ -101,17 +102,22 @@ fn put_content(out: &mut Vec<u8>, bytes: &[u8]) -> Result<(), AllocError>
     }
 }
 
+// It goes on behind the first byte that isn't plain, so that several are looked at in one step.
 fn is_plain(bytes: &[u8]) -> bool
     ensures { result ≡ list_all is_plain bytes.now }
 {
-    bytes.iter().all(|b| !is_escaped(*b))
+    let mut plain = true;
+    for b in bytes {
+        plain = plain & !is_escaped(*b);
+    }
+    plain
 }
 
 /// Whether a backslash stands before a byte of a name.
 pub(crate) fn is_escaped(byte: u8) -> bool
     ensures { result ≡ is_escaped byte }
 {
-    byte == b'"' || byte == b'\\'
+    (byte == b'"') | (byte == b'\\')
 }
 
 fn put_escaped(out: &mut Vec<u8>, bytes: &[u8]) -> Result<(), AllocError>
