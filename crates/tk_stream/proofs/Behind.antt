@@ -1,6 +1,7 @@
 -- Pieces of a text, one behind the other.
-use Rattle.std.proofs.Common.{◌≡◌, ℕ, ◌+◌, ◌-◌, ◌*◌, ◌/◌, ◌%◌, ◌^◌, ◌<◌, ◌≤◌, decimal, List, [], ◌∷◌, ◌++◌, length, drop, take, get_or, Bool, true, false, refl, sym, ap, ◌∙◌, append_assoc, append-nil, inl, inr, arith}
+use Rattle.std.proofs.Common.{◌≡◌, ℕ, ◌+◌, ◌-◌, ◌*◌, ◌/◌, ◌%◌, ◌^◌, ◌<◌, ◌≤◌, decimal, List, [], ◌∷◌, ◌++◌, length, drop, take, get_or, Bool, true, false, refl, sym, ap, ◌∙◌, append_assoc, append-nil, inl, inr, arith, true≢false}
 use Rattle.std.specs.Prelude.{map, ◌&&◌, nat_le}
+use Rattle.std.specs.Bool.{OnTrue}
 use Rattle.std.specs.List.{list_all}
 use Rattle.std.proofs.lemmas.List.{drop_more, drop_all, take_rest, flat_map_more}
 use Rattle.std.proofs.lemmas.List.Sums.{AllPass-from_list_all}
@@ -98,9 +99,9 @@ bytes_put bs i out total past so_far =
     sym (append-nil out) ∙ sym (ap (λ xs. out ++ escape xs) (drop_all i bs past)) ∙ so_far
 
 -- a name with no byte that has a backslash before it
-pub plain_put : {old new : List ℕ} (bs : List ℕ) (plain : Bool) → is_name bs ≡ true → plain ≡ list_all is_plain bs → plain ≡ true → Puts old new bs → Puts old new (escape bs)
-plain_put {old} {new} bs plain named is so put =
-    record { is = put.is ∙ ap (λ xs. old ++ xs) (sym (plain_text bs (printable_name bs named) (sym is ∙ so))) }
+pub plain_put : {old new : List ℕ} (bs : List ℕ) (plain : Bool) → OnTrue plain (escape bs ≡ bs) → plain ≡ true → Puts old new bs → Puts old new (escape bs)
+plain_put {old} {new} bs true h so put = record { is = put.is ∙ ap (λ xs. old ++ xs) (sym h) }
+plain_put {old} {new} bs false h so put = absurd (true≢false (sym so))
 
 pub special_put : (old out new : List ℕ) (b : ℕ) (special : Bool) → special ≡ is_escaped b → special ≡ true → out ≡ old ++ 92 ∷ [] → new ≡ out ++ b ∷ [] → Puts old new (escape_byte b)
 special_put old out new b special is so one two =

@@ -19,6 +19,7 @@ pub mod laws;
 mod line;
 mod op;
 mod pieces;
+mod plain;
 mod putting;
 mod ranged;
 mod read_infos;

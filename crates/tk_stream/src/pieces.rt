@@ -5,9 +5,10 @@ ghost use Rattle.json.specs.Print.{escape, escape_byte};
 ghost use Rattle.serde_json.specs.Data.{boolean};
 ghost use Rattle.serde_json.specs.Written.{compact_text};
 ghost use Rattle.tk_ids.specs.Names.{is_name, is_printable};
-ghost use Rattle.tk_stream.specs.Behind.{Puts, is_escaped, is_plain};
+ghost use Rattle.tk_stream.specs.Behind.{Puts, is_escaped};
 ghost use Rattle.tk_stream.specs.Spelling as spec;
 
+use crate::plain::is_plain;
 use itoa::Buffer;
 use std::alloc::AllocError;
 use tk_ids::Name;
@@ -102,24 +103,16 @@ fn put_content(out: &mut Vec<u8>, bytes: &[u8]) -> Result<(), AllocError>
     }
 }
 
-// It goes on behind the first byte that isn't plain, so that several are looked at in one step.
-fn is_plain(bytes: &[u8]) -> bool
-    ensures { result ≡ list_all is_plain bytes.now }
-{
-    let mut plain = true;
-    for b in bytes {
-        plain = plain & !is_escaped(*b);
-    }
-    plain
-}
-
 /// Whether a backslash stands before a byte of a name.
 pub(crate) fn is_escaped(byte: u8) -> bool
     ensures { result ≡ is_escaped byte }
 {
-    (byte == b'"') | (byte == b'\\')
+    byte == b'"' || byte == b'\\'
 }
 
+// Few names have a backslash.
+#[cold]
+#[inline(never)]
 fn put_escaped(out: &mut Vec<u8>, bytes: &[u8]) -> Result<(), AllocError>
     requires { list_all is_printable bytes.now ≡ true }
     ensures { OnOk result (Puts out.old.items out.new.items (escape bytes.now)) }
