@@ -61,14 +61,18 @@ impl<'a> Sequential for Door<'a> {
     }
 
     fn from_words(words: &[u64; 16]) -> Option<Door<'a>> {
-        let row = Door {
-            uses: words[0],
-            of: PhantomData,
-        };
+        let row = Door::decode(words);
         if row.to_words() == *words {
             Some(row)
         } else {
             None
+        }
+    }
+
+    fn decode(words: &[u64; 16]) -> Door<'a> {
+        Door {
+            uses: words[0],
+            of: PhantomData,
         }
     }
 
@@ -81,6 +85,10 @@ impl<'a> Sequential for Door<'a> {
             of: PhantomData,
         };
         (next, self.uses)
+    }
+
+    fn reads_only(_call: Use<'a>) -> bool {
+        false
     }
 
     ghost told_apart = { λ a b long e i. record { uses = slice_index (e i) 0; of = a.of } };
