@@ -32,14 +32,27 @@ use Rattle.tk_ids.specs.declared.attr.AttrValue.TheVariants as values
 same_kind : (value : AttrValue) (op : AttrOp) → refused_change value op ≡ None → kind_of (changed_value op value) ≡ kind_of value
 same_kind (values.U64 n) (Add (values.U64 by)) e = refl
 same_kind (values.U64 n) (Add (values.Bool b)) e = absurd (cc)
+same_kind (values.U64 n) (Add (values.I64 z)) e = absurd (cc)
 same_kind (values.U64 n) (Sub (values.U64 by)) e = refl
 same_kind (values.U64 n) (Sub (values.Bool b)) e = absurd (cc)
+same_kind (values.U64 n) (Sub (values.I64 z)) e = absurd (cc)
 same_kind (values.U64 n) (Override (values.U64 m)) e = refl
 same_kind (values.U64 n) (Override (values.Bool b)) e = absurd (cc)
+same_kind (values.U64 n) (Override (values.I64 z)) e = absurd (cc)
 same_kind (values.Bool b) (Add by) e = refl
 same_kind (values.Bool b) (Sub by) e = refl
 same_kind (values.Bool b) (Override (values.U64 m)) e = absurd (cc)
 same_kind (values.Bool b) (Override (values.Bool c)) e = refl
+same_kind (values.Bool b) (Override (values.I64 z)) e = absurd (cc)
+same_kind (values.I64 z) (Add (values.U64 by)) e = absurd (cc)
+same_kind (values.I64 z) (Add (values.Bool b)) e = absurd (cc)
+same_kind (values.I64 z) (Add (values.I64 by)) e = refl
+same_kind (values.I64 z) (Sub (values.U64 by)) e = absurd (cc)
+same_kind (values.I64 z) (Sub (values.Bool b)) e = absurd (cc)
+same_kind (values.I64 z) (Sub (values.I64 by)) e = refl
+same_kind (values.I64 z) (Override (values.U64 m)) e = absurd (cc)
+same_kind (values.I64 z) (Override (values.Bool b)) e = absurd (cc)
+same_kind (values.I64 z) (Override (values.I64 m)) e = refl
 
 same_kinds : (attrs : List AttrValue) (i : ℕ) (value new : AttrValue) → slice_get attrs i ≡ Some value → kind_of new ≡ kind_of value → kinds_of (set attrs i new) ≡ kinds_of attrs
 same_kinds [] i value new at e = refl

@@ -132,6 +132,7 @@ module _ {Item Info Stats : Type 0} (k : Kind Item Info Stats) (stats_of : Item 
 same_kind : (a : AttrKind) → is_kind a a ≡ true
 same_kind kinds.U64 = refl
 same_kind kinds.Bool = refl
+same_kind kinds.I64 = refl
 
 kinds_fit : (attrs : List AttrInfo) (values : List AttrValue) → HaveKinds attrs values → fit_attrs attrs values ≡ true
 kinds_fit [] [] e = refl

@@ -58,9 +58,9 @@ has_strange_id old l =
 -- whether two kinds of attributes are the same
 abbrev pub is_kind : AttrKind → AttrKind → Bool
 is_kind kinds.U64 kinds.U64 = true
-is_kind kinds.U64 kinds.Bool = false
-is_kind kinds.Bool kinds.U64 = false
 is_kind kinds.Bool kinds.Bool = true
+is_kind kinds.I64 kinds.I64 = true
+is_kind _ _ = false
 
 -- the test of `HaveKinds`: values are as many as the attributes, and each of its attribute's kind
 abbrev pub fit_attrs : List AttrInfo → List AttrValue → Bool

@@ -14,8 +14,10 @@ fn is_kind(a: AttrKind, b: AttrKind) -> bool
     ensures { result ≡ spec.is_kind a b }
 {
     match (a, b) {
-        (AttrKind::U64, AttrKind::U64) | (AttrKind::Bool, AttrKind::Bool) => true,
-        (AttrKind::U64, AttrKind::Bool) | (AttrKind::Bool, AttrKind::U64) => false,
+        (AttrKind::U64, AttrKind::U64)
+        | (AttrKind::Bool, AttrKind::Bool)
+        | (AttrKind::I64, AttrKind::I64) => true,
+        _ => false,
     }
 }
 

@@ -6,9 +6,11 @@ use Rattle.std.proofs.Math.Seq.{take-nil}
 use Rattle.std.proofs.lemmas.Bool.Decides.{nat_tests}
 use Rattle.std.proofs.Math.ListN.{set}
 use Rattle.std.proofs.lemmas.List.{length-set}
-use Rattle.tk_core.specs.AttrWords.{attr_word, attr_words}
-use Rattle.tk_core.specs.AttrValues.{value_by, values_by, attr_kinds, kind_or_u64, kept_word, kept_kind, view_of, fields_of, IsPadded}
-use Rattle.tk_core.specs.Laws.AttrReadBack.{word_or_zero, six_words}
+use Rattle.tk_core.specs.AttrWords.{attr_word, attr_words, is_kept, are_kept}
+use Rattle.tk_core.specs.AttrValues.{value_by, values_by, attr_kinds, kind_or_u64, kind_of_bits, kept_word, kept_kind, view_of, fields_of, IsPadded}
+use Rattle.tk_core.specs.Laws.AttrReadBack.{word_or_zero, is_kept_or_none, attr_from, six_words}
+use Rattle.tk_core.specs.Laws.Signed.{signed_back}
+use Rattle.std.proofs.lemmas.Bool.{and_parts}
 use Rattle.tk_core.specs.declared.attr_values.AttrValues.TheInside.{Inside}
 use Rattle.tk_ids.specs.Attributes.{kind_of}
 use Rattle.tk_ids.specs.declared.attr.AttrKind.{AttrKind}
@@ -17,36 +19,60 @@ use Rattle.tk_ids.specs.declared.attr.AttrValue.{AttrValue}
 use Rattle.tk_ids.specs.declared.attr.AttrValue.TheVariants as values
 
 -- a value is that of its word and its kind
-pub value_back : (v : AttrValue) → value_by (attr_word v) (kind_of v) ≡ v
-value_back (values.U64 n) = refl
-value_back (values.Bool b) = flag b
-  where
-    flag : (b : Bool) → value_by (attr_word (values.Bool b)) kinds.Bool ≡ values.Bool b
-    flag true = refl
-    flag false = refl
+pub value_back : (v : AttrValue) → is_kept v ≡ true → value_by (attr_word v) (kind_of v) ≡ v
+value_back (values.U64 n) kept = refl
+value_back (values.Bool true) kept = refl
+value_back (values.Bool false) kept = refl
+value_back (values.I64 n) kept = ap (λ m. values.I64 m) (signed_back n kept)
 
 pub kind_by : (w : ℕ) (k : AttrKind) → kind_of (value_by w k) ≡ k
 kind_by w kinds.U64 = refl
 kind_by w kinds.Bool = refl
+kind_by w kinds.I64 = refl
 
-front : (vs : List AttrValue) (ws : List ℕ) (ks : List AttrKind) → take (length vs) (values_by (map attr_word vs ++ ws) (map kind_of vs ++ ks)) ≡ vs
-front [] ws ks = refl
-front (v ∷ vs) ws ks = rw (value_back v, front vs ws ks) refl
+front : (vs : List AttrValue) (ws : List ℕ) (ks : List AttrKind) → are_kept vs ≡ true → take (length vs) (values_by (map attr_word vs ++ ws) (map kind_of vs ++ ks)) ≡ vs
+front [] ws ks kept = refl
+front (v ∷ vs) ws ks kept = let parts = and_parts (is_kept v) (are_kept vs) kept in rw (value_back v parts.0, front vs ws ks parts.1) refl
 
 -- places that are filled show what they are filled with
-pub view_fields : (vs : List AttrValue) → view_of (fields_of vs) ≡ vs
-view_fields vs = front vs _ _
+pub view_fields : (vs : List AttrValue) → are_kept vs ≡ true → view_of (fields_of vs) ≡ vs
+view_fields vs kept = front vs _ _ kept
 
--- places that are those of a list
-pub is_padded : (a : Inside) (vs : List AttrValue) → a ≡ fields_of vs → a.count ≤ 6 → IsPadded a
-is_padded a vs e le = (le, ap fields_of (ap view_of e ∙ view_fields vs) ∙ sym e)
+-- places that are those of a list of kept values
+pub is_viewed : (a : Inside) (vs : List AttrValue) → a ≡ fields_of vs → are_kept vs ≡ true → view_of a ≡ vs
+is_viewed a vs e kept = ap view_of e ∙ view_fields vs kept
 
-pub is_viewed : (a : Inside) (vs : List AttrValue) → a ≡ fields_of vs → view_of a ≡ vs
-is_viewed a vs e = ap view_of e ∙ view_fields vs
+pub is_padded : (a : Inside) (vs : List AttrValue) → a ≡ fields_of vs → are_kept vs ≡ true → a.count ≤ 6 → IsPadded a
+is_padded a vs e kept le = (le, (ap fields_of (is_viewed a vs e kept) ∙ sym e, ap are_kept (is_viewed a vs e kept) ∙ kept))
+
+-- values at at most six places are kept
+pub kept_slots : (vs : List AttrValue) → length vs ≤ 6
+    → is_kept_or_none (slice_get vs 0) ≡ true → is_kept_or_none (slice_get vs 1) ≡ true → is_kept_or_none (slice_get vs 2) ≡ true → is_kept_or_none (slice_get vs 3) ≡ true → is_kept_or_none (slice_get vs 4) ≡ true → is_kept_or_none (slice_get vs 5) ≡ true
+    → are_kept vs ≡ true
+kept_slots [] le i j k l m n = refl
+kept_slots (a ∷ []) le i j k l m n = rw (i) refl
+kept_slots (a ∷ (b ∷ [])) le i j k l m n = rw (i, j) refl
+kept_slots (a ∷ (b ∷ (c ∷ []))) le i j k l m n = rw (i, j, k) refl
+kept_slots (a ∷ (b ∷ (c ∷ (d ∷ [])))) le i j k l m n = rw (i, j, k, l) refl
+kept_slots (a ∷ (b ∷ (c ∷ (d ∷ (e ∷ []))))) le i j k l m n = rw (i, j, k, l, m) refl
+kept_slots (a ∷ (b ∷ (c ∷ (d ∷ (e ∷ (f ∷ [])))))) le i j k l m n = rw (i, j, k, l, m, n) refl
+kept_slots (a ∷ (b ∷ (c ∷ (d ∷ (e ∷ (f ∷ (g ∷ more))))))) le i j k l m n = absurd (omega arith)
+
+-- so are the first few of kept ones
+pub kept_front : (n : ℕ) (vs : List AttrValue) → are_kept vs ≡ true → are_kept (take n vs) ≡ true
+kept_front zero vs kept = refl
+kept_front (suc n) [] kept = refl
+kept_front (suc n) (v ∷ vs) kept = let parts = and_parts (is_kept v) (are_kept vs) kept in rw (parts.0, kept_front n vs parts.1) refl
+
+-- and values of which one takes another's place
+pub kept_set : (vs : List AttrValue) (i : ℕ) (v : AttrValue) → are_kept vs ≡ true → is_kept v ≡ true → are_kept (set vs i v) ≡ true
+kept_set [] i v kept is = refl
+kept_set (x ∷ vs) zero v kept is = let parts = and_parts (is_kept x) (are_kept vs) kept in rw (is, parts.1) refl
+kept_set (x ∷ vs) (suc i) v kept is = let parts = and_parts (is_kept x) (are_kept vs) kept in rw (parts.0, kept_set vs i v parts.1 is) refl
 
 -- the places are those of the list that they show
 pub shown : (a : Inside) (vs : List AttrValue) → IsPadded a → view_of a ≡ vs → a ≡ fields_of vs
-shown a vs h e = sym h.1 ∙ ap fields_of e
+shown a vs h e = sym h.1.0 ∙ ap fields_of e
 
 -- the words and kinds of at most six values, one by one
 pub six_kinds : (vs : List AttrValue) → length vs ≤ 6
@@ -130,3 +156,34 @@ first_parts n ws ks w t six_ws six_ks =
     sym (parts n _ _ _ _ _ _ _ _ _ _ _ _)
     ∙ ap (λ xs. fields_of (take n (values_by xs six_kinds))) (sym (six_of ws w six_ws))
     ∙ ap (λ ys. fields_of (take n (values_by ws ys))) (sym (six_of ks t six_ks))
+
+-- six values that are kept one by one
+pub six_kept : (ws : List ℕ) (ks : List AttrKind) (w : ℕ) (t : AttrKind) → length ws ≡ 6 → length ks ≡ 6
+    → is_kept (value_by (get_or ws 0 w) (get_or ks 0 t)) ≡ true → is_kept (value_by (get_or ws 1 w) (get_or ks 1 t)) ≡ true → is_kept (value_by (get_or ws 2 w) (get_or ks 2 t)) ≡ true → is_kept (value_by (get_or ws 3 w) (get_or ks 3 t)) ≡ true → is_kept (value_by (get_or ws 4 w) (get_or ks 4 t)) ≡ true → is_kept (value_by (get_or ws 5 w) (get_or ks 5 t)) ≡ true
+    → are_kept (values_by ws ks) ≡ true
+six_kept ws ks w t six_ws six_ks i j k l m n =
+    ap (λ xs. are_kept (values_by xs ks)) (six_of ws w six_ws)
+    ∙ ap (λ ys. are_kept (values_by (get_or ws 0 w ∷ get_or ws 1 w ∷ get_or ws 2 w ∷ get_or ws 3 w ∷ get_or ws 4 w ∷ get_or ws 5 w ∷ []) ys)) (six_of ks t six_ks)
+    ∙ rw (i, j, k, l, m, n) refl
+
+-- the value at a place
+pub value_at_place : (n i : ℕ) (ws : List ℕ) (ks : List AttrKind) (w : ℕ) (t : AttrKind) → i < n → i < length ws → i < length ks
+    → slice_get (take n (values_by ws ks)) i ≡ Some (value_by (get_or ws i w) (get_or ks i t))
+value_at_place zero i ws ks w t lt lw lk = absurd (omega arith)
+value_at_place (suc n) i [] ks w t lt lw lk = absurd (omega arith)
+value_at_place (suc n) i (x ∷ ws) [] w t lt lw lk = absurd (omega arith)
+value_at_place (suc n) zero (x ∷ ws) (k ∷ ks) w t lt lw lk = refl
+value_at_place (suc n) (suc i) (x ∷ ws) (k ∷ ks) w t lt lw lk = value_at_place n i ws ks w t (omega arith) (omega arith) (omega arith)
+
+-- values by the bits of their kinds
+by_bits : (b s : Bool) (word : ℕ) → value_by word (kind_of_bits b s) ≡ attr_from b s word
+by_bits true s word = refl
+by_bits false true word = refl
+by_bits false false word = refl
+
+pub six_by_bits : (ws : List ℕ) (w : ℕ) (b0 b1 b2 b3 b4 b5 s0 s1 s2 s3 s4 s5 : Bool) → length ws ≡ 6
+    → values_by ws (kind_of_bits b0 s0 ∷ kind_of_bits b1 s1 ∷ kind_of_bits b2 s2 ∷ kind_of_bits b3 s3 ∷ kind_of_bits b4 s4 ∷ kind_of_bits b5 s5 ∷ [])
+    ≡ attr_from b0 s0 (get_or ws 0 w) ∷ attr_from b1 s1 (get_or ws 1 w) ∷ attr_from b2 s2 (get_or ws 2 w) ∷ attr_from b3 s3 (get_or ws 3 w) ∷ attr_from b4 s4 (get_or ws 4 w) ∷ attr_from b5 s5 (get_or ws 5 w) ∷ []
+six_by_bits ws w b0 b1 b2 b3 b4 b5 s0 s1 s2 s3 s4 s5 six =
+    ap (λ xs. values_by xs (kind_of_bits b0 s0 ∷ kind_of_bits b1 s1 ∷ kind_of_bits b2 s2 ∷ kind_of_bits b3 s3 ∷ kind_of_bits b4 s4 ∷ kind_of_bits b5 s5 ∷ [])) (six_of ws w six)
+    ∙ rw (by_bits b0 s0 (get_or ws 0 w), by_bits b1 s1 (get_or ws 1 w), by_bits b2 s2 (get_or ws 2 w), by_bits b3 s3 (get_or ws 3 w), by_bits b4 s4 (get_or ws 4 w), by_bits b5 s5 (get_or ws 5 w)) refl

@@ -1,6 +1,7 @@
 -- Up to six attribute values, kept as words and kinds. Inner: no crate above cites it.
 use Rattle.std.specs.Prelude.{◌≡◌, ℕ, ◌-◌, ◌≤◌, ◌==◌, Bool, true, false, Option, Some, None, List, [], ◌∷◌, ◌++◌, length, map, take, replicate}
-use Rattle.tk_core.specs.AttrWords.{attr_word, attr_words}
+use Rattle.std.specs.Int.{w64, cast_signed}
+use Rattle.tk_core.specs.AttrWords.{attr_word, attr_words, are_kept}
 use Rattle.tk_ids.specs.Attributes.{kind_of}
 use Rattle.tk_ids.specs.declared.attr.AttrKind.{AttrKind}
 use Rattle.tk_ids.specs.declared.attr.AttrKind.TheVariants as kinds
@@ -12,6 +13,7 @@ use Rattle.tk_core.specs.declared.attr_values.AttrValues.TheInside.{Inside}
 abbrev pub value_by : ℕ → AttrKind → AttrValue
 value_by word kinds.U64 = values.U64 word
 value_by word kinds.Bool = values.Bool (word == 1)
+value_by word kinds.I64 = values.I64 (cast_signed w64 word)
 
 -- values by their words and kinds
 abbrev pub values_by : List ℕ → List AttrKind → List AttrValue
@@ -28,10 +30,11 @@ abbrev pub kind_or_u64 : Option AttrValue → AttrKind
 kind_or_u64 None = kinds.U64
 kind_or_u64 (Some value) = kind_of value
 
--- the kind that a bit names
-abbrev pub kind_of_bit : Bool → AttrKind
-kind_of_bit true = kinds.Bool
-kind_of_bit false = kinds.U64
+-- the kind that two bits name
+abbrev pub kind_of_bits : Bool → Bool → AttrKind
+kind_of_bits true signed = kinds.Bool
+kind_of_bits false true = kinds.I64
+kind_of_bits false false = kinds.U64
 
 -- the word and the kind of a value that is kept; otherwise 0 and `U64`
 abbrev pub kept_word : Bool → ℕ → AttrKind → ℕ
@@ -50,9 +53,9 @@ view_of a = take a.count (values_by a.words a.kinds)
 abbrev pub fields_of : List AttrValue → Inside
 fields_of vs = record { words = attr_words vs; kinds = attr_kinds vs; count = length vs }
 
--- at most six values, and the places are those that hold them
+-- at most six values, which words keep, and the places are those that hold them
 abbrev pub IsPadded : Inside → Type 0
-IsPadded a = (a.count ≤ 6) × (fields_of (view_of a) ≡ a)
+IsPadded a = (a.count ≤ 6) × ((fields_of (view_of a) ≡ a) × (are_kept (view_of a) ≡ true))
 
 pub fields_of_view : (a : Inside) → IsPadded a → fields_of (view_of a) ≡ a
-fields_of_view a h = h.1
+fields_of_view a h = h.1.0

@@ -11,6 +11,7 @@ pub mod TaskReadBack
 pub mod TaskLaws
 pub mod AttributeSteps
 pub mod Refusals
+pub mod Signed
 pub mod AttrReadBack
 pub mod ResourceSteps
 pub mod ResourceReadBack

@@ -1,9 +1,10 @@
 //! The values of an item's attributes.
 //!
 //! They are kept in place as words and kinds, behind one another, with zeros up to six, so that a row is small and `Copy`.
-ghost use Rattle.std.specs.Prelude.{◌≡◌, ◌≤◌, ◌<◌, ◌↔◌, IsTrue, [], length, slice_get, slice_set, take};
+ghost use Rattle.std.specs.Prelude.{◌≡◌, true, ◌≤◌, ◌<◌, ◌↔◌, IsTrue, [], length, slice_get, slice_set, take};
 ghost use Rattle.tk_core.specs.AttrValues.{values_by};
-ghost use Rattle.tk_core.specs.Laws.AttrReadBack.{word_or_zero, kind_bit};
+ghost use Rattle.tk_core.specs.AttrWords.{are_kept};
+ghost use Rattle.tk_core.specs.Laws.AttrReadBack.{word_or_zero, bool_bit, sign_bit};
 
 use crate::attr_words::{kept_kind, kept_word, kind_in, value_by, word, word_in};
 use crate::attrs::AttrOp;
@@ -119,6 +120,7 @@ impl AttrValues {
     pub fn len(&self) -> usize
         ensures length { result ≡ length self.now }
         ensures within { result ≤ 6 }
+        ensures kept { are_kept self.now ≡ true }
     {
         usize::from(self.count)
     }
@@ -158,12 +160,21 @@ impl AttrValues {
     }
 
     /// 1 where a `Bool` stands at an index, and otherwise 0.
-    pub(crate) fn kind_at(&self, index: usize) -> u64
+    pub(crate) fn bool_at(&self, index: usize) -> u64
         requires { index < 6 }
-        ensures value { result ≡ kind_bit (slice_get self.now index) }
+        ensures value { result ≡ bool_bit (slice_get self.now index) }
         ensures bit { result < 2 }
     {
         u64::from(self.kinds[index] == AttrKind::Bool)
+    }
+
+    /// 1 where an `I64` stands at an index, and otherwise 0.
+    pub(crate) fn sign_at(&self, index: usize) -> u64
+        requires { index < 6 }
+        ensures value { result ≡ sign_bit (slice_get self.now index) }
+        ensures bit { result < 2 }
+    {
+        u64::from(self.kinds[index] == AttrKind::I64)
     }
 
     /// The value at an index, counted from 0, if there is one.

@@ -6,9 +6,9 @@ use tk_ids::AttrValue;
 /// A change of an attribute, with a value of the attribute's kind. A `Bool` is only overridden.
 #[derive(Clone, Copy, Debug, PartialEq, Eq)]
 pub enum AttrOp {
-    /// The value is added. Refused with `OutOfRange` where the sum is above 2^64 - 1.
+    /// The value is added. Refused with `OutOfRange` where the sum is above 2^64 - 1, or of signed numbers isn't from -2^63 to 2^63 - 1.
     Add(AttrValue),
-    /// The value is taken away. Refused with `OutOfRange` where the difference is below 0.
+    /// The value is taken away. Refused with `OutOfRange` where the difference is below 0, or of signed numbers isn't from -2^63 to 2^63 - 1.
     Sub(AttrValue),
     /// The value takes the place of the attribute's.
     Override(AttrValue),
@@ -34,6 +34,15 @@ impl AttrOp {
             },
             (AttrValue::U64(_), AttrOp::Override(AttrValue::U64(n))) => Ok(AttrValue::U64(n)),
             (AttrValue::Bool(_), AttrOp::Override(AttrValue::Bool(b))) => Ok(AttrValue::Bool(b)),
+            (AttrValue::I64(n), AttrOp::Add(AttrValue::I64(by))) => match n.checked_add(by) {
+                Some(sum) => Ok(AttrValue::I64(sum)),
+                None => Err(Refusal::OutOfRange),
+            },
+            (AttrValue::I64(n), AttrOp::Sub(AttrValue::I64(by))) => match n.checked_sub(by) {
+                Some(rest) => Ok(AttrValue::I64(rest)),
+                None => Err(Refusal::OutOfRange),
+            },
+            (AttrValue::I64(_), AttrOp::Override(AttrValue::I64(n))) => Ok(AttrValue::I64(n)),
             _ => Err(Refusal::WrongKind),
         }
     }

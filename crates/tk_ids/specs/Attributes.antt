@@ -13,6 +13,7 @@ use Rattle.tk_ids.specs.declared.attr.AttrInfo.{AttrInfo}
 abbrev pub kind_of : AttrValue → AttrKind
 kind_of (value.U64 n) = kind.U64
 kind_of (value.Bool b) = kind.Bool
+kind_of (value.I64 n) = kind.I64
 
 -- no name stands twice: there are as many different names as names
 abbrev pub are_distinct : List (List ℕ) → Bool

@@ -10,6 +10,7 @@ use std::alloc::AllocError;
 pub enum AttrKind {
     U64,
     Bool,
+    I64,
 }
 
 /// The value of an attribute.
@@ -17,6 +18,8 @@ pub enum AttrKind {
 pub enum AttrValue {
     U64(u64),
     Bool(bool),
+    /// A number that may be below zero, as a queue's lag.
+    I64(i64),
 }
 
 impl AttrValue {
@@ -27,6 +30,7 @@ impl AttrValue {
         match self {
             AttrValue::U64(_) => AttrKind::U64,
             AttrValue::Bool(_) => AttrKind::Bool,
+            AttrValue::I64(_) => AttrKind::I64,
         }
     }
 }

@@ -1,9 +1,9 @@
 -- Async operations, as items that their owner alone polls and closes.
 use Rattle.std.proofs.Common.{◌≡◌, ◌≢◌, ℕ, ◌+◌, ◌^◌, Bool, true, false, if◌then◌else◌, List, Option, Some, None, Result, Ok, Err, IfErr, refl, ap, sym, ◌∙◌, true≢false}
-use Rattle.std.specs.Prelude.{nat_lt, nat_le, slice_get}
+use Rattle.std.specs.Prelude.{nat_lt, nat_le, slice_get, ◌+ℤ◌, ◌-ℤ◌}
 use Rattle.tk_ids.specs.declared.attr.AttrValue.{AttrValue}
 use Rattle.tk_ids.specs.declared.attr.AttrValue.TheVariants as values
-use Rattle.tk_core.specs.Attributes.{refused_by}
+use Rattle.tk_core.specs.Attributes.{refused_by, is_i64}
 use Rattle.tk_core.specs.declared.attrs.AttrOp.{AttrOp}
 use Rattle.tk_core.specs.declared.attrs.AttrOp.TheVariants.{Add, Sub, Override}
 use Rattle.tk_core.specs.declared.reply.Refusal.{Refusal}
@@ -122,14 +122,27 @@ by_attribute : (value : Option AttrValue) (change : AttrOp) → says_closed (ref
 by_attribute None change = refl
 by_attribute (Some (values.U64 n)) (Add (values.U64 by)) = fits (nat_lt (n + by) (2 ^ 64))
 by_attribute (Some (values.U64 n)) (Add (values.Bool b)) = refl
+by_attribute (Some (values.U64 n)) (Add (values.I64 z)) = refl
 by_attribute (Some (values.U64 n)) (Sub (values.U64 by)) = fits (nat_le by n)
 by_attribute (Some (values.U64 n)) (Sub (values.Bool b)) = refl
+by_attribute (Some (values.U64 n)) (Sub (values.I64 z)) = refl
 by_attribute (Some (values.U64 n)) (Override (values.U64 m)) = refl
 by_attribute (Some (values.U64 n)) (Override (values.Bool b)) = refl
+by_attribute (Some (values.U64 n)) (Override (values.I64 z)) = refl
 by_attribute (Some (values.Bool b)) (Add value) = refl
 by_attribute (Some (values.Bool b)) (Sub value) = refl
 by_attribute (Some (values.Bool b)) (Override (values.U64 m)) = refl
 by_attribute (Some (values.Bool b)) (Override (values.Bool c)) = refl
+by_attribute (Some (values.Bool b)) (Override (values.I64 z)) = refl
+by_attribute (Some (values.I64 z)) (Add (values.U64 by)) = refl
+by_attribute (Some (values.I64 z)) (Add (values.Bool b)) = refl
+by_attribute (Some (values.I64 z)) (Add (values.I64 by)) = fits (is_i64 (z +ℤ by))
+by_attribute (Some (values.I64 z)) (Sub (values.U64 by)) = refl
+by_attribute (Some (values.I64 z)) (Sub (values.Bool b)) = refl
+by_attribute (Some (values.I64 z)) (Sub (values.I64 by)) = fits (is_i64 (z -ℤ by))
+by_attribute (Some (values.I64 z)) (Override (values.U64 m)) = refl
+by_attribute (Some (values.I64 z)) (Override (values.Bool b)) = refl
+by_attribute (Some (values.I64 z)) (Override (values.I64 m)) = refl
 
 -- the owner hasn't closed the operation, so no change of it is refused for that
 pub change_finds_it_open : (v : View OpRow OpCall (Reply OpRow)) (i : ℕ) (change : AttrOp) (refusal : Refusal) (w : View OpRow OpCall (Reply OpRow)) → Calls op_meaning v (Attr i change) (Refused refusal) w → IsOwner op_meaning v → (polling : Bool) → Keeps op_polls v polling → refusal ≢ Closed

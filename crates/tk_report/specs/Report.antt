@@ -1,11 +1,12 @@
 -- The report of tables: a text of lines, each of which is a function of the tables and of how much is too much.
 use Rattle.std.specs.Prelude.{ℕ, ◌-◌, List, [], ◌++◌, ◌∷◌, codes, decimal, if◌then◌else◌, is_some, Option, Some, None, true, false}
+use Rattle.std.specs.Fmt.{signed_decimal}
 use Rattle.std.specs.List.{flat_map, zip}
 use Rattle.std.specs.Option.{option_map_or}
 use Rattle.tk_ids.specs.Ids.{id_text}
 use Rattle.tk_ids.specs.declared.attr.AttrInfo.{AttrInfo}
 use Rattle.tk_ids.specs.declared.attr.AttrValue.{AttrValue}
-use Rattle.tk_ids.specs.declared.attr.AttrValue.TheVariants.{U64, Bool as Flag}
+use Rattle.tk_ids.specs.declared.attr.AttrValue.TheVariants.{U64, Bool as Flag, I64}
 use Rattle.tk_ids.specs.declared.spec.TaskKind.{TaskKind}
 use Rattle.tk_ids.specs.declared.spec.TaskKind.TheVariants.{Spawn, Blocking}
 use Rattle.tk_core.specs.declared.op.row.OpRow.{OpRow}
@@ -71,6 +72,7 @@ abbrev pub value_word : AttrValue → List ℕ
 value_word (U64 n) = decimal n
 value_word (Flag true) = codes "true"
 value_word (Flag false) = codes "false"
+value_word (I64 n) = signed_decimal n
 
 -- an attribute's unit, where it has one
 abbrev pub unit_words : Option (List ℕ) → List (List ℕ)

@@ -87,6 +87,7 @@ fn put_value(out: &mut String, value: AttrValue) -> Result<(), AllocError>
         AttrValue::U64(number) => write!(out, " {number}"),
         AttrValue::Bool(true) => out.push_str(" true"),
         AttrValue::Bool(false) => out.push_str(" false"),
+        AttrValue::I64(number) => write!(out, " {number}"),
     }
 }
 

@@ -47,6 +47,7 @@ kind_back Blocking = refl
 attr_kind_back : (k : AttrKind) → attr_kind_of (attr_kind_text k) ≡ Some k
 attr_kind_back kinds.U64 = refl
 attr_kind_back kinds.Bool = refl
+attr_kind_back kinds.I64 = refl
 
 optional_back : (o : Option ℕ) → optional_of (optional_data o) ≡ Some o
 optional_back (Some n) = refl
@@ -170,6 +171,7 @@ kind_whole Blocking = ascii (codes "blocking") refl
 attr_kind_whole : (k : AttrKind) → IsUtf8 (attr_kind_text k)
 attr_kind_whole kinds.U64 = ascii (codes "u64") refl
 attr_kind_whole kinds.Bool = ascii (codes "bool") refl
+attr_kind_whole kinds.I64 = ascii (codes "i64") refl
 
 id_small : (n : ℕ) → is_id n ≡ true → n < 2 ^ 64
 id_small n h = let most : n / 2 ^ 40 ≤ 64 = leb-true _ _ (and_parts _ _ (and_parts _ _ h).0).1 in omega arith

@@ -89,8 +89,12 @@ same_rows a b = (fields_agree a b, λ e. ap (same_row a) (sym e) ∙ agrees a)
 value_agrees : (a b : AttrValue) → same_value a b ≡ true → a ≡ b
 value_agrees (U64 m) (U64 n) h = ap U64 (eqb-true m n h)
 value_agrees (U64 m) (Flag c) h = absurd (cc)
+value_agrees (U64 m) (I64 z) h = absurd (cc)
 value_agrees (Flag b) (U64 n) h = absurd (cc)
 value_agrees (Flag b) (Flag c) h = ap Flag (flags_agree b c h)
+value_agrees (Flag b) (I64 z) h = absurd (cc)
+value_agrees (I64 z) (U64 n) h = absurd (cc)
+value_agrees (I64 z) (Flag c) h = absurd (cc)
 
 same_one : (a : AttrValue) → same_value a a ≡ true
 same_one (U64 n) = same_number n

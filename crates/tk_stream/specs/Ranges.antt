@@ -1,6 +1,7 @@
 -- The values of a line's types: numbers are below 2^64, ids are ids and names are names.
 use Rattle.std.specs.Prelude.{◌≡◌, ℕ, ◌^◌, ◌<◌, ◌≤◌, List, length, true, Option, IfSome}
 use Rattle.std.specs.List.{AllByRecursion}
+use Rattle.tk_core.specs.Attributes.{is_i64}
 use Rattle.tk_core.specs.declared.op.row.OpRow.{OpRow}
 use Rattle.tk_core.specs.declared.resource.row.ResourceRow.{ResourceRow}
 use Rattle.tk_core.specs.declared.task.row.TaskRow.{TaskRow}
@@ -49,10 +50,11 @@ pub record IsAttr (a : AttrInfo) : Type 0 where
   pub name : IsName a.name
   pub unit : IfSome a.unit IsName
 
--- a value of 64 bits, or a flag
+-- a value of 64 bits, signed or not, or a flag
 abbrev pub IsValue : AttrValue → Type 0
 IsValue (values.U64 n) = IsNumber n
 IsValue (values.Bool b) = Unit {0}
+IsValue (values.I64 n) = is_i64 n ≡ true
 
 -- the attributes of an item: at most 6, and no two of one name
 pub record AreAttrs (attrs : List AttrInfo) : Type 0 where

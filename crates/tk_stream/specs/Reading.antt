@@ -20,9 +20,9 @@ use Rattle.tk_ids.specs.declared.info.TaskInfo.{TaskInfo}
 use Rattle.tk_ids.specs.declared.location.Location.{Location}
 use Rattle.tk_ids.specs.declared.spec.TaskKind.{TaskKind}
 use Rattle.tk_ids.specs.declared.spec.TaskKind.TheVariants.{Spawn, Blocking}
-use Rattle.serde_json.specs.Data.{Data, null, boolean, Items, no_items, item}
+use Rattle.serde_json.specs.Data.{Data, null, boolean, array, Items, no_items, item}
 use Rattle.serde_json.specs.Events.{members_len}
-use Rattle.serde_json.specs.Find.{get, as_u64, as_number, as_bool, as_str, as_array, as_object}
+use Rattle.serde_json.specs.Find.{get, as_u64, as_i64, as_number, as_bool, as_str, as_array, as_object}
 use Rattle.serde_json.specs.Read.{read}
 use Rattle.tk_stream.specs.declared.error.LineError.{LineError}
 use Rattle.tk_stream.specs.declared.error.LineError.TheVariants.{BadJson}
@@ -138,7 +138,7 @@ location_at key d = list_at key d >>= location_in
 
 -- the kind of an attribute by what it is called
 abbrev pub attr_kind_of : List ℕ → Option AttrKind
-attr_kind_of s = if bytes_eq s (codes "u64") then Some kinds.U64 else (if bytes_eq s (codes "bool") then Some kinds.Bool else None)
+attr_kind_of s = if bytes_eq s (codes "u64") then Some kinds.U64 else (if bytes_eq s (codes "bool") then Some kinds.Bool else (if bytes_eq s (codes "i64") then Some kinds.I64 else None))
 
 -- an attribute: [name, unit or null, kind]
 abbrev pub attr_in : List Data → Option AttrInfo
@@ -157,9 +157,15 @@ attr_of d = list_of d >>= attr_in
 unfoldable pub attrs_in : List Data → Option (List AttrInfo)
 attrs_in ds = each_of attr_of ds >>= λ attrs. if are_attributes (info_names attrs) then Some attrs else None
 
+-- a signed value: a list of one number that is read as signed
+abbrev pub signed_in : List Data → Option AttrValue
+signed_in (d ∷ []) = option_map values.I64 (option_and_then as_i64 (as_number d))
+signed_in _ = None
+
 -- the value of an attribute: true, false or a number
 abbrev pub value_of : Data → Option AttrValue
 value_of (boolean b) = Some (values.Bool b)
+value_of (array ds) = signed_in (values_of ds)
 value_of d = option_map values.U64 (number_of d)
 
 -- the values of an item's attributes: at most 6

@@ -33,9 +33,9 @@ same_row a b =
 -- whether two attribute values are equal: of one kind, and the same there
 abbrev pub same_value : AttrValue → AttrValue → Bool
 same_value (U64 m) (U64 n) = m == n
-same_value (U64 m) (Flag c) = false
-same_value (Flag b) (U64 n) = false
 same_value (Flag b) (Flag c) = beq b c
+same_value (I64 m) (I64 n) = int_eq m n
+same_value _ _ = false
 
 -- whether two lists of attribute values are as long, and agree at each place
 abbrev pub same_values : List AttrValue → List AttrValue → Bool

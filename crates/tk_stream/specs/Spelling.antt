@@ -1,5 +1,5 @@
 -- How a line is spelled: the JSON value that it is, and the text of that. Reading is apart.
-use Rattle.std.specs.Prelude.{ℕ, ◌==◌, List, [], ◌∷◌, ◌++◌, map, codes, Bool, not, Option, Some, None}
+use Rattle.std.specs.Prelude.{ℕ, ℤ, pos, negsuc, ◌==◌, List, [], ◌∷◌, ◌++◌, map, codes, Bool, not, Option, Some, None}
 use Rattle.std.specs.List.{list_all}
 use Rattle.tk_core.specs.declared.op.row.OpRow.{OpRow}
 use Rattle.tk_core.specs.declared.resource.row.ResourceRow.{ResourceRow}
@@ -16,7 +16,7 @@ use Rattle.tk_ids.specs.declared.info.TaskInfo.{TaskInfo}
 use Rattle.tk_ids.specs.declared.location.Location.{Location}
 use Rattle.tk_ids.specs.declared.spec.TaskKind.{TaskKind}
 use Rattle.tk_ids.specs.declared.spec.TaskKind.TheVariants.{Spawn, Blocking}
-use Rattle.serde_json.specs.Data.{Data, null, boolean, number, unsigned, string, array, object, Members, no_members, member}
+use Rattle.serde_json.specs.Data.{Data, null, boolean, number, unsigned, negative, string, array, object, Members, no_members, member}
 use Rattle.serde_json.specs.View.{items_of}
 use Rattle.serde_json.specs.Written.{compact_text}
 use Rattle.tk_stream.specs.Tables.{PollCounts}
@@ -61,6 +61,7 @@ dropped_data d = array (items_of (number_data d.tasks ∷ number_data d.resource
 abbrev pub attr_kind_text : AttrKind → List ℕ
 attr_kind_text kinds.U64 = codes "u64"
 attr_kind_text kinds.Bool = codes "bool"
+attr_kind_text kinds.I64 = codes "i64"
 
 -- a text, or null where there is none
 abbrev pub optional_text : Option (List ℕ) → Data
@@ -75,10 +76,16 @@ attr_members name unit kind = array (items_of (string name ∷ unit ∷ string k
 abbrev pub attr_data : AttrInfo → Data
 attr_data a = attr_members a.name (optional_text a.unit) (attr_kind_text a.kind)
 
--- the value of an attribute: a number, or true or false
+-- a signed number
+abbrev pub signed_data : ℤ → Data
+signed_data (pos n) = number (unsigned n)
+signed_data (negsuc n) = number (negative (negsuc n))
+
+-- the value of an attribute: a number, or true or false, or a list of one signed number
 abbrev pub value_data : AttrValue → Data
 value_data (values.U64 n) = number_data n
 value_data (values.Bool b) = boolean b
+value_data (values.I64 n) = array (items_of (signed_data n ∷ []))
 
 -- the poll counts of a resource, as [resource, ready, pending]
 abbrev pub counts_data : PollCounts → Data

@@ -37,6 +37,23 @@ fn put_digits(out: &mut Vec<u8>, n: u64) -> Result<(), AllocError>
     out.extend_from_slice(buffer.format(n).as_bytes())
 }
 
+/// A signed number, and what stands around it.
+pub(crate) fn put_signed(
+    out: &mut Vec<u8>,
+    before: &[u8],
+    n: i64,
+    behind: &[u8],
+) -> Result<(), AllocError>
+    ensures { OnOk result (Puts out.old.items out.new.items
+        (before.now ++ (compact_text (spec.signed_data n) ++ behind.now))) }
+{
+    put_text(out, before)?;
+    let mut buffer = Buffer::new();
+    out.extend_from_slice(buffer.format(n).as_bytes())?;
+    put_text(out, behind)?;
+    Ok(())
+}
+
 /// The same of a number or `null`.
 #[inline(always)]
 pub(crate) fn put_optional(

@@ -42,6 +42,10 @@ pub(crate) fn see_number(_number: u64)
     ensures { ranges.IsNumber _number }
 {}
 
+pub(crate) fn see_signed(_number: i64)
+    ensures { is_i64 _number ≡ true }
+{}
+
 fn see_optional(number: Option<u64>)
     ensures { ranges.IsOptional number }
 {
@@ -156,6 +160,7 @@ impl Ranged for AttrValue {
         match *self {
             AttrValue::U64(n) => see_number(n),
             AttrValue::Bool(_) => {}
+            AttrValue::I64(n) => see_signed(n),
         }
     }
 }

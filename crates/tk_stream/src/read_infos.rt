@@ -83,6 +83,8 @@ fn attr_kind_of(text: &str) -> Option<AttrKind>
         Some(AttrKind::U64)
     } else if text == "bool" {
         Some(AttrKind::Bool)
+    } else if text == "i64" {
+        Some(AttrKind::I64)
     } else {
         None
     }

@@ -20,6 +20,10 @@ fn value_of(value: &Value) -> Option<AttrValue>
 {
     match value {
         Value::Bool(b) => Some(AttrValue::Bool(*b)),
+        Value::Array(values) => match values.as_slice() {
+            [number] => Some(AttrValue::I64(number.as_i64()?)),
+            _ => None,
+        },
         _ => Some(AttrValue::U64(value.as_u64()?)),
     }
 }

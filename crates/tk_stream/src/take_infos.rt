@@ -75,8 +75,11 @@ fn take_attr_kind<'a>(bytes: &'a [u8], before: &[u8]) -> Option<(AttrKind, &'a [
     if let Some(rest) = take_text(rest, b"\"u64\"") {
         return Some((AttrKind::U64, rest));
     }
-    let rest = take_text(rest, b"\"bool\"")?;
-    Some((AttrKind::Bool, rest))
+    if let Some(rest) = take_text(rest, b"\"bool\"") {
+        return Some((AttrKind::Bool, rest));
+    }
+    let rest = take_text(rest, b"\"i64\"")?;
+    Some((AttrKind::I64, rest))
 }
 
 fn take_unit<'a>(

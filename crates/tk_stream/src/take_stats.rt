@@ -77,6 +77,9 @@ impl Taken for AttrValue {
         if let Some((flag, rest)) = take_flag(bytes, b"") {
             return Ok(Some((AttrValue::Bool(flag), rest)));
         }
+        if let Some((n, rest)) = take_signed(bytes, b"[", b"]") {
+            return Ok(Some((AttrValue::I64(n), rest)));
+        }
         let (n, rest) = some_of!(take_number(bytes, b""));
         Ok(Some((AttrValue::U64(n), rest)))
     }

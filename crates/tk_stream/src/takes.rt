@@ -91,6 +91,30 @@ pub(crate) fn take_number<'a>(bytes: &'a [u8], before: &[u8]) -> Option<(u64, &'
     Some((n, rest))
 }
 
+/// A signed number, and what stands around it. `-0` is spelled in another way.
+pub(crate) fn take_signed<'a>(
+    bytes: &'a [u8],
+    before: &[u8],
+    behind: &[u8],
+) -> Option<(i64, &'a [u8])>
+    ensures { IfSome result (λ x. Takes bytes.now
+        (before.now ++ (compact_text (spec.signed_data x.0) ++ behind.now)) x.1.now) }
+{
+    let rest = take_text(bytes, before)?;
+    let (n, rest) = if let Some(rest) = take_text(rest, b"-") {
+        let (size, rest) = take_decimal(rest)?;
+        if size == 0 {
+            return None;
+        }
+        (0i64.checked_sub_unsigned(size)?, rest)
+    } else {
+        let (size, rest) = take_decimal(rest)?;
+        (0i64.checked_add_unsigned(size)?, rest)
+    };
+    let rest = take_text(rest, behind)?;
+    Some((n, rest))
+}
+
 /// The same of a number or `null`.
 #[inline(always)]
 pub(crate) fn take_optional<'a>(bytes: &'a [u8], before: &[u8]) -> Option<(Option<u64>, &'a [u8])>

@@ -5,7 +5,7 @@ ghost use Rattle.serde_json.specs.Written.{compact_text};
 ghost use Rattle.tk_stream.specs.Behind.{Puts};
 ghost use Rattle.tk_stream.specs.Spelling as spec;
 
-use crate::pieces::{put_flag, put_name, put_number, put_optional, put_text};
+use crate::pieces::{put_flag, put_name, put_number, put_optional, put_signed, put_text};
 use crate::putting::{Written, put_list};
 use std::alloc::AllocError;
 use tk_ids::{
@@ -59,6 +59,7 @@ fn put_attr_kind(out: &mut Vec<u8>, before: &[u8], kind: AttrKind) -> Result<(),
     match kind {
         AttrKind::U64 => put_text(out, b"\"u64\""),
         AttrKind::Bool => put_text(out, b"\"bool\""),
+        AttrKind::I64 => put_text(out, b"\"i64\""),
     }
 }
 
@@ -96,6 +97,7 @@ impl Written for AttrValue {
         match *self {
             AttrValue::U64(n) => put_number(out, b"", n),
             AttrValue::Bool(b) => put_flag(out, b"", b),
+            AttrValue::I64(n) => put_signed(out, b"[", n, b"]"),
         }
     }
 }

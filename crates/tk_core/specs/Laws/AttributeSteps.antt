@@ -1,6 +1,7 @@
 -- What one more change makes of a value.
 use Rattle.std.proofs.Common.{◌≡◌, ℕ, suc, ◌+◌, ◌-◌, ◌≤◌, cond, List, [], ◌∷◌, ◌++◌, Option, Some, None, refl, sym, ap, ◌∙◌, inl, inr, zero-add, eq-eqb, arith}
-use Rattle.std.specs.Prelude.{sum_by, unwrap_or, nat_le, ◌==◌}
+use Rattle.std.specs.Prelude.{sum_by, unwrap_or, nat_le, ◌==◌, ℤ, pos, ◌+ℤ◌, ◌-ℤ◌}
+use Rattle.std.proofs.lemmas.Int.{ints}
 use Rattle.std.proofs.lemmas.Bool.{cases_eq, ne_eqb}
 use Rattle.std.specs.List.{after_last, filter_map}
 use Rattle.std.specs.List.{cons_option, slice_get}
@@ -10,9 +11,9 @@ use Rattle.std.proofs.Common.{zero, add-zero}
 use Rattle.std.proofs.lemmas.List.{append-nil}
 use Rattle.std.proofs.lemmas.List.Elements.{filter_map-append}
 use Rattle.std.proofs.lemmas.Bool.Decides.{nat_tests}
-use Rattle.std.proofs.lemmas.List.Sums.{sum_by_push}
+use Rattle.std.proofs.lemmas.List.Sums.{sum_by_push, fold-append}
 use Rattle.tk_core.specs.Lists.{last_of}
-use Rattle.tk_core.specs.Attributes.{added, taken, set_by, is_override, moved, value_of, values_from, refused_change, refused_by}
+use Rattle.tk_core.specs.Attributes.{added, taken, added_signed, taken_signed, sum_signed, set_by, is_override, moved, value_of, values_from, refused_change, refused_by}
 use Rattle.tk_core.specs.Laws.Pushed.{last_of_push, after_last_push}
 use Rattle.tk_ids.specs.declared.attr.AttrValue.{AttrValue}
 use Rattle.tk_ids.specs.declared.attr.AttrValue.TheVariants as values
@@ -23,10 +24,12 @@ use Rattle.tk_core.specs.declared.reply.Refusal.TheVariants.{OutOfRange}
 -- a value after a change that it doesn't refuse
 abbrev pub plus : AttrValue → AttrValue → AttrValue
 plus (values.U64 n) (values.U64 by) = values.U64 (n + by)
+plus (values.I64 n) (values.I64 by) = values.I64 (n +ℤ by)
 plus value _ = value
 
 abbrev pub minus : AttrValue → AttrValue → AttrValue
 minus (values.U64 n) (values.U64 by) = values.U64 (n - by)
+minus (values.I64 n) (values.I64 by) = values.I64 (n -ℤ by)
 minus value _ = value
 
 abbrev pub changed_value : AttrOp → AttrValue → AttrValue
@@ -37,6 +40,7 @@ changed_value (Sub by) value = minus value by
 abbrev pub amount : AttrValue → ℕ
 amount (values.U64 n) = n
 amount (values.Bool b) = 0
+amount (values.I64 n) = 0
 
 -- no more was taken than there was
 abbrev pub Covers : AttrValue → List AttrOp → Type 0
@@ -51,15 +55,26 @@ Moves base ops op = (moved base (ops ++ op ∷ []) ≡ changed_value op (moved b
 allowed_le : (a b : ℕ) → cond (nat_le a b) None (Some OutOfRange) ≡ None → a ≤ b
 allowed_le a b e = grind (arith, nat_tests)
 
+sum_signed_push : (part : AttrOp → ℤ) (ops : List AttrOp) (op : AttrOp) → sum_signed part (ops ++ op ∷ []) ≡ sum_signed part ops +ℤ part op
+sum_signed_push part ops op = fold-append (λ sum op. sum +ℤ part op) (pos 0) ops (op ∷ [])
+
 move : (base : AttrValue) (ops : List AttrOp) (op : AttrOp) → set_by op ≡ None → refused_change (moved base ops) op ≡ None → Covers base ops → Moves base ops op
 move (values.U64 n) ops (Add (values.U64 by)) free allowed covers = simp (sum_by_push) (ap (λ m. values.U64 m) (omega arith), omega arith)
 move (values.U64 n) ops (Sub (values.U64 by)) free allowed covers =
     let le = allowed_le _ _ allowed in
     simp (sum_by_push) (ap (λ m. values.U64 m) (omega arith), omega arith)
 move (values.U64 n) ops (Add (values.Bool b)) free allowed covers = absurd cc
+move (values.U64 n) ops (Add (values.I64 by)) free allowed covers = absurd cc
 move (values.U64 n) ops (Sub (values.Bool b)) free allowed covers = absurd cc
+move (values.U64 n) ops (Sub (values.I64 by)) free allowed covers = absurd cc
 move (values.Bool b) ops (Add v) free allowed covers = absurd cc
 move (values.Bool b) ops (Sub v) free allowed covers = absurd cc
+move (values.I64 n) ops (Add (values.U64 by)) free allowed covers = absurd cc
+move (values.I64 n) ops (Add (values.Bool b)) free allowed covers = absurd cc
+move (values.I64 n) ops (Add (values.I64 by)) free allowed covers = rw (sum_signed_push added_signed, sum_signed_push taken_signed) (simp (sum_by_push) (ap (λ m. values.I64 m) (omega (arith, ints)), omega arith))
+move (values.I64 n) ops (Sub (values.U64 by)) free allowed covers = absurd cc
+move (values.I64 n) ops (Sub (values.Bool b)) free allowed covers = absurd cc
+move (values.I64 n) ops (Sub (values.I64 by)) free allowed covers = rw (sum_signed_push added_signed, sum_signed_push taken_signed) (simp (sum_by_push) (ap (λ m. values.I64 m) (omega (arith, ints)), omega arith))
 move base ops (Override v) free allowed covers = absurd cc
 
 pub covers_none : (base : AttrValue) → Covers base []
@@ -68,6 +83,7 @@ covers_none base = omega arith
 overridden : (value : AttrValue) → moved value [] ≡ value
 overridden (values.U64 n) = ap (λ m. values.U64 m) (omega arith)
 overridden (values.Bool b) = refl
+overridden (values.I64 n) = ap (λ m. values.I64 m) (omega (arith, ints))
 
 -- a change that isn't refused changes the value, and takes no more than there is
 pub value_push : (first : AttrValue) (ops : List AttrOp) (op : AttrOp) → refused_change (value_of first ops) op ≡ None → IsCovered first ops
@@ -177,6 +193,7 @@ unfolding value_of last_of
 values_none change i [] = refl
 values_none change i (values.U64 n ∷ firsts) = rw (values_none change (i + 1) firsts) (ap (λ m. values.U64 m ∷ firsts) (omega arith))
 values_none change i (values.Bool b ∷ firsts) = rw (values_none change (i + 1) firsts) refl
+values_none change i (values.I64 n ∷ firsts) = rw (values_none change (i + 1) firsts) (ap (λ m. values.I64 m ∷ firsts) (omega (arith, ints)))
 
 -- no calls leave the first values
 pub values_from-nil : {C : Type 0} (change : ℕ → C → Option AttrOp) (firsts : List AttrValue) → values_from change 0 firsts [] ≡ firsts

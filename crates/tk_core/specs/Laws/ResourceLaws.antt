@@ -20,10 +20,10 @@ use Rattle.tk_core.specs.Laws.Drawn as drawn
 use Rattle.tk_core.specs.Laws.Handles.{draws_none, draws_next}
 use Rattle.tk_core.specs.Laws.AttributeSteps.{values_from-nil}
 use Rattle.tk_core.specs.Laws.ResourceSteps.{changed, Holds, grows, none, follows}
-use Rattle.tk_core.specs.Laws.ResourceReadBack.{read_from, read_back, at_most_six}
+use Rattle.tk_core.specs.Laws.ResourceReadBack.{read_from, read_back, is_held}
 
 pub told_apart : AreToldApart resource_meaning
-told_apart a b long e = sym (read_back a (at_most_six a long)) ∙ ap read_from e ∙ read_back b (at_most_six b (ap length (sym e) ∙ long))
+told_apart a b long e = sym (read_back a (is_held a long)) ∙ ap read_from e ∙ read_back b (is_held b (ap length (sym e) ∙ long))
 
 pub begins : BeginsAtOpening resource_meaning
 unfolding row_after fold_of accepted row_of count_of last_of
