@@ -7,5 +7,6 @@ mod polls;
 mod readings;
 mod rising;
 mod scopes;
+mod signed;
 mod threads;
 mod wakes;

@@ -22,9 +22,10 @@ const MAY_NOT: [(&str, &[&str]); 4] = [
     ("two in the middle",           &["a", "b", "c", "b", "d"]),
 ];
 
-const KINDS: [(AttrValue, AttrKind); 2] = [
+const KINDS: [(AttrValue, AttrKind); 3] = [
     (AttrValue::U64(7), AttrKind::U64),
     (AttrValue::Bool(true), AttrKind::Bool),
+    (AttrValue::I64(-7), AttrKind::I64),
 ];
 
 fn spec(alloc: Global, name: Name) -> Result<AttrSpec, Fail> {

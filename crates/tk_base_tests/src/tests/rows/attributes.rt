@@ -6,6 +6,11 @@ use tk_ids::{AttrValue, TaskId};
 
 const MOST: AttrValue = AttrValue::U64(u64::MAX);
 
+// The ends of the signed numbers: -2^63 and 2^63 - 1.
+const LEAST_SIGNED: AttrValue = AttrValue::I64(-9223372036854775808);
+
+const MOST_SIGNED: AttrValue = AttrValue::I64(9223372036854775807);
+
 /// A change of one attribute's value, and what comes of it.
 struct Change {
     case: &'static str,
@@ -18,7 +23,7 @@ struct Change {
 
 // What a change makes of a value, and which changes are refused.
 #[rattlefmt::skip]
-const CHANGES: [Change; 12] = [
+const CHANGES: [Change; 28] = [
     Change { case: "below 0", value: AttrValue::U64(5), index: 0, op: AttrOp::Sub(AttrValue::U64(6)),
         after: AttrValue::U64(5), refused: Some(Refusal::OutOfRange) },
     Change { case: "down to 0", value: AttrValue::U64(5), index: 0, op: AttrOp::Sub(AttrValue::U64(5)),
@@ -43,6 +48,38 @@ const CHANGES: [Change; 12] = [
         after: AttrValue::U64(1), refused: Some(Refusal::NoAttribute) },
     Change { case: "a wrong kind at an index with no attribute", value: AttrValue::U64(1), index: 1, op: AttrOp::Add(AttrValue::Bool(true)),
         after: AttrValue::U64(1), refused: Some(Refusal::NoAttribute) },
+    Change { case: "a signed number below 0", value: AttrValue::I64(0), index: 0, op: AttrOp::Sub(AttrValue::I64(3)),
+        after: AttrValue::I64(-3), refused: None },
+    Change { case: "a negative number added", value: AttrValue::I64(2), index: 0, op: AttrOp::Add(AttrValue::I64(-5)),
+        after: AttrValue::I64(-3), refused: None },
+    Change { case: "a negative number taken away", value: AttrValue::I64(-3), index: 0, op: AttrOp::Sub(AttrValue::I64(-5)),
+        after: AttrValue::I64(2), refused: None },
+    Change { case: "below the least signed number", value: AttrValue::I64(-1), index: 0, op: AttrOp::Add(LEAST_SIGNED),
+        after: AttrValue::I64(-1), refused: Some(Refusal::OutOfRange) },
+    Change { case: "down to the least signed number", value: AttrValue::I64(0), index: 0, op: AttrOp::Add(LEAST_SIGNED),
+        after: LEAST_SIGNED, refused: None },
+    Change { case: "the least signed number taken from -1", value: AttrValue::I64(-1), index: 0, op: AttrOp::Sub(LEAST_SIGNED),
+        after: MOST_SIGNED, refused: None },
+    Change { case: "the least signed number taken from 0", value: AttrValue::I64(0), index: 0, op: AttrOp::Sub(LEAST_SIGNED),
+        after: AttrValue::I64(0), refused: Some(Refusal::OutOfRange) },
+    Change { case: "above the greatest signed number", value: MOST_SIGNED, index: 0, op: AttrOp::Add(AttrValue::I64(1)),
+        after: MOST_SIGNED, refused: Some(Refusal::OutOfRange) },
+    Change { case: "from one end of the signed numbers to the other", value: LEAST_SIGNED, index: 0, op: AttrOp::Add(MOST_SIGNED),
+        after: AttrValue::I64(-1), refused: None },
+    Change { case: "a signed override", value: AttrValue::I64(5), index: 0, op: AttrOp::Override(LEAST_SIGNED),
+        after: LEAST_SIGNED, refused: None },
+    Change { case: "an unsigned number added to a signed one", value: AttrValue::I64(5), index: 0, op: AttrOp::Add(AttrValue::U64(1)),
+        after: AttrValue::I64(5), refused: Some(Refusal::WrongKind) },
+    Change { case: "an unsigned number taken from a signed one", value: AttrValue::I64(5), index: 0, op: AttrOp::Sub(AttrValue::U64(1)),
+        after: AttrValue::I64(5), refused: Some(Refusal::WrongKind) },
+    Change { case: "an unsigned number over a signed one", value: AttrValue::I64(5), index: 0, op: AttrOp::Override(AttrValue::U64(1)),
+        after: AttrValue::I64(5), refused: Some(Refusal::WrongKind) },
+    Change { case: "a signed number added to an unsigned one", value: AttrValue::U64(5), index: 0, op: AttrOp::Add(AttrValue::I64(1)),
+        after: AttrValue::U64(5), refused: Some(Refusal::WrongKind) },
+    Change { case: "a bool over a signed number", value: AttrValue::I64(1), index: 0, op: AttrOp::Override(AttrValue::Bool(true)),
+        after: AttrValue::I64(1), refused: Some(Refusal::WrongKind) },
+    Change { case: "a signed number over a bool", value: AttrValue::Bool(true), index: 0, op: AttrOp::Override(AttrValue::I64(1)),
+        after: AttrValue::Bool(true), refused: Some(Refusal::WrongKind) },
 ];
 
 impl Change {

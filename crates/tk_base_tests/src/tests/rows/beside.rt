@@ -11,10 +11,11 @@ const SEEDS: [u64; 4] = [1, 7, 2026, 99991];
 
 const CALLS: u64 = 250;
 
-const FIRSTS: [AttrValue; 3] = [
+const FIRSTS: [AttrValue; 4] = [
     AttrValue::U64(5),
     AttrValue::Bool(false),
     AttrValue::U64(u64::MAX - 3),
+    AttrValue::I64(-2),
 ];
 
 // Whether a call's answer and row are those that the definitions give of the history with it. The row moves on.

@@ -61,7 +61,7 @@ fn changes(alloc: Global, index: u64, history: &[OpEntry]) -> Result<Vec<AttrOp>
 pub fn row(
     alloc: Global,
     created: u64,
-    firsts: &[AttrValue; 3],
+    firsts: &[AttrValue; 4],
     history: &[OpEntry],
 ) -> Result<OpRow, AllocError> {
     let points = points(alloc, history)?;
@@ -70,6 +70,7 @@ pub fn row(
         value(firsts[0], changes(alloc, 0, history)?.as_slice()),
         value(firsts[1], changes(alloc, 1, history)?.as_slice()),
         value(firsts[2], changes(alloc, 2, history)?.as_slice()),
+        value(firsts[3], changes(alloc, 3, history)?.as_slice()),
     ];
     Ok(OpRow {
         created,

@@ -73,6 +73,32 @@ pub fn busy(points: &[Point]) -> u64 {
     sum
 }
 
+// A number plus what is added from a change on, minus what is taken away. The sum may pass 2^64 on the way, and doesn't in the end.
+fn moved(number: u64, changes: &[AttrOp], from: usize) -> u64 {
+    let mut sum = number;
+    for change in changes.iter().skip(from) {
+        sum = match change {
+            AttrOp::Add(AttrValue::U64(by)) => sum.wrapping_add(*by),
+            AttrOp::Sub(AttrValue::U64(by)) => sum.wrapping_sub(*by),
+            _ => sum,
+        };
+    }
+    sum
+}
+
+// The same of a signed number.
+fn moved_signed(number: i64, changes: &[AttrOp], from: usize) -> i64 {
+    let mut sum = number;
+    for change in changes.iter().skip(from) {
+        sum = match change {
+            AttrOp::Add(AttrValue::I64(by)) => sum.wrapping_add(*by),
+            AttrOp::Sub(AttrValue::I64(by)) => sum.wrapping_sub(*by),
+            _ => sum,
+        };
+    }
+    sum
+}
+
 /// A value after its accepted changes: the last override, plus the adds and minus the subtractions behind it.
 pub fn value(first: AttrValue, changes: &[AttrOp]) -> AttrValue {
     let mut base = first;
@@ -83,34 +109,47 @@ pub fn value(first: AttrValue, changes: &[AttrOp]) -> AttrValue {
             from = i;
         }
     }
-    let AttrValue::U64(number) = base else {
-        return base;
-    };
-    // The sums may pass 2^64 on the way, and their difference doesn't.
-    let mut sum = number;
-    for change in changes.iter().skip(from) {
-        sum = match change {
-            AttrOp::Add(AttrValue::U64(by)) => sum.wrapping_add(*by),
-            AttrOp::Sub(AttrValue::U64(by)) => sum.wrapping_sub(*by),
-            _ => sum,
-        };
+    match base {
+        AttrValue::U64(number) => AttrValue::U64(moved(number, changes, from)),
+        AttrValue::I64(number) => AttrValue::I64(moved_signed(number, changes, from)),
+        AttrValue::Bool(_) => base,
     }
-    AttrValue::U64(sum)
 }
 
-/// Why a value refuses a change, if it does.
-pub fn refused_change(value: AttrValue, op: AttrOp) -> Option<Refusal> {
-    let (n, by, adds) = match (value, op) {
-        (AttrValue::U64(_), AttrOp::Override(AttrValue::U64(_))) => return None,
-        (AttrValue::Bool(_), AttrOp::Override(AttrValue::Bool(_))) => return None,
-        (AttrValue::U64(n), AttrOp::Add(AttrValue::U64(by))) => (n, by, true),
-        (AttrValue::U64(n), AttrOp::Sub(AttrValue::U64(by))) => (n, by, false),
-        _ => return Some(Refusal::WrongKind),
-    };
-    let leaves = if adds { by > u64::MAX - n } else { by > n };
+// Whether a change leads out of the unsigned numbers.
+fn leaves(n: u64, by: u64, adds: bool) -> bool {
+    if adds { by > u64::MAX - n } else { by > n }
+}
+
+// Whether a change leads out of the signed numbers.
+fn leaves_signed(n: i64, by: i64, adds: bool) -> bool {
+    let (n, by) = (i128::from(n), i128::from(by));
+    let after = if adds { n + by } else { n - by };
+    after < -9223372036854775808 || after > 9223372036854775807
+}
+
+fn out_of_range(leaves: bool) -> Option<Refusal> {
     if leaves {
         Some(Refusal::OutOfRange)
     } else {
         None
+    }
+}
+
+/// Why a value refuses a change, if it does.
+pub fn refused_change(value: AttrValue, op: AttrOp) -> Option<Refusal> {
+    match (value, op) {
+        (AttrValue::U64(_), AttrOp::Override(AttrValue::U64(_))) => None,
+        (AttrValue::Bool(_), AttrOp::Override(AttrValue::Bool(_))) => None,
+        (AttrValue::I64(_), AttrOp::Override(AttrValue::I64(_))) => None,
+        (AttrValue::U64(n), AttrOp::Add(AttrValue::U64(by))) => out_of_range(leaves(n, by, true)),
+        (AttrValue::U64(n), AttrOp::Sub(AttrValue::U64(by))) => out_of_range(leaves(n, by, false)),
+        (AttrValue::I64(n), AttrOp::Add(AttrValue::I64(by))) => {
+            out_of_range(leaves_signed(n, by, true))
+        }
+        (AttrValue::I64(n), AttrOp::Sub(AttrValue::I64(by))) => {
+            out_of_range(leaves_signed(n, by, false))
+        }
+        _ => Some(Refusal::WrongKind),
     }
 }

@@ -39,13 +39,14 @@ fn changes(
 pub fn row(
     alloc: Global,
     created: u64,
-    firsts: &[AttrValue; 3],
+    firsts: &[AttrValue; 4],
     history: &[ResourceEntry],
 ) -> Result<ResourceRow, AllocError> {
     let values = [
         value(firsts[0], changes(alloc, 0, history)?.as_slice()),
         value(firsts[1], changes(alloc, 1, history)?.as_slice()),
         value(firsts[2], changes(alloc, 2, history)?.as_slice()),
+        value(firsts[3], changes(alloc, 3, history)?.as_slice()),
     ];
     Ok(ResourceRow {
         created,

@@ -74,10 +74,10 @@ impl Random {
     }
 
     fn value(&mut self) -> AttrValue {
-        if self.next() % 4 == 0 {
-            AttrValue::Bool(self.flag())
-        } else {
-            AttrValue::U64(self.amount())
+        match self.next() % 8 {
+            0 => AttrValue::Bool(self.flag()),
+            1..=3 => AttrValue::I64(self.amount().cast_signed()),
+            _ => AttrValue::U64(self.amount()),
         }
     }
 

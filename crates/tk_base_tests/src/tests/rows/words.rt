@@ -55,6 +55,38 @@ fn a_resource_in_words(rt: HostRuntime) {
     assert_eq!(rt; ResourceRow::from_words(&RESOURCE), Some(row));
 }
 
+// Bit 24 + i says that attribute i is signed, and its word is the number's two's complement: 2^64 - 3 of -3.
+const SIGNED_RESOURCE: [u64; 16] = [
+    3 * 256 + 2 * 65536 + (1 + 4) * 16777216,
+    20,
+    0,
+    0,
+    18446744073709551613,
+    0,
+    9223372036854775808,
+    0,
+    0,
+    0,
+    0,
+    0,
+    0,
+    0,
+    0,
+    0,
+];
+
+#[test]
+fn a_resource_with_signed_numbers_in_words(rt: HostRuntime) {
+    let values = [
+        AttrValue::I64(-3),
+        AttrValue::Bool(false),
+        AttrValue::I64(-9223372036854775808),
+    ];
+    let row = ResourceRow::opening(20, &values);
+    assert_eq!(rt; row.to_words(), SIGNED_RESOURCE);
+    assert_eq!(rt; ResourceRow::from_words(&SIGNED_RESOURCE), Some(row));
+}
+
 // Flags: the poll that is open, and one attribute.
 const OP: [u64; 16] = [
     2 + 4 + 16 + 256,
@@ -86,6 +118,41 @@ fn an_operation_in_words(rt: HostRuntime) -> Result<(), Fail> {
     Ok(())
 }
 
+// Six attributes, the first unsigned and the others signed.
+const SIGNED_OP: [u64; 16] = [
+    6 * 256 + (2 + 4 + 8 + 16 + 32) * 16777216,
+    30,
+    0,
+    0,
+    0,
+    0,
+    0,
+    0,
+    0,
+    0,
+    18446744073709551613,
+    18446744073709551615,
+    0,
+    9223372036854775807,
+    9223372036854775808,
+    18446744073709551611,
+];
+
+#[test]
+fn an_operation_with_signed_numbers_in_words(rt: HostRuntime) {
+    let values = [
+        AttrValue::U64(18446744073709551613),
+        AttrValue::I64(-1),
+        AttrValue::I64(0),
+        AttrValue::I64(9223372036854775807),
+        AttrValue::I64(-9223372036854775808),
+        AttrValue::I64(-5),
+    ];
+    let row = OpRow::opening(30, &values);
+    assert_eq!(rt; row.to_words(), SIGNED_OP);
+    assert_eq!(rt; OpRow::from_words(&SIGNED_OP), Some(row));
+}
+
 // Words that no row has, each by one word of a row that was changed.
 #[rattlefmt::skip]
 const STRAY: [(&str, usize, u64); 6] = [
@@ -109,12 +176,18 @@ fn words_of_no_task(rt: HostRuntime) {
 }
 
 #[rattlefmt::skip]
-const STRAY_RESOURCE: [(&str, usize, u64); 5] = [
+const STRAY_RESOURCE: [(&str, usize, u64); 11] = [
     ("seven attributes", 0, 7 * 256 + 2 * 65536),
     ("a bool of 2", 5, 2),
     ("a bool behind the last attribute", 0, 2 * 256 + 4 * 65536),
     ("a value behind the last attribute", 6, 1),
     ("a flag of a poll", 0, 2 + 2 * 256 + 2 * 65536),
+    ("a bool that is signed too", 0, 2 * 256 + 2 * 65536 + 2 * 16777216),
+    ("a signed number behind the last attribute", 0, 2 * 256 + 2 * 65536 + 4 * 16777216),
+    ("a bool behind the sixth attribute", 0, 2 * 256 + (2 + 64) * 65536),
+    ("a bool at the byte's last bit", 0, 2 * 256 + (2 + 128) * 65536),
+    ("a signed number behind the sixth attribute", 0, 2 * 256 + 2 * 65536 + 64 * 16777216),
+    ("a signed number at the byte's last bit", 0, 2 * 256 + 2 * 65536 + 128 * 16777216),
 ];
 
 #[test]
@@ -129,10 +202,15 @@ fn words_of_no_resource(rt: HostRuntime) {
 }
 
 #[rattlefmt::skip]
-const STRAY_OP: [(&str, usize, u64); 3] = [
+const STRAY_OP: [(&str, usize, u64); 8] = [
     ("a task by a number that is no id", 9, 1099511627776),
     ("a flag of a wake", 0, 2 + 4 + 16 + 32 + 256),
     ("a value behind the last attribute", 11, 1),
+    ("a bool that is signed too", 0, 2 + 4 + 16 + 256 + 65536 + 16777216),
+    ("a bool behind the sixth attribute", 0, 2 + 4 + 16 + 256 + 64 * 65536),
+    ("a bool at the byte's last bit", 0, 2 + 4 + 16 + 256 + 128 * 65536),
+    ("a signed number behind the sixth attribute", 0, 2 + 4 + 16 + 256 + 64 * 16777216),
+    ("a signed number at the byte's last bit", 0, 2 + 4 + 16 + 256 + 128 * 16777216),
 ];
 
 #[test]
