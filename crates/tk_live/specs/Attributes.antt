@@ -1,16 +1,17 @@
 -- The attributes that a command declares.
 use Rattle.std.specs.Prelude.{ℕ, ◌+◌, ◌==◌, List, [], ◌∷◌, ◌++◌, take, drop, fold, position, if◌then◌else◌, true, false, codes, Option, Some, None, option_map, option_and_then}
+use Rattle.std.specs.Option.{option_or}
 use Rattle.std.specs.Str.{bytes_eq}
 use Rattle.tk_ids.specs.Attributes.{are_attributes, spec_names}
 use Rattle.tk_ids.specs.Names.{is_name}
 use Rattle.tk_ids.specs.declared.attr.AttrSpec.{AttrSpec}
 use Rattle.tk_ids.specs.declared.attr.AttrValue.{AttrValue}
-use Rattle.tk_ids.specs.declared.attr.AttrValue.TheVariants.{U64, Bool}
-use Rattle.tk_live.specs.Words.{moment}
+use Rattle.tk_ids.specs.declared.attr.AttrValue.TheVariants.{U64, Bool, I64}
+use Rattle.tk_live.specs.Words.{moment, signed}
 
--- a value is a decimal, or `true` or `false`
+-- a value is a decimal, with a sign where it is signed, or `true` or `false`
 abbrev pub value_of : List ℕ → Option AttrValue
-value_of word = if bytes_eq word (codes "true") then Some (Bool true) else (if bytes_eq word (codes "false") then Some (Bool false) else option_map U64 (moment word))
+value_of word = if bytes_eq word (codes "true") then Some (Bool true) else (if bytes_eq word (codes "false") then Some (Bool false) else option_or (option_map U64 (moment word)) (option_map I64 (signed word)))
 
 -- an attribute of this name, with the value that it has first. It has no unit
 abbrev pub attr_spec : List ℕ → AttrValue → AttrSpec

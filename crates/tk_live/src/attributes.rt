@@ -4,11 +4,11 @@ ghost use Rattle.tk_live.specs.Pieces.{pieces_left};
 ghost use Rattle.tk_live.specs.Attributes as spec;
 
 use crate::pieces::{Pieces, find};
-use crate::words::moment_of;
+use crate::words::{moment_of, signed_of};
 use std::alloc::{AllocError, Global};
 use tk_ids::{AttrSpec, AttrValue, Attrs, IdError, Name, is_name};
 
-/// The value that a word is: a decimal, or `true` or `false`.
+/// The value that a word is: a decimal, which is signed where it has a sign, or `true` or `false`.
 pub(crate) fn value_of(word: &[u8]) -> Option<AttrValue>
     ensures { result ≡ spec.value_of word.now }
 {
@@ -17,7 +17,8 @@ pub(crate) fn value_of(word: &[u8]) -> Option<AttrValue>
     } else if word == b"false".as_slice() {
         Some(AttrValue::Bool(false))
     } else {
-        moment_of(word).map(AttrValue::U64)
+        let unsigned = moment_of(word).map(AttrValue::U64);
+        unsigned.or(signed_of(word).map(AttrValue::I64))
     }
 }
 

@@ -27,6 +27,19 @@ pub(crate) fn moment_of(word: &[u8]) -> Option<u64>
     }
 }
 
+/// The number that a word with a sign is: `+` or `-` and a decimal of 1 to 20 digits, from -2^63 to 2^63 - 1.
+pub(crate) fn signed_of(word: &[u8]) -> Option<i64>
+    ensures { result ≡ spec.signed word.now }
+{
+    let (sign, digits) = word.split_first()?;
+    let size = moment_of(digits)?;
+    match *sign {
+        b'+' => 0i64.checked_add_unsigned(size),
+        b'-' => 0i64.checked_sub_unsigned(size),
+        _ => None,
+    }
+}
+
 /// The kind of task that a word names.
 pub(crate) fn kind_of(word: &[u8]) -> Option<TaskKind>
     ensures { result ≡ spec.kind word.now }

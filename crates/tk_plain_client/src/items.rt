@@ -18,15 +18,16 @@ pub(crate) enum Kind {
 // How many attributes an item has at most.
 const MOST: usize = 6;
 
-// The number for the kinds before it and one more, which is 1 or 2.
+// The number for the kinds before it and one more, which is 1, 2 or 3.
 fn with_kind(shape: u64, kind: u64) -> u64 {
-    shape.wrapping_mul(3).wrapping_add(kind)
+    shape.wrapping_mul(4).wrapping_add(kind)
 }
 
 fn kind_of(value: &Value) -> Option<u64> {
     match value.as_str() {
         Some("u64") => Some(1),
         Some("bool") => Some(2),
+        Some("i64") => Some(3),
         _ => None,
     }
 }
@@ -76,11 +77,24 @@ fn shape_of_attrs(attrs: &[Value]) -> Option<u64> {
     Some(shape)
 }
 
+// Whether the value is a list of one signed number.
+fn is_signed(value: &Value) -> bool {
+    match value.as_array() {
+        Some(values) => match values.as_slice() {
+            [number] => number.as_i64().is_some(),
+            _ => false,
+        },
+        None => false,
+    }
+}
+
 fn value_kind(value: &Value) -> Option<u64> {
     if value.as_u64().is_some() {
         Some(1)
     } else if value.as_bool().is_some() {
         Some(2)
+    } else if is_signed(value) {
+        Some(3)
     } else {
         None
     }

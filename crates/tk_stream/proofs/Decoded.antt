@@ -1,12 +1,13 @@
 -- A line's value is read as that line.
-use Rattle.std.proofs.Common.{◌≡◌, ℕ, ◌/◌, ◌^◌, ◌<◌, ◌≤◌, List, [], ◌∷◌, true, Option, Some, None, Ok, IsUtf8, codes, refl, ap, ◌∙◌, arith, lit<, leb-true}
-use Rattle.std.specs.Prelude.{map, ◌&&◌, IfSome, nat_lt, nat_le, length}
+use Rattle.std.proofs.Common.{◌≡◌, ℕ, ◌/◌, ◌^◌, ◌<◌, ◌≤◌, List, [], ◌∷◌, true, pos, negsuc, Option, Some, None, Ok, IsUtf8, codes, refl, ap, ◌∙◌, arith, lit<, leb-true, ltb-true}
+use Rattle.std.specs.Prelude.{map, ◌&&◌, IfSome, nat_lt, nat_le, length, neg_ℤ, int_lt, int_le}
 use Rattle.std.specs.List.{AllByRecursion, list_all}
 use Rattle.std.specs.Str.{IsAscii}
 use Rattle.std.proofs.lemmas.Str.{IsUtf8-from_ascii}
 use Rattle.std.proofs.lemmas.Str.Ascii.{IsAscii-nil, IsAscii-cons}
 use Rattle.std.proofs.lemmas.Bool.{and_parts}
 use Rattle.std.proofs.lemmas.Bool.Decides.{nat_tests}
+use Rattle.tk_core.specs.Attributes.{is_i64}
 use Rattle.tk_core.specs.declared.op.row.OpRow.{OpRow}
 use Rattle.tk_core.specs.declared.resource.row.ResourceRow.{ResourceRow}
 use Rattle.tk_core.specs.declared.task.row.TaskRow.{TaskRow}
@@ -82,9 +83,18 @@ attr_back a fit =
     let name = fit.name in
     rw (name, optional_name_back a.unit fit.unit, attr_kind_back a.kind) refl
 
+-- a signed number that is not negative is below 2^63, and a negative one is at least -2^63
+i64_small : (n : ℕ) → is_i64 (pos n) ≡ true → nat_lt n (2 ^ 63) ≡ true
+i64_small n h = (and_parts (int_le (neg_ℤ (pos (2 ^ 63))) (pos n)) (int_lt (pos n) (pos (2 ^ 63))) h).1
+
+i64_least : (n : ℕ) → is_i64 (negsuc n) ≡ true → n < 2 ^ 63
+i64_least n h = grind (arith, nat_tests)
+
 value_back : (v : AttrValue) → IsValue v → value_of (value_data v) ≡ Some v
 value_back (values.U64 n) h = refl
 value_back (values.Bool b) h = refl
+value_back (values.I64 (pos n)) h = rw (i64_small n h) refl
+value_back (values.I64 (negsuc n)) h = refl
 
 attrs_back : (attrs : List AttrInfo) → AreAttrs attrs → attrs_in (values_of (items_of (map attr_data attrs))) ≡ Some attrs
 unfolding attrs_in
@@ -207,6 +217,8 @@ attr_whole a fit = (name_text a.name fit.name, (optional_text_whole a.unit fit.u
 value_whole : (v : AttrValue) → IsValue v → IsWhole (value_data v)
 value_whole (values.U64 n) h = h
 value_whole (values.Bool b) h = tt
+value_whole (values.I64 (pos n)) h = let small : n < 2 ^ 63 = ltb-true _ _ (i64_small n h) in (omega arith, tt)
+value_whole (values.I64 (negsuc n)) h = (i64_least n h, tt)
 
 info_whole : (t : TaskInfo) → IsTaskInfo t → IsWhole (info_data t)
 info_whole t fit = ((ascii (codes "id") refl, id_small t.id fit.id, (ascii (codes "kind") refl, kind_whole t.kind, (ascii (codes "loc") refl, location_whole t.location fit.location, (ascii (codes "name") refl, name_text t.name fit.name, tt)))), refl)
@@ -250,9 +262,11 @@ text_flat None = omega arith
 attr_shallow : (a : AttrInfo) → tree.depth (outline (attr_data a)) ≤ 1
 attr_shallow a = omega (arith, text_flat a.unit)
 
-value_flat : (v : AttrValue) → tree.depth (outline (value_data v)) ≤ 0
-value_flat (values.U64 n) = omega arith
-value_flat (values.Bool b) = omega arith
+value_shallow : (v : AttrValue) → tree.depth (outline (value_data v)) ≤ 1
+value_shallow (values.U64 n) = omega arith
+value_shallow (values.Bool b) = omega arith
+value_shallow (values.I64 (pos n)) = omega arith
+value_shallow (values.I64 (negsuc n)) = omega arith
 
 resource_shallow : (r : ResourceInfo) → tree.depth (outline (resource_data r)) ≤ 3
 resource_shallow r = omega (arith, each_shallow attr_data 1 attr_shallow r.attrs, optional_flat r.parent)
@@ -264,11 +278,11 @@ stats_shallow : (s : ℕ × TaskRow) → tree.depth (outline (stats_data s)) ≤
 stats_shallow s = omega (arith, optional_flat s.1.dropped, optional_flat s.1.first_poll, optional_flat s.1.last_ended, optional_flat s.1.last_started, optional_flat s.1.last_wake)
 
 resource_stats_shallow : (s : ℕ × ResourceRow) → tree.depth (outline (resource_stats_data s)) ≤ 3
-resource_stats_shallow s = omega (arith, each_shallow value_data 0 value_flat s.1.attrs, optional_flat s.1.dropped)
+resource_stats_shallow s = omega (arith, each_shallow value_data 1 value_shallow s.1.attrs, optional_flat s.1.dropped)
 
 op_stats_shallow : (s : ℕ × OpRow) → tree.depth (outline (op_stats_data s)) ≤ 3
 op_stats_shallow s =
-    omega (arith, each_shallow value_data 0 value_flat s.1.attrs, optional_flat s.1.dropped, optional_flat s.1.first_poll, optional_flat s.1.last_ended, optional_flat s.1.last_started, optional_flat s.1.task)
+    omega (arith, each_shallow value_data 1 value_shallow s.1.attrs, optional_flat s.1.dropped, optional_flat s.1.first_poll, optional_flat s.1.last_ended, optional_flat s.1.last_started, optional_flat s.1.task)
 
 line_shallow : (l : LineView) → tree.depth (outline (line_data l)) ≤ max_depth
 unfolding line_data

@@ -3,11 +3,12 @@ use Rattle.std.proofs.Common.{◌≡◌, ℕ, List, [], ◌∷◌, Bool, true, f
 use Rattle.std.specs.Bool.{beq}
 use Rattle.std.specs.Option.{option_eq}
 use Rattle.std.proofs.lemmas.Bool.{and_parts, eqb-true, eq-eqb}
+use Rattle.std.proofs.lemmas.Bool.Decides.{Decides-int_eq}
 use Rattle.tk_core.specs.declared.op.row.OpRow.{OpRow}
 use Rattle.tk_core.specs.declared.resource.row.ResourceRow.{ResourceRow}
 use Rattle.tk_core.specs.declared.task.row.TaskRow.{TaskRow}
 use Rattle.tk_ids.specs.declared.attr.AttrValue.{AttrValue}
-use Rattle.tk_ids.specs.declared.attr.AttrValue.TheVariants.{U64, Bool as Flag}
+use Rattle.tk_ids.specs.declared.attr.AttrValue.TheVariants.{U64, Bool as Flag, I64}
 use Rattle.tk_stream.specs.Tables.{PollCounts}
 use Rattle.tk_stream.specs.Rows.{same_row, same_value, same_values, same_resource_row, same_op_row, same_counts}
 
@@ -95,10 +96,12 @@ value_agrees (Flag b) (Flag c) h = ap Flag (flags_agree b c h)
 value_agrees (Flag b) (I64 z) h = absurd (cc)
 value_agrees (I64 z) (U64 n) h = absurd (cc)
 value_agrees (I64 z) (Flag c) h = absurd (cc)
+value_agrees (I64 y) (I64 z) h = ap I64 ((Decides-int_eq y z).0 h)
 
 same_one : (a : AttrValue) → same_value a a ≡ true
 same_one (U64 n) = same_number n
 same_one (Flag b) = same_flag b
+same_one (I64 z) = (Decides-int_eq z z).1 refl
 
 values_agree : (vs ws : List AttrValue) → same_values vs ws ≡ true → vs ≡ ws
 values_agree [] [] h = refl

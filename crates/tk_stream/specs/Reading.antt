@@ -162,7 +162,7 @@ abbrev pub signed_in : List Data → Option AttrValue
 signed_in (d ∷ []) = option_map values.I64 (option_and_then as_i64 (as_number d))
 signed_in _ = None
 
--- the value of an attribute: true, false or a number
+-- the value of an attribute: true or false, a list of one signed number, or a number
 abbrev pub value_of : Data → Option AttrValue
 value_of (boolean b) = Some (values.Bool b)
 value_of (array ds) = signed_in (values_of ds)

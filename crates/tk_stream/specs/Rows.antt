@@ -2,12 +2,13 @@
 use Rattle.std.specs.Prelude.{List, ◌==◌, nat_eq, Bool, false, ◌&&◌}
 use Rattle.std.specs.Bool.{beq}
 use Rattle.std.specs.Cmp.Lexicographic.{pointwise}
+use Rattle.std.specs.Ordering.{int_eq}
 use Rattle.std.specs.Option.{option_eq}
 use Rattle.tk_core.specs.declared.op.row.OpRow.{OpRow}
 use Rattle.tk_core.specs.declared.resource.row.ResourceRow.{ResourceRow}
 use Rattle.tk_core.specs.declared.task.row.TaskRow.{TaskRow}
 use Rattle.tk_ids.specs.declared.attr.AttrValue.{AttrValue}
-use Rattle.tk_ids.specs.declared.attr.AttrValue.TheVariants.{U64, Bool as Flag}
+use Rattle.tk_ids.specs.declared.attr.AttrValue.TheVariants.{U64, Bool as Flag, I64}
 use Rattle.tk_stream.specs.Tables.{PollCounts}
 
 -- whether two rows of tasks agree in each of their fields

@@ -17,8 +17,8 @@
 //! | `task_stats` | a list of rows: an object with `id` and the row's 16 fields, each under its name |
 //! | `v` | 1, the version of the format |
 //!
-//! A is `[name, unit or null, "u64" or "bool"]`. In a row `attrs` is a list of values, each a number, `true` or `false`,
-//! and what is absent is `null`.
+//! A is `[name, unit or null, "u64", "bool" or "i64"]`. In a row `attrs` is a list of values, each a number, `true` or
+//! `false`, or `[number]` for a signed one, and what is absent is `null`.
 //!
 //! `specs/Lines.antt` says what a line says, and `specs/Spelling.antt` how it is spelled.
 ghost use Rattle.std.specs.Prelude.{◌≡◌, ◌++◌, [], true, IfOk, IfSome, OnOk, if◌then◌else◌, IsTrue};

@@ -1,8 +1,9 @@
 //! What is known of the values that lines and tables hold: each is in the range of its type.
 //!
 //! These functions read a value and do nothing with it. `specs/Ranges.antt` says what the ranges are.
-ghost use Rattle.std.specs.Prelude.{IfSome};
+ghost use Rattle.std.specs.Prelude.{◌≡◌, true, IfSome};
 ghost use Rattle.std.specs.List.{AllByRecursion};
+ghost use Rattle.tk_core.specs.Attributes.{is_i64};
 ghost use Rattle.tk_stream.specs.Ranges as ranges;
 
 use tk_core::{AttrValues, OpRow, ResourceRow, TaskRow};

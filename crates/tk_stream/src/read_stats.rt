@@ -15,15 +15,22 @@ use std::alloc::Global;
 use tk_core::{AttrValues, OpRow, ResourceRow, TaskRow};
 use tk_ids::{AsyncOpId, AttrValue, ResourceId, TaskId};
 
+// A signed value: a list of one number that is read as signed.
+fn signed_in(values: &[Value]) -> Option<AttrValue>
+    ensures { result ≡ spec.signed_in (map view values.now) }
+{
+    match values {
+        [number] => Some(AttrValue::I64(number.as_i64()?)),
+        _ => None,
+    }
+}
+
 fn value_of(value: &Value) -> Option<AttrValue>
     ensures { result ≡ spec.value_of (view value.now) }
 {
     match value {
         Value::Bool(b) => Some(AttrValue::Bool(*b)),
-        Value::Array(values) => match values.as_slice() {
-            [number] => Some(AttrValue::I64(number.as_i64()?)),
-            _ => None,
-        },
+        Value::Array(_) => signed_in(values_of(value)?),
         _ => Some(AttrValue::U64(value.as_u64()?)),
     }
 }

@@ -5,7 +5,8 @@ ghost use Rattle.tk_stream.specs.Behind.{Takes};
 ghost use Rattle.tk_stream.specs.Spelling as spec;
 
 use crate::takes::{
-    op_id, optional_task_id, resource_id, take_flag, take_number, take_optional, take_text, task_id,
+    op_id, optional_task_id, resource_id, take_flag, take_number, take_optional, take_signed,
+    take_text, task_id,
 };
 use crate::taking::{Taken, some_of, take_list};
 use std::alloc::{AllocError, Global};

@@ -3,6 +3,7 @@
 //! These take a text as [`crate::Line::write`] spells it. `None` says no more than that it is spelled in another way.
 ghost use Rattle.std.specs.Prelude.{◌≡◌, ◌<◌, ◌+◌, ◌*◌, ◌^◌, ◌∷◌, ◌++◌, [], true, IfSome, IfOk, decimal};
 ghost use Rattle.std.specs.List.{list_all};
+ghost use Rattle.std.specs.Fmt.{signed_decimal};
 ghost use Rattle.json.specs.Print.{escape, escape_byte};
 ghost use Rattle.serde_json.specs.Data.{boolean};
 ghost use Rattle.serde_json.specs.Written.{compact_text};
@@ -91,7 +92,24 @@ pub(crate) fn take_number<'a>(bytes: &'a [u8], before: &[u8]) -> Option<(u64, &'
     Some((n, rest))
 }
 
-/// A signed number, and what stands around it. `-0` is spelled in another way.
+/// A signed number in decimal. `-0` is spelled in another way.
+fn take_signed_decimal(bytes: &[u8]) -> Option<(i64, &[u8])>
+    ensures { IfSome result (λ x. Takes bytes.now (signed_decimal x.0) x.1.now) }
+{
+    if let Some(rest) = take_text(bytes, b"-") {
+        let (size, rest) = take_decimal(rest)?;
+        if size == 0 {
+            return None;
+        }
+        let n = 0i64.checked_sub_unsigned(size)?;
+        return Some((n, rest));
+    }
+    let (size, rest) = take_decimal(bytes)?;
+    let n = 0i64.checked_add_unsigned(size)?;
+    Some((n, rest))
+}
+
+/// A signed number, and what stands around it.
 pub(crate) fn take_signed<'a>(
     bytes: &'a [u8],
     before: &[u8],
@@ -101,16 +119,7 @@ pub(crate) fn take_signed<'a>(
         (before.now ++ (compact_text (spec.signed_data x.0) ++ behind.now)) x.1.now) }
 {
     let rest = take_text(bytes, before)?;
-    let (n, rest) = if let Some(rest) = take_text(rest, b"-") {
-        let (size, rest) = take_decimal(rest)?;
-        if size == 0 {
-            return None;
-        }
-        (0i64.checked_sub_unsigned(size)?, rest)
-    } else {
-        let (size, rest) = take_decimal(rest)?;
-        (0i64.checked_add_unsigned(size)?, rest)
-    };
+    let (n, rest) = take_signed_decimal(rest)?;
     let rest = take_text(rest, behind)?;
     Some((n, rest))
 }

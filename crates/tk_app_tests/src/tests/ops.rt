@@ -1,6 +1,6 @@
 //! Async operations, as lines tell them, and the calls of their owners.
 
-use super::given::{assert_all_stop, assert_are_bad, assert_runs};
+use super::given::{assert_all_stop, assert_all_write, assert_are_bad, assert_runs};
 
 // A task, a resource and an operation on it, of which nothing was called.
 const NEW: &str =
@@ -17,15 +17,19 @@ const CLOSED: &str =
 const CALLED: &[u8] =
     b"task 1 spawn a\nresource 2 K T\nop 3 1 T::wait n=7 b=true\npublish 50\noptask 1 1\nopstart 1 51\noadd 1 0 5\nosub 1 0 3\noset 1 1 false\nopend 1 56\npublish 60\nopstart 1 61\nopend 1 62\nopclose 1 69\npublish 70\n";
 
+// An operation with a signed attribute, which its owner changed.
+const SIGNED: &str =
+    r#"{"dropped":[0,0,0],"new_ops":[{"attrs":[["ahead",null,"i64"]],"id":1099511627777,"parent":null,"resource":1099511627777,"source":"wait"}],"new_resources":[{"attrs":[],"id":1099511627777,"kind":"K","loc":["script",1,1],"parent":null,"type":"T"}],"new_tasks":[],"now":3,"op_stats":[{"attrs":[[-3]],"busy":0,"created":2,"dropped":null,"first_poll":null,"handles":1,"id":1099511627777,"last_ended":null,"last_started":null,"polling":false,"polls":0,"task":null}],"poll_counts":[],"resource_stats":[{"attrs":[],"created":1,"dropped":null,"handles":2,"id":1099511627777}],"seq":1,"snapshot":false,"task_stats":[],"v":1}"#;
+
+#[rattlefmt::skip]
+const LINES: [(&str, &[u8], &[&str]); 2] = [
+    ("an operation and its calls", CALLED, &[NEW, POLLED, CLOSED]),
+    ("a signed attribute",         b"resource 1 K T\nop 2 1 wait ahead=+4\nosub 1 0 +5\noadd 1 0 -2\npublish 3\n", &[SIGNED]),
+];
+
 #[test]
 fn operations_are_told(rt: HostRuntime) {
-    assert_runs(
-        &rt,
-        "an operation and its calls",
-        CALLED,
-        "",
-        &[NEW, POLLED, CLOSED],
-    );
+    assert_all_write(&rt, LINES.as_slice());
 }
 
 // What `op` and `optask` merely name may be closed.
@@ -39,7 +43,7 @@ fn what_is_merely_named_may_be_closed(rt: HostRuntime) {
 
 // Each script stops at its last line.
 #[rattlefmt::skip]
-const REFUSED: [(&str, &[u8], &str); 19] = [
+const REFUSED: [(&str, &[u8], &str); 21] = [
     ("an operation on no resource",  b"op 1 1 wait\n",                                              "line 1: NoSuchItem"),
     ("an operation on resource 0",   b"resource 1 K T\nop 1 0 wait\n",                              "line 2: NoSuchItem"),
     ("one resource was made",        b"resource 1 K T\nop 1 2 wait\n",                              "line 2: NoSuchItem"),
@@ -59,6 +63,8 @@ const REFUSED: [(&str, &[u8], &str); 19] = [
     ("a flag is added",              b"resource 1 K T\nop 1 1 wait a=true\noadd 1 0 true\n",         "line 3: WrongKind"),
     ("below 0",                      b"resource 1 K T\nop 1 1 wait a=5\nosub 1 0 6\n",              "line 3: OutOfRange"),
     ("above the greatest",           b"resource 1 K T\nop 1 1 wait a=1\noadd 1 0 18446744073709551615\n", "line 3: OutOfRange"),
+    ("a plain number is added to a signed one", b"resource 1 K T\nop 1 1 wait a=-5\noadd 1 0 1\n", "line 3: WrongKind"),
+    ("below the least signed number", b"resource 1 K T\nop 1 1 wait a=-9223372036854775808\nosub 1 0 +1\n", "line 3: OutOfRange"),
 ];
 
 #[test]

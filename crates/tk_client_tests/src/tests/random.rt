@@ -50,7 +50,7 @@ fn shape_of(news: &[New], id: u64) -> Option<u64> {
 // An item that isn't there yet, but for one in 64.
 fn add_new(random: &mut Pcg32, part: &mut Part, held: &[New]) -> Result<(), AllocError> {
     let id = any_id(random);
-    let shape = below(random, 4);
+    let shape = below(random, 6);
     let seed = u64::from(random.next_u32());
     let is_known = has_new(held, id) || has_new(&part.news, id);
     if is_known && !happens(random, 64) {
@@ -66,7 +66,7 @@ fn add_new(random: &mut Pcg32, part: &mut Part, held: &[New]) -> Result<(), Allo
 // Values of the right attributes, but for one in 64.
 fn told_shape(random: &mut Pcg32, shape: u64) -> u64 {
     if happens(random, 64) {
-        below(random, 4)
+        below(random, 6)
     } else {
         shape
     }

@@ -64,13 +64,15 @@ fn put_flag(text: &mut String, key: &str, flag: bool) -> Result<(), AllocError> 
     text.push_str(if flag { "true" } else { "false" })
 }
 
-// The attributes of a shape: none, a number, a flag, or both.
+// The attributes of a shape: none, a number, a flag, both, a signed number, or all three.
 fn put_attrs(text: &mut String, shape: u64) -> Result<(), AllocError> {
     text.push_str(match shape {
         0 => "{\"attrs\":[]",
         1 => "{\"attrs\":[[\"a\",null,\"u64\"]]",
         2 => "{\"attrs\":[[\"b\",\"ms\",\"bool\"]]",
-        _ => "{\"attrs\":[[\"a\",null,\"u64\"],[\"b\",\"ms\",\"bool\"]]",
+        3 => "{\"attrs\":[[\"a\",null,\"u64\"],[\"b\",\"ms\",\"bool\"]]",
+        4 => "{\"attrs\":[[\"c\",null,\"i64\"]]",
+        _ => "{\"attrs\":[[\"a\",null,\"u64\"],[\"b\",\"ms\",\"bool\"],[\"c\",null,\"i64\"]]",
     })
 }
 
@@ -79,7 +81,9 @@ fn put_values(text: &mut String, shape: u64) -> Result<(), AllocError> {
         0 => "{\"attrs\":[]",
         1 => "{\"attrs\":[7]",
         2 => "{\"attrs\":[true]",
-        _ => "{\"attrs\":[8,false]",
+        3 => "{\"attrs\":[8,false]",
+        4 => "{\"attrs\":[[-3]]",
+        _ => "{\"attrs\":[8,false,[0]]",
     })
 }
 

@@ -69,17 +69,27 @@ const TASK_CALLS: [Call; 5] = [
 
 const OP_CALLS: [Call; 3] = [Call::Start, Call::End, Call::Close];
 
-// What declares no attribute, a number, or a number and a truth value.
-const RESOURCES: [&str; 3] = [
+// What declares no attribute, a number, a number and a truth value, or these and a signed number.
+const RESOURCES: [&str; 4] = [
     " Sync Semaphore",
     " Sync Semaphore permits=1000000",
     " Sync Semaphore permits=1000000 closed=false",
+    " Sync Semaphore permits=1000000 closed=false lag=-3",
 ];
 
-const OPS: [&str; 3] = [
+const OPS: [&str; 4] = [
     " Semaphore::acquire",
     " Semaphore::acquire wants=1000000",
     " Semaphore::acquire wants=1000000 queued=true",
+    " Semaphore::acquire wants=1000000 queued=true ahead=+5",
+];
+
+// Values that are of another kind than most attributes, or lead most of them out of range.
+const WILD: [&str; 4] = [
+    " 18446744073709551615",
+    " true",
+    " +9223372036854775807",
+    " -9223372036854775808",
 ];
 
 const OTHERS: [&str; 6] = [
@@ -220,7 +230,7 @@ fn call_waker(random: &mut Pcg32, made: &mut Made, out: &mut String) -> Result<(
 }
 
 fn add_resource(random: &mut Pcg32, made: &mut Made, out: &mut String) -> Result<(), AllocError> {
-    let attrs = below(random, 3);
+    let attrs = below(random, 4);
     put(
         out,
         "resource",
@@ -229,6 +239,13 @@ fn add_resource(random: &mut Pcg32, made: &mut Made, out: &mut String) -> Result
     )?;
     made.resources.push((true, attrs))?;
     Ok(())
+}
+
+// A change of a signed attribute, which leads it to both sides of 0.
+fn put_signed_change(random: &mut Pcg32, out: &mut String, number: u64) -> Result<(), AllocError> {
+    let how = one_of(random, &["add", "sub", "set"]);
+    let sign = one_of(random, &["+", "-"]);
+    write!(out, "{how} {number} 2 {sign}{}\n", below(random, 1000))
 }
 
 // A change of an attribute that is there and of its kind, and in range, where it isn't wild.
@@ -242,11 +259,14 @@ fn put_change(
     let wild = is_wild(random);
     out.push_str(word)?;
     if wild {
-        let rest = one_of(random, &[" 18446744073709551615", " true"]);
+        let rest = one_of(random, WILD.as_slice());
         let how = one_of(random, &["add", "sub", "set"]);
-        return put(out, how, &[number, below(random, 3)], rest);
+        return put(out, how, &[number, below(random, 4)], rest);
     }
-    if attrs == 2 && happens(random, 2) {
+    if attrs == 3 && happens(random, 2) {
+        return put_signed_change(random, out, number);
+    }
+    if attrs >= 2 && happens(random, 2) {
         let rest = one_of(random, &[" true", " false"]);
         return put(out, "set", &[number, 1], rest);
     }
@@ -279,7 +299,7 @@ fn add_op(random: &mut Pcg32, made: &mut Made, out: &mut String) -> Result<(), A
     if made.resources.is_empty() && !wild {
         return Ok(());
     }
-    let attrs = below(random, 3);
+    let attrs = below(random, 4);
     put(
         out,
         "op",

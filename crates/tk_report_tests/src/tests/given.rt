@@ -38,6 +38,25 @@ resource 1.1 live ready 1 pending 0 type Semaphore kind Sync
 op 1.1 idle polls 1 busy 5 task 1.1 resource 1.1 source Semaphore::acquire
 ";
 
+// Signed attributes of a resource and of an operation, with units, and beside a number: the stream of one that went below 0.
+pub(super) const SIGNED: &[u8] =
+    b"{\"dropped\":[0,0,0],\"new_ops\":[{\"attrs\":[[\"least\",null,\"i64\"],[\"wants\",null,\"u64\"]],\"id\":1099511627777,\"parent\":null,\"resource\":1099511627777,\"source\":\"pop\"}],\"new_resources\":[{\"attrs\":[[\"lag\",null,\"i64\"],[\"drift\",\"ms\",\"i64\"],[\"none\",null,\"i64\"]],\"id\":1099511627777,\"kind\":\"Sync\",\"loc\":[\"script\",1,1],\"parent\":null,\"type\":\"S\"}],\"new_tasks\":[],\"now\":2,\"op_stats\":[{\"attrs\":[[-9223372036854775808],5],\"busy\":0,\"created\":1,\"dropped\":null,\"first_poll\":null,\"handles\":1,\"id\":1099511627777,\"last_ended\":null,\"last_started\":null,\"polling\":false,\"polls\":0,\"task\":null}],\"poll_counts\":[],\"resource_stats\":[{\"attrs\":[[-3],[9223372036854775807],[0]],\"created\":1,\"dropped\":null,\"handles\":2,\"id\":1099511627777}],\"seq\":1,\"snapshot\":false,\"task_stats\":[],\"v\":1}\n";
+
+// Its report: a sign only below 0.
+pub(super) const SIGNED_REPORT: &str = "now 2 dropped 0 0 0
+resource 1.1 live ready 0 pending 0 type S kind Sync
+  lag = -3
+  drift = 9223372036854775807 ms
+  none = 0
+op 1.1 idle polls 0 busy 0 task - resource 1.1 source pop
+  least = -9223372036854775808
+  wants = 5
+";
+
+// A line whose signed attribute has a plain value.
+pub(super) const UNSIGNED: &[u8] =
+    b"{\"dropped\":[0,0,0],\"new_ops\":[],\"new_resources\":[{\"attrs\":[[\"lag\",null,\"i64\"]],\"id\":1099511627777,\"kind\":\"Sync\",\"loc\":[\"script\",1,1],\"parent\":null,\"type\":\"S\"}],\"new_tasks\":[],\"now\":2,\"op_stats\":[],\"poll_counts\":[],\"resource_stats\":[{\"attrs\":[3],\"created\":1,\"dropped\":null,\"handles\":2,\"id\":1099511627777}],\"seq\":1,\"snapshot\":false,\"task_stats\":[],\"v\":1}\n";
+
 // Whether the fault has this text.
 pub(super) fn is_text_of(alloc: Global, fault: AppFault, text: &str) -> bool {
     match format!(in alloc; "{fault}") {

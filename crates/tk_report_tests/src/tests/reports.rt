@@ -1,7 +1,8 @@
 //! What views of whole streams write.
 
 use super::given::{
-    LOST, LOST_REPORT, ODD, ODD_WARNINGS, SEMAPHORE, SEMAPHORE_REPORT, is_text_of, shows_from,
+    LOST, LOST_REPORT, ODD, ODD_WARNINGS, SEMAPHORE, SEMAPHORE_REPORT, SIGNED, SIGNED_REPORT,
+    UNSIGNED, is_text_of, shows_from,
 };
 use std::alloc::Global;
 use tk_client::Fault;
@@ -19,12 +20,14 @@ const GAP: &[u8] =
 
 // What the view of a stream writes and how many warnings it has, or the fault that it stops at.
 #[rattlefmt::skip]
-const VIEWS: [(&str, &[u8], View, u64, &str, &str); 10] = [
+const VIEWS: [(&str, &[u8], View, u64, &str, &str); 12] = [
     ("a task whose waker is lost",            LOST,                 View::Report, 1, "", LOST_REPORT),
     ("its warnings alone",                    LOST,                 View::Lint,   1, "", "warn 1.1 lost-waker\n"),
     ("each kind of warning",                  ODD,                  View::Lint,   3, "", ODD_WARNINGS),
     ("one item of each kind",                 SEMAPHORE,            View::Report, 0, "", SEMAPHORE_REPORT),
     ("no warning of them",                    SEMAPHORE,            View::Lint,   0, "", ""),
+    ("signed attributes",                     SIGNED,               View::Report, 0, "", SIGNED_REPORT),
+    ("a value of another kind",               UNSIGNED,             View::Report, 0, "stream after 0 lines: Misfit", ""),
     ("an empty stream",                       b"",                  View::Report, 0, "", "now 0 dropped 0 0 0\n"),
     ("no warning of it",                      b"",                  View::Lint,   0, "", ""),
     ("a last line without its end is ignored", b"{\"dropped\":[0,", View::Report, 0, "", "now 0 dropped 0 0 0\n"),

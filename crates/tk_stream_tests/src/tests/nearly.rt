@@ -4,11 +4,11 @@
 //! front of it is such another one with the same meaning, so the two are compared by it.
 
 use super::given::writes;
-use super::texts::{CHANGED, EMPTY, FIRST, FULL, TWO, UNCHANGED};
+use super::texts::{CHANGED, EMPTY, FIRST, FULL, SIGNED, TWO, UNCHANGED};
 use std::alloc::{AllocError, Global};
 use tk_stream::Line;
 
-const TEXTS: [&str; 6] = [EMPTY, FIRST, CHANGED, UNCHANGED, FULL, TWO];
+const TEXTS: [&str; 7] = [EMPTY, FIRST, CHANGED, UNCHANGED, FULL, TWO, SIGNED];
 
 // How many lines are made of these texts, by other digits in their short numbers.
 const LINES: u64 = 200;
@@ -151,7 +151,7 @@ fn made_alike(alloc: Global, text: &str, seed: u64) -> bool {
 #[test]
 fn nearly_written_texts_are_answered_as_serde_json_and_the_shape_answer(rt: HostRuntime) {
     for seed in 0..LINES {
-        let text = TEXTS[(seed % 6) as usize];
+        let text = TEXTS[(seed % 7) as usize];
         assert!(rt; made_alike(rt.alloc(), text, seed), "text {seed}");
     }
 }

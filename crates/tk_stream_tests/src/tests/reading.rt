@@ -1,13 +1,13 @@
 //! Texts that are lines.
 
 use super::given::{changed, writes};
-use super::texts::{CHANGED, EMPTY, FIRST, FULL, TWO, UNCHANGED};
+use super::texts::{CHANGED, EMPTY, FIRST, FULL, SIGNED, TWO, UNCHANGED};
 use std::alloc::Global;
 use tk_ids::{OpInfo, ResourceInfo, TaskInfo};
 use tk_stream::Line;
 
 // Texts of lines, written as a line writes itself.
-const SAME: [&str; 6] = [EMPTY, FIRST, CHANGED, UNCHANGED, FULL, TWO];
+const SAME: [&str; 7] = [EMPTY, FIRST, CHANGED, UNCHANGED, FULL, TWO, SIGNED];
 
 // The line without items in other texts: with white space, in another order, and with keys twice, of which the last counts.
 #[rattlefmt::skip]
@@ -16,6 +16,15 @@ const OTHERS: [&str; 4] = [
     r#"{"v":1,"task_stats":[],"snapshot":false,"seq":1,"resource_stats":[],"poll_counts":[],"op_stats":[],"now":5,"new_tasks":[],"new_resources":[],"new_ops":[],"dropped":[0,0,0]}"#,
     r#"{"now":7,"dropped":[0,0,0],"new_ops":[],"new_resources":[],"new_tasks":[],"now":5,"op_stats":[],"poll_counts":[],"resource_stats":[],"seq":1,"snapshot":false,"task_stats":[],"v":1}"#,
     r#"{"now":null,"dropped":[0,0,0],"new_ops":[],"new_resources":[],"new_tasks":[],"now":5,"op_stats":[],"poll_counts":[],"resource_stats":[],"seq":0,"snapshot":false,"task_stats":[],"v":1,"seq":1}"#,
+];
+
+// Parts of the line with signed attributes, and other spellings of them: with white space, and a kind by its codes.
+#[rattlefmt::skip]
+const SIGNED_OTHERS: [(&str, &str); 4] = [
+    ("[[-3],",    "[[ -3\n] , "),
+    ("[0]]",      "[\t0 ]\r\n]"),
+    ("[[7],",     " [ [7 ],"),
+    ("\"i64\"]]", "\"\\u0069\\u0036\\u0034\"]]"),
 ];
 
 // Whether the text is a line that writes itself so.
@@ -44,6 +53,23 @@ fn all_read_as(alloc: Global, texts: &[&str], wanted: &str) -> bool {
     true
 }
 
+// Whether the line with another spelling of a part is read as the line.
+fn reads_respelled(alloc: Global, text: &str, part: &str, spelling: &str) -> bool {
+    match changed(alloc, text, part, spelling) {
+        Some(other) => reads_as(alloc, other.as_str(), text),
+        None => false,
+    }
+}
+
+fn all_read_respelled(alloc: Global, text: &str, spellings: &[(&str, &str)]) -> bool {
+    for (part, spelling) in spellings {
+        if !reads_respelled(alloc, text, part, spelling) {
+            return false;
+        }
+    }
+    true
+}
+
 #[test]
 fn writes_what_it_read(rt: HostRuntime) {
     assert!(rt; all_read_as_written(rt.alloc(), SAME.as_slice()));
@@ -52,6 +78,7 @@ fn writes_what_it_read(rt: HostRuntime) {
 #[test]
 fn reads_other_texts_of_a_line(rt: HostRuntime) {
     assert!(rt; all_read_as(rt.alloc(), OTHERS.as_slice(), EMPTY));
+    assert!(rt; all_read_respelled(rt.alloc(), SIGNED, SIGNED_OTHERS.as_slice()));
 }
 
 fn shows_numbers(line: &Line) -> bool {

@@ -47,7 +47,7 @@ const NUMBERS: [(&str, &str); 22] = [
 
 // The same of infos.
 #[rattlefmt::skip]
-const INFOS: [(&str, &str); 18] = [
+const INFOS: [(&str, &str); 20] = [
     ("\"blocking\"",                       "\"block\""),
     ("\"Sync\"",                           "\"\""),
     ("\"Sync\"",                           "\"a\\tb\""),
@@ -57,6 +57,8 @@ const INFOS: [(&str, &str); 18] = [
     ("[\"script\",1,1]",                   "[\"script\",1,4294967296]"),
     ("[\"script\",1,1]",                   "[\"script\",1]"),
     ("\"u64\"",                            "\"u32\""),
+    ("\"u64\"",                            "\"i32\""),
+    ("\"u64\"",                            "[\"i64\"]"),
     ("\"count\"",                          "1"),
     ("\"count\"",                          "\"\""),
     ("[\"closed\",null,\"bool\"]",         "[\"closed\",\"bool\"]"),
@@ -71,10 +73,22 @@ const INFOS: [(&str, &str); 18] = [
 
 // The same of rows.
 #[rattlefmt::skip]
-const ROWS: [(&str, &str); 9] = [
+const ROWS: [(&str, &str); 21] = [
     ("[3,true]",       "[3,true,1,2,3,4,5]"),
     ("[3,true]",       "[3,\"true\"]"),
     ("[3,true]",       "[-3,true]"),
+    ("[3,true]",       "[[9223372036854775808],true]"),
+    ("[3,true]",       "[[-9223372036854775809],true]"),
+    ("[3,true]",       "[[1,2],true]"),
+    ("[3,true]",       "[[],true]"),
+    ("[3,true]",       "[[1.0],true]"),
+    ("[3,true]",       "[[1e2],true]"),
+    ("[3,true]",       "[[-0],true]"),
+    ("[3,true]",       "[[\"1\"],true]"),
+    ("[3,true]",       "[[true],true]"),
+    ("[3,true]",       "[[null],true]"),
+    ("[3,true]",       "[[[3]],true]"),
+    ("[3,true]",       "[{\"0\":3},true]"),
     (",\"wakes\":8",   ""),
     (",\"wakes\":8",   ",\"wakes\":8,\"woken\":8"),
     (",\"wakes\":8",   ",\"woken\":8"),

@@ -184,6 +184,10 @@ fn lines_out_of_place(rt: HostRuntime) -> Result<(), Fail> {
         lines_rearranged(&rt, script::two_threads()) == Some(3),
         "two-threads"
     );
+    assert!(rt;
+        lines_rearranged(&rt, script::queue_lag()) == Some(3),
+        "queue-lag"
+    );
     Ok(())
 }
 
@@ -224,5 +228,11 @@ fn bits_of_semaphore(rt: HostRuntime) -> Result<(), Fail> {
 #[test]
 fn bits_of_burst(rt: HostRuntime) -> Result<(), Fail> {
     assert!(rt; bytes_flipped(&rt, script::burst()) == Some(3059));
+    Ok(())
+}
+
+#[test]
+fn bits_of_queue_lag(rt: HostRuntime) -> Result<(), Fail> {
+    assert!(rt; bytes_flipped(&rt, script::queue_lag()) == Some(2756));
     Ok(())
 }

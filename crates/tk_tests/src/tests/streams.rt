@@ -120,6 +120,7 @@ fn examples_are_taken(rt: HostRuntime) -> Result<(), Fail> {
     assert!(rt; is_taken(&rt, script::lost_waker(), 3), "lost-waker");
     assert!(rt; is_taken(&rt, script::burst(), 5), "burst");
     assert!(rt; is_taken(&rt, script::two_threads(), 3), "two-threads");
+    assert!(rt; is_taken(&rt, script::queue_lag(), 3), "queue-lag");
     Ok(())
 }
 
