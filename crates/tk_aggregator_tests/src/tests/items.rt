@@ -25,6 +25,7 @@ fn attrs(alloc: Global) -> Option<Attrs> {
     list.push(attr(alloc, b"permits", AttrValue::U64(5))?).ok()?;
     list.push(attr(alloc, b"closed", AttrValue::Bool(false))?)
         .ok()?;
+    list.push(attr(alloc, b"lag", AttrValue::I64(0))?).ok()?;
     Attrs::new(list).ok()
 }
 
@@ -121,6 +122,7 @@ fn collects_and_tells<R: Wait>(
 ) -> bool {
     collects(rt, aggregator, taker, 9, 4)
         && user.sub(rt, 0, AttrValue::U64(2)).is_ok()
+        && user.sub(rt, 2, AttrValue::I64(3)).is_ok()
         && is_polled(rt, owner)
         && writes_worked(rt, alloc, aggregator)
 }
