@@ -6,10 +6,11 @@ use Rattle.std.specs.List.{AllByRecursion, IsDistinct}
 use Rattle.std.proofs.lemmas.Bool.{eq-eqb}
 use Rattle.tk_stream.specs.Rows.{same_counts}
 use Rattle.tk_stream.specs.Tables.{TablesView, PollCounts, AreFit, empty_tables, counts_id, item_with}
-use Rattle.tk_stream.specs.Lines.{is_new, is_told, new_infos, told_stats, task_stats_of, resource_stats_of, op_stats_of, all_counts, have_same_row, have_same_resource_row, have_same_op_row, line_between, snapshot_of}
-use Rattle.tk_stream.specs.Applied.{Kind, task_kind, resource_kind, op_kind, counts_kind, told_item, new_item, new_items, items_after, counts_after, tables_after, BeginWith, GoOn}
+use Rattle.tk_stream.specs.Lines.{is_new, is_told, new_infos, told_stats, task_stats_of, resource_stats_of, op_stats_of, all_counts, have_same_row, have_same_resource_row, have_same_op_row, line_between, snapshot_of, gone_ids, gone_between, with_gone}
+use Rattle.tk_stream.specs.Applied.{Kind, task_kind, resource_kind, op_kind, counts_kind, told_item, new_item, new_items, items_told, items_after, counts_after, tables_after, BeginWith, GoOn, still_there, what_stays}
 use Rattle.tk_stream.proofs.RowsLemmas.{same_rows, same_resource_rows, same_op_rows, same_poll_counts}
 use Rattle.tk_stream.proofs.LinesLemmas.{differ, IsFound, each_found}
+use Rattle.tk_stream.proofs.GoneLemmas.{staying_all, stays, same_infos, same_stats, once_kept}
 
 itself : (n : ℕ) → nat_eq n n ≡ true
 itself n = eq-eqb n n refl
@@ -157,16 +158,33 @@ module _ {Item Info Stats : Type 0} (k : Kind Item Info Stats) (stats_of : Item 
         ap₂ (λ o r. option_and_then (λ item. option_map (λ items. item ∷ items) r) o) one (made stats ys all.1 tell.1)
 
   pub leads : (old new : List Item) → IsDistinct nat_eq (map k.id_of old) → IsDistinct nat_eq (map k.id_of new) → BeginWith k old new
-      → items_after k old (new_infos k.id_of k.info_of old new) (told_stats k.id_of same stats_of old new) ≡ Some new
+      → items_told k old (new_infos k.id_of k.info_of old new) (told_stats k.id_of same stats_of old new) ≡ Some new
   leads old new once_old once_new begin =
       let stats : List Stats = told_stats k.id_of same stats_of old new in
       let found : AllByRecursion (IsFound k.id_of old) old = each_found k.id_of old once_old in
       let away : AllByRecursion (IsAbsent old) (beyond old new) = absent old new begin once_new in
       let all : AllByRecursion (TellsOf (tells old) stats) new = each_told (tells old) new once_new in
       let infos : new_infos k.id_of k.info_of old new ≡ map k.info_of (beyond old new) = ap (map k.info_of) (none_new old old new begin found ∙ all_new old (beyond old new) away) in
-      ap (λ is. items_after k old is stats) infos
+      ap (λ is. items_told k old is stats) infos
       ∙ ap (option_map (λ items. map (told_item k stats) old ++ items)) (made old stats (beyond old new) away (all_beyond (TellsOf (tells old) stats) old new all))
       ∙ ap Some (pairs old stats old new begin found all)
+
+  -- a line that says of nothing that it is gone
+  pub leads_all : (old new : List Item) → IsDistinct nat_eq (map k.id_of old) → IsDistinct nat_eq (map k.id_of new) → BeginWith k old new
+      → items_after k old [] (new_infos k.id_of k.info_of old new) (told_stats k.id_of same stats_of old new) ≡ Some new
+  leads_all old new once_old once_new begin =
+      ap (λ there. items_told k there (new_infos k.id_of k.info_of old new) (told_stats k.id_of same stats_of old new)) (staying_all k.id_of old)
+      ∙ leads old new once_old once_new begin
+
+  -- a line that says what is gone
+  pub leads_less : (old new : List Item) → IsDistinct nat_eq (map k.id_of old) → IsDistinct nat_eq (map k.id_of new) → BeginWith k (still_there k.id_of old new) new
+      → items_after k old (gone_ids k.id_of old new) (new_infos k.id_of k.info_of old new) (told_stats k.id_of same stats_of old new) ≡ Some new
+  leads_less old new once_old once_new begin =
+      let there : List Item = still_there k.id_of old new in
+      ap (λ xs. items_told k xs (new_infos k.id_of k.info_of old new) (told_stats k.id_of same stats_of old new)) (stays k.id_of new old)
+      ∙ ap (λ is. items_told k there is (told_stats k.id_of same stats_of old new)) (same_infos k.id_of k.info_of old new once_new)
+      ∙ ap (λ ss. items_told k there (new_infos k.id_of k.info_of there new) ss) (same_stats k.id_of same stats_of old new once_new)
+      ∙ leads there new (once_kept k.id_of (λ x. not (is_new k.id_of new x)) old once_old) once_new begin
 
 -- ---- tables
 
@@ -238,9 +256,18 @@ counts_lead old new once_old once_new begin =
 
 pub lead_on : (old new : TablesView) (seq : ℕ) → AreFit old → AreFit new → GoOn old new → tables_after old (line_between old new seq) ≡ Some new
 lead_on old new seq fit_old fit_new on =
-    let tasks = leads task_kind task_stats_of have_same_row tasks_are old.tasks new.tasks fit_old.distinct.tasks fit_new.distinct.tasks on.tasks in
-    let resources = leads resource_kind resource_stats_of have_same_resource_row resources_are old.resources new.resources fit_old.distinct.resources fit_new.distinct.resources on.resources in
-    let ops = leads op_kind op_stats_of have_same_op_row ops_are old.ops new.ops fit_old.distinct.ops fit_new.distinct.ops on.ops in
+    let tasks = leads_all task_kind task_stats_of have_same_row tasks_are old.tasks new.tasks fit_old.distinct.tasks fit_new.distinct.tasks on.tasks in
+    let resources = leads_all resource_kind resource_stats_of have_same_resource_row resources_are old.resources new.resources fit_old.distinct.resources fit_new.distinct.resources on.resources in
+    let ops = leads_all op_kind op_stats_of have_same_op_row ops_are old.ops new.ops fit_old.distinct.ops fit_new.distinct.ops on.ops in
+    let counts = counts_lead old.counts new.counts fit_old.distinct.counts fit_new.distinct.counts on.counts in
+    rw (tasks, resources, ops, counts) refl
+
+-- a line that says what is gone leads on to tables without that
+pub lead_on_less : (old new : TablesView) (seq : ℕ) → AreFit old → AreFit new → GoOn (what_stays old new) new → tables_after old (with_gone (gone_between old new) (line_between old new seq)) ≡ Some new
+lead_on_less old new seq fit_old fit_new on =
+    let tasks = leads_less task_kind task_stats_of have_same_row tasks_are old.tasks new.tasks fit_old.distinct.tasks fit_new.distinct.tasks on.tasks in
+    let resources = leads_less resource_kind resource_stats_of have_same_resource_row resources_are old.resources new.resources fit_old.distinct.resources fit_new.distinct.resources on.resources in
+    let ops = leads_less op_kind op_stats_of have_same_op_row ops_are old.ops new.ops fit_old.distinct.ops fit_new.distinct.ops on.ops in
     let counts = counts_lead old.counts new.counts fit_old.distinct.counts fit_new.distinct.counts on.counts in
     rw (tasks, resources, ops, counts) refl
 

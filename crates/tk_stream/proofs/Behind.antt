@@ -1,5 +1,5 @@
 -- Pieces of a text, one behind the other.
-use Rattle.std.proofs.Common.{◌≡◌, ℕ, ◌+◌, ◌-◌, ◌*◌, ◌/◌, ◌%◌, ◌^◌, ◌<◌, ◌≤◌, decimal, List, [], ◌∷◌, ◌++◌, length, drop, take, get_or, Bool, true, false, refl, sym, ap, ◌∙◌, append_assoc, append-nil, inl, inr, arith, true≢false}
+use Rattle.std.proofs.Common.{◌≡◌, ℕ, ◌+◌, ◌-◌, ◌*◌, ◌/◌, ◌%◌, ◌^◌, ◌<◌, ◌≤◌, decimal, List, [], ◌∷◌, ◌++◌, length, drop, take, get_or, Bool, true, false, refl, sym, ap, ◌∙◌, append_assoc, append-nil, codes, inl, inr, arith, true≢false}
 use Rattle.std.specs.Prelude.{map, ◌&&◌, nat_le}
 use Rattle.std.specs.Bool.{OnTrue}
 use Rattle.std.specs.List.{list_all}
@@ -11,13 +11,15 @@ use Rattle.std.proofs.lemmas.Slice.Eq.{bytes_eq-Decides}
 use Rattle.std.specs.Str.{bytes_eq}
 use lib.ListN.{take-append-drop}
 use Rattle.std.proofs.lemmas.Bool.{and_parts, or_parts, or_cases, cases_eq, eqb-true, eqb-false, leb-true, not-true}
-use Rattle.json.specs.Print.{escape, escape_byte}
+use Rattle.json.specs.Print.{escape, escape_byte, quoted}
 use Rattle.json.proofs.Printed.Strings.{escape_byte_plain}
 use Rattle.serde_json.specs.Data.{Data}
 use Rattle.serde_json.specs.View.{items_of}
-use Rattle.serde_json.specs.Written.{compact_text, items_text, comma_if}
+use Rattle.serde_json.specs.Written.{compact_text, items_text, members_text, comma_if}
 use Rattle.tk_ids.specs.Names.{is_name, is_printable}
 use Rattle.tk_stream.specs.Behind.{Puts, Takes, is_escaped, is_plain}
+use Rattle.tk_stream.specs.Lines.{LineView}
+use Rattle.tk_stream.specs.Spelling.{members_in, behind_text, gone_members, members_behind, dropped_data, line_data, line_text}
 
 -- ---- writing
 
@@ -50,6 +52,20 @@ pub items_put : {A : Type 0} (f : A → Data) (list : List A) (i : ℕ) (later :
     → out ++ items_text later (items_of (map f (drop i list))) ≡ total → next ≡ total
 items_put f list i later out next total past put so_far =
     put.is ∙ sym (ap (λ xs. out ++ items_text later (items_of (map f xs))) (drop_all i list past)) ∙ so_far
+
+-- members that stand behind others
+pub behind_members : (fs gs : List (List ℕ × Data)) → members_text true (members_in (fs ++ gs)) ≡ behind_text fs ++ members_text true (members_in gs)
+behind_members [] gs = refl
+behind_members (f ∷ fs) gs =
+    ap (λ xs. 44 ∷ (quoted f.0 ++ 58 ∷ (compact_text f.1 ++ xs))) (behind_members fs gs)
+    ∙ ap (λ xs. 44 ∷ (quoted f.0 ++ 58 ∷ xs)) (sym (append_assoc (compact_text f.1) (behind_text fs) (members_text true (members_in gs))))
+    ∙ ap (λ xs. 44 ∷ xs) (sym (append_assoc (quoted f.0) (58 ∷ (compact_text f.1 ++ behind_text fs)) (members_text true (members_in gs))))
+
+-- the text of a line: its first member, what is gone, and the rest
+pub line_split : (l : LineView) → line_text l
+    ≡ codes "{\"dropped\":" ++ (compact_text (dropped_data l.dropped) ++ (behind_text (gone_members l.gone) ++ members_text true (members_in (members_behind l))))
+unfolding line_text line_data escape_byte
+line_split l = ap (λ xs. codes "{\"dropped\":" ++ (compact_text (dropped_data l.dropped) ++ xs)) (behind_members (gone_members l.gone) (members_behind l))
 
 -- ---- names
 

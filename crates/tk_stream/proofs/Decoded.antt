@@ -31,11 +31,11 @@ use Rattle.serde_json.specs.View.{items_of}
 use Rattle.serde_json.specs.Read.{max_depth}
 use Rattle.serde_json.specs.Written.{outline, items_outline, compact_text}
 use Rattle.tk_stream.specs.Tables.{PollCounts}
-use Rattle.tk_stream.specs.Lines.{LineView, is_seq}
+use Rattle.tk_stream.specs.Lines.{LineView, GoneView, is_seq}
 use Rattle.tk_stream.specs.Outcome.{shaped, ◌then◌}
-use Rattle.tk_stream.specs.Reading.{optional_of, optional_id_of, optional_name_of, attr_of, attr_kind_of, value_of, attrs_in, values_in, kind_of, location_in, info_of, resource_parts, resource_of, op_parts, op_of, stats_of, resource_stats_with, resource_stats_of, op_stats_with, op_stats_of, counts_of, parts_of, line_of, each_of, values_of, json_or_fault, line_of_text}
+use Rattle.tk_stream.specs.Reading.{id_of, optional_of, optional_id_of, optional_name_of, attr_of, attr_kind_of, value_of, attrs_in, values_in, kind_of, location_in, info_of, resource_parts, resource_of, op_parts, op_of, stats_of, resource_stats_with, resource_stats_of, op_stats_with, op_stats_of, counts_of, gone_at, parts_of, line_of, each_of, values_of, json_or_fault, line_of_text}
 use Rattle.tk_stream.specs.Spelling.{number_data, optional_data, optional_text, attr_kind_text, attr_data, value_data, kind_text, location_data, info_data, resource_data, op_data, stats_data, resource_stats_data, op_stats_data, counts_data, line_data, line_text}
-use Rattle.tk_stream.specs.Ranges.{IsOptional, IsOptionalId, IsName, IsLocation, IsAttr, IsValue, AreAttrs, AreValues, IsTaskInfo, IsResourceInfo, IsOpInfo, AreTaskStats, AreResourceStats, AreOpStats, AreCounts, IsLine}
+use Rattle.tk_stream.specs.Ranges.{IsId, IsOptional, IsOptionalId, IsName, IsLocation, IsAttr, IsValue, AreAttrs, AreValues, IsTaskInfo, IsResourceInfo, IsOpInfo, AreTaskStats, AreResourceStats, AreOpStats, AreCounts, IsGone, IsLine}
 use Rattle.tk_stream.proofs.Texts.{json_read}
 use Rattle.tk_stream.proofs.Round.{IsWhole, AreWhole, whole_is_text, read-compact_text}
 
@@ -154,12 +154,23 @@ counts_back c fit =
     let resource = fit.resource in
     rw resource refl
 
+id_back : (n : ℕ) → IsId n → id_of (number_data n) ≡ Some n
+id_back n h = rw h refl
+
+-- a line that says nothing of what is gone, and one that does
 pub line_back : (l : LineView) → IsLine l → line_of (line_data l) ≡ Some l
-unfolding line_of parts_of line_data
-line_back l fit =
-    let seq = fit.seq in
-    rw (seq, each_back op_of op_data IsOpInfo op_back l.new_ops fit.new_ops, each_back resource_of resource_data IsResourceInfo resource_back l.new_resources fit.new_resources, each_back info_of info_data IsTaskInfo info_back l.new_tasks fit.new_tasks, each_back op_stats_of op_stats_data AreOpStats op_stats_back l.op_stats fit.op_stats, each_back counts_of counts_data AreCounts counts_back l.poll_counts fit.poll_counts, each_back resource_stats_of resource_stats_data AreResourceStats resource_stats_back l.resource_stats fit.resource_stats, each_back stats_of stats_data AreTaskStats stats_back l.task_stats fit.task_stats)
-    refl
+unfolding line_of parts_of gone_at line_data
+line_back l fit = by l.gone fit.gone
+  where
+    by : (gone : Option GoneView) → IfSome gone IsGone → line_of (line_data (record l { gone = gone })) ≡ Some (record l { gone = gone })
+    by None none =
+        let seq = fit.seq in
+        rw (seq, each_back op_of op_data IsOpInfo op_back l.new_ops fit.new_ops, each_back resource_of resource_data IsResourceInfo resource_back l.new_resources fit.new_resources, each_back info_of info_data IsTaskInfo info_back l.new_tasks fit.new_tasks, each_back op_stats_of op_stats_data AreOpStats op_stats_back l.op_stats fit.op_stats, each_back counts_of counts_data AreCounts counts_back l.poll_counts fit.poll_counts, each_back resource_stats_of resource_stats_data AreResourceStats resource_stats_back l.resource_stats fit.resource_stats, each_back stats_of stats_data AreTaskStats stats_back l.task_stats fit.task_stats)
+        refl
+    by (Some g) are =
+        let seq = fit.seq in
+        rw (seq, each_back id_of number_data IsId id_back g.ops are.ops, each_back id_of number_data IsId id_back g.resources are.resources, each_back id_of number_data IsId id_back g.tasks are.tasks, each_back op_of op_data IsOpInfo op_back l.new_ops fit.new_ops, each_back resource_of resource_data IsResourceInfo resource_back l.new_resources fit.new_resources, each_back info_of info_data IsTaskInfo info_back l.new_tasks fit.new_tasks, each_back op_stats_of op_stats_data AreOpStats op_stats_back l.op_stats fit.op_stats, each_back counts_of counts_data AreCounts counts_back l.poll_counts fit.poll_counts, each_back resource_stats_of resource_stats_data AreResourceStats resource_stats_back l.resource_stats fit.resource_stats, each_back stats_of stats_data AreTaskStats stats_back l.task_stats fit.task_stats)
+        refl
 
 -- ---- whole values
 
@@ -243,7 +254,11 @@ counts_whole c fit = (id_small c.0 fit.resource, (fit.ready, (fit.pending, tt)))
 
 pub line_whole : (l : LineView) → IsLine l → IsWhole (line_data l)
 unfolding line_data
-line_whole l fit = ((ascii (codes "dropped") refl, (fit.dropped.tasks, (fit.dropped.resources, (fit.dropped.ops, tt))), (ascii (codes "new_ops") refl, each_whole op_data IsOpInfo op_whole l.new_ops fit.new_ops, (ascii (codes "new_resources") refl, each_whole resource_data IsResourceInfo resource_whole l.new_resources fit.new_resources, (ascii (codes "new_tasks") refl, each_whole info_data IsTaskInfo info_whole l.new_tasks fit.new_tasks, (ascii (codes "now") refl, fit.now, (ascii (codes "op_stats") refl, each_whole op_stats_data AreOpStats op_stats_whole l.op_stats fit.op_stats, (ascii (codes "poll_counts") refl, each_whole counts_data AreCounts counts_whole l.poll_counts fit.poll_counts, (ascii (codes "resource_stats") refl, each_whole resource_stats_data AreResourceStats resource_stats_whole l.resource_stats fit.resource_stats, (ascii (codes "seq") refl, seq_small l.seq fit.seq, (ascii (codes "snapshot") refl, tt, (ascii (codes "task_stats") refl, each_whole stats_data AreTaskStats stats_whole l.task_stats fit.task_stats, (ascii (codes "v") refl, lit< tt, tt)))))))))))), refl)
+line_whole l fit = by l.gone fit.gone
+  where
+    by : (gone : Option GoneView) → IfSome gone IsGone → IsWhole (line_data (record l { gone = gone }))
+    by None none = ((ascii (codes "dropped") refl, (fit.dropped.tasks, (fit.dropped.resources, (fit.dropped.ops, tt))), (ascii (codes "new_ops") refl, each_whole op_data IsOpInfo op_whole l.new_ops fit.new_ops, (ascii (codes "new_resources") refl, each_whole resource_data IsResourceInfo resource_whole l.new_resources fit.new_resources, (ascii (codes "new_tasks") refl, each_whole info_data IsTaskInfo info_whole l.new_tasks fit.new_tasks, (ascii (codes "now") refl, fit.now, (ascii (codes "op_stats") refl, each_whole op_stats_data AreOpStats op_stats_whole l.op_stats fit.op_stats, (ascii (codes "poll_counts") refl, each_whole counts_data AreCounts counts_whole l.poll_counts fit.poll_counts, (ascii (codes "resource_stats") refl, each_whole resource_stats_data AreResourceStats resource_stats_whole l.resource_stats fit.resource_stats, (ascii (codes "seq") refl, seq_small l.seq fit.seq, (ascii (codes "snapshot") refl, tt, (ascii (codes "task_stats") refl, each_whole stats_data AreTaskStats stats_whole l.task_stats fit.task_stats, (ascii (codes "v") refl, lit< tt, tt)))))))))))), refl)
+    by (Some g) are = ((ascii (codes "dropped") refl, (fit.dropped.tasks, (fit.dropped.resources, (fit.dropped.ops, tt))), (ascii (codes "gone_ops") refl, each_whole number_data IsId id_small g.ops are.ops, (ascii (codes "gone_resources") refl, each_whole number_data IsId id_small g.resources are.resources, (ascii (codes "gone_tasks") refl, each_whole number_data IsId id_small g.tasks are.tasks, (ascii (codes "new_ops") refl, each_whole op_data IsOpInfo op_whole l.new_ops fit.new_ops, (ascii (codes "new_resources") refl, each_whole resource_data IsResourceInfo resource_whole l.new_resources fit.new_resources, (ascii (codes "new_tasks") refl, each_whole info_data IsTaskInfo info_whole l.new_tasks fit.new_tasks, (ascii (codes "now") refl, fit.now, (ascii (codes "op_stats") refl, each_whole op_stats_data AreOpStats op_stats_whole l.op_stats fit.op_stats, (ascii (codes "poll_counts") refl, each_whole counts_data AreCounts counts_whole l.poll_counts fit.poll_counts, (ascii (codes "resource_stats") refl, each_whole resource_stats_data AreResourceStats resource_stats_whole l.resource_stats fit.resource_stats, (ascii (codes "seq") refl, seq_small l.seq fit.seq, (ascii (codes "snapshot") refl, tt, (ascii (codes "task_stats") refl, each_whole stats_data AreTaskStats stats_whole l.task_stats fit.task_stats, (ascii (codes "v") refl, lit< tt, tt))))))))))))))), refl)
 
 -- ---- how deep a line nests
 
@@ -286,8 +301,11 @@ op_stats_shallow s =
 
 line_shallow : (l : LineView) → tree.depth (outline (line_data l)) ≤ max_depth
 unfolding line_data
-line_shallow l =
-    omega (arith, each_shallow op_data 3 op_shallow l.new_ops, each_shallow resource_data 3 resource_shallow l.new_resources, each_shallow info_data 3 (λ t. omega arith) l.new_tasks, each_shallow op_stats_data 3 op_stats_shallow l.op_stats, each_shallow counts_data 3 (λ c. omega arith) l.poll_counts, each_shallow resource_stats_data 3 resource_stats_shallow l.resource_stats, each_shallow stats_data 3 stats_shallow l.task_stats)
+line_shallow l = by l.gone
+  where
+    by : (gone : Option GoneView) → tree.depth (outline (line_data (record l { gone = gone }))) ≤ max_depth
+    by None = omega (arith, each_shallow op_data 3 op_shallow l.new_ops, each_shallow resource_data 3 resource_shallow l.new_resources, each_shallow info_data 3 (λ t. omega arith) l.new_tasks, each_shallow op_stats_data 3 op_stats_shallow l.op_stats, each_shallow counts_data 3 (λ c. omega arith) l.poll_counts, each_shallow resource_stats_data 3 resource_stats_shallow l.resource_stats, each_shallow stats_data 3 stats_shallow l.task_stats)
+    by (Some g) = omega (arith, each_shallow number_data 3 (λ n. omega arith) g.ops, each_shallow number_data 3 (λ n. omega arith) g.resources, each_shallow number_data 3 (λ n. omega arith) g.tasks, each_shallow op_data 3 op_shallow l.new_ops, each_shallow resource_data 3 resource_shallow l.new_resources, each_shallow info_data 3 (λ t. omega arith) l.new_tasks, each_shallow op_stats_data 3 op_stats_shallow l.op_stats, each_shallow counts_data 3 (λ c. omega arith) l.poll_counts, each_shallow resource_stats_data 3 resource_stats_shallow l.resource_stats, each_shallow stats_data 3 stats_shallow l.task_stats)
 
 -- the text of a line reads back as that line
 pub text_reads : (l : LineView) → IsLine l → line_of_text (line_text l) ≡ Ok l

@@ -8,6 +8,7 @@ pub mod Texts
 pub mod Round
 pub mod Decoded
 pub mod LinesLemmas
+pub mod GoneLemmas
 pub mod AppliedLemmas
 pub mod Behind
 pub mod FrontLemmas

@@ -29,7 +29,7 @@ filter-none : {A : Type 0} (p : A → Bool) (xs : List A) → AllByRecursion (λ
 filter-none p [] h = refl
 filter-none p (x ∷ xs) h = rw (h.0, filter-none p xs h.1) refl
 
-all_by : {A : Type 0} (P Q : A → Type 0) → ((x : A) → P x → Q x) → (xs : List A) → AllByRecursion P xs → AllByRecursion Q xs
+pub all_by : {A : Type 0} (P Q : A → Type 0) → ((x : A) → P x → Q x) → (xs : List A) → AllByRecursion P xs → AllByRecursion Q xs
 all_by P Q h [] all = tt
 all_by P Q h (x ∷ xs) all = (h x all.0, all_by P Q h xs all.1)
 

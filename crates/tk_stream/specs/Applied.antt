@@ -1,5 +1,5 @@
 -- What a line makes of tables.
-use Rattle.std.specs.Prelude.{◌≡◌, ℕ, List, [], ◌∷◌, ◌++◌, map, filter, Option, Some, option_map, option_and_then}
+use Rattle.std.specs.Prelude.{◌≡◌, ℕ, List, [], ◌∷◌, ◌++◌, map, filter, not, Option, Some, option_map, option_and_then}
 use Rattle.std.specs.Option.{option_map_or}
 use Rattle.tk_core.specs.declared.op.row.OpRow.{OpRow}
 use Rattle.tk_core.specs.declared.resource.row.ResourceRow.{ResourceRow}
@@ -10,8 +10,8 @@ use Rattle.tk_ids.specs.declared.info.TaskInfo.{TaskInfo}
 use Rattle.tk_stream.specs.declared.op.Op.{Op}
 use Rattle.tk_stream.specs.declared.resource.Resource.{Resource}
 use Rattle.tk_stream.specs.declared.task.Task.{Task}
-use Rattle.tk_stream.specs.Tables.{TablesView, PollCounts, task_id, resource_id, op_id, counts_id, item_with}
-use Rattle.tk_stream.specs.Lines.{LineView, is_new, task_info, resource_info, op_info}
+use Rattle.tk_stream.specs.Tables.{TablesView, PollCounts, task_id, resource_id, op_id, counts_id, item_with, staying}
+use Rattle.tk_stream.specs.Lines.{LineView, GoneView, gone_of, is_new, task_info, resource_info, op_info}
 
 -- a kind of item: its id and what stays of it, the ids of what stays and of what changes, and the item that the two make
 pub record Kind (Item Info Stats : Type 0) : Type 0 where
@@ -75,9 +75,13 @@ new_items k stats [] = Some []
 new_items k stats (info ∷ infos) =
     option_and_then (λ item. option_map (λ items. item ∷ items) (new_items k stats infos)) (new_item k stats info)
 
--- items after a line: those that were there, and behind them the new ones in the line's order
-abbrev pub items_after : {Item Info Stats : Type 0} → Kind Item Info Stats → List Item → List Info → List Stats → Option (List Item)
-items_after k old infos stats = option_map (λ items. map (told_item k stats) old ++ items) (new_items k stats infos)
+-- items that are there with what is told of them, and behind them the new ones in the line's order
+abbrev pub items_told : {Item Info Stats : Type 0} → Kind Item Info Stats → List Item → List Info → List Stats → Option (List Item)
+items_told k there infos stats = option_map (λ items. map (told_item k stats) there ++ items) (new_items k stats infos)
+
+-- items after a line: those that were there and are not gone, and behind them the new ones
+abbrev pub items_after : {Item Info Stats : Type 0} → Kind Item Info Stats → List Item → List ℕ → List Info → List Stats → Option (List Item)
+items_after k old gone infos stats = items_told k (staying k.id_of gone old) infos stats
 
 -- poll counts after a line: those that were there, and behind them the new ones in the line's order
 abbrev pub counts_after : List PollCounts → List PollCounts → List PollCounts
@@ -93,15 +97,27 @@ tables_after old l =
       counts = counts_after old.counts l.poll_counts;
       dropped = l.dropped;
       now = l.now;
-    }) (items_after op_kind old.ops l.new_ops l.op_stats))
-    (items_after resource_kind old.resources l.new_resources l.resource_stats))
-    (items_after task_kind old.tasks l.new_tasks l.task_stats)
+    }) (items_after op_kind old.ops (gone_of l).ops l.new_ops l.op_stats))
+    (items_after resource_kind old.resources (gone_of l).resources l.new_resources l.resource_stats))
+    (items_after task_kind old.tasks (gone_of l).tasks l.new_tasks l.task_stats)
 
 -- items that begin with the old ones in order, what changes aside
 abbrev pub BeginWith : {Item Info Stats : Type 0} → Kind Item Info Stats → List Item → List Item → Type 0
 BeginWith k [] new = Unit {0}
 BeginWith k (x ∷ xs) [] = ⊥
 BeginWith k (x ∷ xs) (y ∷ ys) = (k.info_of x ≡ k.info_of y) × BeginWith k xs ys
+
+-- the old items that are still there
+abbrev pub still_there : {Item : Type 0} → (Item → ℕ) → List Item → List Item → List Item
+still_there id_of old items = filter (λ item. not (is_new id_of items item)) old
+
+-- the old tables without the items that are gone. Poll counts stay
+abbrev pub what_stays : TablesView → TablesView → TablesView
+what_stays old new = record old {
+  tasks = still_there task_id old.tasks new.tasks;
+  resources = still_there resource_id old.resources new.resources;
+  ops = still_there op_id old.ops new.ops;
+}
 
 -- tables whose items and poll counts begin with those of the old ones in order
 pub record GoOn (old new : TablesView) : Type 0 where

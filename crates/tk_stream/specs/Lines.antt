@@ -1,5 +1,5 @@
 -- What a line says: which items are new since the tables before, and which rows and counts differ.
-use Rattle.std.specs.Prelude.{◌≡◌, ℕ, ◌^◌, List, [], map, filter, Bool, true, false, ◌&&◌, not, nat_le, is_none}
+use Rattle.std.specs.Prelude.{◌≡◌, ℕ, ◌^◌, List, [], map, filter, Bool, true, false, ◌&&◌, not, nat_le, is_none, Option, Some, None, unwrap_or, if◌then◌else◌}
 use Rattle.std.specs.Option.{option_map_or}
 use Rattle.tk_core.specs.declared.op.row.OpRow.{OpRow}
 use Rattle.tk_core.specs.declared.resource.row.ResourceRow.{ResourceRow}
@@ -14,9 +14,21 @@ use Rattle.tk_stream.specs.declared.task.Task.{Task}
 use Rattle.tk_stream.specs.Rows.{same_row, same_resource_row, same_op_row, same_counts}
 use Rattle.tk_stream.specs.Tables.{TablesView, PollCounts, empty_tables, task_id, resource_id, op_id, counts_id, item_with}
 
--- what a line says: its infos are those of new items, its statistics are ids with their rows
+-- which items are gone, by their ids
+pub record GoneView : Type 0 where
+  pub ops : List ℕ
+  pub resources : List ℕ
+  pub tasks : List ℕ
+
+-- none is gone
+abbrev pub none_gone : GoneView
+none_gone = record { ops = []; resources = []; tasks = [] }
+
+-- what a line says: its infos are those of new items, its statistics are ids with their rows. A line of version 2 also says
+-- which items are gone, and one of version 1 says nothing of it
 pub record LineView : Type 0 where
   pub dropped : Dropped
+  pub gone : Option GoneView
   pub new_ops : List OpInfo
   pub new_resources : List ResourceInfo
   pub new_tasks : List TaskInfo
@@ -32,9 +44,18 @@ pub record LineView : Type 0 where
 abbrev pub is_seq : ℕ → Bool
 is_seq n = nat_le 1 n && nat_le n (2 ^ 63)
 
--- the version of the format
-abbrev pub version : ℕ
-version = 1
+-- the version of a line's format: 2 where it says what is gone, and otherwise 1
+abbrev pub version_with : Option GoneView → ℕ
+version_with None = 1
+version_with (Some gone) = 2
+
+-- the version of a line's format
+abbrev pub version : LineView → ℕ
+version l = version_with l.gone
+
+-- the items that a line says are gone
+abbrev pub gone_of : LineView → GoneView
+gone_of l = unwrap_or l.gone none_gone
 
 -- ---- between lists of items of any kind, where `id_of` is an item's id
 
@@ -98,10 +119,12 @@ all_counts c = c
 
 -- ---- lines
 
--- the line that leads from old tables to new ones, by comparing the two whole tables. Totals and moment are those of the new
+-- the line of version 1 that leads from old tables to new ones, by comparing the two whole tables. Totals and moment are those of
+-- the new
 abbrev pub line_between : TablesView → TablesView → ℕ → LineView
 line_between old new seq = record {
   dropped = new.dropped;
+  gone = None;
   new_ops = new_infos op_id op_info old.ops new.ops;
   new_resources = new_infos resource_id resource_info old.resources new.resources;
   new_tasks = new_infos task_id task_info old.tasks new.tasks;
@@ -117,6 +140,22 @@ line_between old new seq = record {
 -- a snapshot line tells of tables as a whole: it is the line that leads there from empty ones, marked as a snapshot
 abbrev pub snapshot_of : TablesView → ℕ → LineView
 snapshot_of new seq = record (line_between empty_tables new seq) { snapshot = true }
+
+-- the ids of the old items that are not there any more, in their order
+abbrev pub gone_ids : {Item : Type 0} → (Item → ℕ) → List Item → List Item → List ℕ
+gone_ids id_of old items = map id_of (filter (is_new id_of items) old)
+
+-- what is gone between old tables and new ones
+abbrev pub gone_between : TablesView → TablesView → GoneView
+gone_between old new = record {
+  ops = gone_ids op_id old.ops new.ops;
+  resources = gone_ids resource_id old.resources new.resources;
+  tasks = gone_ids task_id old.tasks new.tasks;
+}
+
+-- a line as version 2 has it, where these are gone
+abbrev pub with_gone : GoneView → LineView → LineView
+with_gone gone l = record l { gone = Some gone }
 
 -- a line has the info and the row of each item, and all poll counts, each in order of arrival
 pub record TellsAll (tables : TablesView) (l : LineView) : Type 0 where

@@ -17,7 +17,7 @@ use Rattle.tk_ids.specs.declared.info.ResourceInfo.{ResourceInfo}
 use Rattle.tk_ids.specs.declared.info.TaskInfo.{TaskInfo}
 use Rattle.tk_ids.specs.declared.location.Location.{Location}
 use Rattle.tk_stream.specs.Tables.{PollCounts}
-use Rattle.tk_stream.specs.Lines.{LineView, is_seq}
+use Rattle.tk_stream.specs.Lines.{LineView, GoneView, is_seq}
 
 -- a number of 64 bits
 abbrev pub IsNumber : ℕ → Type 0
@@ -141,9 +141,16 @@ pub record AreTotals (d : Dropped) : Type 0 where
   pub resources : IsNumber d.resources
   pub ops : IsNumber d.ops
 
+-- the ids of what is gone
+pub record IsGone (g : GoneView) : Type 0 where
+  pub ops : AllByRecursion IsId g.ops
+  pub resources : AllByRecursion IsId g.resources
+  pub tasks : AllByRecursion IsId g.tasks
+
 -- a line whose values are in their ranges. Its flag has no range
 pub record IsLine (l : LineView) : Type 0 where
   pub dropped : AreTotals l.dropped
+  pub gone : IfSome l.gone IsGone
   pub new_ops : AllByRecursion IsOpInfo l.new_ops
   pub new_resources : AllByRecursion IsResourceInfo l.new_resources
   pub new_tasks : AllByRecursion IsTaskInfo l.new_tasks

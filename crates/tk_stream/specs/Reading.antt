@@ -1,5 +1,5 @@
 -- Which line a text is. Each definition is a partial function of a JSON value: `None` where the value is not of the shape.
-use Rattle.std.specs.Prelude.{ℕ, ◌^◌, List, [], ◌∷◌, length, codes, Bool, false, ◌==◌, nat_le, nat_lt, Option, Some, None, option_map, option_and_then, if◌then◌else◌, Result, Ok, Err}
+use Rattle.std.specs.Prelude.{ℕ, ◌^◌, List, [], ◌∷◌, length, codes, Bool, false, ◌==◌, ◌&&◌, nat_le, nat_lt, Option, Some, None, option_map, option_and_then, if◌then◌else◌, Result, Ok, Err}
 use Rattle.std.specs.Option.{option_map_or}
 use Rattle.std.specs.Str.{is_utf8, bytes_eq}
 use Rattle.tk_core.specs.declared.op.row.OpRow.{OpRow}
@@ -27,7 +27,7 @@ use Rattle.serde_json.specs.Read.{read}
 use Rattle.tk_stream.specs.declared.error.LineError.{LineError}
 use Rattle.tk_stream.specs.declared.error.LineError.TheVariants.{BadJson}
 use Rattle.tk_stream.specs.Tables.{PollCounts}
-use Rattle.tk_stream.specs.Lines.{LineView, is_seq, version}
+use Rattle.tk_stream.specs.Lines.{LineView, GoneView, is_seq}
 use Rattle.tk_stream.specs.Outcome.{shaped, ◌then◌}
 
 infixl 10 ◌>>=◌
@@ -336,13 +336,44 @@ dropped_in _ = None
 abbrev pub seq_at : List ℕ → Data → Option ℕ
 seq_at key d = number_at key d >>= λ n. if is_seq n then Some n else None
 
--- the version of the format
-abbrev pub version_at : List ℕ → Data → Option ℕ
-version_at key d = number_at key d >>= λ n. if n == version then Some n else None
+-- the lists of what is gone, as values
+pub record GoneParts : Type 0 where
+  pub ops : List Data
+  pub resources : List Data
+  pub tasks : List Data
+
+-- the lists of what is gone
+abbrev pub gone_lists : Data → Option GoneParts
+gone_lists d = do
+  ops ← list_at (codes "gone_ops") d
+  resources ← list_at (codes "gone_resources") d
+  tasks ← list_at (codes "gone_tasks") d
+  Some (record { ops = ops; resources = resources; tasks = tasks })
+
+-- what is gone by the version of the format, which has so many keys: version 1 doesn't say it, version 2 does, and there are
+-- no others
+unfoldable pub gone_at : ℕ → Data → Option (Option GoneParts)
+gone_at version d =
+    if version == 1 then (if has_members 12 d then Some None else None)
+    else (if version == 2 && has_members 15 d then option_map Some (gone_lists d) else None)
+
+-- the ids of what is gone
+abbrev pub ids_gone : GoneParts → Option GoneView
+ids_gone g = do
+  ops ← each_of id_of g.ops
+  resources ← each_of id_of g.resources
+  tasks ← each_of id_of g.tasks
+  Some (record { ops = ops; resources = resources; tasks = tasks })
+
+-- these, where a line says what is gone
+abbrev pub gone_of_parts : Option GoneParts → Option (Option GoneView)
+gone_of_parts None = Some None
+gone_of_parts (Some g) = option_map Some (ids_gone g)
 
 -- the parts of a line, with its lists as values
 pub record PartsView : Type 0 where
   pub dropped : Dropped
+  pub gone : Option GoneParts
   pub new_ops : List Data
   pub new_resources : List Data
   pub new_tasks : List Data
@@ -356,7 +387,9 @@ pub record PartsView : Type 0 where
 
 -- the parts of a line, of exactly these keys
 unfoldable pub parts_of : Data → Option PartsView
-parts_of d = if has_members 12 d then (do
+parts_of d = do
+  version ← number_at (codes "v") d
+  gone ← gone_at version d
   dropped ← list_at (codes "dropped") d >>= dropped_in
   new_ops ← list_at (codes "new_ops") d
   new_resources ← list_at (codes "new_resources") d
@@ -368,14 +401,13 @@ parts_of d = if has_members 12 d then (do
   seq ← seq_at (codes "seq") d
   snapshot ← flag_at (codes "snapshot") d
   task_stats ← list_at (codes "task_stats") d
-  version ← version_at (codes "v") d
-  Some (record { dropped = dropped; new_ops = new_ops; new_resources = new_resources; new_tasks = new_tasks; now = now; op_stats = op_stats; poll_counts = poll_counts; resource_stats = resource_stats; seq = seq; snapshot = snapshot; task_stats = task_stats }))
-    else None
+  Some (record { dropped = dropped; gone = gone; new_ops = new_ops; new_resources = new_resources; new_tasks = new_tasks; now = now; op_stats = op_stats; poll_counts = poll_counts; resource_stats = resource_stats; seq = seq; snapshot = snapshot; task_stats = task_stats })
 
--- the line that a value is: it has exactly a line's keys, each with a value of its kind
+-- the line that a value is: it has exactly the keys of its version, each with a value of its kind
 unfoldable pub line_of : Data → Option LineView
 line_of d = do
   p ← parts_of d
+  gone ← gone_of_parts p.gone
   new_ops ← each_of op_of p.new_ops
   new_resources ← each_of resource_of p.new_resources
   new_tasks ← each_of info_of p.new_tasks
@@ -383,7 +415,7 @@ line_of d = do
   poll_counts ← each_of counts_of p.poll_counts
   resource_stats ← each_of resource_stats_of p.resource_stats
   task_stats ← each_of stats_of p.task_stats
-  Some (record { dropped = p.dropped; new_ops = new_ops; new_resources = new_resources; new_tasks = new_tasks; now = p.now; op_stats = op_stats; poll_counts = poll_counts; resource_stats = resource_stats; seq = p.seq; snapshot = p.snapshot; task_stats = task_stats })
+  Some (record { dropped = p.dropped; gone = gone; new_ops = new_ops; new_resources = new_resources; new_tasks = new_tasks; now = p.now; op_stats = op_stats; poll_counts = poll_counts; resource_stats = resource_stats; seq = p.seq; snapshot = p.snapshot; task_stats = task_stats })
 
 -- ---- a text
 

@@ -17,10 +17,11 @@ use Rattle.tk_ids.specs.declared.location.Location.{Location}
 use Rattle.tk_ids.specs.declared.spec.TaskKind.{TaskKind}
 use Rattle.tk_ids.specs.declared.spec.TaskKind.TheVariants.{Spawn, Blocking}
 use Rattle.serde_json.specs.Data.{Data, null, boolean, number, unsigned, negative, string, array, object, Members, no_members, member}
+use Rattle.json.specs.Print.{quoted}
 use Rattle.serde_json.specs.View.{items_of}
 use Rattle.serde_json.specs.Written.{compact_text}
 use Rattle.tk_stream.specs.Tables.{PollCounts}
-use Rattle.tk_stream.specs.Lines.{LineView, version}
+use Rattle.tk_stream.specs.Lines.{LineView, GoneView, version}
 
 -- the members of a list of keys and values, in that order
 abbrev pub members_in : List (List ℕ × Data) → Members
@@ -191,10 +192,26 @@ op_stats_fields s =
 abbrev pub op_stats_data : ℕ × OpRow → Data
 op_stats_data s = object_with (op_stats_fields s)
 
--- the members of a line
-abbrev pub line_members : LineView → List (List ℕ × Data)
-line_members l =
-    (codes "dropped", dropped_data l.dropped) ∷
+-- the members that say what is gone
+abbrev pub gone_fields : GoneView → List (List ℕ × Data)
+gone_fields g =
+    (codes "gone_ops", list_data number_data g.ops) ∷
+    (codes "gone_resources", list_data number_data g.resources) ∷
+    (codes "gone_tasks", list_data number_data g.tasks) ∷ []
+
+-- these, where a line says what is gone
+abbrev pub gone_members : Option GoneView → List (List ℕ × Data)
+gone_members None = []
+gone_members (Some gone) = gone_fields gone
+
+-- the text of members that stand behind others
+abbrev pub behind_text : List (List ℕ × Data) → List ℕ
+behind_text [] = []
+behind_text (field ∷ fields) = 44 ∷ (quoted field.0 ++ 58 ∷ (compact_text field.1 ++ behind_text fields))
+
+-- the members of a line behind these
+abbrev pub members_behind : LineView → List (List ℕ × Data)
+members_behind l =
     (codes "new_ops", list_data op_data l.new_ops) ∷
     (codes "new_resources", list_data resource_data l.new_resources) ∷
     (codes "new_tasks", list_data info_data l.new_tasks) ∷
@@ -205,7 +222,11 @@ line_members l =
     (codes "seq", number_data l.seq) ∷
     (codes "snapshot", boolean l.snapshot) ∷
     (codes "task_stats", list_data stats_data l.task_stats) ∷
-    (codes "v", number_data version) ∷ []
+    (codes "v", number_data (version l)) ∷ []
+
+-- the members of a line
+abbrev pub line_members : LineView → List (List ℕ × Data)
+line_members l = (codes "dropped", dropped_data l.dropped) ∷ gone_members l.gone ++ members_behind l
 
 -- a line
 unfoldable pub line_data : LineView → Data

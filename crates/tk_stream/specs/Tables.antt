@@ -1,6 +1,6 @@
 -- What tables hold, and what their calls make of it.
-use Rattle.std.specs.Prelude.{ℕ, zero, suc, ◌==◌, nat_eq, List, [], ◌∷◌, ◌++◌, map, find, take, Option, if◌then◌else◌}
-use Rattle.std.specs.List.{IsDistinct, AllByRecursion}
+use Rattle.std.specs.Prelude.{ℕ, zero, suc, ◌==◌, nat_eq, List, [], ◌∷◌, ◌++◌, map, find, filter, take, not, Bool, Option, if◌then◌else◌}
+use Rattle.std.specs.List.{IsDistinct, AllByRecursion, list_any}
 use Rattle.std.specs.Option.{option_map_or}
 use Rattle.tk_core.specs.declared.op.row.OpRow.{OpRow}
 use Rattle.tk_core.specs.declared.resource.row.ResourceRow.{ResourceRow}
@@ -124,6 +124,26 @@ with_op_row ops i row = changed_at (λ (o : Op). record o { row = row }) ops i
 abbrev pub put_item : {Item : Type 0} → (Item → ℕ) → Item → List Item → List Item
 put_item id_of new [] = new ∷ []
 put_item id_of new (x ∷ xs) = if id_of new == id_of x then new ∷ xs else x ∷ put_item id_of new xs
+
+-- whether an id is among these
+abbrev pub is_among : List ℕ → ℕ → Bool
+is_among ids id = list_any (λ n. id == n) ids
+
+-- the items that stay where those of these ids leave. They keep their order
+abbrev pub staying : {Item : Type 0} → (Item → ℕ) → List ℕ → List Item → List Item
+staying id_of gone items = filter (λ item. not (is_among gone (id_of item))) items
+
+-- the tables without a task
+abbrev pub without_task : TablesView → ℕ → TablesView
+without_task tables id = record tables { tasks = staying task_id (id ∷ []) tables.tasks }
+
+-- the tables without a resource
+abbrev pub without_resource : TablesView → ℕ → TablesView
+without_resource tables id = record tables { resources = staying resource_id (id ∷ []) tables.resources }
+
+-- the tables without an async operation
+abbrev pub without_op : TablesView → ℕ → TablesView
+without_op tables id = record tables { ops = staying op_id (id ∷ []) tables.ops }
 
 -- the tables with the poll counts of a resource
 abbrev pub with_counts : TablesView → ℕ → ℕ → ℕ → TablesView

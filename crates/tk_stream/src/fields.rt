@@ -53,7 +53,7 @@ fn op_id(value: u64) -> Option<AsyncOpId>
     }
 }
 
-fn task_id_of(value: &Value) -> Option<TaskId>
+pub(crate) fn task_id_of(value: &Value) -> Option<TaskId>
     ensures { result ≡ spec.id_of (view value.now) }
 {
     task_id(value.as_u64()?)
@@ -65,7 +65,7 @@ pub(crate) fn resource_id_of(value: &Value) -> Option<ResourceId>
     resource_id(value.as_u64()?)
 }
 
-fn op_id_of(value: &Value) -> Option<AsyncOpId>
+pub(crate) fn op_id_of(value: &Value) -> Option<AsyncOpId>
     ensures { result ≡ spec.id_of (view value.now) }
 {
     op_id(value.as_u64()?)

@@ -5,8 +5,8 @@ ghost use Rattle.tk_core.specs.declared.resource.row.ResourceRow.{ResourceRow};
 ghost use Rattle.tk_core.specs.declared.task.row.TaskRow.{TaskRow};
 ghost use Rattle.tk_stream.specs.Rows.{same_row, same_resource_row, same_op_row, same_counts};
 ghost use Rattle.tk_stream.specs.Tables.{TablesView, PollCounts, AreDistinct, AreFit, empty_tables};
-ghost use Rattle.tk_stream.specs.Applied.{GoOn, tables_after};
-ghost use Rattle.tk_stream.specs.Lines.{LineView, line_between, snapshot_of, TellsAll, TellsNothing};
+ghost use Rattle.tk_stream.specs.Applied.{GoOn, what_stays, tables_after};
+ghost use Rattle.tk_stream.specs.Lines.{LineView, line_between, snapshot_of, gone_between, with_gone, TellsAll, TellsNothing};
 ghost use Rattle.tk_stream.specs.Ranges.{IsLine};
 ghost use Rattle.tk_stream.specs.Reading.{line_of_text};
 ghost use Rattle.tk_stream.specs.Spelling.{line_text};
@@ -29,11 +29,13 @@ pub fn unchanged_tables_are_not_told()
     ensures { (tables : TablesView) (seq : ℕ) → AreDistinct tables → TellsNothing (line_between tables tables seq) }
 {}
 
-/// The line that leads from old tables to new ones makes the new ones of the old ones, and a snapshot line makes them of
-/// empty ones.
+/// The line that leads from old tables to new ones makes the new ones of the old ones, also where it says what is gone, and a
+/// snapshot line makes them of empty ones.
 pub fn lines_lead_on()
     ensures between { (old new : TablesView) (seq : ℕ) → AreFit old → AreFit new → GoOn old new
         → tables_after old (line_between old new seq) ≡ Some new }
+    ensures less { (old new : TablesView) (seq : ℕ) → AreFit old → AreFit new → GoOn (what_stays old new) new
+        → tables_after old (with_gone (gone_between old new) (line_between old new seq)) ≡ Some new }
     ensures snapshot { (tables : TablesView) (seq : ℕ) → AreFit tables
         → tables_after empty_tables (snapshot_of tables seq) ≡ Some tables }
 {}

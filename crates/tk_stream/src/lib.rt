@@ -14,6 +14,7 @@ mod between;
 mod counts;
 mod error;
 mod fields;
+mod gone;
 mod item;
 pub mod laws;
 mod line;

@@ -34,6 +34,7 @@ ghost use Rattle.tk_stream.specs.Ranges as ranges;
 
 use crate::between::{infos_behind, new_infos, stats_beside, told_stats};
 use crate::error::LineError;
+use crate::gone::{Gone, gone_of, put_gone, see_gone, take_gone};
 use crate::pieces::{put_flag, put_number, put_text};
 use crate::putting::put_list;
 use crate::ranged::{see_all, see_number, see_totals};
@@ -63,6 +64,8 @@ const ROW_ROOM: usize = 384;
 #[derive(Debug, Drop)]
 pub struct Line {
     dropped: Dropped,
+    // What is gone, in version 2.
+    gone: Option<Gone>,
     new_ops: Vec<OpInfo>,
     new_resources: Vec<ResourceInfo>,
     new_tasks: Vec<TaskInfo>,
@@ -84,6 +87,7 @@ impl Model for Line {
 
     ghost view = { λ l. record {
       dropped = l.dropped;
+      gone = l.gone;
       new_ops = l.new_ops.items;
       new_resources = l.new_resources.items;
       new_tasks = l.new_tasks.items;
@@ -98,6 +102,7 @@ impl Model for Line {
 
     ghost invariant = { λ l. IsLine (record {
       dropped = l.dropped;
+      gone = l.gone;
       new_ops = l.new_ops.items;
       new_resources = l.new_resources.items;
       new_tasks = l.new_tasks.items;
@@ -152,6 +157,7 @@ impl Line {
         see_stats(&op_stats, &poll_counts, &resource_stats, &task_stats);
         Ok(Line {
             dropped,
+            gone: None,
             new_ops,
             new_resources,
             new_tasks,
@@ -193,6 +199,7 @@ impl Line {
         see_stats(&op_stats, &poll_counts, &resource_stats, &task_stats);
         Ok(Line {
             dropped,
+            gone: None,
             new_ops,
             new_resources,
             new_tasks,
@@ -255,6 +262,7 @@ impl Line {
         ensures { OnOk result (Puts out.old.items out.new.items (spec.line_text self.now)) }
     {
         put_dropped(out, b"{\"dropped\":", self.dropped)?;
+        put_gone(out, &self.gone)?;
         put_list(out, b",\"new_ops\":", self.new_ops.as_slice())?;
         put_list(out, b",\"new_resources\":", self.new_resources.as_slice())?;
         put_list(out, b",\"new_tasks\":", self.new_tasks.as_slice())?;
@@ -265,7 +273,7 @@ impl Line {
         put_number(out, b",\"seq\":", self.seq)?;
         put_flag(out, b",\"snapshot\":", self.snapshot)?;
         put_list(out, b",\"task_stats\":", self.task_stats.as_slice())?;
-        put_number(out, b",\"v\":", 1)?;
+        put_number(out, b",\"v\":", self.version())?;
         put_text(out, b"}")?;
         Ok(())
     }
@@ -275,6 +283,36 @@ impl Line {
         ensures { result ≡ self.now.dropped }
     {
         self.dropped
+    }
+
+    /// The ids of the async operations that are gone, in the order of the tables before. In version 1 there are none.
+    pub fn gone_ops(&self) -> &[AsyncOpId]
+        ensures { result.now ≡ (lines.gone_of self.now).ops }
+    {
+        match &self.gone {
+            Some(gone) => gone.ops.as_slice(),
+            None => &[],
+        }
+    }
+
+    /// The ids of the resources that are gone, in the order of the tables before. In version 1 there are none.
+    pub fn gone_resources(&self) -> &[ResourceId]
+        ensures { result.now ≡ (lines.gone_of self.now).resources }
+    {
+        match &self.gone {
+            Some(gone) => gone.resources.as_slice(),
+            None => &[],
+        }
+    }
+
+    /// The ids of the tasks that are gone, in the order of the tables before. In version 1 there are none.
+    pub fn gone_tasks(&self) -> &[TaskId]
+        ensures { result.now ≡ (lines.gone_of self.now).tasks }
+    {
+        match &self.gone {
+            Some(gone) => gone.tasks.as_slice(),
+            None => &[],
+        }
     }
 
     /// The infos of the async operations that are new, in order of arrival.
@@ -382,11 +420,11 @@ impl Line {
         let _dropped = &self.dropped;
     }
 
-    /// The version of the line's format.
+    /// The version of the line's format: 2 where it says what is gone, and otherwise 1.
     pub fn version(&self) -> u64
-        ensures { result ≡ lines.version }
+        ensures { result ≡ lines.version self.now }
     {
-        1
+        version_of(&self.gone)
     }
 }
 
@@ -447,6 +485,7 @@ fn line_of(alloc: Global, value: &Value) -> Result<Line, LineError>
     let Some(parts) = LineParts::of(value) else {
         return Err(LineError::BadShape);
     };
+    let gone = gone_of(alloc, &parts.gone)?;
     let new_ops = list_of(alloc, parts.new_ops)?;
     let new_resources = list_of(alloc, parts.new_resources)?;
     let new_tasks = list_of(alloc, parts.new_tasks)?;
@@ -455,10 +494,12 @@ fn line_of(alloc: Global, value: &Value) -> Result<Line, LineError>
     let resource_stats = list_of(alloc, parts.resource_stats)?;
     let task_stats = list_of(alloc, parts.task_stats)?;
     see_numbers(parts.dropped, parts.now);
+    see_gone(&gone);
     see_new_items(&new_ops, &new_resources, &new_tasks);
     see_stats(&op_stats, &poll_counts, &resource_stats, &task_stats);
     Ok(Line {
         dropped: parts.dropped,
+        gone,
         new_ops,
         new_resources,
         new_tasks,
@@ -494,6 +535,7 @@ fn take_line(alloc: Global, bytes: &[u8]) -> Result<Option<Line>, AllocError>
     ensures { IfOk result (λ o. IfSome o (λ line. Takes bytes.now (spec.line_text line) [])) }
 {
     let (dropped, rest) = some_of!(take_dropped(bytes, b"{\"dropped\":"));
+    let (gone, rest) = some_of!(take_gone(alloc, rest)?);
     let (new_ops, rest) = some_of!(take_list(alloc, rest, b",\"new_ops\":[")?);
     let (new_resources, rest) = some_of!(take_list(alloc, rest, b",\"new_resources\":[")?);
     let (new_tasks, rest) = some_of!(take_list(alloc, rest, b",\"new_tasks\":[")?);
@@ -504,18 +546,24 @@ fn take_line(alloc: Global, bytes: &[u8]) -> Result<Option<Line>, AllocError>
     let (seq, rest) = some_of!(take_number(rest, b",\"seq\":"));
     let (snapshot, rest) = some_of!(take_flag(rest, b",\"snapshot\":"));
     let (task_stats, rest) = some_of!(take_list(alloc, rest, b",\"task_stats\":[")?);
-    let rest = some_of!(take_text(rest, b",\"v\":1}"));
+    let (number, rest) = some_of!(take_number(rest, b",\"v\":"));
+    let rest = some_of!(take_text(rest, b"}"));
     if rest.len() > 0 {
+        return Ok(None);
+    }
+    if number != version_of(&gone) {
         return Ok(None);
     }
     if !is_seq(seq) {
         return Ok(None);
     }
     see_numbers(dropped, moment);
+    see_gone(&gone);
     see_new_items(&new_ops, &new_resources, &new_tasks);
     see_stats(&op_stats, &poll_counts, &resource_stats, &task_stats);
     Ok(Some(Line {
         dropped,
+        gone,
         new_ops,
         new_resources,
         new_tasks,
@@ -527,6 +575,13 @@ fn take_line(alloc: Global, bytes: &[u8]) -> Result<Option<Line>, AllocError>
         snapshot,
         task_stats,
     }))
+}
+
+// The version of a line with this.
+fn version_of(gone: &Option<Gone>) -> u64
+    ensures { result ≡ lines.version_with gone.now }
+{
+    if gone.is_some() { 2 } else { 1 }
 }
 
 fn is_seq(seq: u64) -> bool

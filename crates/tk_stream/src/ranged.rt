@@ -133,6 +133,38 @@ pub(crate) fn see_totals(dropped: Dropped)
     see_number(dropped.ops);
 }
 
+// ---- ids
+
+impl Ranged for TaskId {
+    ghost use Rattle.tk_stream.specs.Ranges.{IsId};
+
+    ghost in_range = { IsId };
+
+    fn see(&self) {
+        see_task_id(*self);
+    }
+}
+
+impl Ranged for ResourceId {
+    ghost use Rattle.tk_stream.specs.Ranges.{IsId};
+
+    ghost in_range = { IsId };
+
+    fn see(&self) {
+        see_resource_id(*self);
+    }
+}
+
+impl Ranged for AsyncOpId {
+    ghost use Rattle.tk_stream.specs.Ranges.{IsId};
+
+    ghost in_range = { IsId };
+
+    fn see(&self) {
+        see_op_id(*self);
+    }
+}
+
 // ---- attributes
 
 impl Ranged for AttrInfo {

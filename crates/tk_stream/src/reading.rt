@@ -49,17 +49,52 @@ fn seq_at(value: &Value, key: &str) -> Option<u64>
     }
 }
 
-fn version_at(value: &Value, key: &str) -> Option<u64>
-    ensures { result ≡ spec.version_at key.now (view value.now) }
+/// The lists of what is gone, before they are read.
+#[derive(Drop)]
+pub(crate) struct GoneParts<'v> {
+    pub(crate) ops: &'v [Value],
+    pub(crate) resources: &'v [Value],
+    pub(crate) tasks: &'v [Value],
+}
+
+fn gone_lists(value: &Value) -> Option<GoneParts<'_>>
+    ensures { option_map (λ g. record { ops = map view g.ops.now; resources = map view g.resources.now; tasks = map view g.tasks.now }) result
+        ≡ spec.gone_lists (view value.now) }
 {
-    let version = number_at(value, key)?;
-    if version == 1 { Some(version) } else { None }
+    let ops = list_at(value, "gone_ops")?;
+    let resources = list_at(value, "gone_resources")?;
+    let tasks = list_at(value, "gone_tasks")?;
+    Some(GoneParts {
+        ops,
+        resources,
+        tasks,
+    })
+}
+
+// What is gone by the version of the format, which has so many keys.
+#[tactic(auto, unfolding(crate::specs::Reading::gone_at))]
+fn gone_at(version: u64, value: &Value) -> Option<Option<GoneParts<'_>>>
+    ensures { option_map (λ o. option_map (λ g. record { ops = map view g.ops.now; resources = map view g.resources.now; tasks = map view g.tasks.now }) o) result
+        ≡ spec.gone_at version (view value.now) }
+{
+    if version == 1 {
+        if has_members(value, 12) {
+            Some(None)
+        } else {
+            None
+        }
+    } else if version == 2 && has_members(value, 15) {
+        Some(Some(gone_lists(value)?))
+    } else {
+        None
+    }
 }
 
 /// The numbers of a line, and its lists before they are read.
 #[derive(Drop)]
 pub(crate) struct LineParts<'v> {
     pub(crate) dropped: Dropped,
+    pub(crate) gone: Option<GoneParts<'v>>,
     pub(crate) new_ops: &'v [Value],
     pub(crate) new_resources: &'v [Value],
     pub(crate) new_tasks: &'v [Value],
@@ -79,6 +114,7 @@ impl<'v> LineParts<'v> {
     pub(crate) fn of(value: &'v Value) -> Option<LineParts<'v>>
         ensures parts { option_map (λ p. record {
           dropped = p.dropped;
+          gone = option_map (λ g. record { ops = map view g.ops.now; resources = map view g.resources.now; tasks = map view g.tasks.now }) p.gone;
           new_ops = map view p.new_ops.now;
           new_resources = map view p.new_resources.now;
           new_tasks = map view p.new_tasks.now;
@@ -92,9 +128,8 @@ impl<'v> LineParts<'v> {
         }) result ≡ parts_of (view value.now) }
         ensures seq { IfSome result (λ p. is_seq p.seq ≡ true) }
     {
-        if !has_members(value, 12) {
-            return None;
-        }
+        let version = number_at(value, "v")?;
+        let gone = gone_at(version, value)?;
         let dropped = dropped_in(list_at(value, "dropped")?)?;
         let new_ops = list_at(value, "new_ops")?;
         let new_resources = list_at(value, "new_resources")?;
@@ -106,9 +141,9 @@ impl<'v> LineParts<'v> {
         let seq = seq_at(value, "seq")?;
         let snapshot = flag_at(value, "snapshot")?;
         let task_stats = list_at(value, "task_stats")?;
-        version_at(value, "v")?;
         Some(LineParts {
             dropped,
+            gone,
             new_ops,
             new_resources,
             new_tasks,

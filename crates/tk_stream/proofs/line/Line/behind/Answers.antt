@@ -1,4 +1,4 @@
-use Rattle.std.proofs.Common.{ap, ap₂, sym, ◌∙◌}
+use Rattle.std.proofs.Common.{None, ap, ap₂, sym, ◌∙◌}
 use Rattle.tk_stream.specs.Fronts.{ToldView, told_tables}
 use Rattle.tk_stream.specs.Lines.{line_between}
 use Rattle.tk_stream.specs.Tables.{TablesView}
@@ -8,6 +8,7 @@ pub returns-clause-ok : goal.returns-clause-ok
 returns-clause-ok c =
     (λ i. record {
       dropped = (c.dropped-dropped.ensures ∙ ap (λ (v : TablesView). v.dropped) (sym c.tables.view_is)) i;
+      gone = None;
       new_ops = c.in_ok-new_ops.ensures i;
       new_resources = c.in_ok-new_resources.ensures i;
       new_tasks = c.in_ok-new_tasks.ensures i;

@@ -1,0 +1,241 @@
+//! Which items a line says are gone.
+ghost use Rattle.std.specs.Prelude.{◌≡◌, ◌++◌, map, option_map, IfOk, IfSome, OnOk};
+ghost use Rattle.serde_json.specs.View.{view};
+ghost use Rattle.tk_stream.specs.Behind.{Puts, Takes};
+ghost use Rattle.tk_stream.specs.Outcome.{Answers, shaped};
+ghost use Rattle.tk_stream.specs.Ranges as ranges;
+ghost use Rattle.tk_stream.specs.Reading as reading;
+ghost use Rattle.tk_stream.specs.Spelling as spec;
+
+use crate::error::LineError;
+use crate::fields::{op_id_of, resource_id_of, task_id_of};
+use crate::pieces::put_number;
+use crate::putting::{Written, put_list};
+use crate::ranged::{Ranged, see_all};
+use crate::reading::GoneParts;
+use crate::shaped::{Shaped, list_of};
+use crate::takes::{op_id, resource_id, take_number, take_text, task_id};
+use crate::taking::{Taken, some_of, take_list};
+use serde_json::Value;
+use std::alloc::{AllocError, Global};
+use std::marker::Model;
+use tk_ids::{AsyncOpId, ResourceId, TaskId};
+
+/// The ids of the items that are gone, each list in the order of the tables before.
+#[derive(Debug, Drop)]
+pub(crate) struct Gone {
+    pub(crate) ops: Vec<AsyncOpId>,
+    pub(crate) resources: Vec<ResourceId>,
+    pub(crate) tasks: Vec<TaskId>,
+}
+
+impl Model for Gone {
+    ghost use Rattle.tk_stream.specs.Lines.{GoneView};
+
+    ghost Value = { GoneView };
+
+    ghost view = { λ g. record { ops = g.ops.items; resources = g.resources.items; tasks = g.tasks.items } };
+}
+
+// ---- ids in lines
+
+impl Written for TaskId {
+    ghost use Rattle.tk_stream.specs.Spelling.{number_data};
+
+    ghost spelling = { number_data };
+
+    fn write(&self, out: &mut Vec<u8>) -> Result<(), AllocError> {
+        put_number(out, b"", self.value())
+    }
+}
+
+impl Written for ResourceId {
+    ghost use Rattle.tk_stream.specs.Spelling.{number_data};
+
+    ghost spelling = { number_data };
+
+    fn write(&self, out: &mut Vec<u8>) -> Result<(), AllocError> {
+        put_number(out, b"", self.value())
+    }
+}
+
+impl Written for AsyncOpId {
+    ghost use Rattle.tk_stream.specs.Spelling.{number_data};
+
+    ghost spelling = { number_data };
+
+    fn write(&self, out: &mut Vec<u8>) -> Result<(), AllocError> {
+        put_number(out, b"", self.value())
+    }
+}
+
+impl Taken for TaskId {
+    ghost use Rattle.tk_stream.specs.Spelling.{number_data};
+
+    ghost spelling = { number_data };
+
+    fn take(_alloc: Global, bytes: &[u8]) -> Result<Option<(TaskId, &[u8])>, AllocError> {
+        let (number, rest) = some_of!(take_number(bytes, b""));
+        let id = some_of!(task_id(number));
+        Ok(Some((id, rest)))
+    }
+}
+
+impl Taken for ResourceId {
+    ghost use Rattle.tk_stream.specs.Spelling.{number_data};
+
+    ghost spelling = { number_data };
+
+    fn take(_alloc: Global, bytes: &[u8]) -> Result<Option<(ResourceId, &[u8])>, AllocError> {
+        let (number, rest) = some_of!(take_number(bytes, b""));
+        let id = some_of!(resource_id(number));
+        Ok(Some((id, rest)))
+    }
+}
+
+impl Taken for AsyncOpId {
+    ghost use Rattle.tk_stream.specs.Spelling.{number_data};
+
+    ghost spelling = { number_data };
+
+    fn take(_alloc: Global, bytes: &[u8]) -> Result<Option<(AsyncOpId, &[u8])>, AllocError> {
+        let (number, rest) = some_of!(take_number(bytes, b""));
+        let id = some_of!(op_id(number));
+        Ok(Some((id, rest)))
+    }
+}
+
+impl Shaped for TaskId {
+    ghost use Rattle.tk_stream.specs.Reading.{id_of as shape_of_id};
+
+    ghost shape = { shape_of_id };
+
+    fn of_value(_alloc: Global, value: &Value) -> Result<TaskId, LineError> {
+        match task_id_of(value) {
+            Some(id) => Ok(id),
+            None => Err(LineError::BadShape),
+        }
+    }
+}
+
+impl Shaped for ResourceId {
+    ghost use Rattle.tk_stream.specs.Reading.{id_of as shape_of_id};
+
+    ghost shape = { shape_of_id };
+
+    fn of_value(_alloc: Global, value: &Value) -> Result<ResourceId, LineError> {
+        match resource_id_of(value) {
+            Some(id) => Ok(id),
+            None => Err(LineError::BadShape),
+        }
+    }
+}
+
+impl Shaped for AsyncOpId {
+    ghost use Rattle.tk_stream.specs.Reading.{id_of as shape_of_id};
+
+    ghost shape = { shape_of_id };
+
+    fn of_value(_alloc: Global, value: &Value) -> Result<AsyncOpId, LineError> {
+        match op_id_of(value) {
+            Some(id) => Ok(id),
+            None => Err(LineError::BadShape),
+        }
+    }
+}
+
+impl Gone {
+    ghost use Rattle.tk_stream.specs.Ranges.{IsGone};
+
+    /// Its ids are in the range of ids.
+    pub(crate) fn see(&self)
+        ensures { IsGone self.now }
+    {
+        see_all(&self.ops);
+        see_all(&self.resources);
+        see_all(&self.tasks);
+    }
+}
+
+/// The ids of what is gone, where a line says it, are in the range of ids.
+pub(crate) fn see_gone(gone: &Option<Gone>)
+    ensures { IfSome gone.now ranges.IsGone }
+{
+    match gone {
+        Some(gone) => gone.see(),
+        None => {}
+    }
+}
+
+/// The lists of what is gone, where a line says it, behind another member.
+pub(crate) fn put_gone(out: &mut Vec<u8>, gone: &Option<Gone>) -> Result<(), AllocError>
+    ensures { OnOk result (Puts out.old.items out.new.items (spec.behind_text (spec.gone_members gone.now))) }
+{
+    match gone {
+        Some(gone) => put_lists(out, gone),
+        None => Ok(()),
+    }
+}
+
+fn put_lists(out: &mut Vec<u8>, gone: &Gone) -> Result<(), AllocError>
+    ensures { OnOk result (Puts out.old.items out.new.items (spec.behind_text (spec.gone_fields gone.now))) }
+{
+    put_list(out, b",\"gone_ops\":", gone.ops.as_slice())?;
+    put_list(out, b",\"gone_resources\":", gone.resources.as_slice())?;
+    put_list(out, b",\"gone_tasks\":", gone.tasks.as_slice())?;
+    Ok(())
+}
+
+/// The lists of what is gone, where they come next.
+pub(crate) fn take_gone(
+    alloc: Global,
+    bytes: &[u8],
+) -> Result<Option<(Option<Gone>, &[u8])>, AllocError>
+    ensures { IfOk result (λ o. IfSome o (λ x. Takes bytes.now (spec.behind_text (spec.gone_members x.0)) x.1.now)) }
+{
+    if take_text(bytes, b",\"gone_ops\":").is_none() {
+        return Ok(Some((None, bytes)));
+    }
+    let (gone, rest) = some_of!(take_lists(alloc, bytes)?);
+    Ok(Some((Some(gone), rest)))
+}
+
+fn take_lists(alloc: Global, bytes: &[u8]) -> Result<Option<(Gone, &[u8])>, AllocError>
+    ensures { IfOk result (λ o. IfSome o (λ x. Takes bytes.now (spec.behind_text (spec.gone_fields x.0)) x.1.now)) }
+{
+    let (ops, rest) = some_of!(take_list(alloc, bytes, b",\"gone_ops\":[")?);
+    let (resources, rest) = some_of!(take_list(alloc, rest, b",\"gone_resources\":[")?);
+    let (tasks, rest) = some_of!(take_list(alloc, rest, b",\"gone_tasks\":[")?);
+    let gone = Gone {
+        ops,
+        resources,
+        tasks,
+    };
+    Ok(Some((gone, rest)))
+}
+
+fn ids_gone(alloc: Global, parts: &GoneParts<'_>) -> Result<Gone, LineError>
+    ensures { Answers (λ gone. gone) result (shaped (reading.ids_gone (record { ops = map view parts.now.ops.now; resources = map view parts.now.resources.now; tasks = map view parts.now.tasks.now }))) }
+{
+    let ops = list_of(alloc, parts.ops)?;
+    let resources = list_of(alloc, parts.resources)?;
+    let tasks = list_of(alloc, parts.tasks)?;
+    Ok(Gone {
+        ops,
+        resources,
+        tasks,
+    })
+}
+
+/// The ids of what is gone, where a line says it.
+pub(crate) fn gone_of(
+    alloc: Global,
+    parts: &Option<GoneParts<'_>>,
+) -> Result<Option<Gone>, LineError>
+    ensures { Answers (λ gone. gone) result (shaped (reading.gone_of_parts (option_map (λ g. record { ops = map view g.ops.now; resources = map view g.resources.now; tasks = map view g.tasks.now }) parts.now))) }
+{
+    match parts {
+        Some(parts) => Ok(Some(ids_gone(alloc, parts)?)),
+        None => Ok(None),
+    }
+}
