@@ -8,12 +8,13 @@ use Rattle.tk_stream.specs.declared.resource.Resource.{Resource}
 use Rattle.tk_stream.specs.declared.task.Task.{Task}
 use Rattle.tk_stream.specs.Lines.{LineView, is_new}
 use Rattle.tk_stream.specs.Applied.{Kind, task_kind, resource_kind, op_kind, told_item, new_items, counts_after, tables_after}
-use Rattle.tk_stream.specs.Tables.{TablesView, counts_id, AreDistinct}
+use Rattle.tk_stream.specs.Tables.{TablesView, task_id, resource_id, op_id, counts_id, AreDistinct}
+use Rattle.tk_stream.proofs.GoneLemmas.{staying_all}
 use Rattle.tk_client.specs.declared.fault.Fault.{Fault}
 use Rattle.tk_client.specs.declared.fault.Fault.TheVariants.{Memory, BadJson, BadShape, Gap, UnknownId, Repeated, TooLong, Misfit, Failed}
 use Rattle.tk_client.specs.declared.taking.Finding.{Finding}
-use Rattle.tk_client.specs.Taking.{has_twice, has_id, repeats_kind, strange_kind, fits_resource, fits_op, are_fitting, fitting, repeats_id, has_strange_id, line_applied}
-use Rattle.tk_client.specs.Told.{finding, worse, has_info, Fails, info_id_by, stats_id_by, is_stranger, fits_told, or_misfit, tables_grown, tables_told, AreCounted, TellsOnce}
+use Rattle.tk_client.specs.Taking.{has_twice, has_id, repeats_kind, strange_kind, fits_resource, fits_op, are_fitting, fitting, repeats_told, strange_told, repeats_id, has_strange_id, line_applied}
+use Rattle.tk_client.specs.Told.{finding, worse, has_info, Fails, info_id_by, stats_id_by, is_stranger, fits_told, or_misfit, tables_grown, tables_told, AreCounted, TellsOnce, told_part}
 use Rattle.tk_client.proofs.IdLemmas.{any-has}
 use Rattle.tk_client.proofs.FitLemmas.{rests, list_all-append, fit-told, old-rests, new-rests, new-told}
 use Rattle.tk_client.proofs.CountLemmas.{are-counted, counts-grown}
@@ -42,7 +43,7 @@ new-decide k items infos ids stats same none once =
     or-false true = refl
     or-false false = refl
 
-worse-of : (a b c d : Bool) → worse (finding a b) (finding c d) ≡ finding (a || c) (b || d)
+pub worse-of : (a b c d : Bool) → worse (finding a b) (finding c d) ≡ finding (a || c) (b || d)
 worse-of true b c d = refl
 worse-of false true true d = refl
 worse-of false true false true = refl
@@ -59,8 +60,8 @@ worst a b c d e f g =
     or-false true = refl
     or-false false = refl
 
--- a line that repeats no id
-pub tells-once : (old : TablesView) (l : LineView) → repeats_id old l ≡ false → TellsOnce l
+-- a line that tells of no id twice
+pub tells-once : (old : TablesView) (l : LineView) → repeats_told old l ≡ false → TellsOnce l
 tells-once old l none =
     let p = or_parts (repeats_kind task_kind old.tasks l.new_tasks l.task_stats) _ none in
     let q = or_parts (repeats_kind resource_kind old.resources l.new_resources l.resource_stats) _ p.1 in
@@ -118,21 +119,21 @@ parts old l g e =
         ok-same q = cc
 
 -- no tables where one of the new items has nothing told of it
-misfit : (old : TablesView) (l : LineView) (fault : Fault) → or_misfit (tables_grown old l) ≡ Err fault → fitting (tables_after old l) ≡ Err fault
+misfit : (old : TablesView) (l : LineView) (fault : Fault) → or_misfit (tables_grown old l) ≡ Err fault → fitting (tables_after old (told_part l)) ≡ Err fault
 misfit old l fault e =
     by (new_items task_kind l.task_stats l.new_tasks) (new_items resource_kind l.resource_stats l.new_resources) (new_items op_kind l.op_stats l.new_ops) refl refl refl e
   where
     by : (ts : Option (List Task)) (rs : Option (List Resource)) (os : Option (List Op)) → new_items task_kind l.task_stats l.new_tasks ≡ ts → new_items resource_kind l.resource_stats l.new_resources ≡ rs
-        → new_items op_kind l.op_stats l.new_ops ≡ os → or_misfit (grown_of old l ts rs os) ≡ Err fault → fitting (tables_after old l) ≡ Err fault
+        → new_items op_kind l.op_stats l.new_ops ≡ os → or_misfit (grown_of old l ts rs os) ≡ Err fault → fitting (tables_after old (told_part l)) ≡ Err fault
     by None rs os t r o h = rw t h
     by (Some ts) None os t r o h = rw (t, r) h
     by (Some ts) (Some rs) None t r o h = rw (t, r, o) h
     by (Some ts) (Some rs) (Some os) t r o h = absurd (cc)
 
 -- telling all of the grown tables makes the tables after the line
-after-grown : (old : TablesView) (l : LineView) (g : TablesView) → has_twice (map counts_id l.poll_counts) ≡ false → Parts old l g → tables_after old l ≡ Some (tables_told g l)
+after-grown : (old : TablesView) (l : LineView) (g : TablesView) → has_twice (map counts_id l.poll_counts) ≡ false → Parts old l g → tables_after old (told_part l) ≡ Some (tables_told g l)
 after-grown old l g once p =
-    rw (p.new_tasks, p.new_resources, p.new_ops) (ap Some (λ i. record {
+    rw (p.new_tasks, p.new_resources, p.new_ops, staying_all task_id old.tasks, staying_all resource_id old.resources, staying_all op_id old.ops) (ap Some (λ i. record {
       tasks = sym (ap (λ (v : TablesView). map (told_item task_kind l.task_stats) v.tasks) p.grown ∙ map-append (told_item task_kind l.task_stats) old.tasks p.tasks
           ∙ ap (λ xs. map (told_item task_kind l.task_stats) old.tasks ++ xs) (new-told task_kind (λ _. true) (λ info s. refl) (λ info s. refl) l.task_stats l.new_tasks p.tasks p.new_tasks)) i;
       resources = sym (ap (λ (v : TablesView). map (told_item resource_kind l.resource_stats) v.resources) p.grown ∙ map-append (told_item resource_kind l.resource_stats) old.resources p.resources
@@ -162,27 +163,27 @@ fit-grown old l g fit once distinct p =
 -- ---- a line
 
 -- the tests that a line that is taken has passed
-pub grown-fits : (old : TablesView) (l : LineView) (g : TablesView) → repeats_id old l ≡ false → has_strange_id old l ≡ false → are_fitting old ≡ true → AreDistinct g → or_misfit (tables_grown old l) ≡ Ok g
-    → (list_all (fits_told resource_kind fits_resource g.resources) l.resource_stats && list_all (fits_told op_kind fits_op g.ops) l.op_stats) ≡ true → line_applied old l ≡ Ok (tables_told g l)
+pub grown-fits : (old : TablesView) (l : LineView) (g : TablesView) → repeats_told old l ≡ false → strange_told old l ≡ false → are_fitting old ≡ true → AreDistinct g → or_misfit (tables_grown old l) ≡ Ok g
+    → (list_all (fits_told resource_kind fits_resource g.resources) l.resource_stats && list_all (fits_told op_kind fits_op g.ops) l.op_stats) ≡ true → line_applied old (told_part l) ≡ Ok (tables_told g l)
 unfolding line_applied
 grown-fits old l g none known fit distinct e fits =
     let p = parts old l g e in
     let once = tells-once old l none in
     rw (none, known, after-grown old l g once.counts p, fit-grown old l g fit once distinct p ∙ fits) refl
 
-pub grown-misfits : (old : TablesView) (l : LineView) (g : TablesView) → repeats_id old l ≡ false → has_strange_id old l ≡ false → are_fitting old ≡ true → AreDistinct g → or_misfit (tables_grown old l) ≡ Ok g
-    → (list_all (fits_told resource_kind fits_resource g.resources) l.resource_stats && list_all (fits_told op_kind fits_op g.ops) l.op_stats) ≡ false → line_applied old l ≡ Err Misfit
+pub grown-misfits : (old : TablesView) (l : LineView) (g : TablesView) → repeats_told old l ≡ false → strange_told old l ≡ false → are_fitting old ≡ true → AreDistinct g → or_misfit (tables_grown old l) ≡ Ok g
+    → (list_all (fits_told resource_kind fits_resource g.resources) l.resource_stats && list_all (fits_told op_kind fits_op g.ops) l.op_stats) ≡ false → line_applied old (told_part l) ≡ Err Misfit
 unfolding line_applied
 grown-misfits old l g none known fit distinct e fits =
     let p = parts old l g e in
     let once = tells-once old l none in
     rw (none, known, after-grown old l g once.counts p, fit-grown old l g fit once distinct p ∙ fits) refl
 
-not-grown : (old : TablesView) (l : LineView) (fault : Fault) → repeats_id old l ≡ false → has_strange_id old l ≡ false → or_misfit (tables_grown old l) ≡ Err fault → line_applied old l ≡ Err fault
+not-grown : (old : TablesView) (l : LineView) (fault : Fault) → repeats_told old l ≡ false → strange_told old l ≡ false → or_misfit (tables_grown old l) ≡ Err fault → line_applied old (told_part l) ≡ Err fault
 unfolding line_applied
 not-grown old l fault none known e = rw (none, known) (misfit old l fault e)
 
-pub grown-fails : (old : TablesView) (l : LineView) (fault : Fault) → repeats_id old l ≡ false → has_strange_id old l ≡ false → Fails fault (or_misfit (tables_grown old l)) → Fails fault (line_applied old l)
+pub grown-fails : (old : TablesView) (l : LineView) (fault : Fault) → repeats_told old l ≡ false → strange_told old l ≡ false → Fails fault (or_misfit (tables_grown old l)) → Fails fault (line_applied old (told_part l))
 grown-fails old l Memory none known e = tt
 grown-fails old l BadJson none known e = not-grown old l BadJson none known e
 grown-fails old l BadShape none known e = not-grown old l BadShape none known e

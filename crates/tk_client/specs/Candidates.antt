@@ -27,6 +27,10 @@ places_by test i (x ∷ xs) = if test x then i ∷ places_by test (suc i) xs els
 abbrev pub places_of : List Task → List ℕ
 places_of tasks = places_by can_warn 0 tasks
 
+-- a place, where the task there can be warned of
+abbrev pub listed_at : List Task → ℕ → List ℕ
+listed_at tasks i = option_map_or (λ t. if can_warn t then i ∷ [] else []) (slice_get tasks i) []
+
 -- the warnings of the task at a place
 abbrev pub warnings_at : LintsView → TablesView → ℕ → List Warning
 warnings_at lints tables i = option_map_or (warnings_of lints tables.now) (slice_get tables.tasks i) []

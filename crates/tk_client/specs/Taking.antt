@@ -9,7 +9,7 @@ use Rattle.tk_ids.specs.declared.attr.AttrValue.{AttrValue}
 use Rattle.tk_stream.specs.declared.op.Op.{Op}
 use Rattle.tk_stream.specs.declared.resource.Resource.{Resource}
 use Rattle.tk_stream.specs.Tables.{TablesView, counts_id, item_with}
-use Rattle.tk_stream.specs.Lines.{LineView}
+use Rattle.tk_stream.specs.Lines.{LineView, gone_of}
 use Rattle.tk_stream.specs.Applied.{Kind, task_kind, resource_kind, op_kind, tables_after}
 use Rattle.tk_client.specs.declared.fault.Fault.{Fault}
 use Rattle.tk_client.specs.declared.fault.Fault.TheVariants.{UnknownId, Repeated, Misfit}
@@ -30,6 +30,10 @@ abbrev pub repeats_kind : {Item Info Stats : Type 0} → Kind Item Info Stats �
 repeats_kind k old infos stats =
     list_any (λ info. has_id k.id_of (k.info_id info) old) infos || (has_twice (map k.info_id infos) || has_twice (map k.stats_id stats))
 
+-- of one kind of item, one is gone twice, or is gone and told of
+abbrev pub repeats_gone_kind : {Item Info Stats : Type 0} → Kind Item Info Stats → List ℕ → List Stats → Bool
+repeats_gone_kind k gone stats = has_twice gone || list_any (λ id. has_id k.stats_id id stats) gone
+
 -- of one kind of item, what is told is of an item that is neither there nor new
 abbrev pub is_strange : {Item Info Stats : Type 0} → Kind Item Info Stats → List Item → List Info → Stats → Bool
 is_strange k old infos s = not (has_id k.id_of (k.stats_id s) old || has_id k.info_id (k.stats_id s) infos)
@@ -38,20 +42,47 @@ is_strange k old infos s = not (has_id k.id_of (k.stats_id s) old || has_id k.in
 abbrev pub strange_kind : {Item Info Stats : Type 0} → Kind Item Info Stats → List Item → List Info → List Stats → Bool
 strange_kind k old infos stats = list_any (is_strange k old infos) stats
 
--- the line shows an item as new that is there, or has an id twice in one of its lists
-abbrev pub repeats_id : TablesView → LineView → Bool
-repeats_id old l =
+-- of one kind of item, one is gone that wasn't there
+abbrev pub strange_gone_kind : {Item Info Stats : Type 0} → Kind Item Info Stats → List Item → List ℕ → Bool
+strange_gone_kind k old gone = list_any (λ id. not (has_id k.id_of id old)) gone
+
+-- the line shows an item as new that is there, or has an id twice in one of its lists of what is new, told or counted
+abbrev pub repeats_told : TablesView → LineView → Bool
+repeats_told old l =
     repeats_kind task_kind old.tasks l.new_tasks l.task_stats
     || (repeats_kind resource_kind old.resources l.new_resources l.resource_stats
     || (repeats_kind op_kind old.ops l.new_ops l.op_stats
     || has_twice (map counts_id l.poll_counts)))
 
+-- the line says of an item twice that it is gone, or tells of one that is gone
+abbrev pub repeats_gone : LineView → Bool
+repeats_gone l =
+    repeats_gone_kind task_kind (gone_of l).tasks l.task_stats
+    || (repeats_gone_kind resource_kind (gone_of l).resources l.resource_stats
+    || repeats_gone_kind op_kind (gone_of l).ops l.op_stats)
+
+-- the line repeats an id: of what is gone, or of what is new, told or counted
+abbrev pub repeats_id : TablesView → LineView → Bool
+repeats_id old l = repeats_gone l || repeats_told old l
+
 -- the line tells of an item that is neither there nor new
-abbrev pub has_strange_id : TablesView → LineView → Bool
-has_strange_id old l =
+abbrev pub strange_told : TablesView → LineView → Bool
+strange_told old l =
     strange_kind task_kind old.tasks l.new_tasks l.task_stats
     || (strange_kind resource_kind old.resources l.new_resources l.resource_stats
     || strange_kind op_kind old.ops l.new_ops l.op_stats)
+
+-- the line says of an item that it is gone that wasn't there
+abbrev pub strange_gone : TablesView → LineView → Bool
+strange_gone old l =
+    strange_gone_kind task_kind old.tasks (gone_of l).tasks
+    || (strange_gone_kind resource_kind old.resources (gone_of l).resources
+    || strange_gone_kind op_kind old.ops (gone_of l).ops)
+
+-- the line has the id of an unknown item: of one that is gone and wasn't there, or of one that is told of and is neither
+-- there nor new
+abbrev pub has_strange_id : TablesView → LineView → Bool
+has_strange_id old l = strange_gone old l || strange_told old l
 
 -- ---- attributes
 

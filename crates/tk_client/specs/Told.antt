@@ -2,8 +2,8 @@
 use Rattle.std.specs.Prelude.{◌≡◌, ℕ, ◌+◌, ◌==◌, List, [], ◌∷◌, ◌++◌, length, Bool, true, false, ◌||◌, not, nat_eq, is_some, if◌then◌else◌, map, filter, Option, Some, None, option_map, option_and_then, Result, Ok, Err, refl}
 use Rattle.std.specs.List.{list_any, list_all, IsDistinct}
 use Rattle.std.specs.Option.{option_map_or}
-use Rattle.tk_stream.specs.Applied.{Kind, task_kind, resource_kind, op_kind, told_item, new_items, counts_after}
-use Rattle.tk_stream.specs.Lines.{LineView, is_new}
+use Rattle.tk_stream.specs.Applied.{Kind, task_kind, resource_kind, op_kind, told_item, new_items, counts_after, without_gone}
+use Rattle.tk_stream.specs.Lines.{LineView, GoneView, is_new}
 use Rattle.tk_stream.specs.Places.{place_with}
 use Rattle.tk_stream.specs.Spelling.{line_end}
 use Rattle.tk_stream.specs.Tables.{TablesView, PollCounts, counts_id, item_with, changed_at}
@@ -76,6 +76,18 @@ has_info k items info = has_id k.id_of (k.info_id info) items
 abbrev pub has_told : {Item Info Stats : Type 0} → Kind Item Info Stats → List Item → Stats → Bool
 has_told k items s = has_id k.id_of (k.stats_id s) items
 
+-- whether there is an item of an id
+abbrev pub has_item : {Item Info Stats : Type 0} → Kind Item Info Stats → List Item → ℕ → Bool
+has_item k items id = has_id k.id_of id items
+
+-- an id is of no item
+abbrev pub is_missing : {Item Info Stats : Type 0} → Kind Item Info Stats → List Item → ℕ → Bool
+is_missing k items id = not (has_item k items id)
+
+-- what is told is of an item that is gone
+abbrev pub is_leaving : {Item Info Stats : Type 0} → Kind Item Info Stats → List ℕ → Stats → Bool
+is_leaving k gone s = list_any (λ n. k.stats_id s == n) gone
+
 -- an item with what is told of it
 abbrev pub retold : {Item Info Stats : Type 0} → Kind Item Info Stats → Stats → Item → Item
 retold k s item = k.item_of (k.info_of item) s
@@ -114,6 +126,17 @@ HaveOneId k items = IsDistinct nat_eq (map k.id_of items)
 -- what is told of an item fits it, if the item is there
 abbrev pub fits_told : {Item Info Stats : Type 0} → Kind Item Info Stats → (Item → Bool) → List Item → Stats → Bool
 fits_told k fits items s = option_map_or (λ item. fits (retold k s item)) (item_with k.id_of (k.stats_id s) items) true
+
+-- ---- a line's parts
+
+-- a line as it is without what it says is gone
+abbrev pub told_part : LineView → LineView
+told_part l = record l { gone = None }
+
+-- what was made of tables, of which then these items leave
+abbrev pub left_by : GoneView → Result TablesView Fault → Result TablesView Fault
+left_by gone (Ok tables) = Ok (without_gone tables gone)
+left_by gone (Err fault) = Err fault
 
 -- ---- growth
 

@@ -1,5 +1,6 @@
 //! The tasks that can be warned of, by their places in the tables.
-ghost use Rattle.std.specs.Prelude.{◌≡◌, ◌++◌, IfOk, OnOk};
+ghost use Rattle.std.specs.Prelude.{◌≡◌, ◌++◌, ◌+◌, ◌≤◌, length, IfOk, OnOk};
+ghost use Rattle.std.specs.Vec.{vec_len, vec_capacity};
 ghost use Rattle.tk_client.specs.Candidates as spec;
 ghost use Rattle.tk_client.specs.Warnings.{warnings_in};
 
@@ -20,6 +21,30 @@ pub(crate) fn can_warn(task: &Task) -> bool
     ensures { result ≡ spec.can_warn task.now }
 {
     is_spawn(task.info.kind) && can_hold(&task.row)
+}
+
+// Adds the place of a task that can be warned of.
+fn list_at(places: &mut Vec<usize>, tables: &Tables, place: usize)
+    requires { length (spec.listed_at tables.now.tasks place) + vec_len places.old ≤ vec_capacity places.old }
+    ensures items { places.new.items ≡ places.old.items ++ spec.listed_at tables.now.tasks place }
+    ensures room { vec_capacity places.new ≡ vec_capacity places.old }
+{
+    if let Some(task) = tables.task_at(place)
+        && can_warn(task)
+    {
+        places.push_reserved(place);
+    }
+}
+
+/// Lists the places of the tasks that can be warned of anew, where there is room for them. It walks through all tasks.
+pub(crate) fn list_all(places: &mut Vec<usize>, tables: &Tables)
+    requires { length (spec.places_of tables.now.tasks) ≤ vec_capacity places.old }
+    ensures { places.new.items ≡ spec.places_of tables.now.tasks }
+{
+    places.clear();
+    for place in 0..tables.task_count() {
+        list_at(places, tables, place);
+    }
 }
 
 // Adds the warnings of the task at a place.

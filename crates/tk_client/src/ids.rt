@@ -54,4 +54,19 @@ impl Ids {
     {
         self.set.contains(&id)
     }
+
+    /// The ids, one after the other.
+    pub(crate) fn list(&self) -> &[u64]
+        ensures list { result.now ≡ self.now }
+        ensures once { spec.has_twice self.now ≡ false }
+    {
+        self.set.as_slice()
+    }
+
+    /// The ids as a set.
+    pub(crate) fn set(&self) -> &IndexSet<u64>
+        ensures { result.now.keys ≡ self.now }
+    {
+        &self.set
+    }
 }

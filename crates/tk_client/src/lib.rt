@@ -15,6 +15,7 @@ mod counts;
 mod fault;
 mod ids;
 pub mod laws;
+mod leaving;
 mod lints;
 mod listed;
 mod ops;

@@ -34,6 +34,9 @@ pub(crate) trait Listed: Drop {
     fn has_told(tables: &Tables, stats: &Self::Stats) -> bool
         ensures { result ≡ inner.has_told kind (items tables.now) stats.now };
 
+    fn has_id(tables: &Tables, id: u64) -> bool
+        ensures { result ≡ inner.has_item kind (items tables.now) id };
+
     fn place(tables: &Tables, stats: &Self::Stats) -> Option<usize>
         ensures { result ≡ inner.place_by kind (items tables.now) stats.now };
 

@@ -37,6 +37,10 @@ impl Listed for Op {
         tables.op(stats.0).is_some()
     }
 
+    fn has_id(tables: &Tables, id: u64) -> bool {
+        tables.ops.with_id(id).is_some()
+    }
+
     fn place(tables: &Tables, stats: &(AsyncOpId, OpRow)) -> Option<usize> {
         tables.op_place(stats.0)
     }

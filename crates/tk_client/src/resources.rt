@@ -37,6 +37,10 @@ impl Listed for Resource {
         tables.resource(stats.0).is_some()
     }
 
+    fn has_id(tables: &Tables, id: u64) -> bool {
+        tables.resources.with_id(id).is_some()
+    }
+
     fn place(tables: &Tables, stats: &(ResourceId, ResourceRow)) -> Option<usize> {
         tables.resource_place(stats.0)
     }

@@ -1,16 +1,19 @@
 //! The tables that a client shows, to which lines are applied in place.
 ghost use Rattle.std.specs.Prelude.{◌≡◌, Ok, IfOk, OnErr};
+ghost use Rattle.tk_stream.specs.Applied.{without_gone};
+ghost use Rattle.tk_stream.specs.Lines.{gone_of};
 ghost use Rattle.tk_stream.specs.Tables.{empty_tables};
 ghost use Rattle.tk_client.specs.Meaning.{base_of};
 ghost use Rattle.tk_client.specs.Taking.{line_applied};
 ghost use Rattle.tk_client.specs.Told.{Answers};
 ghost use Rattle.tk_client.specs.Warnings.{warnings_in};
 
-use crate::candidates::warnings_of_places;
+use crate::candidates::{list_all, warnings_of_places};
 use crate::changes::{list_changes, relist};
 use crate::fault::Fault;
+use crate::leaving::Leaving;
 use crate::lints::Lints;
-use crate::taking::apply_line;
+use crate::taking::apply_told;
 use crate::warning::Warning;
 use std::alloc::{AllocError, Global};
 use std::marker::Model;
@@ -74,9 +77,11 @@ impl Shown {
         self.places.clear();
     }
 
-    // Applies a line that is no snapshot. Room for what will change in the list of places is made first.
-    fn go_on(&mut self, alloc: Global, line: &mut Line) -> Result<(), Fault>
-        ensures applied { Answers (λ _. self.new) result (line_applied self.old line.old) }
+    // Applies what a line that is no snapshot tells, where these items are to leave then. Room for what will change in the list of
+    // places is made first.
+    fn tell(&mut self, alloc: Global, line: &mut Line, leaving: &Leaving) -> Result<(), Fault>
+        requires { leaving.now ≡ gone_of line.old }
+        ensures applied { Answers (λ _. without_gone self.new leaving.now) result (line_applied self.old line.old) }
         ensures kept { OnErr result (self.new ≡ self.old) }
     {
         let told = line.task_stats().len();
@@ -85,10 +90,41 @@ impl Shown {
         };
         let mut changes = Vec::with_capacity(alloc, told)?;
         self.spare.reserve(room)?;
-        match apply_line(alloc, &mut self.tables, line) {
+        match apply_told(alloc, &mut self.tables, line, leaving) {
             Ok(()) => {
                 list_changes(&mut changes, &self.places, &self.tables, line.task_stats());
                 relist(&mut self.places, &mut self.spare, &mut changes);
+                Ok(())
+            }
+            Err(fault) => Err(fault),
+        }
+    }
+
+    // Takes items out of the tables. Where tasks leave, the others are listed anew. It takes no memory.
+    fn leave(&mut self, leaving: &Leaving)
+        ensures { self.new ≡ without_gone self.old leaving.now }
+    {
+        self.tables.remove_gone(
+            leaving.tasks.set(),
+            leaving.resources.set(),
+            leaving.ops.set(),
+        );
+        if !leaving.tasks.list().is_empty() {
+            list_all(&mut self.places, &self.tables);
+        }
+    }
+
+    // Applies a line that is no snapshot.
+    fn go_on(&mut self, alloc: Global, line: &mut Line) -> Result<(), Fault>
+        ensures applied { Answers (λ _. self.new) result (line_applied self.old line.old) }
+        ensures kept { OnErr result (self.new ≡ self.old) }
+    {
+        let Some(leaving) = Leaving::of(alloc, line)? else {
+            return Err(Fault::Repeated);
+        };
+        match self.tell(alloc, line, &leaving) {
+            Ok(()) => {
+                self.leave(&leaving);
                 Ok(())
             }
             Err(fault) => Err(fault),

@@ -2,9 +2,11 @@
 //!
 //! A line is checked in the order of its faults. Then its new items and counts go in behind the others, which may want memory;
 //! then rows and counts that are there are replaced, which wants none. What went in is cut off again where the line isn't taken.
-ghost use Rattle.std.specs.Prelude.{◌≡◌, ◌||◌, IfOk, OnOk, OnErr, map, true, false};
+//! What the line says is gone is left in the tables here: it leaves them last.
+ghost use Rattle.std.specs.Prelude.{◌≡◌, ◌||◌, Ok, IfOk, OnOk, OnErr, map, true, false};
 ghost use Rattle.std.specs.List.{list_any};
-ghost use Rattle.tk_stream.specs.Applied.{told_item, new_items};
+ghost use Rattle.tk_stream.specs.Applied.{told_item, new_items, without_gone};
+ghost use Rattle.tk_stream.specs.Lines.{gone_of};
 ghost use Rattle.tk_stream.specs.Tables.{counts_id};
 ghost use Rattle.tk_client.specs.Taking as spec;
 ghost use Rattle.tk_client.specs.Told as inner;
@@ -14,6 +16,7 @@ use crate::attrs::rows_fit;
 use crate::counts::{add_counts, tell_counts};
 use crate::fault::Fault;
 use crate::ids::Ids;
+use crate::leaving::Leaving;
 use crate::listed::Listed;
 use std::alloc::{AllocError, Global};
 use tk_ids::ResourceId;
@@ -155,15 +158,81 @@ fn worse(a: Finding, b: Finding) -> Finding
     }
 }
 
-// What is found in a line.
-fn look_at(alloc: Global, old: &Tables, line: &Line) -> Result<Finding, AllocError>
-    ensures { IfOk result (λ f. f ≡ inner.finding (spec.repeats_id old.now line.now) (spec.has_strange_id old.now line.now)) }
+// What is found in what a line tells.
+fn look_at_told(alloc: Global, old: &Tables, line: &Line) -> Result<Finding, AllocError>
+    ensures { IfOk result (λ f. f ≡ inner.finding (spec.repeats_told old.now line.now) (spec.strange_told old.now line.now)) }
 {
     let tasks = look::<Task>(alloc, old, line.new_tasks(), line.task_stats())?;
     let resources = look::<Resource>(alloc, old, line.new_resources(), line.resource_stats())?;
     let ops = look::<Op>(alloc, old, line.new_ops(), line.op_stats())?;
     let counts = look_at_counts(alloc, line.poll_counts())?;
     Ok(worse(tasks, worse(resources, worse(ops, counts))))
+}
+
+// Whether something is told of an item that is gone.
+fn tells_gone<T: Listed>(gone: &Ids, stats: &[T::Stats]) -> bool
+    ensures { result ≡ list_any (inner.is_leaving T.kind gone.now) stats.now }
+{
+    for told in stats {
+        if gone.has(T::stats_id(told)) {
+            return true;
+        }
+    }
+    false
+}
+
+// Whether one of these isn't there.
+fn misses_any<T: Listed>(old: &Tables, gone: &[u64]) -> bool
+    ensures { result ≡ list_any (inner.is_missing T.kind (T.items old.now)) gone.now }
+{
+    for id in gone {
+        if !T::has_id(old, *id) {
+            return true;
+        }
+    }
+    false
+}
+
+// What is found of the items of one kind that are gone.
+fn look_at_kind<T: Listed>(old: &Tables, gone: &Ids, stats: &[T::Stats]) -> Finding
+    ensures { result ≡ inner.finding (spec.repeats_gone_kind T.kind gone.now stats.now) (spec.strange_gone_kind T.kind (T.items old.now) gone.now) }
+{
+    let ids = gone.list();
+    if ids.is_empty() {
+        return Finding::Sound;
+    }
+    if tells_gone::<T>(gone, stats) {
+        return Finding::Repeats;
+    }
+    if misses_any::<T>(old, ids) {
+        return Finding::Strange;
+    }
+    Finding::Sound
+}
+
+// What is found in what a line says is gone.
+fn look_at_gone(old: &Tables, line: &Line, leaving: &Leaving) -> Finding
+    requires { leaving.now ≡ gone_of line.now }
+    ensures { result ≡ inner.finding (spec.repeats_gone line.now) (spec.strange_gone old.now line.now) }
+{
+    let tasks = look_at_kind::<Task>(old, &leaving.tasks, line.task_stats());
+    let resources = look_at_kind::<Resource>(old, &leaving.resources, line.resource_stats());
+    let ops = look_at_kind::<Op>(old, &leaving.ops, line.op_stats());
+    worse(tasks, worse(resources, ops))
+}
+
+// What is found in a line.
+fn look_at(
+    alloc: Global,
+    old: &Tables,
+    line: &Line,
+    leaving: &Leaving,
+) -> Result<Finding, AllocError>
+    requires { leaving.now ≡ gone_of line.now }
+    ensures { IfOk result (λ f. f ≡ inner.finding (spec.repeats_id old.now line.now) (spec.has_strange_id old.now line.now)) }
+{
+    let told = look_at_told(alloc, old, line)?;
+    Ok(worse(look_at_gone(old, line, leaving), told))
 }
 
 fn told_of<T: Listed>(told: &Ids, stats: &[T::Stats], id: u64) -> Option<T::Stats>
@@ -238,7 +307,7 @@ fn add_new<T: Listed>(
 
 // New items, whose infos leave the line, and new counts go last.
 fn grow(alloc: Global, tables: &mut Tables, line: &mut Line) -> Result<(), Fault>
-    requires { spec.repeats_id tables.old line.old ≡ false }
+    requires { spec.repeats_told tables.old line.old ≡ false }
     ensures added { Answers (λ _. tables.new) result (inner.or_misfit (inner.tables_grown tables.old line.old)) }
     ensures grown { inner.Grown tables.old tables.new }
     ensures spent { OnOk result (line.new ≡ inner.spent line.old) }
@@ -288,10 +357,10 @@ fn tell_line(tables: &mut Tables, line: &Line)
 
 // What goes in behind the others, where the line then has no fault.
 fn grow_fitting(alloc: Global, tables: &mut Tables, line: &mut Line) -> Result<(), Fault>
-    requires once { spec.repeats_id tables.old line.old ≡ false }
-    requires known { spec.has_strange_id tables.old line.old ≡ false }
+    requires once { spec.repeats_told tables.old line.old ≡ false }
+    requires known { spec.strange_told tables.old line.old ≡ false }
     requires fit { spec.are_fitting tables.old ≡ true }
-    ensures applied { Answers (λ _. inner.tables_told tables.new line.old) result (spec.line_applied tables.old line.old) }
+    ensures applied { Answers (λ _. inner.tables_told tables.new line.old) result (spec.line_applied tables.old (inner.told_part line.old)) }
     ensures counted { OnOk result (inner.AreCounted tables.new.counts line.old.poll_counts) }
     ensures grown { inner.Grown tables.old tables.new }
     ensures spent { OnOk result (line.new ≡ inner.spent line.old) }
@@ -310,10 +379,10 @@ fn grow_fitting(alloc: Global, tables: &mut Tables, line: &mut Line) -> Result<(
 
 // Grows the tables, or leaves them as they are.
 fn grow_or_cut(alloc: Global, tables: &mut Tables, line: &mut Line) -> Result<(), Fault>
-    requires once { spec.repeats_id tables.old line.old ≡ false }
-    requires known { spec.has_strange_id tables.old line.old ≡ false }
+    requires once { spec.repeats_told tables.old line.old ≡ false }
+    requires known { spec.strange_told tables.old line.old ≡ false }
     requires fit { spec.are_fitting tables.old ≡ true }
-    ensures applied { Answers (λ _. inner.tables_told tables.new line.old) result (spec.line_applied tables.old line.old) }
+    ensures applied { Answers (λ _. inner.tables_told tables.new line.old) result (spec.line_applied tables.old (inner.told_part line.old)) }
     ensures counted { OnOk result (inner.AreCounted tables.new.counts line.old.poll_counts) }
     ensures kept { OnErr result (tables.new ≡ tables.old) }
     ensures spent { OnOk result (line.new ≡ inner.spent line.old) }
@@ -329,12 +398,12 @@ fn grow_or_cut(alloc: Global, tables: &mut Tables, line: &mut Line) -> Result<()
     grown
 }
 
-// Applies a line without a repeated or a strange id.
+// Applies what a line tells, where no id is repeated or strange.
 fn apply_sound(alloc: Global, tables: &mut Tables, line: &mut Line) -> Result<(), Fault>
-    requires once { spec.repeats_id tables.old line.old ≡ false }
-    requires known { spec.has_strange_id tables.old line.old ≡ false }
+    requires once { spec.repeats_told tables.old line.old ≡ false }
+    requires known { spec.strange_told tables.old line.old ≡ false }
     requires fit { spec.are_fitting tables.old ≡ true }
-    ensures applied { Answers (λ _. tables.new) result (spec.line_applied tables.old line.old) }
+    ensures applied { Answers (λ _. tables.new) result (spec.line_applied tables.old (inner.told_part line.old)) }
     ensures kept { OnErr result (tables.new ≡ tables.old) }
     ensures spent { OnOk result (line.new ≡ inner.spent line.old) }
 {
@@ -347,16 +416,24 @@ fn apply_sound(alloc: Global, tables: &mut Tables, line: &mut Line) -> Result<()
     }
 }
 
-/// Makes of tables what a line makes of them, or leaves them as they are. The infos of new items go from the line into the tables.
+/// Makes of tables what a line makes of them, but for what is gone, which is still there then: these items are to leave
+/// the tables. Or it leaves the tables as they are. The infos of new items go from the line into the tables.
 #[tactic(auto, unfolding(crate::specs::Taking::line_applied))]
-pub(crate) fn apply_line(alloc: Global, tables: &mut Tables, line: &mut Line) -> Result<(), Fault>
+pub(crate) fn apply_told(
+    alloc: Global,
+    tables: &mut Tables,
+    line: &mut Line,
+    leaving: &Leaving,
+) -> Result<(), Fault>
     requires fit { spec.are_fitting tables.old ≡ true }
-    ensures applied { Answers (λ _. tables.new) result (spec.line_applied tables.old line.old) }
+    requires gone { leaving.now ≡ gone_of line.old }
+    ensures applied { Answers (λ _. without_gone tables.new leaving.now) result (spec.line_applied tables.old line.old) }
+    ensures told { OnOk result (spec.line_applied tables.old (inner.told_part line.old) ≡ Ok tables.new) }
     ensures kept { OnErr result (tables.new ≡ tables.old) }
     ensures fit { spec.are_fitting tables.new ≡ true }
     ensures spent { OnOk result (line.new ≡ inner.spent line.old) }
 {
-    match look_at(alloc, tables, line)? {
+    match look_at(alloc, tables, line, leaving)? {
         Finding::Repeats => Err(Fault::Repeated),
         Finding::Strange => Err(Fault::UnknownId),
         Finding::Sound => apply_sound(alloc, tables, line),

@@ -37,6 +37,10 @@ impl Listed for Task {
         tables.task(stats.0).is_some()
     }
 
+    fn has_id(tables: &Tables, id: u64) -> bool {
+        tables.tasks.with_id(id).is_some()
+    }
+
     fn place(tables: &Tables, stats: &(TaskId, TaskRow)) -> Option<usize> {
         tables.task_place(stats.0)
     }

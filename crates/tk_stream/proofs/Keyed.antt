@@ -1,5 +1,5 @@
 -- Entries that stand under their own ids.
-use Rattle.std.proofs.Common.{◌≡◌, ℕ, zero, suc, List, [], ◌∷◌, ◌++◌, Bool, true, false, cond, nat_eq, map, take, slice_get, Some, refl, ap, ap₂, sym, ◌∙◌}
+use Rattle.std.proofs.Common.{◌≡◌, ℕ, zero, suc, List, [], ◌∷◌, ◌++◌, Bool, true, false, cond, nat_eq, map, filter, take, slice_get, Some, refl, ap, ap₂, sym, ◌∙◌}
 use Rattle.std.specs.List.{AllZip, AllByRecursion}
 use Rattle.std.proofs.lemmas.Bool.{eqb-true}
 use Rattle.std.proofs.lemmas.Option.{same_Some}
@@ -91,3 +91,31 @@ module _ {Item : Type 0} (P : Item → Type 0) where
       by : (b : Bool) → AllByRecursion P (values_of (insert_entry nat_eq es k x)) → AllByRecursion P (values_of (cond b ((e.0, x) ∷ es) (e ∷ insert_entry nat_eq es k x)))
       by true rest = (p, all.1)
       by false rest = (all.0, rest)
+
+  pub all-filter : (p : ℕ × Item → Bool) (es : List (ℕ × Item)) → AllByRecursion P (values_of es) → AllByRecursion P (values_of (filter p es))
+  all-filter p [] all = tt
+  all-filter p (e ∷ es) all = by (p e) (all-filter p es all.1)
+    where
+      by : (b : Bool) → AllByRecursion P (values_of (filter p es)) → AllByRecursion P (values_of (cond b (e ∷ filter p es) (filter p es)))
+      by true rest = (all.0, rest)
+      by false rest = rest
+
+-- ---- entries some of which leave, by their keys
+
+module _ {Item : Type 0} (id_of : Item → ℕ) (p : ℕ → Bool) where
+  pub AreKeyed-filter : (es : List (ℕ × Item)) → AreKeyed id_of es → AreKeyed id_of (filter (λ e. p e.0) es)
+  AreKeyed-filter [] h = tt
+  AreKeyed-filter (e ∷ es) h = by (p e.0) (AreKeyed-filter es h.1)
+    where
+      by : (b : Bool) → AreKeyed id_of (filter (λ f. p f.0) es) → AreKeyed id_of (cond b (e ∷ filter (λ f. p f.0) es) (filter (λ f. p f.0) es))
+      by true rest = (h.0, rest)
+      by false rest = rest
+
+  -- the items of the others are those whose ids stay
+  pub values_of-filter : (es : List (ℕ × Item)) → AreKeyed id_of es → values_of (filter (λ e. p e.0) es) ≡ filter (λ x. p (id_of x)) (values_of es)
+  values_of-filter [] h = refl
+  values_of-filter (e ∷ es) h = by (p e.0) ∙ ap₂ (λ k rest. cond (p k) (e.1 ∷ rest) rest) h.0 (values_of-filter es h.1)
+    where
+      by : (b : Bool) → values_of (cond b (e ∷ filter (λ f. p f.0) es) (filter (λ f. p f.0) es)) ≡ cond b (e.1 ∷ values_of (filter (λ f. p f.0) es)) (values_of (filter (λ f. p f.0) es))
+      by true = refl
+      by false = refl

@@ -119,6 +119,14 @@ what_stays old new = record old {
   ops = still_there op_id old.ops new.ops;
 }
 
+-- the tables without the items that are gone. Poll counts stay
+abbrev pub without_gone : TablesView → GoneView → TablesView
+without_gone tables gone = record tables {
+  tasks = staying task_id gone.tasks tables.tasks;
+  resources = staying resource_id gone.resources tables.resources;
+  ops = staying op_id gone.ops tables.ops;
+}
+
 -- tables whose items and poll counts begin with those of the old ones in order
 pub record GoOn (old new : TablesView) : Type 0 where
   pub tasks : BeginWith task_kind old.tasks new.tasks

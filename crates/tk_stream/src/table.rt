@@ -1,11 +1,11 @@
 //! Items in order of arrival, each found by its place or by its id.
-ghost use Rattle.std.specs.Prelude.{◌≡◌, ◌<◌, ◌++◌, ◌∷◌, [], length, slice_get, nat_eq, map, take, None, IfOk, OnOk, OnErr, IfErr, IsOk, IsSome, option_map};
+ghost use Rattle.std.specs.Prelude.{◌≡◌, ◌<◌, ◌++◌, ◌∷◌, [], length, slice_get, nat_eq, map, take, not, None, IfOk, OnOk, OnErr, IfErr, IsOk, IsSome, option_map};
 ghost use Rattle.std.specs.List.{IsDistinct, AllByRecursion};
-ghost use Rattle.tk_stream.specs.Tables.{item_with, changed_at, put_item};
+ghost use Rattle.tk_stream.specs.Tables.{item_with, changed_at, put_item, is_among, staying};
 ghost use Rattle.tk_stream.specs.Places.{place_with};
 
 use crate::item::Item;
-use indexmap::IndexMap;
+use indexmap::{IndexMap, IndexSet};
 use std::alloc::{AllocError, Global};
 use std::marker::Model;
 
@@ -110,6 +110,31 @@ impl<T: Item> Table<T> {
         ensures { self.new ≡ take count self.old }
     {
         self.map.truncate(count);
+    }
+
+    /// Removes the item with an id, if there is one. The others keep their order. It takes no memory.
+    pub fn remove(&mut self, id: u64)
+        ensures { self.new ≡ staying T.id_of (id ∷ []) self.old }
+    {
+        self.map.retain(
+            |own: &u64, _item: &mut T| -> bool
+                ensures { (result ≡ not (is_among (id ∷ []) own.now)) × (_item.new ≡ _item.old) }
+            { *own != id },
+        );
+    }
+
+    /// Removes the items of these ids, in one walk. The others keep their order. It takes no memory.
+    pub fn remove_all(&mut self, ids: &IndexSet<u64>)
+        ensures { self.new ≡ staying T.id_of ids.now.keys self.old }
+    {
+        if ids.is_empty() {
+            return;
+        }
+        self.map.retain(
+            |own: &u64, _item: &mut T| -> bool
+                ensures { (result ≡ not (is_among ids.entry.now.keys own.now)) × (_item.new ≡ _item.old) }
+            { !ids.contains(own) },
+        );
     }
 
     /// Equal items.

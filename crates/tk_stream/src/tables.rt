@@ -9,6 +9,7 @@ use crate::ranged::{see_number, see_totals};
 use crate::resource::Resource;
 use crate::table::Table;
 use crate::task::Task;
+use indexmap::IndexSet;
 use std::alloc::{AllocError, Global};
 use std::marker::Model;
 use tk_core::{OpRow, ResourceRow, TaskRow};
@@ -330,5 +331,47 @@ impl Tables {
         self.resources.cut(resources);
         self.ops.cut(ops);
         self.counts.cut(counted);
+    }
+}
+
+/// Removals. The other items keep their order, and poll counts stay. They take no memory.
+impl Tables {
+    ghost use Rattle.tk_stream.specs.Tables.{without_task, without_resource, without_op};
+    ghost use Rattle.tk_stream.specs.Applied.{without_gone};
+
+    /// Removes the task with an id, if there is one.
+    pub fn remove_task(&mut self, id: TaskId)
+        ensures { self.new ≡ without_task self.old id }
+    {
+        self.tasks.remove(id.value());
+    }
+
+    /// Removes the resource with an id, if there is one.
+    pub fn remove_resource(&mut self, id: ResourceId)
+        ensures { self.new ≡ without_resource self.old id }
+    {
+        self.resources.remove(id.value());
+    }
+
+    /// Removes the async operation with an id, if there is one.
+    pub fn remove_op(&mut self, id: AsyncOpId)
+        ensures { self.new ≡ without_op self.old id }
+    {
+        self.ops.remove(id.value());
+    }
+
+    /// Removes what a line says is gone: the items of these ids. However many they are, that is one walk through the items of
+    /// each kind of which there are any, and none where there are none.
+    pub fn remove_gone(
+        &mut self,
+        tasks: &IndexSet<u64>,
+        resources: &IndexSet<u64>,
+        ops: &IndexSet<u64>,
+    )
+        ensures { self.new ≡ without_gone self.old (record { ops = ops.now.keys; resources = resources.now.keys; tasks = tasks.now.keys }) }
+    {
+        self.tasks.remove_all(tasks);
+        self.resources.remove_all(resources);
+        self.ops.remove_all(ops);
     }
 }
