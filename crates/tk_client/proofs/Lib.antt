@@ -18,3 +18,4 @@ pub mod RiseLemmas
 pub mod MergeLemmas
 pub mod StandingLemmas
 pub mod SortLemmas
+pub mod LeaveLemmas

@@ -1,5 +1,5 @@
 -- An uninterrupted stream is taken line by line.
-use Rattle.std.proofs.Common.{◌≡◌, ℕ, ◌+◌, ◌≤◌, List, [], ◌∷◌, ◌++◌, length, take, drop, Bool, true, false, cond, nat_eq, Option, Some, None, Ok, Err, refl, ap, ap₂, sym, subst, ◌∙◌, arith}
+use Rattle.std.proofs.Common.{◌≡◌, ℕ, ◌+◌, ◌≤◌, List, [], ◌∷◌, ◌++◌, length, take, drop, Bool, true, false, cond, nat_eq, Option, Some, None, Ok, Err, refl, ap, ap₂, sym, subst, ◌∙◌, arith, rules}
 use Rattle.std.specs.Prelude.{map, filter, is_none, is_some, not, ◌||◌, ◌&&◌}
 use Rattle.std.specs.List.{list_any, list_all, AllByRecursion, IsDistinct}
 use Rattle.std.proofs.lemmas.Bool.{eq-eqb, and_parts, le-ltb}
@@ -12,26 +12,27 @@ use Rattle.tk_ids.specs.declared.attr.AttrKind.TheVariants as kinds
 use Rattle.tk_ids.specs.declared.attr.AttrValue.{AttrValue}
 use Rattle.tk_stream.specs.declared.op.Op.{Op}
 use Rattle.tk_stream.specs.declared.resource.Resource.{Resource}
-use Rattle.tk_stream.specs.Applied.{Kind, task_kind, resource_kind, op_kind, tables_after, GoOn}
-use Rattle.tk_stream.specs.Lines.{LineView, is_seq, is_new, new_infos, told_stats, line_between, snapshot_of, task_stats_of, resource_stats_of, op_stats_of, all_counts, have_same_row, have_same_resource_row, have_same_op_row, task_info, resource_info, op_info}
-use Rattle.tk_stream.specs.Ranges.{IsLine}
+use Rattle.tk_stream.specs.Applied.{Kind, task_kind, resource_kind, op_kind, tables_after, GoOn, what_stays}
+use Rattle.tk_stream.specs.Lines.{LineView, GoneView, none_gone, gone_ids, gone_between, with_gone, is_seq, is_new, new_infos, told_stats, line_between, snapshot_of, task_stats_of, resource_stats_of, op_stats_of, all_counts, have_same_row, have_same_resource_row, have_same_op_row, task_info, resource_info, op_info}
+use Rattle.tk_stream.specs.Ranges.{IsLine, IsGone, IsId}
 use Rattle.tk_stream.specs.Reading.{line_of_text}
 use Rattle.tk_stream.specs.Rows.{same_counts}
 use Rattle.tk_stream.specs.Spelling.{line_text, is_one_line}
 use Rattle.tk_stream.specs.Tables.{TablesView, empty_tables, AreDistinct, AreFit, task_id, resource_id, op_id, counts_id, item_with}
-use Rattle.tk_stream.proofs.LinesLemmas.{all_infos, all_stats}
+use Rattle.tk_stream.proofs.LinesLemmas.{all_infos, all_stats, map-same}
 use Rattle.tk_stream.proofs.NoEnds.{text_is_one_line}
 use Rattle.tk_client.specs.declared.fault.Fault.{Fault}
 use Rattle.tk_client.specs.declared.fault.Fault.TheVariants.{Memory, BadJson, BadShape, Gap, UnknownId, Repeated, TooLong, Misfit, Failed}
 use Rattle.tk_client.specs.declared.fault.FeedError.{FeedError}
 use Rattle.tk_client.specs.Feeding.{ClientView, Took, Stopped, StoppedBy}
-use Rattle.tk_client.specs.Meaning.{Start, Outcome, goes, stops, expected, is_next, behind_line, line_read, line_taken, cut, after as lines_before, too_long, ended, run, empty_start, meaning}
+use Rattle.tk_client.specs.Meaning.{Start, Outcome, goes, stops, expected, is_next, base_of, behind_line, line_read, line_taken, cut, after as lines_before, too_long, ended, run, empty_start, meaning}
 use Rattle.tk_client.specs.Streams.{AreShort, HasNoFault}
 use Rattle.tk_stream.specs.Streams.{Sending, line_sent, lines_sent, bytes_sent, tables_sent, AreInRange, MaySend, GoesOn, IsUninterrupted}
-use Rattle.tk_client.specs.Taking.{has_twice, has_id, repeats_kind, is_strange, strange_kind, repeats_id, has_strange_id, is_kind, fit_attrs, fits_resource, fits_op, are_fitting, line_applied}
+use Rattle.tk_client.specs.Taking.{has_twice, has_id, repeats_kind, repeats_gone_kind, is_strange, strange_kind, strange_gone_kind, repeats_id, has_strange_id, is_kind, fit_attrs, fits_resource, fits_op, are_fitting, line_applied}
 use Rattle.tk_client.specs.Told.{or_misfit}
 use Rattle.tk_client.proofs.Ends.{nothing}
 use Rattle.tk_client.proofs.FeedLemmas.{goes-then}
+use Rattle.tk_client.proofs.IdLemmas.{own}
 use Rattle.tk_client.proofs.Pieces.{meaning-append, stops-append}
 use Rattle.tk_client.proofs.TakeLemmas.{line_fits}
 
@@ -127,6 +128,55 @@ module _ {Item Info Stats : Type 0} (k : Kind Item Info Stats) (stats_of : Item 
   pub knows_all : (p : Item → Bool) (xs : List Item) → strange_kind k old (map k.info_of (filter new xs)) (map stats_of (filter p xs)) ≡ false
   knows_all p xs = none_strange p (map k.info_of (filter new xs)) xs (all_shown xs)
 
+-- ---- what is gone, of one kind
+
+module _ {Item Info Stats : Type 0} (k : Kind Item Info Stats) (stats_of : Item → Stats) (keys : (x : Item) → k.stats_id (stats_of x) ≡ k.id_of x) where
+  -- nothing is told of what isn't there
+  untold_away : (p : Item → Bool) (id : ℕ) (xs : List Item) → item_with k.id_of id xs ≡ None → has_id k.stats_id id (map stats_of (filter p xs)) ≡ false
+  untold_away p id [] away = refl
+  untold_away p id (x ∷ xs) away = by (nat_eq id (k.id_of x)) refl away (untold_away p id xs)
+    where
+      kept : (b c : Bool) → nat_eq id (k.id_of x) ≡ false → has_id k.stats_id id (map stats_of (filter p xs)) ≡ false → has_id k.stats_id id (map stats_of (cond c (x ∷ filter p xs) (filter p xs))) ≡ false
+      kept b true other rest = ap (λ t. is_some (cond t (Some (stats_of x)) (item_with k.stats_id id (map stats_of (filter p xs))))) (ap (nat_eq id) (keys x) ∙ other) ∙ rest
+      kept b false other rest = rest
+
+      by : (b : Bool) → nat_eq id (k.id_of x) ≡ b → cond b (Some x) (item_with k.id_of id xs) ≡ None → (item_with k.id_of id xs ≡ None → has_id k.stats_id id (map stats_of (filter p xs)) ≡ false)
+          → has_id k.stats_id id (map stats_of (cond (p x) (x ∷ filter p xs) (filter p xs))) ≡ false
+      by true e g rest = absurd (cc)
+      by false e g rest = kept false (p x) e (rest g)
+
+  none_told : (p : Item → Bool) (after ys : List Item) → list_any (λ id. has_id k.stats_id id (map stats_of (filter p after))) (gone_ids k.id_of ys after) ≡ false
+  none_told p after [] = refl
+  none_told p after (y ∷ ys) = by (item_with k.id_of (k.id_of y) after) refl (none_told p after ys)
+    where
+      rest : List Item
+      rest = filter (is_new k.id_of after) ys
+
+      by : (o : Option Item) → item_with k.id_of (k.id_of y) after ≡ o → list_any (λ id. has_id k.stats_id id (map stats_of (filter p after))) (map k.id_of rest) ≡ false
+          → list_any (λ id. has_id k.stats_id id (map stats_of (filter p after))) (map k.id_of (cond (is_none o) (y ∷ rest) rest)) ≡ false
+      by (Some z) is e = e
+      by None is e = ap₂ (λ a b. a || b) (untold_away p (k.id_of y) after is) e
+
+  pub repeats_none_gone : (p : Item → Bool) (old after : List Item) → IsDistinct nat_eq (map k.id_of old) → repeats_gone_kind k (gone_ids k.id_of old after) (map stats_of (filter p after)) ≡ false
+  repeats_none_gone p old after distinct =
+      ap₂ (λ a b. a || b)
+      (ap has_twice (sym (map-same (gone_ids k.id_of old after))) ∙ kept_once k.id_of k.id_of (λ n. n) (λ x. refl) (is_new k.id_of after) old distinct)
+      (none_told p after old)
+
+-- what is gone was there
+module _ {Item Info Stats : Type 0} (k : Kind Item Info Stats) where
+  all_known : (p : Item → Bool) (old xs : List Item) → AllByRecursion (λ x. item_with k.id_of (k.id_of x) old ≡ Some x) xs → list_any (λ id. not (has_id k.id_of id old)) (map k.id_of (filter p xs)) ≡ false
+  all_known p old [] all = refl
+  all_known p old (x ∷ xs) all = by (p x) (all_known p old xs all.1)
+    where
+      by : (b : Bool) → list_any (λ id. not (has_id k.id_of id old)) (map k.id_of (filter p xs)) ≡ false
+          → list_any (λ id. not (has_id k.id_of id old)) (map k.id_of (cond b (x ∷ filter p xs) (filter p xs))) ≡ false
+      by true e = ap₂ (λ a b. a || b) (ap (λ o. not (is_some o)) all.0) e
+      by false e = e
+
+  pub knows_gone : (old after : List Item) → IsDistinct nat_eq (map k.id_of old) → strange_gone_kind k old (gone_ids k.id_of old after) ≡ false
+  knows_gone old after distinct = all_known (is_new k.id_of after) old old (own k.id_of old distinct)
+
 -- ---- rows
 
 same_kind : (a : AttrKind) → is_kind a a ≡ true
@@ -166,6 +216,26 @@ no_strangers old after seq =
     (ap₂ (λ a b. a || b) (knows_all resource_kind resource_stats_of (λ x. refl) (λ x. refl) old.resources _ after.resources)
     (knows_all op_kind op_stats_of (λ x. refl) (λ x. refl) old.ops _ after.ops))
 
+-- a line that says what is gone
+abbrev line_less : TablesView → TablesView → ℕ → LineView
+line_less old after seq = with_gone (gone_between old after) (line_between old after seq)
+
+no_repeats_less : (old after : TablesView) (seq : ℕ) → AreDistinct old → AreDistinct after → repeats_id old (line_less old after seq) ≡ false
+no_repeats_less old after seq distinct once =
+    ap₂ (λ a b. a || b)
+    (ap₂ (λ a b. a || b) (repeats_none_gone task_kind task_stats_of (λ x. refl) _ old.tasks after.tasks distinct.tasks)
+    (ap₂ (λ a b. a || b) (repeats_none_gone resource_kind resource_stats_of (λ x. refl) _ old.resources after.resources distinct.resources)
+    (repeats_none_gone op_kind op_stats_of (λ x. refl) _ old.ops after.ops distinct.ops)))
+    (no_repeats old after seq once)
+
+no_strangers_less : (old after : TablesView) (seq : ℕ) → AreDistinct old → has_strange_id old (line_less old after seq) ≡ false
+no_strangers_less old after seq distinct =
+    ap₂ (λ a b. a || b)
+    (ap₂ (λ a b. a || b) (knows_gone task_kind old.tasks after.tasks distinct.tasks)
+    (ap₂ (λ a b. a || b) (knows_gone resource_kind old.resources after.resources distinct.resources)
+    (knows_gone op_kind old.ops after.ops distinct.ops)))
+    (no_strangers old after seq)
+
 fits_all : (after : TablesView) → AreFit after → are_fitting after ≡ true
 fits_all after fit = ap₂ (λ x y. x && y) (resources_fit after.resources fit.resources) (ops_fit after.ops fit.ops)
 
@@ -193,6 +263,7 @@ stats_in P id_of same stats_of old xs all = few P stats_of _ xs (subst (AllByRec
 pub between_in : (old after : TablesView) (seq : ℕ) → AreInRange after → is_seq seq ≡ true → IsLine (line_between old after seq)
 between_in old after seq all numbered = record {
   dropped = all.dropped;
+  gone = tt;
   new_ops = infos_in _ op_id op_info old.ops after.ops all.new_ops;
   new_resources = infos_in _ resource_id resource_info old.resources after.resources all.new_resources;
   new_tasks = infos_in _ task_id task_info old.tasks after.tasks all.new_tasks;
@@ -207,6 +278,7 @@ between_in old after seq all numbered = record {
 pub snapshot_in : (after : TablesView) (seq : ℕ) → AreInRange after → is_seq seq ≡ true → IsLine (snapshot_of after seq)
 snapshot_in after seq all numbered = record {
   dropped = all.dropped;
+  gone = tt;
   new_ops = all.new_ops;
   new_resources = all.new_resources;
   new_tasks = all.new_tasks;
@@ -216,6 +288,52 @@ snapshot_in after seq all numbered = record {
   resource_stats = all.resource_stats;
   seq = numbered;
   task_stats = all.task_stats;
+}
+
+-- the same line with what is gone
+gone_in : (gone : GoneView) (l : LineView) → IsGone gone → IsLine l → IsLine (with_gone gone l)
+gone_in gone l in_range all = record {
+  dropped = all.dropped;
+  gone = in_range;
+  new_ops = all.new_ops;
+  new_resources = all.new_resources;
+  new_tasks = all.new_tasks;
+  now = all.now;
+  op_stats = all.op_stats;
+  poll_counts = all.poll_counts;
+  resource_stats = all.resource_stats;
+  seq = all.seq;
+  task_stats = all.task_stats;
+}
+
+ids_in : {Item Stats : Type 0} (P : Stats → Type 0) (id_of : Item → ℕ) (same : Item → Item → Bool) (stats_of : Item → Stats) → ((x : Item) → P (stats_of x) → IsId (id_of x)) → (p : Item → Bool) (xs : List Item)
+    → AllByRecursion P (told_stats id_of same stats_of [] xs) → AllByRecursion IsId (map id_of (filter p xs))
+ids_in P id_of same stats_of reads p xs all = few IsId id_of p xs (each xs (subst (AllByRecursion P) (all_stats id_of same stats_of xs) all))
+  where
+    each : (ys : List _) → AllByRecursion P (map stats_of ys) → AllByRecursion IsId (map id_of ys)
+    each [] h = tt
+    each (y ∷ ys) h = (reads y h.0, each ys h.1)
+
+between_gone : (old after : TablesView) → AreInRange old → IsGone (gone_between old after)
+between_gone old after all = record {
+  ops = ids_in _ op_id have_same_op_row op_stats_of (λ x h. h.id) _ old.ops all.op_stats;
+  resources = ids_in _ resource_id have_same_resource_row resource_stats_of (λ x h. h.id) _ old.resources all.resource_stats;
+  tasks = ids_in _ task_id have_same_row task_stats_of (λ x h. h.id) _ old.tasks all.task_stats;
+}
+
+empty_in : AreInRange empty_tables
+empty_in = record {
+  dropped = record { tasks = search rules; resources = search rules; ops = search rules };
+  gone = tt;
+  new_ops = tt;
+  new_resources = tt;
+  new_tasks = tt;
+  now = search rules;
+  op_stats = tt;
+  poll_counts = tt;
+  resource_stats = tt;
+  seq = refl;
+  task_stats = tt;
 }
 
 -- ---- one line
@@ -243,17 +361,21 @@ one_line max tables after last next text whole short taken =
     ∙ ap (λ r. ended tables (length text + 1) r (λ u. run max u [] [])) taken
     ∙ ap (λ b. lines_before 1 (length text + 1) (cond b (too_long max (behind after next)) (goes (behind after next) 0))) (le-ltb max 0 (omega arith))
 
--- a line of either kind
-abbrev line_by : Bool → TablesView → TablesView → ℕ → LineView
-line_by b before after seq = cond b (snapshot_of after seq) (line_between before after seq)
+-- a line of any kind: a snapshot or not, which says what is gone or not
+abbrev line_by : Bool → Bool → TablesView → TablesView → ℕ → LineView
+line_by b r before after seq = line_sent before (record { tables = after; seq = seq; snapshot = b; removes = r })
 
-next_number : (b : Bool) (before after : TablesView) (seq last : ℕ) → seq ≡ last + 1 → is_next (Some last) (line_by b before after seq) ≡ true
-next_number true before after seq last e = eq-eqb seq (last + 1) e
-next_number false before after seq last e = eq-eqb seq (last + 1) e
+next_number : (b r : Bool) (before after : TablesView) (seq last : ℕ) → seq ≡ last + 1 → is_next (Some last) (line_by b r before after seq) ≡ true
+next_number true true before after seq last e = eq-eqb seq (last + 1) e
+next_number true false before after seq last e = eq-eqb seq (last + 1) e
+next_number false true before after seq last e = eq-eqb seq (last + 1) e
+next_number false false before after seq last e = eq-eqb seq (last + 1) e
 
-first_number : (b : Bool) (before after : TablesView) (seq : ℕ) → (b || nat_eq seq 1) ≡ true → is_next None (line_by b before after seq) ≡ true
-first_number true before after seq e = refl
-first_number false before after seq e = e
+first_number : (b r : Bool) (before after : TablesView) (seq : ℕ) → (b || nat_eq seq 1) ≡ true → is_next None (line_by b r before after seq) ≡ true
+first_number true true before after seq e = refl
+first_number true false before after seq e = refl
+first_number false true before after seq e = e
+first_number false false before after seq e = e
 
 -- ---- streams, by the laws of lines
 
@@ -263,28 +385,43 @@ Comes max before last sent =
     (t : Start) × (meaning max (behind before last) (bytes_sent (lines_sent before sent)) ≡ goes t (length sent)) × (t.tables ≡ tables_sent before sent) × (t.part ≡ [])
 
 module _ (lead : (old after : TablesView) (seq : ℕ) → AreFit old → AreFit after → GoOn old after → tables_after old (line_between old after seq) ≡ Some after)
+    (less : (old after : TablesView) (seq : ℕ) → AreFit old → AreFit after → GoOn (what_stays old after) after → tables_after old (with_gone (gone_between old after) (line_between old after seq)) ≡ Some after)
     (tell : (tables : TablesView) (seq : ℕ) → AreFit tables → tables_after empty_tables (snapshot_of tables seq) ≡ Some tables)
     (read : (l : LineView) → IsLine l → line_of_text (line_text l) ≡ Ok l) where
-  taken_by : (b : Bool) (before after : TablesView) (seq : ℕ) (last : Option ℕ) → AreFit before → AreFit after → GoOn before after → AreInRange after → is_seq seq ≡ true
-      → is_next last (line_by b before after seq) ≡ true → line_taken before last (line_text (line_by b before after seq)) ≡ Ok (behind after (Some seq))
+  -- a line that is read and has no fault is taken
+  taken_at : (before after : TablesView) (last : Option ℕ) (l : LineView) → IsLine l → is_next last l ≡ true → line_applied (base_of before l) l ≡ Ok after
+      → line_taken before last (line_text l) ≡ Ok (behind after (Some l.seq))
   unfolding line_taken
-  taken_by true before after seq last old fit on all numbered next =
+  taken_at before after last l in_range next applied =
+      ap (line_read before last) (read l in_range)
+      ∙ ap (λ b. cond b (behind_line l (line_applied (base_of before l) l)) (Err (Gap (expected last) l.seq))) next
+      ∙ ap (behind_line l) applied
+
+  taken_by : (b r : Bool) (before after : TablesView) (seq : ℕ) (last : Option ℕ) → AreFit before → AreFit after → GoOn (cond (r && not b) (what_stays before after) before) after → AreInRange before → AreInRange after
+      → is_seq seq ≡ true → is_next last (line_by b r before after seq) ≡ true → line_taken before last (line_text (line_by b r before after seq)) ≡ Ok (behind after (Some seq))
+  taken_by true false before after seq last old fit on was all numbered next =
       let l : LineView = snapshot_of after seq in
-      ap (line_read before last) (read l (snapshot_in after seq all numbered))
-      ∙ ap (λ b. cond b (behind_line l (line_applied empty_tables l)) (Err (Gap (expected last) seq))) next
-      ∙ ap (behind_line l) (line_fits empty_tables l after (no_repeats empty_tables after seq fit.distinct) (no_strangers empty_tables after seq) (ap or_misfit (tell after seq fit)) (fits_all after fit))
-  taken_by false before after seq last old fit on all numbered next =
+      taken_at before after last l (snapshot_in after seq all numbered) next
+      (line_fits empty_tables l after (no_repeats empty_tables after seq fit.distinct) (no_strangers empty_tables after seq) (ap or_misfit (tell after seq fit)) (fits_all after fit))
+  taken_by true true before after seq last old fit on was all numbered next =
+      let l : LineView = with_gone none_gone (snapshot_of after seq) in
+      taken_at before after last l (gone_in none_gone (snapshot_of after seq) (record { ops = tt; resources = tt; tasks = tt }) (snapshot_in after seq all numbered)) next
+      (line_fits empty_tables l after (no_repeats empty_tables after seq fit.distinct) (no_strangers empty_tables after seq) (ap or_misfit (tell after seq fit)) (fits_all after fit))
+  taken_by false false before after seq last old fit on was all numbered next =
       let l : LineView = line_between before after seq in
-      ap (line_read before last) (read l (between_in before after seq all numbered))
-      ∙ ap (λ b. cond b (behind_line l (line_applied before l)) (Err (Gap (expected last) seq))) next
-      ∙ ap (behind_line l) (line_fits before l after (no_repeats before after seq fit.distinct) (no_strangers before after seq) (ap or_misfit (lead before after seq old fit on)) (fits_all after fit))
+      taken_at before after last l (between_in before after seq all numbered) next
+      (line_fits before l after (no_repeats before after seq fit.distinct) (no_strangers before after seq) (ap or_misfit (lead before after seq old fit on)) (fits_all after fit))
+  taken_by false true before after seq last old fit on was all numbered next =
+      let l : LineView = line_less before after seq in
+      taken_at before after last l (gone_in (gone_between before after) (line_between before after seq) (between_gone before after was) (between_in before after seq all numbered)) next
+      (line_fits before l after (no_repeats_less before after seq old.distinct fit.distinct) (no_strangers_less before after seq old.distinct) (ap or_misfit (less before after seq old fit on)) (fits_all after fit))
 
   -- a line, and what comes behind it
-  line_first : (max : ℕ) (before : TablesView) (last : Option ℕ) (s : Sending) (ss : List Sending) → AreFit before → MaySend before s → is_next last (line_sent before s) ≡ true
+  line_first : (max : ℕ) (before : TablesView) (last : Option ℕ) (s : Sending) (ss : List Sending) → AreFit before → AreInRange before → MaySend before s → is_next last (line_sent before s) ≡ true
       → length (line_text (line_sent before s)) ≤ max → Comes max s.tables (Some s.seq) ss → Comes max before last (s ∷ ss)
-  line_first max before last s ss old may next short rest =
+  line_first max before last s ss old was may next short rest =
       let l : LineView = line_sent before s in
-      let taken : line_taken before last (line_text l) ≡ Ok (behind s.tables (Some s.seq)) = taken_by s.snapshot before s.tables s.seq last old may.fit may.on may.in_range may.numbered next in (
+      let taken : line_taken before last (line_text l) ≡ Ok (behind s.tables (Some s.seq)) = taken_by s.snapshot s.removes before s.tables s.seq last old may.fit may.on was may.in_range may.numbered next in (
         rest.0,
         goes-then max (behind before last) (behind s.tables (Some s.seq)) rest.0 (line_text l ++ 10 ∷ []) (bytes_sent (lines_sent s.tables ss)) 1 (length ss)
             (one_line max before s.tables last (Some s.seq) (line_text l) (text_is_one_line l) short taken) rest.1
@@ -293,15 +430,15 @@ module _ (lead : (old after : TablesView) (seq : ℕ) → AreFit old → AreFit 
         rest.3,
       )
 
-  later_lines : (max : ℕ) (before : TablesView) (last : ℕ) (ss : List Sending) → AreFit before → GoesOn before last ss → AreShort max (lines_sent before ss) → Comes max before (Some last) ss
-  later_lines max before last [] old on short = (behind before (Some last), nothing max (behind before (Some last)) (omega arith), refl, refl)
-  later_lines max before last (s ∷ ss) old on short =
-      line_first max before (Some last) s ss old on.1 (next_number s.snapshot before s.tables s.seq last on.0) short.0 (later_lines max s.tables s.seq ss on.1.fit on.2 short.1)
+  later_lines : (max : ℕ) (before : TablesView) (last : ℕ) (ss : List Sending) → AreFit before → AreInRange before → GoesOn before last ss → AreShort max (lines_sent before ss) → Comes max before (Some last) ss
+  later_lines max before last [] old was on short = (behind before (Some last), nothing max (behind before (Some last)) (omega arith), refl, refl)
+  later_lines max before last (s ∷ ss) old was on short =
+      line_first max before (Some last) s ss old was on.1 (next_number s.snapshot s.removes before s.tables s.seq last on.0) short.0 (later_lines max s.tables s.seq ss on.1.fit on.1.in_range on.2 short.1)
 
   pub whole : (max : ℕ) (sent : List Sending) → IsUninterrupted sent → AreShort max (lines_sent empty_tables sent) → Comes max empty_tables None sent
   whole max [] on short = (empty_start, nothing max empty_start (omega arith), refl, refl)
   whole max (s ∷ ss) on short =
-      line_first max empty_tables None s ss empty_fit on.1 (first_number s.snapshot empty_tables s.tables s.seq on.0) short.0 (later_lines max s.tables s.seq ss on.1.fit on.2 short.1)
+      line_first max empty_tables None s ss empty_fit empty_in on.1 (first_number s.snapshot s.removes empty_tables s.tables s.seq on.0) short.0 (later_lines max s.tables s.seq ss on.1.fit on.1.in_range on.2 short.1)
 
   -- a front has no fault where the whole has none
   pub fronts : (max : ℕ) (sent : List Sending) (n : ℕ) → IsUninterrupted sent → AreShort max (lines_sent empty_tables sent)

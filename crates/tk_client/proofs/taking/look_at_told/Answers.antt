@@ -6,7 +6,7 @@ use Rattle.tk_stream.specs.Lines.{LineView}
 use Rattle.tk_client.specs.Taking.{repeats_kind, strange_kind, has_twice}
 use Rattle.tk_client.specs.Told.{worse, finding}
 use Rattle.tk_client.proofs.LineLemmas.{worst}
-use Rattle.tk_client.proofs.taking.look_at.Goals as goal
+use Rattle.tk_client.proofs.taking.look_at_told.Goals as goal
 
 pub returns : goal.returns
 returns c =
