@@ -551,7 +551,8 @@ fn take_line(alloc: Global, bytes: &[u8]) -> Result<Option<Line>, AllocError>
     if rest.len() > 0 {
         return Ok(None);
     }
-    if number != version_of(&gone) {
+    let version = version_of(&gone);
+    if number != version {
         return Ok(None);
     }
     if !is_seq(seq) {
