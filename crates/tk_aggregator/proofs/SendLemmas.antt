@@ -6,7 +6,7 @@ use Rattle.tk_aggregator.specs.Aggregates.{Aggregating, IsSound, IsDue, tables_a
 use Rattle.tk_stream.specs.Lines.{is_seq}
 use Rattle.tk_stream.specs.Ranges.{IsNumber}
 use Rattle.tk_stream.specs.Spelling.{sent_text}
-use Rattle.tk_stream.specs.Streams.{Sending, line_sent, lines_sent, bytes_sent, tables_sent, last_sent, MaySend, GoesOn, IsUninterrupted, IsStreamTo}
+use Rattle.tk_stream.specs.Streams.{Sending, sending, line_sent, lines_sent, bytes_sent, tables_sent, last_sent, MaySend, GoesOn, IsUninterrupted, IsStreamTo}
 use Rattle.tk_stream.specs.Tables.{TablesView, empty_tables, AreFit}
 use Rattle.tk_stream.proofs.RangeLemmas.{at_moment}
 
@@ -56,12 +56,12 @@ goes_on_to bytes told last s stream may next = record {
 }
 
 -- a snapshot opens a stream
-pub opens_at : (told : TablesView) (tables : TablesView) (seq : ℕ) → MaySend told (record { tables = tables; seq = seq; snapshot = true })
-    → IsStreamTo (sent_text (line_sent told (record { tables = tables; seq = seq; snapshot = true }))) tables seq
+pub opens_at : (told : TablesView) (tables : TablesView) (seq : ℕ) → MaySend told (sending tables seq true)
+    → IsStreamTo (sent_text (line_sent told (sending tables seq true))) tables seq
 opens_at told tables seq may = record {
-  sent = record { tables = tables; seq = seq; snapshot = true } ∷ [];
+  sent = sending tables seq true ∷ [];
   uninterrupted = (refl, record { fit = may.fit; in_range = may.in_range; numbered = may.numbered; on = record { tasks = tt; resources = tt; ops = tt; counts = tt } }, tt);
-  bytes_are = sym (append-nil (sent_text (line_sent empty_tables (record { tables = tables; seq = seq; snapshot = true }))));
+  bytes_are = sym (append-nil (sent_text (line_sent empty_tables (sending tables seq true))));
   tables_are = refl;
   last_is = refl;
 }

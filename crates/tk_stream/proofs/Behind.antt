@@ -35,6 +35,10 @@ last {old} {new} {piece} h = sym (append-nil new) ∙ behind h []
 pub both : {a b c p q : List ℕ} → Puts a b p → Puts b c q → Puts a c (p ++ q)
 both {a} {b} {c} {p} {q} g h = record { is = h.is ∙ behind g q }
 
+-- the last of some pieces was put
+pub at_end : {old new piece : List ℕ} → Puts old new piece → Puts old new (piece ++ [])
+at_end {old} {new} {piece} h = record { is = h.is ∙ ap (λ xs. old ++ xs) (sym (append-nil piece)) }
+
 -- a loop over a list, one item on
 pub item_put : {A : Type 0} (f : A → Data) (list : List A) (i : ℕ) (later : Bool) (item : A) (out next total : List ℕ)
     → i < length list → item ≡ get_or list i item → Puts out next (comma_if later ++ compact_text (f item))
@@ -132,6 +136,10 @@ usual_put old new b special printable is so one =
 -- two pieces were taken
 pub taken : {a b c p q : List ℕ} → Takes a p b → Takes b q c → Takes a (p ++ q) c
 taken {a} {b} {c} {p} {q} g h = record { is = g.is ∙ ap (λ xs. p ++ xs) h.is ∙ sym (append_assoc p q c) }
+
+-- the last of some pieces was taken
+pub taken_last : {bytes piece rest : List ℕ} → Takes bytes piece rest → Takes bytes (piece ++ []) rest
+taken_last {bytes} {piece} {rest} h = record { is = h.is ∙ ap (λ xs. xs ++ rest) (sym (append-nil piece)) }
 
 pub text_taken : (bytes text front rest : List ℕ) (same : Bool) → front ≡ take (length text) bytes → rest ≡ drop (length text) bytes
     → same ≡ bytes_eq front text → same ≡ true → Takes bytes text rest

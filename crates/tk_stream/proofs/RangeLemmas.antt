@@ -30,6 +30,7 @@ pub are_in_range : (t : TablesView) → AllByRecursion TaskInRange t.tasks → A
     → AreTotals t.dropped → IsNumber t.now → AreInRange t
 are_in_range t tasks resources ops counts totals now = record {
   dropped = totals;
+  gone = tt;
   new_ops = subst (AllByRecursion IsOpInfo) (sym (all_infos op_id op_info t.ops)) (all_map op_info IsOpInfo OpInRange (λ x p. p.0) t.ops ops);
   new_resources = subst (AllByRecursion IsResourceInfo) (sym (all_infos resource_id resource_info t.resources)) (all_map resource_info IsResourceInfo ResourceInRange (λ x p. p.0) t.resources resources);
   new_tasks = subst (AllByRecursion IsTaskInfo) (sym (all_infos task_id task_info t.tasks)) (all_map task_info IsTaskInfo TaskInRange (λ x p. p.0) t.tasks tasks);
@@ -43,4 +44,4 @@ are_in_range t tasks resources ops counts totals now = record {
 
 -- another moment in range
 pub at_moment : (t : TablesView) (now : ℕ) → AreInRange t → IsNumber now → AreInRange (record t { now = now })
-at_moment t now r fits = record { dropped = r.dropped; new_ops = r.new_ops; new_resources = r.new_resources; new_tasks = r.new_tasks; now = fits; op_stats = r.op_stats; poll_counts = r.poll_counts; resource_stats = r.resource_stats; seq = r.seq; task_stats = r.task_stats }
+at_moment t now r fits = record { dropped = r.dropped; gone = tt; new_ops = r.new_ops; new_resources = r.new_resources; new_tasks = r.new_tasks; now = fits; op_stats = r.op_stats; poll_counts = r.poll_counts; resource_stats = r.resource_stats; seq = r.seq; task_stats = r.task_stats }

@@ -1,10 +1,11 @@
 //! Lines of a stream.
 //!
-//! A line is one JSON object with exactly these keys, which are written in this order, without spaces.
+//! A line is one JSON object with exactly the keys of its version, which are written in this order, without spaces.
 //!
 //! | Key | Value |
 //! |---|---|
 //! | `dropped` | totals of what was dropped: `[tasks, resources, ops]` |
+//! | `gone_ops`, `gone_resources`, `gone_tasks` | in version 2 alone: lists of the ids of items that are gone |
 //! | `new_ops` | a list of `{"attrs":[A..],"id":N,"parent":N or null,"resource":N,"source":"..."}` |
 //! | `new_resources` | a list of `{"attrs":[A..],"id":N,"kind":"...","loc":[file, line, column],"parent":N or null,"type":"..."}` |
 //! | `new_tasks` | a list of `{"id":N,"kind":"spawn" or "blocking","loc":[file, line, column],"name":"..."}` |
@@ -15,7 +16,7 @@
 //! | `seq` | the line's number, from 1 to 2^63 |
 //! | `snapshot` | whether the line tells of the tables as a whole |
 //! | `task_stats` | a list of rows: an object with `id` and the row's 16 fields, each under its name |
-//! | `v` | 1, the version of the format |
+//! | `v` | 1 or 2, the version of the format |
 //!
 //! A is `[name, unit or null, "u64", "bool" or "i64"]`. In a row `attrs` is a list of values, each a number, `true` or
 //! `false`, or `[number]` for a signed one, and what is absent is `null`.
@@ -123,7 +124,7 @@ impl Line {
     ghost use Rattle.tk_stream.specs.Reading.{line_of_text};
     ghost use Rattle.tk_stream.specs.Fronts.{FitsIn, told_tables};
 
-    /// The line numbered `seq` that leads from the old tables to the new ones: the infos of the items that are new, the
+    /// The line of version 1 numbered `seq` that leads from the old tables to the new ones: the infos of the items that are new, the
     /// rows of the items that are new or whose row differs, the poll counts that are new or differ, each list in the order
     /// of the new tables, and the new tables' totals and moment. `seq` is 1 to 2^63.
     ///
@@ -213,8 +214,8 @@ impl Line {
         })
     }
 
-    /// The line of a text: the JSON object that `serde_json` reads, with exactly a line's keys, each with a value of its
-    /// kind. White space between its parts and the order of its keys are free.
+    /// The line of a text: the JSON object that `serde_json` reads, with exactly the keys of version 1 or 2, each with a value
+    /// of its kind. White space between its parts and the order of its keys are free.
     ///
     /// - `BadJson`: `serde_json` reads no value. Bytes that are not UTF-8 are such a text, and an empty one.
     /// - `BadShape`: the value is no line.
@@ -551,7 +552,8 @@ fn take_line(alloc: Global, bytes: &[u8]) -> Result<Option<Line>, AllocError>
     if rest.len() > 0 {
         return Ok(None);
     }
-    if number != version_of(&gone) {
+    let version = version_of(&gone);
+    if number != version {
         return Ok(None);
     }
     if !is_seq(seq) {

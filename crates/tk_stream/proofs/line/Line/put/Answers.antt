@@ -4,7 +4,7 @@ use Rattle.tk_stream.proofs.line.Line.put.Goals as goal
 
 pub returns : goal.returns
 unfolding escape_byte
-returns c = rw (line_split c.args.self.now, ← c.self.view_is, ← c.as_slice.ensures.value, ← c.as_slice-2.ensures.value, ← c.as_slice-3.ensures.value, ← c.as_slice-4.ensures.value, ← c.as_slice-5.ensures.value, ← c.as_slice-6.ensures.value, ← c.as_slice-7.ensures.value)
+returns c = rw (line_split c.args.self.now, ← c.version.ensures, ← c.self.view_is, ← c.as_slice.ensures.value, ← c.as_slice-2.ensures.value, ← c.as_slice-3.ensures.value, ← c.as_slice-4.ensures.value, ← c.as_slice-5.ensures.value, ← c.as_slice-6.ensures.value, ← c.as_slice-7.ensures.value)
     (both c.in_ok-put_dropped.ensures
     (both c.in_ok-put_gone.ensures
     (both c.in_ok-put_list.ensures
