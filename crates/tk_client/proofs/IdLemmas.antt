@@ -20,7 +20,7 @@ flipped a b h = by (nat_eq b a) refl
     by true e = sym (eq-eqb a b (sym (eqb-true b a e))) ∙ h
     by false e = refl
 
-turned : (a b : ℕ) → nat_eq a b ≡ nat_eq b a
+pub turned : (a b : ℕ) → nat_eq a b ≡ nat_eq b a
 turned a b = by (nat_eq a b) refl
   where
     by : (t : Bool) → nat_eq a b ≡ t → nat_eq a b ≡ nat_eq b a

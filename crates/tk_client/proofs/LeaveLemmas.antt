@@ -1,6 +1,6 @@
 -- What a line makes of tables is what it tells makes of them, without what is gone.
 use Rattle.std.proofs.Common.{◌≡◌, ℕ, List, [], ◌∷◌, ◌++◌, Bool, true, false, cond, nat_eq, Option, Some, None, Result, Ok, Err, refl, ap, ap₂, sym, ◌∙◌, true≢false}
-use Rattle.std.specs.Prelude.{map, filter, not, is_some, option_map, option_and_then, OnOk, ◌||◌, ◌&&◌}
+use Rattle.std.specs.Prelude.{map, filter, not, is_some, option_map, option_and_then, OnOk, OnErr, ◌||◌, ◌&&◌}
 use Rattle.std.specs.List.{list_any, list_all}
 use Rattle.std.specs.Option.{option_map_or}
 use Rattle.std.proofs.lemmas.Bool.{or_parts, and_parts, eqb-true}
@@ -8,13 +8,61 @@ use Rattle.tk_stream.specs.declared.op.Op.{Op}
 use Rattle.tk_stream.specs.declared.resource.Resource.{Resource}
 use Rattle.tk_stream.specs.declared.task.Task.{Task}
 use Rattle.tk_stream.specs.Lines.{LineView, GoneView, gone_of}
-use Rattle.tk_stream.specs.Applied.{Kind, task_kind, resource_kind, op_kind, told_item, new_items, tables_after, without_gone}
+use Rattle.tk_stream.specs.Applied.{Kind, task_kind, resource_kind, op_kind, told_item, new_items, counts_after, tables_after, without_gone}
 use Rattle.tk_stream.specs.Tables.{TablesView, item_with, task_id, resource_id, op_id, is_among, staying}
 use Rattle.tk_stream.proofs.GoneLemmas.{staying_all}
 use Rattle.tk_client.specs.declared.fault.Fault.{Fault}
 use Rattle.tk_client.specs.declared.fault.Fault.TheVariants.{Memory, BadJson, BadShape, Gap, UnknownId, Repeated, TooLong, Misfit, Failed}
 use Rattle.tk_client.specs.Taking.{has_twice, has_id, repeats_kind, repeats_gone_kind, strange_kind, strange_gone_kind, repeats_told, repeats_gone, repeats_id, strange_told, strange_gone, has_strange_id, fits_resource, fits_op, are_fitting, fitting, line_applied}
-use Rattle.tk_client.specs.Told.{Answers, Fails, told_part, left_by}
+use Rattle.tk_client.specs.Told.{Answers, Fails, finding, is_leaving, is_missing, told_part, left_by}
+use Rattle.tk_client.specs.declared.taking.Finding.{Finding}
+use Rattle.tk_client.specs.declared.taking.Finding.TheVariants.{Sound, Strange, Repeats}
+use Rattle.tk_client.proofs.IdLemmas.{turned}
+use Rattle.tk_client.proofs.LineLemmas.{applied-fits}
+
+-- ---- what is told of what is gone
+
+never : {X : Type 0} (xs : List X) → list_any (λ x. false) xs ≡ false
+never [] = refl
+never (x ∷ xs) = never xs
+
+any-or : {X : Type 0} (p q : X → Bool) (xs : List X) → list_any (λ x. p x || q x) xs ≡ (list_any p xs || list_any q xs)
+any-or p q [] = refl
+any-or p q (x ∷ xs) = ap (λ b. (p x || q x) || b) (any-or p q xs) ∙ grouped (p x) (q x) (list_any p xs) (list_any q xs)
+  where
+    grouped : (a b c d : Bool) → ((a || b) || (c || d)) ≡ ((a || c) || (b || d))
+    grouped true b c d = refl
+    grouped false true true d = refl
+    grouped false true false d = refl
+    grouped false false c d = refl
+
+any-id : {X : Type 0} (f : X → ℕ) (id : ℕ) (xs : List X) → list_any (λ x. nat_eq (f x) id) xs ≡ has_id f id xs
+any-id f id [] = refl
+any-id f id (x ∷ xs) = ap (λ b. b || list_any (λ y. nat_eq (f y) id) xs) (turned (f x) id) ∙ by (nat_eq id (f x)) (any-id f id xs)
+  where
+    by : (b : Bool) → list_any (λ y. nat_eq (f y) id) xs ≡ has_id f id xs → (b || list_any (λ y. nat_eq (f y) id) xs) ≡ is_some (cond b (Some x) (item_with f id xs))
+    by true e = refl
+    by false e = e
+
+-- something is told of one that is gone where one that is gone is told of
+swapped : {Item Info Stats : Type 0} (k : Kind Item Info Stats) (gone : List ℕ) (stats : List Stats) → list_any (is_leaving k gone) stats ≡ list_any (λ id. has_id k.stats_id id stats) gone
+swapped k [] stats = never stats
+swapped k (n ∷ ns) stats = any-or (λ s. nat_eq (k.stats_id s) n) (is_leaving k ns) stats ∙ ap₂ (λ a b. a || b) (any-id k.stats_id n stats) (swapped k ns stats)
+
+-- what is found of the items of one kind
+pub none-found : {Item Info Stats : Type 0} (k : Kind Item Info Stats) (old : List Item) (gone : List ℕ) (stats : List Stats) → gone ≡ [] → Sound ≡ finding (repeats_gone_kind k gone stats) (strange_gone_kind k old gone)
+none-found k old gone stats e = rw e refl
+
+pub repeats-found : {Item Info Stats : Type 0} (k : Kind Item Info Stats) (old : List Item) (gone : List ℕ) (stats : List Stats) → list_any (is_leaving k gone) stats ≡ true → Repeats ≡ finding (repeats_gone_kind k gone stats) (strange_gone_kind k old gone)
+repeats-found k old gone stats told = sym (ap (λ b. finding b (strange_gone_kind k old gone)) (ap (λ b. has_twice gone || b) (sym (swapped k gone stats) ∙ told) ∙ either (has_twice gone)))
+  where
+    either : (b : Bool) → (b || true) ≡ true
+    either true = refl
+    either false = refl
+
+pub others-found : {Item Info Stats : Type 0} (k : Kind Item Info Stats) (old : List Item) (gone : List ℕ) (stats : List Stats) (missing : Bool) → has_twice gone ≡ false → list_any (is_leaving k gone) stats ≡ false
+    → list_any (is_missing k old) gone ≡ missing → finding false missing ≡ finding (repeats_gone_kind k gone stats) (strange_gone_kind k old gone)
+others-found k old gone stats missing once untold misses = sym (ap₂ finding (ap₂ (λ a b. a || b) once (sym (swapped k gone stats) ∙ untold)) misses)
 
 -- ---- items of one kind
 
@@ -118,8 +166,8 @@ module _ {Item Info Stats : Type 0} (k : Kind Item Info Stats) (keeps_id : (x : 
             → list_all fits (told (cond (not b) (x ∷ stay xs) (stay xs))) ≡ (fits (told_item k stats x) && list_all fits (told xs))
         by false e f rest = ap (λ b. fits (told_item k stats x) && b) rest
         by true e f rest =
-            let as : told_item k stats x ≡ x = ap (λ o. option_map_or (k.item_of (k.info_of x)) o x) (untold gone (k.id_of x) none e) in
-            rest ∙ ap (λ b. b && list_all fits (told xs)) (sym (ap fits as ∙ f))
+            let same : told_item k stats x ≡ x = ap (λ o. option_map_or (k.item_of (k.info_of x)) o x) (untold gone (k.id_of x) none e) in
+            rest ∙ ap (λ b. b && list_all fits (told xs)) (sym (ap fits same ∙ f))
 
     pub same-fits : (old items : List Item) → list_all fits old ≡ true → list_any (λ n. has_id k.stats_id n stats) gone ≡ false
         → list_all fits (told (stay old) ++ items) ≡ list_all fits (told (staying k.id_of [] old) ++ items)
@@ -165,6 +213,9 @@ leaves old l none known fit =
           tasks = leave-last task_kind (λ x s. refl) (λ info s. refl) l.task_stats gone.tasks old.tasks l.new_tasks ts t (or_parts _ _ c.0).0 f.0 i;
           resources = leave-last resource_kind (λ x s. refl) (λ info s. refl) l.resource_stats gone.resources old.resources l.new_resources rs r (or_parts _ _ d.0).0 g.0 i;
           ops = leave-last op_kind (λ x s. refl) (λ info s. refl) l.op_stats gone.ops old.ops l.new_ops os o (or_parts _ _ e.0).0 g.1 i;
+          counts = counts_after old.counts l.poll_counts;
+          dropped = l.dropped;
+          now = l.now;
         })
         (ap₂ (λ x y. x && y)
         (same-fits resource_kind (λ x s. refl) (λ info s. refl) l.resource_stats gone.resources fits_resource old.resources rs h.0 (or_parts (has_twice gone.resources) _ b.0).1)
@@ -199,3 +250,13 @@ left-answers (Err fault) old new l gone same none known fit h =
 pub was-told : (r : Result (Unit {0}) Fault) (new : TablesView) (wanted : Result TablesView Fault) → Answers (λ _. new) r wanted → OnOk r (wanted ≡ Ok new)
 was-told (Ok done) new wanted h = h
 was-told (Err fault) new wanted h = tt
+
+pub now-fits : (r : Result (Unit {0}) Fault) (old new : TablesView) (l : LineView) → are_fitting old ≡ true → Answers (λ _. new) r (line_applied old l) → OnErr r (new ≡ old) → are_fitting new ≡ true
+now-fits (Ok done) old new l fit h kept = applied-fits old l new h
+now-fits (Err fault) old new l fit h kept = ap are_fitting kept ∙ fit
+
+-- where nothing is found, nothing is repeated or strange
+pub nothing-found : (f : Finding) (a b : Bool) → f ≡ Sound → f ≡ finding a b → (a ≡ false) × (b ≡ false)
+nothing-found f true b is e = let same : Sound ≡ Repeats = sym is ∙ e in absurd (cc)
+nothing-found f false true is e = let same : Sound ≡ Strange = sym is ∙ e in absurd (cc)
+nothing-found f false false is e = (refl, refl)
