@@ -27,6 +27,11 @@ turned a b = by (nat_eq a b) refl
     by true e = e ∙ sym (eq-eqb b a (sym (eqb-true a b e)))
     by false e = e ∙ sym (flipped a b e)
 
+-- a list of no length
+pub no-ids : (ids : List ℕ) → nat_eq (length ids) 0 ≡ true → ids ≡ []
+no-ids [] e = refl
+no-ids (n ∷ ns) e = let none : length (n ∷ ns) ≡ 0 = eqb-true (length (n ∷ ns)) 0 e in absurd (omega arith)
+
 -- ---- ids one after the other
 
 grouped : (a e t b : Bool) → ((a || (e || false)) || (t || b)) ≡ ((a || t) || (e || b))

@@ -260,3 +260,24 @@ pub nothing-found : (f : Finding) (a b : Bool) → f ≡ Sound → f ≡ finding
 nothing-found f true b is e = let same : Sound ≡ Repeats = sym is ∙ e in absurd (cc)
 nothing-found f false true is e = let same : Sound ≡ Strange = sym is ∙ e in absurd (cc)
 nothing-found f false false is e = (refl, refl)
+
+-- ---- tables that items leave
+
+all-stay : {X : Type 0} (p q : X → Bool) (xs : List X) → list_all p xs ≡ true → list_all p (filter q xs) ≡ true
+all-stay p q [] h = refl
+all-stay p q (x ∷ xs) h = let r = and_parts (p x) (list_all p xs) h in by (q x) r.0 (all-stay p q xs r.1)
+  where
+    by : (b : Bool) → p x ≡ true → list_all p (filter q xs) ≡ true → list_all p (cond b (x ∷ filter q xs) (filter q xs)) ≡ true
+    by true e f = ap₂ (λ a b. a && b) e f
+    by false e f = f
+
+-- they fit as before
+pub left-fit : (t : TablesView) (gone : GoneView) → are_fitting t ≡ true → are_fitting (without_gone t gone) ≡ true
+left-fit t gone fit =
+    let p = and_parts (list_all fits_resource t.resources) (list_all fits_op t.ops) fit in
+    ap₂ (λ a b. a && b) (all-stay fits_resource _ t.resources p.0) (all-stay fits_op _ t.ops p.1)
+
+-- a line that says of an item twice that it is gone
+pub gone-twice : (old : TablesView) (l : LineView) → repeats_gone l ≡ true → line_applied old l ≡ Err Repeated
+unfolding line_applied
+gone-twice old l twice = rw twice refl

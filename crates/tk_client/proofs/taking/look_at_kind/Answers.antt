@@ -1,14 +1,9 @@
-use Rattle.std.proofs.Common.{◌≡◌, ℕ, List, [], ◌∷◌, length, Bool, true, false, refl, ap, sym, ◌∙◌, arith}
-use Rattle.std.specs.Prelude.{◌==◌}
+use Rattle.std.proofs.Common.{true, false, ap, sym, ◌∙◌}
 use Rattle.std.specs.List.{list_any}
-use Rattle.std.proofs.lemmas.Bool.{eqb-true}
 use Rattle.tk_client.specs.Told.{is_missing}
+use Rattle.tk_client.proofs.IdLemmas.{no-ids}
 use Rattle.tk_client.proofs.LeaveLemmas.{none-found, repeats-found, others-found}
 use Rattle.tk_client.proofs.taking.look_at_kind.Goals as goal
-
-no-ids : (ids : List ℕ) → (length ids == 0) ≡ true → ids ≡ []
-no-ids [] e = refl
-no-ids (n ∷ ns) e = let none : length (n ∷ ns) ≡ 0 = eqb-true (length (n ∷ ns)) 0 e in absurd (omega arith)
 
 pub returns-then-is_empty : goal.returns-then-is_empty
 returns-then-is_empty g c =
