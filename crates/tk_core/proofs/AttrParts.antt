@@ -1,12 +1,12 @@
 -- The places that hold attribute values.
-use Rattle.std.proofs.Common.{◌≡◌, ℕ, zero, suc, ◌-◌, ◌≤◌, Bool, true, false, ◌<◌, List, [], ◌∷◌, ◌++◌, length, take, Option, Some, None, refl, sym, ap, ◌∙◌, arith}
+use Rattle.std.proofs.Common.{◌≡◌, ℕ, zero, suc, ◌-◌, ◌≤◌, Bool, true, false, ◌<◌, List, [], ◌∷◌, ◌++◌, length, take, Some, refl, sym, ap, ◌∙◌, arith}
 use Rattle.std.specs.Prelude.{map, replicate, slice_get, get_or, min, nat_lt}
 use Rattle.std.proofs.Math.Nat.{min-eq_right}
 use Rattle.std.proofs.Math.Seq.{take-nil}
 use Rattle.std.proofs.lemmas.Bool.Decides.{nat_tests}
 use Rattle.std.proofs.Math.ListN.{set}
 use Rattle.std.proofs.lemmas.List.{length-set}
-use Rattle.tk_core.specs.AttrWords.{attr_word, attr_words, is_kept, are_kept}
+use Rattle.tk_core.specs.AttrWords.{attr_word, is_kept, are_kept}
 use Rattle.tk_core.specs.AttrValues.{value_by, values_by, attr_kinds, kind_or_u64, kind_of_bits, kept_word, kept_kind, view_of, fields_of, IsPadded}
 use Rattle.tk_core.specs.Laws.AttrReadBack.{word_or_zero, is_kept_or_none, attr_from, six_words}
 use Rattle.tk_core.specs.Laws.Signed.{signed_back}

@@ -2,7 +2,7 @@
 ghost use Rattle.std.specs.Prelude.{◌≡◌, true, ◌<◌, ◌/◌, ◌%◌, ◌^◌, map, slice_get, take, get_or};
 ghost use Rattle.tk_core.specs.AttrValues as values;
 ghost use Rattle.tk_core.specs.Words.{number_of_bits};
-ghost use Rattle.tk_core.specs.AttrWords.{attr_word, is_bool, is_signed, is_kept, are_kept, attr_flags};
+ghost use Rattle.tk_core.specs.AttrWords.{attr_word, is_bool, is_signed, is_kept, attr_flags};
 ghost use Rattle.tk_core.specs.Laws.AttrReadBack.{six_from, word_or_zero, is_kept_or_none};
 
 use crate::attr_values::AttrValues;

@@ -1,6 +1,6 @@
 -- Attribute values are read back from their words.
 use Rattle.std.proofs.Common.{◌≡◌, ℕ, ◌+◌, ◌*◌, ◌/◌, ◌%◌, ◌≤◌, Bool, true, false, cond, List, [], ◌∷◌, length, take, Option, Some, None, refl, ap, arith}
-use Rattle.std.specs.Prelude.{◌==◌, map, slice_get, ◌&&◌}
+use Rattle.std.specs.Prelude.{◌==◌, map, slice_get}
 use Rattle.std.specs.Int.{w64, cast_signed}
 use Rattle.std.proofs.lemmas.Bool.{and_parts}
 use Rattle.tk_core.specs.Words.{number_of_bits}

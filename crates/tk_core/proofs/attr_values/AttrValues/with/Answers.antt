@@ -1,6 +1,5 @@
-use Rattle.std.proofs.Common.{◌≡◌, ◌<◌, ◌≤◌, length, ap, ◌∙◌, sym, arith}
+use Rattle.std.proofs.Common.{ap, ◌∙◌, sym}
 use Rattle.std.proofs.Math.ListN.{set}
-use Rattle.tk_core.specs.AttrValues.{fields_of}
 use Rattle.tk_core.specs.AttrWords.{are_kept}
 use Rattle.tk_core.proofs.AttrParts.{shown, set_parts, kept_set, is_padded, is_viewed}
 use Rattle.tk_core.proofs.attr_values.AttrValues.with.Goals as goal

@@ -1,4 +1,4 @@
-use Rattle.std.proofs.Common.{◌≡◌, ◌+◌, ◌≤◌, Bool, true, false, cond, length, refl, arith}
+use Rattle.std.proofs.Common.{◌≡◌, ◌+◌, Bool, true, false, cond, refl, arith}
 use mir.Val.{bool_byte}
 use Rattle.tk_core.specs.ResourceWords.{flags_of}
 use Rattle.tk_core.specs.Laws.ResourceReadBack.{IsHeld, words_are}
