@@ -1,14 +1,14 @@
 -- The places that hold attribute values.
-use Rattle.std.proofs.Common.{◌≡◌, ℕ, zero, suc, ◌-◌, ◌≤◌, Bool, true, false, ◌<◌, List, [], ◌∷◌, ◌++◌, length, take, Option, Some, None, refl, sym, ap, ◌∙◌, arith}
+use Rattle.std.proofs.Common.{◌≡◌, ℕ, zero, suc, ◌-◌, ◌≤◌, Bool, true, false, ◌<◌, List, [], ◌∷◌, ◌++◌, length, take, Some, refl, sym, ap, ◌∙◌, arith}
 use Rattle.std.specs.Prelude.{map, replicate, slice_get, get_or, min, nat_lt}
 use Rattle.std.proofs.Math.Nat.{min-eq_right}
 use Rattle.std.proofs.Math.Seq.{take-nil}
 use Rattle.std.proofs.lemmas.Bool.Decides.{nat_tests}
 use Rattle.std.proofs.Math.ListN.{set}
 use Rattle.std.proofs.lemmas.List.{length-set}
-use Rattle.tk_core.specs.AttrWords.{attr_word, attr_words, is_kept, are_kept}
+use Rattle.tk_core.specs.AttrWords.{attr_word, fits_word, fit_words}
 use Rattle.tk_core.specs.AttrValues.{value_by, values_by, attr_kinds, kind_or_u64, kind_of_bits, kept_word, kept_kind, view_of, fields_of, IsPadded}
-use Rattle.tk_core.specs.Laws.AttrReadBack.{word_or_zero, is_kept_or_none, attr_from, six_words}
+use Rattle.tk_core.specs.Laws.AttrReadBack.{word_or_zero, fits_word_or_none, attr_from, six_words}
 use Rattle.tk_core.specs.Laws.Signed.{signed_back}
 use Rattle.std.proofs.lemmas.Bool.{and_parts}
 use Rattle.tk_core.specs.declared.attr_values.AttrValues.TheInside.{Inside}
@@ -19,7 +19,7 @@ use Rattle.tk_ids.specs.declared.attr.AttrValue.{AttrValue}
 use Rattle.tk_ids.specs.declared.attr.AttrValue.TheVariants as values
 
 -- a value is that of its word and its kind
-pub value_back : (v : AttrValue) → is_kept v ≡ true → value_by (attr_word v) (kind_of v) ≡ v
+pub value_back : (v : AttrValue) → fits_word v ≡ true → value_by (attr_word v) (kind_of v) ≡ v
 value_back (values.U64 n) kept = refl
 value_back (values.Bool true) kept = refl
 value_back (values.Bool false) kept = refl
@@ -30,45 +30,45 @@ kind_by w kinds.U64 = refl
 kind_by w kinds.Bool = refl
 kind_by w kinds.I64 = refl
 
-front : (vs : List AttrValue) (ws : List ℕ) (ks : List AttrKind) → are_kept vs ≡ true → take (length vs) (values_by (map attr_word vs ++ ws) (map kind_of vs ++ ks)) ≡ vs
+front : (vs : List AttrValue) (ws : List ℕ) (ks : List AttrKind) → fit_words vs ≡ true → take (length vs) (values_by (map attr_word vs ++ ws) (map kind_of vs ++ ks)) ≡ vs
 front [] ws ks kept = refl
-front (v ∷ vs) ws ks kept = let parts = and_parts (is_kept v) (are_kept vs) kept in rw (value_back v parts.0, front vs ws ks parts.1) refl
+front (v ∷ vs) ws ks kept = let parts = and_parts (fits_word v) (fit_words vs) kept in rw (value_back v parts.0, front vs ws ks parts.1) refl
 
 -- places that are filled show what they are filled with
-pub view_fields : (vs : List AttrValue) → are_kept vs ≡ true → view_of (fields_of vs) ≡ vs
+pub view_fields : (vs : List AttrValue) → fit_words vs ≡ true → view_of (fields_of vs) ≡ vs
 view_fields vs kept = front vs _ _ kept
 
 -- places that are those of a list of kept values
-pub is_viewed : (a : Inside) (vs : List AttrValue) → a ≡ fields_of vs → are_kept vs ≡ true → view_of a ≡ vs
+pub is_viewed : (a : Inside) (vs : List AttrValue) → a ≡ fields_of vs → fit_words vs ≡ true → view_of a ≡ vs
 is_viewed a vs e kept = ap view_of e ∙ view_fields vs kept
 
-pub is_padded : (a : Inside) (vs : List AttrValue) → a ≡ fields_of vs → are_kept vs ≡ true → a.count ≤ 6 → IsPadded a
-is_padded a vs e kept le = (le, (ap fields_of (is_viewed a vs e kept) ∙ sym e, ap are_kept (is_viewed a vs e kept) ∙ kept))
+pub is_padded : (a : Inside) (vs : List AttrValue) → a ≡ fields_of vs → fit_words vs ≡ true → a.count ≤ 6 → IsPadded a
+is_padded a vs e kept le = (le, (ap fields_of (is_viewed a vs e kept) ∙ sym e, ap fit_words (is_viewed a vs e kept) ∙ kept))
 
 -- values at at most six places are kept
-pub kept_slots : (vs : List AttrValue) → length vs ≤ 6
-    → is_kept_or_none (slice_get vs 0) ≡ true → is_kept_or_none (slice_get vs 1) ≡ true → is_kept_or_none (slice_get vs 2) ≡ true → is_kept_or_none (slice_get vs 3) ≡ true → is_kept_or_none (slice_get vs 4) ≡ true → is_kept_or_none (slice_get vs 5) ≡ true
-    → are_kept vs ≡ true
-kept_slots [] le i j k l m n = refl
-kept_slots (a ∷ []) le i j k l m n = rw (i) refl
-kept_slots (a ∷ (b ∷ [])) le i j k l m n = rw (i, j) refl
-kept_slots (a ∷ (b ∷ (c ∷ []))) le i j k l m n = rw (i, j, k) refl
-kept_slots (a ∷ (b ∷ (c ∷ (d ∷ [])))) le i j k l m n = rw (i, j, k, l) refl
-kept_slots (a ∷ (b ∷ (c ∷ (d ∷ (e ∷ []))))) le i j k l m n = rw (i, j, k, l, m) refl
-kept_slots (a ∷ (b ∷ (c ∷ (d ∷ (e ∷ (f ∷ [])))))) le i j k l m n = rw (i, j, k, l, m, n) refl
-kept_slots (a ∷ (b ∷ (c ∷ (d ∷ (e ∷ (f ∷ (g ∷ more))))))) le i j k l m n = absurd (omega arith)
+pub fit_slots : (vs : List AttrValue) → length vs ≤ 6
+    → fits_word_or_none (slice_get vs 0) ≡ true → fits_word_or_none (slice_get vs 1) ≡ true → fits_word_or_none (slice_get vs 2) ≡ true → fits_word_or_none (slice_get vs 3) ≡ true → fits_word_or_none (slice_get vs 4) ≡ true → fits_word_or_none (slice_get vs 5) ≡ true
+    → fit_words vs ≡ true
+fit_slots [] le i j k l m n = refl
+fit_slots (a ∷ []) le i j k l m n = rw (i) refl
+fit_slots (a ∷ (b ∷ [])) le i j k l m n = rw (i, j) refl
+fit_slots (a ∷ (b ∷ (c ∷ []))) le i j k l m n = rw (i, j, k) refl
+fit_slots (a ∷ (b ∷ (c ∷ (d ∷ [])))) le i j k l m n = rw (i, j, k, l) refl
+fit_slots (a ∷ (b ∷ (c ∷ (d ∷ (e ∷ []))))) le i j k l m n = rw (i, j, k, l, m) refl
+fit_slots (a ∷ (b ∷ (c ∷ (d ∷ (e ∷ (f ∷ [])))))) le i j k l m n = rw (i, j, k, l, m, n) refl
+fit_slots (a ∷ (b ∷ (c ∷ (d ∷ (e ∷ (f ∷ (g ∷ more))))))) le i j k l m n = absurd (omega arith)
 
 -- so are the first few of kept ones
-pub kept_front : (n : ℕ) (vs : List AttrValue) → are_kept vs ≡ true → are_kept (take n vs) ≡ true
-kept_front zero vs kept = refl
-kept_front (suc n) [] kept = refl
-kept_front (suc n) (v ∷ vs) kept = let parts = and_parts (is_kept v) (are_kept vs) kept in rw (parts.0, kept_front n vs parts.1) refl
+pub fit_front : (n : ℕ) (vs : List AttrValue) → fit_words vs ≡ true → fit_words (take n vs) ≡ true
+fit_front zero vs kept = refl
+fit_front (suc n) [] kept = refl
+fit_front (suc n) (v ∷ vs) kept = let parts = and_parts (fits_word v) (fit_words vs) kept in rw (parts.0, fit_front n vs parts.1) refl
 
 -- and values of which one takes another's place
-pub kept_set : (vs : List AttrValue) (i : ℕ) (v : AttrValue) → are_kept vs ≡ true → is_kept v ≡ true → are_kept (set vs i v) ≡ true
-kept_set [] i v kept is = refl
-kept_set (x ∷ vs) zero v kept is = let parts = and_parts (is_kept x) (are_kept vs) kept in rw (is, parts.1) refl
-kept_set (x ∷ vs) (suc i) v kept is = let parts = and_parts (is_kept x) (are_kept vs) kept in rw (parts.0, kept_set vs i v parts.1 is) refl
+pub fit_set : (vs : List AttrValue) (i : ℕ) (v : AttrValue) → fit_words vs ≡ true → fits_word v ≡ true → fit_words (set vs i v) ≡ true
+fit_set [] i v kept is = refl
+fit_set (x ∷ vs) zero v kept is = let parts = and_parts (fits_word x) (fit_words vs) kept in rw (is, parts.1) refl
+fit_set (x ∷ vs) (suc i) v kept is = let parts = and_parts (fits_word x) (fit_words vs) kept in rw (parts.0, fit_set vs i v parts.1 is) refl
 
 -- the places are those of the list that they show
 pub shown : (a : Inside) (vs : List AttrValue) → IsPadded a → view_of a ≡ vs → a ≡ fields_of vs
@@ -158,12 +158,12 @@ first_parts n ws ks w t six_ws six_ks =
     ∙ ap (λ ys. fields_of (take n (values_by ws ys))) (sym (six_of ks t six_ks))
 
 -- six values that are kept one by one
-pub six_kept : (ws : List ℕ) (ks : List AttrKind) (w : ℕ) (t : AttrKind) → length ws ≡ 6 → length ks ≡ 6
-    → is_kept (value_by (get_or ws 0 w) (get_or ks 0 t)) ≡ true → is_kept (value_by (get_or ws 1 w) (get_or ks 1 t)) ≡ true → is_kept (value_by (get_or ws 2 w) (get_or ks 2 t)) ≡ true → is_kept (value_by (get_or ws 3 w) (get_or ks 3 t)) ≡ true → is_kept (value_by (get_or ws 4 w) (get_or ks 4 t)) ≡ true → is_kept (value_by (get_or ws 5 w) (get_or ks 5 t)) ≡ true
-    → are_kept (values_by ws ks) ≡ true
-six_kept ws ks w t six_ws six_ks i j k l m n =
-    ap (λ xs. are_kept (values_by xs ks)) (six_of ws w six_ws)
-    ∙ ap (λ ys. are_kept (values_by (get_or ws 0 w ∷ get_or ws 1 w ∷ get_or ws 2 w ∷ get_or ws 3 w ∷ get_or ws 4 w ∷ get_or ws 5 w ∷ []) ys)) (six_of ks t six_ks)
+pub six_fit : (ws : List ℕ) (ks : List AttrKind) (w : ℕ) (t : AttrKind) → length ws ≡ 6 → length ks ≡ 6
+    → fits_word (value_by (get_or ws 0 w) (get_or ks 0 t)) ≡ true → fits_word (value_by (get_or ws 1 w) (get_or ks 1 t)) ≡ true → fits_word (value_by (get_or ws 2 w) (get_or ks 2 t)) ≡ true → fits_word (value_by (get_or ws 3 w) (get_or ks 3 t)) ≡ true → fits_word (value_by (get_or ws 4 w) (get_or ks 4 t)) ≡ true → fits_word (value_by (get_or ws 5 w) (get_or ks 5 t)) ≡ true
+    → fit_words (values_by ws ks) ≡ true
+six_fit ws ks w t six_ws six_ks i j k l m n =
+    ap (λ xs. fit_words (values_by xs ks)) (six_of ws w six_ws)
+    ∙ ap (λ ys. fit_words (values_by (get_or ws 0 w ∷ get_or ws 1 w ∷ get_or ws 2 w ∷ get_or ws 3 w ∷ get_or ws 4 w ∷ get_or ws 5 w ∷ []) ys)) (six_of ks t six_ks)
     ∙ rw (i, j, k, l, m, n) refl
 
 -- the value at a place

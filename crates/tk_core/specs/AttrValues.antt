@@ -1,7 +1,7 @@
 -- Up to six attribute values, kept as words and kinds. Inner: no crate above cites it.
 use Rattle.std.specs.Prelude.{◌≡◌, ℕ, ◌-◌, ◌≤◌, ◌==◌, Bool, true, false, Option, Some, None, List, [], ◌∷◌, ◌++◌, length, map, take, replicate}
 use Rattle.std.specs.Int.{w64, cast_signed}
-use Rattle.tk_core.specs.AttrWords.{attr_word, attr_words, are_kept}
+use Rattle.tk_core.specs.AttrWords.{attr_word, attr_words, fit_words}
 use Rattle.tk_ids.specs.Attributes.{kind_of}
 use Rattle.tk_ids.specs.declared.attr.AttrKind.{AttrKind}
 use Rattle.tk_ids.specs.declared.attr.AttrKind.TheVariants as kinds
@@ -55,7 +55,7 @@ fields_of vs = record { words = attr_words vs; kinds = attr_kinds vs; count = le
 
 -- at most six values, which words keep, and the places are those that hold them
 abbrev pub IsPadded : Inside → Type 0
-IsPadded a = (a.count ≤ 6) × ((fields_of (view_of a) ≡ a) × (are_kept (view_of a) ≡ true))
+IsPadded a = (a.count ≤ 6) × ((fields_of (view_of a) ≡ a) × (fit_words (view_of a) ≡ true))
 
 pub fields_of_view : (a : Inside) → IsPadded a → fields_of (view_of a) ≡ a
 fields_of_view a h = h.1.0

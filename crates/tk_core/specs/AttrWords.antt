@@ -14,13 +14,13 @@ attr_word (values.Bool b) = if b then 1 else 0
 attr_word (values.I64 n) = cast_unsigned w64 n
 
 -- whether a value's word tells it from every other of its kind: 64 bits hold it
-abbrev pub is_kept : AttrValue → Bool
-is_kept (values.U64 n) = true
-is_kept (values.Bool b) = true
-is_kept (values.I64 n) = is_i64 n
+abbrev pub fits_word : AttrValue → Bool
+fits_word (values.U64 n) = true
+fits_word (values.Bool b) = true
+fits_word (values.I64 n) = is_i64 n
 
-abbrev pub are_kept : List AttrValue → Bool
-are_kept attrs = list_all is_kept attrs
+abbrev pub fit_words : List AttrValue → Bool
+fit_words attrs = list_all fits_word attrs
 
 -- whether a value is a `Bool`
 abbrev pub is_bool : AttrValue → Bool

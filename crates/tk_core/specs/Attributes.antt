@@ -9,12 +9,12 @@ use Rattle.tk_core.specs.declared.attrs.AttrOp.TheVariants.{Add, Sub, Override}
 use Rattle.tk_core.specs.declared.reply.Refusal.{Refusal}
 use Rattle.tk_core.specs.declared.reply.Refusal.TheVariants.{NoAttribute, WrongKind, OutOfRange}
 
--- what a change adds
+-- what a change adds to an unsigned number
 abbrev pub added : AttrOp → ℕ
 added (Add (values.U64 n)) = n
 added _ = 0
 
--- what a change takes away
+-- what a change takes away from an unsigned number
 abbrev pub taken : AttrOp → ℕ
 taken (Sub (values.U64 n)) = n
 taken _ = 0

@@ -3,7 +3,7 @@
 //! They are kept in place as words and kinds, behind one another, with zeros up to six, so that a row is small and `Copy`.
 ghost use Rattle.std.specs.Prelude.{◌≡◌, true, ◌≤◌, ◌<◌, ◌↔◌, IsTrue, [], length, slice_get, slice_set, take};
 ghost use Rattle.tk_core.specs.AttrValues.{values_by};
-ghost use Rattle.tk_core.specs.AttrWords.{are_kept};
+ghost use Rattle.tk_core.specs.AttrWords.{fit_words};
 ghost use Rattle.tk_core.specs.Laws.AttrReadBack.{word_or_zero, bool_bit, sign_bit};
 
 use crate::attr_words::{kept_kind, kept_word, kind_in, value_by, word, word_in};
@@ -120,7 +120,7 @@ impl AttrValues {
     pub fn len(&self) -> usize
         ensures length { result ≡ length self.now }
         ensures within { result ≤ 6 }
-        ensures kept { are_kept self.now ≡ true }
+        ensures fits { fit_words self.now ≡ true }
     {
         usize::from(self.count)
     }

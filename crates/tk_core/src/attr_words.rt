@@ -2,15 +2,15 @@
 ghost use Rattle.std.specs.Prelude.{◌≡◌, true, ◌<◌, ◌/◌, ◌%◌, ◌^◌, map, slice_get, take, get_or};
 ghost use Rattle.tk_core.specs.AttrValues as values;
 ghost use Rattle.tk_core.specs.Words.{number_of_bits};
-ghost use Rattle.tk_core.specs.AttrWords.{attr_word, is_bool, is_signed, is_kept, are_kept, attr_flags};
-ghost use Rattle.tk_core.specs.Laws.AttrReadBack.{six_from, word_or_zero, is_kept_or_none};
+ghost use Rattle.tk_core.specs.AttrWords.{attr_word, is_bool, is_signed, fits_word, attr_flags};
+ghost use Rattle.tk_core.specs.Laws.AttrReadBack.{six_from, word_or_zero, fits_word_or_none};
 
 use crate::attr_values::AttrValues;
 use tk_ids::{AttrKind, AttrValue};
 
 pub(crate) fn word(value: AttrValue) -> u64
     ensures word { result ≡ attr_word value }
-    ensures kept { is_kept value ≡ true }
+    ensures fits { fits_word value ≡ true }
 {
     match value {
         AttrValue::U64(n) => n,
@@ -32,7 +32,7 @@ pub(crate) fn value_by(word: u64, kind: AttrKind) -> AttrValue
 /// The word of the value at an index, or 0.
 pub(crate) fn word_in(list: &[AttrValue], index: usize) -> u64
     ensures word { result ≡ word_or_zero (slice_get list.now index) }
-    ensures kept { is_kept_or_none (slice_get list.now index) ≡ true }
+    ensures fits { fits_word_or_none (slice_get list.now index) ≡ true }
 {
     match list.get(index) {
         Some(value) => word(*value),
@@ -53,7 +53,7 @@ pub(crate) fn kind_in(list: &[AttrValue], index: usize) -> AttrKind
 /// The word of a value that is kept, and otherwise 0.
 pub(crate) fn kept_word(kept: bool, word: u64, kind: AttrKind) -> u64
     ensures word { result ≡ values.kept_word kept word kind }
-    ensures kept { is_kept (values.value_by word kind) ≡ true }
+    ensures fits { fits_word (values.value_by word kind) ≡ true }
 {
     let word = self::word(value_by(word, kind));
     if kept { word } else { 0 }
@@ -83,6 +83,7 @@ impl AttrValues {
         ensures value { result ≡ number_of_bits (map is_bool self.now) }
         ensures bits { result < 64 }
     {
+        // What is known of the values is in `len`'s contract.
         let _within = self.len();
         self.bool_at(0)
             + 2 * self.bool_at(1)
@@ -96,6 +97,7 @@ impl AttrValues {
         ensures value { result ≡ number_of_bits (map is_signed self.now) }
         ensures bits { result < 64 }
     {
+        // What is known of the values is in `len`'s contract.
         let _within = self.len();
         self.sign_at(0)
             + 2 * self.sign_at(1)

@@ -6,9 +6,10 @@ use tk_ids::AttrValue;
 /// A change of an attribute, with a value of the attribute's kind. A `Bool` is only overridden.
 #[derive(Clone, Copy, Debug, PartialEq, Eq)]
 pub enum AttrOp {
-    /// The value is added. Refused with `OutOfRange` where the sum is above 2^64 - 1, or of signed numbers isn't from -2^63 to 2^63 - 1.
+    /// The value is added. Refused with `OutOfRange` where the sum leaves the kind's numbers: from 0 to 2^64 - 1, or of signed
+    /// ones from -2^63 to 2^63 - 1.
     Add(AttrValue),
-    /// The value is taken away. Refused with `OutOfRange` where the difference is below 0, or of signed numbers isn't from -2^63 to 2^63 - 1.
+    /// The value is taken away. Refused with `OutOfRange` where the difference leaves the kind's numbers, as of `Add`.
     Sub(AttrValue),
     /// The value takes the place of the attribute's.
     Override(AttrValue),

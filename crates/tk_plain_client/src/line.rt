@@ -20,6 +20,8 @@ pub struct Told {
 pub struct Part {
     pub news: Vec<New>,
     pub told: Vec<Told>,
+    /// The ids of what is gone.
+    pub gone: Vec<u64>,
 }
 
 /// How a line is spoilt.
@@ -39,6 +41,8 @@ pub struct Given {
     pub counts: Vec<(u64, u64, u64)>,
     pub seq: u64,
     pub snapshot: bool,
+    /// It is of version 2, which says what is gone.
+    pub removes: bool,
     pub now: u64,
     pub spoilt: Spoilt,
 }

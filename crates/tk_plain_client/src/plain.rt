@@ -84,13 +84,37 @@ fn counted(counts: &[(u64, u64, u64)], id: u64) -> bool {
     false
 }
 
+fn is_among(ids: &[u64], id: u64) -> bool {
+    for one in ids {
+        if *one == id {
+            return true;
+        }
+    }
+    false
+}
+
+// Whether one is gone twice, or gone and told of.
+fn repeats_gone(part: &Part) -> bool {
+    for (i, id) in part.gone.iter().enumerate() {
+        if is_among(&part.gone[..i], *id) || told_of(&part.told, *id).is_some() {
+            return true;
+        }
+    }
+    false
+}
+
 fn repeats(held: &[Held], part: &Part) -> bool {
-    repeats_new(held, &part.news) || repeats_told(&part.told)
+    repeats_new(held, &part.news) || repeats_told(&part.told) || repeats_gone(part)
 }
 
 fn has_stranger(held: &[Held], part: &Part) -> bool {
     for one in &part.told {
         if !has(held, one.id) && !has_new(&part.news, one.id) {
+            return true;
+        }
+    }
+    for id in &part.gone {
+        if !has(held, *id) {
             return true;
         }
     }
@@ -116,12 +140,14 @@ fn fit(held: &[Held]) -> bool {
     true
 }
 
-// The items behind a line: what is told takes the place of what was, and new ones go last.
+// The items behind a line: what is gone leaves, what is told takes the place of what was, and new ones go last.
 fn items_behind(alloc: Global, held: &[Held], part: &Part) -> Result<Vec<Held>, AllocError> {
     let mut items = Vec::new(alloc);
     for one in held {
-        let told = told_of(&part.told, one.new.id).unwrap_or(one.told);
-        items.push(Held { new: one.new, told })?;
+        if !is_among(&part.gone, one.new.id) {
+            let told = told_of(&part.told, one.new.id).unwrap_or(one.told);
+            items.push(Held { new: one.new, told })?;
+        }
     }
     for new in &part.news {
         if let Some(told) = told_of(&part.told, new.id) {
@@ -172,7 +198,11 @@ fn part_of(alloc: Global, held: &[Held]) -> Result<Part, AllocError> {
     for one in held {
         told.push(one.told)?;
     }
-    Ok(Part { news, told })
+    Ok(Part {
+        news,
+        told,
+        gone: Vec::new(alloc),
+    })
 }
 
 impl Plain {
@@ -285,6 +315,7 @@ impl Plain {
             counts,
             seq: 1,
             snapshot: true,
+            removes: false,
             now: self.now,
             spoilt: Spoilt::Whole,
         })

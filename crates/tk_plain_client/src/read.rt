@@ -40,10 +40,59 @@ fn told_at(alloc: Global, value: &Value, key: &str, kind: Kind) -> Result<Vec<To
     Ok(told)
 }
 
-fn part_at(alloc: Global, value: &Value, keys: (&str, &str), kind: Kind) -> Result<Part, Unread> {
-    let news = news_at(alloc, value, keys.0, kind)?;
-    let told = told_at(alloc, value, keys.1, kind)?;
-    Ok(Part { news, told })
+// The ids of what is gone.
+fn gone_at(alloc: Global, value: &Value, key: &str) -> Result<Vec<u64>, Unread> {
+    let mut gone = Vec::new(alloc);
+    for id in list_at(value, key)? {
+        let found = id_of(id).ok_or(Unread::NoLine)?;
+        if gone.push(found).is_err() {
+            return Err(Unread::Memory);
+        }
+    }
+    Ok(gone)
+}
+
+// The keys of what a line says of one kind of item.
+#[derive(Clone, Copy)]
+struct Keys {
+    news: &'static str,
+    told: &'static str,
+    gone: &'static str,
+}
+
+const TASKS: Keys = Keys {
+    news: "new_tasks",
+    told: "task_stats",
+    gone: "gone_tasks",
+};
+
+const RESOURCES: Keys = Keys {
+    news: "new_resources",
+    told: "resource_stats",
+    gone: "gone_resources",
+};
+
+const OPS: Keys = Keys {
+    news: "new_ops",
+    told: "op_stats",
+    gone: "gone_ops",
+};
+
+fn part_at(
+    alloc: Global,
+    value: &Value,
+    keys: Keys,
+    kind: Kind,
+    removes: bool,
+) -> Result<Part, Unread> {
+    let news = news_at(alloc, value, keys.news, kind)?;
+    let told = told_at(alloc, value, keys.told, kind)?;
+    let gone = if removes {
+        gone_at(alloc, value, keys.gone)?
+    } else {
+        Vec::new(alloc)
+    };
+    Ok(Part { news, told, gone })
 }
 
 // A resource with its ready and its pending polls.
@@ -76,9 +125,16 @@ fn are_three_numbers(value: &Value, key: &str) -> bool {
     }
 }
 
-// Whether the value has the keys of a line, of version 1.
-fn is_framed(value: &Value) -> bool {
-    has_members(value, 12) && are_three_numbers(value, "dropped") && number(value, "v") == Some(1)
+// Whether the value has as many keys as a line of its version, and so whether it says what is gone.
+fn framed(value: &Value) -> Option<bool> {
+    if !are_three_numbers(value, "dropped") {
+        return None;
+    }
+    match number(value, "v") {
+        Some(1) if has_members(value, 12) => Some(false),
+        Some(2) if has_members(value, 15) => Some(true),
+        _ => None,
+    }
 }
 
 // The line's number, from 1 to 2^63.
@@ -90,20 +146,13 @@ fn seq_of(value: &Value) -> Option<u64> {
 }
 
 fn of_value(alloc: Global, value: &Value) -> Result<Given, Unread> {
-    if !is_framed(value) {
-        return Err(Unread::NoLine);
-    }
+    let removes = framed(value).ok_or(Unread::NoLine)?;
     let seq = seq_of(value).ok_or(Unread::NoLine)?;
     let now = number(value, "now").ok_or(Unread::NoLine)?;
     let snapshot = flag(value, "snapshot").ok_or(Unread::NoLine)?;
-    let tasks = part_at(alloc, value, ("new_tasks", "task_stats"), Kind::Task)?;
-    let resources = part_at(
-        alloc,
-        value,
-        ("new_resources", "resource_stats"),
-        Kind::Resource,
-    )?;
-    let ops = part_at(alloc, value, ("new_ops", "op_stats"), Kind::Op)?;
+    let tasks = part_at(alloc, value, TASKS, Kind::Task, removes)?;
+    let resources = part_at(alloc, value, RESOURCES, Kind::Resource, removes)?;
+    let ops = part_at(alloc, value, OPS, Kind::Op, removes)?;
     let counts = counts_at(alloc, value)?;
     Ok(Given {
         tasks,
@@ -112,6 +161,7 @@ fn of_value(alloc: Global, value: &Value) -> Result<Given, Unread> {
         counts,
         seq,
         snapshot,
+        removes,
         now,
         spoilt: Spoilt::Whole,
     })
@@ -129,6 +179,7 @@ fn nothing(alloc: Global) -> Part {
     Part {
         news: Vec::new(alloc),
         told: Vec::new(alloc),
+        gone: Vec::new(alloc),
     }
 }
 
@@ -140,6 +191,7 @@ fn spoilt_line(alloc: Global, spoilt: Spoilt) -> Given {
         counts: Vec::new(alloc),
         seq: 0,
         snapshot: false,
+        removes: false,
         now: 0,
         spoilt,
     }

@@ -86,11 +86,38 @@ fn add_told(random: &mut Pcg32, part: &mut Part, held: &[New]) -> Result<(), All
     Ok(())
 }
 
-// Up to two new items and up to three rows of others, before the new ones' rows or behind them.
-fn part_of(alloc: Global, random: &mut Pcg32, held: &[New]) -> Result<Part, AllocError> {
+fn is_among(ids: &[u64], id: u64) -> bool {
+    for one in ids {
+        if *one == id {
+            return true;
+        }
+    }
+    false
+}
+
+// An item that is there, isn't told of and isn't gone yet, but for one in 64.
+fn add_gone(random: &mut Pcg32, part: &mut Part, held: &[New]) -> Result<(), AllocError> {
+    let id = any_id(random);
+    let is_odd = !has_new(held, id) || has_told(&part.told, id) || is_among(&part.gone, id);
+    if is_odd && !happens(random, 64) {
+        return Ok(());
+    }
+    part.gone.push(id)?;
+    Ok(())
+}
+
+// Up to two new items and up to three rows of others, before the new ones' rows or behind them, and up to three that are gone,
+// where the line says so.
+fn part_of(
+    alloc: Global,
+    random: &mut Pcg32,
+    held: &[New],
+    removes: bool,
+) -> Result<Part, AllocError> {
     let mut part = Part {
         news: Vec::new(alloc),
         told: Vec::new(alloc),
+        gone: Vec::new(alloc),
     };
     let early = below(random, 4);
     let late = below(random, 2);
@@ -102,6 +129,10 @@ fn part_of(alloc: Global, random: &mut Pcg32, held: &[New]) -> Result<Part, Allo
     }
     for _ in 0..late {
         add_told(random, &mut part, held)?;
+    }
+    let gone = if removes { below(random, 4) } else { 0 };
+    for _ in 0..gone {
+        add_gone(random, &mut part, held)?;
     }
     Ok(part)
 }
@@ -138,9 +169,12 @@ pub(super) fn line_behind(
     };
     let now = below(random, 5000);
     let spoilt = how_spoilt(random);
-    let tasks = part_of(alloc, random, held.0)?;
-    let resources = part_of(alloc, random, held.1)?;
-    let ops = part_of(alloc, random, held.2)?;
+    let removes = happens(random, 2);
+    // Of what a snapshot knows nothing, nothing can be gone, but for one in 64.
+    let says_gone = removes && (!snapshot || happens(random, 64));
+    let tasks = part_of(alloc, random, held.0, says_gone)?;
+    let resources = part_of(alloc, random, held.1, says_gone)?;
+    let ops = part_of(alloc, random, held.2, says_gone)?;
     let counts = counts_of(alloc, random)?;
     Ok(Given {
         tasks,
@@ -149,6 +183,7 @@ pub(super) fn line_behind(
         counts,
         seq,
         snapshot,
+        removes,
         now,
         spoilt,
     })

@@ -214,11 +214,28 @@ fn put_counts(text: &mut String, counts: &[(u64, u64, u64)]) -> Result<(), Alloc
     text.push_str("]")
 }
 
+fn put_ids(text: &mut String, key: &str, ids: &[u64]) -> Result<(), AllocError> {
+    text.push_str(key)?;
+    for (i, id) in ids.iter().enumerate() {
+        put_number(text, if i > 0 { "," } else { "" }, *id)?;
+    }
+    text.push_str("]")
+}
+
+fn put_gone(text: &mut String, line: &Given) -> Result<(), AllocError> {
+    put_ids(text, ",\"gone_ops\":[", &line.ops.gone)?;
+    put_ids(text, ",\"gone_resources\":[", &line.resources.gone)?;
+    put_ids(text, ",\"gone_tasks\":[", &line.tasks.gone)
+}
+
 fn put_infos(text: &mut String, line: &Given) -> Result<(), AllocError> {
     text.push_str(match line.spoilt {
         Spoilt::NoJson => "\"dropped\":[0,0,0]",
         _ => "{\"dropped\":[0,0,0]",
     })?;
+    if line.removes {
+        put_gone(text, line)?;
+    }
     put_news(text, ",\"new_ops\":[", Kind::Op, &line.ops.news)?;
     put_news(
         text,
@@ -245,9 +262,8 @@ pub(super) fn text_of(alloc: Global, line: &Given) -> Result<String, AllocError>
     put_number(&mut text, ",\"seq\":", line.seq)?;
     put_flag(&mut text, ",\"snapshot\":", line.snapshot)?;
     put_rows(&mut text, ",\"task_stats\":[", Kind::Task, &line.tasks.told)?;
-    text.push_str(match line.spoilt {
-        Spoilt::NoLine => ",\"v\":2}",
-        _ => ",\"v\":1}",
-    })?;
+    // A line that is none has the number of the other version.
+    let says_two = line.removes != (line.spoilt == Spoilt::NoLine);
+    text.push_str(if says_two { ",\"v\":2}" } else { ",\"v\":1}" })?;
     Ok(text)
 }

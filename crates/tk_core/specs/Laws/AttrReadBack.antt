@@ -1,10 +1,10 @@
 -- Attribute values are read back from their words.
 use Rattle.std.proofs.Common.{◌≡◌, ℕ, ◌+◌, ◌*◌, ◌/◌, ◌%◌, ◌≤◌, Bool, true, false, cond, List, [], ◌∷◌, length, take, Option, Some, None, refl, ap, arith}
-use Rattle.std.specs.Prelude.{◌==◌, map, slice_get, ◌&&◌}
+use Rattle.std.specs.Prelude.{◌==◌, map, slice_get}
 use Rattle.std.specs.Int.{w64, cast_signed}
 use Rattle.std.proofs.lemmas.Bool.{and_parts}
 use Rattle.tk_core.specs.Words.{number_of_bits}
-use Rattle.tk_core.specs.AttrWords.{attr_word, is_bool, is_signed, is_kept, are_kept, attr_words}
+use Rattle.tk_core.specs.AttrWords.{attr_word, is_bool, is_signed, fits_word, fit_words, attr_words}
 use Rattle.tk_core.specs.Laws.Signed.{signed_back}
 use Rattle.tk_core.specs.Laws.WordsReadBack.{low_bit, high_bits}
 use Rattle.tk_ids.specs.declared.attr.AttrValue.{AttrValue}
@@ -16,16 +16,16 @@ attr_from true signed word = values.Bool (word == 1)
 attr_from false true word = values.I64 (cast_signed w64 word)
 attr_from false false word = values.U64 word
 
-attr_back : (value : AttrValue) → is_kept value ≡ true → attr_from (is_bool value) (is_signed value) (attr_word value) ≡ value
+attr_back : (value : AttrValue) → fits_word value ≡ true → attr_from (is_bool value) (is_signed value) (attr_word value) ≡ value
 attr_back (values.U64 n) kept = refl
 attr_back (values.Bool true) kept = refl
 attr_back (values.Bool false) kept = refl
 attr_back (values.I64 n) kept = ap (λ m. values.I64 m) (signed_back n kept)
 
 -- a word keeps the value at an index, if there is one
-abbrev pub is_kept_or_none : Option AttrValue → Bool
-is_kept_or_none None = true
-is_kept_or_none (Some value) = is_kept value
+abbrev pub fits_word_or_none : Option AttrValue → Bool
+fits_word_or_none None = true
+fits_word_or_none (Some value) = fits_word value
 
 -- the word at an index, or 0
 abbrev pub word_or_zero : Option AttrValue → ℕ
@@ -91,39 +91,39 @@ six_from bools signs a b c d e f =
 abbrev pub SixBack : List AttrValue → Type 0
 SixBack attrs = take (length attrs) (six_from (number_of_bits (map is_bool attrs)) (number_of_bits (map is_signed attrs)) (word_or_zero (slice_get attrs 0)) (word_or_zero (slice_get attrs 1)) (word_or_zero (slice_get attrs 2)) (word_or_zero (slice_get attrs 3)) (word_or_zero (slice_get attrs 4)) (word_or_zero (slice_get attrs 5))) ≡ attrs
 
-pub six_back : (attrs : List AttrValue) → length attrs ≤ 6 → are_kept attrs ≡ true → SixBack attrs
+pub six_back : (attrs : List AttrValue) → length attrs ≤ 6 → fit_words attrs ≡ true → SixBack attrs
 six_back [] le kept = refl
 six_back (a ∷ []) le kept =
-    let a-kept = and_parts (is_kept a) (are_kept []) kept in
+    let a-kept = and_parts (fits_word a) (fit_words []) kept in
     simp (low_bit, high_bits, attr_back a a-kept.0)
 six_back (a ∷ (b ∷ [])) le kept =
-    let a-kept = and_parts (is_kept a) (are_kept (b ∷ [])) kept in
-    let b-kept = and_parts (is_kept b) (are_kept []) a-kept.1 in
+    let a-kept = and_parts (fits_word a) (fit_words (b ∷ [])) kept in
+    let b-kept = and_parts (fits_word b) (fit_words []) a-kept.1 in
     simp (low_bit, high_bits, attr_back a a-kept.0, attr_back b b-kept.0)
 six_back (a ∷ (b ∷ (c ∷ []))) le kept =
-    let a-kept = and_parts (is_kept a) (are_kept (b ∷ (c ∷ []))) kept in
-    let b-kept = and_parts (is_kept b) (are_kept (c ∷ [])) a-kept.1 in
-    let c-kept = and_parts (is_kept c) (are_kept []) b-kept.1 in
+    let a-kept = and_parts (fits_word a) (fit_words (b ∷ (c ∷ []))) kept in
+    let b-kept = and_parts (fits_word b) (fit_words (c ∷ [])) a-kept.1 in
+    let c-kept = and_parts (fits_word c) (fit_words []) b-kept.1 in
     simp (low_bit, high_bits, attr_back a a-kept.0, attr_back b b-kept.0, attr_back c c-kept.0)
 six_back (a ∷ (b ∷ (c ∷ (d ∷ [])))) le kept =
-    let a-kept = and_parts (is_kept a) (are_kept (b ∷ (c ∷ (d ∷ [])))) kept in
-    let b-kept = and_parts (is_kept b) (are_kept (c ∷ (d ∷ []))) a-kept.1 in
-    let c-kept = and_parts (is_kept c) (are_kept (d ∷ [])) b-kept.1 in
-    let d-kept = and_parts (is_kept d) (are_kept []) c-kept.1 in
+    let a-kept = and_parts (fits_word a) (fit_words (b ∷ (c ∷ (d ∷ [])))) kept in
+    let b-kept = and_parts (fits_word b) (fit_words (c ∷ (d ∷ []))) a-kept.1 in
+    let c-kept = and_parts (fits_word c) (fit_words (d ∷ [])) b-kept.1 in
+    let d-kept = and_parts (fits_word d) (fit_words []) c-kept.1 in
     simp (low_bit, high_bits, attr_back a a-kept.0, attr_back b b-kept.0, attr_back c c-kept.0, attr_back d d-kept.0)
 six_back (a ∷ (b ∷ (c ∷ (d ∷ (e ∷ []))))) le kept =
-    let a-kept = and_parts (is_kept a) (are_kept (b ∷ (c ∷ (d ∷ (e ∷ []))))) kept in
-    let b-kept = and_parts (is_kept b) (are_kept (c ∷ (d ∷ (e ∷ [])))) a-kept.1 in
-    let c-kept = and_parts (is_kept c) (are_kept (d ∷ (e ∷ []))) b-kept.1 in
-    let d-kept = and_parts (is_kept d) (are_kept (e ∷ [])) c-kept.1 in
-    let e-kept = and_parts (is_kept e) (are_kept []) d-kept.1 in
+    let a-kept = and_parts (fits_word a) (fit_words (b ∷ (c ∷ (d ∷ (e ∷ []))))) kept in
+    let b-kept = and_parts (fits_word b) (fit_words (c ∷ (d ∷ (e ∷ [])))) a-kept.1 in
+    let c-kept = and_parts (fits_word c) (fit_words (d ∷ (e ∷ []))) b-kept.1 in
+    let d-kept = and_parts (fits_word d) (fit_words (e ∷ [])) c-kept.1 in
+    let e-kept = and_parts (fits_word e) (fit_words []) d-kept.1 in
     simp (low_bit, high_bits, attr_back a a-kept.0, attr_back b b-kept.0, attr_back c c-kept.0, attr_back d d-kept.0, attr_back e e-kept.0)
 six_back (a ∷ (b ∷ (c ∷ (d ∷ (e ∷ (f ∷ [])))))) le kept =
-    let a-kept = and_parts (is_kept a) (are_kept (b ∷ (c ∷ (d ∷ (e ∷ (f ∷ [])))))) kept in
-    let b-kept = and_parts (is_kept b) (are_kept (c ∷ (d ∷ (e ∷ (f ∷ []))))) a-kept.1 in
-    let c-kept = and_parts (is_kept c) (are_kept (d ∷ (e ∷ (f ∷ [])))) b-kept.1 in
-    let d-kept = and_parts (is_kept d) (are_kept (e ∷ (f ∷ []))) c-kept.1 in
-    let e-kept = and_parts (is_kept e) (are_kept (f ∷ [])) d-kept.1 in
-    let f-kept = and_parts (is_kept f) (are_kept []) e-kept.1 in
+    let a-kept = and_parts (fits_word a) (fit_words (b ∷ (c ∷ (d ∷ (e ∷ (f ∷ [])))))) kept in
+    let b-kept = and_parts (fits_word b) (fit_words (c ∷ (d ∷ (e ∷ (f ∷ []))))) a-kept.1 in
+    let c-kept = and_parts (fits_word c) (fit_words (d ∷ (e ∷ (f ∷ [])))) b-kept.1 in
+    let d-kept = and_parts (fits_word d) (fit_words (e ∷ (f ∷ []))) c-kept.1 in
+    let e-kept = and_parts (fits_word e) (fit_words (f ∷ [])) d-kept.1 in
+    let f-kept = and_parts (fits_word f) (fit_words []) e-kept.1 in
     simp (low_bit, high_bits, attr_back a a-kept.0, attr_back b b-kept.0, attr_back c c-kept.0, attr_back d d-kept.0, attr_back e e-kept.0, attr_back f f-kept.0)
 six_back (a ∷ (b ∷ (c ∷ (d ∷ (e ∷ (f ∷ (g ∷ more))))))) le kept = absurd (omega arith)

@@ -4,7 +4,7 @@ use Rattle.std.specs.Prelude.{is_some, ◌==◌, map, slice_get, ◌&&◌}
 use Rattle.std.proofs.lemmas.List.{length-append, length-map, length-replicate}
 use Rattle.tk_ids.specs.Ids.{is_id}
 use Rattle.tk_core.specs.Words.{number_of_bits, word_of}
-use Rattle.tk_core.specs.AttrWords.{is_bool, is_signed, are_kept, attr_words}
+use Rattle.tk_core.specs.AttrWords.{is_bool, is_signed, fit_words, attr_words}
 use Rattle.tk_core.specs.OpWords.{names_task, task_word, flags_of, words_of}
 use Rattle.tk_core.specs.Laws.WordsReadBack.{low_bit, high_bits, moment}
 use Rattle.tk_core.specs.Laws.AttrReadBack.{word_or_zero, six_words, six_bits, six_from, six_back}
@@ -53,15 +53,15 @@ read_from w =
 -- sixteen words are those of a row that a program can hold
 pub record IsHeld (row : OpRow) : Type 0 where
   pub names : names_task row.task ≡ true
-  pub kept : are_kept row.attrs ≡ true
+  pub fit : fit_words row.attrs ≡ true
   pub few : length row.attrs ≤ 6
 
 pub is_held : (row : OpRow) → length (words_of row) ≡ 16 → IsHeld row
 unfolding words_of
-is_held row e = go (names_task row.task) (are_kept row.attrs) refl refl e
+is_held row e = go (names_task row.task) (fit_words row.attrs) refl refl e
   where
-    go : (names kept : Bool) → names_task row.task ≡ names → are_kept row.attrs ≡ kept → length (cond (names && kept) (flags_of row ∷ row.created ∷ word_of row.dropped ∷ row.polls ∷ word_of row.first_poll ∷ word_of row.last_started ∷ word_of row.last_ended ∷ row.busy ∷ row.handles ∷ task_word row.task ∷ attr_words row.attrs) []) ≡ 16 → IsHeld row
-    go true true names kept long = record { names = names; kept = kept; few = omega (arith, simp (length-append, length-map, length-replicate) at long) }
+    go : (names kept : Bool) → names_task row.task ≡ names → fit_words row.attrs ≡ kept → length (cond (names && kept) (flags_of row ∷ row.created ∷ word_of row.dropped ∷ row.polls ∷ word_of row.first_poll ∷ word_of row.last_started ∷ word_of row.last_ended ∷ row.busy ∷ row.handles ∷ task_word row.task ∷ attr_words row.attrs) []) ≡ 16 → IsHeld row
+    go true true names kept long = record { names = names; fit = kept; few = omega (arith, simp (length-append, length-map, length-replicate) at long) }
     go true false names kept long = absurd (omega arith)
     go false kept names is long = absurd (omega arith)
 
@@ -74,7 +74,7 @@ pub words_are : (row : OpRow) → IsHeld row → words_of row
 unfolding words_of
 words_are row held =
     let six = six_words row.attrs held.few in
-    rw (held.names, held.kept, six.0) refl
+    rw (held.names, held.fit, six.0) refl
 
 -- the bits of the flags of a row
 bits_back : (a b c d e : Bool) (n bools signs : ℕ) → let flags = number_of_bits (a ∷ b ∷ c ∷ d ∷ e ∷ []) + (2 ^ 8 * n + 2 ^ 16 * bools + 2 ^ 24 * signs) in
@@ -87,4 +87,4 @@ read_back row held =
     let signs = number_of_bits (map is_signed row.attrs) in
     let bits = bits_back (is_some row.dropped) (is_some row.first_poll) (is_some row.last_started) (is_some row.last_ended) row.polling (length row.attrs) bools signs in
     let parts = number (cond (is_some row.dropped) 1 0) (cond (is_some row.first_poll) 1 0) (cond (is_some row.last_started) 1 0) (cond (is_some row.last_ended) 1 0) (cond row.polling 1 0) (length row.attrs) bools signs (bit_le _) (bit_le _) (bit_le _) (bit_le _) (bit_le _) held.few (six_bits is_bool row.attrs held.few) in
-    rw (words_are row held, bits.0, bits.1, bits.2, bits.3, bits.4, parts.0, parts.1, parts.2, moment row.dropped, moment row.first_poll, moment row.last_started, moment row.last_ended, task_back row.task held.names, six_back row.attrs held.few held.kept) refl
+    rw (words_are row held, bits.0, bits.1, bits.2, bits.3, bits.4, parts.0, parts.1, parts.2, moment row.dropped, moment row.first_poll, moment row.last_started, moment row.last_ended, task_back row.task held.names, six_back row.attrs held.few held.fit) refl

@@ -4,7 +4,7 @@ use Rattle.std.specs.Prelude.{is_some, ◌==◌, map, slice_get, replicate}
 use Rattle.std.proofs.lemmas.Bool.Decides.{nat_tests}
 use Rattle.std.proofs.lemmas.List.{length-append, length-map, length-replicate}
 use Rattle.tk_core.specs.Words.{number_of_bits, word_of}
-use Rattle.tk_core.specs.AttrWords.{is_bool, is_signed, are_kept, attr_words}
+use Rattle.tk_core.specs.AttrWords.{is_bool, is_signed, fit_words, attr_words}
 use Rattle.tk_core.specs.ResourceWords.{flags_of, words_of}
 use Rattle.tk_core.specs.Laws.WordsReadBack.{moment}
 use Rattle.tk_core.specs.Laws.AttrReadBack.{word_or_zero, six_words, six_bits, six_from, six_back}
@@ -26,15 +26,15 @@ read_from w = record {
 
 -- sixteen words are those of a row that a program can hold
 pub record IsHeld (row : ResourceRow) : Type 0 where
-  pub kept : are_kept row.attrs ≡ true
+  pub fit : fit_words row.attrs ≡ true
   pub few : length row.attrs ≤ 6
 
 pub is_held : (row : ResourceRow) → length (words_of row) ≡ 16 → IsHeld row
 unfolding words_of
-is_held row e = go (are_kept row.attrs) refl e
+is_held row e = go (fit_words row.attrs) refl e
   where
-    go : (kept : Bool) → are_kept row.attrs ≡ kept → length (cond kept (flags_of row ∷ row.created ∷ word_of row.dropped ∷ row.handles ∷ (attr_words row.attrs ++ replicate 6 0)) []) ≡ 16 → IsHeld row
-    go true kept long = record { kept = kept; few = omega (arith, simp (length-append, length-map, length-replicate) at long) }
+    go : (kept : Bool) → fit_words row.attrs ≡ kept → length (cond kept (flags_of row ∷ row.created ∷ word_of row.dropped ∷ row.handles ∷ (attr_words row.attrs ++ replicate 6 0)) []) ≡ 16 → IsHeld row
+    go true kept long = record { fit = kept; few = omega (arith, simp (length-append, length-map, length-replicate) at long) }
     go false kept long = absurd (omega arith)
 
 pub words_are : (row : ResourceRow) → IsHeld row → words_of row
@@ -44,11 +44,11 @@ pub words_are : (row : ResourceRow) → IsHeld row → words_of row
 unfolding words_of
 words_are row held =
     let six = six_words row.attrs held.few in
-    rw (held.kept, six.0) refl
+    rw (held.fit, six.0) refl
 
 pub read_back : (row : ResourceRow) → IsHeld row → read_from (words_of row) ≡ row
 read_back row held =
     let p = parts (is_some row.dropped) (length row.attrs) (number_of_bits (map is_bool row.attrs)) (number_of_bits (map is_signed row.attrs)) held.few (six_bits is_bool row.attrs held.few) in
     let words = words_are row held in
-    let six = six_back row.attrs held.few held.kept in
+    let six = six_back row.attrs held.few held.fit in
     rw (words, p.0, p.1, p.2, p.3, moment row.dropped, six) refl

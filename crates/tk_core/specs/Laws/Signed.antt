@@ -1,5 +1,5 @@
 -- Signed numbers that 64 bits hold.
-use Rattle.std.proofs.Common.{◌≡◌, ◌<◌, ◌^◌, Bool, true, false, ◌&&◌, ℕ, ℤ, pos, negsuc, arith}
+use Rattle.std.proofs.Common.{◌≡◌, true, ℤ, arith}
 use Rattle.std.specs.Prelude.{FitsSigned}
 use Rattle.std.specs.Int.{w64, cast_unsigned, cast_signed}
 use Rattle.std.proofs.lemmas.Int.{ints, to_z-of_z}

@@ -45,6 +45,7 @@ impl OpRow {
     pub fn to_words(&self) -> [u64; 16]
         ensures { result ≡ words_of self.now }
     {
+        // What is known of the values is in `len`'s contract.
         let _within = self.attrs.len();
         [
             self.bits() + self.attrs.flags(),

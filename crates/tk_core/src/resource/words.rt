@@ -12,6 +12,7 @@ impl ResourceRow {
     pub fn to_words(&self) -> [u64; 16]
         ensures { result ≡ words_of self.now }
     {
+        // What is known of the values is in `len`'s contract.
         let _within = self.attrs.len();
         let dropped = u64::from(self.dropped.is_some());
         let flags = dropped + self.attrs.flags();

@@ -4,11 +4,11 @@
 //! front of it is such another one with the same meaning, so the two are compared by it.
 
 use super::given::writes;
-use super::texts::{CHANGED, EMPTY, FIRST, FULL, SIGNED, TWO, UNCHANGED};
+use super::texts::{CHANGED, EMPTY, FIRST, FULL, GONE, SIGNED, TWO, UNCHANGED};
 use std::alloc::{AllocError, Global};
 use tk_stream::Line;
 
-const TEXTS: [&str; 7] = [EMPTY, FIRST, CHANGED, UNCHANGED, FULL, TWO, SIGNED];
+const TEXTS: [&str; 8] = [EMPTY, FIRST, CHANGED, UNCHANGED, FULL, TWO, SIGNED, GONE];
 
 // How many lines are made of these texts, by other digits in their short numbers.
 const LINES: u64 = 200;

@@ -1,13 +1,13 @@
 //! Texts that are lines.
 
 use super::given::{changed, writes};
-use super::texts::{CHANGED, EMPTY, FIRST, FULL, SIGNED, TWO, UNCHANGED};
+use super::texts::{CHANGED, EMPTY, FIRST, FULL, GONE, SIGNED, TWO, UNCHANGED};
 use std::alloc::Global;
 use tk_ids::{OpInfo, ResourceInfo, TaskInfo};
 use tk_stream::Line;
 
 // Texts of lines, written as a line writes itself.
-const SAME: [&str; 7] = [EMPTY, FIRST, CHANGED, UNCHANGED, FULL, TWO, SIGNED];
+const SAME: [&str; 8] = [EMPTY, FIRST, CHANGED, UNCHANGED, FULL, TWO, SIGNED, GONE];
 
 // The line without items in other texts: with white space, in another order, and with keys twice, of which the last counts.
 #[rattlefmt::skip]
@@ -25,6 +25,14 @@ const SIGNED_OTHERS: [(&str, &str); 4] = [
     ("[0]]",      "[\t0 ]\r\n]"),
     ("[[7],",     " [ [7 ],"),
     ("\"i64\"]]", "\"\\u0069\\u0036\\u0034\"]]"),
+];
+
+// The same of the line that says what is gone.
+#[rattlefmt::skip]
+const GONE_OTHERS: [(&str, &str); 3] = [
+    ("[1099511627780]", "[ 1099511627780\n] "),
+    ("\"v\":2",         "\"v\" : 2"),
+    ("\"gone_ops\"",    "\"\\u0067one_ops\""),
 ];
 
 // Whether the text is a line that writes itself so.
@@ -79,6 +87,7 @@ fn writes_what_it_read(rt: HostRuntime) {
 fn reads_other_texts_of_a_line(rt: HostRuntime) {
     assert!(rt; all_read_as(rt.alloc(), OTHERS.as_slice(), EMPTY));
     assert!(rt; all_read_respelled(rt.alloc(), SIGNED, SIGNED_OTHERS.as_slice()));
+    assert!(rt; all_read_respelled(rt.alloc(), GONE, GONE_OTHERS.as_slice()));
 }
 
 fn shows_numbers(line: &Line) -> bool {
@@ -119,6 +128,50 @@ fn shows_each_key(rt: HostRuntime) {
             assert!(rt; handles_of_resource(&line) == Some(2));
             assert!(rt; counts_of_first(&line) == Some((1, 0)));
         }
+        Err(_) => assert!(rt; false, "no line"),
+    }
+}
+
+fn are_gone(line: &Line, tasks: &[u64], resources: usize, op: u64) -> bool {
+    for (i, id) in tasks.iter().enumerate() {
+        match line.gone_tasks().get(i) {
+            Some(task) => {
+                if task.value() != *id {
+                    return false;
+                }
+            }
+            None => return false,
+        }
+    }
+    match line.gone_ops() {
+        [only] => {
+            only.value() == op
+                && line.gone_tasks().len() == tasks.len()
+                && line.gone_resources().len() == resources
+        }
+        _ => false,
+    }
+}
+
+fn says_nothing_of_what_is_gone(line: &Line) -> bool {
+    line.version() == 1
+        && line.gone_tasks().is_empty()
+        && line.gone_resources().is_empty()
+        && line.gone_ops().is_empty()
+}
+
+// What a line of version 2 says is gone, and that one of version 1 says nothing of it.
+#[test]
+fn shows_what_is_gone(rt: HostRuntime) {
+    match Line::read(rt.alloc(), GONE.as_bytes()) {
+        Ok(line) => {
+            assert!(rt; line.version() == 2);
+            assert!(rt; are_gone(&line, &[1099511627777, 1099511627779], 0, 1099511627780));
+        }
+        Err(_) => assert!(rt; false, "no line of version 2"),
+    }
+    match Line::read(rt.alloc(), FULL.as_bytes()) {
+        Ok(line) => assert!(rt; says_nothing_of_what_is_gone(&line)),
         Err(_) => assert!(rt; false, "no line"),
     }
 }

@@ -1,7 +1,7 @@
 //! Texts that are no lines, and the errors.
 
 use super::given::changed;
-use super::texts::FULL;
+use super::texts::{EMPTY, FULL, GONE};
 use std::alloc::Global;
 use std::test::Fail;
 use tk_stream::{Line, LineError};
@@ -97,6 +97,28 @@ const ROWS: [(&str, &str); 21] = [
     (",\"handles\":2", ""),
 ];
 
+// Changes of the line that says what is gone after which it is no line.
+#[rattlefmt::skip]
+const GONE_LISTS: [(&str, &str); 10] = [
+    ("\"v\":2",                                "\"v\":1"),
+    ("\"v\":2",                                "\"v\":3"),
+    ("\"v\":2",                                "\"v\":2,\"w\":1"),
+    (",\"gone_ops\":[1099511627780]",          ""),
+    ("\"gone_tasks\"",                         "\"gone_task\""),
+    ("\"gone_resources\":[]",                  "\"gone_resources\":null"),
+    ("[1099511627780]",                        "[1]"),
+    ("[1099511627780]",                        "[\"1099511627780\"]"),
+    ("[1099511627780]",                        "[[1099511627780]]"),
+    ("[1099511627777,1099511627779]",          "1099511627777"),
+];
+
+// Changes of a line of version 1 after which it is none.
+#[rattlefmt::skip]
+const PLAIN: [(&str, &str); 2] = [
+    ("\"v\":1",              "\"v\":2"),
+    ("\"dropped\":[0,0,0],", "\"dropped\":[0,0,0],\"gone_ops\":[],\"gone_resources\":[],\"gone_tasks\":[],"),
+];
+
 // The error that reading answers, if any.
 fn error_of(alloc: Global, bytes: &[u8]) -> Option<LineError> {
     match Line::read(alloc, bytes) {
@@ -114,16 +136,16 @@ fn all_are(alloc: Global, texts: &[&[u8]], wanted: LineError) -> bool {
     true
 }
 
-fn is_bad_shape(alloc: Global, old: &str, new: &str) -> bool {
-    match changed(alloc, FULL, old, new) {
+fn is_bad_shape(alloc: Global, line: &str, old: &str, new: &str) -> bool {
+    match changed(alloc, line, old, new) {
         Some(text) => error_of(alloc, text.as_bytes()) == Some(LineError::BadShape),
         None => false,
     }
 }
 
-fn all_are_bad_shapes(alloc: Global, changes: &[(&str, &str)]) -> bool {
+fn all_are_bad_shapes(alloc: Global, line: &str, changes: &[(&str, &str)]) -> bool {
     for (old, new) in changes {
-        if !is_bad_shape(alloc, old, new) {
+        if !is_bad_shape(alloc, line, old, new) {
             return false;
         }
     }
@@ -142,17 +164,23 @@ fn refuses_values_of_other_kinds(rt: HostRuntime) {
 
 #[test]
 fn refuses_other_numbers(rt: HostRuntime) {
-    assert!(rt; all_are_bad_shapes(rt.alloc(), NUMBERS.as_slice()));
+    assert!(rt; all_are_bad_shapes(rt.alloc(), FULL, NUMBERS.as_slice()));
 }
 
 #[test]
 fn refuses_other_infos(rt: HostRuntime) {
-    assert!(rt; all_are_bad_shapes(rt.alloc(), INFOS.as_slice()));
+    assert!(rt; all_are_bad_shapes(rt.alloc(), FULL, INFOS.as_slice()));
 }
 
 #[test]
 fn refuses_other_rows(rt: HostRuntime) {
-    assert!(rt; all_are_bad_shapes(rt.alloc(), ROWS.as_slice()));
+    assert!(rt; all_are_bad_shapes(rt.alloc(), FULL, ROWS.as_slice()));
+}
+
+#[test]
+fn refuses_other_versions(rt: HostRuntime) {
+    assert!(rt; all_are_bad_shapes(rt.alloc(), GONE, GONE_LISTS.as_slice()));
+    assert!(rt; all_are_bad_shapes(rt.alloc(), EMPTY, PLAIN.as_slice()));
 }
 
 // So many arrays, each in the one before it.

@@ -27,3 +27,7 @@ pub(super) const TWO: &str =
 // A resource and an operation with signed attributes: 0, small numbers, both ends of the range, and the three kinds side by side.
 pub(super) const SIGNED: &str =
     r#"{"dropped":[0,0,0],"new_ops":[{"attrs":[["ahead",null,"i64"],["queued",null,"bool"],["wants",null,"u64"]],"id":1099511627777,"parent":null,"resource":1099511627777,"source":"Queue::pop"}],"new_resources":[{"attrs":[["lag","ms","i64"],["least",null,"i64"],["most",null,"i64"],["none",null,"i64"]],"id":1099511627777,"kind":"Sync","loc":["script",1,1],"parent":null,"type":"Queue"}],"new_tasks":[],"now":50,"op_stats":[{"attrs":[[7],true,5],"busy":0,"created":30,"dropped":null,"first_poll":null,"handles":1,"id":1099511627777,"last_ended":null,"last_started":null,"polling":false,"polls":0,"task":null}],"poll_counts":[],"resource_stats":[{"attrs":[[-3],[-9223372036854775808],[9223372036854775807],[0]],"created":20,"dropped":null,"handles":2,"id":1099511627777}],"seq":1,"snapshot":false,"task_stats":[],"v":1}"#;
+
+// A line of version 2, which says that two tasks and an operation are gone.
+pub(super) const GONE: &str =
+    r#"{"dropped":[0,0,0],"gone_ops":[1099511627780],"gone_resources":[],"gone_tasks":[1099511627777,1099511627779],"new_ops":[],"new_resources":[],"new_tasks":[],"now":15,"op_stats":[],"poll_counts":[],"resource_stats":[],"seq":3,"snapshot":false,"task_stats":[],"v":2}"#;

@@ -5,7 +5,7 @@ use Rattle.tk_core.proofs.op.row.OpRow.to_words.Goals as goal
 pub returns : goal.returns
 returns c =
     rw (
-      words_are c.args.self.now (record { names = c.task_word.ensures.id; kept = c.len-within.ensures.kept; few = omega arith }),
+      words_are c.args.self.now (record { names = c.task_word.ensures.id; fit = c.len-within.ensures.fits; few = omega arith }),
       c.bits.ensures.value,
       c.flags.ensures.value,
       c.task_word.ensures.word,

@@ -1,4 +1,4 @@
-use Rattle.std.proofs.Common.{◌≡◌, ◌≤◌, length, ap, ◌∙◌, arith}
+use Rattle.std.proofs.Common.{◌≡◌, length, ap, ◌∙◌, arith}
 use Rattle.tk_core.specs.Laws.ResourceReadBack.{read_back, is_held}
 use Rattle.tk_core.proofs.resource.row.ResourceRow.decode.Goals as goal
 
