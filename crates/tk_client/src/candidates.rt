@@ -48,7 +48,8 @@ fn write_all(places: &mut [usize], tables: &Tables) -> usize
     ensures { take result places.new ≡ spec.places_of tables.now.tasks }
 {
     let mut count = 0;
-    for place in 0..tables.task_count() {
+    let tasks = tables.task_count();
+    for place in 0..tasks {
         count = list_at(places, count, tables, place);
     }
     count

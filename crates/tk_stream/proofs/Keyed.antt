@@ -1,13 +1,15 @@
 -- Entries that stand under their own ids.
-use Rattle.std.proofs.Common.{◌≡◌, ℕ, zero, suc, List, [], ◌∷◌, ◌++◌, Bool, true, false, cond, nat_eq, map, filter, take, slice_get, Some, refl, ap, ap₂, sym, ◌∙◌}
-use Rattle.std.specs.List.{AllZip, AllByRecursion}
-use Rattle.std.proofs.lemmas.Bool.{eqb-true}
+use Rattle.std.proofs.Common.{◌≡◌, ℕ, zero, suc, List, [], ◌∷◌, ◌++◌, Bool, true, false, cond, nat_eq, map, filter, take, slice_get, Some, refl, ap, ap₂, sym, subst, ◌∙◌}
+use Rattle.std.specs.Prelude.{not}
+use Rattle.std.specs.List.{AllZip, AllByRecursion, IsDistinct}
+use Rattle.std.proofs.lemmas.Bool.{eqb-true, eq-eqb}
 use Rattle.std.proofs.lemmas.Option.{same_Some}
-use Rattle.std.specs.Map.{lookup, keys_of, values_of}
+use Rattle.std.specs.Map.{lookup, keys_of, values_of, remove_entry}
 use Rattle.indexmap.specs.IndexMap.{insert_entry}
 use Rattle.indexmap.specs.Layout.{set_value_at}
-use Rattle.tk_stream.specs.Tables.{item_with, changed_at, put_item}
+use Rattle.tk_stream.specs.Tables.{item_with, changed_at, put_item, is_among}
 use Rattle.tk_stream.specs.Entries.{AreKeyed}
+use Rattle.tk_stream.proofs.LinesLemmas.{differ}
 
 module _ {Item : Type 0} (id_of : Item → ℕ) where
   pub lookup-item_with : (id : ℕ) (es : List (ℕ × Item)) → AreKeyed id_of es → lookup (nat_eq id) es ≡ item_with id_of id (values_of es)
@@ -119,3 +121,23 @@ module _ {Item : Type 0} (id_of : Item → ℕ) (p : ℕ → Bool) where
       by : (b : Bool) → values_of (cond b (e ∷ filter (λ f. p f.0) es) (filter (λ f. p f.0) es)) ≡ cond b (e.1 ∷ values_of (filter (λ f. p f.0) es)) (values_of (filter (λ f. p f.0) es))
       by true = refl
       by false = refl
+
+-- ---- one entry that leaves
+
+-- where no key is this one, all stay
+none_leaves : {X : Type 0} (id : ℕ) (es : List (ℕ × X)) → AllByRecursion (λ n. nat_eq id n ≡ false) (keys_of es) → filter (λ e. not (is_among (id ∷ []) e.0)) es ≡ es
+none_leaves id [] apart = refl
+none_leaves id (e ∷ es) apart = rw (differ id e.0 apart.0) (ap (λ fs. e ∷ fs) (none_leaves id es apart.1))
+
+pub one_leaves : {X : Type 0} (id : ℕ) (es : List (ℕ × X)) → IsDistinct nat_eq (keys_of es) → remove_entry (nat_eq id) es ≡ filter (λ e. not (is_among (id ∷ []) e.0)) es
+unfolding IsDistinct
+one_leaves id [] distinct = refl
+one_leaves id (e ∷ es) distinct = by (nat_eq id e.0) refl (one_leaves id es distinct.1)
+  where
+    by : (b : Bool) → nat_eq id e.0 ≡ b → remove_entry (nat_eq id) es ≡ filter (λ f. not (is_among (id ∷ []) f.0)) es
+        → cond b es (e ∷ remove_entry (nat_eq id) es) ≡ filter (λ f. not (is_among (id ∷ []) f.0)) (e ∷ es)
+    by true is rest =
+        let same : e.0 ≡ id = sym (eqb-true id e.0 is) in
+        let here : nat_eq e.0 id ≡ true = eq-eqb e.0 id same in
+        rw here (sym (none_leaves id es (subst (λ n. AllByRecursion (λ m. nat_eq n m ≡ false) (keys_of es)) same distinct.0)))
+    by false is rest = rw (differ id e.0 is) (ap (λ fs. e ∷ fs) rest)
