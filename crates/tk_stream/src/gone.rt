@@ -1,5 +1,5 @@
 //! Which items a line says are gone.
-ghost use Rattle.std.specs.Prelude.{◌≡◌, ◌++◌, map, option_map, IfOk, IfSome, OnOk};
+ghost use Rattle.std.specs.Prelude.{map, option_map, IfOk, IfSome, OnOk};
 ghost use Rattle.serde_json.specs.View.{view};
 ghost use Rattle.tk_stream.specs.Behind.{Puts, Takes};
 ghost use Rattle.tk_stream.specs.Outcome.{Answers, shaped};
