@@ -298,6 +298,9 @@ impl Client {
 
     /// Takes a piece of the stream: any bytes, wherever they are cut. A line ends at a line feed, byte 0x0A.
     ///
+    /// Lines of versions 1 and 2 are taken, also one after the other. What a line of version 2 says is gone leaves the tables,
+    /// where the other items keep their order; a later line may show it as new again.
+    ///
     /// It answers how many lines were applied, which is how many ended. Each is checked in this order, and a line with a
     /// fault is applied in no part: `TooLong` at the first byte too many; `BadJson`, `BadShape`; `Gap`; `Repeated`;
     /// `UnknownId`; `Misfit`. `used` counts the bytes through the fault.

@@ -30,10 +30,11 @@ pub enum Fault {
         /// The number of the line.
         found: u64,
     },
-    /// The line tells of an item that is neither there nor new.
+    /// The line tells of an item that is neither there nor new, or says that one is gone that wasn't there.
     #[error("the line tells of an unknown item")]
     UnknownId,
-    /// The line shows an item as new that is there, or has an id twice in one of its lists.
+    /// The line shows an item as new that is there, has an id twice in one of its lists, or tells of an item that it says is
+    /// gone.
     #[error("the line repeats an id")]
     Repeated,
     /// The line has more bytes than the client takes.
