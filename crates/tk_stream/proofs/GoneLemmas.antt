@@ -1,11 +1,11 @@
 -- What a line says is gone, and what stays.
 use Rattle.std.proofs.Common.{◌≡◌, ℕ, List, [], ◌∷◌, Bool, true, false, cond, Some, nat_eq, refl, ap, sym, ◌∙◌, true≢false}
-use Rattle.std.specs.Prelude.{map, filter, is_none, not, ◌||◌}
+use Rattle.std.specs.Prelude.{map, filter, is_none, not}
 use Rattle.std.specs.Option.{option_map_or}
 use Rattle.std.specs.List.{AllByRecursion, IsDistinct}
 use Rattle.std.proofs.lemmas.Bool.{eqb-true, eq-eqb}
 use Rattle.tk_stream.specs.Tables.{item_with, is_among, staying}
-use Rattle.tk_stream.specs.Lines.{is_new, is_told, new_infos, told_stats, gone_ids}
+use Rattle.tk_stream.specs.Lines.{is_new, new_infos, told_stats, gone_ids}
 use Rattle.tk_stream.specs.Applied.{still_there}
 use Rattle.tk_stream.proofs.LinesLemmas.{IsFound, each_found, all_by}
 

@@ -1,5 +1,5 @@
 -- What a line says: which items are new since the tables before, and which rows and counts differ.
-use Rattle.std.specs.Prelude.{◌≡◌, ℕ, ◌^◌, List, [], map, filter, Bool, true, false, ◌&&◌, not, nat_le, is_none, Option, Some, None, unwrap_or, if◌then◌else◌}
+use Rattle.std.specs.Prelude.{◌≡◌, ℕ, ◌^◌, List, [], map, filter, Bool, true, false, ◌&&◌, not, nat_le, is_none, Option, Some, None, unwrap_or}
 use Rattle.std.specs.Option.{option_map_or}
 use Rattle.tk_core.specs.declared.op.row.OpRow.{OpRow}
 use Rattle.tk_core.specs.declared.resource.row.ResourceRow.{ResourceRow}
