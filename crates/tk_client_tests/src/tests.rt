@@ -3,6 +3,7 @@
 mod beside;
 mod faults;
 mod given;
+mod gone;
 mod memory;
 mod pieces;
 mod random;

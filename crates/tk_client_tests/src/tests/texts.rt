@@ -89,3 +89,50 @@ pub(super) fn before_wakes() -> &'static str {
 pub(super) fn row_end() -> &'static str {
     "}]"
 }
+
+// ---- lines that say what is gone
+
+// Three tasks, of which the second has lost its waker, and the others are closed.
+pub(super) fn three_tasks() -> &'static [u8] {
+    b"{\"dropped\":[0,0,0],\"new_ops\":[],\"new_resources\":[],\"new_tasks\":[{\"id\":1099511627777,\"kind\":\"spawn\",\"loc\":[\"script\",1,1],\"name\":\"a\"},{\"id\":1099511627778,\"kind\":\"spawn\",\"loc\":[\"script\",2,1],\"name\":\"b\"},{\"id\":1099511627779,\"kind\":\"spawn\",\"loc\":[\"script\",3,1],\"name\":\"c\"}],\"now\":6,\"op_stats\":[],\"poll_counts\":[],\"resource_stats\":[],\"seq\":1,\"snapshot\":false,\"task_stats\":[{\"busy\":0,\"clones\":1,\"created\":1,\"dropped\":5,\"drops\":1,\"first_poll\":2,\"handles\":2,\"id\":1099511627777,\"last_ended\":3,\"last_started\":2,\"last_wake\":null,\"polling\":false,\"polls\":1,\"sched\":1,\"scheduled\":false,\"self_wakes\":0,\"wakes\":0},{\"busy\":0,\"clones\":1,\"created\":1,\"dropped\":null,\"drops\":1,\"first_poll\":2,\"handles\":2,\"id\":1099511627778,\"last_ended\":3,\"last_started\":2,\"last_wake\":null,\"polling\":false,\"polls\":1,\"sched\":1,\"scheduled\":false,\"self_wakes\":0,\"wakes\":0},{\"busy\":0,\"clones\":1,\"created\":1,\"dropped\":5,\"drops\":1,\"first_poll\":2,\"handles\":2,\"id\":1099511627779,\"last_ended\":3,\"last_started\":2,\"last_wake\":null,\"polling\":false,\"polls\":1,\"sched\":1,\"scheduled\":false,\"self_wakes\":0,\"wakes\":0}],\"v\":1}\n"
+}
+
+// Then the first is gone.
+pub(super) fn without_first() -> &'static [u8] {
+    b"{\"dropped\":[0,0,0],\"gone_ops\":[],\"gone_resources\":[],\"gone_tasks\":[1099511627777],\"new_ops\":[],\"new_resources\":[],\"new_tasks\":[],\"now\":6,\"op_stats\":[],\"poll_counts\":[],\"resource_stats\":[],\"seq\":2,\"snapshot\":false,\"task_stats\":[],\"v\":2}\n"
+}
+
+// Then the last is gone too, and another one has the number of the first.
+pub(super) fn with_another() -> &'static [u8] {
+    b"{\"dropped\":[0,0,0],\"gone_ops\":[],\"gone_resources\":[],\"gone_tasks\":[1099511627779],\"new_ops\":[],\"new_resources\":[],\"new_tasks\":[{\"id\":1099511627777,\"kind\":\"spawn\",\"loc\":[\"script\",1,1],\"name\":\"d\"}],\"now\":6,\"op_stats\":[],\"poll_counts\":[],\"resource_stats\":[],\"seq\":3,\"snapshot\":false,\"task_stats\":[{\"busy\":0,\"clones\":1,\"created\":1,\"dropped\":null,\"drops\":1,\"first_poll\":2,\"handles\":2,\"id\":1099511627777,\"last_ended\":3,\"last_started\":2,\"last_wake\":null,\"polling\":false,\"polls\":1,\"sched\":1,\"scheduled\":false,\"self_wakes\":0,\"wakes\":0}],\"v\":2}\n"
+}
+
+// Behind the three: a task that was never there is gone.
+pub(super) fn gone_unknown() -> &'static [u8] {
+    b"{\"dropped\":[0,0,0],\"gone_ops\":[],\"gone_resources\":[],\"gone_tasks\":[1099511627777,1099511627780],\"new_ops\":[],\"new_resources\":[],\"new_tasks\":[],\"now\":6,\"op_stats\":[],\"poll_counts\":[],\"resource_stats\":[],\"seq\":2,\"snapshot\":false,\"task_stats\":[],\"v\":2}\n"
+}
+
+// One is gone twice.
+pub(super) fn gone_twice() -> &'static [u8] {
+    b"{\"dropped\":[0,0,0],\"gone_ops\":[],\"gone_resources\":[],\"gone_tasks\":[1099511627778,1099511627778],\"new_ops\":[],\"new_resources\":[],\"new_tasks\":[],\"now\":6,\"op_stats\":[],\"poll_counts\":[],\"resource_stats\":[],\"seq\":2,\"snapshot\":false,\"task_stats\":[],\"v\":2}\n"
+}
+
+// One is gone and told of.
+pub(super) fn gone_and_told() -> &'static [u8] {
+    b"{\"dropped\":[0,0,0],\"gone_ops\":[],\"gone_resources\":[],\"gone_tasks\":[1099511627778],\"new_ops\":[],\"new_resources\":[],\"new_tasks\":[],\"now\":6,\"op_stats\":[],\"poll_counts\":[],\"resource_stats\":[],\"seq\":2,\"snapshot\":false,\"task_stats\":[{\"busy\":0,\"clones\":1,\"created\":1,\"dropped\":6,\"drops\":1,\"first_poll\":2,\"handles\":2,\"id\":1099511627778,\"last_ended\":3,\"last_started\":2,\"last_wake\":null,\"polling\":false,\"polls\":1,\"sched\":1,\"scheduled\":false,\"self_wakes\":0,\"wakes\":0}],\"v\":2}\n"
+}
+
+// One is gone and new.
+pub(super) fn gone_and_new() -> &'static [u8] {
+    b"{\"dropped\":[0,0,0],\"gone_ops\":[],\"gone_resources\":[],\"gone_tasks\":[1099511627778],\"new_ops\":[],\"new_resources\":[],\"new_tasks\":[{\"id\":1099511627778,\"kind\":\"spawn\",\"loc\":[\"script\",2,1],\"name\":\"b\"}],\"now\":6,\"op_stats\":[],\"poll_counts\":[],\"resource_stats\":[],\"seq\":2,\"snapshot\":false,\"task_stats\":[{\"busy\":0,\"clones\":1,\"created\":1,\"dropped\":null,\"drops\":1,\"first_poll\":2,\"handles\":2,\"id\":1099511627778,\"last_ended\":3,\"last_started\":2,\"last_wake\":null,\"polling\":false,\"polls\":1,\"sched\":1,\"scheduled\":false,\"self_wakes\":0,\"wakes\":0}],\"v\":2}\n"
+}
+
+// A snapshot knows of nothing that could be gone.
+pub(super) fn gone_in_snapshot() -> &'static [u8] {
+    b"{\"dropped\":[0,0,0],\"gone_ops\":[],\"gone_resources\":[],\"gone_tasks\":[1099511627777],\"new_ops\":[],\"new_resources\":[],\"new_tasks\":[],\"now\":6,\"op_stats\":[],\"poll_counts\":[],\"resource_stats\":[],\"seq\":2,\"snapshot\":true,\"task_stats\":[],\"v\":2}\n"
+}
+
+// Nor does a first line.
+pub(super) fn gone_at_first() -> &'static [u8] {
+    b"{\"dropped\":[0,0,0],\"gone_ops\":[],\"gone_resources\":[],\"gone_tasks\":[1099511627777],\"new_ops\":[],\"new_resources\":[],\"new_tasks\":[],\"now\":6,\"op_stats\":[],\"poll_counts\":[],\"resource_stats\":[],\"seq\":1,\"snapshot\":false,\"task_stats\":[],\"v\":2}\n"
+}
