@@ -1,4 +1,4 @@
-use Rattle.std.proofs.Common.{◌≡◌, ◌+◌, ◌++◌, ◌≤◌, length, take, ap, ap₂, sym, ◌∙◌, arith, length-append}
+use Rattle.std.proofs.Common.{◌+◌, ◌++◌, ◌≤◌, length, take, ap, sym, ◌∙◌, arith, length-append}
 use Rattle.tk_client.specs.Candidates.{places_of, listed_at}
 use Rattle.tk_client.proofs.PlaceLemmas.{listed-next, listed-within}
 use Rattle.tk_client.proofs.candidates.write_all.Goals as goal

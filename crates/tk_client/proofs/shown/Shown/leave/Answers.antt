@@ -1,4 +1,4 @@
-use Rattle.std.proofs.Common.{◌≡◌, ◌≤◌, ℕ, List, [], length, true, ap, sym, subst, ◌∙◌, arith}
+use Rattle.std.proofs.Common.{◌≡◌, ◌≤◌, ℕ, List, [], length, ap, sym, ◌∙◌, arith}
 use Rattle.std.specs.Prelude.{not}
 use Rattle.tk_stream.specs.declared.task.Task.{Task}
 use Rattle.tk_stream.specs.Lines.{GoneView}
