@@ -213,7 +213,9 @@ def try_edits(crate, copy, edits):
 def try_crate(crate, only):
     folder = os.path.join(CRATES, crate, "wrong-bodies")
     edits = [Edit(os.path.join(folder, name)) for name in sorted(os.listdir(folder)) if name.endswith(".edit")]
-    edits = [edit for edit in edits if only in (None, edit.name)]
+    for name in set(only).difference(edit.name for edit in edits):
+        sys.exit(f"{crate} has no wrong body {name}")
+    edits = [edit for edit in edits if not only or edit.name in only]
     said = []
     for edit in [edit for edit in edits if edit.tests]:
         said.append(try_tests(crate, edit))
@@ -238,7 +240,7 @@ def main(words):
     for crate in crates:
         if not os.path.isdir(os.path.join(CRATES, crate, "wrong-bodies")):
             sys.exit(f"there are no wrong bodies of {crate}")
-    only = words[1] if len(words) > 1 else None
+    only = words[1:]
     with ThreadPoolExecutor(int(os.environ.get("JOBS", "2"))) as pool:
         said = [line for lines in pool.map(lambda crate: try_crate(crate, only), crates) for line in lines]
     refused = sum(line.startswith("refused") for line in said)

@@ -1,7 +1,7 @@
 #!/bin/sh
 # Tries the wrong bodies that the gate leaves out, crates/NAME/wrong-bodies/*.edit: the prover, or a test, must refuse each.
 #
-# Usage: tests/wrong_bodies.sh [CRATE [NAME]], of all crates, of one, or one wrong body alone.
+# Usage: tests/wrong_bodies.sh [CRATE [NAME ..]], of all crates, of one, or some of its wrong bodies alone.
 #
 # An edit has the form of those in must-fail/, and one line more. `function: PATH` is the function whose proof must fail. Where
 # no contract can refuse it, `tests: CRATE` is the crate of which a test must fail, as `rt try --test` runs them on a copy.
