@@ -1,3 +1,4 @@
+//! A text in pieces: its lines, and the words of a line.
 ghost use Rattle.std.specs.Prelude.{◌≡◌, ◌==◌, ◌∷◌, position};
 ghost use Rattle.std.specs.Iterator.{YieldsFirstRef, item_count};
 ghost use Rattle.tk_live.specs.Pieces.{pieces_at, pieces_left, pieces_of_rest};

@@ -1,3 +1,4 @@
+//! The bytes of a script, read whole.
 ghost use Rattle.std.specs.Prelude.{IfOk, IfErr};
 ghost use Rattle.tk_live.specs.Transfer.{IsScript, IsReading};
 
@@ -5,7 +6,7 @@ use std::alloc::Global;
 use std::io::Read;
 use tk_report::AppFault;
 
-/// The longest script that is read.
+/// The longest script that is read, in bytes.
 pub const MAX_SCRIPT: usize = 1_048_576;
 
 /// All bytes of the reader, at most `MAX_SCRIPT`. It gives up after 2^32 reads.
