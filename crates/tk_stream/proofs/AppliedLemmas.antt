@@ -34,7 +34,7 @@ pub record IsKind {Item Info Stats : Type 0} (k : Kind Item Info Stats) (stats_o
   pub agrees : (x y : Item) → k.info_of x ≡ k.info_of y → same x y ≡ true → x ≡ y
 
 module _ {Item Info Stats : Type 0} (k : Kind Item Info Stats) (stats_of : Item → Stats) (same : Item → Item → Bool) (laws : IsKind k stats_of same) where
-  paired_ids : (x y : Item) → k.info_of x ≡ k.info_of y → k.id_of x ≡ k.id_of y
+  pub paired_ids : (x y : Item) → k.info_of x ≡ k.info_of y → k.id_of x ≡ k.id_of y
   paired_ids x y e = sym (laws.ids x) ∙ ap k.info_id e ∙ laws.ids y
 
   -- ---- what is told of an item, among what is told of all
@@ -188,7 +188,7 @@ module _ {Item Info Stats : Type 0} (k : Kind Item Info Stats) (stats_of : Item 
 
 -- ---- tables
 
-tasks_are : IsKind task_kind task_stats_of have_same_row
+pub tasks_are : IsKind task_kind task_stats_of have_same_row
 tasks_are = record {
   ids = λ t. refl;
   keys = λ t. refl;
@@ -196,7 +196,7 @@ tasks_are = record {
   agrees = λ t u e same i. record { info = e i; row = (same_rows t.row u.row).0 same i };
 }
 
-resources_are : IsKind resource_kind resource_stats_of have_same_resource_row
+pub resources_are : IsKind resource_kind resource_stats_of have_same_resource_row
 resources_are = record {
   ids = λ r. refl;
   keys = λ r. refl;
@@ -204,7 +204,7 @@ resources_are = record {
   agrees = λ r u e same i. record { info = e i; row = (same_resource_rows r.row u.row).0 same i };
 }
 
-ops_are : IsKind op_kind op_stats_of have_same_op_row
+pub ops_are : IsKind op_kind op_stats_of have_same_op_row
 ops_are = record {
   ids = λ o. refl;
   keys = λ o. refl;
@@ -212,7 +212,7 @@ ops_are = record {
   agrees = λ o u e same i. record { info = e i; row = (same_op_rows o.row u.row).0 same i };
 }
 
-counts_are : IsKind counts_kind all_counts same_counts
+pub counts_are : IsKind counts_kind all_counts same_counts
 counts_are = record {
   ids = λ c. refl;
   keys = λ c. refl;

@@ -71,7 +71,7 @@ module _ {Item Row : Type 0} (id_of : Item → ℕ) (with_row : Item → Row →
   apart_rest id [] (r ∷ rs) apart = tt
   apart_rest id (x ∷ xs) (r ∷ rs) apart = apart_rest id xs rs apart.1
 
-  distinct_old : (xs : List Item) (rs : List Row) → IsDistinct nat_eq (map id_of xs) → IsDistinct nat_eq (map id_of (old xs rs))
+  pub distinct_old : (xs : List Item) (rs : List Row) → IsDistinct nat_eq (map id_of xs) → IsDistinct nat_eq (map id_of (old xs rs))
   unfolding IsDistinct
   distinct_old xs [] distinct = tt
   distinct_old [] (r ∷ rs) distinct = tt
@@ -159,7 +159,7 @@ all_told with_row [] = refl
 all_told with_row (x ∷ xs) = ap (λ ys. x ∷ ys) (all_told with_row xs)
 
 -- an item keeps its id
-pub keeps_told : {Item Row : Type 0} (id_of : Item → ℕ) (with_row : Item → Row → Item) → ((x : Item) (r : Row) → id_of (with_row x r) ≡ id_of x)
+pub keeps_told : {Item Row Id : Type 0} (id_of : Item → Id) (with_row : Item → Row → Item) → ((x : Item) (r : Row) → id_of (with_row x r) ≡ id_of x)
     → (x : Item) (o : Option Row) → id_of (told_item with_row x o) ≡ id_of x
 keeps_told id_of with_row keeps x None = refl
 keeps_told id_of with_row keeps x (Some r) = keeps x r

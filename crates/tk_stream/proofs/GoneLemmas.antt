@@ -9,7 +9,7 @@ use Rattle.tk_stream.specs.Lines.{is_new, new_infos, told_stats, gone_ids}
 use Rattle.tk_stream.specs.Applied.{still_there}
 use Rattle.tk_stream.proofs.LinesLemmas.{IsFound, each_found, all_by}
 
-filter-same : {A : Type 0} (p q : A → Bool) (xs : List A) → AllByRecursion (λ x. p x ≡ q x) xs → filter p xs ≡ filter q xs
+pub filter-same : {A : Type 0} (p q : A → Bool) (xs : List A) → AllByRecursion (λ x. p x ≡ q x) xs → filter p xs ≡ filter q xs
 filter-same p q [] same = refl
 filter-same p q (x ∷ xs) same = rw (same.0, filter-same p q xs same.1) refl
 

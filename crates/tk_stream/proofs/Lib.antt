@@ -13,3 +13,4 @@ pub mod AppliedLemmas
 pub mod Behind
 pub mod FrontLemmas
 pub mod RangeLemmas
+pub mod PruneLemmas

@@ -6,6 +6,8 @@ pub mod Rows
 pub mod Lines
 -- What a line makes of tables
 pub mod Applied
+-- What leaves at a moment
+pub mod Retention
 -- How a line is spelled: its JSON value, and its text
 pub mod Spelling
 -- The ranges of a line's values

@@ -3,6 +3,7 @@
 //! - [`Tables`]: the items in order of arrival, each with its row, and the counts of poll operations.
 //! - [`Task`], [`Resource`], [`Op`]: a task, a resource and an async operation in tables.
 //! - [`Line`]: what one line of a stream says; its text is one JSON object.
+//! - [`Leaving`]: what leaves with a line, since the line before showed it closed for long enough.
 //! - [`LineError`]: why a line was not made, read or written.
 //! - [`send`]: writes a text whole, or a proper front of it ([`Unsent`]).
 //! - [`laws`]: what holds of the definitions by themselves.
@@ -17,6 +18,7 @@ mod fields;
 mod gone;
 mod item;
 pub mod laws;
+mod leaving;
 mod line;
 mod op;
 mod pieces;
@@ -45,6 +47,7 @@ mod write_stats;
 
 pub use error::LineError;
 pub use item::Item;
+pub use leaving::Leaving;
 pub use line::Line;
 pub use op::Op;
 pub use ranged::Ranged;

@@ -32,18 +32,23 @@ ghost use Rattle.tk_stream.specs.Spelling as spec;
 ghost use Rattle.tk_stream.specs.Behind.{Puts, Takes};
 ghost use Rattle.std.specs.List.{AllByRecursion};
 ghost use Rattle.tk_stream.specs.Ranges as ranges;
+ghost use Rattle.tk_stream.specs.Retention.{due_of, prune, line_pruned, told_without};
 
 use crate::between::{infos_behind, new_infos, stats_beside, told_stats};
 use crate::error::LineError;
 use crate::gone::{Gone, gone_of, put_gone, see_gone, take_gone};
+use crate::leaving::{Leaving, due, leave_out};
+use crate::op::Op;
 use crate::pieces::{put_flag, put_number, put_text};
 use crate::putting::put_list;
 use crate::ranged::{see_all, see_number, see_totals};
 use crate::reading::{LineParts, json_of};
+use crate::resource::Resource;
 use crate::shaped::list_of;
 use crate::tables::Tables;
 use crate::takes::{take_flag, take_number, take_text};
 use crate::taking::{some_of, take_list};
+use crate::task::Task;
 use crate::told_tables::ToldTables;
 use serde_json::Value;
 use std::alloc::{AllocError, Global};
@@ -212,6 +217,61 @@ impl Line {
             snapshot,
             task_stats,
         })
+    }
+
+    /// The line of version 2 numbered `seq` that leads from the tables that were told to the tables at a moment without what
+    /// leaves then, and what leaves: the items that were told as closed, at least `retention` nanoseconds before the moment.
+    ///
+    /// Its one error is `Memory`.
+    pub fn pruned(
+        alloc: Global,
+        told: &ToldTables,
+        tables: &Tables,
+        now: u64,
+        seq: u64,
+        retention: u64,
+    ) -> Result<(Line, Leaving), LineError>
+        requires numbered { lines.is_seq seq ≡ true }
+        requires fits { FitsIn told.now tables.now }
+        ensures line { IfOk result (λ made. made.0 ≡ line_pruned (told_tables told.now tables.now)
+            (prune (record tables.now { now = now }) (told_tables told.now tables.now) now retention) seq) }
+        ensures leaving { IfOk result (λ made. made.1 ≡ due_of (told_tables told.now tables.now) now retention) }
+        ensures memory { IfErr result (λ e. e ≡ LineError.Memory) }
+    {
+        tables.see();
+        let (gone, leaving) = due(alloc, told, tables, now, retention)?;
+        let line = Line::behind(alloc, told, tables, now, seq, false)?;
+        Ok((line.without(gone, &leaving), leaving))
+    }
+
+    // The line as one that says what is gone, and tells nothing of it.
+    fn without(self, gone: Gone, leaving: &Leaving) -> Line
+        requires { gone ≡ leaving.now }
+        ensures { result ≡ told_without leaving.now self }
+    {
+        self.ranges();
+        gone.see();
+        let mut line = self;
+        leave_out::<Op>(&mut line.op_stats, &leaving.ops);
+        leave_out::<Resource>(&mut line.resource_stats, &leaving.resources);
+        leave_out::<Task>(&mut line.task_stats, &leaving.tasks);
+        line.gone = Some(gone);
+        line
+    }
+
+    /// The line as one of version 2 that removes nothing.
+    pub fn removing_nothing(self) -> Line
+        ensures { result ≡ lines.with_gone lines.none_gone self }
+    {
+        self.ranges();
+        let alloc = *self.new_tasks.allocator();
+        let mut line = self;
+        line.gone = Some(Gone {
+            ops: Vec::new(alloc),
+            resources: Vec::new(alloc),
+            tasks: Vec::new(alloc),
+        });
+        line
     }
 
     /// The line of a text: the JSON object that `serde_json` reads, with exactly the keys of version 1 or 2, each with a value

@@ -4,7 +4,7 @@ ghost use Rattle.std.specs.Prelude.{◌≡◌};
 use crate::item::Item;
 use crate::ranged::Ranged;
 use crate::rows::same_op_row;
-use crate::told::{Described, Told};
+use crate::told::{Closes, Described, Told};
 use std::alloc::AllocError;
 use tk_core::OpRow;
 use tk_ids::{AsyncOpId, OpInfo};
@@ -110,5 +110,36 @@ impl Described for Op {
 
     fn copy_info(&self) -> Result<OpInfo, AllocError> {
         self.info.clone()
+    }
+}
+
+impl Closes for Op {
+    ghost use Rattle.std.specs.Prelude.{refl};
+    ghost use Rattle.tk_stream.specs.Tables.{op_id};
+
+    type Id = AsyncOpId;
+
+    ghost typed_id = { op_id };
+
+    ghost closed_in = { λ row. row.dropped };
+
+    ghost id_in = { λ s. s.0 };
+
+    ghost shows = { λ item row. refl };
+
+    ghost keeps_typed_id = { λ item row. refl };
+
+    ghost tells_id = { λ item. refl };
+
+    fn typed_id(&self) -> AsyncOpId {
+        self.info.id
+    }
+
+    fn closed(row: &OpRow) -> Option<u64> {
+        row.dropped
+    }
+
+    fn stats_id(stats: &(AsyncOpId, OpRow)) -> u64 {
+        stats.0.value()
     }
 }

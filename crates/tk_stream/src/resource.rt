@@ -4,7 +4,7 @@ ghost use Rattle.std.specs.Prelude.{◌≡◌};
 use crate::item::Item;
 use crate::ranged::Ranged;
 use crate::rows::same_resource_row;
-use crate::told::{Described, Told};
+use crate::told::{Closes, Described, Told};
 use std::alloc::AllocError;
 use tk_core::ResourceRow;
 use tk_ids::{ResourceId, ResourceInfo};
@@ -110,5 +110,36 @@ impl Described for Resource {
 
     fn copy_info(&self) -> Result<ResourceInfo, AllocError> {
         self.info.clone()
+    }
+}
+
+impl Closes for Resource {
+    ghost use Rattle.std.specs.Prelude.{refl};
+    ghost use Rattle.tk_stream.specs.Tables.{resource_id};
+
+    type Id = ResourceId;
+
+    ghost typed_id = { resource_id };
+
+    ghost closed_in = { λ row. row.dropped };
+
+    ghost id_in = { λ s. s.0 };
+
+    ghost shows = { λ item row. refl };
+
+    ghost keeps_typed_id = { λ item row. refl };
+
+    ghost tells_id = { λ item. refl };
+
+    fn typed_id(&self) -> ResourceId {
+        self.info.id
+    }
+
+    fn closed(row: &ResourceRow) -> Option<u64> {
+        row.dropped
+    }
+
+    fn stats_id(stats: &(ResourceId, ResourceRow)) -> u64 {
+        stats.0.value()
     }
 }

@@ -4,6 +4,7 @@
 //! what each call makes of them.
 ghost use Rattle.std.specs.Prelude.{◌≡◌, ◌<◌, length, slice_get, None, IfOk, OnOk, OnErr, IfErr, IsOk, IsSome, option_map};
 
+use crate::leaving::Leaving;
 use crate::op::Op;
 use crate::ranged::{see_number, see_totals};
 use crate::resource::Resource;
@@ -373,5 +374,12 @@ impl Tables {
         self.tasks.remove_all(tasks);
         self.resources.remove_all(resources);
         self.ops.remove_all(ops);
+    }
+
+    /// Removes what leaves, as `remove_gone` does.
+    pub fn leave(&mut self, leaving: &Leaving)
+        ensures { self.new ≡ without_gone self.old leaving.now }
+    {
+        self.remove_gone(&leaving.tasks, &leaving.resources, &leaving.ops);
     }
 }

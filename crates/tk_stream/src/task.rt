@@ -4,7 +4,7 @@ ghost use Rattle.std.specs.Prelude.{◌≡◌};
 use crate::item::Item;
 use crate::ranged::Ranged;
 use crate::rows::same_row;
-use crate::told::{Described, Told};
+use crate::told::{Closes, Described, Told};
 use std::alloc::AllocError;
 use tk_core::TaskRow;
 use tk_ids::{TaskId, TaskInfo};
@@ -110,5 +110,36 @@ impl Described for Task {
 
     fn copy_info(&self) -> Result<TaskInfo, AllocError> {
         self.info.clone()
+    }
+}
+
+impl Closes for Task {
+    ghost use Rattle.std.specs.Prelude.{refl};
+    ghost use Rattle.tk_stream.specs.Tables.{task_id};
+
+    type Id = TaskId;
+
+    ghost typed_id = { task_id };
+
+    ghost closed_in = { λ row. row.dropped };
+
+    ghost id_in = { λ s. s.0 };
+
+    ghost shows = { λ item row. refl };
+
+    ghost keeps_typed_id = { λ item row. refl };
+
+    ghost tells_id = { λ item. refl };
+
+    fn typed_id(&self) -> TaskId {
+        self.info.id
+    }
+
+    fn closed(row: &TaskRow) -> Option<u64> {
+        row.dropped
+    }
+
+    fn stats_id(stats: &(TaskId, TaskRow)) -> u64 {
+        stats.0.value()
     }
 }

@@ -1,5 +1,5 @@
 //! What lines tell of the items of tables.
-ghost use Rattle.std.specs.Prelude.{◌≡◌, Bool, true, IfOk};
+ghost use Rattle.std.specs.Prelude.{◌≡◌, ℕ, Bool, true, IfOk, Option};
 
 use crate::item::Item;
 use std::alloc::AllocError;
@@ -38,4 +38,32 @@ pub(crate) trait Described: Item {
 
     fn copy_info(&self) -> Result<Self::Info, AllocError>
         ensures { IfOk result (λ info. info ≡ info_of self.now) };
+}
+
+/// An item that is closed at last, and leaves later.
+pub(crate) trait Closes: Told {
+    /// Its id, by its kind.
+    type Id: Copy + Drop;
+
+    ghost typed_id: { Self → Self.Id };
+
+    ghost closed_in: { Self.Row → Option ℕ };
+
+    ghost id_in: { Self.Stats → ℕ };
+
+    fn typed_id(&self) -> Self::Id
+        ensures { result ≡ typed_id self.now };
+
+    /// When it was closed, by its row.
+    fn closed(row: &Self::Row) -> Option<u64>
+        ensures { result ≡ closed_in row.now };
+
+    fn stats_id(stats: &Self::Stats) -> u64
+        ensures { result ≡ id_in stats.now };
+
+    ghost shows: { (item : Self) (row : Self.Row) → Self.Item.row_of (Self.Item.with_row item row) ≡ row };
+
+    ghost keeps_typed_id: { (item : Self) (row : Self.Row) → typed_id (Self.Item.with_row item row) ≡ typed_id item };
+
+    ghost tells_id: { (item : Self) → id_in (Self.Told.stats_of item) ≡ Self.Item.id_of item };
 }

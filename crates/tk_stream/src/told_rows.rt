@@ -1,11 +1,11 @@
 //! What the last whole line told of the rows of a table.
-ghost use Rattle.std.specs.Prelude.{◌≡◌, ◌≤◌, ◌<◌, length, map, false, None, is_some, slice_get, OnOk};
+ghost use Rattle.std.specs.Prelude.{◌≡◌, ◌≤◌, ◌<◌, length, map, false, None, is_some, get_or, slice_get, OnOk};
 ghost use Rattle.tk_stream.specs.Fronts.{no_telling, told_item, is_told_beside, with_rows};
 ghost use Rattle.tk_stream.specs.Tables.{changed_at};
 
 use crate::item::Item;
 use crate::table::Table;
-use crate::told::Told;
+use crate::told::{Closes, Told};
 use std::alloc::{AllocError, Global};
 use std::marker::Model;
 
@@ -130,6 +130,19 @@ impl<T: Told> ToldRows<T> {
         if i < self.count && !self.marks[i] {
             self.rows[i] = Some(before);
             self.marks[i] = true;
+        }
+    }
+}
+
+impl<T: Closes> ToldRows<T> {
+    /// When the item at a place was closed, by the row that was told of it.
+    pub(crate) fn closed(&self, i: usize, item: &T) -> Option<u64>
+        requires { i < length self.now.rows }
+        ensures { result ≡ T.closed_in (T.row_of (told_item T.with_row item.now (get_or self.now.rows i None))) }
+    {
+        match &self.rows[i] {
+            Some(row) => T::closed(row),
+            None => T::closed(&item.row()),
         }
     }
 }
