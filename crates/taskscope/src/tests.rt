@@ -54,7 +54,8 @@ nothing that the program does, and 3 where `lint` found warnings.
 const RUN_HELP: &str = "Runs a script from standard input and writes its stream to standard output.
 
 A script has one command a line, its words between single spaces:
-  capacity COUNT         holds so many events between two lines, 1 to 65536; only as the first command
+  capacity COUNT         holds so many events between two lines, 1 to 65536; once, before other commands
+  retention SPAN         lets closed items leave after so many nanoseconds; once, before other commands
   task MOMENT KIND NAME  makes a task, of kind spawn or blocking
   start TASK MOMENT      starts a poll of the task
   selfwake TASK MOMENT   wakes the task from within its poll
@@ -77,6 +78,8 @@ A moment is a number of nanoseconds. Empty lines and lines that begin with # are
 
 A new item and a poll operation are events. Of those since the line before 1024 are held where no capacity is
 said; where there are more, `dropped` counts what was lost: publish more often, or begin with a greater capacity.
+
+With a retention a line says which items are gone: each was closed for so long, and told of as closed before.
 
 A script has at most 1,048,576 bytes. It stops at its first fault, and the lines before it stay.
 

@@ -150,12 +150,12 @@ module _ {Info : Type 0} (id : Info → ℕ) (told : Told → List Info) (cases 
   other : (m n : ℕ) → nat_eq m n ≡ false → nat_eq n m ≡ false
   other m n is = ne_eqb n m (λ e. Rattle.std.proofs.lemmas.Bool.false≢true (sym is ∙ eq-eqb m n (sym e)))
 
-  absent : (acc : List Info) (x : Info) (xs : List Info) → IsDistinct nat_eq (map id (acc ++ x ∷ xs)) → item_with id (id x) acc ≡ None
+  pub absent : (acc : List Info) (x : Info) (xs : List Info) → IsDistinct nat_eq (map id (acc ++ x ∷ xs)) → item_with id (id x) acc ≡ None
   unfolding IsDistinct
   absent [] x xs h = refl
   absent (a ∷ acc) x xs h = ap (λ (b : Bool). cond b (Some a) (item_with id (id x) acc)) (other (id a) (id x) (among (λ (k : ℕ). nat_eq (id a) k ≡ false) acc x xs h.0)) ∙ absent acc x xs h.1
 
-  add_all : (acc xs : List Info) → IsDistinct nat_eq (map id (acc ++ xs)) → fold add acc xs ≡ acc ++ xs
+  pub add_all : (acc xs : List Info) → IsDistinct nat_eq (map id (acc ++ xs)) → fold add acc xs ≡ acc ++ xs
   add_all acc [] h = sym (append-nil acc)
   add_all acc (x ∷ xs) h =
       let last : add acc x ≡ acc ++ x ∷ [] = ap (λ (o : Option Info). option_map_or (λ there. acc) o (acc ++ x ∷ [])) (absent acc x xs h) in
@@ -163,7 +163,7 @@ module _ {Info : Type 0} (id : Info → ℕ) (told : Told → List Info) (cases 
       ap (λ l. fold add l xs) last ∙ (add_all (acc ++ x ∷ []) xs (subst (λ l. IsDistinct nat_eq (map id l)) (sym same) h) ∙ same)
 
   module _ (get : Infos → List Info) (step : (infos : Infos) (e : Shown) → get (absorbed infos e) ≡ fold add (get infos) (made e)) where
-    absorbs : (es : List Shown) (infos : Infos) → get (absorb infos es) ≡ fold add (get infos) (flat_map made es)
+    pub absorbs : (es : List Shown) (infos : Infos) → get (absorb infos es) ≡ fold add (get infos) (flat_map made es)
     absorbs [] infos = refl
     absorbs (e ∷ es) infos = absorbs es (absorbed infos e) ∙ (ap (λ l. fold add l (flat_map made es)) (step infos e) ∙ sym (fold-append add (get infos) (made e) (flat_map made es)))
 
@@ -193,6 +193,10 @@ module _ {Info : Type 0} (id : Info → ℕ) (told : Told → List Info) (cases 
 
       once : IsDistinct nat_eq (map id (made_by t.taken))
       once = distinct t.recorders t.taken s.named blocks differ_of
+
+      -- and no two that events tell of
+      pub told_once : IsDistinct nat_eq (map id (flat_map made (events_of t)))
+      told_once = subst (λ l. IsDistinct nat_eq (map id l)) (sym (flat_map-map made (λ (o : Offer). o.event) t.taken)) once
 
       -- so each was taken in
       each : get (absorb no_infos (events_of t)) ≡ made_by t.taken

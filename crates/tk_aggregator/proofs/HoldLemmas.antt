@@ -1,5 +1,5 @@
--- An aggregator that took in all that was kept holds just that.
-use Rattle.std.proofs.Common.{◌≡◌, ℕ, ◌+◌, ◌-◌, ◌*◌, ◌^◌, ◌<◌, ◌≤◌, Bool, true, List, [], ◌∷◌, ◌++◌, length, map, None, refl, ap, sym, ◌∙◌, subst, arith, ◌⊎◌, inl, inr}
+-- An aggregator that took in all that was kept holds just that, but for what left.
+use Rattle.std.proofs.Common.{◌≡◌, ℕ, ◌+◌, ◌-◌, ◌*◌, ◌^◌, ◌<◌, ◌≤◌, Bool, true, List, [], ◌∷◌, ◌++◌, length, map, None, Some, refl, ap, sym, ◌∙◌, subst, arith, ◌⊎◌, inl, inr}
 use Rattle.std.specs.Prelude.{Option, count_by, fold}
 use Rattle.std.proofs.lemmas.List.{append-nil}
 use Rattle.std.proofs.lemmas.List.Elements.{All-nil}
@@ -13,15 +13,17 @@ use Rattle.tk_events.specs.declared.event.Shown.TheVariants.{MadeTask, MadeResou
 use Rattle.tk_events.specs.declared.item.Offer.{Offer}
 use Rattle.tk_events.specs.Offers.{shown, earlier, is_task, is_resource, is_op, tasks_in, resources_in, ops_in}
 use Rattle.tk_events.specs.Handles.{Taking, HasPlaceId, IsSettled, AllTaken, events_of}
+use Rattle.tk_stream.specs.Lines.{GoneView}
 use Rattle.tk_stream.specs.Tables.{PollCounts, counts_of}
-use Rattle.tk_aggregator.specs.Absorbing.{Infos, infos_of, no_infos, with_info, absorbed, absorb}
+use Rattle.tk_aggregator.specs.Absorbing.{Infos, Step, infos_of, no_infos, with_info, absorbed, absorb, infos_after, events_taken}
 use Rattle.tk_aggregator.specs.Aggregates.{Aggregating, Collects, FollowsTaker, held_events}
-use Rattle.tk_aggregator.specs.Finished.{task_told, resource_told, op_told, is_ready_poll, is_pending_poll, kept_by_all, HoldAllKept}
+use Rattle.tk_aggregator.specs.Finished.{task_told, resource_told, op_told, is_ready_poll, is_pending_poll, kept_by_all, HoldAllKept, HoldSomeKept, HoldKept}
 use Rattle.tk_aggregator.specs.Told.{tells}
-use Rattle.tk_aggregator.proofs.AllKeptLemmas.{are_the_kept}
+use Rattle.tk_aggregator.proofs.AllKeptLemmas.{are_the_kept, told_once}
 use Rattle.tk_aggregator.proofs.FollowLemmas.{collects_follows}
 use Rattle.tk_aggregator.proofs.KeptIdLemmas.{count_cons}
 use Rattle.tk_aggregator.proofs.PollTotalLemmas.{kept_is_taken, kept_few, counts_absorbed, polled_absorbed}
+use Rattle.tk_aggregator.proofs.SomeKeptLemmas.{some_there, all_counts}
 
 -- the one item of a list
 only : {Info : Type 0} → Info → List Info → Info
@@ -151,15 +153,37 @@ module _ (t : Taking) (s : IsSettled t) (all : AllTaken t) where
     polled = polled_absorbed (events_of t) no_infos (All-nil (λ (c : PollCounts). 0 < c.1 + c.2));
   }
 
--- an aggregator that follows a finished taker holds all that was kept once it found the buffer empty
-pub collects_all : (a : Aggregating) (t : Taking) (limit count : ℕ) (b : Aggregating) (u : Taking) → Collects a t limit count b u → FollowsTaker a t → t.finished ≡ true → count < limit → HoldAllKept (infos_of b.tables) u.known
-collects_all a t limit count b u k f finished below =
+  -- where items left, some of it
+  holds_some : (steps : List Step) → events_taken steps ≡ events_of t → HoldSomeKept (infos_after steps) t.known
+  holds_some steps is = record {
+    all = absorb no_infos (events_of t);
+    kept = holds_all;
+    tasks =
+        some_there (λ (i : TaskInfo). i.id) task_told task_cases (λ (i : Infos). i.tasks) task_taken_in (λ (g : GoneView). g.tasks) (λ gone infos. refl) steps (events_of t) is refl
+        (told_once (λ (i : TaskInfo). i.id) task_told task_cases (λ (i : Infos). i.tasks) task_taken_in refl is_task task_is task_placed t s all);
+    resources =
+        some_there (λ (i : ResourceInfo). i.id) resource_told resource_cases (λ (i : Infos). i.resources) resource_taken_in (λ (g : GoneView). g.resources) (λ gone infos. refl) steps (events_of t) is refl
+        (told_once (λ (i : ResourceInfo). i.id) resource_told resource_cases (λ (i : Infos). i.resources) resource_taken_in refl is_resource resource_is resource_placed t s all);
+    ops =
+        some_there (λ (i : OpInfo). i.id) op_told op_cases (λ (i : Infos). i.ops) op_taken_in (λ (g : GoneView). g.ops) (λ gone infos. refl) steps (events_of t) is refl
+        (told_once (λ (i : OpInfo). i.id) op_told op_cases (λ (i : Infos). i.ops) op_taken_in refl is_op op_is op_placed t s all);
+    counts = all_counts steps (events_of t) is;
+  }
+
+  holds_kept : (steps : List Step) → events_taken steps ≡ events_of t → (infos : Infos) → infos ≡ infos_after steps
+      → (retention : Option ℕ) → (retention ≡ None → infos ≡ absorb no_infos (events_taken steps)) → HoldKept retention infos t.known
+  holds_kept steps is infos after None whole = subst (λ (x : Infos). HoldAllKept x t.known) (sym (whole refl ∙ ap (λ (es : List Shown). absorb no_infos es) is)) holds_all
+  holds_kept steps is infos after (Some retention) whole = subst (λ (x : Infos). HoldSomeKept x t.known) (sym after) (holds_some steps is)
+
+-- an aggregator that follows a finished taker holds what was kept once it found the buffer empty: all of it, where nothing leaves
+pub collects_kept : (a : Aggregating) (t : Taking) (limit count : ℕ) (b : Aggregating) (u : Taking) → Collects a t limit count b u → FollowsTaker a t → t.finished ≡ true → count < limit → HoldKept b.retention (infos_of b.tables) u.known
+collects_kept a t limit count b u k f finished below =
     let empty = k.all below in
     let done : k.taker.finished ≡ true = ap (λ (x : Taking). x.finished) k.gathers.taker ∙ finished in
     let at = collects_follows a t limit count b u k f in
     let none : b.held ≡ None = k.none_held (omega (arith, below)) in
-    let events : events_of u ≡ at.taken_in = at.events ∙ (ap (λ (h : Option _). at.taken_in ++ map shown (held_events h)) none ∙ append-nil at.taken_in) in
+    let events : events_of u ≡ events_taken at.steps = at.events ∙ (ap (λ (h : Option _). events_taken at.steps ++ map shown (held_events h)) none ∙ append-nil (events_taken at.steps)) in
     let same : events_of u ≡ events_of k.taker = ap events_of k.totals.same in
     let known : u.known ≡ k.taker.known = ap (λ (x : Taking). x.known) k.totals.same in
-    let is : infos_of b.tables ≡ absorb no_infos (events_of k.taker) = at.infos ∙ ap (λ (es : List Shown). absorb no_infos es) (sym events ∙ same) in
-    subst (λ (x : Infos × List Returned). HoldAllKept x.0 x.1) (λ i. (sym is i, sym known i)) (holds_all k.taker (empty.settled done) empty.all)
+    subst (λ (rs : List Returned). HoldKept b.retention (infos_of b.tables) rs) (sym known)
+    (holds_kept k.taker (empty.settled done) empty.all at.steps (sym events ∙ same) (infos_of b.tables) at.infos b.retention at.whole)

@@ -6,10 +6,12 @@ pub mod StandingLemmas
 pub mod HandledLemmas
 pub mod RefreshLemmas
 pub mod TakeInLemmas
+pub mod LeaveLemmas
 pub mod GatherLemmas
 pub mod FollowLemmas
 pub mod LaterLemmas
 pub mod KeptIdLemmas
 pub mod AllKeptLemmas
+pub mod SomeKeptLemmas
 pub mod PollTotalLemmas
 pub mod HoldLemmas

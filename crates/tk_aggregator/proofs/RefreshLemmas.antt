@@ -55,8 +55,8 @@ module _ (shown : TablesView) (telling : ToldView) (tasks : List TaskSight) (res
         subst (λ (t : TablesView). IsStanding t view read resources ops held last) (sym e)
         (subst (λ (v : ToldView). IsStanding (record shown { tasks = with_rows task_at shown.tasks rows }) v read resources ops held last) (sym alone) tasks_now.0)
 
-    pub tasks_read : (broken : Bool) → ReadsTasks (whole shown telling tasks resources ops held last broken) (whole now view read resources ops held last broken)
-    tasks_read broken = (rows, each, λ i. record { tables = e i; told = (ap₂ told_tables alone e ∙ tasks_now.1) i; tasks = read; resources = resources; ops = ops; held = held; last = last; broken = broken })
+    pub tasks_read : (broken : Bool) (retention : Option ℕ) → ReadsTasks (whole shown telling tasks resources ops held last broken retention) (whole now view read resources ops held last broken retention)
+    tasks_read broken retention = (rows, each, λ i. record { tables = e i; told = (ap₂ told_tables alone e ∙ tasks_now.1) i; tasks = read; resources = resources; ops = ops; held = held; last = last; broken = broken; retention = retention })
 
   module _ (rows : List ResourceRow) (read : List ResourceSight) (each : ReadAll resource_ledger resources rows read) (e : now ≡ record shown { resources = with_rows resource_at shown.resources rows }) (alone : view ≡ record telling { resources = view.resources })
       (alike : TellsSame resource_at shown.resources telling.resources now.resources view.resources) where
@@ -70,8 +70,8 @@ module _ (shown : TablesView) (telling : ToldView) (tasks : List TaskSight) (res
         subst (λ (t : TablesView). IsStanding t view tasks read ops held last) (sym e)
         (subst (λ (v : ToldView). IsStanding (record shown { resources = with_rows resource_at shown.resources rows }) v tasks read ops held last) (sym alone) resources_now.0)
 
-    pub resources_read : (broken : Bool) → ReadsResources (whole shown telling tasks resources ops held last broken) (whole now view tasks read ops held last broken)
-    resources_read broken = (rows, each, λ i. record { tables = e i; told = (ap₂ told_tables alone e ∙ resources_now.1) i; tasks = tasks; resources = read; ops = ops; held = held; last = last; broken = broken })
+    pub resources_read : (broken : Bool) (retention : Option ℕ) → ReadsResources (whole shown telling tasks resources ops held last broken retention) (whole now view tasks read ops held last broken retention)
+    resources_read broken retention = (rows, each, λ i. record { tables = e i; told = (ap₂ told_tables alone e ∙ resources_now.1) i; tasks = tasks; resources = read; ops = ops; held = held; last = last; broken = broken; retention = retention })
 
   module _ (rows : List OpRow) (read : List OpSight) (each : ReadAll op_ledger ops rows read) (e : now ≡ record shown { ops = with_rows op_at shown.ops rows }) (alone : view ≡ record telling { ops = view.ops })
       (alike : TellsSame op_at shown.ops telling.ops now.ops view.ops) where
@@ -85,8 +85,8 @@ module _ (shown : TablesView) (telling : ToldView) (tasks : List TaskSight) (res
         subst (λ (t : TablesView). IsStanding t view tasks resources read held last) (sym e)
         (subst (λ (v : ToldView). IsStanding (record shown { ops = with_rows op_at shown.ops rows }) v tasks resources read held last) (sym alone) ops_now.0)
 
-    pub ops_read : (broken : Bool) → ReadsOps (whole shown telling tasks resources ops held last broken) (whole now view tasks resources read held last broken)
-    ops_read broken = (rows, each, λ i. record { tables = e i; told = (ap₂ told_tables alone e ∙ ops_now.1) i; tasks = tasks; resources = resources; ops = read; held = held; last = last; broken = broken })
+    pub ops_read : (broken : Bool) (retention : Option ℕ) → ReadsOps (whole shown telling tasks resources ops held last broken retention) (whole now view tasks resources read held last broken retention)
+    ops_read broken retention = (rows, each, λ i. record { tables = e i; told = (ap₂ told_tables alone e ∙ ops_now.1) i; tasks = tasks; resources = resources; ops = read; held = held; last = last; broken = broken; retention = retention })
 
 -- ---- all of them
 
@@ -149,4 +149,4 @@ module _ (a d : Aggregating) (sound : IsSound a) (r : Refreshes a d) where
   })
 
   pub refreshes_stays : IsSameStream a d
-  refreshes_stays = record { told = ap (λ x. x.told) r.now; last = ap (λ x. x.last) r.now; broken = ap (λ x. x.broken) r.now; now = ap (λ x. x.tables.now) r.now }
+  refreshes_stays = record { told = ap (λ x. x.told) r.now; last = ap (λ x. x.last) r.now; broken = ap (λ x. x.broken) r.now; now = ap (λ x. x.tables.now) r.now; retention = ap (λ x. x.retention) r.now }

@@ -1,13 +1,16 @@
 -- A line that goes on leaves an uninterrupted stream.
 use Rattle.std.proofs.Common.{◌≡◌, ℕ, ◌+◌, ◌^◌, ◌<◌, List, [], ◌∷◌, ◌++◌, Bool, true, false, refl, sym, ap, ap₂, subst, ◌∙◌, append_assoc, append-nil, arith}
-use Rattle.std.specs.Prelude.{◌||◌, ◌==◌}
+use Rattle.std.specs.Prelude.{◌||◌, ◌&&◌, ◌==◌, not, if◌then◌else◌, Option, None, Some, is_some}
 use Rattle.std.proofs.lemmas.Bool.{eq-eqb}
-use Rattle.tk_aggregator.specs.Aggregates.{Aggregating, IsSound, IsDue, tables_at, line_at, sending_at}
+use Rattle.tk_aggregator.specs.Aggregates.{Aggregating, IsSound, IsDue, pruned, tables_at, line_at, sending_at, having_told, after_line}
+use Rattle.tk_stream.specs.Applied.{GoOn, what_stays, without_gone}
 use Rattle.tk_stream.specs.Lines.{is_seq}
 use Rattle.tk_stream.specs.Ranges.{IsNumber}
+use Rattle.tk_stream.specs.Retention.{due_of, prune}
 use Rattle.tk_stream.specs.Spelling.{sent_text}
-use Rattle.tk_stream.specs.Streams.{Sending, sending, line_sent, lines_sent, bytes_sent, tables_sent, last_sent, MaySend, GoesOn, IsUninterrupted, IsStreamTo}
+use Rattle.tk_stream.specs.Streams.{Sending, line_sent, lines_sent, bytes_sent, tables_sent, last_sent, MaySend, GoesOn, IsUninterrupted, IsStreamTo}
 use Rattle.tk_stream.specs.Tables.{TablesView, empty_tables, AreFit}
+use Rattle.tk_stream.proofs.PruneLemmas.{less_fit, less_in_range, pruned_goes_on, distinct_begin}
 use Rattle.tk_stream.proofs.RangeLemmas.{at_moment}
 
 -- ---- one more line
@@ -56,12 +59,19 @@ goes_on_to bytes told last s stream may next = record {
 }
 
 -- a snapshot opens a stream
-pub opens_at : (told : TablesView) (tables : TablesView) (seq : ℕ) → MaySend told (sending tables seq true)
-    → IsStreamTo (sent_text (line_sent told (sending tables seq true))) tables seq
-opens_at told tables seq may = record {
-  sent = sending tables seq true ∷ [];
-  uninterrupted = (refl, record { fit = may.fit; in_range = may.in_range; numbered = may.numbered; on = record { tasks = tt; resources = tt; ops = tt; counts = tt } }, tt);
-  bytes_are = sym (append-nil (sent_text (line_sent empty_tables (sending tables seq true))));
+abbrev whole_sending : TablesView → ℕ → Bool → Sending
+whole_sending tables seq removes = record { tables = tables; seq = seq; snapshot = true; removes = removes }
+
+behind_none : (tables : TablesView) (removes : Bool) → GoOn (if removes && false then what_stays empty_tables tables else empty_tables) tables
+behind_none tables true = record { tasks = tt; resources = tt; ops = tt; counts = tt }
+behind_none tables false = record { tasks = tt; resources = tt; ops = tt; counts = tt }
+
+pub opens_at : (told : TablesView) (tables : TablesView) (seq : ℕ) (removes : Bool) → MaySend told (whole_sending tables seq removes)
+    → IsStreamTo (sent_text (line_sent told (whole_sending tables seq removes))) tables seq
+opens_at told tables seq removes may = record {
+  sent = whole_sending tables seq removes ∷ [];
+  uninterrupted = (refl, record { fit = may.fit; in_range = may.in_range; numbered = may.numbered; on = behind_none tables removes }, tt);
+  bytes_are = sym (append-nil (sent_text (line_sent empty_tables (whole_sending tables seq removes))));
   tables_are = refl;
   last_is = refl;
 }
@@ -78,18 +88,56 @@ at_moment_fit t now fit = record {
   ops = fit.ops;
 }
 
-pub may_send : (a : Aggregating) (now : ℕ) (snapshot : Bool) → IsSound a → IsDue snapshot a now → IsNumber now → MaySend a.told (sending_at snapshot a now)
-may_send a now snapshot sound due fits = record {
+-- with all of its tables, as a snapshot or where nothing leaves
+sends_all : (a : Aggregating) (now : ℕ) (snapshot removes : Bool) → (removes && not snapshot) ≡ false → IsSound a → IsDue snapshot a now → IsNumber now
+    → MaySend a.told (record { tables = record a.tables { now = now }; seq = a.last + 1; snapshot = snapshot; removes = removes })
+sends_all a now snapshot removes stays sound due fits = record {
   fit = at_moment_fit a.tables now sound.fit;
   in_range = at_moment a.tables now sound.in_range fits;
   numbered = within a.last due.number;
-  on = record { tasks = sound.on.tasks; resources = sound.on.resources; ops = sound.on.ops; counts = sound.on.counts };
+  on = subst (λ (b : Bool). GoOn (if b then what_stays a.told a.tables else a.told) (record a.tables { now = now })) (sym stays) (record { tasks = sound.on.tasks; resources = sound.on.resources; ops = sound.on.ops; counts = sound.on.counts });
 }
 
-pub stream_goes_on : (a : Aggregating) (now : ℕ) (snapshot : Bool) → IsSound a → IsDue snapshot a now → IsNumber now → (bytes : List ℕ) → IsStreamTo bytes a.told a.last
-    → IsStreamTo (bytes ++ sent_text (line_at snapshot a now)) (tables_at a now) (a.last + 1)
-stream_goes_on a now snapshot sound due fits bytes stream =
-    goes_on_to bytes a.told a.last (sending_at snapshot a now) stream (may_send a now snapshot sound due fits) refl
+-- without what is due
+sends_pruned : (a : Aggregating) (now retention : ℕ) → IsSound a → IsDue false a now → IsNumber now
+    → MaySend a.told (record { tables = record (prune a.tables a.told now retention) { now = now }; seq = a.last + 1; snapshot = false; removes = true })
+sends_pruned a now retention sound due fits =
+    let gone = due_of a.told now retention in
+    let distinct = sound.fit.distinct in
+    let on = pruned_goes_on a.told a.tables now retention (distinct_begin a.told a.tables sound.on distinct) sound.on in
+    record {
+      fit = at_moment_fit (without_gone a.tables gone) now (less_fit a.tables gone sound.fit);
+      in_range = at_moment (without_gone a.tables gone) now (less_in_range a.tables gone sound.in_range) fits;
+      numbered = within a.last due.number;
+      on = record { tasks = on.tasks; resources = on.resources; ops = on.ops; counts = on.counts };
+    }
 
-pub stream_opens : (a : Aggregating) (now : ℕ) → IsSound a → IsDue true a now → IsNumber now → IsStreamTo (sent_text (line_at true a now)) (tables_at a now) (a.last + 1)
-stream_opens a now sound due fits = opens_at a.told (tables_at a now) (a.last + 1) (may_send a now true sound due fits)
+pub may_send : (a : Aggregating) (now : ℕ) (snapshot : Bool) → IsSound a → IsDue snapshot a now → IsNumber now → MaySend a.told (sending_at snapshot a now)
+may_send a now true sound due fits = sends_all a now true (is_some a.retention) (none_left (is_some a.retention)) sound due fits
+  where
+    none_left : (b : Bool) → (b && false) ≡ false
+    none_left true = refl
+    none_left false = refl
+may_send a now false sound due fits = by a.retention
+  where
+    by : (o : Option ℕ) → MaySend a.told (record { tables = record (pruned o a now).tables { now = now }; seq = a.last + 1; snapshot = false; removes = is_some o })
+    by None = sends_all a now false false refl sound due fits
+    by (Some retention) = sends_pruned a now retention sound due fits
+
+-- the number of a line doesn't hang on what leaves
+pub after_last : (a : Aggregating) (now : ℕ) (snapshot : Bool) → (after_line snapshot a now).last ≡ a.last + 1
+after_last a now true = refl
+after_last a now false = by a.retention
+  where
+    by : (o : Option ℕ) → (having_told (pruned o a now) now).last ≡ a.last + 1
+    by None = refl
+    by (Some retention) = refl
+
+pub stream_goes_on : (a : Aggregating) (now : ℕ) (snapshot : Bool) → IsSound a → IsDue snapshot a now → IsNumber now → (bytes : List ℕ) → IsStreamTo bytes a.told a.last
+    → IsStreamTo (bytes ++ sent_text (line_at snapshot a now)) (after_line snapshot a now).told (after_line snapshot a now).last
+stream_goes_on a now snapshot sound due fits bytes stream =
+    subst (λ (n : ℕ). IsStreamTo (bytes ++ sent_text (line_at snapshot a now)) (tables_at snapshot a now) n) (sym (after_last a now snapshot))
+    (goes_on_to bytes a.told a.last (sending_at snapshot a now) stream (may_send a now snapshot sound due fits) refl)
+
+pub stream_opens : (a : Aggregating) (now : ℕ) → IsSound a → IsDue true a now → IsNumber now → IsStreamTo (sent_text (line_at true a now)) (after_line true a now).told (after_line true a now).last
+stream_opens a now sound due fits = opens_at a.told (tables_at true a now) (a.last + 1) (is_some a.retention) (may_send a now true sound due fits)

@@ -50,8 +50,8 @@ module _ (shown : TablesView) (telling : ToldView) (tasks : List TaskSight) (res
     pub task_put_stands : IsStanding now tells handles resources ops held last
     task_put_stands = moved (λ (t : TablesView) (u : ToldView) (hs : List TaskSight). IsStanding t u hs resources ops held last) now (with_task shown info row) tells (with_task_room telling room) handles (tasks ++ read ∷ []) e_now e_tells e_handles task_put.0
 
-    pub task_put_takes : (broken : Bool) → task_with info.id shown.tasks ≡ None → TakesIn (whole shown telling tasks resources ops held last broken) (events.Task info handle) (whole now tells handles resources ops held last broken)
-    task_put_takes broken none = none_there (task_with info.id shown.tasks) _ _ none (
+    pub task_put_takes : (broken : Bool) (retention : Option ℕ) → task_with info.id shown.tasks ≡ None → TakesIn (whole shown telling tasks resources ops held last broken retention) (events.Task info handle) (whole now tells handles resources ops held last broken retention)
+    task_put_takes broken retention none = none_there (task_with info.id shown.tasks) _ _ none (
       row,
       read,
       reading,
@@ -64,6 +64,7 @@ module _ (shown : TablesView) (telling : ToldView) (tasks : List TaskSight) (res
         held = held;
         last = last;
         broken = broken;
+        retention = retention;
       },
     )
 
@@ -90,8 +91,8 @@ module _ (shown : TablesView) (telling : ToldView) (tasks : List TaskSight) (res
     pub resource_put_stands : IsStanding now tells tasks handles ops held last
     resource_put_stands = moved (λ (t : TablesView) (u : ToldView) (hs : List ResourceSight). IsStanding t u tasks hs ops held last) now (with_resource shown info row) tells (with_resource_room telling room) handles (resources ++ read ∷ []) e_now e_tells e_handles resource_put.0
 
-    pub resource_put_takes : (broken : Bool) → resource_with info.id shown.resources ≡ None → TakesIn (whole shown telling tasks resources ops held last broken) (events.Resource info handle) (whole now tells tasks handles ops held last broken)
-    resource_put_takes broken none = none_there (resource_with info.id shown.resources) _ _ none (
+    pub resource_put_takes : (broken : Bool) (retention : Option ℕ) → resource_with info.id shown.resources ≡ None → TakesIn (whole shown telling tasks resources ops held last broken retention) (events.Resource info handle) (whole now tells tasks handles ops held last broken retention)
+    resource_put_takes broken retention none = none_there (resource_with info.id shown.resources) _ _ none (
       row,
       read,
       reading,
@@ -104,6 +105,7 @@ module _ (shown : TablesView) (telling : ToldView) (tasks : List TaskSight) (res
         held = held;
         last = last;
         broken = broken;
+        retention = retention;
       },
     )
 
@@ -130,8 +132,8 @@ module _ (shown : TablesView) (telling : ToldView) (tasks : List TaskSight) (res
     pub op_put_stands : IsStanding now tells tasks resources handles held last
     op_put_stands = moved (λ (t : TablesView) (u : ToldView) (hs : List OpSight). IsStanding t u tasks resources hs held last) now (with_op shown info row) tells (with_op_room telling room) handles (ops ++ read ∷ []) e_now e_tells e_handles op_put.0
 
-    pub op_put_takes : (broken : Bool) → op_with info.id shown.ops ≡ None → TakesIn (whole shown telling tasks resources ops held last broken) (events.Op info handle) (whole now tells tasks resources handles held last broken)
-    op_put_takes broken none = none_there (op_with info.id shown.ops) _ _ none (
+    pub op_put_takes : (broken : Bool) (retention : Option ℕ) → op_with info.id shown.ops ≡ None → TakesIn (whole shown telling tasks resources ops held last broken retention) (events.Op info handle) (whole now tells tasks resources handles held last broken retention)
+    op_put_takes broken retention none = none_there (op_with info.id shown.ops) _ _ none (
       row,
       read,
       reading,
@@ -144,6 +146,7 @@ module _ (shown : TablesView) (telling : ToldView) (tasks : List TaskSight) (res
         held = held;
         last = last;
         broken = broken;
+        retention = retention;
       },
     )
 
@@ -208,8 +211,8 @@ module _ (shown : TablesView) (telling : ToldView) (tasks : List TaskSight) (res
       subst (λ (t : TablesView). IsStanding t view tasks resources ops held last) (sym e)
       (subst (λ (v : ToldView). IsStanding (record shown { counts = counts }) v tasks resources ops held last) (sym alone) polled_now.0)
 
-  pub poll_counts : (broken : Bool) → whole now view tasks resources ops held last broken ≡ record (whole shown telling tasks resources ops held last broken) { tables = record shown { counts = counts } }
-  poll_counts broken = λ i. record {
+  pub poll_counts : (broken : Bool) (retention : Option ℕ) → whole now view tasks resources ops held last broken retention ≡ record (whole shown telling tasks resources ops held last broken retention) { tables = record shown { counts = counts } }
+  poll_counts broken retention = λ i. record {
     tables = e i;
     told = (ap₂ told_tables alone e ∙ polled_now.1) i;
     tasks = tasks;
@@ -218,4 +221,5 @@ module _ (shown : TablesView) (telling : ToldView) (tasks : List TaskSight) (res
     held = held;
     last = last;
     broken = broken;
+    retention = retention;
   }

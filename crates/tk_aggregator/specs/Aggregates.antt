@@ -1,5 +1,5 @@
 -- What an aggregator is, and what its calls make of it.
-use Rattle.std.specs.Prelude.{◌≡◌, ℕ, ◌+◌, ◌^◌, ◌<◌, ◌≤◌, List, [], ◌∷◌, ◌++◌, map, length, Bool, true, false, Option, Some, None, IfSome, IfNone}
+use Rattle.std.specs.Prelude.{◌≡◌, ℕ, ◌+◌, ◌^◌, ◌<◌, ◌≤◌, List, [], ◌∷◌, ◌++◌, map, length, Bool, true, false, if◌then◌else◌, Option, Some, None, is_some, IfSome, IfNone}
 use Rattle.std.specs.Io.KnownBytes.{Appends}
 use Rattle.crossbeam_queue.specs.Fifo.{Held}
 use Rattle.tk_core.specs.declared.op.row.OpRow.{OpRow}
@@ -8,7 +8,6 @@ use Rattle.tk_core.specs.declared.task.row.TaskRow.{TaskRow}
 use Rattle.tk_ids.specs.declared.info.Dropped.{Dropped}
 use Rattle.tk_events.specs.declared.event.Event.{Event}
 use Rattle.tk_events.specs.declared.event.Event.TheVariants as events
-use Rattle.tk_events.specs.declared.event.Shown.{Shown}
 use Rattle.tk_events.specs.declared.item.Offer.{Offer}
 use Rattle.tk_events.specs.Offers.{shown, offers_of}
 use Rattle.tk_events.specs.Handles.{Taking, Totals, AreExact, AreLeft, AllTaken, IsSettled, events_of}
@@ -20,15 +19,16 @@ use Rattle.tk_aggregator.specs.declared.stream_error.StreamError.TheVariants as 
 use Rattle.tk_stream.specs.declared.op.Op.{Op}
 use Rattle.tk_stream.specs.declared.resource.Resource.{Resource}
 use Rattle.tk_stream.specs.declared.task.Task.{Task}
-use Rattle.tk_aggregator.specs.Absorbing.{infos_of, no_infos, absorb}
-use Rattle.tk_stream.specs.Applied.{GoOn}
+use Rattle.tk_aggregator.specs.Absorbing.{Step, infos_of, no_infos, absorb, infos_after, events_taken}
+use Rattle.tk_stream.specs.Applied.{GoOn, without_gone}
 use Rattle.tk_stream.specs.Fronts.{with_rows, task_at, resource_at, op_at}
-use Rattle.tk_stream.specs.Lines.{LineView}
+use Rattle.tk_stream.specs.Lines.{LineView, GoneView}
 use Rattle.tk_stream.specs.Polls.{counted}
 use Rattle.tk_aggregator.specs.Readings.{task_ledger, resource_ledger, op_ledger, Reads, IsRead, ReadAll, AreLater}
+use Rattle.tk_stream.specs.Retention.{due_of}
 use Rattle.tk_stream.specs.Spelling.{sent_text}
-use Rattle.tk_stream.specs.Streams.{AreInRange, Sending, sending, line_sent}
-use Rattle.tk_stream.specs.Tables.{TablesView, empty_tables, AreFit, task_with, with_task, resource_with, with_resource, op_with, with_op}
+use Rattle.tk_stream.specs.Streams.{AreInRange, Sending, line_sent}
+use Rattle.tk_stream.specs.Tables.{TablesView, empty_tables, AreFit, staying, task_with, with_task, resource_with, with_resource, op_with, with_op}
 use Rattle.tk_stream.specs.Sent.{IsCut}
 
 -- what contracts see of an aggregator
@@ -47,10 +47,12 @@ pub record Aggregating : Type 0 where
   pub last : ℕ
   -- the last line was cut off, and only a snapshot goes on
   pub broken : Bool
+  -- how long a closed item stays, in nanoseconds, where lines say what is gone. Lines of version 1 don't, and nothing leaves
+  pub retention : Option ℕ
 
 -- one that has told nothing, whose next line has the number behind this one
-abbrev pub new_aggregating : ℕ → Aggregating
-new_aggregating after = record {
+abbrev pub new_aggregating : ℕ → Option ℕ → Aggregating
+new_aggregating after retention = record {
   tables = empty_tables;
   told = empty_tables;
   tasks = [];
@@ -59,6 +61,7 @@ new_aggregating after = record {
   held = None;
   last = after;
   broken = false;
+  retention = retention;
 }
 
 -- ---- what holds of every aggregator
@@ -103,12 +106,13 @@ pub record IsLaterOf (old new : Aggregating) : Type 0 where
   pub resources : AreLater old.resources new.resources
   pub ops : AreLater old.ops new.ops
 
--- the stream stands where it stood: the same was told, by the same last line
+-- the stream stands where it stood: the same was told, by the same last line, and items stay as long
 pub record IsSameStream (old new : Aggregating) : Type 0 where
   pub told : new.told ≡ old.told
   pub last : new.last ≡ old.last
   pub broken : new.broken ≡ old.broken
   pub now : new.tables.now ≡ old.tables.now
+  pub retention : new.retention ≡ old.retention
 
 -- ---- taking events in
 
@@ -220,12 +224,13 @@ pub record TookMore (before after : Taking) : Type 0 where
   pub known : after.known ≡ before.known
   pub finished : after.finished ≡ before.finished
 
--- an aggregator follows a taker: its infos and poll counts are what the events make that were taken, in order, but for the
--- held one, which is the last
+-- an aggregator follows a taker: its infos and poll counts are those after a course that took in what was taken, in order, but
+-- for the held event, which is the last. Where lines don't say what is gone, nothing left in it
 pub record FollowsTaker (a : Aggregating) (t : Taking) : Type 0 where
-  pub taken_in : List Shown
-  pub events : events_of t ≡ taken_in ++ map shown (held_events a.held)
-  pub infos : infos_of a.tables ≡ absorb no_infos taken_in
+  pub steps : List Step
+  pub events : events_of t ≡ events_taken steps ++ map shown (held_events a.held)
+  pub infos : infos_of a.tables ≡ infos_after steps
+  pub whole : a.retention ≡ None → infos_of a.tables ≡ absorb no_infos (events_taken steps)
 
 -- ---- reading
 
@@ -263,23 +268,47 @@ pub record Refreshes (old new : Aggregating) : Type 0 where
     ops = new.ops;
   }
 
+-- ---- what leaves
+
+-- one without these items. Their handles are let go
+abbrev pub without : Aggregating → GoneView → Aggregating
+without a gone = record a {
+  tables = without_gone a.tables gone;
+  tasks = staying (λ (s : TaskSight). s.id) gone.tasks a.tasks;
+  resources = staying (λ (s : ResourceSight). s.id) gone.resources a.resources;
+  ops = staying (λ (s : OpSight). s.id) gone.ops a.ops;
+}
+
+-- one without the items that are due at this moment, as the last whole line's tables have them
+abbrev pub pruned : Option ℕ → Aggregating → ℕ → Aggregating
+pruned None a now = a
+pruned (Some retention) a now = without a (due_of a.told now retention)
+
+-- what a line of this moment leaves there. A snapshot removes nothing
+abbrev pub left_at : Bool → Aggregating → ℕ → Aggregating
+left_at snapshot a now = if snapshot then a else pruned a.retention a now
+
 -- ---- lines
 
--- the tables of a line at this moment
-abbrev pub tables_at : Aggregating → ℕ → TablesView
-tables_at a now = record a.tables { now = now }
+-- the tables of a line at this moment, as a snapshot or not
+abbrev pub tables_at : Bool → Aggregating → ℕ → TablesView
+tables_at snapshot a now = record (left_at snapshot a now).tables { now = now }
 
--- what is sent at this moment: the next line, as a snapshot or not
+-- what is sent at this moment: the next line
 abbrev pub sending_at : Bool → Aggregating → ℕ → Sending
-sending_at snapshot a now = sending (tables_at a now) (a.last + 1) snapshot
+sending_at snapshot a now = record { tables = tables_at snapshot a now; seq = a.last + 1; snapshot = snapshot; removes = is_some a.retention }
 
 -- that line: it leads on from what was told, or is a snapshot
 abbrev pub line_at : Bool → Aggregating → ℕ → LineView
 line_at snapshot a now = line_sent a.told (sending_at snapshot a now)
 
--- what stands behind that line
-abbrev pub after_line : Aggregating → ℕ → Aggregating
-after_line a now = record a { tables = tables_at a now; told = tables_at a now; last = a.last + 1; broken = false }
+-- one that has told all of its tables at this moment, by the next line
+abbrev pub having_told : Aggregating → ℕ → Aggregating
+having_told a now = record a { tables = record a.tables { now = now }; told = record a.tables { now = now }; last = a.last + 1; broken = false }
+
+-- what stands behind the line of this moment
+abbrev pub after_line : Bool → Aggregating → ℕ → Aggregating
+after_line snapshot a now = having_told (left_at snapshot a now) now
 
 -- a line may go on: it isn't broken, or a snapshot
 abbrev pub MayGoOn : Bool → Aggregating → Type 0

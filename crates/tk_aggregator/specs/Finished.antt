@@ -1,5 +1,5 @@
 -- What infos and poll counts are once all was taken in that the recorders kept.
-use Rattle.std.specs.Prelude.{◌≡◌, ℕ, ◌+◌, ◌<◌, ◌==◌, nat_eq, Bool, false, not, ◌&&◌, List, [], ◌∷◌, map, All, count_by}
+use Rattle.std.specs.Prelude.{◌≡◌, ℕ, ◌+◌, ◌<◌, ◌==◌, nat_eq, Bool, false, not, ◌&&◌, ◌⊎◌, List, [], ◌∷◌, map, All, count_by, Option, None, Some}
 use Rattle.std.specs.List.{filter, flat_map, IsDistinct}
 use Rattle.tk_cell.specs.Views.{times}
 use Rattle.tk_events.specs.declared.buffer.view.Returned.{Returned}
@@ -66,3 +66,23 @@ pub record HoldAllKept (infos : Infos) (known : List Returned) : Type 0 where
   pub ops : AreTheKept (λ (i : OpInfo). i.id) op_told known infos.ops
   pub polls : (resource : ℕ) → counts_of resource infos.counts ≡ (count_by (λ o. is_ready_poll resource (tells o.event)) (kept_by_all known), count_by (λ o. is_pending_poll resource (tells o.event)) (kept_by_all known))
   pub polled : All (λ (c : PollCounts). 0 < c.1 + c.2) infos.counts
+
+-- a list has some elements of another, in their order
+abbrev pub AreSomeOf : {A : Type 0} → List A → List A → Type 0
+AreSomeOf [] all = Unit {0}
+AreSomeOf (x ∷ xs) [] = ⊥
+AreSomeOf (x ∷ xs) (y ∷ ys) = ((x ≡ y) × AreSomeOf xs ys) ⊎ AreSomeOf (x ∷ xs) ys
+
+-- of just what these recorders kept some items are there, in order, and all poll counts
+pub record HoldSomeKept (infos : Infos) (known : List Returned) : Type 0 where
+  pub all : Infos
+  pub kept : HoldAllKept all known
+  pub tasks : AreSomeOf infos.tasks all.tasks
+  pub resources : AreSomeOf infos.resources all.resources
+  pub ops : AreSomeOf infos.ops all.ops
+  pub counts : infos.counts ≡ all.counts
+
+-- what these recorders kept is there: all of it, or, where items leave, some of it
+abbrev pub HoldKept : Option ℕ → Infos → List Returned → Type 0
+HoldKept None infos known = HoldAllKept infos known
+HoldKept (Some retention) infos known = HoldSomeKept infos known

@@ -1,5 +1,5 @@
 -- What an aggregator keeps true inside. No public clause cites this.
-use Rattle.std.specs.Prelude.{◌≡◌, ℕ, ◌^◌, ◌≤◌, List, length, Option, Some, IfSome}
+use Rattle.std.specs.Prelude.{◌≡◌, ℕ, ◌^◌, ◌≤◌, List, length, Bool, if◌then◌else◌, Option, Some, None, IfSome}
 use Rattle.tk_core.specs.declared.op.row.OpRow.{OpRow}
 use Rattle.tk_core.specs.declared.resource.row.ResourceRow.{ResourceRow}
 use Rattle.tk_events.specs.declared.event.Event.{Event}
@@ -11,8 +11,10 @@ use Rattle.tk_ledgers.specs.Tasks.{TaskSight}
 use Rattle.tk_stream.specs.declared.op.Op.{Op}
 use Rattle.tk_stream.specs.declared.resource.Resource.{Resource}
 use Rattle.tk_stream.specs.declared.task.Task.{Task}
-use Rattle.tk_aggregator.specs.Aggregates.{Pairs, ReadTask, ReadResource, ReadOp}
+use Rattle.tk_aggregator.specs.Aggregates.{Aggregating, Pairs, ReadTask, ReadResource, ReadOp}
 use Rattle.tk_stream.specs.Fronts.{Telling, ToldView, told_item, with_rows, told_tables, FitsIn, HaveRoom}
+use Rattle.tk_stream.specs.Lines.{GoneView, none_gone}
+use Rattle.tk_stream.specs.Retention.{due_of}
 use Rattle.tk_stream.specs.Tables.{TablesView, empty_tables}
 
 -- a handle may read for a task: it is of the task
@@ -49,3 +51,12 @@ pub record IsStanding (shown : TablesView) (telling : ToldView) (task_handles : 
   pub held : IfSome event Agrees
   pub first : last ≡ 0 → told_tables telling shown ≡ empty_tables
   pub numbered : last ≤ 2 ^ 63
+
+-- the items that are due at this moment, and none where nothing may leave
+abbrev pub due_at : Option ℕ → TablesView → ℕ → GoneView
+due_at None told now = none_gone
+due_at (Some retention) told now = due_of told now retention
+
+-- the items that leave with the line of this moment. A snapshot removes nothing
+abbrev pub leaving_at : Bool → Aggregating → ℕ → GoneView
+leaving_at snapshot a now = if snapshot then none_gone else due_at a.retention a.told now

@@ -9,14 +9,20 @@
 //! | whole | writes what differs from the last whole line | writes all |
 //! | broken: the last line was cut off | `Broken` | writes all, and mends the stream |
 //!
+//! With a retention, closed items leave behind it, as tokio-console lets closed tasks go: behind a line that goes on, and that
+//! says so.
+//!
 //! `specs/Aggregates.antt` says what each call makes of it.
-ghost use Rattle.std.specs.Prelude.{◌≡◌, ◌≤◌, ◌<◌, ◌+◌, ◌^◌, ◌++◌, ℕ, List, Some, None, false, true, OnOk, OnErr, IfOk, IfErr, IfSome, IfNone};
+ghost use Rattle.std.specs.Prelude.{◌≡◌, ◌≤◌, ◌<◌, ◌+◌, ◌^◌, ◌++◌, ℕ, List, Some, None, unwrap_or, false, true, OnOk, OnErr, IfOk, IfErr, IfSome, IfNone};
 ghost use Rattle.std.specs.Io.KnownBytes.{Appends};
 ghost use Rattle.tk_events.specs.declared.event.Event.TheVariants as events;
 ghost use Rattle.tk_events.specs.Items.{Agrees};
 ghost use Rattle.tk_aggregator.specs.Absorbing.{infos_of};
-ghost use Rattle.tk_aggregator.specs.Finished.{HoldAllKept};
-ghost use Rattle.tk_aggregator.specs.Aggregates.{new_aggregating, IsSound, IsLaterOf, IsSameStream, Refreshes, ReadsTasks, ReadsResources, ReadsOps, TakesIn, Collects, RunsOut, TookMore, FollowsTaker, GathersUpTo, Comes, TellsTotals, WasEmpty, dropped_in, line_at, sending_at, after_line, MayGoOn, IsDue, Refuses};
+ghost use Rattle.tk_aggregator.specs.Finished.{HoldKept};
+ghost use Rattle.tk_aggregator.specs.Aggregates.{new_aggregating, IsSound, IsLaterOf, IsSameStream, Refreshes, ReadsTasks, ReadsResources, ReadsOps, TakesIn, Collects, RunsOut, TookMore, FollowsTaker, GathersUpTo, Comes, TellsTotals, WasEmpty, dropped_in, without, line_at, sending_at, having_told, after_line, MayGoOn, IsDue, Refuses};
+ghost use Rattle.tk_aggregator.specs.Standing.{leaving_at};
+ghost use Rattle.tk_events.specs.Handles.{Taking};
+ghost use Rattle.tk_stream.specs.Lines.{none_gone};
 ghost use Rattle.tk_stream.specs.Polls.{counted};
 ghost use Rattle.tk_stream.specs.Spelling.{sent_text};
 ghost use Rattle.tk_stream.specs.Streams.{IsStreamTo, MaySend};
@@ -25,6 +31,7 @@ ghost use Rattle.tk_aggregator.specs.declared.stream_error.StreamError.TheVarian
 use crate::ledgered::{
     put_op, put_poll, put_resource, put_task, read_ops, read_resources, read_tasks,
 };
+use crate::removal::remove;
 use crate::stream_error::StreamError;
 use std::alloc::{AllocError, Global};
 use std::io::Write;
@@ -33,12 +40,12 @@ use std::sync::Wait;
 use tk_events::{Event, Taker};
 use tk_ids::{OpInfo, ResourceId, ResourceInfo, TaskInfo};
 use tk_ledgers::{OpInspector, ResourceInspector, TaskInspector};
-use tk_stream::{Line, LineError, Tables, ToldTables, send};
+use tk_stream::{Leaving, Line, LineError, Tables, ToldTables, send};
 
 /// Takes events, reads the ledgers of their items, and writes the lines of a stream.
 ///
 /// Contracts see its tables, those of the last whole line, the handles that read its items, an event that found no memory, the
-/// number of the last line, and whether that line was cut off.
+/// number of the last line, whether that line was cut off, and how long closed items stay.
 #[derive(Drop)]
 pub struct Aggregator {
     tables: Tables,
@@ -53,6 +60,8 @@ pub struct Aggregator {
     last: u64,
     // The last line was cut off.
     broken: bool,
+    // How long a closed item stays, in nanoseconds. Without it nothing leaves, and lines are of version 1.
+    retention: Option<u64>,
 }
 
 impl Model for Aggregator {
@@ -71,18 +80,47 @@ impl Model for Aggregator {
       held = a.held;
       last = a.last;
       broken = a.broken;
+      retention = a.retention;
     } };
 
     ghost invariant = { λ a. IsStanding a.tables a.told a.tasks.items a.resources.items a.ops.items a.held a.last };
 }
 
 impl Aggregator {
-    /// One that has told nothing, whose next line has the number `after + 1`. It makes room for 16 tasks.
+    /// One that has told nothing, whose next line has the number `after + 1`. It makes room for 16 tasks. Its lines are of
+    /// version 1, and nothing leaves.
     ///
     /// Its one error is `Memory`: there is none for that.
     pub fn new(alloc: Global, after: u64) -> Result<Aggregator, StreamError>
         requires { after ≤ 2 ^ 63 }
-        ensures ok { IfOk result (λ a. a ≡ new_aggregating after) }
+        ensures ok { IfOk result (λ a. a ≡ new_aggregating after None) }
+        ensures memory { IfErr result (λ e. e ≡ Memory) }
+    {
+        Aggregator::starting(alloc, after, None)
+    }
+
+    /// As `new`, but its lines are of version 2, and closed items leave: with a line of `publish` those go that the last whole
+    /// line's tables show as closed, `retention` nanoseconds before the moment or more. Their handles are let go. Poll counts stay
+    /// for good.
+    pub fn with_retention(
+        alloc: Global,
+        after: u64,
+        retention: u64,
+    ) -> Result<Aggregator, StreamError>
+        requires { after ≤ 2 ^ 63 }
+        ensures ok { IfOk result (λ a. a ≡ new_aggregating after (Some retention)) }
+        ensures memory { IfErr result (λ e. e ≡ Memory) }
+    {
+        Aggregator::starting(alloc, after, Some(retention))
+    }
+
+    fn starting(
+        alloc: Global,
+        after: u64,
+        retention: Option<u64>,
+    ) -> Result<Aggregator, StreamError>
+        requires { after ≤ 2 ^ 63 }
+        ensures ok { IfOk result (λ a. a ≡ new_aggregating after retention) }
         ensures memory { IfErr result (λ e. e ≡ Memory) }
     {
         let tasks = Vec::with_capacity(alloc, 16)?;
@@ -96,6 +134,7 @@ impl Aggregator {
             held: None,
             last: after,
             broken: false,
+            retention,
         })
     }
 
@@ -129,7 +168,8 @@ impl Aggregator {
     /// counted. The totals of dropped events become the taker's. It answers how many were taken in.
     ///
     /// Where the taker is finished and all that it took came here, an answer below `limit` leaves just what the recorders kept:
-    /// the new items of each in its order, each once, and of each resource the totals of its poll operations.
+    /// the new items of each in its order, each once, and of each resource the totals of its poll operations. With a retention
+    /// some of these items may have left.
     ///
     /// - `Memory`: there is none for an event. It is held, and the next call takes it first; those before it stand in the
     ///   tables. Totals stay.
@@ -143,7 +183,8 @@ impl Aggregator {
         ensures err { IfErr result (λ e. (e ≡ Memory) × RunsOut self.old taker.old limit self.new taker.new) }
         ensures took { TookMore taker.old taker.new }
         ensures follows { FollowsTaker self.old taker.old → FollowsTaker self.new taker.new }
-        ensures all_kept { IfOk result (λ count. FollowsTaker self.old taker.old → taker.old.finished ≡ true → count < limit → HoldAllKept (infos_of self.new.tables) taker.new.known) }
+        ensures kept { IfOk result (λ count. FollowsTaker self.old taker.old → taker.old.finished ≡ true → count < limit
+            → HoldKept self.new.retention (infos_of self.new.tables) taker.new.known) }
         ensures later { IsLaterOf self.old self.new }
         ensures stays { IsSameStream self.old self.new }
     {
@@ -323,36 +364,75 @@ impl Aggregator {
         read_ops(rt, &mut self.tables, &mut self.told, &mut self.ops);
     }
 
-    // The line of this moment.
-    fn next_line(&self, now: u64, snapshot: bool) -> Result<Line, LineError>
+    // The snapshot of this moment.
+    fn whole_line(&self, now: u64) -> Result<Line, LineError>
         requires { self.now.last < 2 ^ 63 }
-        ensures { IfOk result (λ line. line ≡ line_at snapshot self.now now) }
+        ensures { IfOk result (λ line. line ≡ line_at true self.now now) }
     {
         let alloc = *self.tasks.allocator();
-        if snapshot {
-            let nothing = ToldTables::new(alloc);
-            Line::behind(alloc, &nothing, &self.tables, now, self.last + 1, true)
-        } else {
-            Line::behind(alloc, &self.told, &self.tables, now, self.last + 1, false)
+        let nothing = ToldTables::new(alloc);
+        let line = Line::behind(alloc, &nothing, &self.tables, now, self.last + 1, true)?;
+        match self.retention {
+            Some(_) => Ok(line.removing_nothing()),
+            None => Ok(line),
         }
     }
 
-    // Its text, and a line end.
-    fn next_text(&self, now: u64, snapshot: bool) -> Result<Vec<u8>, LineError>
+    // The line of this moment, and what leaves with it, if anything may.
+    fn next_line(&self, now: u64, snapshot: bool) -> Result<(Line, Option<Leaving>), LineError>
         requires { self.now.last < 2 ^ 63 }
-        ensures { IfOk result (λ text. text.items ≡ sent_text (line_at snapshot self.now now)) }
+        ensures line { IfOk result (λ made. made.0 ≡ line_at snapshot self.now now) }
+        ensures leaving { IfOk result (λ made. unwrap_or made.1 none_gone ≡ leaving_at snapshot self.now now) }
     {
-        let line = self.next_line(now, snapshot)?;
-        let mut text = line.write()?;
-        text.push(b'\n')?;
-        Ok(text)
+        if snapshot {
+            let line = self.whole_line(now)?;
+            return Ok((line, None));
+        }
+        let alloc = *self.tasks.allocator();
+        let seq = self.last + 1;
+        match self.retention {
+            Some(retention) => {
+                let (line, leaving) = Line::pruned(
+                    alloc,
+                    &self.told,
+                    &self.tables,
+                    now,
+                    seq,
+                    retention,
+                )?;
+                Ok((line, Some(leaving)))
+            }
+            None => {
+                let line = Line::behind(alloc, &self.told, &self.tables, now, seq, false)?;
+                Ok((line, None))
+            }
+        }
     }
 
-    // A whole line of this moment went out.
-    fn tell(&mut self, now: u64)
-        requires { self.old.last < 2 ^ 63 }
-        ensures { self.new ≡ after_line self.old now }
+    // Its text and a line end, and what leaves with it.
+    fn next_text(&self, now: u64, snapshot: bool) -> Result<(Vec<u8>, Option<Leaving>), LineError>
+        requires { self.now.last < 2 ^ 63 }
+        ensures text { IfOk result (λ made. made.0.items ≡ sent_text (line_at snapshot self.now now)) }
+        ensures leaving { IfOk result (λ made. unwrap_or made.1 none_gone ≡ leaving_at snapshot self.now now) }
     {
+        let (line, leaving) = self.next_line(now, snapshot)?;
+        let mut text = line.write()?;
+        text.push(b'\n')?;
+        Ok((text, leaving))
+    }
+
+    // A whole line of this moment went out, and this leaves with it.
+    fn tell(&mut self, now: u64, leaving: &Option<Leaving>)
+        requires { self.old.last < 2 ^ 63 }
+        ensures { self.new ≡ having_told (without self.old (unwrap_or leaving.now none_gone)) now }
+    {
+        remove(
+            leaving,
+            &mut self.tables,
+            &mut self.tasks,
+            &mut self.resources,
+            &mut self.ops,
+        );
         let dropped = self.tables.dropped();
         self.tables.set_totals(dropped, now);
         self.told.tell(&self.tables);
@@ -369,7 +449,7 @@ impl Aggregator {
     ) -> Result<u64, StreamError>
         requires { MayGoOn snapshot self.old }
         ensures number { IfOk result (λ n. n ≡ self.old.last + 1) }
-        ensures state { OnOk result (self.new ≡ after_line self.old now) }
+        ensures state { OnOk result (self.new ≡ after_line snapshot self.old now) }
         ensures due { OnOk result (IsDue snapshot self.old now) }
         ensures sent { OnOk result (Appends (W.contents writer.old) (W.contents writer.new) (sent_text (line_at snapshot self.old now))) }
         ensures refused { IfErr result (λ e. Refuses e snapshot self.old now self.new (W.contents writer.old) (W.contents writer.new)) }
@@ -380,12 +460,12 @@ impl Aggregator {
         if self.last == 1 << 63 {
             return Err(StreamError::NumbersSpent);
         }
-        let Ok(text) = self.next_text(now, snapshot) else {
+        let Ok((text, leaving)) = self.next_text(now, snapshot) else {
             return Err(StreamError::Memory);
         };
         match send(writer, text.as_slice()) {
             Ok(()) => {
-                self.tell(now);
+                self.tell(now, &leaving);
                 Ok(self.last)
             }
             Err(_) => {
@@ -398,7 +478,13 @@ impl Aggregator {
     /// Writes the next line, which tells what differs from the last whole one, and a line end, and answers its number. `now`
     /// is the line's moment, in nanoseconds.
     ///
-    /// The first of these that applies; behind the first four nothing has changed and nothing was written.
+    /// With a retention the line says which items are gone: those that the last whole line's tables show as closed, the retention
+    /// before the moment or more. Once it is whole they leave the tables, the others keep their order, and the handles of those
+    /// that left are let go. A row that was read since then doesn't count, so each closed item was told as closed before it
+    /// leaves. Poll counts stay.
+    ///
+    /// The first of these that applies; at none an item leaves, and behind the first four nothing has changed and nothing was
+    /// written.
     /// - `Broken`: the last line was cut off, and only a snapshot goes on.
     /// - `Clock`: the moment is below the last whole line's.
     /// - `NumbersSpent`: the last line had number 2^63.
@@ -407,13 +493,14 @@ impl Aggregator {
     ///   and moment stay, and the stream is broken.
     pub fn publish<W: Write>(&mut self, now: u64, writer: &mut W) -> Result<u64, StreamError>
         ensures number { IfOk result (λ n. n ≡ self.old.last + 1) }
-        ensures state { OnOk result (self.new ≡ after_line self.old now) }
+        ensures state { OnOk result (self.new ≡ after_line false self.old now) }
         ensures due { OnOk result (IsDue false self.old now) }
         ensures sent { OnOk result (Appends (W.contents writer.old) (W.contents writer.new) (sent_text (line_at false self.old now))) }
         ensures refused { IfErr result (λ e. Refuses e false self.old now self.new (W.contents writer.old) (W.contents writer.new)) }
         ensures may_send { IsDue false self.old now → MaySend self.old.told (sending_at false self.old now) }
         ensures stream { OnOk result ((bytes : List ℕ) → IsStreamTo bytes self.old.told self.old.last
             → IsStreamTo (bytes ++ sent_text (line_at false self.old now)) self.new.told self.new.last) }
+        ensures follows { (t : Taking) → FollowsTaker self.old t → FollowsTaker self.new t }
     {
         self.tables();
         if self.broken {
@@ -424,12 +511,12 @@ impl Aggregator {
     }
 
     /// Writes the next line as one that tells of the tables as a whole, and a line end, and answers its number. Behind a line
-    /// that was cut off the writer has to be that of a new stream; the stream is broken no more.
+    /// that was cut off the writer has to be that of a new stream; the stream is broken no more. No item leaves.
     ///
     /// The refusals are those of `publish` but for `Broken`.
     pub fn snapshot<W: Write>(&mut self, now: u64, writer: &mut W) -> Result<u64, StreamError>
         ensures number { IfOk result (λ n. n ≡ self.old.last + 1) }
-        ensures state { OnOk result (self.new ≡ after_line self.old now) }
+        ensures state { OnOk result (self.new ≡ after_line true self.old now) }
         ensures due { OnOk result (IsDue true self.old now) }
         ensures sent { OnOk result (Appends (W.contents writer.old) (W.contents writer.new) (sent_text (line_at true self.old now))) }
         ensures refused { IfErr result (λ e. Refuses e true self.old now self.new (W.contents writer.old) (W.contents writer.new)) }
@@ -437,6 +524,7 @@ impl Aggregator {
         ensures stream { OnOk result ((bytes : List ℕ) → IsStreamTo bytes self.old.told self.old.last
             → IsStreamTo (bytes ++ sent_text (line_at true self.old now)) self.new.told self.new.last) }
         ensures opens { OnOk result (IsStreamTo (sent_text (line_at true self.old now)) self.new.told self.new.last) }
+        ensures follows { (t : Taking) → FollowsTaker self.old t → FollowsTaker self.new t }
     {
         self.tables();
         let number = self.send_line(now, writer, true)?;

@@ -6,6 +6,7 @@
 
 mod aggregator;
 mod ledgered;
+mod removal;
 mod stream_error;
 
 pub use aggregator::Aggregator;

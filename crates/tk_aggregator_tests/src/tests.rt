@@ -1,10 +1,11 @@
-//! What an aggregator tells, what it refuses, and what it does beside threads: a test for each, of checks named as sentences.
+//! What an aggregator tells, what it refuses, when closed items leave, and what it does beside threads: a test for each, of checks named as sentences.
 
 mod errors;
 mod given;
 mod items;
 mod memory;
 mod refused;
+mod retention;
 mod tasks;
 mod texts;
 mod threads;
@@ -32,6 +33,14 @@ fn refuses_and_goes_on(rt: HostRuntime) {
     assert!(rt; writers::goes_out_byte_by_byte(&rt, alloc));
     assert!(rt; writers::goes_on_behind_a_cut_second_line(&rt, alloc));
     writers::assert_cut_lines_are_mended(&rt);
+}
+
+#[test]
+fn lets_closed_items_leave(rt: HostRuntime) {
+    let alloc = rt.alloc();
+    assert!(rt; retention::leaves_behind_its_retention(&rt, alloc));
+    assert!(rt; retention::is_told_as_closed_first(&rt, alloc));
+    assert!(rt; retention::stays_where_the_line_is_cut_off(&rt, alloc));
 }
 
 #[test]

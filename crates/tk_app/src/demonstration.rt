@@ -173,7 +173,7 @@ fn tell<R: Wait>(
     taker: &mut Taker,
     now: u64,
 ) -> Result<(), StreamError>
-    requires { aggregator.old ≡ new_aggregating 0 }
+    requires { aggregator.old ≡ new_aggregating 0 None }
     ensures { OnOk result ((stream : List ℕ) × IsStreamTo stream aggregator.new.tables 1) }
 {
     aggregator.collect(rt, taker, LIMITS.capacity)?;
@@ -191,7 +191,7 @@ fn report_by<R: Wait>(
     taker: &mut Taker,
     now: u64,
 ) -> Result<Vec<u8>, AppFault>
-    requires { aggregator.old ≡ new_aggregating 0 }
+    requires { aggregator.old ≡ new_aggregating 0 None }
     ensures ok { IfOk result (λ text. IsReportOfAStream text.items) }
     ensures memory { IfErr result (λ fault. fault ≡ AppFault.Memory) }
 {

@@ -10,6 +10,7 @@ mod ops;
 mod polls;
 mod readers;
 mod resources;
+mod retention;
 mod rows;
 mod snapshots;
 mod streams;

@@ -22,16 +22,19 @@ use Rattle.tk_live.specs.declared.block.WorkerLine.{WorkerLine}
 use Rattle.tk_live.specs.declared.interpreter.Interpreter.{Interpreter}
 use Rattle.tk_live.specs.declared.stop.Stop.{Stop}
 use Rattle.tk_live.specs.declared.stop.Stop.TheVariants.{BadCommand, Memory, WriteFault}
+use Rattle.tk_live.specs.declared.settings.Settings.{Settings}
 use Rattle.tk_live.proofs.Lines.{unsent, no_front}
 use Rattle.tk_live.proofs.Moving.{named_before}
 use Rattle.tk_live.proofs.Standing.{unmarked, rests}
 use Rattle.tk_live.proofs.Working.{goes_alone}
 
 -- a block that opens or closes changes nothing else
-pub with_block : (i : Interpreter) (capacity : ℕ) (c : Course) (kept : List Bool) (sent : List Sending) (b : Option Block) → StandsFor i capacity c kept sent → StandsFor i capacity (record c { block = b }) kept sent
-with_block i capacity c kept sent b stands = record {
+pub with_block : (i : Interpreter) (settings : Settings) (c : Course) (kept : List Bool) (sent : List Sending) (b : Option Block) → StandsFor i settings c kept sent → StandsFor i settings (record c { block = b }) kept sent
+with_block i settings c kept sent b stands = record {
   keeps = record { offered = stands.keeps.offered; takes = stands.keeps.takes; are = stands.keeps.are };
   holds = stands.holds;
+  capacity_said = stands.capacity_said;
+  retention_said = stands.retention_said;
   begun = stands.begun;
   capacity_is = stands.capacity_is;
   least = stands.least;
@@ -40,9 +43,9 @@ with_block i capacity c kept sent b stands = record {
   going = stands.going;
 }
 
-pub opened : (i new : Interpreter) (capacity : ℕ) (c : Course) (kept : List Bool) (sent : List Sending) → StandsFor i capacity c kept sent → new ≡ record i { begun = true }
-    → StandsFor new capacity (record c { begun = true; block = Some no_lines }) kept sent
-opened i new capacity c kept sent stands is = subst (λ (n : Interpreter). StandsFor n capacity (record c { begun = true; block = Some no_lines }) kept sent) (sym is) (record {
+pub opened : (i new : Interpreter) (settings : Settings) (c : Course) (kept : List Bool) (sent : List Sending) → StandsFor i settings c kept sent → new ≡ record i { begun = true }
+    → StandsFor new settings (record c { begun = true; block = Some no_lines }) kept sent
+opened i new settings c kept sent stands is = subst (λ (n : Interpreter). StandsFor n settings (record c { begun = true; block = Some no_lines }) kept sent) (sym is) (record {
   keeps = record { offered = stands.keeps.offered; takes = stands.keeps.takes; are = stands.keeps.are };
   holds = record {
     tasks_are = stands.holds.tasks_are;
@@ -52,6 +55,8 @@ opened i new capacity c kept sent stands is = subst (λ (n : Interpreter). Stand
     users_are = stands.holds.users_are;
     ops_are = stands.holds.ops_are;
   };
+  capacity_said = stands.capacity_said;
+  retention_said = stands.retention_said;
   begun = refl;
   capacity_is = stands.capacity_is;
   least = stands.least;
@@ -83,6 +88,7 @@ step_block c line (said.close_op n m) = refl
 step_block c line (said.change_op n i change) = refl
 step_block c line (said.poll_op r o t name ready) = refl
 step_block c line (said.capacity n) = refl
+step_block c line (said.retention n) = refl
 step_block c line (said.publish m whole) = refl
 
 none_some : {X : Type 0} {x : X} → None ≡ Some x → ⊥
@@ -135,9 +141,9 @@ some_same : {X : Type 0} (a b : X) → Some a ≡ Some b → a ≡ b
 some_same a b e = cc
 
 -- what an interpreter kept whose recorder, taker and aggregator are as they were
-stays_same : (i new : Interpreter) (capacity : ℕ) (c : Course) (kept : List Bool) (sent : List Sending) → (new.recorder ≡ i.recorder) × (new.taker ≡ i.taker) × (new.aggregator ≡ i.aggregator) → Stays i capacity c kept sent → Stays new capacity c kept sent
-stays_same i new capacity c kept sent same keeps =
-    subst (λ r. Keeps r new.taker new.aggregator capacity c kept sent) (sym same.0) (subst (λ t. Keeps i.recorder t new.aggregator capacity c kept sent) (sym same.1) (subst (λ a. Keeps i.recorder i.taker a capacity c kept sent) (sym same.2) keeps))
+stays_same : (i new : Interpreter) (settings : Settings) (c : Course) (kept : List Bool) (sent : List Sending) → (new.recorder ≡ i.recorder) × (new.taker ≡ i.taker) × (new.aggregator ≡ i.aggregator) → Stays i settings c kept sent → Stays new settings c kept sent
+stays_same i new settings c kept sent same keeps =
+    subst (λ r. Keeps r new.taker new.aggregator settings c kept sent) (sym same.0) (subst (λ t. Keeps i.recorder t new.aggregator settings c kept sent) (sym same.1) (subst (λ a. Keeps i.recorder i.taker a settings c kept sent) (sym same.2) keeps))
 
 -- one line more, of a waker that the other worker's lines don't name
 still_apart : (k : Worker) (l : WorkerLine) (b : Block) → Apart b.first b.second → is_named l.waker (lines_of_other k b) ≡ false → Apart (with_line k l b).first (with_line k l b).second
@@ -153,11 +159,11 @@ still_apart Two l b apart un n named = by_number (cases_eq n l.waker)
     by_number (inr isnt) = named_before n b.second l isnt ∙ apart n named
 
 -- a line that says a command, where no block is open
-pub said_came : (answers : ℕ → Bool → Type 0) (n capacity : ℕ) (c : Course) (kept : List Bool) (sent : List Sending) (s : Said) (new : Interpreter) (block : Option OpenBlock) (result : Result (Unit {0}) Stop) (before behind : Option (List ℕ))
-    → c.block ≡ None → IsOpen block c → Came step_on capacity c kept sent n s new result before behind → LineCame answers capacity c kept sent n (says s) new block result before behind
-said_came answers n capacity c kept sent s new block (Ok done) before behind none was h =
+pub said_came : (answers : ℕ → Bool → Type 0) (n : ℕ) (settings : Settings) (c : Course) (kept : List Bool) (sent : List Sending) (s : Said) (new : Interpreter) (block : Option OpenBlock) (result : Result (Unit {0}) Stop) (before behind : Option (List ℕ))
+    → c.block ≡ None → IsOpen block c → Came step_on settings c kept sent n s new result before behind → LineCame answers settings c kept sent n (says s) new block result before behind
+said_came answers n settings c kept sent s new block (Ok done) before behind none was h =
     (outside c (says s) none ∙ h.0, h.1, h.2, h.3, open_same block c (step_on c n s) was (step_block c n s), h.4)
-said_came answers n capacity c kept sent s new block (Err stop) before behind none was h = (by_cause h.0, h.1, h.2, h.3, h.4)
+said_came answers n settings c kept sent s new block (Err stop) before behind none was h = (by_cause h.0, h.1, h.2, h.3, h.4)
   where
     by_cause : Stops c s stop → LineStops answers c (says s) stop
     by_cause (inl e) = inl (outside c (says s) none ∙ e)
@@ -174,41 +180,41 @@ leaves c n blocks.Opens = refl
 leaves c n blocks.Joins = refl
 leaves c n (blocks.Works k l) = refl
 
-pub block_came : (answers : ℕ → Bool → Type 0) (n capacity : ℕ) (c : Course) (kept : List Bool) (sent : List Sending) (said : BlockSaid) (new : Interpreter) (block : Option OpenBlock) (result : Result (Unit {0}) Stop) (bytes : Option (List ℕ))
-    → BlockCame answers capacity c kept sent n (block_line said) new block result → LineCame answers capacity c kept sent n (block_line said) new block result bytes bytes
-block_came answers n capacity c kept sent said new block (Ok done) bytes h =
+pub block_came : (answers : ℕ → Bool → Type 0) (n : ℕ) (settings : Settings) (c : Course) (kept : List Bool) (sent : List Sending) (said : BlockSaid) (new : Interpreter) (block : Option OpenBlock) (result : Result (Unit {0}) Stop) (bytes : Option (List ℕ))
+    → BlockCame answers settings c kept sent n (block_line said) new block result → LineCame answers settings c kept sent n (block_line said) new block result bytes bytes
+block_came answers n settings c kept sent said new block (Ok done) bytes h =
     let k = line_after c (n, block_line said) in
-    (h.0, [], [], unsent new capacity k (kept ++ []) sent (unmarked new capacity k kept sent h.1), h.2, Appends-nil bytes)
-block_came answers n capacity c kept sent said new block (Err stop) bytes h =
+    (h.0, [], [], unsent new settings k (kept ++ []) sent (unmarked new settings k kept sent h.1), h.2, Appends-nil bytes)
+block_came answers n settings c kept sent said new block (Err stop) bytes h =
     (h.0, record { left = c; is_left = leaves c n said; kept = kept; keeps = h.1 }, [], quiet sent said stop, Appends-nil bytes)
 
 -- a line that is skipped
-pub skipped_came : (answers : ℕ → Bool → Type 0) (n capacity : ℕ) (c : Course) (kept : List Bool) (sent : List Sending) (i : Interpreter) (block : Option OpenBlock) (bytes : Option (List ℕ)) → StandsFor i capacity c kept sent → IsOpen block c
-    → LineCame answers capacity c kept sent n skipped i block (Ok tt) bytes bytes
-skipped_came answers n capacity c kept sent i block bytes stands was = (goes c.block, [], [], unsent i capacity c (kept ++ []) sent (unmarked i capacity c kept sent stands), was, Appends-nil bytes)
+pub skipped_came : (answers : ℕ → Bool → Type 0) (n : ℕ) (settings : Settings) (c : Course) (kept : List Bool) (sent : List Sending) (i : Interpreter) (block : Option OpenBlock) (bytes : Option (List ℕ)) → StandsFor i settings c kept sent → IsOpen block c
+    → LineCame answers settings c kept sent n skipped i block (Ok tt) bytes bytes
+skipped_came answers n settings c kept sent i block bytes stands was = (goes c.block, [], [], unsent i settings c (kept ++ []) sent (unmarked i settings c kept sent stands), was, Appends-nil bytes)
   where
     goes : (o : Option Block) → option_map_or (λ b. stop_inside c b skipped) o (stop_outside c skipped) ≡ None
     goes None = refl
     goes (Some b) = refl
 
 -- a line that says a command or none, where a block is open
-pub refused : (answers : ℕ → Bool → Type 0) (n capacity : ℕ) (c : Course) (kept : List Bool) (sent : List Sending) (i : Interpreter) (block : Option OpenBlock) (bytes : Option (List ℕ)) (b : Block) (o : Option Said)
-    → c.block ≡ Some b → StandsFor i capacity c kept sent → LineCame answers capacity c kept sent n (option_map_or says o bad) i block (Err BadCommand) bytes bytes
-refused answers n capacity c kept sent i block bytes b None e stands = (inl (inside c bad b e), record { left = c; is_left = refl; kept = kept; keeps = stands.keeps }, [], refl, Appends-nil bytes)
-refused answers n capacity c kept sent i block bytes b (Some s) e stands =
-    (inl (inside c (says s) b e), rests i capacity c n s kept sent stands.keeps, [], no_front sent s BadCommand (λ w. bad_is_no_write w), Appends-nil bytes)
+pub refused : (answers : ℕ → Bool → Type 0) (n : ℕ) (settings : Settings) (c : Course) (kept : List Bool) (sent : List Sending) (i : Interpreter) (block : Option OpenBlock) (bytes : Option (List ℕ)) (b : Block) (o : Option Said)
+    → c.block ≡ Some b → StandsFor i settings c kept sent → LineCame answers settings c kept sent n (option_map_or says o bad) i block (Err BadCommand) bytes bytes
+refused answers n settings c kept sent i block bytes b None e stands = (inl (inside c bad b e), record { left = c; is_left = refl; kept = kept; keeps = stands.keeps }, [], refl, Appends-nil bytes)
+refused answers n settings c kept sent i block bytes b (Some s) e stands =
+    (inl (inside c (says s) b e), rests i settings c n s kept sent stands.keeps, [], no_front sent s BadCommand (λ w. bad_is_no_write w), Appends-nil bytes)
 
 -- a line that memory is lacking for, before it is known what it says
-pub lacked : (answers : ℕ → Bool → Type 0) (n capacity : ℕ) (c : Course) (kept : List Bool) (sent : List Sending) (i : Interpreter) (block : Option OpenBlock) (bytes : Option (List ℕ)) (o : Option Said) → c.block ≡ None → StandsFor i capacity c kept sent
-    → LineCame answers capacity c kept sent n (option_map_or says o bad) i block (Err Memory) bytes bytes
-lacked answers n capacity c kept sent i block bytes None e stands = (inr (fails_outside c bad answers Memory e tt), record { left = c; is_left = refl; kept = kept; keeps = stands.keeps }, [], refl, Appends-nil bytes)
-lacked answers n capacity c kept sent i block bytes (Some s) e stands =
-    (inr (fails_outside c (says s) answers Memory e tt), rests i capacity c n s kept sent stands.keeps, [], no_front sent s Memory (λ w. memory_is_no_write w), Appends-nil bytes)
+pub lacked : (answers : ℕ → Bool → Type 0) (n : ℕ) (settings : Settings) (c : Course) (kept : List Bool) (sent : List Sending) (i : Interpreter) (block : Option OpenBlock) (bytes : Option (List ℕ)) (o : Option Said) → c.block ≡ None → StandsFor i settings c kept sent
+    → LineCame answers settings c kept sent n (option_map_or says o bad) i block (Err Memory) bytes bytes
+lacked answers n settings c kept sent i block bytes None e stands = (inr (fails_outside c bad answers Memory e tt), record { left = c; is_left = refl; kept = kept; keeps = stands.keeps }, [], refl, Appends-nil bytes)
+lacked answers n settings c kept sent i block bytes (Some s) e stands =
+    (inr (fails_outside c (says s) answers Memory e tt), rests i settings c n s kept sent stands.keeps, [], no_front sent s Memory (λ w. memory_is_no_write w), Appends-nil bytes)
 
 -- a line that says no command
-pub bad_came : (answers : ℕ → Bool → Type 0) (n capacity : ℕ) (c : Course) (kept : List Bool) (sent : List Sending) (i : Interpreter) (block : Option OpenBlock) (bytes : Option (List ℕ)) → c.block ≡ None → StandsFor i capacity c kept sent
-    → LineCame answers capacity c kept sent n bad i block (Err BadCommand) bytes bytes
-bad_came answers n capacity c kept sent i block bytes e stands = (inl (outside c bad e), record { left = c; is_left = refl; kept = kept; keeps = stands.keeps }, [], refl, Appends-nil bytes)
+pub bad_came : (answers : ℕ → Bool → Type 0) (n : ℕ) (settings : Settings) (c : Course) (kept : List Bool) (sent : List Sending) (i : Interpreter) (block : Option OpenBlock) (bytes : Option (List ℕ)) → c.block ≡ None → StandsFor i settings c kept sent
+    → LineCame answers settings c kept sent n bad i block (Err BadCommand) bytes bytes
+bad_came answers n settings c kept sent i block bytes e stands = (inl (outside c bad e), record { left = c; is_left = refl; kept = kept; keeps = stands.keeps }, [], refl, Appends-nil bytes)
 
 -- what a line is that isn't skipped
 pub line_is_block : (text : List ℕ) (l : Line) → is_skipped text ≡ false → block_said text ≡ Some l → line_of text ≡ l
@@ -225,38 +231,38 @@ open_new b c new = record { is = ap (λ k. Some k) new; apart = λ k e n named. 
     refl_apart k e = let same : no_lines ≡ k = some_same no_lines k e in subst (λ (b : Block). Apart b.first b.second) same (λ n named. refl)
 
 -- its threads are joined, or they aren't
-pub join_came : (answers : ℕ → Bool → Type 0) (n capacity : ℕ) (c : Course) (kept : List Bool) (sent : List Sending) (i new : Interpreter) (b : Block) (result : Result (Unit {0}) Stop) → c.block ≡ Some b → Apart b.first b.second → StandsFor i capacity c kept sent
-    → OnOk result ((capacity : ℕ) (c : Course) (kept : List Bool) (sent : List Sending) → Apart b.first b.second → StandsFor i capacity c kept sent → StandsFor new capacity (joined c b) kept sent)
-    → (new.recorder ≡ i.recorder) × (new.taker ≡ i.taker) × (new.aggregator ≡ i.aggregator) → IfErr result (EndsIn (Closes answers b)) → BlockCame answers capacity c kept sent n joins new None result
-join_came answers n capacity c kept sent i new b (Ok done) is apart stands ran same ends =
+pub join_came : (answers : ℕ → Bool → Type 0) (n : ℕ) (settings : Settings) (c : Course) (kept : List Bool) (sent : List Sending) (i new : Interpreter) (b : Block) (result : Result (Unit {0}) Stop) → c.block ≡ Some b → Apart b.first b.second → StandsFor i settings c kept sent
+    → OnOk result ((settings : Settings) (c : Course) (kept : List Bool) (sent : List Sending) → Apart b.first b.second → StandsFor i settings c kept sent → StandsFor new settings (joined c b) kept sent)
+    → (new.recorder ≡ i.recorder) × (new.taker ≡ i.taker) × (new.aggregator ≡ i.aggregator) → IfErr result (EndsIn (Closes answers b)) → BlockCame answers settings c kept sent n joins new None result
+join_came answers n settings c kept sent i new b (Ok done) is apart stands ran same ends =
     let closed : line_after c (n, joins) ≡ joined c b = ap (λ o. option_map_or (joined c) o c) is in (
       inside c joins b is,
-      subst (λ (k : Course). StandsFor new capacity k kept sent) (sym closed) (ran capacity c kept sent apart stands),
+      subst (λ (k : Course). StandsFor new settings k kept sent) (sym closed) (ran settings c kept sent apart stands),
       subst (λ (k : Course). IsOpen None k) (sym closed) (record { is = refl; apart = λ k e. absurd (none_some e) }),
     )
-join_came answers n capacity c kept sent i new b (Err stop) is apart stands ran same ends = (
+join_came answers n settings c kept sent i new b (Err stop) is apart stands ran same ends = (
   inr (fails_inside c joins answers stop b is ends),
-  stays_same i new capacity c kept sent same stands.keeps,
+  stays_same i new settings c kept sent same stands.keeps,
 )
 
 -- a worker's line goes on, or it doesn't
-pub work_came : (answers : ℕ → Bool → Type 0) (n capacity : ℕ) (c : Course) (kept : List Bool) (sent : List Sending) (i : Interpreter) (old new : OpenBlock) (k : Worker) (l : WorkerLine) (ws : Wakers) (result : Result (Unit {0}) Stop)
-    → c.block ≡ Some (block_of old) → Apart old.first old.second → StandsFor i capacity c kept sent → ws ≡ c.names.wakers
+pub work_came : (answers : ℕ → Bool → Type 0) (n : ℕ) (settings : Settings) (c : Course) (kept : List Bool) (sent : List Sending) (i : Interpreter) (old new : OpenBlock) (k : Worker) (l : WorkerLine) (ws : Wakers) (result : Result (Unit {0}) Stop)
+    → c.block ≡ Some (block_of old) → Apart old.first old.second → StandsFor i settings c kept sent → ws ≡ c.names.wakers
     → OnOk result (work_stop (lines_of_worker k (block_of old)) (lines_of_other k (block_of old)) ws l ≡ None)
     → OnOk result (block_of new ≡ with_line k l (block_of old))
-    → IfErr result (λ stop. (work_stop (lines_of_worker k (block_of old)) (lines_of_other k (block_of old)) ws l ≡ Some stop) ⊎ (stop ≡ Memory)) → BlockCame answers capacity c kept sent n (works k l) i (Some new) result
-work_came answers n capacity c kept sent i old new k l ws (Ok done) is apart stands are goes more fails =
+    → IfErr result (λ stop. (work_stop (lines_of_worker k (block_of old)) (lines_of_other k (block_of old)) ws l ≡ Some stop) ⊎ (stop ≡ Memory)) → BlockCame answers settings c kept sent n (works k l) i (Some new) result
+work_came answers n settings c kept sent i old new k l ws (Ok done) is apart stands are goes more fails =
     let b = block_of old in
     let line : work_stop (lines_of_worker k b) (lines_of_other k b) c.names.wakers l ≡ None = ap (λ vs. work_stop (lines_of_worker k b) (lines_of_other k b) vs l) (sym are) ∙ goes in
     let behind : option_map (with_line k l) c.block ≡ Some (with_line k l b) = ap (option_map (with_line k l)) is in (
       inside c (works k l) b is ∙ line,
-      with_block i capacity c kept sent (option_map (with_line k l) c.block) stands,
+      with_block i settings c kept sent (option_map (with_line k l) c.block) stands,
       record {
         is = ap (λ m. Some m) more ∙ sym behind;
         apart = λ m e. subst (λ (m : Block). Apart m.first m.second) (some_same (with_line k l b) m (sym behind ∙ e)) (still_apart k l b apart (goes_alone (lines_of_worker k b) (lines_of_other k b) ws l goes));
       },
     )
-work_came answers n capacity c kept sent i old new k l ws (Err stop) is apart stands are goes more fails = (by_cause fails, stands.keeps)
+work_came answers n settings c kept sent i old new k l ws (Err stop) is apart stands are goes more fails = (by_cause fails, stands.keeps)
   where
     by_cause : (work_stop (lines_of_worker k (block_of old)) (lines_of_other k (block_of old)) ws l ≡ Some stop) ⊎ (stop ≡ Memory) → LineStops answers c (works k l) stop
     by_cause (inl e) = let b = block_of old in inl (inside c (works k l) b is ∙ (ap (λ vs. work_stop (lines_of_worker k b) (lines_of_other k b) vs l) (sym are) ∙ e))

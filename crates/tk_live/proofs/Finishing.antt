@@ -14,6 +14,7 @@ use Rattle.tk_stream.specs.Streams.{Sending}
 use Rattle.tk_live.specs.Course.{Course}
 use Rattle.tk_live.specs.Ran.{picked, Each, IsLineOf}
 use Rattle.tk_live.specs.Runs.{Keeps, offer_tells}
+use Rattle.tk_live.specs.declared.settings.Settings.{Settings}
 use Rattle.tk_live.proofs.Lists.{each_map}
 use Rattle.tk_live.proofs.Publishing.{line_later}
 
@@ -29,9 +30,9 @@ kept_is r t after back left is number kept are one named =
     ∙ (filter-append (λ (o : Offer). Rattle.std.specs.Prelude.nat_eq o.recorder 1) t.taken left ∙ ap (λ l. l ++ by 1 left) (by_whole 1 t.taken whole)))))
 
 -- so each line has the infos and counts of a front of what was kept
-pub finished : (r : Recording) (t after : Taking) (a : Aggregating) (capacity : ℕ) (k : Course) (kept : List Bool) (sent : List Sending) (back : Retiring) (left : List Offer) → Keeps r t a capacity k kept sent
-    → after ≡ finished_with t (back ∷ []) → back.offers.number ≡ r.number → back.offers.kept ≡ r.kept → AreLeft after left → All (IsNamed after.recorders) after.taken → Each (IsLineOf (picked kept k.told)) k.due sent
-finished r t after a capacity k kept sent back left keeps is number kept_same are named =
+pub finished : (r : Recording) (t after : Taking) (a : Aggregating) (settings : Settings) (k : Course) (kept : List Bool) (sent : List Sending) (back : Retiring) (left : List Offer) → Keeps r t a settings k kept sent
+    → after ≡ finished_with t (back ∷ []) → back.offers.number ≡ r.number → back.offers.kept ≡ r.kept → AreLeft after left → All (IsNamed after.recorders) after.taken → Each (IsLineOf settings.retention (picked kept k.told)) k.due sent
+finished r t after a settings k kept sent back left keeps is number kept_same are named =
     let all : r.kept ≡ t.taken ++ by 1 left = kept_is r t after back left is (number ∙ keeps.offered.number) kept_same are keeps.takes.recorders named in
     let told : picked kept k.told ≡ map offer_tells t.taken ++ map offer_tells (by 1 left) = sym keeps.offered.picks ∙ (ap (map offer_tells) all ∙ map-append offer_tells t.taken (by 1 left)) in
-    each_map (IsLineOf (map offer_tells t.taken)) (IsLineOf (picked kept k.told)) k.due sent (line_later (map offer_tells t.taken) (map offer_tells (by 1 left)) (picked kept k.told) told) keeps.are.lines
+    each_map (IsLineOf settings.retention (map offer_tells t.taken)) (IsLineOf settings.retention (picked kept k.told)) k.due sent (line_later settings.retention (map offer_tells t.taken) (map offer_tells (by 1 left)) (picked kept k.told) told) keeps.are.lines

@@ -1,13 +1,13 @@
 -- Lines, one after the other.
-use Rattle.std.proofs.Common.{◌≡◌, ℕ, ◌+◌, ◌≤◌, List, [], ◌∷◌, ◌++◌, length, length-append, Bool, Option, Some, None, Result, Ok, Err, inr, refl, sym, ap, ◌∙◌, subst, arith}
-use Rattle.std.specs.Prelude.{◌==◌, fold}
+use Rattle.std.proofs.Common.{◌≡◌, ℕ, ◌+◌, ◌≤◌, List, [], ◌∷◌, ◌++◌, length, length-append, Bool, Option, Result, Ok, Err, refl, sym, ap, ◌∙◌, subst, arith}
+use Rattle.std.specs.Prelude.{◌==◌, ◌||◌, not, fold}
 use Rattle.std.specs.List.{enumerate_from}
 use Rattle.std.proofs.KnownBytes.{Appends-nil}
 use Rattle.std.proofs.lemmas.List.{append-nil}
 use Rattle.std.proofs.lemmas.List.Sums.{fold-append, count_by-le-length}
 use Rattle.std.proofs.lemmas.List.Splits.{length-slice_split}
 use Rattle.tk_stream.specs.Streams.{Sending}
-use Rattle.tk_live.specs.Commands.{Said, Line, says, bad}
+use Rattle.tk_live.specs.Commands.{Said, Line, says, bad, is_setting}
 use Rattle.tk_live.specs.Commands as said
 use Rattle.tk_live.specs.Course.{Course, step, step_on, start_of_all, line_after, course_of}
 use Rattle.tk_live.specs.Pieces.{pieces_at}
@@ -17,24 +17,26 @@ use Rattle.tk_live.specs.Stops.{Goes, AllGo}
 use Rattle.tk_live.specs.declared.interpreter.Interpreter.{Interpreter}
 use Rattle.tk_live.specs.declared.stop.Stop.{Stop}
 use Rattle.tk_live.specs.declared.stop.Stop.TheVariants.{BadCommand, NoSuchItem, Call, OffersSpent, Clock, NumbersSpent, Memory, WriteFault, NoThread, Stopped}
+use Rattle.tk_live.specs.declared.settings.Settings.{Settings}
 
 -- no line was sent
-pub unsent : (i : Interpreter) (capacity : ℕ) (k : Course) (kept : List Bool) (sent : List Sending) → StandsFor i capacity k kept sent → StandsFor i capacity k kept (sent ++ [])
-unsent i capacity k kept sent stands = subst (λ (m : List Sending). StandsFor i capacity k kept m) (sym (append-nil sent)) stands
+pub unsent : (i : Interpreter) (settings : Settings) (k : Course) (kept : List Bool) (sent : List Sending) → StandsFor i settings k kept sent → StandsFor i settings k kept (sent ++ [])
+unsent i settings k kept sent stands = subst (λ (m : List Sending). StandsFor i settings k kept m) (sym (append-nil sent)) stands
 
 -- a command that writes nothing
 pub quietly : (line : ℕ) (s : Said) (old new : Interpreter) (result : Result (Unit {0}) Stop) (before : Option (List ℕ)) → Does line s old new result → ((sent : List Sending) (stop : Stop) → FrontOf sent s stop []) → Comes step line s old new result before before
-quietly line s old new (Ok done) before does fronts capacity c kept sent stands =
-    let d = does capacity c kept sent stands in
-    (d.0, d.1, [], unsent new capacity (step c line s) (kept ++ d.1) sent d.2, Appends-nil before)
-quietly line s old new (Err stop) before does fronts capacity c kept sent stands =
-    let d = does capacity c kept sent stands in
+quietly line s old new (Ok done) before does fronts settings c kept sent stands =
+    let d = does settings c kept sent stands in
+    (d.0, d.1, [], unsent new settings (step c line s) (kept ++ d.1) sent d.2, Appends-nil before)
+quietly line s old new (Err stop) before does fronts settings c kept sent stands =
+    let d = does settings c kept sent stands in
     (d.0, d.1, [], fronts sent stop, Appends-nil before)
 
 -- a command is begun
-pub begun : (i new : Interpreter) (capacity : ℕ) (c : Course) (line : ℕ) (s : Said) (kept : List Bool) (sent : List Sending) → StandsFor i capacity (step c line s) kept sent → new ≡ record i { begun = Rattle.std.proofs.Common.true }
-    → StandsFor new capacity (step_on c line s) kept sent
-begun i new capacity c line s kept sent stands is = subst (λ (n : Interpreter). StandsFor n capacity (step_on c line s) kept sent) (sym is) (record {
+pub begun : (i new : Interpreter) (settings : Settings) (c : Course) (line : ℕ) (s : Said) (kept : List Bool) (sent : List Sending) → StandsFor i settings (step c line s) kept sent
+    → (b : Bool) → new ≡ record i { begun = b } → b ≡ (not (is_setting s) || c.begun)
+    → StandsFor new settings (step_on c line s) kept sent
+begun i new settings c line s kept sent stands b is same = subst (λ (n : Interpreter). StandsFor n settings (step_on c line s) kept sent) (sym is) (record {
   keeps = record { offered = stands.keeps.offered; takes = stands.keeps.takes; are = stands.keeps.are };
   holds = record {
     tasks_are = stands.holds.tasks_are;
@@ -44,7 +46,9 @@ begun i new capacity c line s kept sent stands is = subst (λ (n : Interpreter).
     users_are = stands.holds.users_are;
     ops_are = stands.holds.ops_are;
   };
-  begun = refl;
+  capacity_said = stands.capacity_said;
+  retention_said = stands.retention_said;
+  begun = same;
   capacity_is = stands.capacity_is;
   least = stands.least;
   moment = stands.moment;
@@ -87,6 +91,7 @@ no_front sent (said.close_op n m) stop ne = refl
 no_front sent (said.change_op n i change) stop ne = refl
 no_front sent (said.poll_op r o t name ready) stop ne = refl
 no_front sent (said.capacity n) stop ne = refl
+no_front sent (said.retention n) stop ne = refl
 no_front sent (said.publish m whole) stop ne = publish_front sent m whole stop ne
 
 -- a line more has the next number

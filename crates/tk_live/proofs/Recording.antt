@@ -14,6 +14,7 @@ use Rattle.tk_live.specs.Course.{Names, Course, place, task_info}
 use Rattle.tk_live.specs.Runs.{Numbers, numbers_of, Keeps, Offered}
 use Rattle.tk_live.specs.Stops.{offer_stop}
 use Rattle.tk_live.specs.declared.stop.Stop.TheVariants.{OffersSpent}
+use Rattle.tk_live.specs.declared.settings.Settings.{Settings}
 
 pub nothing_more : (n : ℕ) → n + 0 ≡ n
 nothing_more n = omega arith
@@ -31,11 +32,11 @@ spent r capacity numbers k kept o e =
     rw (eq-eqb (length k.told) last_number all) refl
 
 -- one more offer, of as many tasks and what is told now
-pub offered_more : (r new : Recording) (t : Taking) (a : Aggregating) (capacity : ℕ) (k : Course) (names : Names) (told : List Told) (kept marks : List Bool) (sent : List Sending) (numbers : Numbers) (more : List Told)
-    → Keeps r t a capacity k kept sent → IsSameRecorder r new → Offered new capacity numbers more (kept ++ marks) → numbers ≡ numbers_of names → more ≡ told
-    → Keeps new t a capacity (record k { names = names; told = told }) (kept ++ marks) sent
-offered_more r new t a capacity k names told kept marks sent numbers more keeps same offered numbers_are told_is = record {
-  offered = subst (λ (p : Numbers × List Told). Offered new capacity p.0 p.1 (kept ++ marks)) (λ i. (numbers_are i, told_is i)) offered;
+pub offered_more : (r new : Recording) (t : Taking) (a : Aggregating) (settings : Settings) (k : Course) (names : Names) (told : List Told) (kept marks : List Bool) (sent : List Sending) (numbers : Numbers) (more : List Told)
+    → Keeps r t a settings k kept sent → IsSameRecorder r new → Offered new settings.capacity numbers more (kept ++ marks) → numbers ≡ numbers_of names → more ≡ told
+    → Keeps new t a settings (record k { names = names; told = told }) (kept ++ marks) sent
+offered_more r new t a settings k names told kept marks sent numbers more keeps same offered numbers_are told_is = record {
+  offered = subst (λ (p : Numbers × List Told). Offered new settings.capacity p.0 p.1 (kept ++ marks)) (λ i. (numbers_are i, told_is i)) offered;
   takes = record {
     console = keeps.takes.console ∙ sym same.console;
     recorders = keeps.takes.recorders;

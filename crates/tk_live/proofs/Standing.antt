@@ -26,6 +26,8 @@ use Rattle.tk_live.specs.Runs.{Numbers, numbers_of, Holds, Keeps, Stays, StandsF
 use Rattle.tk_live.specs.Stops.{IsReply, Leaves, if_there}
 use Rattle.tk_live.specs.declared.interpreter.Interpreter.{Interpreter}
 use Rattle.tk_live.specs.declared.stop.Stop.{Stop}
+use Rattle.tk_live.specs.declared.stop.Stop.TheVariants.{NoSuchItem}
+use Rattle.tk_live.specs.declared.settings.Settings.{Settings}
 use Rattle.tk_live.proofs.Places.{live_item-map}
 
 pub from_not : (b : Bool) → true ≡ not b → b ≡ false
@@ -37,17 +39,56 @@ to_not true e = refl
 to_not false e = absurd cc
 
 -- nothing was recorded
-pub unmarked : (i : Interpreter) (capacity : ℕ) (k : Course) (kept : List Bool) (sent : List Sending) → StandsFor i capacity k kept sent → StandsFor i capacity k (kept ++ []) sent
-unmarked i capacity k kept sent stands = subst (λ (m : List Bool). StandsFor i capacity k m sent) (sym (append-nil kept)) stands
+pub unmarked : (i : Interpreter) (settings : Settings) (k : Course) (kept : List Bool) (sent : List Sending) → StandsFor i settings k kept sent → StandsFor i settings k (kept ++ []) sent
+unmarked i settings k kept sent stands = subst (λ (m : List Bool). StandsFor i settings k m sent) (sym (append-nil kept)) stands
+
+-- a setting was said
+pub capacity_told : (i new : Interpreter) (settings : Settings) (k : Course) (kept : List Bool) (sent : List Sending) → StandsFor i settings k kept sent → new ≡ record i { capacity_said = true }
+    → StandsFor new settings (record k { capacity_said = true }) (kept ++ []) sent
+capacity_told i new settings k kept sent stands is = unmarked new settings (record k { capacity_said = true }) kept sent (subst (λ (n : Interpreter). StandsFor n settings (record k { capacity_said = true }) kept sent) (sym is) (record {
+  keeps = record { offered = stands.keeps.offered; takes = stands.keeps.takes; are = stands.keeps.are };
+  holds = stands_holds stands.holds;
+  capacity_said = refl;
+  retention_said = stands.retention_said;
+  begun = stands.begun;
+  capacity_is = stands.capacity_is;
+  least = stands.least;
+  moment = stands.moment;
+  numbers = stands.numbers;
+  going = stands.going;
+}))
+  where
+    stands_holds : Holds i k.names → Holds (record i { capacity_said = true }) k.names
+    stands_holds h = record { tasks_are = h.tasks_are; owners = h.owners; wakers_are = h.wakers_are; resources_are = h.resources_are; users_are = h.users_are; ops_are = h.ops_are }
+
+pub retention_told : (i new : Interpreter) (settings : Settings) (k : Course) (kept : List Bool) (sent : List Sending) → StandsFor i settings k kept sent → new ≡ record i { retention_said = true }
+    → StandsFor new settings (record k { retention_said = true }) (kept ++ []) sent
+retention_told i new settings k kept sent stands is = unmarked new settings (record k { retention_said = true }) kept sent (subst (λ (n : Interpreter). StandsFor n settings (record k { retention_said = true }) kept sent) (sym is) (record {
+  keeps = record { offered = stands.keeps.offered; takes = stands.keeps.takes; are = stands.keeps.are };
+  holds = stands_holds stands.holds;
+  capacity_said = stands.capacity_said;
+  retention_said = refl;
+  begun = stands.begun;
+  capacity_is = stands.capacity_is;
+  least = stands.least;
+  moment = stands.moment;
+  numbers = stands.numbers;
+  going = stands.going;
+}))
+  where
+    stands_holds : Holds i k.names → Holds (record i { retention_said = true }) k.names
+    stands_holds h = record { tasks_are = h.tasks_are; owners = h.owners; wakers_are = h.wakers_are; resources_are = h.resources_are; users_are = h.users_are; ops_are = h.ops_are }
 
 -- handles went on, as the text tells of them
-pub went_on : (i new : Interpreter) (capacity : ℕ) (k : Course) (names : Names) (kept : List Bool) (sent : List Sending) → StandsFor i capacity k kept sent
+pub went_on : (i new : Interpreter) (settings : Settings) (k : Course) (names : Names) (kept : List Bool) (sent : List Sending) → StandsFor i settings k kept sent
     → new ≡ record i { tasks = new.tasks; wakers = new.wakers; resources = new.resources; users = new.users; ops = new.ops } → Holds new names → numbers_of names ≡ numbers_of k.names
-    → StandsFor new capacity (record k { names = names }) kept sent
-went_on i new capacity k names kept sent stands is holds same =
-    subst (λ (n : Interpreter). Holds n names → StandsFor n capacity (record k { names = names }) kept sent) (sym is) (λ h. record {
-      keeps = record { offered = subst (λ (n : Numbers). Rattle.tk_live.specs.Runs.Offered i.recorder capacity n k.told kept) (sym same) stands.keeps.offered; takes = stands.keeps.takes; are = stands.keeps.are };
+    → StandsFor new settings (record k { names = names }) kept sent
+went_on i new settings k names kept sent stands is holds same =
+    subst (λ (n : Interpreter). Holds n names → StandsFor n settings (record k { names = names }) kept sent) (sym is) (λ h. record {
+      keeps = record { offered = subst (λ (n : Numbers). Rattle.tk_live.specs.Runs.Offered i.recorder settings.capacity n k.told kept) (sym same) stands.keeps.offered; takes = stands.keeps.takes; are = stands.keeps.are };
       holds = h;
+      capacity_said = stands.capacity_said;
+      retention_said = stands.retention_said;
       begun = stands.begun;
       capacity_is = stands.capacity_is;
       least = stands.least;
@@ -57,11 +98,11 @@ went_on i new capacity k names kept sent stands is holds same =
     }) holds
 
 -- and nothing was recorded
-pub on_handles : (i new : Interpreter) (capacity : ℕ) (k : Course) (names : Names) (kept : List Bool) (sent : List Sending) → StandsFor i capacity k kept sent
+pub on_handles : (i new : Interpreter) (settings : Settings) (k : Course) (names : Names) (kept : List Bool) (sent : List Sending) → StandsFor i settings k kept sent
     → new ≡ record i { tasks = new.tasks; wakers = new.wakers; resources = new.resources; users = new.users; ops = new.ops } → Holds new names → numbers_of names ≡ numbers_of k.names
-    → StandsFor new capacity (record k { names = names }) (kept ++ []) sent
-on_handles i new capacity k names kept sent stands is holds same =
-    unmarked new capacity (record k { names = names }) kept sent (went_on i new capacity k names kept sent stands is holds same)
+    → StandsFor new settings (record k { names = names }) (kept ++ []) sent
+on_handles i new settings k names kept sent stands is holds same =
+    unmarked new settings (record k { names = names }) kept sent (went_on i new settings k names kept sent stands is holds same)
 
 -- what was there may be left
 pub leaves_same : (k : Course) (line : ℕ) (s : Said) → Leaves k line s k
@@ -86,11 +127,12 @@ leaves_same k line (said.close_op n m) = refl
 leaves_same k line (said.change_op n i change) = refl
 leaves_same k line (said.poll_op r o t name ready) = refl
 leaves_same k line (said.capacity n) = refl
+leaves_same k line (said.retention n) = refl
 leaves_same k line (said.publish m whole) = refl
 
 -- what was there stays
-pub rests : (i : Interpreter) (capacity : ℕ) (k : Course) (line : ℕ) (s : Said) (kept : List Bool) (sent : List Sending) → Stays i capacity k kept sent → Rests i capacity (Leaves k line s) sent
-rests i capacity k line s kept sent keeps = record { left = k; is_left = leaves_same k line s; kept = kept; keeps = keeps }
+pub rests : (i : Interpreter) (settings : Settings) (k : Course) (line : ℕ) (s : Said) (kept : List Bool) (sent : List Sending) → Stays i settings k kept sent → Rests i settings (Leaves k line s) sent
+rests i settings k line s kept sent keeps = record { left = k; is_left = leaves_same k line s; kept = kept; keeps = keeps }
 
 -- what is told of a number's handle
 pub told_of : {H X : Type 0} (f : H → X) (n : ℕ) (seats : List (Option H)) (names : List (Option X)) (found : Option H) → map (option_map f) seats ≡ names → found ≡ live_item n seats → live_item n names ≡ option_map f found
@@ -103,6 +145,11 @@ told_live f n seats names found h are taken is = told_of f n seats names found a
 pub is_there : {X : Type 0} (o : Option X) (stop : Option Stop) → is_some o ≡ true → if_there o stop ≡ stop
 is_there None stop e = absurd cc
 is_there (Some x) stop e = refl
+
+-- and what isn't does
+pub isnt_there : {X : Type 0} (o : Option X) (stop : Option Stop) → is_some o ≡ false → if_there o stop ≡ Some NoSuchItem
+isnt_there None stop e = refl
+isnt_there (Some x) stop e = absurd cc
 
 module _ {Row C : Type 0} where
   -- an accepted call is one more

@@ -5,43 +5,45 @@ use Rattle.std.proofs.KnownBytes.{Appends-nil}
 use Rattle.tk_report.specs.declared.fault.AppFault.{AppFault}
 use Rattle.tk_report.specs.declared.fault.AppFault.TheVariants as faults
 use Rattle.tk_stream.specs.Streams.{Sending}
-use Rattle.tk_live.specs.Commands.{Line, capacity_of}
+use Rattle.tk_live.specs.Commands.{Line, settings_of}
 use Rattle.tk_live.specs.Course.{Course, course_of}
 use Rattle.tk_live.specs.Ran.{CameOf, picked, Each, IsLineOf}
 use Rattle.tk_live.specs.Runs.{Stays, LinesCame}
 use Rattle.tk_live.specs.Script.{LinesWrite, RunWrites, ReadsAndRuns}
 use Rattle.tk_live.specs.Transfer.{IsReading, IsScript}
 use Rattle.tk_live.specs.declared.interpreter.Interpreter.{Interpreter}
+use Rattle.tk_live.specs.declared.settings.Settings.{Settings}
 
 -- what a finished taker tells of an interpreter
 abbrev pub Ends : Interpreter → Type 0
-Ends i = (capacity : ℕ) (c : Course) (kept : List Bool) (sent : List Sending) → Stays i capacity c kept sent → Each (IsLineOf (picked kept c.told)) c.due sent
+Ends i = (settings : Settings) (c : Course) (kept : List Bool) (sent : List Sending) → Stays i settings c kept sent → Each (IsLineOf settings.retention (picked kept c.told)) c.due sent
 
 -- it was there to be finished
-pub stays_of : (answers : ℕ → Bool → Type 0) (last : ℕ) (script : List Line) (capacity : ℕ) (i : Interpreter) (result : Result (Unit {0}) AppFault) (text : List ℕ) → LinesCame answers last script capacity i result text
-    → (capacity : ℕ) × (c : Course) × (kept : List Bool) × (sent : List Sending) × Stays i capacity c kept sent
-stays_of answers last script capacity i (Ok done) text came = (capacity, course_of script, came.2, came.3, came.4.keeps)
-stays_of answers last script capacity i (Err (faults.Script number name)) text (inl came) = (capacity, came.rests.left, came.rests.kept, came.sent, came.rests.keeps)
-stays_of answers last script capacity i (Err (faults.Script number name)) text (inr came) = (capacity, course_of script, came.kept, came.sent, came.keeps)
-stays_of answers last script capacity i (Err faults.Memory) text came = absurd came
-stays_of answers last script capacity i (Err faults.Read) text came = absurd came
-stays_of answers last script capacity i (Err faults.Write) text came = absurd came
-stays_of answers last script capacity i (Err (faults.Stream lines fault)) text came = absurd came
+pub stays_of : (answers : ℕ → Bool → Type 0) (last : ℕ) (script : List Line) (settings : Settings) (i : Interpreter) (result : Result (Unit {0}) AppFault) (text : List ℕ) → LinesCame answers last script settings i result text
+    → (settings : Settings) × (c : Course) × (kept : List Bool) × (sent : List Sending) × Stays i settings c kept sent
+stays_of answers last script settings i (Ok done) text came = (settings, course_of script, came.2, came.3, came.4.keeps)
+stays_of answers last script settings i (Err (faults.Script number name)) text (inl came) = (settings, came.rests.left, came.rests.kept, came.sent, came.rests.keeps)
+stays_of answers last script settings i (Err (faults.Script number name)) text (inr came) = (settings, course_of script, came.kept, came.sent, came.keeps)
+stays_of answers last script settings i (Err faults.Memory) text came = absurd came
+stays_of answers last script settings i (Err faults.Read) text came = absurd came
+stays_of answers last script settings i (Err faults.Write) text came = absurd came
+stays_of answers last script settings i (Err (faults.Stream lines fault)) text came = absurd came
 
 -- what came of it
-came_of : (i : Interpreter) (capacity : ℕ) (c : Course) (kept : List Bool) (sent : List Sending) → Stays i capacity c kept sent → Ends i → CameOf capacity c sent
-came_of i capacity c kept sent keeps ends = record {
+came_of : (i : Interpreter) (settings : Settings) (c : Course) (kept : List Bool) (sent : List Sending) → Stays i settings c kept sent → Ends i → CameOf settings c sent
+came_of i settings c kept sent keeps ends = record {
   kept = kept;
   one_each = keeps.offered.one_each;
   first = keeps.offered.first;
-  lines = ends capacity c kept sent keeps;
+  lines = ends settings c kept sent keeps;
   stream = keeps.are.stream;
+  leaves = keeps.are.leaves;
 }
 
 -- what was written
-pub writes : (answers : ℕ → Bool → Type 0) (last : ℕ) (script : List Line) (i : Interpreter) (result : Result (Unit {0}) AppFault) (text : List ℕ) → LinesCame answers last script (capacity_of script) i result text → Ends i → LinesWrite answers last script result text
+pub writes : (answers : ℕ → Bool → Type 0) (last : ℕ) (script : List Line) (i : Interpreter) (result : Result (Unit {0}) AppFault) (text : List ℕ) → LinesCame answers last script (settings_of script) i result text → Ends i → LinesWrite answers last script result text
 writes answers last script i (Ok done) text came ends =
-    (came.3, record { goes = came.0; closed = came.1; came = came_of i (capacity_of script) (course_of script) came.2 came.3 came.4.keeps ends }, came.5)
+    (came.3, record { goes = came.0; closed = came.1; came = came_of i (settings_of script) (course_of script) came.2 came.3 came.4.keeps ends }, came.5)
 writes answers last script i (Err (faults.Script number name)) text (inl came) ends = inl (record {
   before = came.before;
   line = came.line;
@@ -52,7 +54,7 @@ writes answers last script i (Err (faults.Script number name)) text (inl came) e
   left = came.rests.left;
   leaves = came.rests.is_left;
   sent = came.sent;
-  came = came_of i (capacity_of script) came.rests.left came.rests.kept came.sent came.rests.keeps ends;
+  came = came_of i (settings_of script) came.rests.left came.rests.kept came.sent came.rests.keeps ends;
   stop = came.stop;
   stops = came.stops;
   named = came.named;
@@ -67,7 +69,7 @@ writes answers last script i (Err (faults.Script number name)) text (inr came) e
   is_open = came.is_open;
   named = came.named;
   sent = came.sent;
-  came = came_of i (capacity_of script) (course_of script) came.kept came.sent came.keeps ends;
+  came = came_of i (settings_of script) (course_of script) came.kept came.sent came.keeps ends;
   all = came.all;
 })
 writes answers last script i (Err faults.Memory) text came ends = absurd came

@@ -21,6 +21,7 @@ use Rattle.tk_live.specs.declared.block.Worker.TheVariants.{One, Two}
 use Rattle.tk_live.specs.declared.block.WorkerLine.{WorkerLine}
 use Rattle.tk_live.specs.declared.command.Command.{Command}
 use Rattle.tk_live.specs.declared.command.Command.TheVariants as commands
+use Rattle.tk_live.specs.declared.settings.Settings.{Settings}
 
 -- a command. It names items by their numbers from 1
 pub data Said : Type 0 where
@@ -55,6 +56,8 @@ pub data Said : Type 0 where
   poll_op : ℕ → ℕ → ℕ → List ℕ → Bool → Said
   -- how many events the console holds
   capacity : ℕ → Said
+  -- how long a closed item stays
+  retention : ℕ → Said
   -- a line of the stream, as a snapshot or not
   publish : ℕ → Bool → Said
 
@@ -81,6 +84,7 @@ view (commands.CloseOp number moment) = close_op number moment
 view (commands.ChangeOp number index change) = change_op number index change
 view (commands.PollOp r o t name ready) = poll_op r o t name.now ready
 view (commands.Capacity count) = capacity count
+view (commands.Retention span) = retention span
 view (commands.Publish moment whole) = publish moment whole
 
 -- what a command names is a name, and a capacity is in range
@@ -162,12 +166,13 @@ poll_op_by _ = None
 abbrev pub capacity_by : List (List ℕ) → Option Said
 capacity_by words = option_and_then (λ n. if nat_le 1 n && nat_le n 65536 then Some (capacity n) else None) (one_number words)
 
--- a line of the stream, or how many events the console holds
+-- a line of the stream, how many events the console holds, or how long a closed item stays
 abbrev pub line_command : List ℕ → List (List ℕ) → Option Said
 line_command w words =
     if bytes_eq w (codes "publish") then option_map (λ at. publish at false) (one_number words) else
     (if bytes_eq w (codes "snapshot") then option_map (λ at. publish at true) (one_number words) else
-    (if bytes_eq w (codes "capacity") then capacity_by words else None))
+    (if bytes_eq w (codes "capacity") then capacity_by words else
+    (if bytes_eq w (codes "retention") then option_map (λ n. retention n) (one_number words) else None)))
 
 -- by the first word, and then by the rest
 abbrev pub said_by : List (List ℕ) → Option Said
@@ -247,20 +252,39 @@ line_of line = if is_skipped line then skipped else line_said line
 abbrev pub lines_of : List ℕ → List Line
 lines_of script = map line_of (pieces_at 10 script)
 
--- the capacity that a command says, if it is said first
-abbrev pub own_capacity : Said → ℕ
-own_capacity (capacity n) = n
-own_capacity _ = 1024
+-- where a script says nothing else: 1,024 events are held, and no item leaves
+abbrev pub default_settings : Settings
+default_settings = record { capacity = 1024; retention = None }
 
--- the capacity of a script: that of a `capacity` command before all others, else 1,024
-abbrev pub capacity_of : List Line → ℕ
-capacity_of [] = 1024
-capacity_of (skipped ∷ more) = capacity_of more
-capacity_of (bad ∷ more) = 1024
-capacity_of (says s ∷ more) = own_capacity s
-capacity_of (opens ∷ more) = 1024
-capacity_of (joins ∷ more) = 1024
-capacity_of (works k l ∷ more) = 1024
+-- a command that makes nothing and writes nothing, and tells how the script is run
+abbrev pub is_setting : Said → Bool
+is_setting (capacity n) = true
+is_setting (retention n) = true
+is_setting _ = false
+
+-- settings by a command
+abbrev pub settings_by : Settings → Said → Settings
+settings_by settings (capacity n) = record settings { capacity = n }
+settings_by settings (retention n) = record settings { retention = Some n }
+settings_by settings _ = settings
+
+-- settings by a line behind which further ones may be said: it says one, or is skipped
+abbrev pub settings_said : Settings → Line → Option Settings
+settings_said settings skipped = Some settings
+settings_said settings bad = None
+settings_said settings (says s) = if is_setting s then Some (settings_by settings s) else None
+settings_said settings opens = None
+settings_said settings joins = None
+settings_said settings (works k l) = None
+
+-- settings by lines, up to the first behind which none may be said
+abbrev pub settings_behind : Settings → List Line → Settings
+settings_behind settings [] = settings
+settings_behind settings (line ∷ more) = option_map_or (λ s. settings_behind s more) (settings_said settings line) settings
+
+-- the settings of a script: those of its `capacity` and `retention` commands before all others
+abbrev pub settings_of : List Line → Settings
+settings_of ls = settings_behind default_settings ls
 
 -- a script's last byte ends a line
 abbrev pub ends_line : List ℕ → Bool

@@ -1,5 +1,5 @@
 -- What commands come to, as far as the text tells: what their numbers name, what they record, and the lines that are due.
-use Rattle.std.specs.Prelude.{ℕ, ◌+◌, List, [], ◌∷◌, ◌++◌, length, codes, fold, Bool, true, false, Option, Some, None, option_map}
+use Rattle.std.specs.Prelude.{ℕ, ◌+◌, List, [], ◌∷◌, ◌++◌, length, codes, fold, Bool, true, false, not, ◌||◌, Option, Some, None, option_map}
 use Rattle.std.specs.List.{enumerate_from}
 use Rattle.std.specs.Option.{option_map_or}
 use Rattle.tk_ids.specs.Ids.{id_of}
@@ -24,7 +24,7 @@ use Rattle.tk_core.specs.Task.{opening_row}
 use Rattle.tk_events.specs.Items.{infos_of, first_values}
 use Rattle.tk_aggregator.specs.Told.{Told, made_task, made_resource, made_op, polled}
 use Rattle.tk_live.specs.Blocks.{Block, no_lines, with_line, after_block}
-use Rattle.tk_live.specs.Commands.{Said, Line, says, opens, joins, works, task, start, finish, close, self_wake, clone, again, wake_ref, wake, release, resource, close_resource, change_resource, op, op_task, start_op, finish_op, close_op, change_op, poll_op, capacity, publish}
+use Rattle.tk_live.specs.Commands.{Said, Line, says, opens, joins, works, task, start, finish, close, self_wake, clone, again, wake_ref, wake, release, resource, close_resource, change_resource, op, op_task, start_op, finish_op, close_op, change_op, poll_op, capacity, retention, publish, is_setting}
 use Rattle.tk_live.specs.Known.{Handled, and_call, drawn_from}
 use Rattle.tk_live.specs.Named.{live_item, with_item, with_change}
 
@@ -52,12 +52,15 @@ pub record Due : Type 0 where
   pub whole : Bool
 
 -- what commands come to: what their numbers name, what the recording ones tell, in order, the lines that are due, the moment
--- of the last one, whether there was a command at all, and the lines of the block that is open, if one is
+-- of the last one, whether a capacity and a retention were said, whether there was any other command, and the lines of the block
+-- that is open, if one is
 pub record Course : Type 0 where
   pub names : Names
   pub told : List Told
   pub due : List Due
   pub now : ℕ
+  pub capacity_said : Bool
+  pub retention_said : Bool
   pub begun : Bool
   pub block : Option Block
 
@@ -67,7 +70,7 @@ no_names = record { tasks = []; wakers = []; resources = []; users = []; ops = [
 
 -- before any command
 abbrev pub start_of_all : Course
-start_of_all = record { names = no_names; told = []; due = []; now = 0; begun = false; block = None }
+start_of_all = record { names = no_names; told = []; due = []; now = 0; capacity_said = false; retention_said = false; begun = false; block = None }
 
 -- an item stands on a line of the script, at its first column
 abbrev pub place : ℕ → Location
@@ -119,7 +122,7 @@ waker_called n call names = record names { wakers = with_change n (and_call call
 abbrev pub waker_drawn : Option TaskHandled → Names → Names
 waker_drawn from names = record names { wakers = option_map_or (λ h. names.wakers ++ Some (drawn_from h) ∷ []) from names.wakers }
 
--- what one command more comes to, but for that it is one
+-- what one command more comes to, but for what it begins
 abbrev pub step : Course → ℕ → Said → Course
 step c line (task at kind name) = record c {
   names = record c.names { tasks = c.names.tasks ++ Some (new_task (length c.names.tasks + 1) at) ∷ [] };
@@ -150,12 +153,13 @@ step c line (finish_op n moment) = record c { names = op_called n (op_calls.Poll
 step c line (close_op n moment) = record c { names = record c.names { ops = with_item n None c.names.ops } }
 step c line (change_op n index change) = record c { names = op_called n (op_calls.Attr index change) c.names }
 step c line (poll_op r o t name ready) = record c { told = c.told ++ polled (id_of 1 r) ready ∷ [] }
-step c line (capacity n) = c
+step c line (capacity n) = record c { capacity_said = true }
+step c line (retention n) = record c { retention_said = true }
 step c line (publish moment whole) = record c { due = c.due ++ record { moment = moment; whole = whole } ∷ []; now = moment }
 
--- what one command more comes to
+-- what one command more comes to. Behind one that isn't a setting no setting may stand
 abbrev pub step_on : Course → ℕ → Said → Course
-step_on c line s = record (step c line s) { begun = true }
+step_on c line s = record (step c line s) { begun = not (is_setting s) || c.begun }
 
 -- what a block comes to whose threads are joined: its wakers behind their lines. It is closed
 abbrev pub joined : Course → Block → Course

@@ -18,13 +18,14 @@ use Rattle.tk_live.specs.Commands.{Said, Line}
 use Rattle.tk_live.specs.Course.{Names, Due, Course, start_of_all, step, line_after, course_of}
 use Rattle.tk_live.specs.Known.{owner_of, caller_of}
 use Rattle.tk_live.specs.Named.{EachLive}
-use Rattle.tk_live.specs.Ran.{picked, Each, IsLineOf, written_by}
+use Rattle.tk_live.specs.Ran.{picked, Each, IsLineOf, LeaveWhenDue, written_by}
 use Rattle.tk_live.specs.Refusals.{stop_name}
 use Rattle.tk_live.specs.Script.{FrontOf, Fronts}
 use Rattle.tk_live.specs.Stops.{Stops, stop_of, line_stop, Leaves, Goes, AllGo, LineStops, LineLeaves}
 use Rattle.tk_live.specs.Threads.{Apart}
 use Rattle.tk_live.specs.declared.block.OpenBlock.{OpenBlock}
 use Rattle.tk_live.specs.declared.interpreter.Interpreter.{Interpreter}
+use Rattle.tk_live.specs.declared.settings.Settings.{Settings}
 use Rattle.tk_live.specs.declared.stop.Stop.{Stop}
 use Rattle.tk_live.specs.declared.stop.Stop.TheVariants.{BadCommand}
 
@@ -76,67 +77,72 @@ pub record Takes (r : Recording) (t : Taking) : Type 0 where
   pub unfinished : t.finished ≡ false
   pub known : t.known ≡ []
 
--- the lines so far: a stream that leads to where the aggregator is; each has what was taken by then
-pub record Sent (a : Aggregating) (t : Taking) (due : List Due) (sent : List Sending) : Type 0 where
+-- the lines so far: a stream that leads to where the aggregator is, of which items leave when they are due; each has what was
+-- taken by then
+pub record Sent (a : Aggregating) (t : Taking) (retention : Option ℕ) (due : List Due) (sent : List Sending) : Type 0 where
   pub follows : FollowsTaker a t
+  pub retention_is : a.retention ≡ retention
   pub stream : GoesOn empty_tables 0 sent
+  pub leaves : LeaveWhenDue retention empty_tables sent
   pub told : a.told ≡ tables_sent empty_tables sent
   pub last : a.last ≡ last_sent 0 sent
-  pub lines : Each (IsLineOf (map offer_tells t.taken)) due sent
+  pub lines : Each (IsLineOf retention (map offer_tells t.taken)) due sent
 
 -- what stands even where a command stops the script
-pub record Keeps (r : Recording) (t : Taking) (a : Aggregating) (capacity : ℕ) (c : Course) (kept : List Bool) (sent : List Sending) : Type 0 where
-  pub offered : Offered r capacity (numbers_of c.names) c.told kept
+pub record Keeps (r : Recording) (t : Taking) (a : Aggregating) (settings : Settings) (c : Course) (kept : List Bool) (sent : List Sending) : Type 0 where
+  pub offered : Offered r settings.capacity (numbers_of c.names) c.told kept
   pub takes : Takes r t
-  pub are : Sent a t c.due sent
+  pub are : Sent a t settings.retention c.due sent
 
 -- what stands of an interpreter
-abbrev pub Stays : Interpreter → ℕ → Course → List Bool → List Sending → Type 0
-Stays i capacity c kept sent = Keeps i.recorder i.taker i.aggregator capacity c kept sent
+abbrev pub Stays : Interpreter → Settings → Course → List Bool → List Sending → Type 0
+Stays i settings c kept sent = Keeps i.recorder i.taker i.aggregator settings c kept sent
 
 -- an interpreter stands for what commands came to
-pub record StandsFor (i : Interpreter) (capacity : ℕ) (c : Course) (kept : List Bool) (sent : List Sending) : Type 0 where
-  pub keeps : Stays i capacity c kept sent
+pub record StandsFor (i : Interpreter) (settings : Settings) (c : Course) (kept : List Bool) (sent : List Sending) : Type 0 where
+  pub keeps : Stays i settings c kept sent
   pub holds : Holds i c.names
+  pub capacity_said : i.capacity_said ≡ c.capacity_said
+  pub retention_said : i.retention_said ≡ c.retention_said
   pub begun : i.begun ≡ c.begun
-  pub capacity_is : i.capacity ≡ capacity
-  pub least : 0 < capacity
+  pub capacity_is : i.capacity ≡ settings.capacity
+  pub least : 0 < settings.capacity
   pub moment : i.aggregator.tables.now ≡ c.now
   pub numbers : i.aggregator.last ≡ length c.due
   pub going : i.aggregator.broken ≡ false
 
 -- what an interpreter keeps that stopped: that of a course that may be left
-pub record Rests (i : Interpreter) (capacity : ℕ) (IsLeft : Course → Type 0) (sent : List Sending) : Type 0 where
+pub record Rests (i : Interpreter) (settings : Settings) (IsLeft : Course → Type 0) (sent : List Sending) : Type 0 where
   pub left : Course
   pub is_left : IsLeft left
   pub kept : List Bool
-  pub keeps : Stays i capacity left kept sent
+  pub keeps : Stays i settings left kept sent
 
 -- the bytes of these lines behind those
 abbrev pub bytes_behind : List Sending → List Sending → List ℕ
 bytes_behind sent more = bytes_sent (lines_sent (tables_sent empty_tables sent) more)
 
 -- a command that writes nothing went on, with marks for what it recorded; or it stopped, and what came before stays
-abbrev pub Did : ℕ → Course → List Bool → List Sending → ℕ → Said → Interpreter → Result (Unit {0}) Stop → Type 0
-Did capacity c kept sent line s new (Ok done) = (stop_of c s ≡ None) × (marks : List Bool) × StandsFor new capacity (step c line s) (kept ++ marks) sent
-Did capacity c kept sent line s new (Err stop) = Stops c s stop × Rests new capacity (Leaves c line s) sent
+abbrev pub Did : Settings → Course → List Bool → List Sending → ℕ → Said → Interpreter → Result (Unit {0}) Stop → Type 0
+Did settings c kept sent line s new (Ok done) = (stop_of c s ≡ None) × (marks : List Bool) × StandsFor new settings (step c line s) (kept ++ marks) sent
+Did settings c kept sent line s new (Err stop) = Stops c s stop × Rests new settings (Leaves c line s) sent
 
 -- whatever the interpreter stood for, the command that writes nothing did this
 abbrev pub Does : ℕ → Said → Interpreter → Interpreter → Result (Unit {0}) Stop → Type 0
 Does line s old new result =
-    (capacity : ℕ) (c : Course) (kept : List Bool) (sent : List Sending) → StandsFor old capacity c kept sent → Did capacity c kept sent line s new result
+    (settings : Settings) (c : Course) (kept : List Bool) (sent : List Sending) → StandsFor old settings c kept sent → Did settings c kept sent line s new result
 
 -- a command went on, with marks and lines more; or it stopped, what came before stays, and a front may have gone out
-abbrev pub Came : (Course → ℕ → Said → Course) → ℕ → Course → List Bool → List Sending → ℕ → Said → Interpreter → Result (Unit {0}) Stop → Option (List ℕ) → Option (List ℕ) → Type 0
-Came next capacity c kept sent line s new (Ok done) before behind =
-    (stop_of c s ≡ None) × (marks : List Bool) × (more : List Sending) × StandsFor new capacity (next c line s) (kept ++ marks) (sent ++ more) × Appends before behind (bytes_behind sent more)
-Came next capacity c kept sent line s new (Err stop) before behind =
-    Stops c s stop × Rests new capacity (Leaves c line s) sent × (front : List ℕ) × FrontOf sent s stop front × Appends before behind front
+abbrev pub Came : (Course → ℕ → Said → Course) → Settings → Course → List Bool → List Sending → ℕ → Said → Interpreter → Result (Unit {0}) Stop → Option (List ℕ) → Option (List ℕ) → Type 0
+Came next settings c kept sent line s new (Ok done) before behind =
+    (stop_of c s ≡ None) × (marks : List Bool) × (more : List Sending) × StandsFor new settings (next c line s) (kept ++ marks) (sent ++ more) × Appends before behind (bytes_behind sent more)
+Came next settings c kept sent line s new (Err stop) before behind =
+    Stops c s stop × Rests new settings (Leaves c line s) sent × (front : List ℕ) × FrontOf sent s stop front × Appends before behind front
 
 -- whatever the interpreter stood for, this came of the command
 abbrev pub Comes : (Course → ℕ → Said → Course) → ℕ → Said → Interpreter → Interpreter → Result (Unit {0}) Stop → Option (List ℕ) → Option (List ℕ) → Type 0
 Comes next line s old new result before behind =
-    (capacity : ℕ) (c : Course) (kept : List Bool) (sent : List Sending) → StandsFor old capacity c kept sent → Came next capacity c kept sent line s new result before behind
+    (settings : Settings) (c : Course) (kept : List Bool) (sent : List Sending) → StandsFor old settings c kept sent → Came next settings c kept sent line s new result before behind
 
 -- the lines of a block
 abbrev pub block_of : OpenBlock → Block
@@ -148,27 +154,27 @@ pub record IsOpen (block : Option OpenBlock) (c : Course) : Type 0 where
   pub apart : (b : Block) → c.block ≡ Some b → Apart b.first b.second
 
 -- a line that is no command went on, or it stopped and changed nothing
-abbrev pub BlockCame : (ℕ → Bool → Type 0) → ℕ → Course → List Bool → List Sending → ℕ → Line → Interpreter → Option OpenBlock → Result (Unit {0}) Stop → Type 0
-BlockCame answers capacity c kept sent n line new block (Ok done) = (line_stop c line ≡ None) × StandsFor new capacity (line_after c (n, line)) kept sent × IsOpen block (line_after c (n, line))
-BlockCame answers capacity c kept sent n line new block (Err stop) = LineStops answers c line stop × Stays new capacity c kept sent
+abbrev pub BlockCame : (ℕ → Bool → Type 0) → Settings → Course → List Bool → List Sending → ℕ → Line → Interpreter → Option OpenBlock → Result (Unit {0}) Stop → Type 0
+BlockCame answers settings c kept sent n line new block (Ok done) = (line_stop c line ≡ None) × StandsFor new settings (line_after c (n, line)) kept sent × IsOpen block (line_after c (n, line))
+BlockCame answers settings c kept sent n line new block (Err stop) = LineStops answers c line stop × Stays new settings c kept sent
 
 abbrev pub BlockComes : (ℕ → Bool → Type 0) → ℕ → Line → Interpreter → Option OpenBlock → Interpreter → Option OpenBlock → Result (Unit {0}) Stop → Type 0
 BlockComes answers n line old was new block result =
-    (capacity : ℕ) (c : Course) (kept : List Bool) (sent : List Sending) → StandsFor old capacity c kept sent → IsOpen was c → BlockCame answers capacity c kept sent n line new block result
+    (settings : Settings) (c : Course) (kept : List Bool) (sent : List Sending) → StandsFor old settings c kept sent → IsOpen was c → BlockCame answers settings c kept sent n line new block result
 
 -- whatever the interpreter stood for, this came of a line
-abbrev pub LineCame : (ℕ → Bool → Type 0) → ℕ → Course → List Bool → List Sending → ℕ → Line → Interpreter → Option OpenBlock → Result (Unit {0}) Stop → Option (List ℕ) → Option (List ℕ) → Type 0
-LineCame answers capacity c kept sent n line new block (Ok done) before behind =
-    Goes c (n, line) × (marks : List Bool) × (more : List Sending) × StandsFor new capacity (line_after c (n, line)) (kept ++ marks) (sent ++ more) × IsOpen block (line_after c (n, line)) × Appends before behind (bytes_behind sent more)
-LineCame answers capacity c kept sent n line new block (Err stop) before behind =
-    LineStops answers c line stop × Rests new capacity (LineLeaves c (n, line)) sent × (front : List ℕ) × Fronts sent line stop front × Appends before behind front
+abbrev pub LineCame : (ℕ → Bool → Type 0) → Settings → Course → List Bool → List Sending → ℕ → Line → Interpreter → Option OpenBlock → Result (Unit {0}) Stop → Option (List ℕ) → Option (List ℕ) → Type 0
+LineCame answers settings c kept sent n line new block (Ok done) before behind =
+    Goes c (n, line) × (marks : List Bool) × (more : List Sending) × StandsFor new settings (line_after c (n, line)) (kept ++ marks) (sent ++ more) × IsOpen block (line_after c (n, line)) × Appends before behind (bytes_behind sent more)
+LineCame answers settings c kept sent n line new block (Err stop) before behind =
+    LineStops answers c line stop × Rests new settings (LineLeaves c (n, line)) sent × (front : List ℕ) × Fronts sent line stop front × Appends before behind front
 
 abbrev pub LineComes : (ℕ → Bool → Type 0) → ℕ → Line → Interpreter → Option OpenBlock → Interpreter → Option OpenBlock → Result (Unit {0}) Stop → Option (List ℕ) → Option (List ℕ) → Type 0
 LineComes answers n line old was new block result before behind =
-    (capacity : ℕ) (c : Course) (kept : List Bool) (sent : List Sending) → StandsFor old capacity c kept sent → IsOpen was c → LineCame answers capacity c kept sent n line new block result before behind
+    (settings : Settings) (c : Course) (kept : List Bool) (sent : List Sending) → StandsFor old settings c kept sent → IsOpen was c → LineCame answers settings c kept sent n line new block result before behind
 
 -- the line of this number stops the lines, by this name
-pub record Halts (answers : ℕ → Bool → Type 0) (ls : List Line) (capacity number : ℕ) (name : List ℕ) (new : Interpreter) (text : List ℕ) : Type 0 where
+pub record Halts (answers : ℕ → Bool → Type 0) (ls : List Line) (settings : Settings) (number : ℕ) (name : List ℕ) (new : Interpreter) (text : List ℕ) : Type 0 where
   pub before : List Line
   pub line : Line
   pub behind : List Line
@@ -176,7 +182,7 @@ pub record Halts (answers : ℕ → Bool → Type 0) (ls : List Line) (capacity 
   pub counted : number ≡ length before + 1
   pub sent : List Sending
   pub goes : AllGo start_of_all (enumerate_from 1 before)
-  pub rests : Rests new capacity (LineLeaves (course_of before) (number, line)) sent
+  pub rests : Rests new settings (LineLeaves (course_of before) (number, line)) sent
   pub stop : Stop
   pub stops : LineStops answers (course_of before) line stop
   pub named : name ≡ stop_name stop
@@ -185,7 +191,7 @@ pub record Halts (answers : ℕ → Bool → Type 0) (ls : List Line) (capacity 
   pub all : text ≡ written_by sent ++ front
 
 -- a block is open behind the last line
-pub record Unended (ls : List Line) (capacity last number : ℕ) (name : List ℕ) (new : Interpreter) (text : List ℕ) : Type 0 where
+pub record Unended (ls : List Line) (settings : Settings) (last number : ℕ) (name : List ℕ) (new : Interpreter) (text : List ℕ) : Type 0 where
   pub counted : number ≡ last
   pub goes : AllGo start_of_all (enumerate_from 1 ls)
   pub block : Block
@@ -193,12 +199,12 @@ pub record Unended (ls : List Line) (capacity last number : ℕ) (name : List �
   pub named : name ≡ stop_name BadCommand
   pub kept : List Bool
   pub sent : List Sending
-  pub keeps : Stays new capacity (course_of ls) kept sent
+  pub keeps : Stays new settings (course_of ls) kept sent
   pub all : text ≡ written_by sent
 
 -- this came of lines, of which the last has this number
-abbrev pub LinesCame : (ℕ → Bool → Type 0) → ℕ → List Line → ℕ → Interpreter → Result (Unit {0}) AppFault → List ℕ → Type 0
-LinesCame answers last ls capacity new (Ok done) text =
-    AllGo start_of_all (enumerate_from 1 ls) × ((course_of ls).block ≡ None) × (kept : List Bool) × (sent : List Sending) × StandsFor new capacity (course_of ls) kept sent × (text ≡ written_by sent)
-LinesCame answers last ls capacity new (Err (faults.Script number name)) text = Halts answers ls capacity number name.now new text ⊎ Unended ls capacity last number name.now new text
-LinesCame answers last ls capacity new (Err other) text = ⊥
+abbrev pub LinesCame : (ℕ → Bool → Type 0) → ℕ → List Line → Settings → Interpreter → Result (Unit {0}) AppFault → List ℕ → Type 0
+LinesCame answers last ls settings new (Ok done) text =
+    AllGo start_of_all (enumerate_from 1 ls) × ((course_of ls).block ≡ None) × (kept : List Bool) × (sent : List Sending) × StandsFor new settings (course_of ls) kept sent × (text ≡ written_by sent)
+LinesCame answers last ls settings new (Err (faults.Script number name)) text = Halts answers ls settings number name.now new text ⊎ Unended ls settings last number name.now new text
+LinesCame answers last ls settings new (Err other) text = ⊥

@@ -8,7 +8,7 @@ use Rattle.tk_stream.specs.Streams.{Sending, MaySend, line_sent, tables_sent, la
 use Rattle.tk_stream.specs.Spelling.{sent_text}
 use Rattle.tk_stream.specs.Tables.{empty_tables}
 use Rattle.tk_live.specs.Blocks.{Block}
-use Rattle.tk_live.specs.Commands.{Said, Line, says, publish, lines_of, last_line, capacity_of}
+use Rattle.tk_live.specs.Commands.{Said, Line, says, publish, lines_of, last_line, settings_of}
 use Rattle.tk_live.specs.Course.{Course, start_of_all, course_of}
 use Rattle.tk_live.specs.Ran.{Ran, CameOf, written_by}
 use Rattle.tk_live.specs.Refusals.{stop_name}
@@ -42,7 +42,7 @@ pub record StopsAt (answers : ℕ → Bool → Type 0) (ls : List Line) (number 
   pub left : Course
   pub leaves : LineLeaves (course_of before) (number, line) left
   pub sent : List Sending
-  pub came : CameOf (capacity_of ls) left sent
+  pub came : CameOf (settings_of ls) left sent
   -- and how it stops
   pub stop : Stop
   pub stops : LineStops answers (course_of before) line stop
@@ -59,13 +59,13 @@ pub record StaysOpen (ls : List Line) (last number : ℕ) (name : List ℕ) (wri
   pub is_open : (course_of ls).block ≡ Some block
   pub named : name ≡ stop_name BadCommand
   pub sent : List Sending
-  pub came : CameOf (capacity_of ls) (course_of ls) sent
+  pub came : CameOf (settings_of ls) (course_of ls) sent
   pub all : written ≡ written_by sent
 
 -- what the run of lines has written at its end, of which the last has this number, with what the gate may answer to each worker.
 -- Where there is no memory to begin, it is nothing
 abbrev pub LinesWrite : (ℕ → Bool → Type 0) → ℕ → List Line → Result (Unit {0}) AppFault → List ℕ → Type 0
-LinesWrite answers last ls (Ok done) written = (sent : List Sending) × Ran (capacity_of ls) ls sent × (written ≡ written_by sent)
+LinesWrite answers last ls (Ok done) written = (sent : List Sending) × Ran (settings_of ls) ls sent × (written ≡ written_by sent)
 LinesWrite answers last ls (Err (faults.Script number name)) written = StopsAt answers ls number name.now written ⊎ StaysOpen ls last number name.now written
 LinesWrite answers last ls (Err faults.Memory) written = written ≡ []
 LinesWrite answers last ls (Err other) written = ⊥

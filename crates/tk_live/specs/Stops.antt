@@ -1,5 +1,5 @@
 -- Why a command stops a script.
-use Rattle.std.specs.Prelude.{◌≡◌, ℕ, ◌+◌, ◌^◌, ◌⊎◌, ◌==◌, ◌<◌, List, [], ◌∷◌, ◌++◌, length, nat_lt, nat_le, Bool, true, false, Option, Some, None, option_map, if◌then◌else◌}
+use Rattle.std.specs.Prelude.{◌≡◌, ℕ, ◌+◌, ◌^◌, ◌⊎◌, ◌==◌, ◌||◌, ◌<◌, List, [], ◌∷◌, ◌++◌, length, nat_lt, nat_le, Bool, true, false, Option, Some, None, option_map, if◌then◌else◌}
 use Rattle.std.specs.Option.{option_map_or}
 use Rattle.tk_ids.specs.IdBlocks.{last_number}
 use Rattle.tk_core.specs.declared.history.Entry.{Entry}
@@ -20,7 +20,7 @@ use Rattle.tk_core.specs.ResourceMeaning.{resource_meaning}
 use Rattle.tk_core.specs.TaskMeaning.{task_meaning}
 use Rattle.tk_cell.specs.Calls.{entry}
 use Rattle.tk_live.specs.Blocks.{Block, Wakers, after_lines, is_named, lines_of_worker, lines_of_other}
-use Rattle.tk_live.specs.Commands.{Said, Line, skipped, bad, says, opens, joins, works, task, start, finish, close, self_wake, clone, again, wake_ref, wake, release, resource, close_resource, change_resource, op, op_task, start_op, finish_op, close_op, change_op, poll_op, capacity, publish}
+use Rattle.tk_live.specs.Commands.{Said, Line, skipped, bad, says, opens, joins, works, task, start, finish, close, self_wake, clone, again, wake_ref, wake, release, resource, close_resource, change_resource, op, op_task, start_op, finish_op, close_op, change_op, poll_op, capacity, retention, publish}
 use Rattle.tk_live.specs.Course.{Course, TaskHandled, OpHandled, new_resource, step, line_after}
 use Rattle.tk_live.specs.Known.{Handled}
 use Rattle.tk_live.specs.Named.{made_item, live_item}
@@ -80,7 +80,8 @@ stop_of c (close_op n moment) = unless_polled (option_map is_polled_op (live_ite
 stop_of c (change_op n index change) = if_there (live_item n c.names.ops) None
 stop_of c (poll_op r o t name ready) =
     if_there (made_item r c.names.resources) (if_there (made_item o c.names.ops) (if_there (made_item t c.names.tasks) (offer_stop c)))
-stop_of c (capacity n) = if c.begun then Some BadCommand else None
+stop_of c (capacity n) = if c.begun || c.capacity_said then Some BadCommand else None
+stop_of c (retention n) = if c.begun || c.retention_said then Some BadCommand else None
 stop_of c (publish moment whole) =
     if nat_lt moment c.now then Some Clock else
     (if nat_le (2 ^ 63) (length c.due) then Some NumbersSpent else None)

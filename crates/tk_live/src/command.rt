@@ -123,15 +123,31 @@ pub enum Command<'a> {
         name: &'a [u8],
         ready: bool,
     },
-    /// How many events the console holds, from 1 to 65,536: before every other command.
+    /// How many events the console holds, from 1 to 65,536: once, before every command but a retention.
     Capacity {
         count: u64,
+    },
+    /// How long a closed item stays, and that lines say what is gone: once, before every command but a capacity.
+    Retention {
+        span: u64,
     },
     /// A line of the stream, as a snapshot or not.
     Publish {
         moment: u64,
         whole: bool,
     },
+}
+
+impl Command<'_> {
+    /// Whether it makes nothing and writes nothing, and says how the script is run.
+    pub(crate) fn is_setting(&self) -> bool
+        ensures { result ≡ spec.is_setting (spec.view self.now) }
+    {
+        match self {
+            Command::Capacity { .. } | Command::Retention { .. } => true,
+            _ => false,
+        }
+    }
 }
 
 fn task_of(words: Pieces<'_>) -> Option<Command<'_>>
@@ -366,7 +382,7 @@ fn capacity_of(words: Pieces<'_>) -> Option<Command<'_>>
     Some(Command::Capacity { count })
 }
 
-// A line of the stream, or how many events the console holds.
+// A line of the stream, how many events the console holds, or how long a closed item stays.
 fn line_command<'a>(word: &[u8], words: Pieces<'a>) -> Option<Command<'a>>
     ensures said { option_map spec.view result ≡ spec.line_command word.now (pieces_left words.entry) }
     ensures good { IfSome result (λ c. spec.IsGood (spec.view c)) }
@@ -383,6 +399,8 @@ fn line_command<'a>(word: &[u8], words: Pieces<'a>) -> Option<Command<'a>>
         })
     } else if word == b"capacity".as_slice() {
         capacity_of(words)
+    } else if word == b"retention".as_slice() {
+        one_number(words).map(|span| Command::Retention { span })
     } else {
         None
     }

@@ -1,4 +1,6 @@
 //! The run of a script over live ledgers.
+ghost use Rattle.std.specs.Prelude.{◌≡◌, IfOk};
+ghost use Rattle.tk_aggregator.specs.Aggregates.{new_aggregating};
 
 mod lines;
 mod ops;
@@ -8,11 +10,12 @@ mod tasks;
 mod wakers;
 
 use crate::command::Command;
+use crate::settings::Settings;
 use crate::stop::Stop;
 use std::alloc::Global;
 use std::io::Write;
 use std::sync::Wait;
-use tk_aggregator::Aggregator;
+use tk_aggregator::{Aggregator, StreamError};
 use tk_events::{Console, Limits, Recorder, RetiredRecorder, Taker};
 use tk_ledgers::{OpOwner, ResourceOwner, ResourceUser, TaskOwner, WakerHandle};
 
@@ -28,25 +31,39 @@ pub(crate) struct Interpreter {
     pub(crate) resources: Vec<Option<ResourceOwner>>,
     pub(crate) users: Vec<Option<ResourceUser>>,
     pub(crate) ops: Vec<Option<OpOwner>>,
+    // Which settings were said, and whether there was any other command.
+    pub(crate) capacity_said: bool,
+    pub(crate) retention_said: bool,
     pub(crate) begun: bool,
 }
 
+// The aggregator of a script. Where closed items leave, its lines say what is gone.
+fn aggregator_for(alloc: Global, settings: Settings) -> Result<Aggregator, StreamError>
+    ensures { IfOk result (λ a. a ≡ new_aggregating 0 settings.retention) }
+{
+    match settings.retention {
+        Some(span) => Aggregator::with_retention(alloc, 0, span),
+        None => Aggregator::new(alloc, 0),
+    }
+}
+
 impl Interpreter {
-    ghost use Rattle.std.specs.Prelude.{◌≡◌, ◌≤◌, ℕ, List, [], Bool, IfOk};
+    ghost use Rattle.std.specs.Prelude.{◌≡◌, ◌≤◌, ◌||◌, not, ℕ, List, [], Bool, IfOk};
     ghost use Rattle.std.specs.Vec.{vec_capacity};
     ghost use Rattle.tk_stream.specs.Streams.{Sending};
-    ghost use Rattle.tk_live.specs.Commands.{view, IsGood, capacity};
+    ghost use Rattle.tk_live.specs.Commands.{view, IsGood, capacity, retention, is_setting};
     ghost use Rattle.tk_live.specs.Course.{Course, step, step_on, start_of_all};
     ghost use Rattle.tk_live.specs.Ran.{picked, Each, IsLineOf};
     ghost use Rattle.tk_live.specs.Runs.{StandsFor, Stays, Comes, Does};
+    ghost use Rattle.tk_live.specs.declared.settings.Settings.{Settings};
 
-    pub(crate) fn new(alloc: Global, capacity: u64) -> Result<Interpreter, Stop>
-        requires { (1 ≤ capacity) × (capacity ≤ 65536) }
-        ensures { IfOk result (λ i. StandsFor i capacity start_of_all [] []) }
+    pub(crate) fn new(alloc: Global, settings: Settings) -> Result<Interpreter, Stop>
+        requires { (1 ≤ settings.capacity) × (settings.capacity ≤ 65536) }
+        ensures { IfOk result (λ i. StandsFor i settings start_of_all [] []) }
     {
         let limits = Limits {
             recorders: 1,
-            capacity,
+            capacity: settings.capacity,
             offers: (1 << 40) - 1,
         };
         let Ok((mut recorders, taker)) = Console::open(alloc, limits) else {
@@ -55,19 +72,21 @@ impl Interpreter {
         let Some(recorder) = recorders.pop() else {
             return Err(Stop::Memory);
         };
-        let Ok(aggregator) = Aggregator::new(alloc, 0) else {
+        let Ok(aggregator) = aggregator_for(alloc, settings) else {
             return Err(Stop::Memory);
         };
         Ok(Interpreter {
             recorder,
             taker,
             aggregator,
-            capacity,
+            capacity: settings.capacity,
             tasks: Vec::new(alloc),
             wakers: Vec::new(alloc),
             resources: Vec::new(alloc),
             users: Vec::new(alloc),
             ops: Vec::new(alloc),
+            capacity_said: false,
+            retention_said: false,
             begun: false,
         })
     }
@@ -75,9 +94,9 @@ impl Interpreter {
     /// Retires the recorder and finishes the taker, without taking what is left.
     pub(crate) fn finish(self, room: Vec<RetiredRecorder>)
         requires room { (room.items ≡ []) × (1 ≤ vec_capacity room) }
-        requires keeps { (capacity : ℕ) × (c : Course) × (kept : List Bool) × (sent : List Sending) × Stays self capacity c kept sent }
-        ensures { (capacity : ℕ) (c : Course) (kept : List Bool) (sent : List Sending) → Stays self capacity c kept sent
-            → Each (IsLineOf (picked kept c.told)) c.due sent }
+        requires keeps { (settings : Settings) × (c : Course) × (kept : List Bool) × (sent : List Sending) × Stays self settings c kept sent }
+        ensures { (settings : Settings) (c : Course) (kept : List Bool) (sent : List Sending) → Stays self settings c kept sent
+            → Each (IsLineOf settings.retention (picked kept c.told)) c.due sent }
     {
         let Interpreter {
             recorder,
@@ -92,7 +111,7 @@ impl Interpreter {
         }
     }
 
-    /// What comes of a command, on a line of this number, and that it is one.
+    /// What comes of a command, on a line of this number, and that no setting may stand behind it if it is none.
     pub(crate) fn run<R: Wait, W: Write>(
         &mut self,
         rt: &R,
@@ -105,13 +124,21 @@ impl Interpreter {
         ensures { Comes step_on line (view command.entry) self.old self.new result
             (W.contents writer.old) (W.contents writer.new) }
     {
+        let begun = self.begun_by(&command);
         match self.apply(rt, alloc, line, command, writer) {
             Ok(()) => {
-                self.begun = true;
+                self.begun = begun;
                 Ok(())
             }
             Err(stop) => Err(stop),
         }
+    }
+
+    // Whether there was a command that is no setting, up to this one.
+    fn begun_by(&self, command: &Command<'_>) -> bool
+        ensures { result ≡ (not (is_setting (view command.now)) || self.now.begun) }
+    {
+        !command.is_setting() || self.begun
     }
 
     /// What comes of a command, on a line of this number.
@@ -173,18 +200,30 @@ impl Interpreter {
                 ready,
             } => self.poll_op(rt, alloc, resource, op, task, name, ready),
             Command::Capacity { count: _ } => self.say_capacity(),
+            Command::Retention { span: _ } => self.say_retention(),
             Command::Publish { moment, whole } => self.publish(rt, moment, whole, writer),
         }
     }
 
-    // The capacity, which was looked for before the first line, stands before every other command.
+    // The capacity, which was looked for before the first line, is said once, before every command that is no setting.
     fn say_capacity(&mut self) -> Result<(), Stop>
         ensures { (line : ℕ) (n : ℕ) → Does line (capacity n) self.old self.new result }
     {
-        if self.begun {
-            Err(Stop::BadCommand)
-        } else {
-            Ok(())
+        if self.begun || self.capacity_said {
+            return Err(Stop::BadCommand);
         }
+        self.capacity_said = true;
+        Ok(())
+    }
+
+    // The same of the retention.
+    fn say_retention(&mut self) -> Result<(), Stop>
+        ensures { (line : ℕ) (n : ℕ) → Does line (retention n) self.old self.new result }
+    {
+        if self.begun || self.retention_said {
+            return Err(Stop::BadCommand);
+        }
+        self.retention_said = true;
+        Ok(())
     }
 }

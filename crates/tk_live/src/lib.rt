@@ -17,6 +17,7 @@ mod join;
 mod pieces;
 mod script;
 mod seats;
+mod settings;
 mod stop;
 mod transfer;
 mod words;

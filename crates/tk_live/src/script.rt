@@ -2,9 +2,9 @@
 //!
 //! A line is a command, its words between single spaces. Empty lines and lines that begin with `#` are
 //! skipped, and counted. A script stops at its first fault, and what the lines before it wrote stays.
-ghost use Rattle.std.specs.Prelude.{◌≡◌, ◌≤◌, [], ℕ, List, length, IfOk};
+ghost use Rattle.std.specs.Prelude.{◌≡◌, ◌≤◌, [], ℕ, List, length, IfOk, IfSome};
 ghost use Rattle.std.specs.Io.KnownBytes.{Appends};
-ghost use Rattle.tk_live.specs.Commands.{is_skipped, ends_line, last_line, block_line, line_of, lines_of, capacity_of};
+ghost use Rattle.tk_live.specs.Commands.{is_skipped, ends_line, last_line, block_line, line_of, lines_of, settings_said, settings_of};
 ghost use Rattle.tk_live.specs.Course.{start_of_all};
 ghost use Rattle.tk_live.specs.Pieces.{pieces_at};
 ghost use Rattle.tk_live.specs.Runs.{StandsFor, BlockComes, LineComes, LinesCame};
@@ -15,6 +15,7 @@ use crate::command::{Command, command_of};
 use crate::gate::Gate;
 use crate::interpreter::Interpreter;
 use crate::pieces::Pieces;
+use crate::settings::Settings;
 use crate::stop::Stop;
 use crate::transfer::{MAX_SCRIPT, read_script};
 use std::alloc::{AllocError, Global};
@@ -23,8 +24,11 @@ use std::sync::Wait;
 use std::thread::Threads;
 use tk_report::AppFault;
 
-/// How many events the console holds where the script doesn't say.
-const CAPACITY: u64 = 1_024;
+/// How many events the console holds where the script doesn't say, and no item leaves there.
+const DEFAULT: Settings = Settings {
+    capacity: 1_024,
+    retention: None,
+};
 
 fn is_skipped(line: &[u8]) -> bool
     ensures { result ≡ is_skipped line.now }
@@ -35,23 +39,48 @@ fn is_skipped(line: &[u8]) -> bool
     }
 }
 
-// The capacity that a script asks for.
-fn capacity_in(alloc: Global, script: &[u8]) -> Result<u64, AllocError>
-    ensures said { IfOk result (λ n. n ≡ capacity_of (lines_of script.now)) }
-    ensures fits { IfOk result (λ n. (1 ≤ n) × (n ≤ 65536)) }
+// The settings behind a line, if further ones may be said there.
+fn settings_by(
+    alloc: Global,
+    line: &[u8],
+    settings: Settings,
+) -> Result<Option<Settings>, AllocError>
+    requires { (1 ≤ settings.capacity) × (settings.capacity ≤ 65536) }
+    ensures said { IfOk result (λ o. o ≡ settings_said settings (line_of line.now)) }
+    ensures fits { IfOk result (λ o. IfSome o (λ s. (1 ≤ s.capacity) × (s.capacity ≤ 65536))) }
 {
+    if is_skipped(line) {
+        return Ok(Some(settings));
+    }
+    if block_said(line).is_some() {
+        return Ok(None);
+    }
+    match command_of(alloc, line)? {
+        Some(Command::Capacity { count }) => Ok(Some(Settings {
+            capacity: count,
+            ..settings
+        })),
+        Some(Command::Retention { span }) => Ok(Some(Settings {
+            retention: Some(span),
+            ..settings
+        })),
+        _ => Ok(None),
+    }
+}
+
+// The settings of a script: those that it says before every other command.
+fn settings_in(alloc: Global, script: &[u8]) -> Result<Settings, AllocError>
+    ensures said { IfOk result (λ s. s ≡ settings_of (lines_of script.now)) }
+    ensures fits { IfOk result (λ s. (1 ≤ s.capacity) × (s.capacity ≤ 65536)) }
+{
+    let mut settings = DEFAULT;
     for line in Pieces::new(script, b'\n') {
-        if !is_skipped(line) {
-            if block_said(line).is_some() {
-                return Ok(CAPACITY);
-            }
-            return match command_of(alloc, line)? {
-                Some(Command::Capacity { count }) => Ok(count),
-                _ => Ok(CAPACITY),
-            };
+        match settings_by(alloc, line, settings)? {
+            Some(more) => settings = more,
+            None => return Ok(settings),
         }
     }
-    Ok(CAPACITY)
+    Ok(settings)
 }
 
 // A line that only blocks have.
@@ -146,8 +175,8 @@ fn run_lines<R: Threads + Wait + Sync, W: Write, G: Gate + Sync>(
     writer: &mut W,
 ) -> Result<(), AppFault>
     requires short { length script.now ≤ MAX_SCRIPT }
-    requires fresh { StandsFor interpreter.old (capacity_of (lines_of script.now)) start_of_all [] [] }
-    ensures { (text : List ℕ) × LinesCame (G.answers gate.now) (last_line script.now) (lines_of script.now) (capacity_of (lines_of script.now)) interpreter.new result text
+    requires fresh { StandsFor interpreter.old (settings_of (lines_of script.now)) start_of_all [] [] }
+    ensures { (text : List ℕ) × LinesCame (G.answers gate.now) (last_line script.now) (lines_of script.now) (settings_of (lines_of script.now)) interpreter.new result text
         × Appends (W.contents writer.old) (W.contents writer.new) text }
 {
     let mut block = None;
@@ -191,10 +220,10 @@ fn run<R: Threads + Wait + Sync, W: Write, G: Gate + Sync>(
     ensures { (written : List ℕ) × RunWrites (G.answers gate.now) script.now result written
         × Appends (W.contents writer.old) (W.contents writer.new) written }
 {
-    let Ok(capacity) = capacity_in(alloc, script) else {
+    let Ok(settings) = settings_in(alloc, script) else {
         return Err(AppFault::Memory);
     };
-    let Ok(mut interpreter) = Interpreter::new(alloc, capacity) else {
+    let Ok(mut interpreter) = Interpreter::new(alloc, settings) else {
         return Err(AppFault::Memory);
     };
     let Ok(room) = Vec::with_capacity(alloc, 1) else {
@@ -211,6 +240,8 @@ fn run<R: Threads + Wait + Sync, W: Write, G: Gate + Sync>(
 /// many events as a `capacity` command before every other one says, from 1 to 65,536, and 1,024 without one. Each `publish`
 /// and each `snapshot` takes what the console holds, reads the ledgers of the items that are known by then, and writes one
 /// line. What did not fit into the console is counted as dropped; an item that was dropped keeps its number and its ledger.
+/// Where a `retention` command stands before every other one but `capacity`, the lines are of version 2: an item that a line
+/// showed as closed leaves with the first `publish` that is so many nanoseconds behind its close.
 /// A block of threads, from `par` to `join`, is run at its `join`: each of its two workers that has lines is one thread, which
 /// owns the wakers of its lines and passes the gate before each of its calls. Behind the block the wakers that are not spent
 /// are there again.
@@ -218,7 +249,7 @@ fn run<R: Threads + Wait + Sync, W: Write, G: Gate + Sync>(
 /// - `Memory`: the script could not be kept, or the run not begun, for want of memory. Nothing was written.
 /// - `Read`: the reader failed, gave no end within 2^32 reads, or gave more than 1,048,576 bytes. Nothing was written.
 /// - `Script`: a line was refused, and what the lines before it published stands. Its name is `BadCommand`
-///   (no command, `capacity` behind another command, a line that may not stand in its block or needs one, a waker with lines of
+///   (no command, `capacity` or `retention` a second time or behind another command, a line that may not stand in its block or needs one, a waker with lines of
 ///   both workers, or, at the last line, a block that is not joined), `NoSuchItem` (an item that was not made, or is spent, in
 ///   a block by the lines before), the name of
 ///   the refused call's refusal, `OffersSpent` (2^40 - 1 events were recorded), `Clock` (a moment below the last line's),

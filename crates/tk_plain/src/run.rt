@@ -24,6 +24,8 @@ pub(crate) struct Plain {
     // The tables of the last line.
     pub(crate) told: Tables,
     pub(crate) lines: u64,
+    pub(crate) capacity_said: bool,
+    pub(crate) retention_said: bool,
     pub(crate) begun: bool,
 }
 
@@ -51,15 +53,35 @@ impl Plain {
             wakers: Vec::new(alloc),
             told,
             lines: 0,
+            capacity_said: false,
+            retention_said: false,
             begun: false,
         })
     }
 
-    fn say_capacity(&self) -> Result<(), Stop> {
-        if self.begun {
-            Err(Stop::BadCommand)
-        } else {
-            Ok(())
+    fn say_capacity(&mut self) -> Result<(), Stop> {
+        if self.begun || self.capacity_said {
+            return Err(Stop::BadCommand);
+        }
+        self.capacity_said = true;
+        Ok(())
+    }
+
+    // Nothing leaves here: the tests compare scripts that say it too late.
+    fn say_retention(&mut self) -> Result<(), Stop> {
+        if self.begun || self.retention_said {
+            return Err(Stop::BadCommand);
+        }
+        self.retention_said = true;
+        Ok(())
+    }
+
+    // A setting, or none.
+    fn apply_setting(&mut self, command: &Command<'_>) -> Option<Result<(), Stop>> {
+        match command {
+            Command::Capacity { .. } => Some(self.say_capacity()),
+            Command::Retention { .. } => Some(self.say_retention()),
+            _ => None,
         }
     }
 
@@ -107,7 +129,6 @@ impl Plain {
                 ready,
                 ..
             } => self.poll_op(*resource, *op, *task, *ready),
-            Command::Capacity { .. } => self.say_capacity(),
             _ => return None,
         };
         Some(done)
@@ -146,6 +167,9 @@ impl Plain {
         command: Command<'_>,
         writer: &mut W,
     ) -> Result<(), Stop> {
+        if let Some(done) = self.apply_setting(&command) {
+            return done;
+        }
         let done = if let Some(done) = self.apply_to_tasks(&command) {
             done
         } else if let Some(done) = self.apply_to_others(&command) {

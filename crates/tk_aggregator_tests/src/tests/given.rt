@@ -121,6 +121,20 @@ pub(super) fn on_new<F: FnOnce(&mut Aggregator) -> bool>(
     }
 }
 
+// The same of one whose closed items stay so long.
+pub(super) fn on_retaining<F: FnOnce(&mut Aggregator) -> bool>(
+    alloc: Global,
+    retention: u64,
+    check: F,
+) -> bool
+    requires { F.IsAlwaysCallable check }
+{
+    match Aggregator::with_retention(alloc, 0, retention) {
+        Ok(mut aggregator) => check(&mut aggregator),
+        Err(_) => false,
+    }
+}
+
 // Whether the aggregator takes in a task `main`, created at 100.
 pub(super) fn takes_in_main<R: Wait>(rt: &R, alloc: Global, aggregator: &mut Aggregator) -> bool {
     take_in_task(rt, alloc, aggregator, b"main", 100).is_some()

@@ -1,9 +1,10 @@
 //! The lines of the stream.
 ghost use Rattle.std.specs.Prelude.{◌≡◌, OnOk, IfErr};
 ghost use Rattle.std.specs.Io.KnownBytes.{Appends};
+ghost use Rattle.tk_events.specs.Handles.{Taking};
 ghost use Rattle.tk_stream.specs.Spelling.{sent_text};
 ghost use Rattle.tk_stream.specs.Streams.{MaySend};
-ghost use Rattle.tk_aggregator.specs.Aggregates.{IsDue, IsSound, Refuses, after_line, line_at, sending_at};
+ghost use Rattle.tk_aggregator.specs.Aggregates.{FollowsTaker, IsDue, IsSound, Refuses, after_line, line_at, sending_at};
 
 use super::Interpreter;
 use crate::stop::Stop;
@@ -12,25 +13,46 @@ use std::sync::Wait;
 use tk_aggregator::{Aggregator, StreamError};
 
 // The next line, as a snapshot or not.
+fn write_line<W: Write>(
+    aggregator: &mut Aggregator,
+    moment: u64,
+    whole: bool,
+    writer: &mut W,
+) -> Result<u64, StreamError>
+    ensures state { OnOk result (aggregator.new ≡ after_line whole aggregator.old moment) }
+    ensures due { OnOk result (IsDue whole aggregator.old moment) }
+    ensures sent { OnOk result (Appends (W.contents writer.old) (W.contents writer.new) (sent_text (line_at whole aggregator.old moment))) }
+    ensures refused { IfErr result (λ e. Refuses e whole aggregator.old moment aggregator.new (W.contents writer.old) (W.contents writer.new)) }
+    ensures may_send { IsDue whole aggregator.old moment → MaySend aggregator.old.told (sending_at whole aggregator.old moment) }
+    ensures follows { (t : Taking) → FollowsTaker aggregator.old t → FollowsTaker aggregator.new t }
+{
+    if whole {
+        aggregator.snapshot(moment, writer)
+    } else {
+        aggregator.publish(moment, writer)
+    }
+}
+
+// The same, of an aggregator that is sound before it and behind it.
 fn send<W: Write>(
     aggregator: &mut Aggregator,
     moment: u64,
     whole: bool,
     writer: &mut W,
 ) -> Result<u64, StreamError>
-    ensures state { OnOk result (aggregator.new ≡ after_line aggregator.old moment) }
+    ensures state { OnOk result (aggregator.new ≡ after_line whole aggregator.old moment) }
     ensures due { OnOk result (IsDue whole aggregator.old moment) }
     ensures sent { OnOk result (Appends (W.contents writer.old) (W.contents writer.new) (sent_text (line_at whole aggregator.old moment))) }
     ensures refused { IfErr result (λ e. Refuses e whole aggregator.old moment aggregator.new (W.contents writer.old) (W.contents writer.new)) }
     ensures may_send { IsDue whole aggregator.old moment → MaySend aggregator.old.told (sending_at whole aggregator.old moment) }
+    ensures follows { (t : Taking) → FollowsTaker aggregator.old t → FollowsTaker aggregator.new t }
     ensures sound { IsSound aggregator.old }
+    ensures stays_sound { IsSound aggregator.new }
 {
     aggregator.tables();
-    if whole {
-        aggregator.snapshot(moment, writer)
-    } else {
-        aggregator.publish(moment, writer)
-    }
+    let sent = write_line(aggregator, moment, whole, writer);
+    aggregator.tables();
+    sent
 }
 
 impl Interpreter {

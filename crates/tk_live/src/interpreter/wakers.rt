@@ -19,6 +19,7 @@ impl Interpreter {
     ghost use Rattle.tk_live.specs.Commands as said;
     ghost use Rattle.tk_live.specs.Course.{Course, joined};
     ghost use Rattle.tk_live.specs.Runs.{Does, StandsFor, block_of};
+    ghost use Rattle.tk_live.specs.declared.settings.Settings.{Settings};
     ghost use Rattle.tk_live.specs.Stops.{Closes, EndsIn};
     ghost use Rattle.tk_live.specs.Threads.{Apart};
 
@@ -102,8 +103,8 @@ impl Interpreter {
         gate: &G,
         block: &OpenBlock,
     ) -> Result<(), Stop>
-        ensures ok { OnOk result ((capacity : ℕ) (c : Course) (kept : List Bool) (sent : List Sending) → Apart block.now.first block.now.second
-            → StandsFor self.old capacity c kept sent → StandsFor self.new capacity (joined c (block_of block.now)) kept sent) }
+        ensures ok { OnOk result ((settings : Settings) (c : Course) (kept : List Bool) (sent : List Sending) → Apart block.now.first block.now.second
+            → StandsFor self.old settings c kept sent → StandsFor self.new settings (joined c (block_of block.now)) kept sent) }
         ensures same { (self.new.recorder ≡ self.old.recorder) × (self.new.taker ≡ self.old.taker) × (self.new.aggregator ≡ self.old.aggregator) }
         ensures err { IfErr result (EndsIn (Closes (G.answers gate.now) (block_of block.now))) }
     {

@@ -92,10 +92,11 @@ const WILD: [&str; 4] = [
     " -9223372036854775808",
 ];
 
-const OTHERS: [&str; 6] = [
+const OTHERS: [&str; 7] = [
     "tusk",
     "start 1",
     "capacity 5",
+    "retention 5",
     "task 1 spawn a b",
     "end 1 x",
     "publish",

@@ -188,6 +188,10 @@ fn lines_out_of_place(rt: HostRuntime) -> Result<(), Fail> {
         lines_rearranged(&rt, script::queue_lag()) == Some(3),
         "queue-lag"
     );
+    assert!(rt;
+        lines_rearranged(&rt, script::retention()) == Some(5),
+        "retention"
+    );
     Ok(())
 }
 

@@ -64,12 +64,14 @@ fn end_with_snapshot(
         return false;
     }
     match Line::between(alloc, none, tables, number, true) {
-        Ok(line) => end_with_line(bytes, &line),
+        Ok(line) => {
+            end_with_line(bytes, &line) || end_with_line(bytes, &line.removing_nothing())
+        }
         Err(_) => false,
     }
 }
 
-// Whether the bytes end with the snapshot line of tables that has this number.
+// Whether the bytes end with the snapshot line of tables that has this number, in either version.
 fn end_with(alloc: Global, bytes: &[u8], tables: &Tables, number: u64) -> bool {
     match Tables::new(alloc) {
         Ok(none) => end_with_snapshot(alloc, bytes, &none, tables, number),
@@ -121,6 +123,7 @@ fn examples_are_taken(rt: HostRuntime) -> Result<(), Fail> {
     assert!(rt; is_taken(&rt, script::burst(), 5), "burst");
     assert!(rt; is_taken(&rt, script::two_threads(), 3), "two-threads");
     assert!(rt; is_taken(&rt, script::queue_lag(), 3), "queue-lag");
+    assert!(rt; is_taken(&rt, script::retention(), 5), "retention");
     Ok(())
 }
 

@@ -1,4 +1,4 @@
-use Rattle.std.proofs.Common.{◌≡◌, true, false, inl, sym, ap, ◌∙◌}
+use Rattle.std.proofs.Common.{◌≡◌, true, false, inl, sym, ◌∙◌}
 use Rattle.std.specs.Prelude.{is_some}
 use Rattle.tk_live.specs.Named.{live_item}
 use Rattle.tk_live.specs.Blocks.{is_named}

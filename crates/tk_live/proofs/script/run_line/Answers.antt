@@ -5,45 +5,45 @@ use Rattle.tk_live.proofs.Blocks.{open_some, open_none, said_came, block_came, s
 use Rattle.tk_live.proofs.script.run_line.Goals as goal
 
 pub returns-then-is_skipped : goal.returns-then-is_skipped
-returns-then-is_skipped g c capacity k kept sent stands was =
+returns-then-is_skipped g c settings k kept sent stands was =
     let skips : is_skipped c.args.line.now ≡ true = sym c.if-is_skipped.ensures in
-    rw skips (skipped_came (g.G.Gate.answers c.args.gate.now) c.args.number capacity k kept sent c.args.interpreter.now c.args.block.now (g.W.Write.contents c.args.writer.now) stands was)
+    rw skips (skipped_came (g.G.Gate.answers c.args.gate.now) c.args.number settings k kept sent c.args.interpreter.now c.args.block.now (g.W.Write.contents c.args.writer.now) stands was)
 
 pub returns-in-Some : goal.returns-in-Some
-returns-in-Some g c capacity k kept sent stands was =
+returns-in-Some g c settings k kept sent stands was =
     let counts : is_skipped c.args.line.now ≡ false = sym c.if-is_skipped.ensures in
     let is : block_said c.args.line.now ≡ Some (block_line c.in-Some.said) = sym c.block_said.ensures ∙ ap (option_map block_line) c.in-Some.is in
     let d = c.run_block_line in
-    rw (line_is_block c.args.line.now (block_line c.in-Some.said) counts is) (block_came (g.G.Gate.answers c.args.gate.now) c.args.number capacity k kept sent c.in-Some.said d.new.interpreter d.new.block d.result (g.W.Write.contents c.args.writer.now)
-    (d.ensures c.args.number capacity k kept sent stands was))
+    rw (line_is_block c.args.line.now (block_line c.in-Some.said) counts is) (block_came (g.G.Gate.answers c.args.gate.now) c.args.number settings k kept sent c.in-Some.said d.new.interpreter d.new.block d.result (g.W.Write.contents c.args.writer.now)
+    (d.ensures c.args.number settings k kept sent stands was))
 
 pub returns-then-is_some : goal.returns-then-is_some
-returns-then-is_some g c capacity k kept sent stands was =
+returns-then-is_some g c settings k kept sent stands was =
     let counts : is_skipped c.args.line.now ≡ false = sym c.if-is_skipped.ensures in
     let none : block_said c.args.line.now ≡ None = sym c.block_said.ensures ∙ ap (option_map block_line) c.in_default.is in
     let there = open_some c.args.block.now k was c.if-is_some.ensures in
-    rw (line_is_said c.args.line.now counts none) (refused (g.G.Gate.answers c.args.gate.now) c.args.number capacity k kept sent c.args.interpreter.now c.args.block.now (g.W.Write.contents c.args.writer.now) there.0 (said c.args.line.now) there.1 stands)
+    rw (line_is_said c.args.line.now counts none) (refused (g.G.Gate.answers c.args.gate.now) c.args.number settings k kept sent c.args.interpreter.now c.args.block.now (g.W.Write.contents c.args.writer.now) there.0 (said c.args.line.now) there.1 stands)
 
 pub returns-in_default-command_of : goal.returns-in_default-command_of
-returns-in_default-command_of g c capacity k kept sent stands was =
+returns-in_default-command_of g c settings k kept sent stands was =
     let counts : is_skipped c.args.line.now ≡ false = sym c.if-is_skipped.ensures in
     let none : block_said c.args.line.now ≡ None = sym c.block_said.ensures ∙ ap (option_map block_line) c.in_default.is in
     let closed = open_none c.args.block.now k was c.if-is_some.ensures in
-    rw (line_is_said c.args.line.now counts none) (lacked (g.G.Gate.answers c.args.gate.now) c.args.number capacity k kept sent c.args.interpreter.now c.args.block.now (g.W.Write.contents c.args.writer.now) (said c.args.line.now) closed stands)
+    rw (line_is_said c.args.line.now counts none) (lacked (g.G.Gate.answers c.args.gate.now) c.args.number settings k kept sent c.args.interpreter.now c.args.block.now (g.W.Write.contents c.args.writer.now) (said c.args.line.now) closed stands)
 
 pub returns-in-Some-said : goal.returns-in-Some-said
-returns-in-Some-said g c capacity k kept sent stands was =
+returns-in-Some-said g c settings k kept sent stands was =
     let counts : is_skipped c.args.line.now ≡ false = sym c.if-is_skipped.ensures in
     let none : block_said c.args.line.now ≡ None = sym c.block_said.ensures ∙ ap (option_map block_line) c.in_default.is in
     let closed = open_none c.args.block.now k was c.if-is_some.ensures in
     let told : said c.args.line.now ≡ Some (view c.in-Some-said.command) = sym c.in-Ok.ensures.said ∙ ap (option_map view) c.in-Some-said.is in
-    rw (line_is_said c.args.line.now counts none, told) (said_came (g.G.Gate.answers c.args.gate.now) c.args.number capacity k kept sent (view c.in-Some-said.command) c.run.new.self c.args.block.now c.run.result
-    (g.W.Write.contents c.args.writer.now) (g.W.Write.contents c.run.new.writer) closed was (c.run.ensures capacity k kept sent stands))
+    rw (line_is_said c.args.line.now counts none, told) (said_came (g.G.Gate.answers c.args.gate.now) c.args.number settings k kept sent (view c.in-Some-said.command) c.run.new.self c.args.block.now c.run.result
+    (g.W.Write.contents c.args.writer.now) (g.W.Write.contents c.run.new.writer) closed was (c.run.ensures settings k kept sent stands))
 
 pub returns-in-None : goal.returns-in-None
-returns-in-None g c capacity k kept sent stands was =
+returns-in-None g c settings k kept sent stands was =
     let counts : is_skipped c.args.line.now ≡ false = sym c.if-is_skipped.ensures in
     let none : block_said c.args.line.now ≡ None = sym c.block_said.ensures ∙ ap (option_map block_line) c.in_default.is in
     let closed = open_none c.args.block.now k was c.if-is_some.ensures in
     let told : said c.args.line.now ≡ None = sym c.in-Ok.ensures.said ∙ ap (option_map view) c.in-None.is in
-    rw (line_is_said c.args.line.now counts none, told) (bad_came (g.G.Gate.answers c.args.gate.now) c.args.number capacity k kept sent c.args.interpreter.now c.args.block.now (g.W.Write.contents c.args.writer.now) closed stands)
+    rw (line_is_said c.args.line.now counts none, told) (bad_came (g.G.Gate.answers c.args.gate.now) c.args.number settings k kept sent c.args.interpreter.now c.args.block.now (g.W.Write.contents c.args.writer.now) closed stands)

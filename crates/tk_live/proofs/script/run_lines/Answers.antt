@@ -3,7 +3,7 @@ use Rattle.std.specs.List.{enumerate_from}
 use Rattle.std.specs.Io.KnownBytes.{Appends}
 use Rattle.std.proofs.KnownBytes.{Appends-nil, Appends-trans}
 use Rattle.std.proofs.lemmas.List.{map-append, length-map}
-use Rattle.tk_live.specs.Commands.{Line, line_of, lines_of, capacity_of}
+use Rattle.tk_live.specs.Commands.{Line, line_of, lines_of, settings_of}
 use Rattle.tk_live.specs.Course.{Course, start_of_all, course_of}
 use Rattle.tk_live.specs.Pieces.{pieces_at, pieces_left}
 use Rattle.tk_live.specs.Ran.{written_by}
@@ -35,7 +35,7 @@ returns-in-Err g c =
     let more = pieces_left c.next.new.self in
     let cut : pieces_at 10 script ≡ texts ++ text ∷ more = c.loop-line.invariant.cut ∙ ap (λ p. texts ++ p) c.in-Some.ensures.steps in
     let did = c.loop-line.invariant.came in
-    let h = c.in-Err.ensures (capacity_of (lines_of script)) (course_of before) did.0 did.1 did.2 did.3 in (
+    let h = c.in-Err.ensures (settings_of (lines_of script)) (course_of before) did.0 did.1 did.2 did.3 in (
       written_by did.1 ++ h.2,
       inl (record {
         before = before;
@@ -66,7 +66,7 @@ loop-line-preserved g c =
     let more = pieces_left c.next.new.self in
     let line : Line = line_of text in
     let did = c.loop-line.invariant.came in
-    let h = c.in_default.ensures (capacity_of (lines_of script)) (course_of before) did.0 did.1 did.2 did.3 in
+    let h = c.in_default.ensures (settings_of (lines_of script)) (course_of before) did.0 did.1 did.2 did.3 in
     let longer : map (λ x. x.now) (c.loop-line.yielded ++ c.in-Some.line ∷ []) ≡ texts ++ text ∷ [] = map-append (λ x. x.now) c.loop-line.yielded (c.in-Some.line ∷ []) in
     let t : map line_of (map (λ x. x.now) (c.loop-line.yielded ++ c.in-Some.line ∷ [])) ≡ before ++ line ∷ [] = ap (map line_of) longer ∙ map-append line_of texts (text ∷ []) in
     let counted : number ≡ length before + 1 = omega (arith, c.loop-line.invariant.counted, length-map c.loop-line.yielded (λ x. x.now), length-map texts line_of) in
@@ -78,7 +78,7 @@ loop-line-preserved g c =
       came = (
         did.0 ++ h.1,
         did.1 ++ h.2,
-        subst (λ (k : Course). StandsFor c.run_line.new.interpreter (capacity_of (lines_of script)) k (did.0 ++ h.1) (did.1 ++ h.2)) (sym (ap course_of t ∙ course_push before number line counted)) h.3,
+        subst (λ (k : Course). StandsFor c.run_line.new.interpreter (settings_of (lines_of script)) k (did.0 ++ h.1) (did.1 ++ h.2)) (sym (ap course_of t ∙ course_push before number line counted)) h.3,
         subst (λ (k : Course). IsOpen c.run_line.new.block k) (sym (ap course_of t ∙ course_push before number line counted)) h.4,
         subst (λ text. Appends (g.W.Write.contents c.args.writer.now) (g.W.Write.contents c.run_line.new.writer) text) (sym (written_append did.1 h.2)) (Appends-trans _ _ _ (written_by did.1) _ did.4 h.5),
       );
@@ -106,7 +106,7 @@ returns-then-is_some g c =
         named = c.name-then-is_some.ensures;
         kept = did.0;
         sent = did.1;
-        keeps = subst (λ ls. Stays c.loop-line.interpreter (capacity_of (lines_of script)) (course_of ls) did.0 did.1) (sym whole) did.2.keeps;
+        keeps = subst (λ ls. Stays c.loop-line.interpreter (settings_of (lines_of script)) (course_of ls) did.0 did.1) (sym whole) did.2.keeps;
         all = refl;
       }),
       did.4,
@@ -124,7 +124,7 @@ returns g c =
         subst (λ ls. (course_of ls).block ≡ None) (sym whole) (open_none c.loop-line.block (course_of (map line_of texts)) did.3 c.if-is_some.ensures),
         did.0,
         did.1,
-        subst (λ ls. StandsFor c.loop-line.interpreter (capacity_of (lines_of script)) (course_of ls) did.0 did.1) (sym whole) did.2,
+        subst (λ ls. StandsFor c.loop-line.interpreter (settings_of (lines_of script)) (course_of ls) did.0 did.1) (sym whole) did.2,
         refl,
       ),
       did.4,

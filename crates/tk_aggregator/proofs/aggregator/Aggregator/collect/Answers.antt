@@ -2,7 +2,7 @@ use Rattle.std.proofs.Common.{ap, ◌∙◌}
 use Rattle.tk_aggregator.specs.Aggregates.{Collects}
 use Rattle.tk_aggregator.proofs.FollowLemmas.{collects_follows, collects_stays, runs_out_follows, gathers_stays}
 use Rattle.tk_aggregator.proofs.GatherLemmas.{gathers_took, collects_took}
-use Rattle.tk_aggregator.proofs.HoldLemmas.{collects_all}
+use Rattle.tk_aggregator.proofs.HoldLemmas.{collects_kept}
 use Rattle.tk_aggregator.proofs.LaterLemmas.{gathers_later, collects_later}
 use Rattle.tk_aggregator.proofs.aggregator.Aggregator.collect.Given.{Over}
 use Rattle.tk_aggregator.proofs.aggregator.Aggregator.collect.Goals as goal
@@ -54,5 +54,5 @@ returns-in_err-count-clause-took g c =
 pub returns-clause-took : goal.returns-clause-took
 returns-clause-took g c = collects_took c.args.self.now c.args.taker.now c.args.limit c.in_ok-count.count c.take_totals.new.self c.take_totals.new.taker (collected g c)
 
-pub returns-clause-all_kept : goal.returns-clause-all_kept
-returns-clause-all_kept g c f finished below = collects_all c.args.self.now c.args.taker.now c.args.limit c.in_ok-count.count c.take_totals.new.self c.take_totals.new.taker (collected g c) f finished below
+pub returns-clause-kept : goal.returns-clause-kept
+returns-clause-kept g c f finished below = collects_kept c.args.self.now c.args.taker.now c.args.limit c.in_ok-count.count c.take_totals.new.self c.take_totals.new.taker (collected g c) f finished below

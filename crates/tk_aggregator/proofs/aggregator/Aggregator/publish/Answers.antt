@@ -1,7 +1,8 @@
 use Rattle.std.proofs.Common.{◌++◌, false, sym, subst}
-use Rattle.tk_aggregator.specs.Aggregates.{Aggregating, line_at}
+use Rattle.tk_aggregator.specs.Aggregates.{Aggregating, FollowsTaker, line_at}
 use Rattle.tk_stream.specs.Spelling.{sent_text}
 use Rattle.tk_stream.specs.Streams.{IsStreamTo}
+use Rattle.tk_aggregator.proofs.FollowLemmas.{line_follows, refused_follows}
 use Rattle.tk_aggregator.proofs.SendLemmas.{may_send, stream_goes_on}
 use Rattle.tk_aggregator.proofs.aggregator.Aggregator.publish.Goals as goal
 
@@ -15,3 +16,9 @@ returns-clause-may_send g c due = may_send c.args.self.now c.args.now false c.ta
 
 pub returns-in_err-number-clause-may_send : goal.returns-in_err-number-clause-may_send
 returns-in_err-number-clause-may_send g c due = may_send c.args.self.now c.args.now false c.tables.ensures.sound due c.ranges.now.fits
+
+pub returns-clause-follows : goal.returns-clause-follows
+returns-clause-follows g c t f = subst (λ (b : Aggregating). FollowsTaker b t) (sym c.in_ok-number.ensures.state) (line_follows false c.args.self.now c.args.now t f)
+
+pub returns-in_err-number-clause-follows : goal.returns-in_err-number-clause-follows
+returns-in_err-number-clause-follows g c t f = refused_follows _ false c.args.self.now c.args.now _ _ _ t c.in_err-number.ensures.refused f

@@ -19,6 +19,6 @@ pub returns : goal.returns
 returns g c =
     let a = c.self.inside in
     let k = c.read_resources.ensures in
-    subst (λ old. ReadsResources old (whole c.read_resources.new.tables c.read_resources.new.told a.tasks.items c.read_resources.new.handles.items a.ops.items a.held a.last a.broken)) c.self.view_is
+    subst (λ old. ReadsResources old (whole c.read_resources.new.tables c.read_resources.new.told a.tasks.items c.read_resources.new.handles.items a.ops.items a.held a.last a.broken a.retention)) c.self.view_is
     (resources_read a.tables a.told a.tasks.items a.resources.items a.ops.items a.held a.last c.self.invariant c.read_resources.new.tables c.read_resources.new.told
-    k.reads.0 c.read_resources.new.handles.items k.reads.1 k.reads.2 k.alone k.told a.broken)
+    k.reads.0 c.read_resources.new.handles.items k.reads.1 k.reads.2 k.alone k.told a.broken a.retention)

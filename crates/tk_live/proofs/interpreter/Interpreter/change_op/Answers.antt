@@ -13,7 +13,7 @@ use Rattle.tk_live.proofs.Standing.{on_handles, rests, told_live, owner_called, 
 use Rattle.tk_live.proofs.interpreter.Interpreter.change_op.Goals as goal
 
 pub returns-in-Ok : goal.returns-in-Ok
-returns-in-Ok g c line capacity k kept sent stands =
+returns-in-Ok g c line settings k kept sent stands =
     let i = c.args.self.now in
     let n = c.args.number in
     let owner = c.in-Some.owner in
@@ -21,7 +21,7 @@ returns-in-Ok g c line capacity k kept sent stands =
     let told : live_item n k.names.ops ≡ Some (owner_of owner) = told_live owner_of n i.ops.items k.names.ops c.take_seat.result owner stands.holds.ops_are c.take_seat.ensures.taken c.in-Some.is in (
       ap (λ o. if_there o None) told,
       [],
-      on_handles i _ capacity k (op_called n (op_calls.Attr c.args.index c.args.op) k.names) kept sent stands refl (record {
+      on_handles i _ settings k (op_called n (op_calls.Attr c.args.index c.args.op) k.names) kept sent stands refl (record {
         tasks_are = stands.holds.tasks_are;
         owners = stands.holds.owners;
         wakers_are = stands.holds.wakers_are;
@@ -32,13 +32,13 @@ returns-in-Ok g c line capacity k kept sent stands =
     )
 
 pub returns-in-Err : goal.returns-in-Err
-returns-in-Err g c line capacity k kept sent stands =
+returns-in-Err g c line settings k kept sent stands =
     let i = c.args.self.now in
     let n = c.args.number in
     let owner = c.in-Some.owner in
     let told : live_item n k.names.ops ≡ Some (owner_of owner) = told_live owner_of n i.ops.items k.names.ops c.take_seat.result owner stands.holds.ops_are c.take_seat.ensures.taken c.in-Some.is in (
       inr (reply_to op_meaning _ _ (live_item n k.names.ops) (owner_of owner) (op_calls.Attr c.args.index c.args.op) c.in-Err.refusal told refl c.in-Err.ensures.err),
-      rests _ capacity k line (said.change_op n c.args.index c.args.op) kept sent stands.keeps,
+      rests _ settings k line (said.change_op n c.args.index c.args.op) kept sent stands.keeps,
     )
 
 pub put_seat-requires : goal.put_seat-requires

@@ -12,7 +12,7 @@ use Rattle.tk_live.proofs.Standing.{on_handles, rests, told_live, caller_called,
 use Rattle.tk_live.proofs.interpreter.Interpreter.change_resource.Goals as goal
 
 pub returns-in-Ok : goal.returns-in-Ok
-returns-in-Ok g c line capacity k kept sent stands =
+returns-in-Ok g c line settings k kept sent stands =
     let i = c.args.self.now in
     let n = c.args.resource in
     let user = c.in-Some.user in
@@ -20,7 +20,7 @@ returns-in-Ok g c line capacity k kept sent stands =
     let told : live_item n k.names.users ≡ Some (caller_of user) = told_live caller_of n i.users.items k.names.users c.take_seat.result user stands.holds.users_are c.take_seat.ensures.taken c.in-Some.is in (
       ap (λ o. if_there o None) told,
       [],
-      on_handles i _ capacity k (user_called n (resource_calls.Attr c.args.index c.args.op) k.names) kept sent stands refl (record {
+      on_handles i _ settings k (user_called n (resource_calls.Attr c.args.index c.args.op) k.names) kept sent stands refl (record {
         tasks_are = stands.holds.tasks_are;
         owners = stands.holds.owners;
         wakers_are = stands.holds.wakers_are;
@@ -31,13 +31,13 @@ returns-in-Ok g c line capacity k kept sent stands =
     )
 
 pub returns-in-Err : goal.returns-in-Err
-returns-in-Err g c line capacity k kept sent stands =
+returns-in-Err g c line settings k kept sent stands =
     let i = c.args.self.now in
     let n = c.args.resource in
     let user = c.in-Some.user in
     let told : live_item n k.names.users ≡ Some (caller_of user) = told_live caller_of n i.users.items k.names.users c.take_seat.result user stands.holds.users_are c.take_seat.ensures.taken c.in-Some.is in (
       inr (reply_to resource_meaning _ _ (live_item n k.names.users) (caller_of user) (resource_calls.Attr c.args.index c.args.op) c.in-Err.refusal told refl c.in-Err.ensures.err),
-      rests _ capacity k line (said.change_resource n c.args.index c.args.op) kept sent stands.keeps,
+      rests _ settings k line (said.change_resource n c.args.index c.args.op) kept sent stands.keeps,
     )
 
 pub put_seat-requires : goal.put_seat-requires

@@ -20,17 +20,17 @@ pub put_seat-requires : goal.put_seat-requires
 put_seat-requires g c = place_left c.args.task c.args.self.now.tasks.items c.take_seat.new.seats.items c.in-Some.owner (sym c.take_seat.ensures.taken ∙ c.in-Some.is) c.in-Some.ensures.left
 
 pub returns-in-Err-HandlesSpent : goal.returns-in-Err-HandlesSpent
-returns-in-Err-HandlesSpent g c line capacity k kept sent stands =
+returns-in-Err-HandlesSpent g c line settings k kept sent stands =
     let i = c.args.self.now in
     let n = c.args.task in
     let e = c.in-Err-HandlesSpent in
     let handle = c.in-Some.owner in
     let told : live_item n k.names.tasks ≡ Some (owner_of handle) = told_live owner_of n i.tasks.items k.names.tasks c.take_seat.result handle stands.holds.tasks_are c.take_seat.ensures.taken c.in-Some.is in
     let refused = (subst (λ r. NotDrawn task_meaning handle.token CloneWaker r c.clone_waker.new.self.token) e.field-0-is e.ensures.err).1 in
-    (inr (reply_to task_meaning _ _ (live_item n k.names.tasks) (owner_of handle) CloneWaker HandlesSpent told refl refused), rests _ capacity k line (said.clone n) kept sent stands.keeps)
+    (inr (reply_to task_meaning _ _ (live_item n k.names.tasks) (owner_of handle) CloneWaker HandlesSpent told refl refused), rests _ settings k line (said.clone n) kept sent stands.keeps)
 
 pub returns : goal.returns
-returns g c line capacity k kept sent stands =
+returns g c line settings k kept sent stands =
     let i = c.args.self.now in
     let n = c.args.task in
     let e = c.in-Ok.ensures in
@@ -43,7 +43,7 @@ returns g c line capacity k kept sent stands =
     (owner_drew task_meaning handle c.clone_waker.new.self made e.id CloneWaker e.ok e.caller) in (
       ap (λ o. if_there o None) told,
       [],
-      on_handles i _ capacity k names kept sent stands refl (record {
+      on_handles i _ settings k names kept sent stands refl (record {
         tasks_are = changed;
         owners = each_back IsOwner n i.tasks.items c.take_seat.new.seats.items c.put_seat.new.seats.items c.clone_waker.new.self c.in-Some.ensures.left c.put_seat.ensures (ap (λ t. t.view.caller) e.ok.kept ∙ (e.ok.entry.same_caller ∙ e.caller)) stands.holds.owners;
         wakers_are = ap (map (option_map caller_of)) c.in_default-push.ensures.items ∙ (map-append (option_map caller_of) i.wakers.items (Some made ∷ [])

@@ -12,7 +12,7 @@ use Rattle.tk_live.proofs.Standing.{from_not, to_not, on_handles, rests, told_li
 use Rattle.tk_live.proofs.interpreter.Interpreter.close.Goals as goal
 
 pub returns-in-Ok : goal.returns-in-Ok
-returns-in-Ok g c line capacity k kept sent stands =
+returns-in-Ok g c line settings k kept sent stands =
     let i = c.args.self.now in
     let n = c.args.task in
     let owner = c.in-Some.owner in
@@ -21,7 +21,7 @@ returns-in-Ok g c line capacity k kept sent stands =
     let names : Names = record k.names { tasks = with_item n None k.names.tasks } in (
       ap (λ o. unless_polled (option_map is_polled o)) told ∙ ap (λ b. unless_polled (Some b)) open_is,
       [],
-      on_handles i _ capacity k names kept sent stands refl (record {
+      on_handles i _ settings k names kept sent stands refl (record {
         tasks_are = used_up owner_of n i.tasks.items c.take_seat.new.seats.items c.in-Some.ensures.left ∙ ap (with_item n None) stands.holds.tasks_are;
         owners = each_left IsOwner n i.tasks.items c.take_seat.new.seats.items c.in-Some.ensures.left stands.holds.owners;
         wakers_are = stands.holds.wakers_are;
@@ -32,7 +32,7 @@ returns-in-Ok g c line capacity k kept sent stands =
     )
 
 pub returns : goal.returns
-returns g c line capacity k kept sent stands =
+returns g c line settings k kept sent stands =
     let i = c.args.self.now in
     let n = c.args.task in
     let owner = c.in-Some.owner in
@@ -40,5 +40,5 @@ returns g c line capacity k kept sent stands =
     let told : live_item n k.names.tasks ≡ Some (owner_of owner) = told_live owner_of n i.tasks.items k.names.tasks c.take_seat.result owner stands.holds.tasks_are c.take_seat.ensures.taken c.in-Some.is in
     let open_is : is_polling owner ≡ true = to_not (is_polling owner) e.exact in (
       inl (ap (λ o. unless_polled (option_map is_polled o)) told ∙ (ap (λ b. unless_polled (Some b)) open_is ∙ ap (λ r. Some (Rattle.tk_live.specs.declared.stop.Stop.TheVariants.Call r)) (sym e.already_polling.0))),
-      rests _ capacity k line (said.close n c.args.moment) kept sent stands.keeps,
+      rests _ settings k line (said.close n c.args.moment) kept sent stands.keeps,
     )

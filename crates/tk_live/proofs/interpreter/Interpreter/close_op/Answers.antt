@@ -11,7 +11,7 @@ use Rattle.tk_live.proofs.Standing.{from_not, to_not, on_handles, rests, told_li
 use Rattle.tk_live.proofs.interpreter.Interpreter.close_op.Goals as goal
 
 pub returns-in-Ok : goal.returns-in-Ok
-returns-in-Ok g c line capacity k kept sent stands =
+returns-in-Ok g c line settings k kept sent stands =
     let i = c.args.self.now in
     let n = c.args.op in
     let owner = c.in-Some.owner in
@@ -19,7 +19,7 @@ returns-in-Ok g c line capacity k kept sent stands =
     let open_is : is_polling owner ≡ false = from_not (is_polling owner) c.in-Ok.ensures.exact in (
       ap (λ o. unless_polled (option_map is_polled_op o)) told ∙ ap (λ b. unless_polled (Some b)) open_is,
       [],
-      on_handles i _ capacity k (record k.names { ops = with_item n None k.names.ops }) kept sent stands refl (record {
+      on_handles i _ settings k (record k.names { ops = with_item n None k.names.ops }) kept sent stands refl (record {
         tasks_are = stands.holds.tasks_are;
         owners = stands.holds.owners;
         wakers_are = stands.holds.wakers_are;
@@ -30,7 +30,7 @@ returns-in-Ok g c line capacity k kept sent stands =
     )
 
 pub returns : goal.returns
-returns g c line capacity k kept sent stands =
+returns g c line settings k kept sent stands =
     let i = c.args.self.now in
     let n = c.args.op in
     let owner = c.in-Some.owner in
@@ -38,5 +38,5 @@ returns g c line capacity k kept sent stands =
     let told : live_item n k.names.ops ≡ Some (owner_of owner) = told_live owner_of n i.ops.items k.names.ops c.take_seat.result owner stands.holds.ops_are c.take_seat.ensures.taken c.in-Some.is in
     let open_is : is_polling owner ≡ true = to_not (is_polling owner) e.exact in (
       inl (ap (λ o. unless_polled (option_map is_polled_op o)) told ∙ (ap (λ b. unless_polled (Some b)) open_is ∙ ap (λ r. Some (Call r)) (sym e.already_polling.0))),
-      rests _ capacity k line (said.close_op n c.args.moment) kept sent stands.keeps,
+      rests _ settings k line (said.close_op n c.args.moment) kept sent stands.keeps,
     )

@@ -7,14 +7,14 @@ use Rattle.tk_live.proofs.Standing.{on_handles, told_live}
 use Rattle.tk_live.proofs.interpreter.Interpreter.close_resource.Goals as goal
 
 pub returns : goal.returns
-returns g c line capacity k kept sent stands =
+returns g c line settings k kept sent stands =
     let i = c.args.self.now in
     let n = c.args.resource in
     let owner = c.in-Some.owner in
     let told : live_item n k.names.resources ≡ Some (owner_of owner) = told_live owner_of n i.resources.items k.names.resources c.take_seat.result owner stands.holds.resources_are c.take_seat.ensures.taken c.in-Some.is in (
       ap (λ o. if_there o None) told,
       [],
-      on_handles i _ capacity k (record k.names { resources = with_item n None k.names.resources }) kept sent stands refl (record {
+      on_handles i _ settings k (record k.names { resources = with_item n None k.names.resources }) kept sent stands refl (record {
         tasks_are = stands.holds.tasks_are;
         owners = stands.holds.owners;
         wakers_are = stands.holds.wakers_are;

@@ -15,7 +15,7 @@ use Rattle.tk_live.proofs.Standing.{on_handles, rests, told_live, owner_called}
 use Rattle.tk_live.proofs.interpreter.Interpreter.end_op.Goals as goal
 
 pub returns-in-Ok : goal.returns-in-Ok
-returns-in-Ok g c line capacity k kept sent stands =
+returns-in-Ok g c line settings k kept sent stands =
     let i = c.args.self.now in
     let n = c.args.op in
     let owner = c.in-Some.owner in
@@ -24,7 +24,7 @@ returns-in-Ok g c line capacity k kept sent stands =
     let open_is : is_polling owner ≡ true = sym e.exact in (
       ap (λ o. while_polled (option_map is_polled_op o)) told ∙ ap (λ b. while_polled (Some b)) open_is,
       [],
-      on_handles i _ capacity k (op_called n (PollEnd c.args.moment) k.names) kept sent stands refl (record {
+      on_handles i _ settings k (op_called n (PollEnd c.args.moment) k.names) kept sent stands refl (record {
         tasks_are = stands.holds.tasks_are;
         owners = stands.holds.owners;
         wakers_are = stands.holds.wakers_are;
@@ -35,7 +35,7 @@ returns-in-Ok g c line capacity k kept sent stands =
     )
 
 pub returns-in-Err : goal.returns-in-Err
-returns-in-Err g c line capacity k kept sent stands =
+returns-in-Err g c line settings k kept sent stands =
     let i = c.args.self.now in
     let n = c.args.op in
     let owner = c.in-Some.owner in
@@ -43,7 +43,7 @@ returns-in-Err g c line capacity k kept sent stands =
     let told : live_item n k.names.ops ≡ Some (owner_of owner) = told_live owner_of n i.ops.items k.names.ops c.take_seat.result owner stands.holds.ops_are c.take_seat.ensures.taken c.in-Some.is in
     let open_is : is_polling owner ≡ false = sym e.exact in (
       inl (ap (λ o. while_polled (option_map is_polled_op o)) told ∙ (ap (λ b. while_polled (Some b)) open_is ∙ ap (λ r. Some (Call r)) (sym e.not_polling.0))),
-      rests _ capacity k line (said.finish_op n c.args.moment) kept sent stands.keeps,
+      rests _ settings k line (said.finish_op n c.args.moment) kept sent stands.keeps,
     )
 
 pub put_seat-requires : goal.put_seat-requires

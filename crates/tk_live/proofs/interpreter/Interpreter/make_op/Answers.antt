@@ -15,7 +15,7 @@ use Rattle.tk_live.proofs.Standing.{rests, new_owner, is_there}
 use Rattle.tk_live.proofs.interpreter.Interpreter.make_op.Goals as goal
 
 pub returns-in-Ok-async_op : goal.returns-in-Ok-async_op
-returns-in-Ok-async_op g c line capacity k kept sent stands =
+returns-in-Ok-async_op g c line settings k kept sent stands =
     let i = c.args.self.now in
     let e = c.in-Ok-async_op.ensures in
     let s = c.in-Ok.ensures in
@@ -24,10 +24,10 @@ returns-in-Ok-async_op g c line capacity k kept sent stands =
     let n = length k.names.ops + 1 in
     let attrs = c.args.attrs in
     let r_is = told_made owner_of c.args.resource i.resources.items k.names.resources stands.holds.resources_are ∙ sym c.if-not-is_made.ensures.made in
-    let one = op_offered i.recorder c.async_op.new.self i.taker i.aggregator capacity k kept sent c.in-Ok.spec owner c.in-Ok-async_op._became c.args.created c.args.resource c.args.source.now attrs stands.keeps s e.same e.kept e.refused e.alone in
-    let known = new_owner owner (id_of 1 n) Enlist (opening_row c.args.created (first_values c.in-Ok.spec.attrs)) (e.id ∙ op_id_is i.recorder capacity k kept o) e.owner
+    let one = op_offered i.recorder c.async_op.new.self i.taker i.aggregator settings k kept sent c.in-Ok.spec owner c.in-Ok-async_op._became c.args.created c.args.resource c.args.source.now attrs stands.keeps s e.same e.kept e.refused e.alone in
+    let known = new_owner owner (id_of 1 n) Enlist (opening_row c.args.created (first_values c.in-Ok.spec.attrs)) (e.id ∙ op_id_is i.recorder settings.capacity k kept o) e.owner
     ∙ ap (λ a. record { id = id_of 1 n; opening = Some (opening_row c.args.created (first_values a)); calls = Enlist ∷ [] }) s.3 in (
-      is_there _ _ r_is ∙ unspent i.recorder capacity (numbers_of k.names) k kept o (λ h. let bad = e.spent.1 h in absurd cc),
+      is_there _ _ r_is ∙ unspent i.recorder settings.capacity (numbers_of k.names) k kept o (λ h. let bad = e.spent.1 h in absurd cc),
       one.0 ∷ [],
       record {
         keeps = one.1;
@@ -40,6 +40,8 @@ returns-in-Ok-async_op g c line capacity k kept sent stands =
           ops_are = ap (map (option_map owner_of)) (c.push_reserved.ensures.items ∙ ap (λ l. l ++ Some owner ∷ []) c.in_default-reserve.ensures.items) ∙ (map-append (option_map owner_of) i.ops.items (Some owner ∷ [])
               ∙ (ap (λ l. l ++ Some (owner_of owner) ∷ []) stands.holds.ops_are ∙ ap (λ h. k.names.ops ++ Some h ∷ []) known));
         };
+        capacity_said = stands.capacity_said;
+        retention_said = stands.retention_said;
         begun = stands.begun;
         capacity_is = stands.capacity_is;
         least = stands.least;
@@ -50,10 +52,10 @@ returns-in-Ok-async_op g c line capacity k kept sent stands =
     )
 
 pub returns-in-Err-OffersSpent-default : goal.returns-in-Err-OffersSpent-default
-returns-in-Err-OffersSpent-default g c line capacity k kept sent stands =
+returns-in-Err-OffersSpent-default g c line settings k kept sent stands =
     let i = c.args.self.now in
     let e = c.in-Err-OffersSpent-default.ensures in
     let r_is = told_made owner_of c.args.resource i.resources.items k.names.resources stands.holds.resources_are ∙ sym c.if-not-is_made.ensures.made in (
-      inl (is_there _ _ r_is ∙ spent i.recorder capacity (numbers_of k.names) k kept stands.keeps.offered (e.spent.0 (λ j. Err (c.in-Err-OffersSpent-default.field-0-0-is j, e.err.0 j)))),
-      rests _ capacity k line (said.op c.args.created c.args.resource c.args.source.now c.args.attrs) kept sent (subst (λ r. Keeps r i.taker i.aggregator capacity k kept sent) (sym e.err.1) stands.keeps),
+      inl (is_there _ _ r_is ∙ spent i.recorder settings.capacity (numbers_of k.names) k kept stands.keeps.offered (e.spent.0 (λ j. Err (c.in-Err-OffersSpent-default.field-0-0-is j, e.err.0 j)))),
+      rests _ settings k line (said.op c.args.created c.args.resource c.args.source.now c.args.attrs) kept sent (subst (λ r. Keeps r i.taker i.aggregator settings k kept sent) (sym e.err.1) stands.keeps),
     )

@@ -18,7 +18,7 @@ use Rattle.tk_live.proofs.Standing.{new_owner, owner_drew, drawn_by_owner, reply
 use Rattle.tk_live.proofs.interpreter.Interpreter.make_resource.Goals as goal
 
 pub returns-in-Ok-user : goal.returns-in-Ok-user
-returns-in-Ok-user g c capacity k kept sent stands =
+returns-in-Ok-user g c settings k kept sent stands =
     let i = c.args.self.now in
     let e = c.in-Ok-resource.ensures in
     let s = c.in-Ok.ensures in
@@ -30,12 +30,12 @@ returns-in-Ok-user g c capacity k kept sent stands =
     let n = length k.names.resources + 1 in
     let attrs = c.args.attrs in
     let h = new_resource n c.args.created attrs in
-    let one = resource_offered i.recorder c.resource.new.self i.taker i.aggregator capacity k kept sent c.in-Ok.spec owner c.in-Ok-resource._became c.args.line c.args.created c.args.kind.now c.args.concrete.now attrs stands.keeps s e.same e.kept e.refused e.alone in
-    let first = new_owner owner (id_of 1 n) Enlist (opening_row c.args.created (first_values c.in-Ok.spec.attrs)) (e.id ∙ resource_id_is i.recorder capacity k kept o) e.owner
+    let one = resource_offered i.recorder c.resource.new.self i.taker i.aggregator settings k kept sent c.in-Ok.spec owner c.in-Ok-resource._became c.args.line c.args.created c.args.kind.now c.args.concrete.now attrs stands.keeps s e.same e.kept e.refused e.alone in
+    let first = new_owner owner (id_of 1 n) Enlist (opening_row c.args.created (first_values c.in-Ok.spec.attrs)) (e.id ∙ resource_id_is i.recorder settings.capacity k kept o) e.owner
     ∙ ap (λ a. record { id = id_of 1 n; opening = Some (opening_row c.args.created (first_values a)); calls = Enlist ∷ [] }) s.4 in
     let known : owner_of after ≡ h = owner_drew resource_meaning owner after user u.id Enlist u.ok u.caller ∙ ap (and_call Enlist) first in
     let drawn : caller_of user ≡ drawn_from h = drawn_by_owner resource_meaning owner after user u.id Enlist u.ok refl u.made_id ∙ ap drawn_from first in (
-      unspent i.recorder capacity (numbers_of k.names) k kept o (λ x. let bad = e.spent.1 x in absurd cc),
+      unspent i.recorder settings.capacity (numbers_of k.names) k kept o (λ x. let bad = e.spent.1 x in absurd cc),
       one.0 ∷ [],
       record {
         keeps = one.1;
@@ -49,6 +49,8 @@ returns-in-Ok-user g c capacity k kept sent stands =
               ∙ (ap (λ l. l ++ Some (caller_of user) ∷ []) stands.holds.users_are ∙ ap (λ x. k.names.users ++ Some x ∷ []) drawn));
           ops_are = stands.holds.ops_are;
         };
+        capacity_said = stands.capacity_said;
+        retention_said = stands.retention_said;
         begun = stands.begun;
         capacity_is = stands.capacity_is;
         least = stands.least;
@@ -59,7 +61,7 @@ returns-in-Ok-user g c capacity k kept sent stands =
     )
 
 pub returns-in-Err-HandlesSpent : goal.returns-in-Err-HandlesSpent
-returns-in-Err-HandlesSpent g c capacity k kept sent stands =
+returns-in-Err-HandlesSpent g c settings k kept sent stands =
     let i = c.args.self.now in
     let e = c.in-Ok-resource.ensures in
     let s = c.in-Ok.ensures in
@@ -67,7 +69,7 @@ returns-in-Err-HandlesSpent g c capacity k kept sent stands =
     let n = length k.names.resources + 1 in
     let attrs = c.args.attrs in
     let h = new_resource n c.args.created attrs in
-    let one = resource_offered i.recorder c.resource.new.self i.taker i.aggregator capacity k kept sent c.in-Ok.spec owner c.in-Ok-resource._became c.args.line c.args.created c.args.kind.now c.args.concrete.now attrs stands.keeps s e.same e.kept e.refused e.alone in
+    let one = resource_offered i.recorder c.resource.new.self i.taker i.aggregator settings k kept sent c.in-Ok.spec owner c.in-Ok-resource._became c.args.line c.args.created c.args.kind.now c.args.concrete.now attrs stands.keeps s e.same e.kept e.refused e.alone in
     let opening = sym (ap (λ v. v.opening) e.owner ∙ ap (λ a. Some (opening_row c.args.created (first_values a))) s.4) in
     let x = c.in-Err-HandlesSpent in
     let refused = (subst (λ r. NotDrawn resource_meaning owner.token Enlist r c.user.new.self.token) x.field-0-is x.ensures.err).1 in (
@@ -76,12 +78,12 @@ returns-in-Err-HandlesSpent g c capacity k kept sent stands =
     )
 
 pub returns : goal.returns
-returns g c capacity k kept sent stands =
+returns g c settings k kept sent stands =
     let i = c.args.self.now in
     let e = c.in-Ok-resource.ensures in
     let s = c.in-Ok.ensures in
     let attrs = c.args.attrs in
-    let one = resource_offered i.recorder c.resource.new.self i.taker i.aggregator capacity k kept sent c.in-Ok.spec c.in-Ok-resource.owner c.in-Ok-resource._became c.args.line c.args.created c.args.kind.now c.args.concrete.now attrs stands.keeps s e.same e.kept e.refused e.alone in (
+    let one = resource_offered i.recorder c.resource.new.self i.taker i.aggregator settings k kept sent c.in-Ok.spec c.in-Ok-resource.owner c.in-Ok-resource._became c.args.line c.args.created c.args.kind.now c.args.concrete.now attrs stands.keeps s e.same e.kept e.refused e.alone in (
       inr tt,
       record { left = step k c.args.line (said.resource c.args.created c.args.kind.now c.args.concrete.now attrs); is_left = inr refl; kept = kept ++ one.0 ∷ []; keeps = one.1 },
     )

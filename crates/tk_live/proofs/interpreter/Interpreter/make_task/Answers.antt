@@ -19,7 +19,7 @@ use Rattle.tk_live.proofs.Standing.{new_owner}
 use Rattle.tk_live.proofs.interpreter.Interpreter.make_task.Goals as goal
 
 pub returns-in-Ok-task : goal.returns-in-Ok-task
-returns-in-Ok-task g c capacity k kept sent stands =
+returns-in-Ok-task g c settings k kept sent stands =
     let i = c.args.self.now in
     let e = c.in-Ok-task.ensures in
     let o = stands.keeps.offered in
@@ -27,14 +27,14 @@ returns-in-Ok-task g c capacity k kept sent stands =
     let owner = c.in-Ok-task.owner in
     let n = length k.names.tasks + 1 in
     let event = MadeTask (events.task_info (next_task_id i.recorder) spec) owner.token.ledger 1 in
-    let info = info_is i.recorder capacity k kept spec c.args.line c.args.kind c.args.name.now o c.in-Ok.ensures.0 c.in-Ok.ensures.1 c.in-Ok.ensures.2 in
-    let one = recorded i.recorder c.task.new.self capacity (numbers_of k.names) k.told kept o e.same event c.in-Ok-task._became e.kept e.refused e.alone in
+    let info = info_is i.recorder settings.capacity k kept spec c.args.line c.args.kind c.args.name.now o c.in-Ok.ensures.0 c.in-Ok.ensures.1 c.in-Ok.ensures.2 in
+    let one = recorded i.recorder c.task.new.self settings.capacity (numbers_of k.names) k.told kept o e.same event c.in-Ok-task._became e.kept e.refused e.alone in
     let names : Names = record k.names { tasks = k.names.tasks ++ Some (new_task n c.args.created) ∷ [] } in
-    let known = new_owner owner (id_of 1 n) Enlist (opening_row c.args.created) (e.id ∙ task_id_is i.recorder capacity k kept o) e.owner in (
-      unspent i.recorder capacity (numbers_of k.names) k kept o (λ h. let bad = e.spent.1 h in absurd cc),
+    let known = new_owner owner (id_of 1 n) Enlist (opening_row c.args.created) (e.id ∙ task_id_is i.recorder settings.capacity k kept o) e.owner in (
+      unspent i.recorder settings.capacity (numbers_of k.names) k kept o (λ h. let bad = e.spent.1 h in absurd cc),
       one.0 ∷ [],
       record {
-        keeps = offered_more i.recorder c.task.new.self i.taker i.aggregator capacity k names (k.told ++ made_task (task_info n c.args.line c.args.kind c.args.name.now) ∷ []) kept (one.0 ∷ []) sent
+        keeps = offered_more i.recorder c.task.new.self i.taker i.aggregator settings k names (k.told ++ made_task (task_info n c.args.line c.args.kind c.args.name.now) ∷ []) kept (one.0 ∷ []) sent
             _ _ stands.keeps e.same one.1 (λ j. record { tasks = sym (length-append k.names.tasks (Some (new_task n c.args.created) ∷ [])) j; resources = nothing_more (length k.names.resources) j; ops = nothing_more (length k.names.ops) j }) (ap (λ x. k.told ++ made_task x ∷ []) info);
         holds = record {
           tasks_are = ap (map (option_map owner_of)) (c.push_reserved.ensures.items ∙ ap (λ l. l ++ Some owner ∷ []) c.in_default-reserve.ensures.items) ∙ (map-append (option_map owner_of) i.tasks.items (Some owner ∷ [])
@@ -45,6 +45,8 @@ returns-in-Ok-task g c capacity k kept sent stands =
           users_are = stands.holds.users_are;
           ops_are = stands.holds.ops_are;
         };
+        capacity_said = stands.capacity_said;
+        retention_said = stands.retention_said;
         begun = stands.begun;
         capacity_is = stands.capacity_is;
         least = stands.least;

@@ -14,7 +14,7 @@ use Rattle.tk_live.proofs.Standing.{on_handles, rests, told_live, owner_called}
 use Rattle.tk_live.proofs.interpreter.Interpreter.self_wake.Goals as goal
 
 pub returns : goal.returns
-returns g c line capacity k kept sent stands =
+returns g c line settings k kept sent stands =
     let i = c.args.self.now in
     let n = c.args.task in
     let m = c.args.moment in
@@ -29,7 +29,7 @@ returns g c line capacity k kept sent stands =
     owner_called task_meaning scope.owner c.wake_by_ref.new.self.owner e.id (WakeRef m true) (Woken c.wake_by_ref.result) caller e.entry refl in (
       ap (λ o. while_polled (option_map is_polled o)) told ∙ ap (λ b. while_polled (Some b)) (sym c.in-Ok.ensures.exact),
       [],
-      on_handles i _ capacity k names kept sent stands refl (record {
+      on_handles i _ settings k names kept sent stands refl (record {
         tasks_are = put_changed owner_of (and_call (WakeRef m true)) n i.tasks.items c.take_seat.new.seats.items c.put_seat.new.seats.items k.names.tasks owner c.finish.result stands.holds.tasks_are told c.in-Some.ensures.left
             c.put_seat.ensures (ap owner_of c.finish.ensures.owner ∙ (woken ∙ ap (λ h. and_call (WakeRef m true) (owner_of h)) c.in-Ok.ensures.held));
         owners = each_back IsOwner n i.tasks.items c.take_seat.new.seats.items c.put_seat.new.seats.items c.finish.result c.in-Some.ensures.left c.put_seat.ensures (ap (λ h. h.token.view.caller) c.finish.ensures.owner ∙ (e.entry.same_caller ∙ caller)) stands.holds.owners;
@@ -41,14 +41,14 @@ returns g c line capacity k kept sent stands =
     )
 
 pub returns-in-Err : goal.returns-in-Err
-returns-in-Err g c line capacity k kept sent stands =
+returns-in-Err g c line settings k kept sent stands =
     let i = c.args.self.now in
     let n = c.args.task in
     let owner = c.in-Some.owner in
     let e = c.in-Err.ensures in
     let told : live_item n k.names.tasks ≡ Some (owner_of owner) = told_live owner_of n i.tasks.items k.names.tasks c.take_seat.result owner stands.holds.tasks_are c.take_seat.ensures.taken c.in-Some.is in (
       inl (ap (λ o. while_polled (option_map is_polled o)) told ∙ (ap (λ b. while_polled (Some b)) (sym e.exact) ∙ ap (λ r. Some (Rattle.tk_live.specs.declared.stop.Stop.TheVariants.Call r)) (sym e.not_polling))),
-      rests _ capacity k line (said.self_wake n c.args.moment) kept sent stands.keeps,
+      rests _ settings k line (said.self_wake n c.args.moment) kept sent stands.keeps,
     )
 
 pub put_seat-requires : goal.put_seat-requires

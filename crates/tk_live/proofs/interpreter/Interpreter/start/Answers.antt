@@ -15,7 +15,7 @@ use Rattle.tk_live.proofs.Standing.{from_not, to_not, on_handles, rests, told_li
 use Rattle.tk_live.proofs.interpreter.Interpreter.start.Goals as goal
 
 pub returns-in-Ok : goal.returns-in-Ok
-returns-in-Ok g c line capacity k kept sent stands =
+returns-in-Ok g c line settings k kept sent stands =
     let i = c.args.self.now in
     let n = c.args.task in
     let owner = c.in-Some.owner in
@@ -25,7 +25,7 @@ returns-in-Ok g c line capacity k kept sent stands =
     let names : Names = task_called n (PollStart c.args.moment) k.names in (
       ap (λ o. unless_polled (option_map is_polled o)) told ∙ ap (λ b. unless_polled (Some b)) open_is,
       [],
-      on_handles i _ capacity k names kept sent stands refl (record {
+      on_handles i _ settings k names kept sent stands refl (record {
         tasks_are = put_changed owner_of (and_call (PollStart c.args.moment)) n i.tasks.items c.take_seat.new.seats.items c.put_seat.new.seats.items k.names.tasks owner c.start_poll.new.self stands.holds.tasks_are told c.in-Some.ensures.left
             c.put_seat.ensures (owner_called task_meaning owner c.start_poll.new.self e.id (PollStart c.args.moment) Done e.caller e.ok refl);
         owners = each_back IsOwner n i.tasks.items c.take_seat.new.seats.items c.put_seat.new.seats.items c.start_poll.new.self c.in-Some.ensures.left c.put_seat.ensures (e.ok.same_caller ∙ e.caller) stands.holds.owners;
@@ -37,7 +37,7 @@ returns-in-Ok g c line capacity k kept sent stands =
     )
 
 pub returns-in-Err : goal.returns-in-Err
-returns-in-Err g c line capacity k kept sent stands =
+returns-in-Err g c line settings k kept sent stands =
     let i = c.args.self.now in
     let n = c.args.task in
     let owner = c.in-Some.owner in
@@ -45,7 +45,7 @@ returns-in-Err g c line capacity k kept sent stands =
     let told : live_item n k.names.tasks ≡ Some (owner_of owner) = told_live owner_of n i.tasks.items k.names.tasks c.take_seat.result owner stands.holds.tasks_are c.take_seat.ensures.taken c.in-Some.is in
     let open_is : is_polling owner ≡ true = to_not (is_polling owner) e.exact in (
       inl (ap (λ o. unless_polled (option_map is_polled o)) told ∙ (ap (λ b. unless_polled (Some b)) open_is ∙ ap (λ r. Some (Rattle.tk_live.specs.declared.stop.Stop.TheVariants.Call r)) (sym e.already_polling.0))),
-      rests _ capacity k line (said.start n c.args.moment) kept sent stands.keeps,
+      rests _ settings k line (said.start n c.args.moment) kept sent stands.keeps,
     )
 
 pub put_seat-requires : goal.put_seat-requires

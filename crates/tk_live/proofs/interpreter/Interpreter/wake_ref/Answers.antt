@@ -15,7 +15,7 @@ pub put_seat-requires : goal.put_seat-requires
 put_seat-requires g c = place_left c.args.number c.args.self.now.wakers.items c.take_seat.new.seats.items c.in-Some.waker (sym c.take_seat.ensures.taken ∙ c.in-Some.is) c.in-Some.ensures.left
 
 pub returns : goal.returns
-returns g c line capacity k kept sent stands =
+returns g c line settings k kept sent stands =
     let i = c.args.self.now in
     let n = c.args.number in
     let m = c.args.moment in
@@ -24,7 +24,7 @@ returns g c line capacity k kept sent stands =
     let told : live_item n k.names.wakers ≡ Some (caller_of waker) = told_live caller_of n i.wakers.items k.names.wakers c.take_seat.result waker stands.holds.wakers_are c.take_seat.ensures.taken c.in-Some.is in (
       ap (λ o. if_there o None) told,
       [],
-      on_handles i _ capacity k (waker_called n (WakeRef m false) k.names) kept sent stands refl (record {
+      on_handles i _ settings k (waker_called n (WakeRef m false) k.names) kept sent stands refl (record {
         tasks_are = stands.holds.tasks_are;
         owners = stands.holds.owners;
         wakers_are = put_changed caller_of (and_call (WakeRef m false)) n i.wakers.items c.take_seat.new.seats.items c.put_seat.new.seats.items k.names.wakers waker c.wake_by_ref.new.self stands.holds.wakers_are told c.in-Some.ensures.left

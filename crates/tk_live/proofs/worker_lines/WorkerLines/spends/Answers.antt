@@ -1,4 +1,4 @@
-use Rattle.std.proofs.Common.{◌≡◌, sym, ap, ◌∙◌}
+use Rattle.std.proofs.Common.{sym, ap, ◌∙◌}
 use Rattle.tk_live.specs.Threads as threads
 use Rattle.tk_live.proofs.Marks.{mark_absent}
 use Rattle.tk_live.proofs.worker_lines.WorkerLines.spends.Goals as goal

@@ -1,0 +1,27 @@
+use Rattle.std.proofs.Common.{rules, ◌≡◌, [], ap, sym, subst, refl}
+use Rattle.tk_events.specs.Handles.{Taking}
+use Rattle.tk_live.specs.Runs.{Sent}
+use Rattle.tk_live.proofs.Publishing.{begins}
+use Rattle.tk_live.proofs.interpreter.Interpreter.new.Goals as goal
+
+pub returns : goal.returns
+returns c =
+    let t = c.in-Ok.taker in
+    let r = c.args.settings.retention in
+    let none : t.taken ≡ [] = ap (λ (x : Taking). x.taken) c.in-Ok.ensures.taker in
+    record {
+      keeps = record {
+        offered = search rules;
+        takes = search rules;
+        are = subst (λ a. Sent a t r [] []) (sym c.in-Ok-aggregator_for.ensures) (begins t r none);
+      };
+      holds = search rules;
+      capacity_said = refl;
+      retention_said = refl;
+      begun = refl;
+      capacity_is = refl;
+      least = search rules;
+      moment = ap (λ a. a.tables.now) c.in-Ok-aggregator_for.ensures;
+      numbers = ap (λ a. a.last) c.in-Ok-aggregator_for.ensures;
+      going = ap (λ a. a.broken) c.in-Ok-aggregator_for.ensures;
+    }
