@@ -9,13 +9,13 @@ use std::sync::Wait;
 use tk_aggregator::{Aggregator, StreamError};
 use tk_events::{Console, Limits, Recorder, Taker};
 
-const LIMITS: Limits = Limits {
+pub(crate) const LIMITS: Limits = Limits {
     recorders: 1,
     capacity: 4,
     offers: 4,
 };
 
-fn is_memory(error: StreamError) -> bool {
+pub(crate) fn is_memory(error: StreamError) -> bool {
     error == StreamError::Memory && error.code() == 1
 }
 

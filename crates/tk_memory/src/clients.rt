@@ -1,7 +1,7 @@
 //! A client: fed, asked for its warnings, and reported on.
 
 use crate::given::FIRST;
-use crate::lines::TEXT;
+use crate::lines::{LEAVES, TEXT};
 use crate::marks::{begin, was_refused};
 use crate::tables::are_same;
 use crate::verdict::{Tale, UNPREPARED, Verdict, answered, told, took_none};
@@ -20,12 +20,12 @@ fn is_memory(fault: Fault) -> bool {
     fault == Fault::Memory && fault.code() == 1
 }
 
-// Both lines, with their line ends.
-fn stream(alloc: Global) -> Option<Vec<u8>> {
+// The first line and a second, with their line ends.
+fn stream(alloc: Global, second: &[u8]) -> Option<Vec<u8>> {
     let mut bytes = Vec::new(alloc);
     bytes.extend_from_slice(TEXT).ok()?;
     bytes.push(b'\n').ok()?;
-    bytes.extend_from_slice(SECOND).ok()?;
+    bytes.extend_from_slice(second).ok()?;
     bytes.push(b'\n').ok()?;
     Some(bytes)
 }
@@ -220,9 +220,20 @@ fn tell_of<W: Write>(alloc: Global, tale: &mut Tale<W>, bytes: &[u8]) {
     tale.tell("none: Client::restart, tables", restart(alloc, bytes));
 }
 
+fn tell_of_gone<W: Write>(alloc: Global, tale: &mut Tale<W>, bytes: &[u8]) {
+    tale.tell(
+        "Client::feed, where a task is gone",
+        feed_behind(alloc, bytes, 0),
+    );
+}
+
 pub(crate) fn tell<W: Write>(alloc: Global, tale: &mut Tale<W>) {
-    match stream(alloc) {
+    match stream(alloc, SECOND) {
         Some(bytes) => tell_of(alloc, tale, bytes.as_slice()),
         None => tale.tell("the client's stream", UNPREPARED),
+    }
+    match stream(alloc, LEAVES) {
+        Some(bytes) => tell_of_gone(alloc, tale, bytes.as_slice()),
+        None => tale.tell("the client's stream of version 2", UNPREPARED),
     }
 }

@@ -11,6 +11,7 @@ mod exec;
 mod given;
 mod handles;
 mod ids;
+mod leaving;
 mod lines;
 mod marks;
 mod tables;
@@ -38,6 +39,7 @@ fn tell_all<R: Threads + Wait + Sync + RandomSource + AllocGlobal, W: Write>(
     exec::tell(rt, alloc, tale);
     events::tell(rt, alloc, tale);
     aggregators::tell(rt, alloc, tale);
+    leaving::tell(rt, alloc, tale);
 }
 
 fn main(rt: HostRuntime) -> ExitCode {
