@@ -40,7 +40,8 @@ fn lets_closed_items_leave(rt: HostRuntime) {
     let alloc = rt.alloc();
     assert!(rt; retention::leaves_behind_its_retention(&rt, alloc));
     assert!(rt; retention::is_told_as_closed_first(&rt, alloc));
-    assert!(rt; retention::stays_where_the_line_is_cut_off(&rt, alloc));
+    assert!(rt; retention::leaves_byte_by_byte(&rt, alloc));
+    retention::assert_it_stays_where_the_line_is_cut_off(&rt);
 }
 
 #[test]

@@ -56,7 +56,7 @@ pub(super) fn writes_no_line_behind_the_last(alloc: Global) -> bool {
 // A line that was cut off is told before the clock is looked at, and a snapshot mends it.
 fn is_broken_before_all(alloc: Global, aggregator: &mut Aggregator) -> bool {
     tells(alloc, aggregator, 5, MOST - 1)
-        && cuts(alloc, aggregator, 6)
+        && cuts(alloc, aggregator, 6, b"", false)
         && is_broken(alloc, aggregator, 4)
         && refuses_all(alloc, aggregator, 4, StreamError::Clock)
         && is_broken(alloc, aggregator, 7)

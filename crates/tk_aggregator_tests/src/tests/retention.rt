@@ -1,9 +1,10 @@
 //! Closed items leave: with which line, and what lets them stay.
 
 use super::given::{are_taken, on_retaining, refresh_and_publish, take_in_task};
-use super::texts::{NOTHING_GONE, STAYED_AND_LEFT};
-use super::writers::cuts;
+use super::texts::{LEFT, NOTHING_GONE, STAYED_AND_LEFT};
+use super::writers::{cuts, goes_out_narrowly, is_broken};
 use std::alloc::Global;
+use std::process::Abort;
 use std::sync::Wait;
 use tk_aggregator::Aggregator;
 
@@ -71,18 +72,59 @@ fn has_it_in_a_snapshot(alloc: Global, aggregator: &mut Aggregator) -> bool {
         && are_taken(alloc, written.as_slice(), 2, aggregator.tables())
 }
 
-// The line that says that it is gone is cut off.
-fn is_cut_when_due<R: Wait>(rt: &R, alloc: Global, aggregator: &mut Aggregator) -> bool {
+// The line that says that it is gone is cut off behind this front.
+fn is_cut_when_due<R: Wait>(
+    rt: &R,
+    alloc: Global,
+    aggregator: &mut Aggregator,
+    front: &[u8],
+    is_silent: bool,
+) -> bool {
     let mut written = Vec::new(alloc);
     shows_it(rt, aggregator, 6, &mut written)
-        && cuts(alloc, aggregator, 20)
+        && cuts(alloc, aggregator, 20, front, is_silent)
+        && is_broken(alloc, aggregator, 20)
         && aggregator.tables().task_count() == 1
 }
 
-pub(super) fn stays_where_the_line_is_cut_off<R: Wait>(rt: &R, alloc: Global) -> bool {
+fn stays_where_the_line_is_cut_off<R: Wait>(
+    rt: &R,
+    alloc: Global,
+    front: &[u8],
+    is_silent: bool,
+) -> bool {
     on_retaining(alloc, 10, |aggregator| {
         takes_in_closed(rt, alloc, aggregator)
-            && is_cut_when_due(rt, alloc, aggregator)
+            && is_cut_when_due(rt, alloc, aggregator, front, is_silent)
             && has_it_in_a_snapshot(alloc, aggregator)
+    })
+}
+
+fn assert_it_stays<R: Abort + Wait + AllocGlobal>(rt: &R, line: &[u8]) {
+    for room in 0..line.len() {
+        for is_silent in [false, true] {
+            assert!(rt;
+                stays_where_the_line_is_cut_off(rt, rt.alloc(), &line[..room], is_silent),
+                "after {room} bytes"
+            );
+        }
+    }
+}
+
+// Behind any number of its bytes.
+pub(super) fn assert_it_stays_where_the_line_is_cut_off<R: Abort + Wait + AllocGlobal>(rt: &R) {
+    assert_it_stays(rt, LEFT.as_bytes());
+}
+
+fn leaves_narrowly<R: Wait>(rt: &R, alloc: Global, aggregator: &mut Aggregator) -> bool {
+    let mut written = Vec::new(alloc);
+    shows_it(rt, aggregator, 6, &mut written)
+        && goes_out_narrowly(alloc, aggregator, 20, LEFT.as_bytes())
+        && aggregator.tables().task_count() == 0
+}
+
+pub(super) fn leaves_byte_by_byte<R: Wait>(rt: &R, alloc: Global) -> bool {
+    on_retaining(alloc, 10, |aggregator| {
+        takes_in_closed(rt, alloc, aggregator) && leaves_narrowly(rt, alloc, aggregator)
     })
 }

@@ -47,3 +47,8 @@ pub(super) const STAYED_AND_LEFT: &str =
 // How a snapshot of version 2 with a new task begins: nothing is gone.
 pub(super) const NOTHING_GONE: &str =
     r#"{"dropped":[0,0,0],"gone_ops":[],"gone_resources":[],"gone_tasks":[],"new_ops":[],"new_resources":[],"new_tasks":[{"id":1099511627777,"#;
+
+// Behind a line that told of a task that is closed for long: it leaves.
+pub(super) const LEFT: &str =
+    r#"{"dropped":[0,0,0],"gone_ops":[],"gone_resources":[],"gone_tasks":[1099511627777],"new_ops":[],"new_resources":[],"new_tasks":[],"now":20,"op_stats":[],"poll_counts":[],"resource_stats":[],"seq":2,"snapshot":false,"task_stats":[],"v":2}
+"#;

@@ -138,8 +138,26 @@ pub(super) fn goes_on_behind_a_cut_second_line<R: Wait>(rt: &R, alloc: Global) -
     })
 }
 
-// Takes nothing of a line at this moment.
-pub(super) fn cuts(alloc: Global, aggregator: &mut Aggregator, now: u64) -> bool {
-    let mut writer = Narrow::new(alloc, 1, 0, false);
+// Whether this front of the line at a moment goes out, and no more.
+pub(super) fn cuts(
+    alloc: Global,
+    aggregator: &mut Aggregator,
+    now: u64,
+    front: &[u8],
+    is_silent: bool,
+) -> bool {
+    let mut writer = Narrow::new(alloc, 7, front.len(), is_silent);
     aggregator.publish(now, &mut writer) == Err(StreamError::WriteFault)
+        && writer.got.as_slice() == front
+}
+
+// Whether the second line is this one, where a writer takes a byte at a time.
+pub(super) fn goes_out_narrowly(
+    alloc: Global,
+    aggregator: &mut Aggregator,
+    now: u64,
+    line: &[u8],
+) -> bool {
+    let mut writer = Narrow::new(alloc, 1, line.len(), false);
+    aggregator.publish(now, &mut writer) == Ok(2) && writer.got.as_slice() == line
 }

@@ -57,6 +57,16 @@ op 1.1 idle polls 0 busy 0 task - resource 1.1 source pop
 pub(super) const UNSIGNED: &[u8] =
     b"{\"dropped\":[0,0,0],\"new_ops\":[],\"new_resources\":[{\"attrs\":[[\"lag\",null,\"i64\"]],\"id\":1099511627777,\"kind\":\"Sync\",\"loc\":[\"script\",1,1],\"parent\":null,\"type\":\"S\"}],\"new_tasks\":[],\"now\":2,\"op_stats\":[],\"poll_counts\":[],\"resource_stats\":[{\"attrs\":[3],\"created\":1,\"dropped\":null,\"handles\":2,\"id\":1099511627777}],\"seq\":1,\"snapshot\":false,\"task_stats\":[],\"v\":1}\n";
 
+// A closed task is told of, stays, and is gone: the stream of a script that publishes at 6, at 14 and at 15.
+pub(super) const GONE: &[u8] =
+    b"{\"dropped\":[0,0,0],\"gone_ops\":[],\"gone_resources\":[],\"gone_tasks\":[],\"new_ops\":[],\"new_resources\":[],\"new_tasks\":[{\"id\":1099511627777,\"kind\":\"spawn\",\"loc\":[\"script\",2,1],\"name\":\"a\"}],\"now\":6,\"op_stats\":[],\"poll_counts\":[],\"resource_stats\":[],\"seq\":1,\"snapshot\":false,\"task_stats\":[{\"busy\":0,\"clones\":0,\"created\":1,\"dropped\":5,\"drops\":0,\"first_poll\":null,\"handles\":1,\"id\":1099511627777,\"last_ended\":null,\"last_started\":null,\"last_wake\":null,\"polling\":false,\"polls\":0,\"sched\":0,\"scheduled\":false,\"self_wakes\":0,\"wakes\":0}],\"v\":2}
+{\"dropped\":[0,0,0],\"gone_ops\":[],\"gone_resources\":[],\"gone_tasks\":[],\"new_ops\":[],\"new_resources\":[],\"new_tasks\":[],\"now\":14,\"op_stats\":[],\"poll_counts\":[],\"resource_stats\":[],\"seq\":2,\"snapshot\":false,\"task_stats\":[],\"v\":2}
+{\"dropped\":[0,0,0],\"gone_ops\":[],\"gone_resources\":[],\"gone_tasks\":[1099511627777],\"new_ops\":[],\"new_resources\":[],\"new_tasks\":[],\"now\":15,\"op_stats\":[],\"poll_counts\":[],\"resource_stats\":[],\"seq\":3,\"snapshot\":false,\"task_stats\":[],\"v\":2}\n";
+
+// A first line that says that a task is gone.
+pub(super) const GONE_AT_FIRST: &[u8] =
+    b"{\"dropped\":[0,0,0],\"gone_ops\":[],\"gone_resources\":[],\"gone_tasks\":[1099511627777],\"new_ops\":[],\"new_resources\":[],\"new_tasks\":[],\"now\":6,\"op_stats\":[],\"poll_counts\":[],\"resource_stats\":[],\"seq\":1,\"snapshot\":false,\"task_stats\":[],\"v\":2}\n";
+
 // Whether the fault has this text.
 pub(super) fn is_text_of(alloc: Global, fault: AppFault, text: &str) -> bool {
     match format!(in alloc; "{fault}") {

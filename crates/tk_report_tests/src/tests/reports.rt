@@ -1,8 +1,8 @@
 //! What views of whole streams write.
 
 use super::given::{
-    LOST, LOST_REPORT, ODD, ODD_WARNINGS, SEMAPHORE, SEMAPHORE_REPORT, SIGNED, SIGNED_REPORT,
-    UNSIGNED, is_text_of, shows_from,
+    GONE, GONE_AT_FIRST, LOST, LOST_REPORT, ODD, ODD_WARNINGS, SEMAPHORE, SEMAPHORE_REPORT, SIGNED,
+    SIGNED_REPORT, UNSIGNED, is_text_of, shows_from,
 };
 use std::alloc::Global;
 use tk_client::Fault;
@@ -20,7 +20,7 @@ const GAP: &[u8] =
 
 // What the view of a stream writes and how many warnings it has, or the fault that it stops at.
 #[rattlefmt::skip]
-const VIEWS: [(&str, &[u8], View, u64, &str, &str); 12] = [
+const VIEWS: [(&str, &[u8], View, u64, &str, &str); 14] = [
     ("a task whose waker is lost",            LOST,                 View::Report, 1, "", LOST_REPORT),
     ("its warnings alone",                    LOST,                 View::Lint,   1, "", "warn 1.1 lost-waker\n"),
     ("each kind of warning",                  ODD,                  View::Lint,   3, "", ODD_WARNINGS),
@@ -28,6 +28,8 @@ const VIEWS: [(&str, &[u8], View, u64, &str, &str); 12] = [
     ("no warning of them",                    SEMAPHORE,            View::Lint,   0, "", ""),
     ("signed attributes",                     SIGNED,               View::Report, 0, "", SIGNED_REPORT),
     ("a value of another kind",               UNSIGNED,             View::Report, 0, "stream after 0 lines: Misfit", ""),
+    ("a task that is gone",                   GONE,                 View::Report, 0, "", "now 15 dropped 0 0 0\n"),
+    ("a task that is gone and never was",     GONE_AT_FIRST,        View::Report, 0, "stream after 0 lines: UnknownId", ""),
     ("an empty stream",                       b"",                  View::Report, 0, "", "now 0 dropped 0 0 0\n"),
     ("no warning of it",                      b"",                  View::Lint,   0, "", ""),
     ("a last line without its end is ignored", b"{\"dropped\":[0,", View::Report, 0, "", "now 0 dropped 0 0 0\n"),
