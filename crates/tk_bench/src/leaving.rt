@@ -104,7 +104,7 @@ fn turns<R: Wait + Clock + Files + AllocGlobal>(
     Ok(Kept { first, last, tasks })
 }
 
-fn kept<R: Wait + Clock + Files + AllocGlobal>(
+fn measure<R: Wait + Clock + Files + AllocGlobal>(
     rt: &R,
     alloc: Global,
     live: u64,
@@ -130,7 +130,7 @@ pub(crate) fn all<R: Wait + Clock + Files + AllocGlobal, W: Write>(
     alloc: Global,
     out: &mut W,
 ) -> Result<(), BenchError> {
-    let kept = kept(rt, alloc, LIVE, TURNS)?;
+    let kept = measure(rt, alloc, LIVE, TURNS)?;
     let made = LIVE.saturating_mul(TURNS);
     write_head(
         out,
@@ -155,7 +155,7 @@ pub(crate) fn small<R: Wait + Clock + Files + AllocGlobal, W: Write>(
     alloc: Global,
     out: &mut W,
 ) -> Result<(), BenchError> {
-    let kept = kept(rt, alloc, 10, 10)?;
+    let kept = measure(rt, alloc, 10, 10)?;
     let stayed = kept.tasks;
     writeln!(
         out,
