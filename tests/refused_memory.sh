@@ -197,6 +197,10 @@ done 3< "$work/plain"
 
 printf 'task 100 spawn main\npublish 200\npublish 300\n' > "$work/input"
 refuse_program run 0
+cp "$root/examples/retention.script" "$work/input" || exit 2
+refuse_program run 0
+cp "$root/examples/retention.script.stdout" "$work/input" || exit 2
+refuse_program view 0
 cp "$root/examples/semaphore.script.stdout" "$work/input" || exit 2
 refuse_program view 0
 cp "$root/examples/lost-waker.script.stdout" "$work/input" || exit 2
