@@ -114,8 +114,7 @@ fn push_task<R: Wait>(
     }
 }
 
-/// Has the aggregator take up to a thousand events in.
-pub(crate) fn collect<R: Wait>(
+fn collect<R: Wait>(
     rt: &R,
     aggregator: &mut Aggregator,
     taker: &mut Taker,

@@ -8,7 +8,6 @@ mod boxes;
 mod error;
 mod floor;
 mod ids;
-mod leaving;
 mod ledgers;
 mod lines;
 mod live;
