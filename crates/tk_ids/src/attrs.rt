@@ -12,6 +12,9 @@ use crate::name::Name;
 use std::alloc::AllocError;
 use std::marker::Model;
 
+/// How many attributes an item has at most.
+pub const MOST_ATTRIBUTES: usize = 6;
+
 /// What a list of attributes tells apart by name.
 trait Named {
     ghost name_of: { Self → List ℕ };
@@ -54,7 +57,7 @@ fn are_distinct<T: Named>(list: &[T]) -> bool
 fn are_attributes<T: Named>(list: &[T]) -> bool
     ensures { result ≡ are_attributes (map T.name_of list.now) }
 {
-    list.len() <= 6 && are_distinct(list)
+    list.len() <= MOST_ATTRIBUTES && are_distinct(list)
 }
 
 /// The attributes that an item declares: at most 6, with distinct names.

@@ -10,11 +10,14 @@ use crate::error::IdError;
 use std::fmt;
 use std::marker::Model;
 
+/// How many recorders there are at most, numbered from 1.
+pub const MOST_RECORDERS: u64 = 64;
+
 fn is_id(value: u64) -> bool
     ensures { result ≡ is_id value }
 {
     let recorder = value >> 40;
-    1 <= recorder && recorder <= 64 && 1 <= value % (1 << 40)
+    1 <= recorder && recorder <= MOST_RECORDERS && 1 <= value % (1 << 40)
 }
 
 fn parts_of(id: u64) -> (u64, u64)

@@ -4,7 +4,7 @@ ghost use Rattle.tk_ids.specs.Ids.{is_id, recorder_of, number_of};
 ghost use Rattle.tk_ids.specs.IdBlocks.{Given, is_recorder, is_given, next_id, given_after, last_number};
 
 use crate::error::IdError;
-use crate::id::{AsyncOpId, ResourceId, TaskId};
+use crate::id::{AsyncOpId, MOST_RECORDERS, ResourceId, TaskId};
 use std::marker::Model;
 
 const LAST_NUMBER: u64 = (1 << 40) - 1;
@@ -69,7 +69,7 @@ impl IdBlock {
             result ≡ if is_given given then Ok given else Err IdError.BadId }
     {
         let counts_fit = tasks <= LAST_NUMBER && resources <= LAST_NUMBER && ops <= LAST_NUMBER;
-        if 1 <= r && r <= 64 && counts_fit {
+        if 1 <= r && r <= MOST_RECORDERS && counts_fit {
             Ok(IdBlock {
                 recorder: r,
                 tasks,

@@ -10,6 +10,7 @@
 //! - [`TaskKind`], [`TaskSpec`], [`ResourceSpec`], [`OpSpec`]: what a caller hands in of an item.
 //! - [`TaskInfo`], [`ResourceInfo`], [`OpInfo`]: what stays of an item as long as it is shown.
 //! - [`Dropped`]: how many items and events were dropped.
+//! - [`MOST_RECORDERS`], [`MOST_ATTRIBUTES`]: how many recorders there are at most, and how many attributes of an item.
 //! - [`IdError`]: why one of these is refused.
 #![tactic(auto)]
 
@@ -24,9 +25,9 @@ mod name;
 mod spec;
 
 pub use attr::{AttrInfo, AttrKind, AttrSpec, AttrValue};
-pub use attrs::{AttrInfos, Attrs};
+pub use attrs::{AttrInfos, Attrs, MOST_ATTRIBUTES};
 pub use error::IdError;
-pub use id::{AsyncOpId, ResourceId, TaskId};
+pub use id::{AsyncOpId, MOST_RECORDERS, ResourceId, TaskId};
 pub use id_block::IdBlock;
 pub use info::{Dropped, OpInfo, ResourceInfo, TaskInfo};
 pub use location::Location;

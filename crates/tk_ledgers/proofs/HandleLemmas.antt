@@ -1,5 +1,5 @@
 -- A handle's role: what it allows, and that calls, splits and joins keep it.
-use Rattle.std.proofs.Common.{◌≡◌, ℕ, true, false, Option, Some, None, ◌++◌, ⊎_elim, ap, sym, ◌∙◌, subst}
+use Rattle.std.proofs.Common.{◌≡◌, ℕ, true, false, Some, ◌++◌, ⊎_elim, ap, sym, ◌∙◌, subst}
 use Rattle.tk_core.specs.declared.reply.Refusal.TheVariants.{HandlesSpent}
 use Rattle.tk_core.specs.declared.reply.Reply.{Reply}
 use Rattle.tk_core.specs.declared.reply.Reply.TheVariants.{Number, Refused}
@@ -10,32 +10,32 @@ use Rattle.tk_cell.specs.declared.view.View.{View}
 use Rattle.tk_cell.specs.Views.{after_split, split_off}
 use Rattle.tk_cell.specs.Calls.{Calls, Joins}
 use Rattle.tk_cell.proofs.RoleLemmas.{owner_role, made_role, owner_calls, made_calls, owner_after_split, made_after_split, owner_joins, made_joins, drawn_made, call_reply}
-use Rattle.tk_ledgers.specs.Handles.{role_may, HasRole, Gives, IsDrawing, IsReading, IsWake}
+use Rattle.tk_ledgers.specs.Handles.{Caller, owner, made_by, role_may, HasRole, Gives, IsDrawing, IsReading, IsWake}
 
 module _ {O C R : Type 0} (m : Meaning O C R) where
-  pub allowed : (role : Option C) (v : View O C R) (call : C) → HasRole m role v → role_may m role call ≡ true → may_call m v.seen v.caller call ≡ true
-  allowed None v call has may = owner_role m v call has may
-  allowed (Some made) v call has may = made_role m made v call has may
+  pub allowed : (role : Caller C) (v : View O C R) (call : C) → HasRole m role v → role_may m role call ≡ true → may_call m v.seen v.caller call ≡ true
+  allowed owner v call has may = owner_role m v call has may
+  allowed (made_by made) v call has may = made_role m made v call has may
 
-  pub going : (role : Option C) (v : View O C R) → HasRole m role v → has_ended m v.seen v.caller ≡ false
-  going None v has = has.going
-  going (Some made) v has = has.going
+  pub going : (role : Caller C) (v : View O C R) → HasRole m role v → has_ended m v.seen v.caller ≡ false
+  going owner v has = has.going
+  going (made_by made) v has = has.going
 
-  pub role_calls : (role : Option C) (v : View O C R) (call : C) (reply : R) (w : View O C R) → Calls m v call reply w → m.is_last call ≡ false → HasRole m role v → HasRole m role w
-  role_calls None v call reply w k isnt has = owner_calls m v call reply w k isnt has
-  role_calls (Some made) v call reply w k isnt has = made_calls m v call reply w k made isnt has
+  pub role_calls : (role : Caller C) (v : View O C R) (call : C) (reply : R) (w : View O C R) → Calls m v call reply w → m.is_last call ≡ false → HasRole m role v → HasRole m role w
+  role_calls owner v call reply w k isnt has = owner_calls m v call reply w k isnt has
+  role_calls (made_by made) v call reply w k isnt has = made_calls m v call reply w k made isnt has
 
-  pub role_after_split : (role : Option C) (v : View O C R) (n : ℕ) → HasRole m role v → HasRole m role (after_split n v)
-  role_after_split None v n has = owner_after_split m v n has
-  role_after_split (Some made) v n has = made_after_split m made v n has
+  pub role_after_split : (role : Caller C) (v : View O C R) (n : ℕ) → HasRole m role v → HasRole m role (after_split n v)
+  role_after_split owner v n has = owner_after_split m v n has
+  role_after_split (made_by made) v n has = made_after_split m made v n has
 
-  pub role_joins : (role : Option C) (v other w : View O C R) → Joins m v other w → HasRole m role v → HasRole m role w
-  role_joins None v other w k has = owner_joins m v other w k has
-  role_joins (Some made) v other w k has = made_joins m v other w k made has
+  pub role_joins : (role : Caller C) (v other w : View O C R) → Joins m v other w → HasRole m role v → HasRole m role w
+  role_joins owner v other w k has = owner_joins m v other w k has
+  role_joins (made_by made) v other w k has = made_joins m v other w k made has
 
   -- the caller of a number that was drawn has the role that the drawing call gives
-  pub drawn_role : (role : Option C) (v : View O C R) (call : C) (reply : R) (w : View O C R) → Calls m v call reply w → NumbersAreNew m → role ≡ Some call → (n : ℕ) → m.number reply ≡ Some n → HasRole m role (split_off n w)
-  drawn_role role v call reply w k law is n drawn = subst (λ (o : Option C). HasRole m o (split_off n w)) (sym is) (drawn_made m v call reply w k n drawn law)
+  pub drawn_role : (role : Caller C) (v : View O C R) (call : C) (reply : R) (w : View O C R) → Calls m v call reply w → NumbersAreNew m → role ≡ made_by call → (n : ℕ) → m.number reply ≡ Some n → HasRole m role (split_off n w)
+  drawn_role role v call reply w k law is n drawn = subst (λ (o : Caller C). HasRole m o (split_off n w)) (sym is) (drawn_made m v call reply w k n drawn law)
 
 module _ {Row C : Type 0} (m : Meaning Row C (Reply Row)) where
   -- the number that a drawing call is answered is the reply's

@@ -1,5 +1,5 @@
 -- What a handle shows, as whom it makes calls, and how further handles are drawn.
-use Rattle.std.specs.Prelude.{◌≡◌, ℕ, ◌⊎◌, Bool, List, Option, Some, None}
+use Rattle.std.specs.Prelude.{◌≡◌, ℕ, ◌⊎◌, Bool, List, Some}
 use Rattle.tk_core.specs.declared.reply.Refusal.{Refusal}
 use Rattle.tk_core.specs.declared.reply.Refusal.TheVariants.{Memory, HandlesSpent}
 use Rattle.tk_core.specs.declared.reply.Reply.{Reply}
@@ -22,16 +22,21 @@ pub record Sight (O C R : Type 0) : Type 0 where
 abbrev pub sight : {O C R : Type 0} → ℕ → Known O C R → Sight O C R
 sight id token = record { id = id; token = token }
 
+-- as whom a handle makes calls: as the owner, or as a caller whose number was answered to a given call
+pub data Caller (C : Type 0) : Type 0 where
+  owner : Caller C
+  made_by : C → Caller C
+
 module _ {O C R : Type 0} (m : Meaning O C R) where
-  -- the calls of a role: the owner's, or those of a caller whose number was answered to a given call
-  abbrev pub role_may : Option C → C → Bool
-  role_may None call = m.owner_may call
-  role_may (Some made) call = m.made_may made call
+  -- the calls of a role
+  abbrev pub role_may : Caller C → C → Bool
+  role_may owner call = m.owner_may call
+  role_may (made_by made) call = m.made_may made call
 
   -- a token makes the calls of a role, and goes on
-  abbrev pub HasRole : Option C → View O C R → Type 0
-  HasRole None v = IsOwner m v
-  HasRole (Some made) v = IsMadeBy m made v
+  abbrev pub HasRole : Caller C → View O C R → Type 0
+  HasRole owner v = IsOwner m v
+  HasRole (made_by made) v = IsMadeBy m made v
 
 -- a call is done or refused
 abbrev pub IsAttempt : {Row : Type 0} → Reply Row → Type 0

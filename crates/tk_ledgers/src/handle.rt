@@ -1,10 +1,10 @@
 //! Inner: a share of a ledger and a token of it, whose caller has a role. Each handle of this crate is one.
-ghost use Rattle.std.specs.Prelude.{◌≡◌, true, false, Some, IfOk, OnOk, IfErr};
+ghost use Rattle.std.specs.Prelude.{◌≡◌, true, false, IfOk, OnOk, IfErr};
 ghost use Rattle.std.specs.Arc.{arc_value};
 ghost use Rattle.tk_core.specs.declared.reply.Reply.TheVariants.{Done, Shown, Woken};
 ghost use Rattle.tk_core.specs.declared.reply.Reply.TheVariants.{Refused as NotDone};
 ghost use Rattle.tk_cell.specs.Calls.{Calls, Joins};
-ghost use Rattle.tk_ledgers.specs.Handles.{role_may, HasRole, Gives, IsDrawing, IsAttempt, IsReading, IsWake, IsDone, Drew, NotDrawn};
+ghost use Rattle.tk_ledgers.specs.Handles.{made_by, role_may, HasRole, Gives, IsDrawing, IsAttempt, IsReading, IsWake, IsDone, Drew, NotDrawn};
 
 use crate::role::Role;
 use std::marker::{Model, PhantomData};
@@ -190,7 +190,7 @@ impl<O: Sequential<Reply = Reply<O>>, K: Role<O::Call>> Handle<O, K> {
         requires may { role_may O.meaning K.role call ≡ true }
         requires goes_on { O.meaning.is_last call ≡ false }
         requires form { Gives O.meaning (IsDrawing O.meaning) call }
-        requires role { D.role ≡ Some call }
+        requires role { D.role ≡ made_by call }
         ensures own { self.new.ledger ≡ self.old.ledger }
         ensures shared { IfOk result (λ made. made.ledger ≡ self.old.ledger) }
         ensures ok { IfOk result (λ made. Drew O.meaning self.old call self.new made) }

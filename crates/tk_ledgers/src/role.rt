@@ -4,50 +4,50 @@ use tk_core::{OpCall, ResourceCall, TaskCall};
 
 /// A role: the owner's, or that of a caller whose number was answered to a given call.
 pub trait Role<C> {
-    ghost use Rattle.std.specs.Prelude.{Option};
+    ghost use Rattle.tk_ledgers.specs.Handles.{Caller};
 
-    ghost role: { Option C };
+    ghost role: { Caller C };
 }
 
 /// The owner's role.
 pub struct Owning {}
 
 impl<C> Role<C> for Owning {
-    ghost use Rattle.std.specs.Prelude.{None};
+    ghost use Rattle.tk_ledgers.specs.Handles.{owner};
 
-    ghost role = { None };
+    ghost role = { owner };
 }
 
 /// The role of a caller that was cloned: a waker's.
 pub struct Waking {}
 
 impl Role<TaskCall> for Waking {
-    ghost use Rattle.std.specs.Prelude.{Some};
+    ghost use Rattle.tk_ledgers.specs.Handles.{made_by};
     ghost use Rattle.tk_core.specs.declared.task.call.TaskCall.TheVariants.{CloneWaker};
 
-    ghost role = { Some CloneWaker };
+    ghost role = { made_by CloneWaker };
 }
 
 /// The role of a caller that was enlisted: an inspector's, and a user's.
 pub struct Enlisted {}
 
 impl Role<TaskCall> for Enlisted {
-    ghost use Rattle.std.specs.Prelude.{Some};
+    ghost use Rattle.tk_ledgers.specs.Handles.{made_by};
     ghost use Rattle.tk_core.specs.declared.task.call.TaskCall.TheVariants.{Enlist};
 
-    ghost role = { Some Enlist };
+    ghost role = { made_by Enlist };
 }
 
 impl Role<ResourceCall> for Enlisted {
-    ghost use Rattle.std.specs.Prelude.{Some};
+    ghost use Rattle.tk_ledgers.specs.Handles.{made_by};
     ghost use Rattle.tk_core.specs.declared.resource.call.ResourceCall.TheVariants.{Enlist};
 
-    ghost role = { Some Enlist };
+    ghost role = { made_by Enlist };
 }
 
 impl Role<OpCall> for Enlisted {
-    ghost use Rattle.std.specs.Prelude.{Some};
+    ghost use Rattle.tk_ledgers.specs.Handles.{made_by};
     ghost use Rattle.tk_core.specs.declared.op.call.OpCall.TheVariants.{Enlist};
 
-    ghost role = { Some Enlist };
+    ghost role = { made_by Enlist };
 }

@@ -475,7 +475,7 @@ impl Line {
     }
 
     /// The line's values are in the ranges of their types. This does nothing.
-    pub fn ranges(&self)
+    pub(crate) fn ranges(&self)
         ensures { IsLine self.now }
     {
         let _dropped = &self.dropped;
@@ -639,7 +639,7 @@ fn take_line(alloc: Global, bytes: &[u8]) -> Result<Option<Line>, AllocError>
     }))
 }
 
-// The version of a line with this.
+// The version of the format, by whether a line says what is gone.
 fn version_of(gone: &Option<Gone>) -> u64
     ensures { result ≡ lines.version_with gone.now }
 {
