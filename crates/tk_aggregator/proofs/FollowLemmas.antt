@@ -197,7 +197,7 @@ infos_staying info_of id_of gone (x ∷ xs) = by (not (is_among gone (id_of (inf
     by true e = ap (λ is. info_of x ∷ is) e
     by false e = e
 
-infos_left : (tables : TablesView) (gone : GoneView) → infos_of (without_gone tables gone) ≡ infos_without gone (infos_of tables)
+pub infos_left : (tables : TablesView) (gone : GoneView) → infos_of (without_gone tables gone) ≡ infos_without gone (infos_of tables)
 infos_left tables gone = λ i. record {
   tasks = infos_staying (λ (t : Task). t.info) (λ (x : TaskInfo). x.id) gone.tasks tables.tasks i;
   resources = infos_staying (λ (t : Resource). t.info) (λ (x : ResourceInfo). x.id) gone.resources tables.resources i;

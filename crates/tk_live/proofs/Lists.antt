@@ -1,7 +1,7 @@
 -- Lists one by one, and marked ones.
 use Rattle.std.proofs.Common.{◌≡◌, ℕ, zero, suc, ◌-◌, ◌<◌, ◌≤◌, Bool, true, false, cond, List, [], ◌∷◌, ◌++◌, length, Some, refl, ap, arith}
 use Rattle.std.specs.Prelude.{slice_get}
-use Rattle.tk_live.specs.Ran.{picked, Each}
+use Rattle.tk_live.specs.Ran.{picked}
 
 -- one more, marked or not
 pub picked_push : {X : Type 0} (bs : List Bool) (xs : List X) (b : Bool) (x : X) → length bs ≡ length xs → picked (bs ++ b ∷ []) (xs ++ x ∷ []) ≡ picked bs xs ++ cond b (x ∷ []) []
@@ -31,17 +31,3 @@ first_push [] false capacity h late i lt low = absurd (omega (arith, late refl, 
 first_push (k ∷ ks) mark capacity h late zero lt low = h 0 (omega arith) low
 first_push (k ∷ ks) mark capacity h late (suc i) lt low =
     first_push ks mark (capacity - 1) (λ j below small. h (suc j) (omega (arith, below)) (omega (arith, small))) (λ no. let le = late no in omega (arith, le)) i (omega (arith, lt)) (omega (arith, low))
-
--- one pair more
-pub each_push : {X Y : Type 0} (R : X → Y → Type 0) (xs : List X) (ys : List Y) (x : X) (y : Y) → Each R xs ys → R x y → Each R (xs ++ x ∷ []) (ys ++ y ∷ [])
-each_push R [] [] x y e r = (r, tt)
-each_push R [] (b ∷ bs) x y e r = absurd e
-each_push R (a ∷ as') [] x y e r = absurd e
-each_push R (a ∷ as') (b ∷ bs) x y e r = (e.0, each_push R as' bs x y e.1 r)
-
--- a weaker relation holds too
-pub each_map : {X Y : Type 0} (R S : X → Y → Type 0) (xs : List X) (ys : List Y) → ((x : X) (y : Y) → R x y → S x y) → Each R xs ys → Each S xs ys
-each_map R S [] [] f e = tt
-each_map R S [] (b ∷ bs) f e = absurd e
-each_map R S (a ∷ as') [] f e = absurd e
-each_map R S (a ∷ as') (b ∷ bs) f e = (f a b e.0, each_map R S as' bs f e.1)

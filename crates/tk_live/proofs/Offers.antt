@@ -1,6 +1,6 @@
 -- What was recorded, kept and taken.
 use Rattle.std.proofs.Common.{◌≡◌, ℕ, ◌+◌, ◌≤◌, Bool, true, false, cond, List, [], ◌∷◌, ◌++◌, length, refl, sym, ap, ◌∙◌, arith, length-append}
-use Rattle.std.specs.Prelude.{map, fold}
+use Rattle.std.specs.Prelude.{map}
 use Rattle.std.proofs.lemmas.List.{map-append, length-map, append-nil}
 use Rattle.std.proofs.lemmas.List.Sums.{sum_by_push}
 use Rattle.tk_events.specs.declared.event.Shown.{Shown}
@@ -9,21 +9,10 @@ use Rattle.tk_events.specs.declared.recorder.Recorded.{Recorded}
 use Rattle.tk_events.specs.declared.recorder.Recorded.TheVariants.{Kept, DroppedFull}
 use Rattle.tk_events.specs.Handles.{Recording, IsSameRecorder, next_offer, with_kept, with_refused}
 use Rattle.tk_events.specs.Offers.{is_task, is_resource, is_op, tasks_in, resources_in, ops_in}
-use Rattle.tk_aggregator.specs.Absorbing.{Infos, absorb, no_infos}
 use Rattle.tk_aggregator.specs.Told.{Told, tells}
-use Rattle.tk_aggregator.specs.Absorbing.{with_told}
-use Rattle.tk_live.specs.Ran.{infos_told}
 use Rattle.tk_live.specs.Ran.{picked}
 use Rattle.tk_live.specs.Runs.{offer_tells, Numbers, Offered}
 use Rattle.tk_live.proofs.Lists.{picked_push, picked_few, first_push}
-
--- events add to infos and counts what they tell
-absorb_told : (infos : Infos) (ss : List Shown) → absorb infos ss ≡ fold with_told infos (map tells ss)
-absorb_told infos [] = refl
-absorb_told infos (s ∷ ss) = absorb_told (with_told infos (tells s)) ss
-
-pub absorb_is : (ss : List Shown) → absorb no_infos ss ≡ infos_told (map tells ss)
-absorb_is ss = absorb_told no_infos ss
 
 -- an offer that was kept, or refused, is one more that was recorded
 module _ (r new : Recording) (capacity : ℕ) (numbers : Numbers) (told : List Told) (kept : List Bool) (o : Offered r capacity numbers told kept) (same : IsSameRecorder r new) (event : Shown) where

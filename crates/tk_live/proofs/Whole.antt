@@ -7,7 +7,7 @@ use Rattle.tk_report.specs.declared.fault.AppFault.TheVariants as faults
 use Rattle.tk_stream.specs.Streams.{Sending}
 use Rattle.tk_live.specs.Commands.{Line, settings_of}
 use Rattle.tk_live.specs.Course.{Course, course_of}
-use Rattle.tk_live.specs.Ran.{CameOf, picked, Each, IsLineOf}
+use Rattle.tk_live.specs.Ran.{CameOf, AreLinesOf, picked}
 use Rattle.tk_live.specs.Runs.{Stays, LinesCame}
 use Rattle.tk_live.specs.Script.{LinesWrite, RunWrites, ReadsAndRuns}
 use Rattle.tk_live.specs.Transfer.{IsReading, IsScript}
@@ -16,7 +16,7 @@ use Rattle.tk_live.specs.declared.settings.Settings.{Settings}
 
 -- what a finished taker tells of an interpreter
 abbrev pub Ends : Interpreter → Type 0
-Ends i = (settings : Settings) (c : Course) (kept : List Bool) (sent : List Sending) → Stays i settings c kept sent → Each (IsLineOf settings.retention (picked kept c.told)) c.due sent
+Ends i = (settings : Settings) (c : Course) (kept : List Bool) (sent : List Sending) → Stays i settings c kept sent → AreLinesOf settings.retention (picked kept c.told) c.due sent
 
 -- it was there to be finished
 pub stays_of : (answers : ℕ → Bool → Type 0) (last : ℕ) (script : List Line) (settings : Settings) (i : Interpreter) (result : Result (Unit {0}) AppFault) (text : List ℕ) → LinesCame answers last script settings i result text
@@ -37,7 +37,6 @@ came_of i settings c kept sent keeps ends = record {
   first = keeps.offered.first;
   lines = ends settings c kept sent keeps;
   stream = keeps.are.stream;
-  leaves = keeps.are.leaves;
 }
 
 -- what was written

@@ -1,24 +1,26 @@
 -- What an interpreter stands for. Inner: no public clause cites it.
 use Rattle.std.specs.Prelude.{◌≡◌, ℕ, ◌+◌, ◌<◌, ◌⊎◌, List, [], ◌∷◌, ◌++◌, map, length, slice_get, Bool, true, false, Option, Some, None, option_map, Result, Ok, Err}
-use Rattle.std.specs.List.{enumerate_from}
+use Rattle.std.specs.List.{enumerate_from, flat_map}
 use Rattle.std.specs.Io.KnownBytes.{Appends}
 use Rattle.tk_ids.specs.IdBlocks.{last_number}
+use Rattle.tk_events.specs.declared.event.Event.{Event}
 use Rattle.tk_events.specs.declared.item.Offer.{Offer}
 use Rattle.tk_events.specs.Handles.{Recording, Taking, offers_made}
-use Rattle.tk_events.specs.Offers.{tasks_in, resources_in, ops_in}
+use Rattle.tk_events.specs.Offers.{shown, tasks_in, resources_in, ops_in}
 use Rattle.tk_ledgers.specs.Tasks.{TaskSight}
 use Rattle.tk_report.specs.declared.fault.AppFault.{AppFault}
 use Rattle.tk_report.specs.declared.fault.AppFault.TheVariants as faults
 use Rattle.tk_stream.specs.Streams.{Sending, GoesOn, lines_sent, bytes_sent, tables_sent, last_sent}
 use Rattle.tk_stream.specs.Tables.{empty_tables}
-use Rattle.tk_aggregator.specs.Aggregates.{Aggregating, FollowsTaker}
+use Rattle.tk_aggregator.specs.Absorbing.{infos_of}
+use Rattle.tk_aggregator.specs.Aggregates.{Aggregating, held_events}
 use Rattle.tk_aggregator.specs.Told.{Told, tells}
 use Rattle.tk_live.specs.Blocks.{Block}
 use Rattle.tk_live.specs.Commands.{Said, Line}
 use Rattle.tk_live.specs.Course.{Names, Due, Course, start_of_all, step, line_after, course_of}
 use Rattle.tk_live.specs.Known.{owner_of, caller_of}
 use Rattle.tk_live.specs.Named.{EachLive}
-use Rattle.tk_live.specs.Ran.{picked, Each, IsLineOf, LeaveWhenDue, written_by}
+use Rattle.tk_live.specs.Ran.{infos_with, picked, EachIsLine, written_by}
 use Rattle.tk_live.specs.Refusals.{stop_name}
 use Rattle.tk_live.specs.Script.{FrontOf, Fronts}
 use Rattle.tk_live.specs.Stops.{Stops, stop_of, line_stop, Leaves, Goes, AllGo, LineStops, LineLeaves}
@@ -77,16 +79,21 @@ pub record Takes (r : Recording) (t : Taking) : Type 0 where
   pub unfinished : t.finished ≡ false
   pub known : t.known ≡ []
 
--- the lines so far: a stream that leads to where the aggregator is, of which items leave when they are due; each has what was
--- taken by then
+-- what an event that is held tells
+abbrev pub held_tells : Option Event → List Told
+held_tells held = map tells (map shown (held_events held))
+
+-- the lines so far: a stream that leads to where the aggregator is. What was taken was told for them, or since, but for a held event
 pub record Sent (a : Aggregating) (t : Taking) (retention : Option ℕ) (due : List Due) (sent : List Sending) : Type 0 where
-  pub follows : FollowsTaker a t
   pub retention_is : a.retention ≡ retention
   pub stream : GoesOn empty_tables 0 sent
-  pub leaves : LeaveWhenDue retention empty_tables sent
   pub told : a.told ≡ tables_sent empty_tables sent
   pub last : a.last ≡ last_sent 0 sent
-  pub lines : Each (IsLineOf retention (map offer_tells t.taken)) due sent
+  pub news : List (List Told)
+  pub since : List Told
+  pub taken : map offer_tells t.taken ≡ flat_map (λ told. told) news ++ (since ++ held_tells a.held)
+  pub infos : infos_of a.tables ≡ infos_with (infos_of a.told) since
+  pub lines : EachIsLine retention empty_tables news due sent
 
 -- what stands even where a command stops the script
 pub record Keeps (r : Recording) (t : Taking) (a : Aggregating) (settings : Settings) (c : Course) (kept : List Bool) (sent : List Sending) : Type 0 where

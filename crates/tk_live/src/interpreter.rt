@@ -53,7 +53,7 @@ impl Interpreter {
     ghost use Rattle.tk_stream.specs.Streams.{Sending};
     ghost use Rattle.tk_live.specs.Commands.{view, IsGood, capacity, retention, is_setting};
     ghost use Rattle.tk_live.specs.Course.{Course, step, step_on, start_of_all};
-    ghost use Rattle.tk_live.specs.Ran.{picked, Each, IsLineOf};
+    ghost use Rattle.tk_live.specs.Ran.{picked, AreLinesOf};
     ghost use Rattle.tk_live.specs.Runs.{StandsFor, Stays, Comes, Does};
     ghost use Rattle.tk_live.specs.declared.settings.Settings.{Settings};
 
@@ -96,7 +96,7 @@ impl Interpreter {
         requires room { (room.items ≡ []) × (1 ≤ vec_capacity room) }
         requires keeps { (settings : Settings) × (c : Course) × (kept : List Bool) × (sent : List Sending) × Stays self settings c kept sent }
         ensures { (settings : Settings) (c : Course) (kept : List Bool) (sent : List Sending) → Stays self settings c kept sent
-            → Each (IsLineOf settings.retention (picked kept c.told)) c.due sent }
+            → AreLinesOf settings.retention (picked kept c.told) c.due sent }
     {
         let Interpreter {
             recorder,

@@ -1,10 +1,9 @@
 //! The lines of the stream.
 ghost use Rattle.std.specs.Prelude.{◌≡◌, OnOk, IfErr};
 ghost use Rattle.std.specs.Io.KnownBytes.{Appends};
-ghost use Rattle.tk_events.specs.Handles.{Taking};
 ghost use Rattle.tk_stream.specs.Spelling.{sent_text};
 ghost use Rattle.tk_stream.specs.Streams.{MaySend};
-ghost use Rattle.tk_aggregator.specs.Aggregates.{FollowsTaker, IsDue, IsSound, Refuses, after_line, line_at, sending_at};
+ghost use Rattle.tk_aggregator.specs.Aggregates.{IsDue, IsSound, Refuses, after_line, line_at, sending_at};
 
 use super::Interpreter;
 use crate::stop::Stop;
@@ -24,7 +23,6 @@ fn write_line<W: Write>(
     ensures sent { OnOk result (Appends (W.contents writer.old) (W.contents writer.new) (sent_text (line_at whole aggregator.old moment))) }
     ensures refused { IfErr result (λ e. Refuses e whole aggregator.old moment aggregator.new (W.contents writer.old) (W.contents writer.new)) }
     ensures may_send { IsDue whole aggregator.old moment → MaySend aggregator.old.told (sending_at whole aggregator.old moment) }
-    ensures follows { (t : Taking) → FollowsTaker aggregator.old t → FollowsTaker aggregator.new t }
 {
     if whole {
         aggregator.snapshot(moment, writer)
@@ -45,7 +43,6 @@ fn send<W: Write>(
     ensures sent { OnOk result (Appends (W.contents writer.old) (W.contents writer.new) (sent_text (line_at whole aggregator.old moment))) }
     ensures refused { IfErr result (λ e. Refuses e whole aggregator.old moment aggregator.new (W.contents writer.old) (W.contents writer.new)) }
     ensures may_send { IsDue whole aggregator.old moment → MaySend aggregator.old.told (sending_at whole aggregator.old moment) }
-    ensures follows { (t : Taking) → FollowsTaker aggregator.old t → FollowsTaker aggregator.new t }
     ensures sound { IsSound aggregator.old }
     ensures stays_sound { IsSound aggregator.new }
 {

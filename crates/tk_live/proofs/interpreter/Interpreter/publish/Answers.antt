@@ -2,28 +2,27 @@ use Rattle.std.proofs.Common.{◌≡◌, ◌+◌, ◌∷◌, ◌++◌, List, [],
 use Rattle.std.specs.Io.KnownBytes.{Appends}
 use Rattle.std.proofs.KnownBytes.{Appends-nil}
 use Rattle.tk_stream.specs.Spelling.{sent_text}
-use Rattle.tk_aggregator.specs.Aggregates.{FollowsTaker, IsSound, Refuses, after_line, sending_at}
+use Rattle.tk_aggregator.specs.Aggregates.{IsSound, Refuses, after_line, sending_at}
 use Rattle.tk_stream.specs.Sent.{IsCut}
 use Rattle.tk_stream.specs.Streams.{Sending, MaySend, line_sent}
 use Rattle.tk_live.specs.Commands as said
 use Rattle.tk_live.specs.Course.{Due}
 use Rattle.tk_live.specs.Runs.{Sent}
-use Rattle.tk_live.proofs.Publishing.{took_these, collected, took_more, line_last, published, one_line, broke, is_due, too_low, none_left, stays, ready, still}
+use Rattle.tk_live.proofs.Publishing.{collected, took_more, line_last, published, one_line, broke, is_due, too_low, none_left, stays, ready, still}
 use Rattle.tk_live.proofs.Standing.{unmarked, rests}
 use Rattle.tk_live.proofs.interpreter.Interpreter.publish.Goals as goal
 
 pub returns-in-Err : goal.returns-in-Err
 returns-in-Err g c line settings k kept sent stands =
     let i = c.args.self.now in
-    let took = took_these i.aggregator c.collect.new.self i.taker c.collect.new.taker i.capacity c.collect.result c.collect.ensures.ok c.collect.ensures.err c.collect.ensures.took in
-    let e = c.collect.ensures in
-    let col = collected i.aggregator c.collect.new.self i.taker c.collect.new.taker settings.retention k.due sent stands.keeps.are (e.follows stands.keeps.are.follows) took e.stays in
+    let took = c.collect.ensures.took in
+    let col = collected i.aggregator c.collect.new.self i.taker c.collect.new.taker i.capacity c.collect.result settings.retention k.due sent stands.keeps.are c.collect.ensures.ok c.collect.ensures.err in
     (inr tt, rests _ settings k line (said.publish c.args.moment c.args.whole) kept sent (stays i.recorder i.taker c.collect.new.taker i.aggregator c.collect.new.self settings k kept sent stands.keeps took col), [], refl, Appends-nil _)
 
 pub returns-in-Ok : goal.returns-in-Ok
 returns-in-Ok g c line settings k kept sent stands =
     let i = c.args.self.now in
-    let took = took_these i.aggregator c.collect.new.self i.taker c.collect.new.taker i.capacity c.collect.result c.collect.ensures.ok c.collect.ensures.err c.collect.ensures.took in
+    let took = c.collect.ensures.took in
     let a = c.refresh.new.self in
     let t = c.collect.new.taker in
     let now = c.args.moment in
@@ -31,7 +30,7 @@ returns-in-Ok g c line settings k kept sent stands =
     let s : Sending = sending_at whole a now in
     let due : List Due = k.due ++ record { moment = now; whole = whole } ∷ [] in
     let e = c.in-Ok.ensures in
-    let is = ready i c.collect.new.self c.refresh.new.self c.collect.new.taker settings k kept sent stands c.collect.ensures.follows took c.collect.ensures.stays c.refresh.ensures.stays c.refresh.ensures.same_infos c.refresh.ensures.held in
+    let is = ready i c.collect.new.self c.refresh.new.self c.collect.new.taker i.capacity c.collect.result settings k kept sent stands c.collect.ensures.ok c.collect.ensures.err c.collect.ensures.stays c.refresh.ensures.stays c.refresh.ensures.same_infos c.refresh.ensures.held in
     let was = is.lines in
     let late = is.moment in
     let count = is.last in
@@ -47,7 +46,7 @@ returns-in-Ok g c line settings k kept sent stands =
           offered = stands.keeps.offered;
           takes = took_more i.recorder i.taker t stands.keeps.takes took;
           are = subst (λ x. Sent x t settings.retention due (sent ++ s ∷ [])) (sym state)
-              (published a t settings.retention k.due sent now whole was good may (subst (λ x. FollowsTaker x t) state (e.follows t was.follows)) (subst (λ x. IsSound x) state e.stays_sound));
+              (published a t settings.retention k.due sent now whole was good may (subst (λ x. IsSound x) state e.stays_sound));
         };
         holds = record {
           tasks_are = stands.holds.tasks_are;
@@ -72,8 +71,8 @@ returns-in-Ok g c line settings k kept sent stands =
 pub returns-in-Err-Clock : goal.returns-in-Err-Clock
 returns-in-Err-Clock g c line settings k kept sent stands =
     let i = c.args.self.now in
-    let took = took_these i.aggregator c.collect.new.self i.taker c.collect.new.taker i.capacity c.collect.result c.collect.ensures.ok c.collect.ensures.err c.collect.ensures.took in
-    let is = ready i c.collect.new.self c.refresh.new.self c.collect.new.taker settings k kept sent stands c.collect.ensures.follows took c.collect.ensures.stays c.refresh.ensures.stays c.refresh.ensures.same_infos c.refresh.ensures.held in
+    let took = c.collect.ensures.took in
+    let is = ready i c.collect.new.self c.refresh.new.self c.collect.new.taker i.capacity c.collect.result settings k kept sent stands c.collect.ensures.ok c.collect.ensures.err c.collect.ensures.stays c.refresh.ensures.stays c.refresh.ensures.same_infos c.refresh.ensures.held in
     let e = c.in-Err-Clock in
     let before = g.W.Write.contents c.args.writer.now in
     let r = subst (λ x. Refuses x c.args.whole c.refresh.new.self c.args.moment c.send.new.aggregator before (g.W.Write.contents c.send.new.writer)) e.field-0-is e.ensures.refused in
@@ -82,8 +81,8 @@ returns-in-Err-Clock g c line settings k kept sent stands =
 pub returns-in-Err-NumbersSpent : goal.returns-in-Err-NumbersSpent
 returns-in-Err-NumbersSpent g c line settings k kept sent stands =
     let i = c.args.self.now in
-    let took = took_these i.aggregator c.collect.new.self i.taker c.collect.new.taker i.capacity c.collect.result c.collect.ensures.ok c.collect.ensures.err c.collect.ensures.took in
-    let is = ready i c.collect.new.self c.refresh.new.self c.collect.new.taker settings k kept sent stands c.collect.ensures.follows took c.collect.ensures.stays c.refresh.ensures.stays c.refresh.ensures.same_infos c.refresh.ensures.held in
+    let took = c.collect.ensures.took in
+    let is = ready i c.collect.new.self c.refresh.new.self c.collect.new.taker i.capacity c.collect.result settings k kept sent stands c.collect.ensures.ok c.collect.ensures.err c.collect.ensures.stays c.refresh.ensures.stays c.refresh.ensures.same_infos c.refresh.ensures.held in
     let e = c.in-Err-NumbersSpent in
     let before = g.W.Write.contents c.args.writer.now in
     let r = subst (λ x. Refuses x c.args.whole c.refresh.new.self c.args.moment c.send.new.aggregator before (g.W.Write.contents c.send.new.writer)) e.field-0-is e.ensures.refused in (
@@ -97,8 +96,8 @@ returns-in-Err-NumbersSpent g c line settings k kept sent stands =
 pub returns-in-Err-Memory : goal.returns-in-Err-Memory
 returns-in-Err-Memory g c line settings k kept sent stands =
     let i = c.args.self.now in
-    let took = took_these i.aggregator c.collect.new.self i.taker c.collect.new.taker i.capacity c.collect.result c.collect.ensures.ok c.collect.ensures.err c.collect.ensures.took in
-    let is = ready i c.collect.new.self c.refresh.new.self c.collect.new.taker settings k kept sent stands c.collect.ensures.follows took c.collect.ensures.stays c.refresh.ensures.stays c.refresh.ensures.same_infos c.refresh.ensures.held in
+    let took = c.collect.ensures.took in
+    let is = ready i c.collect.new.self c.refresh.new.self c.collect.new.taker i.capacity c.collect.result settings k kept sent stands c.collect.ensures.ok c.collect.ensures.err c.collect.ensures.stays c.refresh.ensures.stays c.refresh.ensures.same_infos c.refresh.ensures.held in
     let e = c.in-Err-Memory in
     let before = g.W.Write.contents c.args.writer.now in
     let r = subst (λ x. Refuses x c.args.whole c.refresh.new.self c.args.moment c.send.new.aggregator before (g.W.Write.contents c.send.new.writer)) e.field-0-is e.ensures.refused in
@@ -107,13 +106,13 @@ returns-in-Err-Memory g c line settings k kept sent stands =
 pub returns-in-Err-WriteFault : goal.returns-in-Err-WriteFault
 returns-in-Err-WriteFault g c line settings k kept sent stands =
     let i = c.args.self.now in
-    let took = took_these i.aggregator c.collect.new.self i.taker c.collect.new.taker i.capacity c.collect.result c.collect.ensures.ok c.collect.ensures.err c.collect.ensures.took in
+    let took = c.collect.ensures.took in
     let a = c.refresh.new.self in
     let e = c.in-Err-WriteFault in
     let before = g.W.Write.contents c.args.writer.now in
     let r = subst (λ x. Refuses x c.args.whole a c.args.moment c.send.new.aggregator before (g.W.Write.contents c.send.new.writer)) e.field-0-is e.ensures.refused in
     let s : Sending = sending_at c.args.whole a c.args.moment in
-    let is = ready i c.collect.new.self c.refresh.new.self c.collect.new.taker settings k kept sent stands c.collect.ensures.follows took c.collect.ensures.stays c.refresh.ensures.stays c.refresh.ensures.same_infos c.refresh.ensures.held in
+    let is = ready i c.collect.new.self c.refresh.new.self c.collect.new.taker i.capacity c.collect.result settings k kept sent stands c.collect.ensures.ok c.collect.ensures.err c.collect.ensures.stays c.refresh.ensures.stays c.refresh.ensures.same_infos c.refresh.ensures.held in
     let was = is.lines in
     let may = e.ensures.may_send r.1 in (
       inr tt,
@@ -127,8 +126,8 @@ returns-in-Err-WriteFault g c line settings k kept sent stands =
 pub returns-in-Err-Broken : goal.returns-in-Err-Broken
 returns-in-Err-Broken g c line settings k kept sent stands =
     let i = c.args.self.now in
-    let took = took_these i.aggregator c.collect.new.self i.taker c.collect.new.taker i.capacity c.collect.result c.collect.ensures.ok c.collect.ensures.err c.collect.ensures.took in
-    let is = ready i c.collect.new.self c.refresh.new.self c.collect.new.taker settings k kept sent stands c.collect.ensures.follows took c.collect.ensures.stays c.refresh.ensures.stays c.refresh.ensures.same_infos c.refresh.ensures.held in
+    let took = c.collect.ensures.took in
+    let is = ready i c.collect.new.self c.refresh.new.self c.collect.new.taker i.capacity c.collect.result settings k kept sent stands c.collect.ensures.ok c.collect.ensures.err c.collect.ensures.stays c.refresh.ensures.stays c.refresh.ensures.same_infos c.refresh.ensures.held in
     let e = c.in-Err-Broken in
     let r = subst (λ x. Refuses x c.args.whole c.refresh.new.self c.args.moment c.send.new.aggregator (g.W.Write.contents c.args.writer.now) (g.W.Write.contents c.send.new.writer)) e.field-0-is e.ensures.refused in
     let goes = is.going in
