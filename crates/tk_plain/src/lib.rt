@@ -5,6 +5,7 @@
 #![tactic(auto)]
 
 mod attributes;
+mod gone;
 mod lines;
 mod ops;
 mod resources;

@@ -1,8 +1,9 @@
 //! The lines of the stream.
 ghost use Rattle.std.specs.Prelude.{◌≤◌, ◌^◌};
 
+use crate::gone::Gone;
 use crate::run::Plain;
-use std::alloc::Global;
+use std::alloc::{AllocError, Global};
 use std::io::Write;
 use tk_ids::Dropped;
 use tk_live::Stop;
@@ -10,6 +11,9 @@ use tk_stream::{Line, LineError, Tables, send};
 
 /// The greatest number of a line.
 const LAST_LINE: u64 = 1 << 63;
+
+// What each line begins with that has lost nothing.
+const NO_DROPS: &[u8] = b"{\"dropped\":[0,0,0],";
 
 const NONE_DROPPED: Dropped = Dropped {
     tasks: 0,
@@ -35,31 +39,139 @@ fn line_between(
     }
 }
 
-// The text of a line, with its end.
-fn text_of(
-    alloc: Global,
-    told: &Tables,
-    next: &Tables,
-    seq: u64,
-    whole: bool,
-) -> Result<Vec<u8>, LineError>
-    requires { (1 ≤ seq) × (seq ≤ 2 ^ 63) }
-{
-    let line = line_between(alloc, told, next, seq, whole)?;
-    let mut text = line.write()?;
-    text.push(b'\n')?;
-    Ok(text)
+// The text of a line as version 2 has it: what is gone stands between its first two keys.
+fn second_version(alloc: Global, text: &[u8], gone: &Gone) -> Result<Vec<u8>, AllocError> {
+    let lists = gone.lists(alloc)?;
+    let mut out = Vec::new(alloc);
+    out.extend_from_slice(NO_DROPS)?;
+    out.extend_from_slice(lists.as_bytes())?;
+    let end = text.len().saturating_sub(2);
+    out.extend_from_slice(text.get(NO_DROPS.len()..end).unwrap_or(&[]))?;
+    out.extend_from_slice(b"2}")?;
+    Ok(out)
 }
 
 impl Plain {
-    // The tables as a line of this moment tells of them.
-    fn tables_at(&self, now: u64) -> Result<Tables, Stop> {
-        match self.tables.copy() {
-            Ok(tables) => {
-                let mut tables = tables;
-                tables.set_totals(NONE_DROPPED, now);
-                Ok(tables)
+    // What leaves with a line of this moment: nothing without a retention, and nothing with a snapshot.
+    fn leaving(&self, now: u64, whole: bool) -> Result<Gone, AllocError> {
+        match self.retention {
+            Some(retention) => {
+                if whole {
+                    return Ok(Gone::none(self.alloc));
+                }
+                Gone::due(self.alloc, &self.told, retention, now)
             }
+            None => Ok(Gone::none(self.alloc)),
+        }
+    }
+
+    // The tables as a line of this moment tells of them, without what has left and what leaves.
+    fn tables_at(&self, now: u64, leaving: &Gone) -> Result<Tables, AllocError> {
+        let mut tables = self.tables.copy()?;
+        self.left.leave(&mut tables);
+        leaving.leave(&mut tables);
+        tables.set_totals(NONE_DROPPED, now);
+        Ok(tables)
+    }
+
+    // The line of version 1 to these tables. It tells nothing of what leaves.
+    fn line_to(
+        &self,
+        next: &Tables,
+        leaving: &Gone,
+        seq: u64,
+        whole: bool,
+    ) -> Result<Line, LineError>
+        requires { (1 ≤ seq) × (seq ≤ 2 ^ 63) }
+    {
+        let mut told = self.told.copy()?;
+        leaving.leave(&mut told);
+        line_between(self.alloc, &told, next, seq, whole)
+    }
+
+    // The text of a line, with its end.
+    fn text_of(&self, line: &Line, leaving: &Gone) -> Result<Vec<u8>, LineError> {
+        let text = line.write()?;
+        let mut text = self.in_version(text, leaving)?;
+        text.push(b'\n')?;
+        Ok(text)
+    }
+
+    // The text in the version of this run.
+    fn in_version(&self, text: Vec<u8>, leaving: &Gone) -> Result<Vec<u8>, AllocError> {
+        if self.retention.is_none() {
+            return Ok(text);
+        }
+        second_version(self.alloc, text.as_slice(), leaving)
+    }
+
+    fn text_to(
+        &self,
+        next: &Tables,
+        leaving: &Gone,
+        seq: u64,
+        whole: bool,
+    ) -> Result<Vec<u8>, LineError>
+        requires { (1 ≤ seq) × (seq ≤ 2 ^ 63) }
+    {
+        let line = self.line_to(next, leaving, seq, whole)?;
+        self.text_of(&line, leaving)
+    }
+
+    // Writes the line to these tables.
+    fn write_to<W: Write>(
+        &self,
+        next: &Tables,
+        leaving: &Gone,
+        seq: u64,
+        whole: bool,
+        writer: &mut W,
+    ) -> Result<(), Stop>
+        requires { (1 ≤ seq) × (seq ≤ 2 ^ 63) }
+    {
+        let Ok(text) = self.text_to(next, leaving, seq, whole) else {
+            return Err(Stop::Memory);
+        };
+        if send(writer, text.as_slice()).is_err() {
+            return Err(Stop::WriteFault);
+        }
+        Ok(())
+    }
+
+    // The same, and keeps the tables as those that were told.
+    fn tell<W: Write>(
+        &mut self,
+        next: Tables,
+        leaving: &Gone,
+        seq: u64,
+        whole: bool,
+        writer: &mut W,
+    ) -> Result<(), Stop>
+        requires { (1 ≤ seq) × (seq ≤ 2 ^ 63) }
+    {
+        self.write_to(&next, leaving, seq, whole, writer)?;
+        self.told = next;
+        self.lines = seq;
+        match self.left.add(leaving) {
+            Ok(()) => Ok(()),
+            Err(_) => Err(Stop::Memory),
+        }
+    }
+
+    // A line without these items.
+    fn publish_without<W: Write>(
+        &mut self,
+        leaving: &Gone,
+        now: u64,
+        whole: bool,
+        writer: &mut W,
+    ) -> Result<(), Stop> {
+        if self.lines >= LAST_LINE {
+            return Err(Stop::NumbersSpent);
+        }
+        let seq = self.lines + 1;
+        match self.tables_at(now, leaving) {
+            Ok(next) => self.tell(next, leaving, seq, whole, writer),
             Err(_) => Err(Stop::Memory),
         }
     }
@@ -74,19 +186,9 @@ impl Plain {
         if now < self.told.now() {
             return Err(Stop::Clock);
         }
-        if self.lines >= LAST_LINE {
-            return Err(Stop::NumbersSpent);
+        match self.leaving(now, whole) {
+            Ok(leaving) => self.publish_without(&leaving, now, whole, writer),
+            Err(_) => Err(Stop::Memory),
         }
-        let seq = self.lines + 1;
-        let next = self.tables_at(now)?;
-        let Ok(text) = text_of(self.alloc, &self.told, &next, seq, whole) else {
-            return Err(Stop::Memory);
-        };
-        if send(writer, text.as_slice()).is_err() {
-            return Err(Stop::WriteFault);
-        }
-        self.told = next;
-        self.lines = seq;
-        Ok(())
     }
 }

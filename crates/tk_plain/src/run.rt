@@ -1,5 +1,6 @@
 //! What a script's commands have made, and what each does to it.
 
+use crate::gone::Gone;
 use std::alloc::{AllocError, Global};
 use std::io::Write;
 use tk_core::{OpCall, ResourceCall, TaskCall};
@@ -19,13 +20,16 @@ pub(crate) struct Waker {
 pub(crate) struct Plain {
     pub(crate) alloc: Global,
     pub(crate) ids: IdBlock,
+    // All items, also those that have left.
     pub(crate) tables: Tables,
     pub(crate) wakers: Vec<Waker>,
     // The tables of the last line.
     pub(crate) told: Tables,
     pub(crate) lines: u64,
+    // How long a closed item stays, if it leaves, and what has left.
+    pub(crate) retention: Option<u64>,
+    pub(crate) left: Gone,
     pub(crate) capacity_said: bool,
-    pub(crate) retention_said: bool,
     pub(crate) begun: bool,
 }
 
@@ -53,8 +57,9 @@ impl Plain {
             wakers: Vec::new(alloc),
             told,
             lines: 0,
+            retention: None,
+            left: Gone::none(alloc),
             capacity_said: false,
-            retention_said: false,
             begun: false,
         })
     }
@@ -67,12 +72,11 @@ impl Plain {
         Ok(())
     }
 
-    // Nothing leaves here: the tests compare scripts that say it too late.
-    fn say_retention(&mut self) -> Result<(), Stop> {
-        if self.begun || self.retention_said {
+    fn say_retention(&mut self, span: u64) -> Result<(), Stop> {
+        if self.begun || self.retention.is_some() {
             return Err(Stop::BadCommand);
         }
-        self.retention_said = true;
+        self.retention = Some(span);
         Ok(())
     }
 
@@ -80,7 +84,7 @@ impl Plain {
     fn apply_setting(&mut self, command: &Command<'_>) -> Option<Result<(), Stop>> {
         match command {
             Command::Capacity { .. } => Some(self.say_capacity()),
-            Command::Retention { .. } => Some(self.say_retention()),
+            Command::Retention { span } => Some(self.say_retention(*span)),
             _ => None,
         }
     }

@@ -25,6 +25,8 @@ struct Came {
     done: u64,
     stopped: u64,
     dropped: u64,
+    // Of those that lost nothing, how many let an item leave.
+    left: u64,
     // Which of the names were seen.
     names: [bool; 9],
 }
@@ -36,6 +38,16 @@ fn lost_nothing(stream: &[u8]) -> bool {
         }
     }
     true
+}
+
+// Whether a line says that an item is gone: an id stands in a list of those.
+fn lets_items_leave(stream: &[u8]) -> bool {
+    let Ok(text) = str::from_utf8(stream) else {
+        return false;
+    };
+    text.contains("\"gone_ops\":[1")
+        || text.contains("\"gone_resources\":[1")
+        || text.contains("\"gone_tasks\":[1")
 }
 
 fn lines_in(stream: &[u8]) -> u64 {
@@ -57,7 +69,7 @@ impl Came {
         }
     }
 
-    fn note(&mut self, end: Result<(), AppFault>, lost_nothing: bool) {
+    fn note(&mut self, end: Result<(), AppFault>, stream: &[u8]) {
         match end {
             Ok(()) => self.done = self.done.saturating_add(1),
             Err(AppFault::Script { name, .. }) => {
@@ -66,8 +78,10 @@ impl Came {
             }
             Err(_) => {}
         }
-        if !lost_nothing {
+        if !lost_nothing(stream) {
             self.dropped = self.dropped.saturating_add(1);
+        } else if lets_items_leave(stream) {
+            self.left = self.left.saturating_add(1);
         }
     }
 }
@@ -95,7 +109,7 @@ fn runs_alike<R: Threads + Wait + Sync>(
     let mut reader = script;
     let mut written = Vec::new(alloc);
     let end = run_script(rt, alloc, &mut reader, &mut written, &Open);
-    came.note(end, lost_nothing(written.as_slice()));
+    came.note(end, written.as_slice());
     is_alike(alloc, script, end, written.as_slice())
 }
 
@@ -113,7 +127,8 @@ fn assert_alike<R: Abort + Threads + Wait + Sync + AllocGlobal>(
     }
 }
 
-// Of 1,000 scripts some hundreds run to their ends, some hundreds stop, by each name that a text can tell, and some lose events.
+// Of 1,000 scripts some hundreds run to their ends, some hundreds stop, by each name that a text can tell, some lose events, and of some
+// items leave.
 #[test]
 fn random_scripts_run_as_on_plain_rows(rt: HostRuntime) {
     let mut random = Pcg32::new(20, 54);
@@ -121,6 +136,7 @@ fn random_scripts_run_as_on_plain_rows(rt: HostRuntime) {
         done: 0,
         stopped: 0,
         dropped: 0,
+        left: 0,
         names: [false; 9],
     };
     for _ in 0..1000 {
@@ -129,5 +145,6 @@ fn random_scripts_run_as_on_plain_rows(rt: HostRuntime) {
     assert!(rt; came.done > 300, "{} were done", came.done);
     assert!(rt; came.stopped > 300, "{} stopped", came.stopped);
     assert!(rt; came.dropped > 50, "{} lost something", came.dropped);
+    assert!(rt; came.left > 50, "items left in {}", came.left);
     assert!(rt; came.names == [true; 9], "{:?}", came.names);
 }

@@ -376,7 +376,7 @@ fn publish(random: &mut Pcg32, made: &mut Made, out: &mut String) -> Result<(), 
     if wild && made.now > 0 {
         return put(out, word, &[made.now - 1], "");
     }
-    made.now = made.now.saturating_add(below(random, 100));
+    made.now = made.now.saturating_add(below(random, 300));
     put(out, word, &[made.now], "")
 }
 
@@ -413,7 +413,8 @@ fn nothing(alloc: Global) -> Made {
     }
 }
 
-/// A script of some lines, one in four with a small capacity of its own, that ends with a line of the stream.
+/// A script of some lines, one in four with a small capacity of its own and one in four with a retention, that ends with a line of
+/// the stream.
 pub(super) fn script_of(alloc: Global, random: &mut Pcg32) -> Result<String, AllocError> {
     let mut out = String::new(alloc);
     let mut made = nothing(alloc);
@@ -424,6 +425,9 @@ pub(super) fn script_of(alloc: Global, random: &mut Pcg32) -> Result<String, All
             &[below(random, 12).saturating_add(1)],
             "",
         )?;
+    }
+    if happens(random, 4) {
+        put(&mut out, "retention", &[below(random, 100)], "")?;
     }
     for _ in 0..below(random, 80).saturating_add(8) {
         add_line(random, &mut made, &mut out)?;
