@@ -114,7 +114,8 @@ fn push_task<R: Wait>(
     }
 }
 
-fn collect<R: Wait>(
+/// Has the aggregator take in what was recorded.
+pub(crate) fn collect<R: Wait>(
     rt: &R,
     aggregator: &mut Aggregator,
     taker: &mut Taker,

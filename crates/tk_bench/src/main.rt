@@ -8,6 +8,7 @@ mod boxes;
 mod error;
 mod floor;
 mod ids;
+mod leaving;
 mod ledgers;
 mod lines;
 mod live;

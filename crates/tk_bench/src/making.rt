@@ -80,8 +80,8 @@ fn make_all<R: Wait>(
     Ok(())
 }
 
-// The resident memory of this program, in bytes, as the system tells it.
-fn resident<R: Files + AllocGlobal>(rt: &R) -> Result<u64, BenchError> {
+/// The resident memory of this program, in bytes, as the system tells it.
+pub(crate) fn resident<R: Files + AllocGlobal>(rt: &R) -> Result<u64, BenchError> {
     let text = fs::read_to_string(rt, "/proc/self/statm")?;
     let pages = text.split(' ').nth(1).unwrap_or("");
     match pages.parse::<u64>() {

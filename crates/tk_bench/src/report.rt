@@ -5,7 +5,7 @@ use crate::ledgers::{Call, on_a_row, on_one_task, on_own_tasks};
 use crate::lines::{LineTimes, Part, Stream, Waker, changed, tables_of};
 use crate::rounds::{ROUNDS, Rounds};
 use crate::table::{tenths, write_head, write_row};
-use crate::{floor, live_report, making, script_report, text_report};
+use crate::{floor, leaving, live_report, making, script_report, text_report};
 use std::alloc::{AllocGlobal, Global};
 use std::fs::Files;
 use std::io::Write;
@@ -342,6 +342,7 @@ pub(crate) fn all<R: Wait + Threads + Clock + Files + AllocGlobal + Sync, W: Wri
     alloc: Global,
     out: &mut W,
 ) -> Result<(), BenchError> {
+    leaving::all(rt, alloc, out)?;
     calls(rt, alloc, out, 200_000)?;
     floor::all(rt, alloc, out)?;
     making::all(rt, alloc, out)?;
@@ -369,6 +370,7 @@ pub(crate) fn small<R: Wait + Threads + Clock + Files + AllocGlobal + Sync, W: W
     }
     floor::small(rt, alloc, out)?;
     making::small(rt, alloc, out)?;
+    leaving::small(rt, alloc, out)?;
     small_line(rt, alloc, out)?;
     text_report::small(alloc, out)?;
     live_report::small(rt, alloc, out)?;
