@@ -52,19 +52,26 @@ class Edit:
     def files(self):
         return {file for file, _, _ in self.changes}
 
-    def apply(self, crate):
+    def texts(self, crate):
+        """The files that it changes, as they are with it."""
         if (self.function is None) == (self.tests is None):
             raise BadEdit("it names no function and no tests, or both")
         if not self.changes:
             raise BadEdit("it has no old and new text")
+        texts = {}
         for file, old, new in self.changes:
-            path = os.path.join(crate, file)
-            with open(path) as source:
-                text = source.read()
-            if text.count(old) != 1:
+            if file not in texts:
+                with open(os.path.join(crate, file)) as source:
+                    texts[file] = source.read()
+            if texts[file].count(old) != 1:
                 raise BadEdit(f"an old text does not stand once in {file}")
-            with open(path, "w") as source:
-                source.write(text.replace(old, new))
+            texts[file] = texts[file].replace(old, new)
+        return texts
+
+    def apply(self, crate):
+        for file, text in self.texts(crate).items():
+            with open(os.path.join(crate, file), "w") as source:
+                source.write(text)
 
 
 def groups_of(edits):
@@ -210,9 +217,27 @@ def try_edits(crate, copy, edits):
             yield from try_edits(crate, copy, group)
 
 
-def try_crate(crate, only):
+def edits_of(crate):
     folder = os.path.join(CRATES, crate, "wrong-bodies")
-    edits = [Edit(os.path.join(folder, name)) for name in sorted(os.listdir(folder)) if name.endswith(".edit")]
+    return [Edit(os.path.join(folder, name)) for name in sorted(os.listdir(folder)) if name.endswith(".edit")]
+
+
+def fit(crates):
+    """Whether each wrong body can still be put into the sources, which takes no proof."""
+    edits = [(crate, edit) for crate in crates for edit in edits_of(crate)]
+    strange = 0
+    for crate, edit in edits:
+        try:
+            edit.texts(os.path.join(CRATES, crate))
+        except BadEdit as bad:
+            print(f"{crate}/{edit.name}: BAD EDIT: {bad}")
+            strange += 1
+    print(f"{len(edits) - strange} fit the sources, {strange} do not")
+    return edits and not strange
+
+
+def try_crate(crate, only):
+    edits = edits_of(crate)
     for name in set(only).difference(edit.name for edit in edits):
         sys.exit(f"{crate} has no wrong body {name}")
     edits = [edit for edit in edits if not only or edit.name in only]
@@ -233,10 +258,14 @@ def try_crate(crate, only):
         return said + [line for group in groups_of(edits) for line in try_edits(crate, copy, group)]
 
 
+def crates_with_edits():
+    return sorted(name for name in os.listdir(CRATES) if os.path.isdir(os.path.join(CRATES, name, "wrong-bodies")))
+
+
 def main(words):
-    crates = words[:1] or sorted(
-        name for name in os.listdir(CRATES) if os.path.isdir(os.path.join(CRATES, name, "wrong-bodies"))
-    )
+    if words[:1] == ["--fit"]:
+        sys.exit(0 if fit(crates_with_edits()) else 1)
+    crates = words[:1] or crates_with_edits()
     for crate in crates:
         if not os.path.isdir(os.path.join(CRATES, crate, "wrong-bodies")):
             sys.exit(f"there are no wrong bodies of {crate}")
