@@ -2,7 +2,7 @@
 //! with the line behind.
 
 use crate::error::BenchError;
-use crate::live::{collect, publish_time, task_of};
+use crate::live::{collect, publish_time, push_task};
 use crate::making::resident;
 use crate::table::{tenths, write_head, write_row};
 use std::alloc::{AllocGlobal, Global};
@@ -24,19 +24,6 @@ struct Kept {
     tasks: u64,
 }
 
-fn push<R: Wait>(
-    rt: &R,
-    alloc: Global,
-    recorder: &mut Recorder,
-    owners: &mut Vec<TaskOwner>,
-) -> Result<(), BenchError> {
-    let owner = task_of(rt, alloc, recorder, 0)?;
-    match owners.push(owner) {
-        Ok(()) => Ok(()),
-        Err(_) => Err(BenchError::Memory),
-    }
-}
-
 fn push_all<R: Wait>(
     rt: &R,
     alloc: Global,
@@ -45,7 +32,7 @@ fn push_all<R: Wait>(
     live: u64,
 ) -> Result<(), BenchError> {
     for _ in 0..live {
-        push(rt, alloc, recorder, owners)?;
+        push_task(rt, alloc, recorder, owners, 0)?;
     }
     Ok(())
 }
@@ -225,7 +212,7 @@ fn measure<R: Wait + Clock + Files + AllocGlobal, W: Write>(
 }
 
 /// Measures, and writes the table. Memory that something measured earlier has let go would hide what grows here, so it
-/// comes first.
+/// comes first, and the larger row before the smaller.
 pub(crate) fn all<R: Wait + Clock + Files + AllocGlobal, W: Write>(
     rt: &R,
     alloc: Global,
@@ -241,8 +228,8 @@ pub(crate) fn all<R: Wait + Clock + Files + AllocGlobal, W: Write>(
         "behind all",
     ];
     write_head(out, &heads)?;
-    measure(rt, alloc, out, 100)?;
-    measure(rt, alloc, out, 1_000)
+    measure(rt, alloc, out, 1_000)?;
+    measure(rt, alloc, out, 100)
 }
 
 /// Makes and closes a hundred tasks, ten at a time, and writes how many stay.

@@ -100,7 +100,8 @@ pub(crate) fn task_of<R: Wait>(
     }
 }
 
-fn push_task<R: Wait>(
+/// Makes a task through a recorder, and puts its owner last in the list.
+pub(crate) fn push_task<R: Wait>(
     rt: &R,
     alloc: Global,
     recorder: &mut Recorder,

@@ -47,6 +47,20 @@ fn is_due(closed: Option<u64>, retention: u64, now: u64) -> bool {
     }
 }
 
+// Puts an id behind the others, where its item is due.
+fn push_due<I: Copy>(
+    gone: &mut Vec<I>,
+    id: I,
+    closed: Option<u64>,
+    retention: u64,
+    now: u64,
+) -> Result<(), AllocError> {
+    if is_due(closed, retention, now) {
+        gone.push(id)?;
+    }
+    Ok(())
+}
+
 impl Gone {
     pub(crate) fn none(alloc: Global) -> Gone {
         Gone {
@@ -65,60 +79,28 @@ impl Gone {
     ) -> Result<Gone, AllocError> {
         let mut gone = Gone::none(alloc);
         for i in 0..told.op_count() {
-            gone.add_op(told, i, retention, now)?;
+            if let Some(op) = told.op_at(i) {
+                push_due(&mut gone.ops, op.info.id, op.row.dropped, retention, now)?;
+            }
         }
         for i in 0..told.resource_count() {
-            gone.add_resource(told, i, retention, now)?;
+            if let Some(resource) = told.resource_at(i) {
+                let (id, closed) = (resource.info.id, resource.row.dropped);
+                push_due(&mut gone.resources, id, closed, retention, now)?;
+            }
         }
         for i in 0..told.task_count() {
-            gone.add_task(told, i, retention, now)?;
+            if let Some(task) = told.task_at(i) {
+                push_due(
+                    &mut gone.tasks,
+                    task.info.id,
+                    task.row.dropped,
+                    retention,
+                    now,
+                )?;
+            }
         }
         Ok(gone)
-    }
-
-    fn add_op(
-        &mut self,
-        told: &Tables,
-        place: usize,
-        retention: u64,
-        now: u64,
-    ) -> Result<(), AllocError> {
-        if let Some(op) = told.op_at(place) {
-            if is_due(op.row.dropped, retention, now) {
-                self.ops.push(op.info.id)?;
-            }
-        }
-        Ok(())
-    }
-
-    fn add_resource(
-        &mut self,
-        told: &Tables,
-        place: usize,
-        retention: u64,
-        now: u64,
-    ) -> Result<(), AllocError> {
-        if let Some(resource) = told.resource_at(place) {
-            if is_due(resource.row.dropped, retention, now) {
-                self.resources.push(resource.info.id)?;
-            }
-        }
-        Ok(())
-    }
-
-    fn add_task(
-        &mut self,
-        told: &Tables,
-        place: usize,
-        retention: u64,
-        now: u64,
-    ) -> Result<(), AllocError> {
-        if let Some(task) = told.task_at(place) {
-            if is_due(task.row.dropped, retention, now) {
-                self.tasks.push(task.info.id)?;
-            }
-        }
-        Ok(())
     }
 
     /// These and those.

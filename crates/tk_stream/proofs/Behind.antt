@@ -39,6 +39,32 @@ both {a} {b} {c} {p} {q} g h = record { is = h.is ∙ behind g q }
 pub at_end : {old new piece : List ℕ} → Puts old new piece → Puts old new (piece ++ [])
 at_end {old} {new} {piece} h = record { is = h.is ∙ ap (λ xs. old ++ xs) (sym (append-nil piece)) }
 
+-- a text was written before the end of an array of that length, and put behind what was written
+pub short_put : {old new bytes text rest : List ℕ} → Puts old new bytes → Takes bytes text rest → rest ≡ [] → Puts old new text
+short_put {old} {new} {bytes} {text} put took none =
+    record { is = put.is ∙ ap (λ xs. old ++ xs) (took.is ∙ ap (λ xs. text ++ xs) none ∙ append-nil text) }
+
+-- what was written and what is put behind it are the text
+pub record Joined (bytes more text : List ℕ) : Type 0 where
+  pub is : bytes ++ more ≡ text
+
+pub nothing_before : {rest more : List ℕ} → rest ≡ [] → Joined rest more more
+nothing_before {rest} {more} none = record { is = ap (λ xs. xs ++ more) none }
+
+-- a piece was written before others
+pub before : {bytes piece rest more text : List ℕ} → Takes bytes piece rest → Joined rest more text → Joined bytes more (piece ++ text)
+before {bytes} {piece} {rest} {more} {text} took joined =
+    record { is = ap (λ xs. xs ++ more) took.is ∙ append_assoc piece rest more ∙ ap (λ xs. piece ++ xs) joined.is }
+
+-- these pieces were put, and then more
+pub short_both : {old middle new bytes more text : List ℕ} → Puts old middle bytes → Joined bytes more text → Puts middle new more → Puts old new text
+short_both {old} {middle} {new} {bytes} {more} {text} put joined later =
+    record { is = later.is ∙ behind put more ∙ ap (λ xs. old ++ xs) joined.is }
+
+-- a text that is spelled in other pieces
+pub put_as : {old new text pieces : List ℕ} → text ≡ pieces → Puts old new pieces → Puts old new text
+put_as {old} is put = record { is = put.is ∙ ap (λ xs. old ++ xs) (sym is) }
+
 -- a loop over a list, one item on
 pub item_put : {A : Type 0} (f : A → Data) (list : List A) (i : ℕ) (later : Bool) (item : A) (out next total : List ℕ)
     → i < length list → item ≡ get_or list i item → Puts out next (comma_if later ++ compact_text (f item))

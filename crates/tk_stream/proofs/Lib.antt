@@ -11,6 +11,7 @@ pub mod LinesLemmas
 pub mod GoneLemmas
 pub mod AppliedLemmas
 pub mod Behind
+pub mod InfoTexts
 pub mod FrontLemmas
 pub mod RangeLemmas
 pub mod PruneLemmas

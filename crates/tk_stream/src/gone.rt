@@ -180,9 +180,9 @@ pub(crate) fn put_gone(out: &mut Vec<u8>, gone: &Option<Gone>) -> Result<(), All
 fn put_lists(out: &mut Vec<u8>, gone: &Gone) -> Result<(), AllocError>
     ensures { OnOk result (Puts out.old.items out.new.items (spec.behind_text (spec.gone_fields gone.now))) }
 {
-    put_list(out, b",\"gone_ops\":", gone.ops.as_slice())?;
-    put_list(out, b",\"gone_resources\":", gone.resources.as_slice())?;
-    put_list(out, b",\"gone_tasks\":", gone.tasks.as_slice())?;
+    put_list(out, b",\"gone_ops\":[", gone.ops.as_slice())?;
+    put_list(out, b",\"gone_resources\":[", gone.resources.as_slice())?;
+    put_list(out, b",\"gone_tasks\":[", gone.tasks.as_slice())?;
     Ok(())
 }
 

@@ -32,6 +32,7 @@ mod resource;
 mod rows;
 mod sent;
 mod shaped;
+mod short;
 mod table;
 mod tables;
 mod take_infos;

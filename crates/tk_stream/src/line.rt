@@ -324,16 +324,20 @@ impl Line {
     {
         put_dropped(out, b"{\"dropped\":", self.dropped)?;
         put_gone(out, &self.gone)?;
-        put_list(out, b",\"new_ops\":", self.new_ops.as_slice())?;
-        put_list(out, b",\"new_resources\":", self.new_resources.as_slice())?;
-        put_list(out, b",\"new_tasks\":", self.new_tasks.as_slice())?;
+        put_list(out, b",\"new_ops\":[", self.new_ops.as_slice())?;
+        put_list(out, b",\"new_resources\":[", self.new_resources.as_slice())?;
+        put_list(out, b",\"new_tasks\":[", self.new_tasks.as_slice())?;
         put_number(out, b",\"now\":", self.moment)?;
-        put_list(out, b",\"op_stats\":", self.op_stats.as_slice())?;
-        put_list(out, b",\"poll_counts\":", self.poll_counts.as_slice())?;
-        put_list(out, b",\"resource_stats\":", self.resource_stats.as_slice())?;
+        put_list(out, b",\"op_stats\":[", self.op_stats.as_slice())?;
+        put_list(out, b",\"poll_counts\":[", self.poll_counts.as_slice())?;
+        put_list(
+            out,
+            b",\"resource_stats\":[",
+            self.resource_stats.as_slice(),
+        )?;
         put_number(out, b",\"seq\":", self.seq)?;
         put_flag(out, b",\"snapshot\":", self.snapshot)?;
-        put_list(out, b",\"task_stats\":", self.task_stats.as_slice())?;
+        put_list(out, b",\"task_stats\":[", self.task_stats.as_slice())?;
         put_number(out, b",\"v\":", self.version())?;
         put_text(out, b"}")?;
         Ok(())

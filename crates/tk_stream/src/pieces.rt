@@ -54,25 +54,6 @@ pub(crate) fn put_signed(
     Ok(())
 }
 
-/// The same of a number or `null`.
-#[inline(always)]
-pub(crate) fn put_optional(
-    out: &mut Vec<u8>,
-    before: &[u8],
-    n: Option<u64>,
-) -> Result<(), AllocError>
-    ensures { OnOk result (Puts out.old.items out.new.items
-        (before.now ++ compact_text (spec.optional_data n))) }
-{
-    match n {
-        Some(n) => put_number(out, before, n),
-        None => {
-            out.extend_from_slice(before)?;
-            out.extend_from_slice(b"null")
-        }
-    }
-}
-
 /// The same of a flag.
 #[inline(always)]
 pub(crate) fn put_flag(out: &mut Vec<u8>, before: &[u8], flag: bool) -> Result<(), AllocError>
@@ -95,16 +76,12 @@ pub(crate) fn put_text(out: &mut Vec<u8>, text: &[u8]) -> Result<(), AllocError>
     out.extend_from_slice(text)
 }
 
-/// What stands before a name, up to its first quote, and the name with its last quote.
+/// A name, without its quotes.
 #[inline(always)]
-pub(crate) fn put_name(out: &mut Vec<u8>, before: &[u8], name: &Name) -> Result<(), AllocError>
-    ensures { OnOk result (Puts out.old.items out.new.items
-        (before.now ++ (escape name.now ++ 34 ∷ []))) }
+pub(crate) fn put_name(out: &mut Vec<u8>, name: &Name) -> Result<(), AllocError>
+    ensures { OnOk result (Puts out.old.items out.new.items (escape name.now)) }
 {
-    put_text(out, before)?;
-    put_content(out, name.as_bytes())?;
-    put_text(out, b"\"")?;
-    Ok(())
+    put_content(out, name.as_bytes())
 }
 
 fn put_content(out: &mut Vec<u8>, bytes: &[u8]) -> Result<(), AllocError>

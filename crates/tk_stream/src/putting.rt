@@ -4,7 +4,6 @@ ghost use Rattle.serde_json.specs.Data.{Data};
 ghost use Rattle.serde_json.specs.View.{items_of};
 ghost use Rattle.serde_json.specs.Written.{compact_text, items_text, comma_if};
 ghost use Rattle.tk_stream.specs.Behind.{Puts};
-ghost use Rattle.tk_stream.specs.Spelling as spec;
 
 use crate::pieces::put_text;
 use std::alloc::AllocError;
@@ -19,17 +18,16 @@ pub(crate) trait Written {
         ensures { OnOk result (Puts out.old.items out.new.items (compact_text (spelling self.now))) };
 }
 
-/// What stands before a list, and the list.
+/// What stands before a list, up to its opening bracket, and the list with its closing one.
 pub(crate) fn put_list<T: Written>(
     out: &mut Vec<u8>,
     before: &[u8],
     list: &[T],
 ) -> Result<(), AllocError>
     ensures { OnOk result (Puts out.old.items out.new.items
-        (before.now ++ compact_text (spec.list_data T.spelling list.now))) }
+        (before.now ++ items_text false (items_of (map T.spelling list.now)))) }
 {
     put_text(out, before)?;
-    put_text(out, b"[")?;
     put_items(out, list)?;
     Ok(())
 }

@@ -1,39 +1,49 @@
 //! Infos of tasks, resources and async operations, and their attributes, written.
-ghost use Rattle.std.specs.Prelude.{◌≡◌, ◌++◌, OnOk};
+ghost use Rattle.std.specs.Prelude.{◌≡◌, ◌+◌, ◌≤◌, ◌∷◌, ◌++◌, [], length, drop, OnOk};
 ghost use Rattle.json.specs.Print.{quoted};
 ghost use Rattle.serde_json.specs.Written.{compact_text};
-ghost use Rattle.tk_stream.specs.Behind.{Puts};
+ghost use Rattle.tk_stream.specs.Behind.{Puts, Takes};
 ghost use Rattle.tk_stream.specs.Spelling as spec;
 
-use crate::pieces::{put_flag, put_name, put_number, put_optional, put_signed, put_text};
+use crate::pieces::{put_flag, put_name, put_number, put_signed, put_text};
 use crate::putting::{Written, put_list};
+use crate::short::{number_before, optional_before, put_short, text_before};
 use std::alloc::AllocError;
 use tk_ids::{
     AsyncOpId, AttrInfo, AttrKind, AttrValue, Location, Name, OpInfo, ResourceId, ResourceInfo,
     TaskInfo, TaskKind,
 };
 
+// No part of an info that stands between two names is longer: each number has at most 20 digits.
+const PART: usize = 112;
+
+#[inline(always)]
 #[tactic(auto, unfolding(json::specs::Print::escape_byte))]
-fn put_kind(out: &mut Vec<u8>, before: &[u8], kind: TaskKind) -> Result<(), AllocError>
-    ensures { OnOk result (Puts out.old.items out.new.items (before.now ++ quoted (spec.kind_text kind))) }
+fn kind_before<const N: usize>(bytes: &mut [u8; N], at: usize, text: &[u8], kind: TaskKind) -> usize
+    requires { (length text.now + 20 ≤ at) × (at ≤ N) }
+    ensures text { Takes (drop result bytes.new) (text.now ++ quoted (spec.kind_text kind)) (drop at bytes.old) }
+    ensures place { (at ≤ result + (length text.now + 20)) × (result ≤ N) }
 {
-    put_text(out, before)?;
-    match kind {
-        TaskKind::Spawn => put_text(out, b"\"spawn\""),
-        TaskKind::Blocking => put_text(out, b"\"blocking\""),
-    }
+    let start = match kind {
+        TaskKind::Spawn => text_before(bytes, at, b"\"spawn\""),
+        TaskKind::Blocking => text_before(bytes, at, b"\"blocking\""),
+    };
+    text_before(bytes, start, text)
 }
 
-fn put_location(out: &mut Vec<u8>, before: &[u8], at: &Location) -> Result<(), AllocError>
-    ensures { OnOk result (Puts out.old.items out.new.items
-        (before.now ++ compact_text (spec.location_data at.now))) }
+// What a location has behind the name of its file.
+#[inline(always)]
+fn place_before<const N: usize>(bytes: &mut [u8; N], at: usize, location: &Location) -> usize
+    requires { (44 ≤ at) × (at ≤ N) }
+    ensures text { Takes (drop result bytes.new)
+        (34 ∷ 44 ∷ (compact_text (spec.number_data location.now.line)
+        ++ 44 ∷ (compact_text (spec.number_data location.now.column) ++ 93 ∷ [])))
+        (drop at bytes.old) }
+    ensures place { (at ≤ result + 44) × (result ≤ N) }
 {
-    put_text(out, before)?;
-    put_name(out, b"[\"", &at.file)?;
-    put_number(out, b",", at.line as u64)?;
-    put_number(out, b",", at.column as u64)?;
-    put_text(out, b"]")?;
-    Ok(())
+    let at = text_before(bytes, at, b"]");
+    let at = number_before(bytes, at, b",", location.column as u64);
+    number_before(bytes, at, b"\",", location.line as u64)
 }
 
 impl Written for TaskInfo {
@@ -42,35 +52,47 @@ impl Written for TaskInfo {
     ghost spelling = { info_data };
 
     fn write(&self, out: &mut Vec<u8>) -> Result<(), AllocError> {
-        put_number(out, b"{\"id\":", self.id.value())?;
-        put_kind(out, b",\"kind\":", self.kind)?;
-        put_location(out, b",\"loc\":", &self.location)?;
-        put_name(out, b",\"name\":\"", &self.name)?;
-        put_text(out, b"}")?;
+        let mut front = [0; PART];
+        let at = text_before(&mut front, PART, b",\"loc\":[\"");
+        let at = kind_before(&mut front, at, b",\"kind\":", self.kind);
+        let at = number_before(&mut front, at, b"{\"id\":", self.id.value());
+        put_short(out, &front, at)?;
+        put_name(out, &self.location.file)?;
+        let mut middle = [0; PART];
+        let at = text_before(&mut middle, PART, b",\"name\":\"");
+        let at = place_before(&mut middle, at, &self.location);
+        put_short(out, &middle, at)?;
+        put_name(out, &self.name)?;
+        put_text(out, b"\"}")?;
         Ok(())
     }
 }
 
+// A kind, and the bracket behind it.
 #[tactic(auto, unfolding(json::specs::Print::escape_byte))]
-fn put_attr_kind(out: &mut Vec<u8>, before: &[u8], kind: AttrKind) -> Result<(), AllocError>
-    ensures { OnOk result (Puts out.old.items out.new.items (before.now ++ quoted (spec.attr_kind_text kind))) }
+fn put_attr_kind(out: &mut Vec<u8>, kind: AttrKind) -> Result<(), AllocError>
+    ensures { OnOk result (Puts out.old.items out.new.items (quoted (spec.attr_kind_text kind) ++ 93 ∷ [])) }
 {
-    put_text(out, before)?;
     match kind {
-        AttrKind::U64 => put_text(out, b"\"u64\""),
-        AttrKind::Bool => put_text(out, b"\"bool\""),
-        AttrKind::I64 => put_text(out, b"\"i64\""),
+        AttrKind::U64 => put_text(out, b"\"u64\"]"),
+        AttrKind::Bool => put_text(out, b"\"bool\"]"),
+        AttrKind::I64 => put_text(out, b"\"i64\"]"),
     }
 }
 
-fn put_unit(out: &mut Vec<u8>, before: &[u8], unit: &Option<Name>) -> Result<(), AllocError>
+// A unit, with what ends the name before it, and a comma.
+fn put_unit(out: &mut Vec<u8>, unit: &Option<Name>) -> Result<(), AllocError>
     ensures { OnOk result (Puts out.old.items out.new.items
-        (before.now ++ compact_text (spec.optional_text unit.now))) }
+        (34 ∷ 44 ∷ (compact_text (spec.optional_text unit.now) ++ 44 ∷ []))) }
 {
-    put_text(out, before)?;
     match unit {
-        Some(unit) => put_name(out, b"\"", unit),
-        None => put_text(out, b"null"),
+        Some(unit) => {
+            put_text(out, b"\",\"")?;
+            put_name(out, unit)?;
+            put_text(out, b"\",")?;
+            Ok(())
+        }
+        None => put_text(out, b"\",null,"),
     }
 }
 
@@ -80,10 +102,10 @@ impl Written for AttrInfo {
     ghost spelling = { attr_data };
 
     fn write(&self, out: &mut Vec<u8>) -> Result<(), AllocError> {
-        put_name(out, b"[\"", &self.name)?;
-        put_unit(out, b",", &self.unit)?;
-        put_attr_kind(out, b",", self.kind)?;
-        put_text(out, b"]")?;
+        put_text(out, b"[\"")?;
+        put_name(out, &self.name)?;
+        put_unit(out, &self.unit)?;
+        put_attr_kind(out, self.kind)?;
         Ok(())
     }
 }
@@ -126,13 +148,26 @@ impl Written for ResourceInfo {
     ghost spelling = { resource_data };
 
     fn write(&self, out: &mut Vec<u8>) -> Result<(), AllocError> {
-        put_list(out, b"{\"attrs\":", self.attrs.as_slice())?;
-        put_number(out, b",\"id\":", self.id.value())?;
-        put_name(out, b",\"kind\":\"", &self.kind)?;
-        put_location(out, b",\"loc\":", &self.location)?;
-        put_optional(out, b",\"parent\":", resource_parent(self.parent))?;
-        put_name(out, b",\"type\":\"", &self.concrete)?;
-        put_text(out, b"}")?;
+        put_list(out, b"{\"attrs\":[", self.attrs.as_slice())?;
+        let mut front = [0; PART];
+        let at = text_before(&mut front, PART, b",\"kind\":\"");
+        let at = number_before(&mut front, at, b",\"id\":", self.id.value());
+        put_short(out, &front, at)?;
+        put_name(out, &self.kind)?;
+        put_text(out, b"\",\"loc\":[\"")?;
+        put_name(out, &self.location.file)?;
+        let mut middle = [0; PART];
+        let at = text_before(&mut middle, PART, b",\"type\":\"");
+        let at = optional_before(
+            &mut middle,
+            at,
+            b",\"parent\":",
+            resource_parent(self.parent),
+        );
+        let at = place_before(&mut middle, at, &self.location);
+        put_short(out, &middle, at)?;
+        put_name(out, &self.concrete)?;
+        put_text(out, b"\"}")?;
         Ok(())
     }
 }
@@ -143,12 +178,15 @@ impl Written for OpInfo {
     ghost spelling = { op_data };
 
     fn write(&self, out: &mut Vec<u8>) -> Result<(), AllocError> {
-        put_list(out, b"{\"attrs\":", self.attrs.as_slice())?;
-        put_number(out, b",\"id\":", self.id.value())?;
-        put_optional(out, b",\"parent\":", op_parent(self.parent))?;
-        put_number(out, b",\"resource\":", self.resource.value())?;
-        put_name(out, b",\"source\":\"", &self.source)?;
-        put_text(out, b"}")?;
+        put_list(out, b"{\"attrs\":[", self.attrs.as_slice())?;
+        let mut front = [0; PART];
+        let at = text_before(&mut front, PART, b",\"source\":\"");
+        let at = number_before(&mut front, at, b",\"resource\":", self.resource.value());
+        let at = optional_before(&mut front, at, b",\"parent\":", op_parent(self.parent));
+        let at = number_before(&mut front, at, b",\"id\":", self.id.value());
+        put_short(out, &front, at)?;
+        put_name(out, &self.source)?;
+        put_text(out, b"\"}")?;
         Ok(())
     }
 }

@@ -4,34 +4,45 @@ ghost use Rattle.serde_json.specs.Written.{compact_text};
 ghost use Rattle.tk_stream.specs.Behind.{Puts};
 ghost use Rattle.tk_stream.specs.Spelling as spec;
 
-use crate::pieces::{put_flag, put_number, put_optional, put_text};
 use crate::putting::{Written, put_list};
+use crate::short::{flag_before, number_before, optional_before, put_short, text_before};
 use std::alloc::AllocError;
 use tk_core::{OpRow, ResourceRow, TaskRow};
 use tk_ids::{AsyncOpId, ResourceId, TaskId};
+
+// No text of these is longer: each number has at most 20 digits.
+const TASK_ROOM: usize = 544;
+
+const RESOURCE_ROOM: usize = 128;
+
+const OP_ROOM: usize = 352;
+
+const COUNTS_ROOM: usize = 64;
 
 fn write_task_stats(out: &mut Vec<u8>, id: u64, row: &TaskRow) -> Result<(), AllocError>
     ensures { OnOk result (Puts out.old.items out.new.items
         (compact_text (spec.stats_data (id, row.now)))) }
 {
-    put_number(out, b"{\"busy\":", row.busy)?;
-    put_number(out, b",\"clones\":", row.clones)?;
-    put_number(out, b",\"created\":", row.created)?;
-    put_optional(out, b",\"dropped\":", row.dropped)?;
-    put_number(out, b",\"drops\":", row.drops)?;
-    put_optional(out, b",\"first_poll\":", row.first_poll)?;
-    put_number(out, b",\"handles\":", row.handles)?;
-    put_number(out, b",\"id\":", id)?;
-    put_optional(out, b",\"last_ended\":", row.last_ended)?;
-    put_optional(out, b",\"last_started\":", row.last_started)?;
-    put_optional(out, b",\"last_wake\":", row.last_wake)?;
-    put_flag(out, b",\"polling\":", row.polling)?;
-    put_number(out, b",\"polls\":", row.polls)?;
-    put_number(out, b",\"sched\":", row.sched)?;
-    put_flag(out, b",\"scheduled\":", row.scheduled)?;
-    put_number(out, b",\"self_wakes\":", row.self_wakes)?;
-    put_number(out, b",\"wakes\":", row.wakes)?;
-    put_text(out, b"}")?;
+    let mut text = [0; TASK_ROOM];
+    let at = text_before(&mut text, TASK_ROOM, b"}");
+    let at = number_before(&mut text, at, b",\"wakes\":", row.wakes);
+    let at = number_before(&mut text, at, b",\"self_wakes\":", row.self_wakes);
+    let at = flag_before(&mut text, at, b",\"scheduled\":", row.scheduled);
+    let at = number_before(&mut text, at, b",\"sched\":", row.sched);
+    let at = number_before(&mut text, at, b",\"polls\":", row.polls);
+    let at = flag_before(&mut text, at, b",\"polling\":", row.polling);
+    let at = optional_before(&mut text, at, b",\"last_wake\":", row.last_wake);
+    let at = optional_before(&mut text, at, b",\"last_started\":", row.last_started);
+    let at = optional_before(&mut text, at, b",\"last_ended\":", row.last_ended);
+    let at = number_before(&mut text, at, b",\"id\":", id);
+    let at = number_before(&mut text, at, b",\"handles\":", row.handles);
+    let at = optional_before(&mut text, at, b",\"first_poll\":", row.first_poll);
+    let at = number_before(&mut text, at, b",\"drops\":", row.drops);
+    let at = optional_before(&mut text, at, b",\"dropped\":", row.dropped);
+    let at = number_before(&mut text, at, b",\"created\":", row.created);
+    let at = number_before(&mut text, at, b",\"clones\":", row.clones);
+    let at = number_before(&mut text, at, b"{\"busy\":", row.busy);
+    put_short(out, &text, at)?;
     Ok(())
 }
 
@@ -49,12 +60,14 @@ fn write_resource_stats(out: &mut Vec<u8>, id: u64, row: &ResourceRow) -> Result
     ensures { OnOk result (Puts out.old.items out.new.items
         (compact_text (spec.resource_stats_data (id, row.now)))) }
 {
-    put_list(out, b"{\"attrs\":", row.attrs.list().as_slice())?;
-    put_number(out, b",\"created\":", row.created)?;
-    put_optional(out, b",\"dropped\":", row.dropped)?;
-    put_number(out, b",\"handles\":", row.handles)?;
-    put_number(out, b",\"id\":", id)?;
-    put_text(out, b"}")?;
+    put_list(out, b"{\"attrs\":[", row.attrs.list().as_slice())?;
+    let mut text = [0; RESOURCE_ROOM];
+    let at = text_before(&mut text, RESOURCE_ROOM, b"}");
+    let at = number_before(&mut text, at, b",\"id\":", id);
+    let at = number_before(&mut text, at, b",\"handles\":", row.handles);
+    let at = optional_before(&mut text, at, b",\"dropped\":", row.dropped);
+    let at = number_before(&mut text, at, b",\"created\":", row.created);
+    put_short(out, &text, at)?;
     Ok(())
 }
 
@@ -81,19 +94,21 @@ fn write_op_stats(out: &mut Vec<u8>, id: u64, row: &OpRow) -> Result<(), AllocEr
     ensures { OnOk result (Puts out.old.items out.new.items
         (compact_text (spec.op_stats_data (id, row.now)))) }
 {
-    put_list(out, b"{\"attrs\":", row.attrs.list().as_slice())?;
-    put_number(out, b",\"busy\":", row.busy)?;
-    put_number(out, b",\"created\":", row.created)?;
-    put_optional(out, b",\"dropped\":", row.dropped)?;
-    put_optional(out, b",\"first_poll\":", row.first_poll)?;
-    put_number(out, b",\"handles\":", row.handles)?;
-    put_number(out, b",\"id\":", id)?;
-    put_optional(out, b",\"last_ended\":", row.last_ended)?;
-    put_optional(out, b",\"last_started\":", row.last_started)?;
-    put_flag(out, b",\"polling\":", row.polling)?;
-    put_number(out, b",\"polls\":", row.polls)?;
-    put_optional(out, b",\"task\":", task_value(row.task))?;
-    put_text(out, b"}")?;
+    put_list(out, b"{\"attrs\":[", row.attrs.list().as_slice())?;
+    let mut text = [0; OP_ROOM];
+    let at = text_before(&mut text, OP_ROOM, b"}");
+    let at = optional_before(&mut text, at, b",\"task\":", task_value(row.task));
+    let at = number_before(&mut text, at, b",\"polls\":", row.polls);
+    let at = flag_before(&mut text, at, b",\"polling\":", row.polling);
+    let at = optional_before(&mut text, at, b",\"last_started\":", row.last_started);
+    let at = optional_before(&mut text, at, b",\"last_ended\":", row.last_ended);
+    let at = number_before(&mut text, at, b",\"id\":", id);
+    let at = number_before(&mut text, at, b",\"handles\":", row.handles);
+    let at = optional_before(&mut text, at, b",\"first_poll\":", row.first_poll);
+    let at = optional_before(&mut text, at, b",\"dropped\":", row.dropped);
+    let at = number_before(&mut text, at, b",\"created\":", row.created);
+    let at = number_before(&mut text, at, b",\"busy\":", row.busy);
+    put_short(out, &text, at)?;
     Ok(())
 }
 
@@ -111,10 +126,12 @@ fn write_counts(out: &mut Vec<u8>, id: u64, ready: u64, pending: u64) -> Result<
     ensures { OnOk result (Puts out.old.items out.new.items
         (compact_text (spec.counts_data (id, ready, pending)))) }
 {
-    put_number(out, b"[", id)?;
-    put_number(out, b",", ready)?;
-    put_number(out, b",", pending)?;
-    put_text(out, b"]")?;
+    let mut text = [0; COUNTS_ROOM];
+    let at = text_before(&mut text, COUNTS_ROOM, b"]");
+    let at = number_before(&mut text, at, b",", pending);
+    let at = number_before(&mut text, at, b",", ready);
+    let at = number_before(&mut text, at, b"[", id);
+    put_short(out, &text, at)?;
     Ok(())
 }
 

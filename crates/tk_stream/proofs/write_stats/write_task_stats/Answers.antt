@@ -1,25 +1,28 @@
+use Rattle.std.proofs.Common.{refl}
 use Rattle.json.specs.Print.{escape_byte}
-use Rattle.tk_stream.proofs.Behind.{both}
+use Rattle.tk_stream.proofs.Behind.{taken, short_put}
 use Rattle.tk_stream.proofs.write_stats.write_task_stats.Goals as goal
 
 pub returns : goal.returns
 unfolding escape_byte
 returns c =
-    (both c.in_ok-put_number.ensures
-    (both c.in_ok-put_number-2.ensures
-    (both c.in_ok-put_number-3.ensures
-    (both c.in_ok-put_optional.ensures
-    (both c.in_ok-put_number-4.ensures
-    (both c.in_ok-put_optional-2.ensures
-    (both c.in_ok-put_number-5.ensures
-    (both c.in_ok-put_number-6.ensures
-    (both c.in_ok-put_optional-3.ensures
-    (both c.in_ok-put_optional-4.ensures
-    (both c.in_ok-put_optional-5.ensures
-    (both c.in_ok-put_flag.ensures
-    (both c.in_ok-put_number-7.ensures
-    (both c.in_ok-put_number-8.ensures
-    (both c.in_ok-put_flag-2.ensures
-    (both c.in_ok-put_number-9.ensures
-    (both c.in_ok-put_number-10.ensures
-    c.in_ok-put_text.ensures)))))))))))))))))
+    short_put c.in_ok-put_short.ensures
+    (taken c.number_before-at-10.ensures.text
+    (taken c.number_before-at-9.ensures.text
+    (taken c.number_before-at-8.ensures.text
+    (taken c.optional_before-at-5.ensures.text
+    (taken c.number_before-at-7.ensures.text
+    (taken c.optional_before-at-4.ensures.text
+    (taken c.number_before-at-6.ensures.text
+    (taken c.number_before-at-5.ensures.text
+    (taken c.optional_before-at-3.ensures.text
+    (taken c.optional_before-at-2.ensures.text
+    (taken c.optional_before-at.ensures.text
+    (taken c.flag_before-at-2.ensures.text
+    (taken c.number_before-at-4.ensures.text
+    (taken c.number_before-at-3.ensures.text
+    (taken c.flag_before-at.ensures.text
+    (taken c.number_before-at-2.ensures.text
+    (taken c.number_before-at.ensures.text
+    c.text_before-at.ensures.text)))))))))))))))))
+    refl

@@ -1,13 +1,15 @@
-use Rattle.json.specs.Print.{escape_byte}
-use Rattle.tk_stream.proofs.Behind.{both}
+use Rattle.std.proofs.Common.{refl}
+use Rattle.tk_stream.proofs.Behind.{both, before, nothing_before, short_both, put_as}
+use Rattle.tk_stream.proofs.InfoTexts.{op_text}
 use Rattle.tk_stream.proofs.write_infos.OpInfoWritten.write.Goals as goal
 
 pub returns : goal.returns
-unfolding escape_byte
-returns c = rw (← c.value.ensures.value, ← c.value-2.ensures.value, ← c.as_slice.ensures.list, ← c.op_parent.ensures)
+returns c = put_as (op_text c.args.self.now) (rw (← c.value.ensures.value, ← c.value-2.ensures.value, ← c.as_slice.ensures.list, ← c.op_parent.ensures)
     (both c.in_ok-put_list.ensures
-    (both c.in_ok-put_number.ensures
-    (both c.in_ok-put_optional.ensures
-    (both c.in_ok-put_number-2.ensures
+    (short_both c.in_ok-put_short.ensures
+    (before c.number_before-at-2.ensures.text
+    (before c.optional_before-at.ensures.text
+    (before c.number_before-at.ensures.text
+    (before c.text_before-at.ensures.text (nothing_before refl)))))
     (both c.in_ok-put_name.ensures
-    c.in_ok-put_text.ensures)))))
+    c.in_ok-put_text.ensures))))

@@ -1,14 +1,17 @@
-use Rattle.json.specs.Print.{escape_byte}
-use Rattle.tk_stream.proofs.Behind.{both}
+use Rattle.std.proofs.Common.{refl, decimal}
+use Rattle.tk_stream.proofs.Behind.{both, before, nothing_before, short_both, put_as}
+use Rattle.tk_stream.proofs.InfoTexts.{before_place, resource_text}
 use Rattle.tk_stream.proofs.write_infos.ResourceInfoWritten.write.Goals as goal
 
 pub returns : goal.returns
-unfolding escape_byte
-returns c = rw (← c.value.ensures.value, ← c.as_slice.ensures.list, ← c.resource_parent.ensures)
+returns c = put_as (resource_text c.args.self.now) (rw (← c.value.ensures.value, ← c.as_slice.ensures.list, ← c.resource_parent.ensures)
     (both c.in_ok-put_list.ensures
-    (both c.in_ok-put_number.ensures
+    (short_both c.in_ok-put_short.ensures (before c.number_before-at.ensures.text (before c.text_before-at.ensures.text (nothing_before refl)))
     (both c.in_ok-put_name.ensures
-    (both c.in_ok-put_location.ensures
-    (both c.in_ok-put_optional.ensures
+    (both c.in_ok-put_text.ensures
     (both c.in_ok-put_name-2.ensures
-    c.in_ok-put_text.ensures))))))
+    (short_both c.in_ok-put_short-2.ensures
+    (before_place (decimal c.args.self.now.location.line) (decimal c.args.self.now.location.column) c.place_before-at.ensures.text
+    (before c.optional_before-at.ensures.text (before c.text_before-at-2.ensures.text (nothing_before refl))))
+    (both c.in_ok-put_name-3.ensures
+    c.in_ok-put_text-2.ensures))))))))

@@ -1,12 +1,14 @@
-use Rattle.json.specs.Print.{escape_byte}
-use Rattle.tk_stream.proofs.Behind.{both}
+use Rattle.std.proofs.Common.{refl, decimal}
+use Rattle.tk_stream.proofs.Behind.{both, before, nothing_before, short_both, put_as}
+use Rattle.tk_stream.proofs.InfoTexts.{before_place, task_text}
 use Rattle.tk_stream.proofs.write_infos.TaskInfoWritten.write.Goals as goal
 
 pub returns : goal.returns
-unfolding escape_byte
-returns c = rw (← c.value.ensures.value)
-    (both c.in_ok-put_number.ensures
-    (both c.in_ok-put_kind.ensures
-    (both c.in_ok-put_location.ensures
+returns c = put_as (task_text c.args.self.now) (rw (← c.value.ensures.value)
+    (short_both c.in_ok-put_short.ensures
+    (before c.number_before-at.ensures.text (before c.kind_before-at.ensures.text (before c.text_before-at.ensures.text (nothing_before refl))))
     (both c.in_ok-put_name.ensures
-    c.in_ok-put_text.ensures))))
+    (short_both c.in_ok-put_short-2.ensures
+    (before_place (decimal c.args.self.now.location.line) (decimal c.args.self.now.location.column) c.place_before-at.ensures.text (before c.text_before-at-2.ensures.text (nothing_before refl)))
+    (both c.in_ok-put_name-2.ensures
+    c.in_ok-put_text.ensures)))))
