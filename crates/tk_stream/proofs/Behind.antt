@@ -3,7 +3,8 @@ use Rattle.std.proofs.Common.{◌≡◌, ℕ, ◌+◌, ◌-◌, ◌*◌, ◌/◌
 use Rattle.std.specs.Prelude.{map, ◌&&◌, nat_le}
 use Rattle.std.specs.Bool.{OnTrue}
 use Rattle.std.specs.List.{list_all}
-use Rattle.std.proofs.lemmas.List.{drop_more, drop_all, take_rest, flat_map_more}
+use Rattle.std.proofs.lemmas.List.{drop_more, drop_all, drop-drop, take_rest, flat_map_more}
+use Rattle.std.proofs.Math.Seq.{drop-append_seam}
 use Rattle.std.proofs.lemmas.List.Sums.{AllPass-from_list_all}
 use Rattle.std.proofs.lemmas.List.Folds.{list_all_more, list_all-append}
 use Rattle.std.proofs.lemmas.Fmt.{decimal_step, decimal_digit}
@@ -43,6 +44,11 @@ at_end {old} {new} {piece} h = record { is = h.is ∙ ap (λ xs. old ++ xs) (sym
 pub short_put : {old new bytes text rest : List ℕ} → Puts old new bytes → Takes bytes text rest → rest ≡ [] → Puts old new text
 short_put {old} {new} {bytes} {text} put took none =
     record { is = put.is ∙ ap (λ xs. old ++ xs) (took.is ∙ ap (λ xs. text ++ xs) none ∙ append-nil text) }
+
+-- what stands from the end of a written piece on stays
+pub taken_from : (start at : ℕ) (piece old new : List ℕ) → start + length piece ≡ at → Takes (drop start new) piece (drop at old) → drop at new ≡ drop at old
+taken_from start at piece old new place took =
+    ap (λ n. drop n new) (sym place) ∙ sym (drop-drop (length piece) start new) ∙ ap (λ xs. drop (length piece) xs) took.is ∙ drop-append_seam piece (drop at old)
 
 -- what was written and what is put behind it are the text
 pub record Joined (bytes more text : List ℕ) : Type 0 where

@@ -1,5 +1,5 @@
 //! Pieces of a line's text, each put behind what is written so far.
-ghost use Rattle.std.specs.Prelude.{◌≡◌, ◌∷◌, ◌++◌, [], true, OnOk};
+ghost use Rattle.std.specs.Prelude.{◌≡◌, ◌++◌, true, OnOk};
 ghost use Rattle.std.specs.List.{list_all};
 ghost use Rattle.json.specs.Print.{escape, escape_byte};
 ghost use Rattle.serde_json.specs.Data.{boolean};
@@ -24,7 +24,7 @@ pub(crate) fn put_number(out: &mut Vec<u8>, before: &[u8], n: u64) -> Result<(),
     Ok(())
 }
 
-/// A number's digits. One digit, as many of a row's numbers have, needs no buffer.
+/// A number's digits. One digit, as many of a line's own numbers have, needs no buffer.
 #[inline(always)]
 fn put_digits(out: &mut Vec<u8>, n: u64) -> Result<(), AllocError>
     ensures { OnOk result (Puts out.old.items out.new.items (compact_text (spec.number_data n))) }
@@ -37,24 +37,7 @@ fn put_digits(out: &mut Vec<u8>, n: u64) -> Result<(), AllocError>
     out.extend_from_slice(buffer.format(n).as_bytes())
 }
 
-/// A signed number, and what stands around it.
-pub(crate) fn put_signed(
-    out: &mut Vec<u8>,
-    before: &[u8],
-    n: i64,
-    behind: &[u8],
-) -> Result<(), AllocError>
-    ensures { OnOk result (Puts out.old.items out.new.items
-        (before.now ++ (compact_text (spec.signed_data n) ++ behind.now))) }
-{
-    put_text(out, before)?;
-    let mut buffer = Buffer::new();
-    out.extend_from_slice(buffer.format(n).as_bytes())?;
-    put_text(out, behind)?;
-    Ok(())
-}
-
-/// The same of a flag.
+/// What stands before a flag, and the flag.
 #[inline(always)]
 pub(crate) fn put_flag(out: &mut Vec<u8>, before: &[u8], flag: bool) -> Result<(), AllocError>
     ensures { OnOk result (Puts out.old.items out.new.items
@@ -84,6 +67,7 @@ pub(crate) fn put_name(out: &mut Vec<u8>, name: &Name) -> Result<(), AllocError>
     put_content(out, name.as_bytes())
 }
 
+#[inline(always)]
 fn put_content(out: &mut Vec<u8>, bytes: &[u8]) -> Result<(), AllocError>
     requires { is_name bytes.now ≡ true }
     ensures { OnOk result (Puts out.old.items out.new.items (escape bytes.now)) }

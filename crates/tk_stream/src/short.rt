@@ -7,7 +7,7 @@ ghost use Rattle.tk_stream.specs.Behind.{Puts, Takes};
 ghost use Rattle.tk_stream.specs.Spelling as spec;
 
 use crate::pieces::put_text;
-use itoa::write_digits;
+use itoa::{Buffer, write_digits};
 use std::alloc::AllocError;
 
 /// A text before what begins at a place. It is answered where it begins itself.
@@ -77,6 +77,22 @@ pub(crate) fn flag_before<const N: usize>(
     } else {
         text_before(bytes, at, b"false")
     };
+    text_before(bytes, start, text)
+}
+
+/// The same of a signed number.
+pub(crate) fn signed_before<const N: usize>(
+    bytes: &mut [u8; N],
+    at: usize,
+    text: &[u8],
+    n: i64,
+) -> usize
+    requires { (length text.now + 20 ≤ at) × (at ≤ N) }
+    ensures text { Takes (drop result bytes.new) (text.now ++ compact_text (spec.signed_data n)) (drop at bytes.old) }
+    ensures place { (at ≤ result + (length text.now + 20)) × (result ≤ N) }
+{
+    let mut buffer = Buffer::new();
+    let start = text_before(bytes, at, buffer.format(n).as_bytes());
     text_before(bytes, start, text)
 }
 

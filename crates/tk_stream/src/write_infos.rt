@@ -5,13 +5,13 @@ ghost use Rattle.serde_json.specs.Written.{compact_text};
 ghost use Rattle.tk_stream.specs.Behind.{Puts, Takes};
 ghost use Rattle.tk_stream.specs.Spelling as spec;
 
-use crate::pieces::{put_flag, put_name, put_number, put_signed, put_text};
+use crate::pieces::{put_name, put_text};
 use crate::putting::{Written, put_list};
 use crate::short::{number_before, optional_before, put_short, text_before};
 use std::alloc::AllocError;
 use tk_ids::{
-    AsyncOpId, AttrInfo, AttrKind, AttrValue, Location, Name, OpInfo, ResourceId, ResourceInfo,
-    TaskInfo, TaskKind,
+    AsyncOpId, AttrInfo, AttrKind, Location, Name, OpInfo, ResourceId, ResourceInfo, TaskInfo,
+    TaskKind,
 };
 
 // No part of an info that stands between two names is longer: each number has at most 20 digits.
@@ -107,20 +107,6 @@ impl Written for AttrInfo {
         put_unit(out, &self.unit)?;
         put_attr_kind(out, self.kind)?;
         Ok(())
-    }
-}
-
-impl Written for AttrValue {
-    ghost use Rattle.tk_stream.specs.Spelling.{value_data};
-
-    ghost spelling = { value_data };
-
-    fn write(&self, out: &mut Vec<u8>) -> Result<(), AllocError> {
-        match *self {
-            AttrValue::U64(n) => put_number(out, b"", n),
-            AttrValue::Bool(b) => put_flag(out, b"", b),
-            AttrValue::I64(n) => put_signed(out, b"[", n, b"]"),
-        }
     }
 }
 

@@ -1,21 +1,24 @@
 //! Statistics and poll counts, written.
-ghost use Rattle.std.specs.Prelude.{◌≡◌, OnOk};
-ghost use Rattle.serde_json.specs.Written.{compact_text};
-ghost use Rattle.tk_stream.specs.Behind.{Puts};
+ghost use Rattle.std.specs.Prelude.{◌≡◌, ◌+◌, ◌≤◌, false, map, drop, OnOk};
+ghost use Rattle.serde_json.specs.View.{items_of};
+ghost use Rattle.serde_json.specs.Written.{compact_text, items_text};
+ghost use Rattle.tk_stream.specs.Behind.{Puts, Takes};
 ghost use Rattle.tk_stream.specs.Spelling as spec;
 
-use crate::putting::{Written, put_list};
-use crate::short::{flag_before, number_before, optional_before, put_short, text_before};
+use crate::putting::Written;
+use crate::short::{
+    flag_before, number_before, optional_before, put_short, signed_before, text_before,
+};
 use std::alloc::AllocError;
-use tk_core::{OpRow, ResourceRow, TaskRow};
-use tk_ids::{AsyncOpId, ResourceId, TaskId};
+use tk_core::{AttrValues, OpRow, ResourceRow, TaskRow};
+use tk_ids::{AsyncOpId, AttrValue, ResourceId, TaskId};
 
 // No text of these is longer: each number has at most 20 digits.
 const TASK_ROOM: usize = 544;
 
-const RESOURCE_ROOM: usize = 128;
+const RESOURCE_ROOM: usize = 272;
 
-const OP_ROOM: usize = 352;
+const OP_ROOM: usize = 496;
 
 const COUNTS_ROOM: usize = 64;
 
@@ -56,17 +59,54 @@ impl Written for (TaskId, TaskRow) {
     }
 }
 
+#[inline(always)]
+fn value_before<const N: usize>(bytes: &mut [u8; N], at: usize, value: AttrValue) -> usize
+    requires { (22 ≤ at) × (at ≤ N) }
+    ensures text { Takes (drop result bytes.new) (compact_text (spec.value_data value)) (drop at bytes.old) }
+    ensures place { (at ≤ result + 22) × (result ≤ N) }
+{
+    match value {
+        AttrValue::U64(n) => number_before(bytes, at, b"", n),
+        AttrValue::Bool(flag) => flag_before(bytes, at, b"", flag),
+        AttrValue::I64(n) => {
+            let at = text_before(bytes, at, b"]");
+            signed_before(bytes, at, b"[", n)
+        }
+    }
+}
+
+// The values of at most six attributes, from the last to the first, with the closing bracket behind them.
+fn values_before<const N: usize>(bytes: &mut [u8; N], at: usize, values: &AttrValues) -> usize
+    requires { (139 ≤ at) × (at ≤ N) }
+    ensures text { Takes (drop result bytes.new) (items_text false (items_of (map spec.value_data values.now))) (drop at bytes.old) }
+    ensures place { (at ≤ result + 139) × (result ≤ N) }
+{
+    let list = values.list();
+    let items = list.as_slice();
+    let mut start = text_before(bytes, at, b"]");
+    let mut left = values.len();
+    while left > 0 {
+        left -= 1;
+        start = value_before(bytes, start, items[left]);
+        if left > 0 {
+            start = text_before(bytes, start, b",");
+        }
+    }
+    start
+}
+
 fn write_resource_stats(out: &mut Vec<u8>, id: u64, row: &ResourceRow) -> Result<(), AllocError>
     ensures { OnOk result (Puts out.old.items out.new.items
         (compact_text (spec.resource_stats_data (id, row.now)))) }
 {
-    put_list(out, b"{\"attrs\":[", row.attrs.list().as_slice())?;
     let mut text = [0; RESOURCE_ROOM];
     let at = text_before(&mut text, RESOURCE_ROOM, b"}");
     let at = number_before(&mut text, at, b",\"id\":", id);
     let at = number_before(&mut text, at, b",\"handles\":", row.handles);
     let at = optional_before(&mut text, at, b",\"dropped\":", row.dropped);
     let at = number_before(&mut text, at, b",\"created\":", row.created);
+    let at = values_before(&mut text, at, &row.attrs);
+    let at = text_before(&mut text, at, b"{\"attrs\":[");
     put_short(out, &text, at)?;
     Ok(())
 }
@@ -94,7 +134,6 @@ fn write_op_stats(out: &mut Vec<u8>, id: u64, row: &OpRow) -> Result<(), AllocEr
     ensures { OnOk result (Puts out.old.items out.new.items
         (compact_text (spec.op_stats_data (id, row.now)))) }
 {
-    put_list(out, b"{\"attrs\":[", row.attrs.list().as_slice())?;
     let mut text = [0; OP_ROOM];
     let at = text_before(&mut text, OP_ROOM, b"}");
     let at = optional_before(&mut text, at, b",\"task\":", task_value(row.task));
@@ -108,6 +147,8 @@ fn write_op_stats(out: &mut Vec<u8>, id: u64, row: &OpRow) -> Result<(), AllocEr
     let at = optional_before(&mut text, at, b",\"dropped\":", row.dropped);
     let at = number_before(&mut text, at, b",\"created\":", row.created);
     let at = number_before(&mut text, at, b",\"busy\":", row.busy);
+    let at = values_before(&mut text, at, &row.attrs);
+    let at = text_before(&mut text, at, b"{\"attrs\":[");
     put_short(out, &text, at)?;
     Ok(())
 }

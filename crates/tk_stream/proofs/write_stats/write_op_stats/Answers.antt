@@ -1,13 +1,14 @@
 use Rattle.std.proofs.Common.{refl}
 use Rattle.json.specs.Print.{escape_byte}
-use Rattle.tk_stream.proofs.Behind.{both, taken, short_put}
+use Rattle.tk_stream.proofs.Behind.{taken, short_put}
 use Rattle.tk_stream.proofs.write_stats.write_op_stats.Goals as goal
 
 pub returns : goal.returns
 unfolding escape_byte
-returns c = rw (← c.list.ensures, ← c.as_slice.ensures, ← c.task_value.ensures)
-    (both c.in_ok-put_list.ensures
+returns c = rw (← c.task_value.ensures)
     (short_put c.in_ok-put_short.ensures
+    (taken c.text_before-at-2.ensures.text
+    (taken c.values_before-at.ensures.text
     (taken c.number_before-at-5.ensures.text
     (taken c.number_before-at-4.ensures.text
     (taken c.optional_before-at-5.ensures.text
@@ -19,5 +20,5 @@ returns c = rw (← c.list.ensures, ← c.as_slice.ensures, ← c.task_value.ens
     (taken c.flag_before-at.ensures.text
     (taken c.number_before-at.ensures.text
     (taken c.optional_before-at.ensures.text
-    c.text_before-at.ensures.text)))))))))))
-    refl))
+    c.text_before-at.ensures.text)))))))))))))
+    refl)

@@ -1,16 +1,17 @@
 use Rattle.std.proofs.Common.{refl}
 use Rattle.json.specs.Print.{escape_byte}
-use Rattle.tk_stream.proofs.Behind.{both, taken, short_put}
+use Rattle.tk_stream.proofs.Behind.{taken, short_put}
 use Rattle.tk_stream.proofs.write_stats.write_resource_stats.Goals as goal
 
 pub returns : goal.returns
 unfolding escape_byte
-returns c = rw (← c.list.ensures, ← c.as_slice.ensures)
-    (both c.in_ok-put_list.ensures
-    (short_put c.in_ok-put_short.ensures
+returns c =
+    short_put c.in_ok-put_short.ensures
+    (taken c.text_before-at-2.ensures.text
+    (taken c.values_before-at.ensures.text
     (taken c.number_before-at-3.ensures.text
     (taken c.optional_before-at.ensures.text
     (taken c.number_before-at-2.ensures.text
     (taken c.number_before-at.ensures.text
-    c.text_before-at.ensures.text))))
-    refl))
+    c.text_before-at.ensures.text))))))
+    refl
