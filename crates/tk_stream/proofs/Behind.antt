@@ -18,7 +18,7 @@ use Rattle.serde_json.specs.Data.{Data}
 use Rattle.serde_json.specs.View.{items_of}
 use Rattle.serde_json.specs.Written.{compact_text, items_text, members_text, comma_if}
 use Rattle.tk_ids.specs.Names.{is_name, is_printable}
-use Rattle.tk_stream.specs.Behind.{Puts, Takes, is_escaped, is_plain}
+use Rattle.tk_stream.specs.Behind.{Puts, PutsOpen, Takes, is_escaped, is_plain}
 use Rattle.tk_stream.specs.Lines.{LineView}
 use Rattle.tk_stream.specs.Spelling.{members_in, behind_text, gone_members, members_behind, dropped_data, line_data, line_text}
 
@@ -71,6 +71,25 @@ short_both {old} {middle} {new} {bytes} {more} {text} put joined later =
 pub put_as : {old new text pieces : List ℕ} → text ≡ pieces → Puts old new pieces → Puts old new text
 put_as {old} is put = record { is = put.is ∙ ap (λ xs. old ++ xs) (sym is) }
 
+-- a text was put with what a value begins with, and a list behind it
+pub open_behind : {old middle new before text : List ℕ} → Puts old middle before → PutsOpen middle new text → PutsOpen old new (before ++ text)
+open_behind {old} {middle} {new} {before} {text} put opened =
+    record { is = opened.is ∙ ap (λ xs. xs ++ text) put.is ∙ append_assoc old before text }
+
+-- the same, where a comma may stand before both
+pub open_item : {old middle new text : List ℕ} (comma before : List ℕ) → Puts old middle (comma ++ before) → PutsOpen middle new text → PutsOpen old new (comma ++ (before ++ text))
+open_item {old} {middle} {new} {text} comma before put opened =
+    record { is = (open_behind put opened).is ∙ ap (λ xs. old ++ xs) (append_assoc comma before text) }
+
+-- the next text closes the list
+pub closes : {old middle new text more : List ℕ} → PutsOpen old middle text → Puts middle new (93 ∷ more) → Puts old new (text ++ more)
+closes {old} {middle} {new} {text} {more} opened put =
+    record { is = put.is ∙ sym (append_assoc middle (93 ∷ []) more) ∙ ap (λ xs. xs ++ more) opened.is ∙ append_assoc old text more }
+
+-- the same, where a comma may stand before the text
+pub closes_item : {old middle new more : List ℕ} (comma text : List ℕ) → PutsOpen old middle (comma ++ text) → Puts middle new (93 ∷ more) → Puts old new (comma ++ (text ++ more))
+closes_item {old} {middle} {new} {more} comma text opened put = put_as (sym (append_assoc comma text more)) (closes opened put)
+
 -- a loop over a list, one item on
 pub item_put : {A : Type 0} (f : A → Data) (list : List A) (i : ℕ) (later : Bool) (item : A) (out next total : List ℕ)
     → i < length list → item ≡ get_or list i item → Puts out next (comma_if later ++ compact_text (f item))
@@ -83,11 +102,10 @@ item_put f list i later item out next total lt is put so_far =
     ∙ so_far
 
 -- and at its end
-pub items_put : {A : Type 0} (f : A → Data) (list : List A) (i : ℕ) (later : Bool) (out next total : List ℕ)
-    → length list ≤ i → Puts out next (93 ∷ [])
-    → out ++ items_text later (items_of (map f (drop i list))) ≡ total → next ≡ total
-items_put f list i later out next total past put so_far =
-    put.is ∙ sym (ap (λ xs. out ++ items_text later (items_of (map f xs))) (drop_all i list past)) ∙ so_far
+pub items_open : {A : Type 0} (f : A → Data) (list : List A) (i : ℕ) (later : Bool) (out total : List ℕ)
+    → length list ≤ i → out ++ items_text later (items_of (map f (drop i list))) ≡ total → out ++ 93 ∷ [] ≡ total
+items_open f list i later out total past so_far =
+    sym (ap (λ xs. out ++ items_text later (items_of (map f xs))) (drop_all i list past)) ∙ so_far
 
 -- members that stand behind others
 pub behind_members : (fs gs : List (List ℕ × Data)) → members_text true (members_in (fs ++ gs)) ≡ behind_text fs ++ members_text true (members_in gs)

@@ -1,6 +1,7 @@
 //! Which items a line says are gone.
-ghost use Rattle.std.specs.Prelude.{map, option_map, IfOk, IfSome, OnOk};
+ghost use Rattle.std.specs.Prelude.{◌++◌, map, option_map, IfOk, IfSome, OnOk};
 ghost use Rattle.serde_json.specs.View.{view};
+ghost use Rattle.serde_json.specs.Written.{compact_text, comma_if};
 ghost use Rattle.tk_stream.specs.Behind.{Puts, Takes};
 ghost use Rattle.tk_stream.specs.Outcome.{Answers, shaped};
 ghost use Rattle.tk_stream.specs.Ranges as ranges;
@@ -9,11 +10,12 @@ ghost use Rattle.tk_stream.specs.Spelling as spec;
 
 use crate::error::LineError;
 use crate::fields::{op_id_of, resource_id_of, task_id_of};
-use crate::pieces::put_number;
-use crate::putting::{Written, put_list};
+use crate::pieces::put_text;
+use crate::putting::{Written, put_open};
 use crate::ranged::{Ranged, see_all};
 use crate::reading::GoneParts;
 use crate::shaped::{Shaped, list_of};
+use crate::short::{comma_before, number_before, put_short};
 use crate::takes::{op_id, resource_id, take_number, take_text, task_id};
 use crate::taking::{Taken, some_of, take_list};
 use serde_json::Value;
@@ -39,13 +41,26 @@ impl Model for Gone {
 
 // ---- ids in lines
 
+// A number has at most 20 digits, and a comma may stand before it.
+const ID_ROOM: usize = 24;
+
+fn put_id(out: &mut Vec<u8>, later: bool, id: u64) -> Result<(), AllocError>
+    ensures { OnOk result (Puts out.old.items out.new.items (comma_if later ++ compact_text (spec.number_data id))) }
+{
+    let mut text = [0; ID_ROOM];
+    let at = number_before(&mut text, ID_ROOM, b"", id);
+    let at = comma_before(&mut text, at, later);
+    put_short(out, &text, at)?;
+    Ok(())
+}
+
 impl Written for TaskId {
     ghost use Rattle.tk_stream.specs.Spelling.{number_data};
 
     ghost spelling = { number_data };
 
-    fn write(&self, out: &mut Vec<u8>) -> Result<(), AllocError> {
-        put_number(out, b"", self.value())
+    fn write(&self, out: &mut Vec<u8>, later: bool) -> Result<(), AllocError> {
+        put_id(out, later, self.value())
     }
 }
 
@@ -54,8 +69,8 @@ impl Written for ResourceId {
 
     ghost spelling = { number_data };
 
-    fn write(&self, out: &mut Vec<u8>) -> Result<(), AllocError> {
-        put_number(out, b"", self.value())
+    fn write(&self, out: &mut Vec<u8>, later: bool) -> Result<(), AllocError> {
+        put_id(out, later, self.value())
     }
 }
 
@@ -64,8 +79,8 @@ impl Written for AsyncOpId {
 
     ghost spelling = { number_data };
 
-    fn write(&self, out: &mut Vec<u8>) -> Result<(), AllocError> {
-        put_number(out, b"", self.value())
+    fn write(&self, out: &mut Vec<u8>, later: bool) -> Result<(), AllocError> {
+        put_id(out, later, self.value())
     }
 }
 
@@ -180,9 +195,10 @@ pub(crate) fn put_gone(out: &mut Vec<u8>, gone: &Option<Gone>) -> Result<(), All
 fn put_lists(out: &mut Vec<u8>, gone: &Gone) -> Result<(), AllocError>
     ensures { OnOk result (Puts out.old.items out.new.items (spec.behind_text (spec.gone_fields gone.now))) }
 {
-    put_list(out, b",\"gone_ops\":[", gone.ops.as_slice())?;
-    put_list(out, b",\"gone_resources\":[", gone.resources.as_slice())?;
-    put_list(out, b",\"gone_tasks\":[", gone.tasks.as_slice())?;
+    put_open(out, b",\"gone_ops\":[", gone.ops.as_slice())?;
+    put_open(out, b"],\"gone_resources\":[", gone.resources.as_slice())?;
+    put_open(out, b"],\"gone_tasks\":[", gone.tasks.as_slice())?;
+    put_text(out, b"]")?;
     Ok(())
 }
 

@@ -22,7 +22,7 @@
 //! `false`, or `[number]` for a signed one, and what is absent is `null`.
 //!
 //! `specs/Lines.antt` says what a line says, and `specs/Spelling.antt` how it is spelled.
-ghost use Rattle.std.specs.Prelude.{◌≡◌, ◌++◌, [], true, IfOk, IfSome, OnOk, if◌then◌else◌, IsTrue};
+ghost use Rattle.std.specs.Prelude.{◌≡◌, ◌++◌, [], true, codes, IfOk, IfSome, OnOk, if◌then◌else◌, IsTrue};
 ghost use Rattle.serde_json.specs.View.{view};
 ghost use Rattle.serde_json.specs.Written.{compact_text};
 ghost use Rattle.tk_stream.specs.Lines as lines;
@@ -39,12 +39,12 @@ use crate::error::LineError;
 use crate::gone::{Gone, gone_of, put_gone, see_gone, take_gone};
 use crate::leaving::{Leaving, due, leave_out};
 use crate::op::Op;
-use crate::pieces::{put_flag, put_number, put_text};
-use crate::putting::put_list;
+use crate::putting::{put_items, put_open};
 use crate::ranged::{see_all, see_number, see_totals};
 use crate::reading::{LineParts, json_of};
 use crate::resource::Resource;
 use crate::shaped::list_of;
+use crate::short::{flag_before, number_before, put_short, text_before};
 use crate::tables::Tables;
 use crate::takes::{take_flag, take_number, take_text};
 use crate::taking::{some_of, take_list};
@@ -65,6 +65,9 @@ const INFO_ROOM: usize = 256;
 const COUNTS_ROOM: usize = 48;
 
 const ROW_ROOM: usize = 384;
+
+// No part of a line that stands between two of its lists is longer: each number has at most 20 digits.
+const PART: usize = 80;
 
 /// What one line of a stream says. A line is made by [`Line::between`] and [`Line::read`] alone.
 #[derive(Debug, Drop)]
@@ -322,24 +325,32 @@ impl Line {
     fn put(&self, out: &mut Vec<u8>) -> Result<(), AllocError>
         ensures { OnOk result (Puts out.old.items out.new.items (spec.line_text self.now)) }
     {
-        put_dropped(out, b"{\"dropped\":", self.dropped)?;
+        put_dropped(out, self.dropped)?;
         put_gone(out, &self.gone)?;
-        put_list(out, b",\"new_ops\":[", self.new_ops.as_slice())?;
-        put_list(out, b",\"new_resources\":[", self.new_resources.as_slice())?;
-        put_list(out, b",\"new_tasks\":[", self.new_tasks.as_slice())?;
-        put_number(out, b",\"now\":", self.moment)?;
-        put_list(out, b",\"op_stats\":[", self.op_stats.as_slice())?;
-        put_list(out, b",\"poll_counts\":[", self.poll_counts.as_slice())?;
-        put_list(
+        put_open(out, b",\"new_ops\":[", self.new_ops.as_slice())?;
+        put_open(out, b"],\"new_resources\":[", self.new_resources.as_slice())?;
+        put_open(out, b"],\"new_tasks\":[", self.new_tasks.as_slice())?;
+        let mut moment = [0; PART];
+        let at = text_before(&mut moment, PART, b",\"op_stats\":[");
+        let at = number_before(&mut moment, at, b"],\"now\":", self.moment);
+        put_short(out, &moment, at)?;
+        put_items(out, self.op_stats.as_slice())?;
+        put_open(out, b"],\"poll_counts\":[", self.poll_counts.as_slice())?;
+        put_open(
             out,
-            b",\"resource_stats\":[",
+            b"],\"resource_stats\":[",
             self.resource_stats.as_slice(),
         )?;
-        put_number(out, b",\"seq\":", self.seq)?;
-        put_flag(out, b",\"snapshot\":", self.snapshot)?;
-        put_list(out, b",\"task_stats\":[", self.task_stats.as_slice())?;
-        put_number(out, b",\"v\":", self.version())?;
-        put_text(out, b"}")?;
+        let mut place = [0; PART];
+        let at = text_before(&mut place, PART, b",\"task_stats\":[");
+        let at = flag_before(&mut place, at, b",\"snapshot\":", self.snapshot);
+        let at = number_before(&mut place, at, b"],\"seq\":", self.seq);
+        put_short(out, &place, at)?;
+        put_items(out, self.task_stats.as_slice())?;
+        let mut end = [0; PART];
+        let at = text_before(&mut end, PART, b"}");
+        let at = number_before(&mut end, at, b"],\"v\":", self.version());
+        put_short(out, &end, at)?;
         Ok(())
     }
 
@@ -531,15 +542,17 @@ fn see_stats(
     see_all(tasks);
 }
 
-fn put_dropped(out: &mut Vec<u8>, before: &[u8], dropped: Dropped) -> Result<(), AllocError>
+// What a line begins with: its first member.
+fn put_dropped(out: &mut Vec<u8>, dropped: Dropped) -> Result<(), AllocError>
     ensures { OnOk result (Puts out.old.items out.new.items
-        (before.now ++ compact_text (spec.dropped_data dropped))) }
+        (codes "{\"dropped\":" ++ compact_text (spec.dropped_data dropped))) }
 {
-    put_text(out, before)?;
-    put_number(out, b"[", dropped.tasks)?;
-    put_number(out, b",", dropped.resources)?;
-    put_number(out, b",", dropped.ops)?;
-    put_text(out, b"]")?;
+    let mut text = [0; PART];
+    let at = text_before(&mut text, PART, b"]");
+    let at = number_before(&mut text, at, b",", dropped.ops);
+    let at = number_before(&mut text, at, b",", dropped.resources);
+    let at = number_before(&mut text, at, b"{\"dropped\":[", dropped.tasks);
+    put_short(out, &text, at)?;
     Ok(())
 }
 

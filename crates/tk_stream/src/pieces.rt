@@ -1,55 +1,14 @@
 //! Pieces of a line's text, each put behind what is written so far.
-ghost use Rattle.std.specs.Prelude.{◌≡◌, ◌++◌, true, OnOk};
+ghost use Rattle.std.specs.Prelude.{◌≡◌, ◌∷◌, ◌++◌, true, OnOk};
 ghost use Rattle.std.specs.List.{list_all};
 ghost use Rattle.json.specs.Print.{escape, escape_byte};
-ghost use Rattle.serde_json.specs.Data.{boolean};
-ghost use Rattle.serde_json.specs.Written.{compact_text};
+ghost use Rattle.serde_json.specs.Written.{comma_if};
 ghost use Rattle.tk_ids.specs.Names.{is_name, is_printable};
 ghost use Rattle.tk_stream.specs.Behind.{Puts, is_escaped};
-ghost use Rattle.tk_stream.specs.Spelling as spec;
 
 use crate::plain::is_plain;
-use itoa::Buffer;
 use std::alloc::AllocError;
 use tk_ids::Name;
-
-/// What stands before a number, and the number.
-#[inline(always)]
-pub(crate) fn put_number(out: &mut Vec<u8>, before: &[u8], n: u64) -> Result<(), AllocError>
-    ensures { OnOk result (Puts out.old.items out.new.items
-        (before.now ++ compact_text (spec.number_data n))) }
-{
-    put_text(out, before)?;
-    put_digits(out, n)?;
-    Ok(())
-}
-
-/// A number's digits. One digit, as many of a line's own numbers have, needs no buffer.
-#[inline(always)]
-fn put_digits(out: &mut Vec<u8>, n: u64) -> Result<(), AllocError>
-    ensures { OnOk result (Puts out.old.items out.new.items (compact_text (spec.number_data n))) }
-{
-    if n < 10 {
-        out.push(b'0' + n as u8)?;
-        return Ok(());
-    }
-    let mut buffer = Buffer::new();
-    out.extend_from_slice(buffer.format(n).as_bytes())
-}
-
-/// What stands before a flag, and the flag.
-#[inline(always)]
-pub(crate) fn put_flag(out: &mut Vec<u8>, before: &[u8], flag: bool) -> Result<(), AllocError>
-    ensures { OnOk result (Puts out.old.items out.new.items
-        (before.now ++ compact_text (boolean flag))) }
-{
-    out.extend_from_slice(before)?;
-    if flag {
-        out.extend_from_slice(b"true")
-    } else {
-        out.extend_from_slice(b"false")
-    }
-}
 
 /// A text, as it stands.
 #[inline(always)]
@@ -57,6 +16,24 @@ pub(crate) fn put_text(out: &mut Vec<u8>, text: &[u8]) -> Result<(), AllocError>
     ensures { OnOk result (Puts out.old.items out.new.items text.now) }
 {
     out.extend_from_slice(text)
+}
+
+/// What a value begins with, with a comma before it where another value of its list stands there.
+#[inline(always)]
+pub(crate) fn put_opening(
+    out: &mut Vec<u8>,
+    later: bool,
+    text: &[u8],
+    behind_comma: &[u8],
+) -> Result<(), AllocError>
+    requires { behind_comma.now ≡ 44 ∷ text.now }
+    ensures { OnOk result (Puts out.old.items out.new.items (comma_if later ++ text.now)) }
+{
+    if later {
+        put_text(out, behind_comma)
+    } else {
+        put_text(out, text)
+    }
 }
 
 /// A name, without its quotes.

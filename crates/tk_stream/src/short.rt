@@ -2,7 +2,7 @@
 //! text in one step.
 ghost use Rattle.std.specs.Prelude.{◌≡◌, ◌+◌, ◌≤◌, ◌++◌, length, drop, OnOk};
 ghost use Rattle.serde_json.specs.Data.{boolean};
-ghost use Rattle.serde_json.specs.Written.{compact_text};
+ghost use Rattle.serde_json.specs.Written.{compact_text, comma_if};
 ghost use Rattle.tk_stream.specs.Behind.{Puts, Takes};
 ghost use Rattle.tk_stream.specs.Spelling as spec;
 
@@ -21,6 +21,20 @@ pub(crate) fn text_before<const N: usize>(bytes: &mut [u8; N], at: usize, text: 
     let bytes = &mut bytes[..];
     bytes[start..at].copy_from_slice(text);
     start
+}
+
+/// A comma, where another value of the list stands before.
+#[inline(always)]
+pub(crate) fn comma_before<const N: usize>(bytes: &mut [u8; N], at: usize, later: bool) -> usize
+    requires { (1 ≤ at) × (at ≤ N) }
+    ensures text { Takes (drop result bytes.new) (comma_if later) (drop at bytes.old) }
+    ensures place { (at ≤ result + 1) × (result ≤ N) }
+{
+    if later {
+        text_before(bytes, at, b",")
+    } else {
+        at
+    }
 }
 
 /// A number, with a text before it.

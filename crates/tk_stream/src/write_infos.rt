@@ -1,13 +1,14 @@
 //! Infos of tasks, resources and async operations, and their attributes, written.
-ghost use Rattle.std.specs.Prelude.{◌≡◌, ◌+◌, ◌≤◌, ◌∷◌, ◌++◌, [], length, drop, OnOk};
+ghost use Rattle.std.specs.Prelude.{◌≡◌, ◌+◌, ◌≤◌, ◌∷◌, ◌++◌, [], false, codes, map, length, drop, OnOk};
 ghost use Rattle.json.specs.Print.{quoted};
-ghost use Rattle.serde_json.specs.Written.{compact_text};
-ghost use Rattle.tk_stream.specs.Behind.{Puts, Takes};
+ghost use Rattle.serde_json.specs.View.{items_of};
+ghost use Rattle.serde_json.specs.Written.{compact_text, items_text, comma_if};
+ghost use Rattle.tk_stream.specs.Behind.{Puts, PutsOpen, Takes};
 ghost use Rattle.tk_stream.specs.Spelling as spec;
 
-use crate::pieces::{put_name, put_text};
-use crate::putting::{Written, put_list};
-use crate::short::{number_before, optional_before, put_short, text_before};
+use crate::pieces::{put_name, put_opening, put_text};
+use crate::putting::{Written, put_items};
+use crate::short::{comma_before, number_before, optional_before, put_short, text_before};
 use std::alloc::AllocError;
 use tk_ids::{
     AsyncOpId, AttrInfo, AttrKind, Location, Name, OpInfo, ResourceId, ResourceInfo, TaskInfo,
@@ -51,11 +52,12 @@ impl Written for TaskInfo {
 
     ghost spelling = { info_data };
 
-    fn write(&self, out: &mut Vec<u8>) -> Result<(), AllocError> {
+    fn write(&self, out: &mut Vec<u8>, later: bool) -> Result<(), AllocError> {
         let mut front = [0; PART];
         let at = text_before(&mut front, PART, b",\"loc\":[\"");
         let at = kind_before(&mut front, at, b",\"kind\":", self.kind);
         let at = number_before(&mut front, at, b"{\"id\":", self.id.value());
+        let at = comma_before(&mut front, at, later);
         put_short(out, &front, at)?;
         put_name(out, &self.location.file)?;
         let mut middle = [0; PART];
@@ -68,31 +70,47 @@ impl Written for TaskInfo {
     }
 }
 
-// A kind, and the bracket behind it.
+// What stands behind an attribute's unit: the end of that text, and the kind with the bracket behind it.
+#[inline(always)]
 #[tactic(auto, unfolding(json::specs::Print::escape_byte))]
-fn put_attr_kind(out: &mut Vec<u8>, kind: AttrKind) -> Result<(), AllocError>
-    ensures { OnOk result (Puts out.old.items out.new.items (quoted (spec.attr_kind_text kind) ++ 93 ∷ [])) }
+fn put_kind(out: &mut Vec<u8>, kind: AttrKind) -> Result<(), AllocError>
+    ensures { OnOk result (Puts out.old.items out.new.items
+        (34 ∷ 44 ∷ (quoted (spec.attr_kind_text kind) ++ 93 ∷ []))) }
 {
     match kind {
-        AttrKind::U64 => put_text(out, b"\"u64\"]"),
-        AttrKind::Bool => put_text(out, b"\"bool\"]"),
-        AttrKind::I64 => put_text(out, b"\"i64\"]"),
+        AttrKind::U64 => put_text(out, b"\",\"u64\"]"),
+        AttrKind::Bool => put_text(out, b"\",\"bool\"]"),
+        AttrKind::I64 => put_text(out, b"\",\"i64\"]"),
     }
 }
 
-// A unit, with what ends the name before it, and a comma.
-fn put_unit(out: &mut Vec<u8>, unit: &Option<Name>) -> Result<(), AllocError>
+// What stands behind the name of an attribute that has no unit, in one step.
+#[inline(always)]
+#[tactic(auto, unfolding(json::specs::Print::escape_byte))]
+fn put_kind_alone(out: &mut Vec<u8>, kind: AttrKind) -> Result<(), AllocError>
     ensures { OnOk result (Puts out.old.items out.new.items
-        (34 ∷ 44 ∷ (compact_text (spec.optional_text unit.now) ++ 44 ∷ []))) }
+        (codes "\",null," ++ (quoted (spec.attr_kind_text kind) ++ 93 ∷ []))) }
+{
+    match kind {
+        AttrKind::U64 => put_text(out, b"\",null,\"u64\"]"),
+        AttrKind::Bool => put_text(out, b"\",null,\"bool\"]"),
+        AttrKind::I64 => put_text(out, b"\",null,\"i64\"]"),
+    }
+}
+
+// What stands behind an attribute's name: the end of that text, the unit, and the kind.
+fn put_unit(out: &mut Vec<u8>, unit: &Option<Name>, kind: AttrKind) -> Result<(), AllocError>
+    ensures { OnOk result (Puts out.old.items out.new.items
+        (34 ∷ 44 ∷ (compact_text (spec.optional_text unit.now) ++ 44 ∷ (quoted (spec.attr_kind_text kind) ++ 93 ∷ [])))) }
 {
     match unit {
         Some(unit) => {
             put_text(out, b"\",\"")?;
             put_name(out, unit)?;
-            put_text(out, b"\",")?;
+            put_kind(out, kind)?;
             Ok(())
         }
-        None => put_text(out, b"\",null,"),
+        None => put_kind_alone(out, kind),
     }
 }
 
@@ -101,13 +119,22 @@ impl Written for AttrInfo {
 
     ghost spelling = { attr_data };
 
-    fn write(&self, out: &mut Vec<u8>) -> Result<(), AllocError> {
-        put_text(out, b"[\"")?;
+    fn write(&self, out: &mut Vec<u8>, later: bool) -> Result<(), AllocError> {
+        put_opening(out, later, b"[\"", b",[\"")?;
         put_name(out, &self.name)?;
-        put_unit(out, &self.unit)?;
-        put_attr_kind(out, self.kind)?;
+        put_unit(out, &self.unit, self.kind)?;
         Ok(())
     }
+}
+
+// The attributes of an item, with which its info begins. The bracket that closes them is left to the next text.
+fn put_attrs(out: &mut Vec<u8>, later: bool, attrs: &[AttrInfo]) -> Result<(), AllocError>
+    ensures { OnOk result (PutsOpen out.old.items out.new.items
+        (comma_if later ++ (codes "{\"attrs\":[" ++ items_text false (items_of (map spec.attr_data attrs.now))))) }
+{
+    put_opening(out, later, b"{\"attrs\":[", b",{\"attrs\":[")?;
+    put_items(out, attrs)?;
+    Ok(())
 }
 
 fn resource_parent(parent: Option<ResourceId>) -> Option<u64>
@@ -133,11 +160,11 @@ impl Written for ResourceInfo {
 
     ghost spelling = { resource_data };
 
-    fn write(&self, out: &mut Vec<u8>) -> Result<(), AllocError> {
-        put_list(out, b"{\"attrs\":[", self.attrs.as_slice())?;
+    fn write(&self, out: &mut Vec<u8>, later: bool) -> Result<(), AllocError> {
+        put_attrs(out, later, self.attrs.as_slice())?;
         let mut front = [0; PART];
         let at = text_before(&mut front, PART, b",\"kind\":\"");
-        let at = number_before(&mut front, at, b",\"id\":", self.id.value());
+        let at = number_before(&mut front, at, b"],\"id\":", self.id.value());
         put_short(out, &front, at)?;
         put_name(out, &self.kind)?;
         put_text(out, b"\",\"loc\":[\"")?;
@@ -163,13 +190,13 @@ impl Written for OpInfo {
 
     ghost spelling = { op_data };
 
-    fn write(&self, out: &mut Vec<u8>) -> Result<(), AllocError> {
-        put_list(out, b"{\"attrs\":[", self.attrs.as_slice())?;
+    fn write(&self, out: &mut Vec<u8>, later: bool) -> Result<(), AllocError> {
+        put_attrs(out, later, self.attrs.as_slice())?;
         let mut front = [0; PART];
         let at = text_before(&mut front, PART, b",\"source\":\"");
         let at = number_before(&mut front, at, b",\"resource\":", self.resource.value());
         let at = optional_before(&mut front, at, b",\"parent\":", op_parent(self.parent));
-        let at = number_before(&mut front, at, b",\"id\":", self.id.value());
+        let at = number_before(&mut front, at, b"],\"id\":", self.id.value());
         put_short(out, &front, at)?;
         put_name(out, &self.source)?;
         put_text(out, b"\"}")?;

@@ -1,30 +1,36 @@
 //! Statistics and poll counts, written.
-ghost use Rattle.std.specs.Prelude.{◌≡◌, ◌+◌, ◌≤◌, false, map, drop, OnOk};
+ghost use Rattle.std.specs.Prelude.{◌≡◌, ◌+◌, ◌≤◌, ◌++◌, false, map, drop, OnOk};
 ghost use Rattle.serde_json.specs.View.{items_of};
-ghost use Rattle.serde_json.specs.Written.{compact_text, items_text};
+ghost use Rattle.serde_json.specs.Written.{compact_text, items_text, comma_if};
 ghost use Rattle.tk_stream.specs.Behind.{Puts, Takes};
 ghost use Rattle.tk_stream.specs.Spelling as spec;
 
 use crate::putting::Written;
 use crate::short::{
-    flag_before, number_before, optional_before, put_short, signed_before, text_before,
+    comma_before, flag_before, number_before, optional_before, put_short, signed_before,
+    text_before,
 };
 use std::alloc::AllocError;
 use tk_core::{AttrValues, OpRow, ResourceRow, TaskRow};
 use tk_ids::{AsyncOpId, AttrValue, ResourceId, TaskId};
 
-// No text of these is longer: each number has at most 20 digits.
+// No text of these is longer, with a comma before it: each number has at most 20 digits.
 const TASK_ROOM: usize = 544;
 
 const RESOURCE_ROOM: usize = 272;
 
 const OP_ROOM: usize = 496;
 
-const COUNTS_ROOM: usize = 64;
+const COUNTS_ROOM: usize = 72;
 
-fn write_task_stats(out: &mut Vec<u8>, id: u64, row: &TaskRow) -> Result<(), AllocError>
+fn write_task_stats(
+    out: &mut Vec<u8>,
+    later: bool,
+    id: u64,
+    row: &TaskRow,
+) -> Result<(), AllocError>
     ensures { OnOk result (Puts out.old.items out.new.items
-        (compact_text (spec.stats_data (id, row.now)))) }
+        (comma_if later ++ compact_text (spec.stats_data (id, row.now)))) }
 {
     let mut text = [0; TASK_ROOM];
     let at = text_before(&mut text, TASK_ROOM, b"}");
@@ -45,6 +51,7 @@ fn write_task_stats(out: &mut Vec<u8>, id: u64, row: &TaskRow) -> Result<(), All
     let at = number_before(&mut text, at, b",\"created\":", row.created);
     let at = number_before(&mut text, at, b",\"clones\":", row.clones);
     let at = number_before(&mut text, at, b"{\"busy\":", row.busy);
+    let at = comma_before(&mut text, at, later);
     put_short(out, &text, at)?;
     Ok(())
 }
@@ -54,8 +61,8 @@ impl Written for (TaskId, TaskRow) {
 
     ghost spelling = { stats_data };
 
-    fn write(&self, out: &mut Vec<u8>) -> Result<(), AllocError> {
-        write_task_stats(out, self.0.value(), &self.1)
+    fn write(&self, out: &mut Vec<u8>, later: bool) -> Result<(), AllocError> {
+        write_task_stats(out, later, self.0.value(), &self.1)
     }
 }
 
@@ -95,9 +102,14 @@ fn values_before<const N: usize>(bytes: &mut [u8; N], at: usize, values: &AttrVa
     start
 }
 
-fn write_resource_stats(out: &mut Vec<u8>, id: u64, row: &ResourceRow) -> Result<(), AllocError>
+fn write_resource_stats(
+    out: &mut Vec<u8>,
+    later: bool,
+    id: u64,
+    row: &ResourceRow,
+) -> Result<(), AllocError>
     ensures { OnOk result (Puts out.old.items out.new.items
-        (compact_text (spec.resource_stats_data (id, row.now)))) }
+        (comma_if later ++ compact_text (spec.resource_stats_data (id, row.now)))) }
 {
     let mut text = [0; RESOURCE_ROOM];
     let at = text_before(&mut text, RESOURCE_ROOM, b"}");
@@ -107,6 +119,7 @@ fn write_resource_stats(out: &mut Vec<u8>, id: u64, row: &ResourceRow) -> Result
     let at = number_before(&mut text, at, b",\"created\":", row.created);
     let at = values_before(&mut text, at, &row.attrs);
     let at = text_before(&mut text, at, b"{\"attrs\":[");
+    let at = comma_before(&mut text, at, later);
     put_short(out, &text, at)?;
     Ok(())
 }
@@ -116,8 +129,8 @@ impl Written for (ResourceId, ResourceRow) {
 
     ghost spelling = { resource_stats_data };
 
-    fn write(&self, out: &mut Vec<u8>) -> Result<(), AllocError> {
-        write_resource_stats(out, self.0.value(), &self.1)
+    fn write(&self, out: &mut Vec<u8>, later: bool) -> Result<(), AllocError> {
+        write_resource_stats(out, later, self.0.value(), &self.1)
     }
 }
 
@@ -130,9 +143,9 @@ fn task_value(task: Option<TaskId>) -> Option<u64>
     }
 }
 
-fn write_op_stats(out: &mut Vec<u8>, id: u64, row: &OpRow) -> Result<(), AllocError>
+fn write_op_stats(out: &mut Vec<u8>, later: bool, id: u64, row: &OpRow) -> Result<(), AllocError>
     ensures { OnOk result (Puts out.old.items out.new.items
-        (compact_text (spec.op_stats_data (id, row.now)))) }
+        (comma_if later ++ compact_text (spec.op_stats_data (id, row.now)))) }
 {
     let mut text = [0; OP_ROOM];
     let at = text_before(&mut text, OP_ROOM, b"}");
@@ -149,6 +162,7 @@ fn write_op_stats(out: &mut Vec<u8>, id: u64, row: &OpRow) -> Result<(), AllocEr
     let at = number_before(&mut text, at, b",\"busy\":", row.busy);
     let at = values_before(&mut text, at, &row.attrs);
     let at = text_before(&mut text, at, b"{\"attrs\":[");
+    let at = comma_before(&mut text, at, later);
     put_short(out, &text, at)?;
     Ok(())
 }
@@ -158,20 +172,27 @@ impl Written for (AsyncOpId, OpRow) {
 
     ghost spelling = { op_stats_data };
 
-    fn write(&self, out: &mut Vec<u8>) -> Result<(), AllocError> {
-        write_op_stats(out, self.0.value(), &self.1)
+    fn write(&self, out: &mut Vec<u8>, later: bool) -> Result<(), AllocError> {
+        write_op_stats(out, later, self.0.value(), &self.1)
     }
 }
 
-fn write_counts(out: &mut Vec<u8>, id: u64, ready: u64, pending: u64) -> Result<(), AllocError>
+fn write_counts(
+    out: &mut Vec<u8>,
+    later: bool,
+    id: u64,
+    ready: u64,
+    pending: u64,
+) -> Result<(), AllocError>
     ensures { OnOk result (Puts out.old.items out.new.items
-        (compact_text (spec.counts_data (id, ready, pending)))) }
+        (comma_if later ++ compact_text (spec.counts_data (id, ready, pending)))) }
 {
     let mut text = [0; COUNTS_ROOM];
     let at = text_before(&mut text, COUNTS_ROOM, b"]");
     let at = number_before(&mut text, at, b",", pending);
     let at = number_before(&mut text, at, b",", ready);
     let at = number_before(&mut text, at, b"[", id);
+    let at = comma_before(&mut text, at, later);
     put_short(out, &text, at)?;
     Ok(())
 }
@@ -181,7 +202,7 @@ impl Written for (ResourceId, u64, u64) {
 
     ghost spelling = { counts_data };
 
-    fn write(&self, out: &mut Vec<u8>) -> Result<(), AllocError> {
-        write_counts(out, self.0.value(), self.1, self.2)
+    fn write(&self, out: &mut Vec<u8>, later: bool) -> Result<(), AllocError> {
+        write_counts(out, later, self.0.value(), self.1, self.2)
     }
 }

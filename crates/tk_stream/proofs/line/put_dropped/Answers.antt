@@ -1,12 +1,14 @@
+use Rattle.std.proofs.Common.{refl}
 use Rattle.json.specs.Print.{escape_byte}
-use Rattle.tk_stream.proofs.Behind.{both}
+use Rattle.tk_stream.proofs.Behind.{taken, short_put}
 use Rattle.tk_stream.proofs.line.put_dropped.Goals as goal
 
 pub returns : goal.returns
 unfolding escape_byte
 returns c =
-    (both c.in_ok-put_text.ensures
-    (both c.in_ok-put_number.ensures
-    (both c.in_ok-put_number-2.ensures
-    (both c.in_ok-put_number-3.ensures
-    c.in_ok-put_text-2.ensures))))
+    short_put c.in_ok-put_short.ensures
+    (taken c.number_before-at-3.ensures.text
+    (taken c.number_before-at-2.ensures.text
+    (taken c.number_before-at.ensures.text
+    c.text_before-at.ensures.text)))
+    refl

@@ -7,6 +7,7 @@ pub returns : goal.returns
 unfolding escape_byte
 returns c = rw (← c.task_value.ensures)
     (short_put c.in_ok-put_short.ensures
+    (taken c.comma_before-at.ensures.text
     (taken c.text_before-at-2.ensures.text
     (taken c.values_before-at.ensures.text
     (taken c.number_before-at-5.ensures.text
@@ -20,5 +21,5 @@ returns c = rw (← c.task_value.ensures)
     (taken c.flag_before-at.ensures.text
     (taken c.number_before-at.ensures.text
     (taken c.optional_before-at.ensures.text
-    c.text_before-at.ensures.text)))))))))))))
+    c.text_before-at.ensures.text))))))))))))))
     refl)

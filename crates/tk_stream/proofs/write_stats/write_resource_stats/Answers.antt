@@ -7,11 +7,12 @@ pub returns : goal.returns
 unfolding escape_byte
 returns c =
     short_put c.in_ok-put_short.ensures
+    (taken c.comma_before-at.ensures.text
     (taken c.text_before-at-2.ensures.text
     (taken c.values_before-at.ensures.text
     (taken c.number_before-at-3.ensures.text
     (taken c.optional_before-at.ensures.text
     (taken c.number_before-at-2.ensures.text
     (taken c.number_before-at.ensures.text
-    c.text_before-at.ensures.text))))))
+    c.text_before-at.ensures.text)))))))
     refl

@@ -7,6 +7,7 @@ pub returns : goal.returns
 unfolding escape_byte
 returns c =
     short_put c.in_ok-put_short.ensures
+    (taken c.comma_before-at.ensures.text
     (taken c.number_before-at-10.ensures.text
     (taken c.number_before-at-9.ensures.text
     (taken c.number_before-at-8.ensures.text
@@ -24,5 +25,5 @@ returns c =
     (taken c.flag_before-at.ensures.text
     (taken c.number_before-at-2.ensures.text
     (taken c.number_before-at.ensures.text
-    c.text_before-at.ensures.text)))))))))))))))))
+    c.text_before-at.ensures.text))))))))))))))))))
     refl

@@ -1,5 +1,6 @@
+use Rattle.std.proofs.Common.{refl}
 use Rattle.json.specs.Print.{escape_byte}
-use Rattle.tk_stream.proofs.Behind.{both, line_split}
+use Rattle.tk_stream.proofs.Behind.{both, before, nothing_before, short_both, short_put, taken, closes, line_split}
 use Rattle.tk_stream.proofs.line.Line.put.Goals as goal
 
 pub returns : goal.returns
@@ -7,15 +8,13 @@ unfolding escape_byte
 returns c = rw (line_split c.args.self.now, ← c.version.ensures, ← c.self.view_is, ← c.as_slice.ensures.value, ← c.as_slice-2.ensures.value, ← c.as_slice-3.ensures.value, ← c.as_slice-4.ensures.value, ← c.as_slice-5.ensures.value, ← c.as_slice-6.ensures.value, ← c.as_slice-7.ensures.value)
     (both c.in_ok-put_dropped.ensures
     (both c.in_ok-put_gone.ensures
-    (both c.in_ok-put_list.ensures
-    (both c.in_ok-put_list-2.ensures
-    (both c.in_ok-put_list-3.ensures
-    (both c.in_ok-put_number.ensures
-    (both c.in_ok-put_list-4.ensures
-    (both c.in_ok-put_list-5.ensures
-    (both c.in_ok-put_list-6.ensures
-    (both c.in_ok-put_number-2.ensures
-    (both c.in_ok-put_flag.ensures
-    (both c.in_ok-put_list-7.ensures
-    (both c.in_ok-put_number-3.ensures
-    c.in_ok-put_text.ensures)))))))))))))
+    (closes c.in_ok-put_open.ensures
+    (closes c.in_ok-put_open-2.ensures
+    (closes c.in_ok-put_open-3.ensures
+    (short_both c.in_ok-put_short.ensures (before c.number_before-at.ensures.text (before c.text_before-at.ensures.text (nothing_before refl)))
+    (closes c.in_ok-put_items.ensures
+    (closes c.in_ok-put_open-4.ensures
+    (closes c.in_ok-put_open-5.ensures
+    (short_both c.in_ok-put_short-2.ensures (before c.number_before-at-2.ensures.text (before c.flag_before-at.ensures.text (before c.text_before-at-2.ensures.text (nothing_before refl))))
+    (closes c.in_ok-put_items-2.ensures
+    (short_put c.in_ok-put_short-3.ensures (taken c.number_before-at-3.ensures.text c.text_before-at-3.ensures.text) refl))))))))))))

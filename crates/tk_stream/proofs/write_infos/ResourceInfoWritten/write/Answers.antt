@@ -1,11 +1,12 @@
-use Rattle.std.proofs.Common.{refl, decimal}
-use Rattle.tk_stream.proofs.Behind.{both, before, nothing_before, short_both, put_as}
+use Rattle.std.proofs.Common.{◌++◌, refl, ap, decimal}
+use Rattle.serde_json.specs.Written.{comma_if}
+use Rattle.tk_stream.proofs.Behind.{both, before, nothing_before, short_both, closes_item, put_as}
 use Rattle.tk_stream.proofs.InfoTexts.{before_place, resource_text}
 use Rattle.tk_stream.proofs.write_infos.ResourceInfoWritten.write.Goals as goal
 
 pub returns : goal.returns
-returns c = put_as (resource_text c.args.self.now) (rw (← c.value.ensures.value, ← c.as_slice.ensures.list, ← c.resource_parent.ensures)
-    (both c.in_ok-put_list.ensures
+returns c = put_as (ap (λ xs. comma_if c.args.later ++ xs) (resource_text c.args.self.now)) (rw (← c.value.ensures.value, ← c.as_slice.ensures.list, ← c.resource_parent.ensures)
+    (closes_item (comma_if c.args.later) _ c.in_ok-put_attrs.ensures
     (short_both c.in_ok-put_short.ensures (before c.number_before-at.ensures.text (before c.text_before-at.ensures.text (nothing_before refl)))
     (both c.in_ok-put_name.ensures
     (both c.in_ok-put_text.ensures
