@@ -40,10 +40,10 @@ both {a} {b} {c} {p} {q} g h = record { is = h.is ∙ behind g q }
 pub at_end : {old new piece : List ℕ} → Puts old new piece → Puts old new (piece ++ [])
 at_end {old} {new} {piece} h = record { is = h.is ∙ ap (λ xs. old ++ xs) (sym (append-nil piece)) }
 
--- a text was written before the end of an array of that length, and put behind what was written
-pub short_put : {old new bytes text rest : List ℕ} → Puts old new bytes → Takes bytes text rest → rest ≡ [] → Puts old new text
-short_put {old} {new} {bytes} {text} put took none =
-    record { is = put.is ∙ ap (λ xs. old ++ xs) (took.is ∙ ap (λ xs. text ++ xs) none ∙ append-nil text) }
+-- a text was written before the end of an array, and put behind what was written
+pub short_put : {old new bytes text : List ℕ} {n : ℕ} (array : List ℕ) → length array ≡ n → Puts old new bytes → Takes bytes text (drop n array) → Puts old new text
+short_put {old} {new} {bytes} {text} {n} array is put took =
+    record { is = put.is ∙ ap (λ xs. old ++ xs) (took.is ∙ ap (λ xs. text ++ xs) (drop_all n array (omega arith)) ∙ append-nil text) }
 
 -- what stands from the end of a written piece on stays
 pub taken_from : (start at : ℕ) (piece old new : List ℕ) → start + length piece ≡ at → Takes (drop start new) piece (drop at old) → drop at new ≡ drop at old
@@ -54,8 +54,8 @@ taken_from start at piece old new place took =
 pub record Joined (bytes more text : List ℕ) : Type 0 where
   pub is : bytes ++ more ≡ text
 
-pub nothing_before : {rest more : List ℕ} → rest ≡ [] → Joined rest more more
-nothing_before {rest} {more} none = record { is = ap (λ xs. xs ++ more) none }
+pub nothing_before : {more : List ℕ} {n : ℕ} (array : List ℕ) → length array ≡ n → Joined (drop n array) more more
+nothing_before {more} {n} array is = record { is = ap (λ xs. xs ++ more) (drop_all n array (omega arith)) }
 
 -- a piece was written before others
 pub before : {bytes piece rest more text : List ℕ} → Takes bytes piece rest → Joined rest more text → Joined bytes more (piece ++ text)
@@ -121,6 +121,10 @@ pub line_split : (l : LineView) → line_text l
 unfolding line_text line_data escape_byte
 line_split l = ap (λ xs. codes "{\"dropped\":" ++ (compact_text (dropped_data l.dropped) ++ xs)) (behind_members (gone_members l.gone) (members_behind l))
 
+-- two pieces were taken
+pub taken : {a b c p q : List ℕ} → Takes a p b → Takes b q c → Takes a (p ++ q) c
+taken {a} {b} {c} {p} {q} g h = record { is = g.is ∙ ap (λ xs. p ++ xs) h.is ∙ sym (append_assoc p q c) }
+
 -- ---- names
 
 -- a quote or a backslash has a backslash before it
@@ -157,35 +161,29 @@ printable_name bs e = (and_parts (nat_le 1 (length bs) && nat_le (length bs) 102
 pub printable_at : (bs : List ℕ) (i : ℕ) → list_all is_printable bs ≡ true → i < length bs → is_printable (get_or bs i 0) ≡ true
 printable_at bs i e lt = AllPass-from_list_all is_printable bs e i 0 lt
 
--- a loop over bytes, one byte on
-pub byte_put : (bs : List ℕ) (i : ℕ) (out next total : List ℕ) → i < length bs → Puts out next (escape_byte (get_or bs i 0))
-    → out ++ escape (drop i bs) ≡ total → next ++ escape (drop (i + 1) bs) ≡ total
-byte_put bs i out next total lt put so_far =
-    behind put _ ∙ sym (ap (λ xs. out ++ escape xs) (drop_more bs i 0 lt)) ∙ so_far
+-- a byte was written before others, with the backslash that it has, or without one
+pub special_before : {bytes middle rest : List ℕ} (b : ℕ) (special : Bool) → special ≡ is_escaped b → special ≡ true
+    → Takes bytes (92 ∷ []) middle → Takes middle (b ∷ []) rest → Takes bytes (escape_byte b) rest
+special_before {bytes} {middle} {rest} b special is so slash byte =
+    record { is = slash.is ∙ ap (λ xs. 92 ∷ xs) byte.is ∙ sym (ap (λ xs. xs ++ rest) (special_byte b (sym is ∙ so))) }
 
--- and at its end
-pub bytes_put : (bs : List ℕ) (i : ℕ) (out total : List ℕ) → length bs ≤ i → out ++ escape (drop i bs) ≡ total → out ≡ total
-bytes_put bs i out total past so_far =
-    sym (append-nil out) ∙ sym (ap (λ xs. out ++ escape xs) (drop_all i bs past)) ∙ so_far
+pub usual_before : {bytes rest : List ℕ} (b : ℕ) (special : Bool) → is_printable b ≡ true → special ≡ is_escaped b → special ≡ false
+    → Takes bytes (b ∷ []) rest → Takes bytes (escape_byte b) rest
+usual_before {bytes} {rest} b special printable is so byte =
+    record { is = byte.is ∙ sym (ap (λ xs. xs ++ rest) (plain_byte b printable (sym is ∙ so))) }
 
--- a name with no byte that has a backslash before it
-pub plain_put : {old new : List ℕ} (bs : List ℕ) (plain : Bool) → OnTrue plain (escape bs ≡ bs) → plain ≡ true → Puts old new bs → Puts old new (escape bs)
-plain_put {old} {new} bs true h so put = record { is = put.is ∙ ap (λ xs. old ++ xs) (sym h) }
-plain_put {old} {new} bs false h so put = absurd (true≢false (sym so))
+-- a loop over bytes from the last to the first, one byte on
+pub byte_before_others : (bs : List ℕ) (i : ℕ) (bytes middle rest : List ℕ) → i < length bs → Takes bytes (escape_byte (get_or bs i 0)) middle
+    → Takes middle (escape (drop (i + 1) bs)) rest → Takes bytes (escape (drop i bs)) rest
+byte_before_others bs i bytes middle rest lt byte others =
+    record { is = (taken byte others).is ∙ sym (ap (λ xs. escape xs ++ rest) (drop_more bs i 0 lt)) }
 
-pub special_put : (old out new : List ℕ) (b : ℕ) (special : Bool) → special ≡ is_escaped b → special ≡ true → out ≡ old ++ 92 ∷ [] → new ≡ out ++ b ∷ [] → Puts old new (escape_byte b)
-special_put old out new b special is so one two =
-    record { is = two ∙ ap (λ xs. xs ++ b ∷ []) one ∙ append_assoc old (92 ∷ []) (b ∷ []) ∙ ap (λ xs. old ++ xs) (sym (special_byte b (sym is ∙ so))) }
-
-pub usual_put : (old new : List ℕ) (b : ℕ) (special : Bool) → is_printable b ≡ true → special ≡ is_escaped b → special ≡ false → new ≡ old ++ b ∷ [] → Puts old new (escape_byte b)
-usual_put old new b special printable is so one =
-    record { is = one ∙ ap (λ xs. old ++ xs) (sym (plain_byte b printable (sym is ∙ so))) }
+-- a name that stands for itself
+pub plain_before : {bytes rest : List ℕ} (bs : List ℕ) (plain : Bool) → OnTrue plain (escape bs ≡ bs) → plain ≡ true → Takes bytes bs rest → Takes bytes (escape bs) rest
+plain_before {bytes} {rest} bs true h so took = record { is = took.is ∙ ap (λ xs. xs ++ rest) (sym h) }
+plain_before {bytes} {rest} bs false h so took = absurd (true≢false (sym so))
 
 -- ---- reading
-
--- two pieces were taken
-pub taken : {a b c p q : List ℕ} → Takes a p b → Takes b q c → Takes a (p ++ q) c
-taken {a} {b} {c} {p} {q} g h = record { is = g.is ∙ ap (λ xs. p ++ xs) h.is ∙ sym (append_assoc p q c) }
 
 -- the last of some pieces was taken
 pub taken_last : {bytes piece rest : List ℕ} → Takes bytes piece rest → Takes bytes (piece ++ []) rest

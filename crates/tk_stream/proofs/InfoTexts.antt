@@ -1,16 +1,17 @@
 -- The texts of infos, as the pieces between their names.
-use Rattle.std.proofs.Common.{◌≡◌, ℕ, List, [], ◌∷◌, ◌++◌, ap, ◌∙◌, append_assoc, codes, decimal}
+use Rattle.std.proofs.Common.{◌≡◌, ℕ, List, [], ◌∷◌, ◌++◌, refl, ap, ◌∙◌, append_assoc, codes, decimal}
 use Rattle.json.specs.Print.{escape, escape_byte, quoted}
 use Rattle.serde_json.specs.View.{items_of}
-use Rattle.serde_json.specs.Written.{compact_text, items_text}
-use Rattle.std.specs.Prelude.{map, false}
+use Rattle.serde_json.specs.Written.{compact_text, items_text, members_text}
+use Rattle.std.specs.Prelude.{map, true, false}
+use Rattle.tk_ids.specs.declared.attr.AttrInfo.{AttrInfo}
 use Rattle.tk_ids.specs.declared.info.OpInfo.{OpInfo}
 use Rattle.tk_ids.specs.declared.info.ResourceInfo.{ResourceInfo}
 use Rattle.tk_ids.specs.declared.info.TaskInfo.{TaskInfo}
 use Rattle.tk_ids.specs.declared.location.Location.{Location}
-use Rattle.tk_stream.specs.Behind.{Takes}
-use Rattle.tk_stream.specs.Spelling.{info_data, resource_data, op_data, attr_data, location_data, optional_data, kind_text}
-use Rattle.tk_stream.proofs.Behind.{Joined, before}
+use Rattle.tk_stream.specs.Behind.{Takes, resource_behind, op_behind}
+use Rattle.tk_stream.specs.Spelling.{info_data, resource_data, op_data, attr_data, location_data, optional_data, optional_text, kind_text, attr_kind_text}
+use Rattle.tk_stream.proofs.Behind.{taken}
 
 -- a name with its quotes, before others
 name_flat : (name rest : List ℕ) → quoted name ++ rest ≡ 34 ∷ (escape name ++ 34 ∷ rest)
@@ -30,10 +31,10 @@ location_flat at rest = ap (λ xs. 91 ∷ xs)
     ∙ ap (λ xs. 34 ∷ (escape at.file ++ 34 ∷ 44 ∷ xs)) (place_flat (decimal at.line) (decimal at.column) rest))
 
 -- what stands behind the name of a location's file was written before others
-pub before_place : {bytes rest more text : List ℕ} (line column : List ℕ) → Takes bytes (34 ∷ 44 ∷ (line ++ 44 ∷ (column ++ 93 ∷ []))) rest → Joined rest more text
-    → Joined bytes more (34 ∷ 44 ∷ (line ++ 44 ∷ (column ++ 93 ∷ text)))
-before_place {bytes} {rest} {more} {text} line column took joined =
-    record { is = (before took joined).is ∙ ap (λ xs. 34 ∷ 44 ∷ xs) (place_flat line column text) }
+pub taken_place : {bytes rest more after : List ℕ} (line column : List ℕ) → Takes bytes (34 ∷ 44 ∷ (line ++ 44 ∷ (column ++ 93 ∷ []))) rest → Takes rest more after
+    → Takes bytes (34 ∷ 44 ∷ (line ++ 44 ∷ (column ++ 93 ∷ more))) after
+taken_place {bytes} {rest} {more} {after} line column place others =
+    record { is = (taken place others).is ∙ ap (λ xs. (34 ∷ 44 ∷ xs) ++ after) (place_flat line column more) }
 
 pub task_text : (t : TaskInfo) → compact_text (info_data t)
     ≡ (codes "{\"id\":" ++ decimal t.id) ++ ((codes ",\"kind\":" ++ quoted (kind_text t.kind)) ++ (codes ",\"loc\":[\"" ++ (escape t.location.file
@@ -43,22 +44,38 @@ task_text t = ap (λ xs. codes "{\"id\":" ++ (decimal t.id ++ (codes ",\"kind\":
     (location_flat t.location (codes ",\"name\":" ++ (quoted t.name ++ codes "}"))
     ∙ ap (λ xs. 91 ∷ 34 ∷ (escape t.location.file ++ 34 ∷ 44 ∷ (decimal t.location.line ++ 44 ∷ (decimal t.location.column ++ 93 ∷ (codes ",\"name\":" ++ xs))))) (name_flat t.name (codes "}")))
 
-pub resource_text : (r : ResourceInfo) → compact_text (resource_data r)
-    ≡ (codes "{\"attrs\":[" ++ items_text false (items_of (map attr_data r.attrs))) ++ ((codes ",\"id\":" ++ decimal r.id) ++ (codes ",\"kind\":\"" ++ (escape r.kind
+pub attr_text : (a : AttrInfo) → compact_text (attr_data a)
+    ≡ 91 ∷ 34 ∷ (escape a.name ++ 34 ∷ 44 ∷ (compact_text (optional_text a.unit) ++ 44 ∷ (quoted (attr_kind_text a.kind) ++ 93 ∷ [])))
+attr_text a = ap (λ xs. 91 ∷ xs) (name_flat a.name (44 ∷ (compact_text (optional_text a.unit) ++ 44 ∷ (quoted (attr_kind_text a.kind) ++ 93 ∷ []))))
+
+-- the attributes of a resource, and what stands behind them
+pub resource_split : (r : ResourceInfo) → compact_text (resource_data r)
+    ≡ (codes "{\"attrs\":[" ++ items_text false (items_of (map attr_data r.attrs))) ++ members_text true (resource_behind r)
+unfolding escape_byte
+resource_split r = refl
+
+pub resource_text : (r : ResourceInfo) → members_text true (resource_behind r)
+    ≡ (codes ",\"id\":" ++ decimal r.id) ++ (codes ",\"kind\":\"" ++ (escape r.kind
     ++ (codes "\",\"loc\":[\"" ++ (escape r.location.file
     ++ 34 ∷ 44 ∷ (decimal r.location.line ++ 44 ∷ (decimal r.location.column ++ 93 ∷ ((codes ",\"parent\":" ++ compact_text (optional_data r.parent))
-    ++ (codes ",\"type\":\"" ++ (escape r.concrete ++ codes "\"}"))))))))))
+    ++ (codes ",\"type\":\"" ++ (escape r.concrete ++ codes "\"}")))))))))
 unfolding escape_byte
-resource_text r = ap (λ xs. (codes "{\"attrs\":[" ++ items_text false (items_of (map attr_data r.attrs))) ++ (codes ",\"id\":" ++ (decimal r.id ++ (codes ",\"kind\":" ++ xs))))
+resource_text r = ap (λ xs. codes ",\"id\":" ++ (decimal r.id ++ (codes ",\"kind\":" ++ xs)))
     (name_flat r.kind (codes ",\"loc\":" ++ (compact_text (location_data r.location) ++ (codes ",\"parent\":" ++ (compact_text (optional_data r.parent) ++ (codes ",\"type\":" ++ (quoted r.concrete ++ codes "}"))))))
     ∙ ap (λ xs. 34 ∷ (escape r.kind ++ 34 ∷ (codes ",\"loc\":" ++ xs)))
     (location_flat r.location (codes ",\"parent\":" ++ (compact_text (optional_data r.parent) ++ (codes ",\"type\":" ++ (quoted r.concrete ++ codes "}"))))
     ∙ ap (λ xs. 91 ∷ 34 ∷ (escape r.location.file ++ 34 ∷ 44 ∷ (decimal r.location.line ++ 44 ∷ (decimal r.location.column ++ 93 ∷ (codes ",\"parent\":" ++ (compact_text (optional_data r.parent) ++ (codes ",\"type\":" ++ xs)))))))
     (name_flat r.concrete (codes "}"))))
 
-pub op_text : (o : OpInfo) → compact_text (op_data o)
-    ≡ (codes "{\"attrs\":[" ++ items_text false (items_of (map attr_data o.attrs))) ++ ((codes ",\"id\":" ++ decimal o.id) ++ ((codes ",\"parent\":" ++ compact_text (optional_data o.parent))
-    ++ ((codes ",\"resource\":" ++ decimal o.resource) ++ (codes ",\"source\":\"" ++ (escape o.source ++ codes "\"}")))))
+-- the attributes of an operation, and what stands behind them
+pub op_split : (o : OpInfo) → compact_text (op_data o)
+    ≡ (codes "{\"attrs\":[" ++ items_text false (items_of (map attr_data o.attrs))) ++ members_text true (op_behind o)
 unfolding escape_byte
-op_text o = ap (λ xs. (codes "{\"attrs\":[" ++ items_text false (items_of (map attr_data o.attrs))) ++ (codes ",\"id\":" ++ (decimal o.id ++ (codes ",\"parent\":" ++ (compact_text (optional_data o.parent)
-    ++ (codes ",\"resource\":" ++ (decimal o.resource ++ (codes ",\"source\":" ++ xs)))))))) (name_flat o.source (codes "}"))
+op_split o = refl
+
+pub op_text : (o : OpInfo) → members_text true (op_behind o)
+    ≡ (codes ",\"id\":" ++ decimal o.id) ++ ((codes ",\"parent\":" ++ compact_text (optional_data o.parent))
+    ++ ((codes ",\"resource\":" ++ decimal o.resource) ++ (codes ",\"source\":\"" ++ (escape o.source ++ codes "\"}"))))
+unfolding escape_byte
+op_text o = ap (λ xs. codes ",\"id\":" ++ (decimal o.id ++ (codes ",\"parent\":" ++ (compact_text (optional_data o.parent)
+    ++ (codes ",\"resource\":" ++ (decimal o.resource ++ (codes ",\"source\":" ++ xs))))))) (name_flat o.source (codes "}"))

@@ -15,7 +15,7 @@ use crate::putting::{Written, put_open};
 use crate::ranged::{Ranged, see_all};
 use crate::reading::GoneParts;
 use crate::shaped::{Shaped, list_of};
-use crate::short::{comma_before, number_before, put_short};
+use crate::short::{ROOM, comma_before, number_before, put_short};
 use crate::takes::{op_id, resource_id, take_number, take_text, task_id};
 use crate::taking::{Taken, some_of, take_list};
 use serde_json::Value;
@@ -41,16 +41,17 @@ impl Model for Gone {
 
 // ---- ids in lines
 
-// A number has at most 20 digits, and a comma may stand before it.
-const ID_ROOM: usize = 24;
-
-fn put_id(out: &mut Vec<u8>, later: bool, id: u64) -> Result<(), AllocError>
+fn put_id(
+    out: &mut Vec<u8>,
+    scratch: &mut [u8; ROOM],
+    later: bool,
+    id: u64,
+) -> Result<(), AllocError>
     ensures { OnOk result (Puts out.old.items out.new.items (comma_if later ++ compact_text (spec.number_data id))) }
 {
-    let mut text = [0; ID_ROOM];
-    let at = number_before(&mut text, ID_ROOM, b"", id);
-    let at = comma_before(&mut text, at, later);
-    put_short(out, &text, at)?;
+    let at = number_before(scratch, ROOM, b"", id);
+    let at = comma_before(scratch, at, later);
+    put_short(out, scratch, at)?;
     Ok(())
 }
 
@@ -59,8 +60,13 @@ impl Written for TaskId {
 
     ghost spelling = { number_data };
 
-    fn write(&self, out: &mut Vec<u8>, later: bool) -> Result<(), AllocError> {
-        put_id(out, later, self.value())
+    fn write(
+        &self,
+        out: &mut Vec<u8>,
+        scratch: &mut [u8; ROOM],
+        later: bool,
+    ) -> Result<(), AllocError> {
+        put_id(out, scratch, later, self.value())
     }
 }
 
@@ -69,8 +75,13 @@ impl Written for ResourceId {
 
     ghost spelling = { number_data };
 
-    fn write(&self, out: &mut Vec<u8>, later: bool) -> Result<(), AllocError> {
-        put_id(out, later, self.value())
+    fn write(
+        &self,
+        out: &mut Vec<u8>,
+        scratch: &mut [u8; ROOM],
+        later: bool,
+    ) -> Result<(), AllocError> {
+        put_id(out, scratch, later, self.value())
     }
 }
 
@@ -79,8 +90,13 @@ impl Written for AsyncOpId {
 
     ghost spelling = { number_data };
 
-    fn write(&self, out: &mut Vec<u8>, later: bool) -> Result<(), AllocError> {
-        put_id(out, later, self.value())
+    fn write(
+        &self,
+        out: &mut Vec<u8>,
+        scratch: &mut [u8; ROOM],
+        later: bool,
+    ) -> Result<(), AllocError> {
+        put_id(out, scratch, later, self.value())
     }
 }
 
@@ -183,21 +199,30 @@ pub(crate) fn see_gone(gone: &Option<Gone>)
 }
 
 /// The lists of what is gone, where a line says it, behind another member.
-pub(crate) fn put_gone(out: &mut Vec<u8>, gone: &Option<Gone>) -> Result<(), AllocError>
+pub(crate) fn put_gone(
+    out: &mut Vec<u8>,
+    scratch: &mut [u8; ROOM],
+    gone: &Option<Gone>,
+) -> Result<(), AllocError>
     ensures { OnOk result (Puts out.old.items out.new.items (spec.behind_text (spec.gone_members gone.now))) }
 {
     match gone {
-        Some(gone) => put_lists(out, gone),
+        Some(gone) => put_lists(out, scratch, gone),
         None => Ok(()),
     }
 }
 
-fn put_lists(out: &mut Vec<u8>, gone: &Gone) -> Result<(), AllocError>
+fn put_lists(out: &mut Vec<u8>, scratch: &mut [u8; ROOM], gone: &Gone) -> Result<(), AllocError>
     ensures { OnOk result (Puts out.old.items out.new.items (spec.behind_text (spec.gone_fields gone.now))) }
 {
-    put_open(out, b",\"gone_ops\":[", gone.ops.as_slice())?;
-    put_open(out, b"],\"gone_resources\":[", gone.resources.as_slice())?;
-    put_open(out, b"],\"gone_tasks\":[", gone.tasks.as_slice())?;
+    put_open(out, scratch, b",\"gone_ops\":[", gone.ops.as_slice())?;
+    put_open(
+        out,
+        scratch,
+        b"],\"gone_resources\":[",
+        gone.resources.as_slice(),
+    )?;
+    put_open(out, scratch, b"],\"gone_tasks\":[", gone.tasks.as_slice())?;
     put_text(out, b"]")?;
     Ok(())
 }

@@ -44,7 +44,7 @@ use crate::ranged::{see_all, see_number, see_totals};
 use crate::reading::{LineParts, json_of};
 use crate::resource::Resource;
 use crate::shaped::list_of;
-use crate::short::{flag_before, number_before, put_short, text_before};
+use crate::short::{ROOM, flag_before, number_before, put_short, text_before};
 use crate::tables::Tables;
 use crate::takes::{take_flag, take_number, take_text};
 use crate::taking::{some_of, take_list};
@@ -65,9 +65,6 @@ const INFO_ROOM: usize = 256;
 const COUNTS_ROOM: usize = 48;
 
 const ROW_ROOM: usize = 384;
-
-// No part of a line that stands between two of its lists is longer: each number has at most 20 digits.
-const PART: usize = 80;
 
 /// What one line of a stream says. A line is made by [`Line::between`] and [`Line::read`] alone.
 #[derive(Debug, Drop)]
@@ -325,32 +322,46 @@ impl Line {
     fn put(&self, out: &mut Vec<u8>) -> Result<(), AllocError>
         ensures { OnOk result (Puts out.old.items out.new.items (spec.line_text self.now)) }
     {
-        put_dropped(out, self.dropped)?;
-        put_gone(out, &self.gone)?;
-        put_open(out, b",\"new_ops\":[", self.new_ops.as_slice())?;
-        put_open(out, b"],\"new_resources\":[", self.new_resources.as_slice())?;
-        put_open(out, b"],\"new_tasks\":[", self.new_tasks.as_slice())?;
-        let mut moment = [0; PART];
-        let at = text_before(&mut moment, PART, b",\"op_stats\":[");
-        let at = number_before(&mut moment, at, b"],\"now\":", self.moment);
-        put_short(out, &moment, at)?;
-        put_items(out, self.op_stats.as_slice())?;
-        put_open(out, b"],\"poll_counts\":[", self.poll_counts.as_slice())?;
+        let scratch = &mut [0; ROOM];
+        put_dropped(out, scratch, self.dropped)?;
+        put_gone(out, scratch, &self.gone)?;
+        put_open(out, scratch, b",\"new_ops\":[", self.new_ops.as_slice())?;
         put_open(
             out,
+            scratch,
+            b"],\"new_resources\":[",
+            self.new_resources.as_slice(),
+        )?;
+        put_open(
+            out,
+            scratch,
+            b"],\"new_tasks\":[",
+            self.new_tasks.as_slice(),
+        )?;
+        let at = text_before(scratch, ROOM, b",\"op_stats\":[");
+        let at = number_before(scratch, at, b"],\"now\":", self.moment);
+        put_short(out, scratch, at)?;
+        put_items(out, scratch, self.op_stats.as_slice())?;
+        put_open(
+            out,
+            scratch,
+            b"],\"poll_counts\":[",
+            self.poll_counts.as_slice(),
+        )?;
+        put_open(
+            out,
+            scratch,
             b"],\"resource_stats\":[",
             self.resource_stats.as_slice(),
         )?;
-        let mut place = [0; PART];
-        let at = text_before(&mut place, PART, b",\"task_stats\":[");
-        let at = flag_before(&mut place, at, b",\"snapshot\":", self.snapshot);
-        let at = number_before(&mut place, at, b"],\"seq\":", self.seq);
-        put_short(out, &place, at)?;
-        put_items(out, self.task_stats.as_slice())?;
-        let mut end = [0; PART];
-        let at = text_before(&mut end, PART, b"}");
-        let at = number_before(&mut end, at, b"],\"v\":", self.version());
-        put_short(out, &end, at)?;
+        let at = text_before(scratch, ROOM, b",\"task_stats\":[");
+        let at = flag_before(scratch, at, b",\"snapshot\":", self.snapshot);
+        let at = number_before(scratch, at, b"],\"seq\":", self.seq);
+        put_short(out, scratch, at)?;
+        put_items(out, scratch, self.task_stats.as_slice())?;
+        let at = text_before(scratch, ROOM, b"}");
+        let at = number_before(scratch, at, b"],\"v\":", self.version());
+        put_short(out, scratch, at)?;
         Ok(())
     }
 
@@ -543,16 +554,19 @@ fn see_stats(
 }
 
 // What a line begins with: its first member.
-fn put_dropped(out: &mut Vec<u8>, dropped: Dropped) -> Result<(), AllocError>
+fn put_dropped(
+    out: &mut Vec<u8>,
+    scratch: &mut [u8; ROOM],
+    dropped: Dropped,
+) -> Result<(), AllocError>
     ensures { OnOk result (Puts out.old.items out.new.items
         (codes "{\"dropped\":" ++ compact_text (spec.dropped_data dropped))) }
 {
-    let mut text = [0; PART];
-    let at = text_before(&mut text, PART, b"]");
-    let at = number_before(&mut text, at, b",", dropped.ops);
-    let at = number_before(&mut text, at, b",", dropped.resources);
-    let at = number_before(&mut text, at, b"{\"dropped\":[", dropped.tasks);
-    put_short(out, &text, at)?;
+    let at = text_before(scratch, ROOM, b"]");
+    let at = number_before(scratch, at, b",", dropped.ops);
+    let at = number_before(scratch, at, b",", dropped.resources);
+    let at = number_before(scratch, at, b"{\"dropped\":[", dropped.tasks);
+    put_short(out, scratch, at)?;
     Ok(())
 }
 

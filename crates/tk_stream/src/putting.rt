@@ -6,6 +6,7 @@ ghost use Rattle.serde_json.specs.Written.{compact_text, items_text, comma_if};
 ghost use Rattle.tk_stream.specs.Behind.{Puts, PutsOpen};
 
 use crate::pieces::put_text;
+use crate::short::ROOM;
 use std::alloc::AllocError;
 
 /// A type whose values stand in lists of lines.
@@ -14,13 +15,20 @@ pub(crate) trait Written {
     ghost spelling: { Self → Data };
 
     /// Puts the value's text behind what is written, with a comma before it where another value of its list stands there.
-    fn write(&self, out: &mut Vec<u8>, later: bool) -> Result<(), AllocError>
+    /// Short texts are written in `scratch` first; what it holds before and behind the call means nothing.
+    fn write(
+        &self,
+        out: &mut Vec<u8>,
+        scratch: &mut [u8; ROOM],
+        later: bool,
+    ) -> Result<(), AllocError>
         ensures { OnOk result (Puts out.old.items out.new.items (comma_if later ++ compact_text (spelling self.now))) };
 }
 
 /// What stands before a list, up to its opening bracket, and the list. The bracket that closes it is left to the next text.
 pub(crate) fn put_open<T: Written>(
     out: &mut Vec<u8>,
+    scratch: &mut [u8; ROOM],
     before: &[u8],
     list: &[T],
 ) -> Result<(), AllocError>
@@ -28,18 +36,22 @@ pub(crate) fn put_open<T: Written>(
         (before.now ++ items_text false (items_of (map T.spelling list.now)))) }
 {
     put_text(out, before)?;
-    put_items(out, list)?;
+    put_items(out, scratch, list)?;
     Ok(())
 }
 
 /// The values of a list, with a comma between two. The bracket that closes it is left to the next text.
-pub(crate) fn put_items<T: Written>(out: &mut Vec<u8>, list: &[T]) -> Result<(), AllocError>
+pub(crate) fn put_items<T: Written>(
+    out: &mut Vec<u8>,
+    scratch: &mut [u8; ROOM],
+    list: &[T],
+) -> Result<(), AllocError>
     ensures { OnOk result (PutsOpen out.old.items out.new.items
         (items_text false (items_of (map T.spelling list.now)))) }
 {
     let mut later = false;
     for item in list {
-        item.write(out, later)?;
+        item.write(out, scratch, later)?;
         later = true;
     }
     Ok(())

@@ -1,14 +1,23 @@
 //! A short text, written from its end to its front: so come the digits of a number, and the whole goes behind a line's
-//! text in one step.
-ghost use Rattle.std.specs.Prelude.{◌≡◌, ◌+◌, ◌≤◌, ◌++◌, length, drop, OnOk};
+//! text in one step. The members of an object are therefore written from the last to the first.
+ghost use Rattle.std.specs.Prelude.{◌≡◌, ◌+◌, ◌≤◌, ◌++◌, true, length, drop, OnOk};
+ghost use Rattle.std.specs.List.{list_all};
+ghost use Rattle.json.specs.Print.{escape, escape_byte};
 ghost use Rattle.serde_json.specs.Data.{boolean};
 ghost use Rattle.serde_json.specs.Written.{compact_text, comma_if};
-ghost use Rattle.tk_stream.specs.Behind.{Puts, Takes};
+ghost use Rattle.tk_ids.specs.Names.{is_printable};
+ghost use Rattle.tk_stream.specs.Behind.{Puts, Takes, is_escaped};
 ghost use Rattle.tk_stream.specs.Spelling as spec;
 
 use crate::pieces::put_text;
+use crate::plain::is_plain;
 use itoa::{Buffer, write_digits};
 use std::alloc::AllocError;
+use tk_ids::Name;
+
+/// How many bytes most short texts have at most. Those of a line are written in one array, since a new one would be filled
+/// with zeros for each.
+pub(crate) const ROOM: usize = 1024;
 
 /// A text before what begins at a place. It is answered where it begins itself.
 #[inline(always)]
@@ -108,6 +117,60 @@ pub(crate) fn signed_before<const N: usize>(
     let mut buffer = Buffer::new();
     let start = text_before(bytes, at, buffer.format(n).as_bytes());
     text_before(bytes, start, text)
+}
+
+/// A name, without its quotes.
+#[inline(always)]
+pub(crate) fn name_before<const N: usize>(bytes: &mut [u8; N], at: usize, name: &Name) -> usize
+    requires { (length name.now + length name.now ≤ at) × (at ≤ N) }
+    ensures text { Takes (drop result bytes.new) (escape name.now) (drop at bytes.old) }
+    ensures place { (at ≤ result + (length name.now + length name.now)) × (result ≤ N) }
+{
+    let text = name.as_bytes();
+    if is_plain(text) {
+        text_before(bytes, at, text)
+    } else {
+        escaped_before(bytes, at, text)
+    }
+}
+
+// Few names have a backslash.
+#[cold]
+#[inline(never)]
+fn escaped_before<const N: usize>(bytes: &mut [u8; N], at: usize, text: &[u8]) -> usize
+    requires room { (length text.now + length text.now ≤ at) × (at ≤ N) }
+    requires printable { list_all is_printable text.now ≡ true }
+    ensures text { Takes (drop result bytes.new) (escape text.now) (drop at bytes.old) }
+    ensures place { (at ≤ result + (length text.now + length text.now)) × (result ≤ N) }
+{
+    let mut start = at;
+    let mut left = text.len();
+    while left > 0 {
+        left -= 1;
+        start = byte_before(bytes, start, text[left]);
+    }
+    start
+}
+
+fn byte_before<const N: usize>(bytes: &mut [u8; N], at: usize, byte: u8) -> usize
+    requires room { (2 ≤ at) × (at ≤ N) }
+    requires printable { is_printable byte ≡ true }
+    ensures text { Takes (drop result bytes.new) (escape_byte byte) (drop at bytes.old) }
+    ensures place { (at ≤ result + 2) × (result ≤ N) }
+{
+    let start = text_before(bytes, at, &[byte]);
+    if is_escaped(byte) {
+        text_before(bytes, start, b"\\")
+    } else {
+        start
+    }
+}
+
+/// Whether a backslash stands before a byte of a name.
+pub(crate) fn is_escaped(byte: u8) -> bool
+    ensures { result ≡ is_escaped byte }
+{
+    byte == b'"' || byte == b'\\'
 }
 
 /// What begins at a place, put behind what is written.

@@ -11,7 +11,7 @@ ghost use Rattle.tk_ids.specs.Names.{is_name, is_printable};
 ghost use Rattle.tk_stream.specs.Behind.{Takes, is_escaped, is_plain};
 ghost use Rattle.tk_stream.specs.Spelling as spec;
 
-use crate::pieces::is_escaped;
+use crate::short::is_escaped;
 use std::alloc::{AllocError, Global};
 use tk_ids::{AsyncOpId, IdError, Name, ResourceId, TaskId};
 

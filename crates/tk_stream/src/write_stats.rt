@@ -1,4 +1,4 @@
-//! Statistics and poll counts, written.
+//! Statistics and poll counts, written: their members from the last to the first, as short texts are.
 ghost use Rattle.std.specs.Prelude.{◌≡◌, ◌+◌, ◌≤◌, ◌++◌, false, map, drop, OnOk};
 ghost use Rattle.serde_json.specs.View.{items_of};
 ghost use Rattle.serde_json.specs.Written.{compact_text, items_text, comma_if};
@@ -7,24 +7,16 @@ ghost use Rattle.tk_stream.specs.Spelling as spec;
 
 use crate::putting::Written;
 use crate::short::{
-    comma_before, flag_before, number_before, optional_before, put_short, signed_before,
+    ROOM, comma_before, flag_before, number_before, optional_before, put_short, signed_before,
     text_before,
 };
 use std::alloc::AllocError;
 use tk_core::{AttrValues, OpRow, ResourceRow, TaskRow};
 use tk_ids::{AsyncOpId, AttrValue, ResourceId, TaskId};
 
-// No text of these is longer, with a comma before it: each number has at most 20 digits.
-const TASK_ROOM: usize = 544;
-
-const RESOURCE_ROOM: usize = 272;
-
-const OP_ROOM: usize = 496;
-
-const COUNTS_ROOM: usize = 72;
-
 fn write_task_stats(
     out: &mut Vec<u8>,
+    scratch: &mut [u8; ROOM],
     later: bool,
     id: u64,
     row: &TaskRow,
@@ -32,27 +24,26 @@ fn write_task_stats(
     ensures { OnOk result (Puts out.old.items out.new.items
         (comma_if later ++ compact_text (spec.stats_data (id, row.now)))) }
 {
-    let mut text = [0; TASK_ROOM];
-    let at = text_before(&mut text, TASK_ROOM, b"}");
-    let at = number_before(&mut text, at, b",\"wakes\":", row.wakes);
-    let at = number_before(&mut text, at, b",\"self_wakes\":", row.self_wakes);
-    let at = flag_before(&mut text, at, b",\"scheduled\":", row.scheduled);
-    let at = number_before(&mut text, at, b",\"sched\":", row.sched);
-    let at = number_before(&mut text, at, b",\"polls\":", row.polls);
-    let at = flag_before(&mut text, at, b",\"polling\":", row.polling);
-    let at = optional_before(&mut text, at, b",\"last_wake\":", row.last_wake);
-    let at = optional_before(&mut text, at, b",\"last_started\":", row.last_started);
-    let at = optional_before(&mut text, at, b",\"last_ended\":", row.last_ended);
-    let at = number_before(&mut text, at, b",\"id\":", id);
-    let at = number_before(&mut text, at, b",\"handles\":", row.handles);
-    let at = optional_before(&mut text, at, b",\"first_poll\":", row.first_poll);
-    let at = number_before(&mut text, at, b",\"drops\":", row.drops);
-    let at = optional_before(&mut text, at, b",\"dropped\":", row.dropped);
-    let at = number_before(&mut text, at, b",\"created\":", row.created);
-    let at = number_before(&mut text, at, b",\"clones\":", row.clones);
-    let at = number_before(&mut text, at, b"{\"busy\":", row.busy);
-    let at = comma_before(&mut text, at, later);
-    put_short(out, &text, at)?;
+    let at = text_before(scratch, ROOM, b"}");
+    let at = number_before(scratch, at, b",\"wakes\":", row.wakes);
+    let at = number_before(scratch, at, b",\"self_wakes\":", row.self_wakes);
+    let at = flag_before(scratch, at, b",\"scheduled\":", row.scheduled);
+    let at = number_before(scratch, at, b",\"sched\":", row.sched);
+    let at = number_before(scratch, at, b",\"polls\":", row.polls);
+    let at = flag_before(scratch, at, b",\"polling\":", row.polling);
+    let at = optional_before(scratch, at, b",\"last_wake\":", row.last_wake);
+    let at = optional_before(scratch, at, b",\"last_started\":", row.last_started);
+    let at = optional_before(scratch, at, b",\"last_ended\":", row.last_ended);
+    let at = number_before(scratch, at, b",\"id\":", id);
+    let at = number_before(scratch, at, b",\"handles\":", row.handles);
+    let at = optional_before(scratch, at, b",\"first_poll\":", row.first_poll);
+    let at = number_before(scratch, at, b",\"drops\":", row.drops);
+    let at = optional_before(scratch, at, b",\"dropped\":", row.dropped);
+    let at = number_before(scratch, at, b",\"created\":", row.created);
+    let at = number_before(scratch, at, b",\"clones\":", row.clones);
+    let at = number_before(scratch, at, b"{\"busy\":", row.busy);
+    let at = comma_before(scratch, at, later);
+    put_short(out, scratch, at)?;
     Ok(())
 }
 
@@ -61,8 +52,13 @@ impl Written for (TaskId, TaskRow) {
 
     ghost spelling = { stats_data };
 
-    fn write(&self, out: &mut Vec<u8>, later: bool) -> Result<(), AllocError> {
-        write_task_stats(out, later, self.0.value(), &self.1)
+    fn write(
+        &self,
+        out: &mut Vec<u8>,
+        scratch: &mut [u8; ROOM],
+        later: bool,
+    ) -> Result<(), AllocError> {
+        write_task_stats(out, scratch, later, self.0.value(), &self.1)
     }
 }
 
@@ -104,6 +100,7 @@ fn values_before<const N: usize>(bytes: &mut [u8; N], at: usize, values: &AttrVa
 
 fn write_resource_stats(
     out: &mut Vec<u8>,
+    scratch: &mut [u8; ROOM],
     later: bool,
     id: u64,
     row: &ResourceRow,
@@ -111,16 +108,15 @@ fn write_resource_stats(
     ensures { OnOk result (Puts out.old.items out.new.items
         (comma_if later ++ compact_text (spec.resource_stats_data (id, row.now)))) }
 {
-    let mut text = [0; RESOURCE_ROOM];
-    let at = text_before(&mut text, RESOURCE_ROOM, b"}");
-    let at = number_before(&mut text, at, b",\"id\":", id);
-    let at = number_before(&mut text, at, b",\"handles\":", row.handles);
-    let at = optional_before(&mut text, at, b",\"dropped\":", row.dropped);
-    let at = number_before(&mut text, at, b",\"created\":", row.created);
-    let at = values_before(&mut text, at, &row.attrs);
-    let at = text_before(&mut text, at, b"{\"attrs\":[");
-    let at = comma_before(&mut text, at, later);
-    put_short(out, &text, at)?;
+    let at = text_before(scratch, ROOM, b"}");
+    let at = number_before(scratch, at, b",\"id\":", id);
+    let at = number_before(scratch, at, b",\"handles\":", row.handles);
+    let at = optional_before(scratch, at, b",\"dropped\":", row.dropped);
+    let at = number_before(scratch, at, b",\"created\":", row.created);
+    let at = values_before(scratch, at, &row.attrs);
+    let at = text_before(scratch, at, b"{\"attrs\":[");
+    let at = comma_before(scratch, at, later);
+    put_short(out, scratch, at)?;
     Ok(())
 }
 
@@ -129,8 +125,13 @@ impl Written for (ResourceId, ResourceRow) {
 
     ghost spelling = { resource_stats_data };
 
-    fn write(&self, out: &mut Vec<u8>, later: bool) -> Result<(), AllocError> {
-        write_resource_stats(out, later, self.0.value(), &self.1)
+    fn write(
+        &self,
+        out: &mut Vec<u8>,
+        scratch: &mut [u8; ROOM],
+        later: bool,
+    ) -> Result<(), AllocError> {
+        write_resource_stats(out, scratch, later, self.0.value(), &self.1)
     }
 }
 
@@ -143,27 +144,32 @@ fn task_value(task: Option<TaskId>) -> Option<u64>
     }
 }
 
-fn write_op_stats(out: &mut Vec<u8>, later: bool, id: u64, row: &OpRow) -> Result<(), AllocError>
+fn write_op_stats(
+    out: &mut Vec<u8>,
+    scratch: &mut [u8; ROOM],
+    later: bool,
+    id: u64,
+    row: &OpRow,
+) -> Result<(), AllocError>
     ensures { OnOk result (Puts out.old.items out.new.items
         (comma_if later ++ compact_text (spec.op_stats_data (id, row.now)))) }
 {
-    let mut text = [0; OP_ROOM];
-    let at = text_before(&mut text, OP_ROOM, b"}");
-    let at = optional_before(&mut text, at, b",\"task\":", task_value(row.task));
-    let at = number_before(&mut text, at, b",\"polls\":", row.polls);
-    let at = flag_before(&mut text, at, b",\"polling\":", row.polling);
-    let at = optional_before(&mut text, at, b",\"last_started\":", row.last_started);
-    let at = optional_before(&mut text, at, b",\"last_ended\":", row.last_ended);
-    let at = number_before(&mut text, at, b",\"id\":", id);
-    let at = number_before(&mut text, at, b",\"handles\":", row.handles);
-    let at = optional_before(&mut text, at, b",\"first_poll\":", row.first_poll);
-    let at = optional_before(&mut text, at, b",\"dropped\":", row.dropped);
-    let at = number_before(&mut text, at, b",\"created\":", row.created);
-    let at = number_before(&mut text, at, b",\"busy\":", row.busy);
-    let at = values_before(&mut text, at, &row.attrs);
-    let at = text_before(&mut text, at, b"{\"attrs\":[");
-    let at = comma_before(&mut text, at, later);
-    put_short(out, &text, at)?;
+    let at = text_before(scratch, ROOM, b"}");
+    let at = optional_before(scratch, at, b",\"task\":", task_value(row.task));
+    let at = number_before(scratch, at, b",\"polls\":", row.polls);
+    let at = flag_before(scratch, at, b",\"polling\":", row.polling);
+    let at = optional_before(scratch, at, b",\"last_started\":", row.last_started);
+    let at = optional_before(scratch, at, b",\"last_ended\":", row.last_ended);
+    let at = number_before(scratch, at, b",\"id\":", id);
+    let at = number_before(scratch, at, b",\"handles\":", row.handles);
+    let at = optional_before(scratch, at, b",\"first_poll\":", row.first_poll);
+    let at = optional_before(scratch, at, b",\"dropped\":", row.dropped);
+    let at = number_before(scratch, at, b",\"created\":", row.created);
+    let at = number_before(scratch, at, b",\"busy\":", row.busy);
+    let at = values_before(scratch, at, &row.attrs);
+    let at = text_before(scratch, at, b"{\"attrs\":[");
+    let at = comma_before(scratch, at, later);
+    put_short(out, scratch, at)?;
     Ok(())
 }
 
@@ -172,13 +178,19 @@ impl Written for (AsyncOpId, OpRow) {
 
     ghost spelling = { op_stats_data };
 
-    fn write(&self, out: &mut Vec<u8>, later: bool) -> Result<(), AllocError> {
-        write_op_stats(out, later, self.0.value(), &self.1)
+    fn write(
+        &self,
+        out: &mut Vec<u8>,
+        scratch: &mut [u8; ROOM],
+        later: bool,
+    ) -> Result<(), AllocError> {
+        write_op_stats(out, scratch, later, self.0.value(), &self.1)
     }
 }
 
 fn write_counts(
     out: &mut Vec<u8>,
+    scratch: &mut [u8; ROOM],
     later: bool,
     id: u64,
     ready: u64,
@@ -187,13 +199,12 @@ fn write_counts(
     ensures { OnOk result (Puts out.old.items out.new.items
         (comma_if later ++ compact_text (spec.counts_data (id, ready, pending)))) }
 {
-    let mut text = [0; COUNTS_ROOM];
-    let at = text_before(&mut text, COUNTS_ROOM, b"]");
-    let at = number_before(&mut text, at, b",", pending);
-    let at = number_before(&mut text, at, b",", ready);
-    let at = number_before(&mut text, at, b"[", id);
-    let at = comma_before(&mut text, at, later);
-    put_short(out, &text, at)?;
+    let at = text_before(scratch, ROOM, b"]");
+    let at = number_before(scratch, at, b",", pending);
+    let at = number_before(scratch, at, b",", ready);
+    let at = number_before(scratch, at, b"[", id);
+    let at = comma_before(scratch, at, later);
+    put_short(out, scratch, at)?;
     Ok(())
 }
 
@@ -202,7 +213,12 @@ impl Written for (ResourceId, u64, u64) {
 
     ghost spelling = { counts_data };
 
-    fn write(&self, out: &mut Vec<u8>, later: bool) -> Result<(), AllocError> {
-        write_counts(out, later, self.0.value(), self.1, self.2)
+    fn write(
+        &self,
+        out: &mut Vec<u8>,
+        scratch: &mut [u8; ROOM],
+        later: bool,
+    ) -> Result<(), AllocError> {
+        write_counts(out, scratch, later, self.0.value(), self.1, self.2)
     }
 }

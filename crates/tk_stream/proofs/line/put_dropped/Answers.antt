@@ -1,4 +1,3 @@
-use Rattle.std.proofs.Common.{refl}
 use Rattle.json.specs.Print.{escape_byte}
 use Rattle.tk_stream.proofs.Behind.{taken, short_put}
 use Rattle.tk_stream.proofs.line.put_dropped.Goals as goal
@@ -6,9 +5,8 @@ use Rattle.tk_stream.proofs.line.put_dropped.Goals as goal
 pub returns : goal.returns
 unfolding escape_byte
 returns c =
-    short_put c.in_ok-put_short.ensures
+    short_put _ c.told-scratch c.in_ok-put_short.ensures
     (taken c.number_before-at-3.ensures.text
     (taken c.number_before-at-2.ensures.text
     (taken c.number_before-at.ensures.text
     c.text_before-at.ensures.text)))
-    refl

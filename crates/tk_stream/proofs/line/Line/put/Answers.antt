@@ -1,4 +1,3 @@
-use Rattle.std.proofs.Common.{refl}
 use Rattle.json.specs.Print.{escape_byte}
 use Rattle.tk_stream.proofs.Behind.{both, before, nothing_before, short_both, short_put, taken, closes, line_split}
 use Rattle.tk_stream.proofs.line.Line.put.Goals as goal
@@ -11,10 +10,10 @@ returns c = rw (line_split c.args.self.now, ← c.version.ensures, ← c.self.vi
     (closes c.in_ok-put_open.ensures
     (closes c.in_ok-put_open-2.ensures
     (closes c.in_ok-put_open-3.ensures
-    (short_both c.in_ok-put_short.ensures (before c.number_before-at.ensures.text (before c.text_before-at.ensures.text (nothing_before refl)))
+    (short_both c.in_ok-put_short.ensures (before c.number_before-at.ensures.text (before c.text_before-at.ensures.text (nothing_before _ c.put_open-3.array_long)))
     (closes c.in_ok-put_items.ensures
     (closes c.in_ok-put_open-4.ensures
     (closes c.in_ok-put_open-5.ensures
-    (short_both c.in_ok-put_short-2.ensures (before c.number_before-at-2.ensures.text (before c.flag_before-at.ensures.text (before c.text_before-at-2.ensures.text (nothing_before refl))))
+    (short_both c.in_ok-put_short-2.ensures (before c.number_before-at-2.ensures.text (before c.flag_before-at.ensures.text (before c.text_before-at-2.ensures.text (nothing_before _ c.put_open-5.array_long))))
     (closes c.in_ok-put_items-2.ensures
-    (short_put c.in_ok-put_short-3.ensures (taken c.number_before-at-3.ensures.text c.text_before-at-3.ensures.text) refl))))))))))))
+    (short_put _ c.put_items-2.array_long c.in_ok-put_short-3.ensures (taken c.number_before-at-3.ensures.text c.text_before-at-3.ensures.text)))))))))))))

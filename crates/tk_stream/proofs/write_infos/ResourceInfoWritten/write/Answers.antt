@@ -1,18 +1,9 @@
-use Rattle.std.proofs.Common.{◌++◌, refl, ap, decimal}
+use Rattle.std.proofs.Common.{◌++◌, ap}
 use Rattle.serde_json.specs.Written.{comma_if}
-use Rattle.tk_stream.proofs.Behind.{both, before, nothing_before, short_both, closes_item, put_as}
-use Rattle.tk_stream.proofs.InfoTexts.{before_place, resource_text}
+use Rattle.tk_stream.proofs.Behind.{closes_item, put_as}
+use Rattle.tk_stream.proofs.InfoTexts.{resource_split}
 use Rattle.tk_stream.proofs.write_infos.ResourceInfoWritten.write.Goals as goal
 
 pub returns : goal.returns
-returns c = put_as (ap (λ xs. comma_if c.args.later ++ xs) (resource_text c.args.self.now)) (rw (← c.value.ensures.value, ← c.as_slice.ensures.list, ← c.resource_parent.ensures)
-    (closes_item (comma_if c.args.later) _ c.in_ok-put_attrs.ensures
-    (short_both c.in_ok-put_short.ensures (before c.number_before-at.ensures.text (before c.text_before-at.ensures.text (nothing_before refl)))
-    (both c.in_ok-put_name.ensures
-    (both c.in_ok-put_text.ensures
-    (both c.in_ok-put_name-2.ensures
-    (short_both c.in_ok-put_short-2.ensures
-    (before_place (decimal c.args.self.now.location.line) (decimal c.args.self.now.location.column) c.place_before-at.ensures.text
-    (before c.optional_before-at.ensures.text (before c.text_before-at-2.ensures.text (nothing_before refl))))
-    (both c.in_ok-put_name-3.ensures
-    c.in_ok-put_text-2.ensures))))))))
+returns c = put_as (ap (λ xs. comma_if c.args.later ++ xs) (resource_split c.args.self.now)) (rw (← c.as_slice.ensures.list)
+    (closes_item (comma_if c.args.later) _ c.in_ok-put_attrs.ensures c.in_ok-put_resource.ensures))
