@@ -3,8 +3,10 @@ use Rattle.std.proofs.Common.{◌≡◌, ℕ, ◌+◌, ◌-◌, ◌*◌, ◌/◌
 use Rattle.std.specs.Prelude.{map, ◌&&◌, nat_le}
 use Rattle.std.specs.Bool.{OnTrue}
 use Rattle.std.specs.List.{list_all}
-use Rattle.std.proofs.lemmas.List.{drop_more, drop_all, drop-drop, take_rest, flat_map_more}
+use Rattle.std.proofs.lemmas.List.{drop_more, drop_all, drop-drop, drop-append-le, length-drop, length-take-le, take_all, take_rest, flat_map_more}
 use Rattle.std.proofs.Math.Seq.{drop-append_seam}
+use Rattle.std.proofs.lemmas.Simd.{put_chunk_is}
+use Rattle.std.specs.Simd.Lanes.{put_chunk}
 use Rattle.std.proofs.lemmas.List.Sums.{AllPass-from_list_all}
 use Rattle.std.proofs.lemmas.List.Folds.{list_all_more, list_all-append}
 use Rattle.std.proofs.lemmas.Fmt.{decimal_step, decimal_digit}
@@ -124,6 +126,39 @@ line_split l = ap (λ xs. codes "{\"dropped\":" ++ (compact_text (dropped_data l
 -- two pieces were taken
 pub taken : {a b c p q : List ℕ} → Takes a p b → Takes b q c → Takes a (p ++ q) c
 taken {a} {b} {c} {p} {q} g h = record { is = g.is ∙ ap (λ xs. p ++ xs) h.is ∙ sym (append_assoc p q c) }
+
+-- the first bytes of a text were stored before what begins at a place
+pub stored_before : (start at : ℕ) (old piece : List ℕ) → start + length piece ≡ at → at ≤ length old → Takes (drop start (put_chunk start old piece)) piece (drop at old)
+stored_before start at old piece place room =
+    let long : length (take start old) ≡ start = length-take-le start old (omega arith) in
+    record {
+      is = ap (λ xs. drop start xs) (put_chunk_is start old piece (omega arith))
+          ∙ ap (λ n. drop n (take start old ++ (piece ++ drop (length piece) (drop start old)))) (sym long)
+          ∙ drop-append_seam (take start old) (piece ++ drop (length piece) (drop start old))
+          ∙ ap (λ xs. piece ++ xs) (drop-drop (length piece) start old ∙ ap (λ n. drop n old) place);
+    }
+
+-- a text was written by its end and then by its front, which may reach into the end
+pub ends_joined : (text old middle new : List ℕ) (k at tail start : ℕ) → k ≤ length text → length text ≤ k + k → length text ≤ at → tail + k ≡ at
+    → Takes (drop tail middle) (take k (take (length text - (length text - k)) (drop (length text - k) text))) (drop at old)
+    → Takes (drop start new) (take k text) (drop (at - (length text - k)) middle)
+    → Takes (drop start new) text (drop at old)
+ends_joined text old middle new k at tail start some most room place end front =
+    let last = length text - k in
+    let more = k + k - length text in
+    let long : length (drop last text) ≡ length text - last = length-drop last text in
+    let whole : take k (take (length text - last) (drop last text)) ≡ drop last text =
+    ap (λ xs. take k xs) (take_rest text last) ∙ take_all k (drop last text) (omega (arith, long)) in
+    let from : tail + more ≡ at - last = omega arith in
+    let till : last + more ≡ k = omega arith in
+    let within : more ≤ length (drop last text) = omega (arith, long) in
+    record {
+      is = front.is ∙ ap (λ xs. take k text ++ xs)
+          (ap (λ n. drop n middle) (sym from) ∙ sym (drop-drop more tail middle) ∙ ap (λ xs. drop more xs) (end.is ∙ ap (λ xs. xs ++ drop at old) whole)
+          ∙ drop-append-le more (drop last text) (drop at old) within
+          ∙ ap (λ xs. xs ++ drop at old) (drop-drop more last text ∙ ap (λ n. drop n text) till))
+          ∙ sym (append_assoc (take k text) (drop k text) (drop at old)) ∙ ap (λ xs. xs ++ drop at old) (take-append-drop k text);
+    }
 
 -- ---- names
 

@@ -1,6 +1,6 @@
 //! A short text, written from its end to its front: so come the digits of a number, and the whole goes behind a line's
 //! text in one step. The members of an object are therefore written from the last to the first.
-ghost use Rattle.std.specs.Prelude.{◌≡◌, ◌+◌, ◌≤◌, ◌++◌, true, length, drop, OnOk};
+ghost use Rattle.std.specs.Prelude.{◌≡◌, ◌+◌, ◌≤◌, ◌++◌, true, length, take, drop, OnOk};
 ghost use Rattle.std.specs.List.{list_all};
 ghost use Rattle.json.specs.Print.{escape, escape_byte};
 ghost use Rattle.serde_json.specs.Data.{boolean};
@@ -13,15 +13,46 @@ use crate::pieces::put_text;
 use crate::plain::is_plain;
 use itoa::{Buffer, write_digits};
 use std::alloc::AllocError;
+use std::simd::Simd;
 use tk_ids::Name;
 
 /// How many bytes most short texts have at most. Those of a line are written in one array, since a new one would be filled
 /// with zeros for each.
 pub(crate) const ROOM: usize = 1024;
 
-/// A text before what begins at a place. It is answered where it begins itself.
+// The first `K` bytes of a text, by one load and one store. `copy_from_slice` would first ask whether the two places overlap.
 #[inline(always)]
-pub(crate) fn text_before<const N: usize>(bytes: &mut [u8; N], at: usize, text: &[u8]) -> usize
+fn front_before<const K: usize, const N: usize>(
+    bytes: &mut [u8; N],
+    at: usize,
+    text: &[u8],
+) -> usize
+    requires { (K ≤ length text.now) × (K ≤ at) × (at ≤ N) }
+    ensures text { Takes (drop result bytes.new) (take K text.now) (drop at bytes.old) }
+    ensures place { result + K ≡ at }
+{
+    let start = at - K;
+    let bytes = &mut bytes[..];
+    Simd::<u8, K>::from_slice(text).copy_to_slice(&mut bytes[start..]);
+    start
+}
+
+// A text of `K` to twice as many bytes: its end and its front, which overlap.
+#[inline(always)]
+fn ends_before<const K: usize, const N: usize>(bytes: &mut [u8; N], at: usize, text: &[u8]) -> usize
+    requires room { (length text.now ≤ at) × (at ≤ N) }
+    requires covers { (K ≤ length text.now) × (length text.now ≤ K + K) }
+    ensures text { Takes (drop result bytes.new) text.now (drop at bytes.old) }
+    ensures place { result + length text.now ≡ at }
+{
+    let last = text.len() - K;
+    front_before::<K, N>(bytes, at, &text[last..]);
+    front_before::<K, N>(bytes, at - last, text)
+}
+
+// A text of any length.
+#[inline(always)]
+fn long_before<const N: usize>(bytes: &mut [u8; N], at: usize, text: &[u8]) -> usize
     requires { (length text.now ≤ at) × (at ≤ N) }
     ensures text { Takes (drop result bytes.new) text.now (drop at bytes.old) }
     ensures place { result + length text.now ≡ at }
@@ -30,6 +61,23 @@ pub(crate) fn text_before<const N: usize>(bytes: &mut [u8; N], at: usize, text: 
     let bytes = &mut bytes[..];
     bytes[start..at].copy_from_slice(text);
     start
+}
+
+/// A text before what begins at a place. It is answered where it begins itself.
+#[inline(always)]
+pub(crate) fn text_before<const N: usize>(bytes: &mut [u8; N], at: usize, text: &[u8]) -> usize
+    requires { (length text.now ≤ at) × (at ≤ N) }
+    ensures text { Takes (drop result bytes.new) text.now (drop at bytes.old) }
+    ensures place { result + length text.now ≡ at }
+{
+    match text.len() {
+        1 => ends_before::<1, N>(bytes, at, text),
+        2..4 => ends_before::<2, N>(bytes, at, text),
+        4..8 => ends_before::<4, N>(bytes, at, text),
+        8..16 => ends_before::<8, N>(bytes, at, text),
+        16..=32 => ends_before::<16, N>(bytes, at, text),
+        _ => long_before(bytes, at, text),
+    }
 }
 
 /// A comma, where another value of the list stands before.

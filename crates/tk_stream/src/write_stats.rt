@@ -84,13 +84,14 @@ fn values_before<const N: usize>(bytes: &mut [u8; N], at: usize, values: &AttrVa
     ensures text { Takes (drop result bytes.new) (items_text false (items_of (map spec.value_data values.now))) (drop at bytes.old) }
     ensures place { (at ≤ result + 139) × (result ≤ N) }
 {
-    let list = values.list();
-    let items = list.as_slice();
     let mut start = text_before(bytes, at, b"]");
     let mut left = values.len();
     while left > 0 {
         left -= 1;
-        start = value_before(bytes, start, items[left]);
+        let Some(value) = values.get(left as u64) else {
+            unreachable!()
+        };
+        start = value_before(bytes, start, value);
         if left > 0 {
             start = text_before(bytes, start, b",");
         }

@@ -9,8 +9,8 @@ use Rattle.tk_stream.proofs.write_stats.values_before.Given as goal
 -- the values from `left` on are written, with a comma before them where others come before
 abbrev pub invariant-loop-left : goal.invariant-loop-left
 invariant-loop-left g l =
-    (l.left ≤ length l.items) × (l.start ≤ g.row.N) × (l.at ≤ l.start + (1 + 23 * (length l.items - l.left)))
-    × Takes (drop l.start l.bytes) (items_text (nat_lt 0 l.left) (items_of (map value_data (drop l.left l.items)))) (drop l.at l.initial.bytes)
+    (l.left ≤ length l.values) × (l.start ≤ g.row.N) × (l.at ≤ l.start + (1 + 23 * (length l.values - l.left)))
+    × Takes (drop l.start l.bytes) (items_text (nat_lt 0 l.left) (items_of (map value_data (drop l.left l.values)))) (drop l.at l.initial.bytes)
 
 abbrev pub decreases-loop-left : goal.decreases-loop-left
 decreases-loop-left g l = l.left
