@@ -6,7 +6,9 @@ ghost use Rattle.std.specs.Prelude.{◌≡◌, All, IfSome};
 
 use std::alloc::Global;
 use std::sync::Wait;
-use tk_events::{FinishError, Limits, PollOp, Recorded, Recorder, RetiredRecorder, Taker};
+use tk_events::{
+    Console, Event, FinishError, Limits, PollOp, Recorded, Recorder, RetiredRecorder, Taker,
+};
 use tk_ids::{
     AsyncOpId, AttrSpec, AttrValue, Attrs, Location, Name, OpSpec, ResourceId, ResourceSpec,
     TaskId, TaskKind, TaskSpec,
@@ -23,6 +25,44 @@ pub(super) fn limits(recorders: u64, capacity: u64, offers: u64) -> Limits {
         capacity,
         offers,
     }
+}
+
+// Whether a check holds of the first recorder of a new console, and its taker. They are owned here alone, so their end is
+// proved once.
+pub(super) fn on_first<F: FnOnce(&mut Recorder, &mut Taker) -> bool>(
+    alloc: Global,
+    limits: Limits,
+    check: F,
+) -> bool
+    requires { F.IsAlwaysCallable check }
+{
+    match Console::open(alloc, limits) {
+        Ok((mut recorders, mut taker)) => match recorders.get_mut(0) {
+            Some(recorder) => check(recorder, &mut taker),
+            None => false,
+        },
+        Err(_) => false,
+    }
+}
+
+// What a look at the next event tells, if one waits. Events are owned here alone.
+pub(super) fn take<R: Wait, F: FnOnce(&mut Event) -> bool>(
+    rt: &R,
+    taker: &mut Taker,
+    look: F,
+) -> Option<bool>
+    requires { F.IsAlwaysCallable look }
+    ensures { taker.new.console ≡ taker.old.console }
+{
+    match taker.take(rt) {
+        Some(mut event) => Some(look(&mut event)),
+        None => None,
+    }
+}
+
+// Whether an event waits. It is taken.
+pub(super) fn takes_any<R: Wait>(rt: &R, taker: &mut Taker) -> bool {
+    take(rt, taker, |_event| true).is_some()
 }
 
 fn location(alloc: Global) -> Option<Location> {

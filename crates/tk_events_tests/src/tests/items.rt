@@ -1,25 +1,14 @@
 //! One recorder: what it makes is kept, dropped or refused.
-ghost use Rattle.std.specs.Prelude.{◌≡◌, IfSome};
+ghost use Rattle.std.specs.Prelude.{◌≡◌};
 
-use super::given::{FIRST, alone, limits, offer_poll, op, refusal, resource, task};
+use super::given::{
+    FIRST, alone, limits, offer_poll, on_first, op, refusal, resource, take, takes_any, task,
+};
 use std::alloc::Global;
 use std::sync::Wait;
 use tk_events::{Console, Event, FinishError, RecordError, Recorded, Recorder, Taker};
 use tk_ids::{Dropped, TaskSpec};
-use tk_ledgers::{OpOwner, ResourceOwner, TaskInspector, TaskOwner};
-
-// A console of one recorder.
-fn open_one(alloc: Global, capacity: u64, offers: u64) -> Option<(Recorder, Taker)>
-    ensures { IfSome result (λ r. r.0.console ≡ r.1.console) }
-{
-    match Console::open(alloc, limits(1, capacity, offers)) {
-        Ok((mut recorders, taker)) => {
-            let recorder = recorders.pop()?;
-            Some((recorder, taker))
-        }
-        Err(_) => None,
-    }
-}
+use tk_ledgers::{OpOwner, ResourceOwner, TaskOwner};
 
 fn task_starts<R: Wait>(rt: &R, mut owner: TaskOwner, id: u64) -> bool {
     owner.id().value() == id && owner.start_poll(rt, 5).is_ok()
@@ -97,40 +86,31 @@ fn refused_task<R: Wait>(
     Some(why)
 }
 
-// Whether the event's inspector reads that its task has an open poll.
-fn is_polling<R: Wait>(rt: &R, mut inspector: TaskInspector) -> bool {
-    inspector.read(rt).polling
+/// What the next event is to be.
+#[derive(Clone, Copy)]
+enum Wanted<'a> {
+    /// A task of this name, which has an open poll.
+    PollingTask(&'a [u8]),
+    Resource(u64),
+    Op(u64),
+    /// A poll of this operation that made it ready.
+    ReadyPoll(u64),
 }
 
-// Whether the next event is of a task of this name, which has an open poll.
-fn takes_task<R: Wait>(rt: &R, taker: &mut Taker, name: &[u8]) -> bool {
-    match taker.take(rt) {
-        Some(Event::Task(info, inspector)) => {
-            info.name.as_bytes() == name && is_polling(rt, inspector)
+fn is_wanted<R: Wait>(rt: &R, event: &mut Event, wanted: Wanted) -> bool {
+    match (event, wanted) {
+        (Event::Task(info, inspector), Wanted::PollingTask(name)) => {
+            info.name.as_bytes() == name && inspector.read(rt).polling
         }
+        (Event::Resource(info, _), Wanted::Resource(id)) => info.id.value() == id,
+        (Event::Op(info, _), Wanted::Op(id)) => info.id.value() == id,
+        (Event::Poll(poll), Wanted::ReadyPoll(op)) => poll.op.value() == op && poll.ready,
         _ => false,
     }
 }
 
-fn takes_resource<R: Wait>(rt: &R, taker: &mut Taker, id: u64) -> bool {
-    match taker.take(rt) {
-        Some(Event::Resource(info, _)) => info.id.value() == id,
-        _ => false,
-    }
-}
-
-fn takes_op<R: Wait>(rt: &R, taker: &mut Taker, id: u64) -> bool {
-    match taker.take(rt) {
-        Some(Event::Op(info, _)) => info.id.value() == id,
-        _ => false,
-    }
-}
-
-fn takes_poll<R: Wait>(rt: &R, taker: &mut Taker, op: u64) -> bool {
-    match taker.take(rt) {
-        Some(Event::Poll(poll)) => poll.op.value() == op && poll.ready,
-        _ => false,
-    }
+fn takes<R: Wait>(rt: &R, taker: &mut Taker, wanted: Wanted) -> bool {
+    take(rt, taker, |event| is_wanted(rt, event, wanted)) == Some(true)
 }
 
 fn offers_two_and_no_third<R: Wait>(rt: &R, alloc: Global, recorder: &mut Recorder) -> bool {
@@ -140,19 +120,21 @@ fn offers_two_and_no_third<R: Wait>(rt: &R, alloc: Global, recorder: &mut Record
 }
 
 fn takes_two<R: Wait>(rt: &R, taker: &mut Taker) -> bool {
-    takes_task(rt, taker, b"a") && takes_poll(rt, taker, FIRST) && taker.take(rt).is_none()
+    takes(rt, taker, Wanted::PollingTask(b"a"))
+        && takes(rt, taker, Wanted::ReadyPoll(FIRST))
+        && !takes_any(rt, taker)
 }
 
 #[test]
 fn a_third_offer_of_two_is_refused(rt: HostRuntime) {
-    match open_one(rt.alloc(), 4, 2) {
-        Some((mut recorder, mut taker)) => {
-            assert!(rt; recorder.number() == 1);
-            assert!(rt; offers_two_and_no_third(&rt, rt.alloc(), &mut recorder));
-            assert!(rt; takes_two(&rt, &mut taker));
-        }
-        None => assert!(rt; false, "no console"),
-    }
+    let alloc = rt.alloc();
+    assert!(rt;
+        on_first(alloc, limits(1, 4, 2), |recorder, taker| {
+            recorder.number() == 1
+                && offers_two_and_no_third(&rt, alloc, recorder)
+                && takes_two(&rt, taker)
+        })
+    );
 }
 
 fn offers_three_tasks<R: Wait>(rt: &R, alloc: Global, recorder: &mut Recorder) -> bool {
@@ -162,7 +144,9 @@ fn offers_three_tasks<R: Wait>(rt: &R, alloc: Global, recorder: &mut Recorder) -
 }
 
 fn takes_two_tasks<R: Wait>(rt: &R, taker: &mut Taker) -> bool {
-    takes_task(rt, taker, b"a") && takes_task(rt, taker, b"b") && taker.take(rt).is_none()
+    takes(rt, taker, Wanted::PollingTask(b"a"))
+        && takes(rt, taker, Wanted::PollingTask(b"b"))
+        && !takes_any(rt, taker)
 }
 
 fn has_dropped(taker: &mut Taker, tasks: u64, resources: u64, ops: u64) -> bool {
@@ -177,14 +161,14 @@ fn has_dropped(taker: &mut Taker, tasks: u64, resources: u64, ops: u64) -> bool 
 // The task whose event is dropped gets its id, and starts a poll.
 #[test]
 fn a_third_task_in_a_buffer_of_two_is_dropped(rt: HostRuntime) {
-    match open_one(rt.alloc(), 2, 9) {
-        Some((mut recorder, mut taker)) => {
-            assert!(rt; offers_three_tasks(&rt, rt.alloc(), &mut recorder));
-            assert!(rt; has_dropped(&mut taker, 1, 0, 0));
-            assert!(rt; takes_two_tasks(&rt, &mut taker));
-        }
-        None => assert!(rt; false, "no console"),
-    }
+    let alloc = rt.alloc();
+    assert!(rt;
+        on_first(alloc, limits(1, 2, 9), |recorder, taker| {
+            offers_three_tasks(&rt, alloc, recorder)
+                && has_dropped(taker, 1, 0, 0)
+                && takes_two_tasks(&rt, taker)
+        })
+    );
 }
 
 fn offers_of_each_kind<R: Wait>(rt: &R, alloc: Global, recorder: &mut Recorder) -> bool {
@@ -197,20 +181,22 @@ fn offers_of_each_kind<R: Wait>(rt: &R, alloc: Global, recorder: &mut Recorder) 
 }
 
 fn takes_of_two_kinds<R: Wait>(rt: &R, taker: &mut Taker) -> bool {
-    takes_resource(rt, taker, FIRST) && takes_op(rt, taker, FIRST) && taker.take(rt).is_none()
+    takes(rt, taker, Wanted::Resource(FIRST))
+        && takes(rt, taker, Wanted::Op(FIRST))
+        && !takes_any(rt, taker)
 }
 
 // Each kind has its own numbers, and polls are counted with resources.
 #[test]
 fn items_of_each_kind_are_kept_and_dropped(rt: HostRuntime) {
-    match open_one(rt.alloc(), 2, 9) {
-        Some((mut recorder, mut taker)) => {
-            assert!(rt; offers_of_each_kind(&rt, rt.alloc(), &mut recorder));
-            assert!(rt; has_dropped(&mut taker, 1, 2, 1));
-            assert!(rt; takes_of_two_kinds(&rt, &mut taker));
-        }
-        None => assert!(rt; false, "no console"),
-    }
+    let alloc = rt.alloc();
+    assert!(rt;
+        on_first(alloc, limits(1, 2, 9), |recorder, taker| {
+            offers_of_each_kind(&rt, alloc, recorder)
+                && has_dropped(taker, 1, 2, 1)
+                && takes_of_two_kinds(&rt, taker)
+        })
+    );
 }
 
 // With no recorder it isn't finished, with it it is, and then no more.
@@ -226,12 +212,17 @@ fn finishes_once(alloc: Global, recorder: Recorder, taker: &mut Taker) -> bool
     refusal(taker, all).is_none() && refusal(taker, Vec::new(alloc)) == Some(FinishError::Finished)
 }
 
+fn is_finished_once(alloc: Global) -> bool {
+    match Console::open(alloc, limits(1, 2, 4)) {
+        Ok((mut recorders, mut taker)) => match recorders.pop() {
+            Some(recorder) => finishes_once(alloc, recorder, &mut taker),
+            None => false,
+        },
+        Err(_) => false,
+    }
+}
+
 #[test]
 fn a_taker_is_finished_once(rt: HostRuntime) {
-    match open_one(rt.alloc(), 2, 4) {
-        Some((recorder, mut taker)) => {
-            assert!(rt; finishes_once(rt.alloc(), recorder, &mut taker));
-        }
-        None => assert!(rt; false, "no console"),
-    }
+    assert!(rt; is_finished_once(rt.alloc()));
 }

@@ -2,7 +2,7 @@
 //!
 //! With `rt try --test --fail-alloc N` the N-th allocation is refused. What was refused is asked for again.
 
-use super::given::{FIRST, limits, op, resource, task};
+use super::given::{FIRST, limits, op, resource, takes_any, task};
 use std::alloc::Global;
 use std::sync::Wait;
 use tk_events::{Console, OpenError, Recorder, Taker};
@@ -120,10 +120,10 @@ fn takes_each<R: Wait>(rt: &R, taker: &mut Taker) -> bool {
         resources: 0,
         ops: 0,
     };
-    taker.take(rt).is_some()
-        && taker.take(rt).is_some()
-        && taker.take(rt).is_some()
-        && taker.take(rt).is_none()
+    takes_any(rt, taker)
+        && takes_any(rt, taker)
+        && takes_any(rt, taker)
+        && !takes_any(rt, taker)
         && taker.dropped() == none
 }
 

@@ -1,9 +1,9 @@
 //! Random runs of one recorder beside a plain ring.
 
-use super::given::{limits, offer_poll};
+use super::given::{limits, offer_poll, on_first, take, takes_any};
 use std::alloc::Global;
 use std::sync::Wait;
-use tk_events::{Console, Event, Recorded, Recorder, Taker};
+use tk_events::{Event, Recorded, Recorder, Taker};
 
 // The plain program: what waits, oldest first, and how many found it full.
 #[derive(Drop)]
@@ -58,10 +58,9 @@ fn is_poll_of(event: &Event, above: u64) -> bool {
 }
 
 fn takes_alike<R: Wait>(rt: &R, taker: &mut Taker, ring: &mut Ring) -> bool {
-    match (taker.take(rt), ring.pop()) {
-        (Some(event), Some(above)) => is_poll_of(&event, above),
-        (None, None) => true,
-        _ => false,
+    match ring.pop() {
+        Some(above) => take(rt, taker, |event| is_poll_of(event, above)) == Some(true),
+        None => !takes_any(rt, taker),
     }
 }
 
@@ -104,27 +103,10 @@ fn runs_as_a_ring<R: Wait>(
     runs_alike(rt, alloc, recorder, taker, &mut ring, seed)
 }
 
-fn first_runs_as_a_ring<R: Wait>(
-    rt: &R,
-    alloc: Global,
-    recorders: &mut Vec<Recorder>,
-    taker: &mut Taker,
-    capacity: u64,
-    seed: u64,
-) -> bool {
-    match recorders.get_mut(0) {
-        Some(recorder) => runs_as_a_ring(rt, alloc, recorder, taker, capacity, seed),
-        None => false,
-    }
-}
-
 fn console_runs_as_a_ring<R: Wait>(rt: &R, alloc: Global, capacity: u64, seed: u64) -> bool {
-    match Console::open(alloc, limits(1, capacity, 1000)) {
-        Ok((mut recorders, mut taker)) => {
-            first_runs_as_a_ring(rt, alloc, &mut recorders, &mut taker, capacity, seed)
-        }
-        Err(_) => false,
-    }
+    on_first(alloc, limits(1, capacity, 1000), |recorder, taker| {
+        runs_as_a_ring(rt, alloc, recorder, taker, capacity, seed)
+    })
 }
 
 #[test]

@@ -2,7 +2,7 @@
 ghost use Rattle.std.specs.Prelude.{◌≡◌, All, IfSome};
 ghost use Rattle.tk_events.specs.Handles.{Place};
 
-use super::given::{limits, offer_poll, refusal};
+use super::given::{limits, offer_poll, refusal, take, takes_any};
 use std::alloc::Global;
 use std::sync::Wait;
 use std::sync::atomic::{AtomicBool, AtomicU64, Ordering};
@@ -184,7 +184,7 @@ fn dropped_and_left_one<R: Wait>(rt: &R, taker: &mut Taker) -> bool {
         resources: 199,
         ops: 0,
     };
-    taker.dropped() == dropped && taker.take(rt).is_some() && taker.take(rt).is_none()
+    taker.dropped() == dropped && takes_any(rt, taker) && !takes_any(rt, taker)
 }
 
 #[test]
@@ -208,13 +208,11 @@ fn count_event(event: &Event, taken: &Taken) {
 fn take_one<R: Wait>(rt: &R, taker: &mut Taker, taken: &Taken) -> bool
     ensures { taker.new.console ≡ taker.old.console }
 {
-    match taker.take(rt) {
-        Some(event) => {
-            count_event(&event, taken);
-            true
-        }
-        None => false,
-    }
+    let counted = take(rt, taker, |event| {
+        count_event(event, taken);
+        true
+    });
+    counted.is_some()
 }
 
 // Takes until an empty answer comes after the recorders are done.
@@ -306,7 +304,7 @@ fn are_all_taken<R: Wait>(
     taken: &Taken,
 ) -> bool {
     let dropped = taker.dropped().resources;
-    taker.take(rt).is_none()
+    !takes_any(rt, taker)
         && taken.are_those(kept)
         && kept.total().saturating_add(dropped) == limits.recorders.saturating_mul(limits.offers)
 }
