@@ -1,7 +1,8 @@
 //! What several tests begin with: items that are recorded, and an aggregator that takes them in.
 //!
 //! Each function owns at most one aggregator, owner or text, and lends it to the next: that keeps the proofs short.
-ghost use Rattle.std.specs.Prelude.{◌≤◌, ◌^◌};
+ghost use Rattle.std.specs.Prelude.{◌≡◌, ◌≤◌, ◌^◌};
+ghost use Rattle.tk_stream.specs.Tables.{empty_tables};
 
 use std::alloc::Global;
 use std::io::Write;
@@ -57,6 +58,17 @@ pub(super) fn make_task<R: Wait>(
     Some(owner)
 }
 
+// Whether a task is made.
+pub(super) fn makes_task<R: Wait>(
+    rt: &R,
+    alloc: Global,
+    recorder: &mut Recorder,
+    name: &[u8],
+    created: u64,
+) -> bool {
+    make_task(rt, alloc, recorder, name, created).is_some()
+}
+
 // Whether a `collect` takes so many.
 pub(super) fn collects<R: Wait>(
     rt: &R,
@@ -106,7 +118,21 @@ pub(super) fn take_in_task<R: Wait>(
     }
 }
 
-// Whether a check holds of a new aggregator behind so many lines. It is owned here alone, so its end is proved once.
+// Whether a value was made and a check holds of it. How a value ends is proved where it is owned: here that is done once,
+// for a type of which nothing is known.
+pub(super) fn on_made<T: Drop, E: Drop, F: FnOnce(&mut T) -> bool>(
+    made: Result<T, E>,
+    check: F,
+) -> bool
+    requires { F.IsAlwaysCallable check }
+{
+    match made {
+        Ok(mut value) => check(&mut value),
+        Err(_) => false,
+    }
+}
+
+// Whether a check holds of a new aggregator behind so many lines.
 pub(super) fn on_new<F: FnOnce(&mut Aggregator) -> bool>(
     alloc: Global,
     after: u64,
@@ -115,10 +141,7 @@ pub(super) fn on_new<F: FnOnce(&mut Aggregator) -> bool>(
     requires after { after ≤ 2 ^ 63 }
     requires callable { F.IsAlwaysCallable check }
 {
-    match Aggregator::new(alloc, after) {
-        Ok(mut aggregator) => check(&mut aggregator),
-        Err(_) => false,
-    }
+    on_made(Aggregator::new(alloc, after), check)
 }
 
 // The same of one whose closed items stay so long.
@@ -129,8 +152,19 @@ pub(super) fn on_retaining<F: FnOnce(&mut Aggregator) -> bool>(
 ) -> bool
     requires { F.IsAlwaysCallable check }
 {
-    match Aggregator::with_retention(alloc, 0, retention) {
-        Ok(mut aggregator) => check(&mut aggregator),
+    on_made(Aggregator::with_retention(alloc, 0, retention), check)
+}
+
+// Whether a check holds of the recorders of a new console, and its taker.
+pub(super) fn on_console<F: FnOnce(&mut Vec<Recorder>, &mut Taker) -> bool>(
+    alloc: Global,
+    limits: Limits,
+    check: F,
+) -> bool
+    requires { F.IsAlwaysCallable check }
+{
+    match Console::open(alloc, limits) {
+        Ok((mut recorders, mut taker)) => check(&mut recorders, &mut taker),
         Err(_) => false,
     }
 }
@@ -151,11 +185,21 @@ pub(super) fn refresh_and_publish<R: Wait, W: Write>(
     aggregator.publish(now, writer)
 }
 
+fn text_between(alloc: Global, none: &Tables, tables: &Tables) -> Option<Vec<u8>>
+    requires { none.now ≡ empty_tables }
+{
+    match Line::between(alloc, none, tables, 1, true) {
+        Ok(line) => line.write().ok(),
+        Err(_) => None,
+    }
+}
+
 // The text of tables as a snapshot of number 1.
 fn text_of(alloc: Global, tables: &Tables) -> Option<Vec<u8>> {
-    let none = Tables::new(alloc).ok()?;
-    let line = Line::between(alloc, &none, tables, 1, true).ok()?;
-    line.write().ok()
+    match Tables::new(alloc) {
+        Ok(none) => text_between(alloc, &none, tables),
+        Err(_) => None,
+    }
 }
 
 fn is_text_of(alloc: Global, tables: &Tables, text: &[u8]) -> bool {
@@ -179,8 +223,8 @@ fn is_fed(client: &mut Client, alloc: Global, bytes: &[u8], lines: u64, tables: 
 
 // Whether a fresh client takes so many lines from these bytes, and then has these tables.
 pub(super) fn are_taken(alloc: Global, bytes: &[u8], lines: u64, tables: &Tables) -> bool {
-    match Client::new(alloc, 1_000_000) {
-        Ok(mut client) => is_fed(&mut client, alloc, bytes, lines, tables),
-        Err(_) => false,
-    }
+    on_made(
+        Client::new(alloc, 1_000_000),
+        |client| is_fed(client, alloc, bytes, lines, tables),
+    )
 }

@@ -1,11 +1,13 @@
 //! Items of each kind and a poll operation, recorded, changed, read and told.
 
-use super::given::{FIRST, collects, limits, location, make_task, on_new, refresh_and_publish};
+use super::given::{
+    FIRST, collects, limits, location, makes_task, on_console, on_new, refresh_and_publish,
+};
 use super::texts::WORKED;
 use std::alloc::Global;
 use std::sync::Wait;
 use tk_aggregator::Aggregator;
-use tk_events::{Console, PollOp, Recorded, Recorder, Taker};
+use tk_events::{PollOp, Recorded, Recorder, Taker};
 use tk_ids::{
     AsyncOpId, AttrSpec, AttrValue, Attrs, Name, OpSpec, ResourceId, ResourceSpec, TaskId,
 };
@@ -171,16 +173,16 @@ fn makes_each<R: Wait>(
 ) -> bool {
     match recorders.get_mut(0) {
         Some(recorder) => {
-            make_task(rt, alloc, recorder, b"worker", 10).is_some()
-                && makes_user(rt, alloc, recorder, taker)
+            makes_task(rt, alloc, recorder, b"worker", 10) && makes_user(rt, alloc, recorder, taker)
         }
         None => false,
     }
 }
 
 pub(super) fn tells_of_each_kind<R: Wait>(rt: &R, alloc: Global) -> bool {
-    match Console::open(alloc, limits(1, 9, 9)) {
-        Ok((mut recorders, mut taker)) => makes_each(rt, alloc, &mut recorders, &mut taker),
-        Err(_) => false,
-    }
+    on_console(
+        alloc,
+        limits(1, 9, 9),
+        |recorders, taker| makes_each(rt, alloc, recorders, taker),
+    )
 }

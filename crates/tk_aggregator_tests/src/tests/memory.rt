@@ -2,19 +2,27 @@
 //!
 //! With `rt try --test --fail-alloc N` the N-th allocation is refused. What was refused is asked for again.
 
-use super::given::{are_taken, limits, make_task};
+use super::given::{are_taken, limits, makes_task, on_console, on_made};
 use super::items::{keeps_poll, make_op, make_user};
 use std::alloc::Global;
 use std::sync::Wait;
 use tk_aggregator::{Aggregator, StreamError};
-use tk_events::{Console, Recorder, Taker};
+use tk_events::{Recorder, Taker};
 
-fn make_each<R: Wait>(rt: &R, alloc: Global, recorders: &mut Vec<Recorder>) -> bool {
+fn uses_resource<R: Wait>(rt: &R, alloc: Global, recorder: &mut Recorder) -> bool {
+    make_user(rt, alloc, recorder).is_some()
+}
+
+fn makes_op<R: Wait>(rt: &R, alloc: Global, recorder: &mut Recorder) -> bool {
+    make_op(rt, alloc, recorder).is_some()
+}
+
+fn makes_each<R: Wait>(rt: &R, alloc: Global, recorders: &mut Vec<Recorder>) -> bool {
     match recorders.get_mut(0) {
         Some(recorder) => {
-            make_task(rt, alloc, recorder, b"main", 1).is_some()
-                && make_user(rt, alloc, recorder).is_some()
-                && make_op(rt, alloc, recorder).is_some()
+            makes_task(rt, alloc, recorder, b"main", 1)
+                && uses_resource(rt, alloc, recorder)
+                && makes_op(rt, alloc, recorder)
                 && keeps_poll(rt, alloc, recorder)
         }
         None => false,
@@ -52,29 +60,31 @@ fn is_told(alloc: Global, aggregator: &mut Aggregator) -> bool {
         && are_taken(alloc, written.as_slice(), 1, aggregator.tables())
 }
 
-fn new_aggregator(alloc: Global) -> Result<Aggregator, StreamError> {
-    match Aggregator::new(alloc, 0) {
-        Ok(aggregator) => Ok(aggregator),
-        Err(_) => Aggregator::new(alloc, 0),
+// What was made, or what a second try makes.
+fn or_again<T: Drop, E: Drop, F: FnOnce() -> Result<T, E>>(
+    made: Result<T, E>,
+    again: F,
+) -> Result<T, E>
+    requires { F.IsAlwaysCallable again }
+{
+    match made {
+        Ok(value) => Ok(value),
+        Err(_) => again(),
     }
+}
+
+fn new_aggregator(alloc: Global) -> Result<Aggregator, StreamError> {
+    or_again(Aggregator::new(alloc, 0), || Aggregator::new(alloc, 0))
 }
 
 fn takes_each<R: Wait>(rt: &R, alloc: Global, taker: &mut Taker) -> bool {
-    match new_aggregator(alloc) {
-        Ok(mut aggregator) => {
-            collects_all(rt, &mut aggregator, taker)
-                && has_each(&aggregator)
-                && is_told(alloc, &mut aggregator)
-        }
-        Err(_) => false,
-    }
+    on_made(new_aggregator(alloc), |aggregator| {
+        collects_all(rt, aggregator, taker) && has_each(aggregator) && is_told(alloc, aggregator)
+    })
 }
 
 pub(super) fn takes_again_what_found_no_memory<R: Wait>(rt: &R, alloc: Global) -> bool {
-    match Console::open(alloc, limits(1, 9, 9)) {
-        Ok((mut recorders, mut taker)) => {
-            make_each(rt, alloc, &mut recorders) && takes_each(rt, alloc, &mut taker)
-        },
-        Err(_) => false,
-    }
+    on_console(alloc, limits(1, 9, 9), |recorders, taker| {
+        makes_each(rt, alloc, recorders) && takes_each(rt, alloc, taker)
+    })
 }

@@ -1,11 +1,11 @@
 //! What is refused, in which order, and what stays.
 
-use super::given::{collects, limits, make_task, on_new};
+use super::given::{collects, limits, makes_task, on_console, on_new};
 use super::writers::{cuts, is_broken};
 use std::alloc::Global;
 use std::sync::Wait;
 use tk_aggregator::{Aggregator, StreamError};
-use tk_events::{Console, Recorder, Taker};
+use tk_events::{Recorder, Taker};
 
 // The greatest number of a line.
 const MOST: u64 = 1 << 63;
@@ -85,8 +85,7 @@ pub(super) fn refuses_in_order(alloc: Global) -> bool {
 fn makes_two<R: Wait>(rt: &R, alloc: Global, recorders: &mut Vec<Recorder>) -> bool {
     match recorders.get_mut(0) {
         Some(recorder) => {
-            make_task(rt, alloc, recorder, b"a", 1).is_some()
-                && make_task(rt, alloc, recorder, b"b", 2).is_some()
+            makes_task(rt, alloc, recorder, b"a", 1) && makes_task(rt, alloc, recorder, b"b", 2)
         }
         None => false,
     }
@@ -116,10 +115,7 @@ fn takes_at_most<R: Wait>(rt: &R, alloc: Global, taker: &mut Taker) -> bool {
 }
 
 pub(super) fn takes_no_more_than_its_limit<R: Wait>(rt: &R, alloc: Global) -> bool {
-    match Console::open(alloc, limits(1, 4, 9)) {
-        Ok((mut recorders, mut taker)) => {
-            makes_two(rt, alloc, &mut recorders) && takes_at_most(rt, alloc, &mut taker)
-        },
-        Err(_) => false,
-    }
+    on_console(alloc, limits(1, 4, 9), |recorders, taker| {
+        makes_two(rt, alloc, recorders) && takes_at_most(rt, alloc, taker)
+    })
 }

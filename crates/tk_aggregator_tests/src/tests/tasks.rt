@@ -1,11 +1,13 @@
 //! A task's poll, a snapshot, and a task that is dropped, as lines tell of them.
 
-use super::given::{collects, limits, make_task, on_new, refresh_and_publish, take_in_task};
+use super::given::{
+    collects, limits, make_task, makes_task, on_console, on_new, refresh_and_publish, take_in_task,
+};
 use super::texts::{DROPPED, EMPTY_TWICE, POLLED};
 use std::alloc::Global;
 use std::sync::Wait;
 use tk_aggregator::Aggregator;
-use tk_events::{Console, Recorder, Taker};
+use tk_events::{Recorder, Taker};
 use tk_ledgers::TaskOwner;
 
 fn wakes_itself<R: Wait>(rt: &R, owner: TaskOwner) -> bool {
@@ -75,17 +77,6 @@ pub(super) fn tells_of_no_items(alloc: Global) -> bool {
     )
 }
 
-// Whether a task is made that starts a poll.
-fn makes<R: Wait>(
-    rt: &R,
-    alloc: Global,
-    recorder: &mut Recorder,
-    name: &[u8],
-    created: u64,
-) -> bool {
-    make_task(rt, alloc, recorder, name, created).is_some()
-}
-
 fn starts_a_poll<R: Wait>(rt: &R, alloc: Global, recorder: &mut Recorder) -> bool {
     match make_task(rt, alloc, recorder, b"c", 3) {
         Some(mut owner) => owner.start_poll(rt, 5).is_ok(),
@@ -97,8 +88,8 @@ fn starts_a_poll<R: Wait>(rt: &R, alloc: Global, recorder: &mut Recorder) -> boo
 fn makes_three<R: Wait>(rt: &R, alloc: Global, recorders: &mut Vec<Recorder>) -> bool {
     match recorders.get_mut(0) {
         Some(recorder) => {
-            makes(rt, alloc, recorder, b"a", 1)
-                && makes(rt, alloc, recorder, b"b", 2)
+            makes_task(rt, alloc, recorder, b"a", 1)
+                && makes_task(rt, alloc, recorder, b"b", 2)
                 && starts_a_poll(rt, alloc, recorder)
         }
         None => false,
@@ -127,10 +118,7 @@ fn tells_of_dropped<R: Wait>(rt: &R, alloc: Global, taker: &mut Taker) -> bool {
 
 // The task whose event is dropped starts a poll, and no line tells of it.
 pub(super) fn tells_of_a_dropped_task<R: Wait>(rt: &R, alloc: Global) -> bool {
-    match Console::open(alloc, limits(1, 2, 9)) {
-        Ok((mut recorders, mut taker)) => {
-            makes_three(rt, alloc, &mut recorders) && tells_of_dropped(rt, alloc, &mut taker)
-        },
-        Err(_) => false,
-    }
+    on_console(alloc, limits(1, 2, 9), |recorders, taker| {
+        makes_three(rt, alloc, recorders) && tells_of_dropped(rt, alloc, taker)
+    })
 }

@@ -1,6 +1,6 @@
 //! No lock is held through a write: a writer waits inside its write until a recorder in another thread has made an offer.
 
-use super::given::{collects, limits, make_task, on_new};
+use super::given::{collects, limits, makes_task, on_console, on_new};
 use std::alloc::Global;
 use std::io::Write;
 use std::sync::Wait;
@@ -8,7 +8,7 @@ use std::sync::atomic::{AtomicBool, Ordering};
 use std::thread::{Threads, join};
 use std::{io, thread};
 use tk_aggregator::Aggregator;
-use tk_events::{Console, Recorder, Taker};
+use tk_events::{Recorder, Taker};
 
 // How often each side looks for the other.
 const TURNS: u32 = 1_000_000;
@@ -62,7 +62,7 @@ fn offers<R: Wait>(rt: &R, alloc: Global, recorder: &mut Recorder, flags: &Flags
     if !wait_for(&flags.begun) {
         return false;
     }
-    let is_made = make_task(rt, alloc, recorder, b"main", 1).is_some();
+    let is_made = makes_task(rt, alloc, recorder, b"main", 1);
     flags.offered.store(true, Ordering::SeqCst);
     is_made
 }
@@ -115,13 +115,9 @@ pub(super) fn writes_while_an_offer_is_made<R: Wait + Threads + Sync>(
     rt: &R,
     alloc: Global,
 ) -> bool {
-    match Console::open(alloc, limits(1, 4, 9)) {
-        Ok((mut recorders, mut taker)) => first_offers_meanwhile(
-            rt,
-            alloc,
-            &mut recorders,
-            &mut taker,
-        ),
-        Err(_) => false,
-    }
+    on_console(
+        alloc,
+        limits(1, 4, 9),
+        |recorders, taker| first_offers_meanwhile(rt, alloc, recorders, taker),
+    )
 }
