@@ -2,6 +2,7 @@
 
 use crate::given::{op_spec, poll_op, resource_spec, task_spec};
 use crate::marks::{begin, was_refused};
+use crate::owned::{judge, on_made};
 use crate::verdict::{Tale, UNPREPARED, Verdict, answered, told, took_none};
 use std::alloc::Global;
 use std::io::Write;
@@ -94,20 +95,19 @@ fn is_empty(aggregator: &Aggregator) -> bool {
 }
 
 fn makes(alloc: Global) -> bool {
-    match Aggregator::new(alloc, 0) {
-        Ok(aggregator) => is_empty(&aggregator),
-        Err(_) => false,
-    }
+    on_made(Aggregator::new(alloc, 0), false, |made| is_empty(made))
 }
 
 fn new(alloc: Global) -> Verdict {
     begin(alloc);
     let made = Aggregator::new(alloc, 0);
     let refused = was_refused(alloc);
-    match made {
-        Ok(aggregator) => answered(refused, is_empty(&aggregator)),
-        Err(error) => told(refused, is_memory(error), true, makes(alloc)),
-    }
+    judge(
+        refused,
+        made,
+        |aggregator| is_empty(aggregator),
+        |error| told(refused, is_memory(error), true, makes(alloc)),
+    )
 }
 
 // ---- Aggregator::collect
@@ -239,12 +239,12 @@ fn try_case<R: Wait>(
     }
 }
 
-// The aggregator is owned here alone, so its end is proved once.
 fn on_new<R: Wait>(rt: &R, alloc: Global, taker: &mut Taker, case: Case) -> Verdict {
-    match Aggregator::new(alloc, 0) {
-        Ok(mut aggregator) => try_case(rt, alloc, &mut aggregator, taker, case),
-        Err(_) => UNPREPARED,
-    }
+    on_made(
+        Aggregator::new(alloc, 0),
+        UNPREPARED,
+        |aggregator| try_case(rt, alloc, aggregator, taker, case),
+    )
 }
 
 // With a taker that finds one event of each kind.

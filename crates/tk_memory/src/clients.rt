@@ -3,6 +3,7 @@
 use crate::given::FIRST;
 use crate::lines::{LEAVES, TEXT};
 use crate::marks::{begin, was_refused};
+use crate::owned::{judge, on_made};
 use crate::tables::are_same;
 use crate::verdict::{Tale, UNPREPARED, Verdict, answered, told, took_none};
 use std::alloc::Global;
@@ -30,11 +31,22 @@ fn stream(alloc: Global, second: &[u8]) -> Option<Vec<u8>> {
     Some(bytes)
 }
 
-// A client that was fed these bytes.
-fn fed(alloc: Global, bytes: &[u8]) -> Option<Client> {
-    let mut client = Client::new(alloc, MAX_LINE).ok()?;
-    client.feed(bytes).ok()?;
-    Some(client)
+// What a look at a client that was fed these bytes answers, or this answer, where there is none.
+fn on_fed<A: Drop, F: FnOnce(&mut Client) -> A>(
+    alloc: Global,
+    bytes: &[u8],
+    otherwise: A,
+    look: F,
+) -> A
+    requires { F.IsAlwaysCallable look }
+{
+    match Client::new(alloc, MAX_LINE) {
+        Ok(mut client) => match client.feed(bytes) {
+            Ok(_) => look(&mut client),
+            Err(_) => otherwise,
+        },
+        Err(_) => otherwise,
+    }
 }
 
 // Whether the client's tables are those of a client that was fed the first so many bytes.
@@ -42,10 +54,12 @@ fn is_at(alloc: Global, client: &Client, bytes: &[u8], at: usize) -> bool {
     let Some(front) = bytes.get(..at) else {
         return false;
     };
-    match fed(alloc, front) {
-        Some(other) => are_same(alloc, client.tables(), other.tables()),
-        None => false,
-    }
+    on_fed(
+        alloc,
+        front,
+        false,
+        |other| are_same(alloc, client.tables(), other.tables()),
+    )
 }
 
 // ---- Client::new
@@ -55,20 +69,23 @@ fn is_empty(client: &Client) -> bool {
 }
 
 fn makes(alloc: Global) -> bool {
-    match Client::new(alloc, MAX_LINE) {
-        Ok(client) => is_empty(&client),
-        Err(_) => false,
-    }
+    on_made(
+        Client::new(alloc, MAX_LINE),
+        false,
+        |client| is_empty(client),
+    )
 }
 
 fn new(alloc: Global) -> Verdict {
     begin(alloc);
     let made = Client::new(alloc, MAX_LINE);
     let refused = was_refused(alloc);
-    match made {
-        Ok(client) => answered(refused, is_empty(&client)),
-        Err(fault) => told(refused, is_memory(fault), true, makes(alloc)),
-    }
+    judge(
+        refused,
+        made,
+        |client| is_empty(client),
+        |fault| told(refused, is_memory(fault), true, makes(alloc)),
+    )
 }
 
 // ---- Client::feed
@@ -116,10 +133,12 @@ fn feed_behind(alloc: Global, bytes: &[u8], from: usize) -> Verdict {
     let Some(front) = bytes.get(..from) else {
         return UNPREPARED;
     };
-    match fed(alloc, front) {
-        Some(mut client) => feed_rest(alloc, &mut client, bytes, from),
-        None => UNPREPARED,
-    }
+    on_fed(
+        alloc,
+        front,
+        UNPREPARED,
+        |client| feed_rest(alloc, client, bytes, from),
+    )
 }
 
 // ---- Client::warnings
@@ -150,10 +169,7 @@ fn warn(alloc: Global, client: &Client) -> Verdict {
 }
 
 fn warnings(alloc: Global, bytes: &[u8]) -> Verdict {
-    match fed(alloc, bytes) {
-        Some(client) => warn(alloc, &client),
-        None => UNPREPARED,
-    }
+    on_fed(alloc, bytes, UNPREPARED, |client| warn(alloc, client))
 }
 
 // ---- report
@@ -184,10 +200,12 @@ fn report_this(alloc: Global, client: &Client) -> Verdict {
 }
 
 fn report_of(alloc: Global, bytes: &[u8]) -> Verdict {
-    match fed(alloc, bytes) {
-        Some(client) => report_this(alloc, &client),
-        None => UNPREPARED,
-    }
+    on_fed(
+        alloc,
+        bytes,
+        UNPREPARED,
+        |client| report_this(alloc, client),
+    )
 }
 
 // ---- what takes no memory
@@ -202,10 +220,12 @@ fn restart_this(alloc: Global, client: &mut Client, bytes: &[u8]) -> Verdict {
 }
 
 fn restart(alloc: Global, bytes: &[u8]) -> Verdict {
-    match fed(alloc, bytes) {
-        Some(mut client) => restart_this(alloc, &mut client, bytes),
-        None => UNPREPARED,
-    }
+    on_fed(
+        alloc,
+        bytes,
+        UNPREPARED,
+        |client| restart_this(alloc, client, bytes),
+    )
 }
 
 fn tell_of<W: Write>(alloc: Global, tale: &mut Tale<W>, bytes: &[u8]) {

@@ -3,6 +3,7 @@ ghost use Rattle.std.specs.Prelude.{◌≡◌, All, IfSome};
 
 use crate::given::{FIRST, op_spec, poll_op, resource_spec, task_spec};
 use crate::marks::{begin, was_refused};
+use crate::owned::on_made;
 use crate::verdict::{Tale, UNPREPARED, Verdict, answered, told, took_none};
 use std::alloc::Global;
 use std::io::Write;
@@ -65,10 +66,11 @@ fn open(alloc: Global) -> Verdict {
 
 // Whether the recorder's one offer is a task with the first id.
 fn makes_task<R: Wait>(rt: &R, alloc: Global, recorder: &mut Recorder, spec: TaskSpec) -> bool {
-    match recorder.task(rt, alloc, spec, 4) {
-        Ok((owner, recorded)) => owner.id().value() == FIRST && recorded == Recorded::Kept,
-        Err(_) => false,
-    }
+    on_made(
+        recorder.task(rt, alloc, spec, 4),
+        false,
+        |made| made.0.id().value() == FIRST && made.1 == Recorded::Kept,
+    )
 }
 
 fn is_task_spec(alloc: Global, back: &TaskSpec) -> bool {
@@ -78,14 +80,19 @@ fn is_task_spec(alloc: Global, back: &TaskSpec) -> bool {
     }
 }
 
+// Whether an event waits. It is taken, and owned here alone.
+fn takes_any<R: Wait>(rt: &R, taker: &mut Taker) -> bool {
+    taker.take(rt).is_some()
+}
+
 // Whether the taker has nothing, and no event was dropped.
 fn has_nothing<R: Wait>(rt: &R, taker: &mut Taker) -> bool {
     let dropped = taker.dropped();
-    taker.take(rt).is_none() && dropped.tasks == 0 && dropped.resources == 0 && dropped.ops == 0
+    !takes_any(rt, taker) && dropped.tasks == 0 && dropped.resources == 0 && dropped.ops == 0
 }
 
 fn has_one<R: Wait>(rt: &R, taker: &mut Taker) -> bool {
-    taker.take(rt).is_some() && taker.take(rt).is_none()
+    takes_any(rt, taker) && !takes_any(rt, taker)
 }
 
 fn make_this_task<R: Wait>(
@@ -132,10 +139,11 @@ fn makes_resource<R: Wait>(
     recorder: &mut Recorder,
     spec: ResourceSpec,
 ) -> bool {
-    match recorder.resource(rt, alloc, spec, 4) {
-        Ok((owner, recorded)) => owner.id().value() == FIRST && recorded == Recorded::Kept,
-        Err(_) => false,
-    }
+    on_made(
+        recorder.resource(rt, alloc, spec, 4),
+        false,
+        |made| made.0.id().value() == FIRST && made.1 == Recorded::Kept,
+    )
 }
 
 fn is_resource_spec(alloc: Global, back: &ResourceSpec) -> bool {
@@ -184,10 +192,11 @@ fn make_resource<R: Wait>(
 // ---- Recorder::async_op
 
 fn makes_op<R: Wait>(rt: &R, alloc: Global, recorder: &mut Recorder, spec: OpSpec) -> bool {
-    match recorder.async_op(rt, alloc, spec, 4) {
-        Ok((owner, recorded)) => owner.id().value() == FIRST && recorded == Recorded::Kept,
-        Err(_) => false,
-    }
+    on_made(
+        recorder.async_op(rt, alloc, spec, 4),
+        false,
+        |made| made.0.id().value() == FIRST && made.1 == Recorded::Kept,
+    )
 }
 
 fn is_op_spec(alloc: Global, back: &OpSpec) -> bool {

@@ -3,6 +3,7 @@ ghost use Rattle.std.specs.Prelude.{◌≡◌, false, IfSome, is_some};
 
 use crate::given::FIRST;
 use crate::marks::{begin, was_refused};
+use crate::owned::{judge, on_made};
 use crate::verdict::{Tale, UNPREPARED, Verdict, answered, told, took_none};
 use futures::executor::block_on;
 use futures::task::Poll;
@@ -78,20 +79,19 @@ fn spawns<R: Wait>(
 
 fn makes(alloc: Global) -> bool {
     let made: Result<Executor<YieldTimes>, ExecError> = Executor::new(alloc);
-    match made {
-        Ok(executor) => executor.len() == 0,
-        Err(_) => false,
-    }
+    on_made(made, false, |executor| executor.len() == 0)
 }
 
 fn new(alloc: Global) -> Verdict {
     begin(alloc);
     let made: Result<Executor<YieldTimes>, ExecError> = Executor::new(alloc);
     let refused = was_refused(alloc);
-    match made {
-        Ok(executor) => answered(refused, executor.len() == 0),
-        Err(error) => told(refused, is_memory(error), true, makes(alloc)),
-    }
+    judge(
+        refused,
+        made,
+        |executor| executor.len() == 0,
+        |error| told(refused, is_memory(error), true, makes(alloc)),
+    )
 }
 
 // ---- Executor::spawn, of a task for which there is no room yet
@@ -147,10 +147,11 @@ fn spawn_into<R: Wait>(rt: &R, alloc: Global, executor: &mut Executor<YieldTimes
 }
 
 fn spawn<R: Wait>(rt: &R, alloc: Global) -> Verdict {
-    match Executor::new(alloc) {
-        Ok(mut executor) => spawn_into(rt, alloc, &mut executor),
-        Err(_) => UNPREPARED,
-    }
+    on_made(
+        Executor::new(alloc),
+        UNPREPARED,
+        |executor| spawn_into(rt, alloc, executor),
+    )
 }
 
 // ---- Driver::new

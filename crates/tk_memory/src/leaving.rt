@@ -3,6 +3,7 @@
 use crate::aggregators::{LIMITS, is_memory};
 use crate::given::task_spec;
 use crate::marks::{begin, was_refused};
+use crate::owned::{judge, on_made};
 use crate::verdict::{Tale, UNPREPARED, Verdict, answered, told};
 use std::alloc::Global;
 use std::io::Write;
@@ -24,20 +25,23 @@ fn is_empty(aggregator: &Aggregator) -> bool {
 }
 
 fn makes(alloc: Global) -> bool {
-    match Aggregator::with_retention(alloc, 0, 10) {
-        Ok(aggregator) => is_empty(&aggregator),
-        Err(_) => false,
-    }
+    on_made(
+        Aggregator::with_retention(alloc, 0, 10),
+        false,
+        |made| is_empty(made),
+    )
 }
 
 fn new(alloc: Global) -> Verdict {
     begin(alloc);
     let made = Aggregator::with_retention(alloc, 0, 10);
     let refused = was_refused(alloc);
-    match made {
-        Ok(aggregator) => answered(refused, is_empty(&aggregator)),
-        Err(error) => told(refused, is_memory(error), true, makes(alloc)),
-    }
+    judge(
+        refused,
+        made,
+        |aggregator| is_empty(aggregator),
+        |error| told(refused, is_memory(error), true, makes(alloc)),
+    )
 }
 
 // ---- Aggregator::publish and snapshot, behind a line that told of a closed task
@@ -134,10 +138,11 @@ fn send_second<R: Wait>(
 }
 
 fn on_new<R: Wait>(rt: &R, alloc: Global, taker: &mut Taker, whole: bool) -> Verdict {
-    match Aggregator::with_retention(alloc, 0, 5) {
-        Ok(mut aggregator) => send_second(rt, alloc, &mut aggregator, taker, whole),
-        Err(_) => UNPREPARED,
-    }
+    on_made(
+        Aggregator::with_retention(alloc, 0, 5),
+        UNPREPARED,
+        |aggregator| send_second(rt, alloc, aggregator, taker, whole),
+    )
 }
 
 fn on_closed<R: Wait>(rt: &R, alloc: Global, whole: bool) -> Verdict {

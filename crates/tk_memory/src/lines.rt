@@ -1,7 +1,8 @@
 //! Lines: between tables, written, and read.
 
 use crate::marks::{begin, was_refused};
-use crate::tables::filled;
+use crate::owned::{judge, on_made};
+use crate::tables::on_filled;
 use crate::verdict::{Tale, UNPREPARED, Verdict, answered, told};
 use std::alloc::Global;
 use std::io::Write;
@@ -25,34 +26,35 @@ fn is_written(line: &Line, text: &[u8]) -> bool {
 // ---- Line::between
 
 fn makes(alloc: Global, none: &Tables, tables: &Tables) -> bool {
-    match Line::between(alloc, none, tables, 1, false) {
-        Ok(line) => is_written(&line, TEXT),
-        Err(_) => false,
-    }
+    on_made(
+        Line::between(alloc, none, tables, 1, false),
+        false,
+        |line| is_written(line, TEXT),
+    )
 }
 
 fn make(alloc: Global, none: &Tables, tables: &Tables) -> Verdict {
     begin(alloc);
     let made = Line::between(alloc, none, tables, 1, false);
     let refused = was_refused(alloc);
-    match made {
-        Ok(line) => answered(refused, is_written(&line, TEXT)),
-        Err(_) => told(refused, true, true, makes(alloc, none, tables)),
-    }
+    judge(
+        refused,
+        made,
+        |line| is_written(line, TEXT),
+        |_error| told(refused, true, true, makes(alloc, none, tables)),
+    )
 }
 
 fn make_from(alloc: Global, none: &Tables) -> Verdict {
-    match filled(alloc) {
-        Some(tables) => make(alloc, none, &tables),
-        None => UNPREPARED,
-    }
+    on_filled(alloc, UNPREPARED, |tables| make(alloc, none, tables))
 }
 
 fn between(alloc: Global) -> Verdict {
-    match Tables::new(alloc) {
-        Ok(none) => make_from(alloc, &none),
-        Err(_) => UNPREPARED,
-    }
+    on_made(
+        Tables::new(alloc),
+        UNPREPARED,
+        |none| make_from(alloc, none),
+    )
 }
 
 // ---- Line::write
@@ -68,19 +70,21 @@ fn write_this(alloc: Global, line: &Line) -> Verdict {
 }
 
 fn write(alloc: Global) -> Verdict {
-    match Line::read(alloc, TEXT) {
-        Ok(line) => write_this(alloc, &line),
-        Err(_) => UNPREPARED,
-    }
+    on_made(
+        Line::read(alloc, TEXT),
+        UNPREPARED,
+        |line| write_this(alloc, line),
+    )
 }
 
 // ---- Line::read
 
 fn reads(alloc: Global, text: &[u8], plain: &[u8]) -> bool {
-    match Line::read(alloc, text) {
-        Ok(line) => is_written(&line, plain),
-        Err(_) => false,
-    }
+    on_made(
+        Line::read(alloc, text),
+        false,
+        |line| is_written(line, plain),
+    )
 }
 
 // Reads a text whose line is written like the second.
@@ -88,13 +92,15 @@ fn read(alloc: Global, text: &[u8], plain: &[u8]) -> Verdict {
     begin(alloc);
     let taken = Line::read(alloc, text);
     let refused = was_refused(alloc);
-    match taken {
-        Ok(line) => answered(refused, is_written(&line, plain)),
-        Err(error) => {
+    judge(
+        refused,
+        taken,
+        |line| is_written(line, plain),
+        |error| {
             let is_named = error == LineError::Memory && error.code() == 1;
             told(refused, is_named, true, reads(alloc, text, plain))
-        }
-    }
+        },
+    )
 }
 
 // The same line with a space before it, which is read as any JSON.

@@ -14,6 +14,7 @@ mod ids;
 mod leaving;
 mod lines;
 mod marks;
+mod owned;
 mod tables;
 mod verdict;
 

@@ -2,6 +2,7 @@
 
 use crate::given::{FIRST, op_info, resource_info, task_info};
 use crate::marks::{begin, was_refused};
+use crate::owned::{judge, on_made};
 use crate::verdict::{Tale, UNPREPARED, Verdict, answered, told, took_none};
 use std::alloc::{AllocError, Global};
 use std::io::Write;
@@ -66,32 +67,40 @@ fn fill(alloc: Global, tables: &mut Tables) -> Option<()> {
     if put_counts(tables) { Some(()) } else { None }
 }
 
-/// Tables with one item of each kind.
-pub(crate) fn filled(alloc: Global) -> Option<Tables> {
-    let mut tables = Tables::new(alloc).ok()?;
-    fill(alloc, &mut tables)?;
-    Some(tables)
+/// What a look at tables with one item of each kind answers, or this answer, where none were made.
+pub(crate) fn on_filled<A: Drop, F: FnOnce(&mut Tables) -> A>(
+    alloc: Global,
+    otherwise: A,
+    look: F,
+) -> A
+    requires { F.IsAlwaysCallable look }
+{
+    match Tables::new(alloc) {
+        Ok(mut tables) => match fill(alloc, &mut tables) {
+            Some(()) => look(&mut tables),
+            None => otherwise,
+        },
+        Err(_) => otherwise,
+    }
 }
 
 // ---- comparing
 
-fn line_between(alloc: Global, none: &Tables, tables: &Tables) -> Option<Line> {
-    Line::between(alloc, none, tables, 1, false).ok()
-}
-
-fn line_of(alloc: Global, tables: &Tables) -> Option<Line> {
-    match Tables::new(alloc) {
-        Ok(none) => line_between(alloc, &none, tables),
-        Err(_) => None,
-    }
+fn text_between(alloc: Global, none: &Tables, tables: &Tables) -> Option<Vec<u8>> {
+    on_made(
+        Line::between(alloc, none, tables, 1, false),
+        None,
+        |line| line.write().ok(),
+    )
 }
 
 // The text of a line that tells of these tables as a whole.
 fn text_of(alloc: Global, tables: &Tables) -> Option<Vec<u8>> {
-    match line_of(alloc, tables) {
-        Some(line) => line.write().ok(),
-        None => None,
-    }
+    on_made(
+        Tables::new(alloc),
+        None,
+        |none| text_between(alloc, none, tables),
+    )
 }
 
 /// Whether a line that tells of these tables as a whole has this text.
@@ -121,44 +130,39 @@ fn are_empty(tables: &Tables) -> bool {
 }
 
 fn begins_empty(alloc: Global) -> bool {
-    match Tables::new(alloc) {
-        Ok(tables) => are_empty(&tables),
-        Err(_) => false,
-    }
+    on_made(Tables::new(alloc), false, |tables| are_empty(tables))
 }
 
 fn new(alloc: Global) -> Verdict {
     begin(alloc);
     let made = Tables::new(alloc);
     let refused = was_refused(alloc);
-    match made {
-        Ok(tables) => answered(refused, are_empty(&tables)),
-        Err(_) => told(refused, true, true, begins_empty(alloc)),
-    }
+    judge(
+        refused,
+        made,
+        |tables| are_empty(tables),
+        |_error| told(refused, true, true, begins_empty(alloc)),
+    )
 }
 
 fn copies(alloc: Global, tables: &Tables) -> bool {
-    match tables.copy() {
-        Ok(copy) => are_same(alloc, tables, &copy),
-        Err(_) => false,
-    }
+    on_made(tables.copy(), false, |copy| are_same(alloc, tables, copy))
 }
 
 fn copy_filled(alloc: Global, tables: &Tables) -> Verdict {
     begin(alloc);
     let made = tables.copy();
     let refused = was_refused(alloc);
-    match made {
-        Ok(copy) => answered(refused, are_same(alloc, tables, &copy)),
-        Err(_) => told(refused, true, true, copies(alloc, tables)),
-    }
+    judge(
+        refused,
+        made,
+        |copy| are_same(alloc, tables, copy),
+        |_error| told(refused, true, true, copies(alloc, tables)),
+    )
 }
 
 fn copy(alloc: Global) -> Verdict {
-    match filled(alloc) {
-        Some(tables) => copy_filled(alloc, &tables),
-        None => UNPREPARED,
-    }
+    on_filled(alloc, UNPREPARED, |tables| copy_filled(alloc, tables))
 }
 
 // ---- add_task
@@ -202,10 +206,11 @@ fn add_task_to(alloc: Global, tables: &mut Tables) -> Verdict {
 }
 
 fn add_task(alloc: Global) -> Verdict {
-    match Tables::new(alloc) {
-        Ok(mut tables) => add_task_to(alloc, &mut tables),
-        Err(_) => UNPREPARED,
-    }
+    on_made(
+        Tables::new(alloc),
+        UNPREPARED,
+        |tables| add_task_to(alloc, tables),
+    )
 }
 
 // ---- add_resource
@@ -254,10 +259,11 @@ fn add_resource_to(alloc: Global, tables: &mut Tables) -> Verdict {
 }
 
 fn add_resource(alloc: Global) -> Verdict {
-    match Tables::new(alloc) {
-        Ok(mut tables) => add_resource_to(alloc, &mut tables),
-        Err(_) => UNPREPARED,
-    }
+    on_made(
+        Tables::new(alloc),
+        UNPREPARED,
+        |tables| add_resource_to(alloc, tables),
+    )
 }
 
 // ---- add_op
@@ -301,10 +307,11 @@ fn add_op_to(alloc: Global, tables: &mut Tables) -> Verdict {
 }
 
 fn add_op(alloc: Global) -> Verdict {
-    match Tables::new(alloc) {
-        Ok(mut tables) => add_op_to(alloc, &mut tables),
-        Err(_) => UNPREPARED,
-    }
+    on_made(
+        Tables::new(alloc),
+        UNPREPARED,
+        |tables| add_op_to(alloc, tables),
+    )
 }
 
 // ---- set_counts
@@ -338,10 +345,11 @@ fn set_counts_in(alloc: Global, tables: &mut Tables) -> Verdict {
 }
 
 fn set_counts(alloc: Global) -> Verdict {
-    match Tables::new(alloc) {
-        Ok(mut tables) => set_counts_in(alloc, &mut tables),
-        Err(_) => UNPREPARED,
-    }
+    on_made(
+        Tables::new(alloc),
+        UNPREPARED,
+        |tables| set_counts_in(alloc, tables),
+    )
 }
 
 // ---- what takes no memory
@@ -390,10 +398,7 @@ fn change_filled(alloc: Global, tables: &mut Tables) -> Verdict {
 }
 
 fn change(alloc: Global) -> Verdict {
-    match filled(alloc) {
-        Some(mut tables) => change_filled(alloc, &mut tables),
-        None => UNPREPARED,
-    }
+    on_filled(alloc, UNPREPARED, |tables| change_filled(alloc, tables))
 }
 
 pub(crate) fn tell<W: Write>(alloc: Global, tale: &mut Tale<W>) {

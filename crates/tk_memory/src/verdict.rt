@@ -12,7 +12,33 @@ pub(crate) enum Verdict {
     /// All is right, and the call could do without the request that was refused.
     Spared,
     /// Something is wrong: what.
-    Wrong(&'static str),
+    Wrong(Mistake),
+}
+
+/// What is wrong with a case.
+#[derive(Clone, Copy, Drop)]
+pub(crate) enum Mistake {
+    Unprepared,
+    OtherAnswer,
+    NotRefused,
+    OtherError,
+    NotAllStands,
+    OtherAnswerAgain,
+    AskedForMemory,
+}
+
+impl Mistake {
+    fn text(self) -> &'static str {
+        match self {
+            Mistake::Unprepared => "WRONG, a preparation failed",
+            Mistake::OtherAnswer => "WRONG, another answer",
+            Mistake::NotRefused => "WRONG, an error, and no request was refused",
+            Mistake::OtherError => "WRONG, another error than want of memory",
+            Mistake::NotAllStands => "WRONG, not all stands behind the refusal",
+            Mistake::OtherAnswerAgain => "WRONG, another answer behind the refusal",
+            Mistake::AskedForMemory => "WRONG, it asked for memory",
+        }
+    }
 }
 
 impl Verdict {
@@ -22,7 +48,7 @@ impl Verdict {
             Verdict::Answered => "ok",
             Verdict::Told => "ok, want of memory",
             Verdict::Spared => "ok, did without",
-            Verdict::Wrong(why) => why,
+            Verdict::Wrong(mistake) => mistake.text(),
         }
     }
 
@@ -35,12 +61,12 @@ impl Verdict {
 }
 
 /// A case that could not be prepared.
-pub(crate) const UNPREPARED: Verdict = Verdict::Wrong("WRONG, a preparation failed");
+pub(crate) const UNPREPARED: Verdict = Verdict::Wrong(Mistake::Unprepared);
 
 /// Of a call that answered: whether a request was refused, and whether the answer is the plain one.
 pub(crate) fn answered(refused: bool, is_plain: bool) -> Verdict {
     if !is_plain {
-        Verdict::Wrong("WRONG, another answer")
+        Verdict::Wrong(Mistake::OtherAnswer)
     } else if refused {
         Verdict::Spared
     } else {
@@ -52,13 +78,13 @@ pub(crate) fn answered(refused: bool, is_plain: bool) -> Verdict {
 /// name, whether what the call promises at a refusal stands, and whether the call made again gives the plain answer.
 pub(crate) fn told(refused: bool, is_named: bool, stands: bool, comes_again: bool) -> Verdict {
     if !refused {
-        Verdict::Wrong("WRONG, an error, and no request was refused")
+        Verdict::Wrong(Mistake::NotRefused)
     } else if !is_named {
-        Verdict::Wrong("WRONG, another error than want of memory")
+        Verdict::Wrong(Mistake::OtherError)
     } else if !stands {
-        Verdict::Wrong("WRONG, not all stands behind the refusal")
+        Verdict::Wrong(Mistake::NotAllStands)
     } else if !comes_again {
-        Verdict::Wrong("WRONG, another answer behind the refusal")
+        Verdict::Wrong(Mistake::OtherAnswerAgain)
     } else {
         Verdict::Told
     }
@@ -67,7 +93,7 @@ pub(crate) fn told(refused: bool, is_named: bool, stands: bool, comes_again: boo
 /// Of calls that take no memory.
 pub(crate) fn took_none(refused: bool, is_plain: bool) -> Verdict {
     if refused {
-        Verdict::Wrong("WRONG, it asked for memory")
+        Verdict::Wrong(Mistake::AskedForMemory)
     } else {
         answered(false, is_plain)
     }
