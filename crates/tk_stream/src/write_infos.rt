@@ -18,7 +18,7 @@ use tk_ids::{
     TaskKind,
 };
 
-// Three names of so many bytes, each with a backslash before it, and the rest of an info are a short text.
+// Three names of so many bytes, each byte with a backslash before it, and the rest of an info are a short text.
 const SHORT: usize = 148;
 
 // As much for three names of any length.
