@@ -4,26 +4,9 @@
 //! sizes, and writes what was done without times.
 #![tactic(auto)]
 
-mod boxes;
-mod error;
-mod floor;
-mod ids;
-mod leaving;
-mod ledgers;
-mod lines;
-mod live;
-mod live_report;
-mod making;
-mod report;
-mod rounds;
 mod script_report;
 mod scripts;
-mod table;
-mod text_report;
-mod texts;
-mod views;
 
-use error::BenchError;
 use std::env::Env;
 use std::fs::Files;
 use std::io::Write;
@@ -32,9 +15,10 @@ use std::sync::Wait;
 use std::thread::Threads;
 use std::time::Clock;
 use std::{env, io};
+use tk_measures::{MeasureError, report};
 
 // Whether the program's one word asks for small sizes.
-fn asks_for_small<R: Env + AllocGlobal>(rt: &R) -> Result<bool, BenchError> {
+fn asks_for_small<R: Env + AllocGlobal>(rt: &R) -> Result<bool, MeasureError> {
     let words = env::args(rt)?.collect::<Vec<String>>(rt.alloc())?;
     match words.get(1) {
         Some(word) => Ok(word.as_str() == "small"),
@@ -45,11 +29,13 @@ fn asks_for_small<R: Env + AllocGlobal>(rt: &R) -> Result<bool, BenchError> {
 fn run<R: Env + AllocGlobal + Files + Clock + Wait + Threads + Sync, W: Write>(
     rt: &R,
     out: &mut W,
-) -> Result<(), BenchError> {
+) -> Result<(), MeasureError> {
     if asks_for_small(rt)? {
-        report::small(rt, rt.alloc(), out)
+        report::small(rt, rt.alloc(), out)?;
+        script_report::small(rt, rt.alloc(), out)
     } else {
-        report::all(rt, rt.alloc(), out)
+        report::all(rt, rt.alloc(), out)?;
+        script_report::all(rt, rt.alloc(), out)
     }
 }
 

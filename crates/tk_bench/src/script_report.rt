@@ -1,14 +1,12 @@
 //! The table of scripts.
 
-use crate::error::BenchError;
-use crate::rounds::Rounds;
 use crate::scripts::{Way, polls_of, tasks_of};
-use crate::table::{tenths, write_head, write_row};
 use std::alloc::Global;
 use std::io::Write;
 use std::sync::Wait;
 use std::thread::Threads;
 use std::time::Clock;
+use tk_measures::{MeasureError, Rounds, tenths, write_head, write_row};
 
 // One row of the table: milliseconds of a run, and how often those on plain rows they are.
 fn write_run<W: Write>(
@@ -17,7 +15,7 @@ fn write_run<W: Write>(
     way: Way,
     rounds: &Rounds,
     plain: u64,
-) -> Result<(), BenchError> {
+) -> Result<(), MeasureError> {
     let (script, commands) = what;
     let [least, median, most] = rounds.each_of(1_000_000);
     let ratio = tenths(rounds.median(), plain);
@@ -35,7 +33,7 @@ fn runs<R: Threads + Wait + Sync + Clock, W: Write>(
     out: &mut W,
     what: (&'static str, u64),
     script: &str,
-) -> Result<(), BenchError> {
+) -> Result<(), MeasureError> {
     let plain = Way::PlainRows.rounds(rt, alloc, script)?;
     let live = Way::Ledgers.rounds(rt, alloc, script)?;
     write_run(out, what, Way::PlainRows, &plain, plain.median())?;
@@ -47,7 +45,7 @@ fn runs_of_polls<R: Threads + Wait + Sync + Clock, W: Write>(
     alloc: Global,
     out: &mut W,
     polls: u64,
-) -> Result<(), BenchError> {
+) -> Result<(), MeasureError> {
     let script = polls_of(alloc, polls)?;
     let commands = polls.saturating_mul(2).saturating_add(2);
     runs(rt, alloc, out, ("polls of one task", commands), &script)
@@ -60,7 +58,7 @@ fn runs_of_tasks<R: Threads + Wait + Sync + Clock, W: Write>(
     name: &'static str,
     lines: u64,
     tasks: u64,
-) -> Result<(), BenchError> {
+) -> Result<(), MeasureError> {
     let script = tasks_of(alloc, lines, tasks)?;
     let commands = lines.saturating_mul(tasks.saturating_add(1));
     runs(rt, alloc, out, (name, commands.saturating_add(1)), &script)
@@ -81,7 +79,7 @@ pub(crate) fn all<R: Threads + Wait + Sync + Clock, W: Write>(
     rt: &R,
     alloc: Global,
     out: &mut W,
-) -> Result<(), BenchError> {
+) -> Result<(), MeasureError> {
     write_head(out, &HEADS)?;
     runs_of_polls(rt, alloc, out, 49_999)?;
     runs_of_tasks(rt, alloc, out, "30,000 tasks in 1,000 lines", 1_000, 30)?;
@@ -95,7 +93,7 @@ fn small_script<R: Threads + Wait + Sync, W: Write>(
     out: &mut W,
     name: &str,
     script: &str,
-) -> Result<(), BenchError> {
+) -> Result<(), MeasureError> {
     let live = Way::Ledgers.run(rt, alloc, script)?;
     let plain = Way::PlainRows.run(rt, alloc, script)?;
     let alike = if live == plain {
@@ -112,7 +110,7 @@ pub(crate) fn small<R: Threads + Wait + Sync, W: Write>(
     rt: &R,
     alloc: Global,
     out: &mut W,
-) -> Result<(), BenchError> {
+) -> Result<(), MeasureError> {
     let polls = polls_of(alloc, 5)?;
     let bytes = Way::Ledgers.run(rt, alloc, &polls)?;
     writeln!(out, "a script of 12 commands: {bytes} bytes")?;

@@ -1,13 +1,12 @@
 //! Scripts, run over live ledgers and on plain rows.
 
-use crate::error::BenchError;
-use crate::rounds::{ROUNDS, Rounds, nanos_since};
 use std::alloc::Global;
 use std::fmt::Write;
 use std::sync::Wait;
 use std::thread::Threads;
 use std::time::{Clock, Instant};
 use tk_app::{Open, run_script};
+use tk_measures::{MeasureError, ROUNDS, Rounds, nanos_since};
 use tk_plain::run_plain;
 
 /// What a script is run on.
@@ -18,7 +17,7 @@ pub(crate) enum Way {
 }
 
 /// A script that makes a task, starts and ends so many polls of it, and publishes.
-pub(crate) fn polls_of(alloc: Global, polls: u64) -> Result<String, BenchError> {
+pub(crate) fn polls_of(alloc: Global, polls: u64) -> Result<String, MeasureError> {
     let mut script = String::new(alloc);
     script.push_str("task 0 spawn main\n")?;
     for _ in 0..polls {
@@ -29,7 +28,7 @@ pub(crate) fn polls_of(alloc: Global, polls: u64) -> Result<String, BenchError> 
 }
 
 /// A script of so many lines of the stream, each behind so many new tasks, for which there is room.
-pub(crate) fn tasks_of(alloc: Global, lines: u64, tasks: u64) -> Result<String, BenchError> {
+pub(crate) fn tasks_of(alloc: Global, lines: u64, tasks: u64) -> Result<String, MeasureError> {
     let mut script = String::new(alloc);
     writeln!(script, "capacity {tasks}")?;
     for _ in 0..lines {
@@ -45,20 +44,20 @@ fn run_live<R: Threads + Wait + Sync>(
     rt: &R,
     alloc: Global,
     script: &str,
-) -> Result<u64, BenchError> {
+) -> Result<u64, MeasureError> {
     let mut reader = script.as_bytes();
     let mut written = Vec::new(alloc);
     match run_script(rt, alloc, &mut reader, &mut written, &Open) {
         Ok(()) => Ok(written.len() as u64),
-        Err(_) => Err(BenchError::Refused),
+        Err(_) => Err(MeasureError::Refused),
     }
 }
 
-fn run_on_rows(alloc: Global, script: &str) -> Result<u64, BenchError> {
+fn run_on_rows(alloc: Global, script: &str) -> Result<u64, MeasureError> {
     let mut written = Vec::new(alloc);
     match run_plain(alloc, script.as_bytes(), &mut written) {
         Ok(()) => Ok(written.len() as u64),
-        Err(_) => Err(BenchError::Refused),
+        Err(_) => Err(MeasureError::Refused),
     }
 }
 
@@ -76,7 +75,7 @@ impl Way {
         rt: &R,
         alloc: Global,
         script: &str,
-    ) -> Result<u64, BenchError> {
+    ) -> Result<u64, MeasureError> {
         match self {
             Way::Ledgers => run_live(rt, alloc, script),
             Way::PlainRows => run_on_rows(alloc, script),
@@ -88,7 +87,7 @@ impl Way {
         rt: &R,
         alloc: Global,
         script: &str,
-    ) -> Result<u64, BenchError> {
+    ) -> Result<u64, MeasureError> {
         let start = Instant::now(rt)?;
         self.run(rt, alloc, script)?;
         nanos_since(rt, &start)
@@ -100,7 +99,7 @@ impl Way {
         rt: &R,
         alloc: Global,
         script: &str,
-    ) -> Result<Rounds, BenchError> {
+    ) -> Result<Rounds, MeasureError> {
         let mut nanos = [0u64; ROUNDS];
         for round in &mut nanos {
             *round = self.nanos(rt, alloc, script)?;

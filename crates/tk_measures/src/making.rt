@@ -1,6 +1,6 @@
 //! Tasks that are made through a recorder, each with its ledger, a waker and an inspector, and let go again.
 
-use crate::error::BenchError;
+use crate::error::MeasureError;
 use crate::live::task_of;
 use crate::rounds::{ROUNDS, Rounds, nanos_since};
 use crate::table::{tenths, write_head, write_row};
@@ -35,17 +35,17 @@ struct Took {
     bytes: u64,
 }
 
-fn waker_of<R: Wait>(rt: &R, owner: &mut TaskOwner) -> Result<WakerHandle, BenchError> {
+fn waker_of<R: Wait>(rt: &R, owner: &mut TaskOwner) -> Result<WakerHandle, MeasureError> {
     match owner.clone_waker(rt) {
         Ok(waker) => Ok(waker),
-        Err(_) => Err(BenchError::Memory),
+        Err(_) => Err(MeasureError::Memory),
     }
 }
 
-fn event_of<R: Wait>(rt: &R, taker: &mut Taker) -> Result<Event, BenchError> {
+fn event_of<R: Wait>(rt: &R, taker: &mut Taker) -> Result<Event, MeasureError> {
     match taker.take(rt) {
         Some(event) => Ok(event),
-        None => Err(BenchError::Refused),
+        None => Err(MeasureError::Refused),
     }
 }
 
@@ -55,7 +55,7 @@ fn make<R: Wait>(
     recorder: &mut Recorder,
     taker: &mut Taker,
     created: u64,
-) -> Result<Made, BenchError> {
+) -> Result<Made, MeasureError> {
     let mut owner = task_of(rt, alloc, recorder, created)?;
     let waker = waker_of(rt, &mut owner)?;
     let event = event_of(rt, taker)?;
@@ -73,7 +73,7 @@ fn make_all<R: Wait>(
     taker: &mut Taker,
     made: &mut Vec<Made>,
     tasks: usize,
-) -> Result<(), BenchError> {
+) -> Result<(), MeasureError> {
     for created in 0..tasks as u64 {
         made.push(make(rt, alloc, recorder, taker, created)?)?;
     }
@@ -81,12 +81,12 @@ fn make_all<R: Wait>(
 }
 
 /// The resident memory of this program, in bytes, as the system tells it.
-pub(crate) fn resident<R: Files + AllocGlobal>(rt: &R) -> Result<u64, BenchError> {
+pub(crate) fn resident<R: Files + AllocGlobal>(rt: &R) -> Result<u64, MeasureError> {
     let text = fs::read_to_string(rt, "/proc/self/statm")?;
     let pages = text.split(' ').nth(1).unwrap_or("");
     match pages.parse::<u64>() {
         Ok(pages) => Ok(pages.saturating_mul(PAGE)),
-        Err(_) => Err(BenchError::Device),
+        Err(_) => Err(MeasureError::Device),
     }
 }
 
@@ -96,7 +96,7 @@ fn round<R: Wait + Clock + Files + AllocGlobal>(
     recorder: &mut Recorder,
     taker: &mut Taker,
     tasks: usize,
-) -> Result<Took, BenchError> {
+) -> Result<Took, MeasureError> {
     let mut made = Vec::with_capacity(alloc, tasks)?;
     let before = resident(rt)?;
     let start = Instant::now(rt)?;
@@ -120,9 +120,9 @@ fn rounds_of<R: Wait + Clock + Files + AllocGlobal>(
     recorders: &mut Vec<Recorder>,
     taker: &mut Taker,
     tasks: usize,
-) -> Result<[Took; ROUNDS], BenchError> {
+) -> Result<[Took; ROUNDS], MeasureError> {
     let Some(recorder) = recorders.get_mut(0) else {
-        return Err(BenchError::Refused);
+        return Err(MeasureError::Refused);
     };
     let mut rounds = [round(rt, alloc, recorder, taker, tasks)?; ROUNDS];
     for took in rounds.iter_mut().skip(1) {
@@ -135,7 +135,7 @@ fn rounds<R: Wait + Clock + Files + AllocGlobal>(
     rt: &R,
     alloc: Global,
     tasks: usize,
-) -> Result<[Took; ROUNDS], BenchError> {
+) -> Result<[Took; ROUNDS], MeasureError> {
     let limits = Limits {
         recorders: 1,
         capacity: 1,
@@ -143,7 +143,7 @@ fn rounds<R: Wait + Clock + Files + AllocGlobal>(
     };
     match Console::open(alloc, limits) {
         Ok((mut recorders, mut taker)) => rounds_of(rt, alloc, &mut recorders, &mut taker, tasks),
-        Err(_) => Err(BenchError::Memory),
+        Err(_) => Err(MeasureError::Memory),
     }
 }
 
@@ -152,7 +152,7 @@ pub(crate) fn all<R: Wait + Clock + Files + AllocGlobal, W: Write>(
     rt: &R,
     alloc: Global,
     out: &mut W,
-) -> Result<(), BenchError> {
+) -> Result<(), MeasureError> {
     let took = rounds(rt, alloc, TASKS)?;
     let making = Rounds::new(took.map(|round| round.making));
     let dropping = Rounds::new(took.map(|round| round.dropping));
@@ -170,7 +170,7 @@ pub(crate) fn small<R: Wait + Clock + Files + AllocGlobal, W: Write>(
     rt: &R,
     alloc: Global,
     out: &mut W,
-) -> Result<(), BenchError> {
+) -> Result<(), MeasureError> {
     rounds(rt, alloc, 100)?;
     writeln!(out, "tasks made through a recorder, and let go: 100")?;
     Ok(())

@@ -1,11 +1,11 @@
 //! What is measured, and the tables that tell of it.
 
-use crate::error::BenchError;
+use crate::error::MeasureError;
 use crate::ledgers::{Call, on_a_row, on_one_task, on_own_tasks};
 use crate::lines::{LineTimes, Part, Stream, Waker, changed, tables_of};
 use crate::rounds::{ROUNDS, Rounds};
 use crate::table::{tenths, write_head, write_row};
-use crate::{floor, leaving, live_report, making, script_report, text_report};
+use crate::{floor, leaving, live_report, making, text_report};
 use std::alloc::{AllocGlobal, Global};
 use std::fs::Files;
 use std::io::Write;
@@ -50,7 +50,7 @@ impl Measure {
         alloc: Global,
         threads: u64,
         times: u64,
-    ) -> Result<u64, BenchError> {
+    ) -> Result<u64, MeasureError> {
         match self {
             Measure::Wakes => on_own_tasks(rt, alloc, Some(Call::Wake), threads, times),
             Measure::WakesOfOneTask => on_one_task(rt, alloc, Call::Wake, threads, times),
@@ -66,7 +66,7 @@ impl Measure {
         alloc: Global,
         threads: u64,
         times: u64,
-    ) -> Result<Rounds, BenchError> {
+    ) -> Result<Rounds, MeasureError> {
         let mut nanos = [0u64; ROUNDS];
         for round in &mut nanos {
             *round = self.nanos(rt, alloc, threads, times)?;
@@ -75,7 +75,7 @@ impl Measure {
     }
 }
 
-fn row_rounds<R: Clock>(rt: &R, times: u64) -> Result<Rounds, BenchError> {
+fn row_rounds<R: Clock>(rt: &R, times: u64) -> Result<Rounds, MeasureError> {
     let mut nanos = [0u64; ROUNDS];
     for round in &mut nanos {
         *round = on_a_row(rt, times)?;
@@ -91,7 +91,7 @@ fn write_calls<W: Write>(
     rounds: &Rounds,
     times: u64,
     alone: u64,
-) -> Result<(), BenchError> {
+) -> Result<(), MeasureError> {
     let [least, median, most] = rounds.each_of(times);
     let ratio = tenths(rounds.median(), alone);
     write_row(out, &[name], &[threads], &[least, median, most, ratio])
@@ -102,7 +102,7 @@ fn calls<R: Wait + Threads + Clock + Sync, W: Write>(
     alloc: Global,
     out: &mut W,
     times: u64,
-) -> Result<(), BenchError> {
+) -> Result<(), MeasureError> {
     write_head(
         out,
         &[
@@ -133,7 +133,7 @@ fn write_rate<W: Write>(
     every: usize,
     bytes: u64,
     rounds: &Rounds,
-) -> Result<(), BenchError> {
+) -> Result<(), MeasureError> {
     let [least, median, most] = rounds.rates(bytes);
     let micros = tenths(rounds.median(), 1_000);
     let counts = [tasks as u64, every as u64, bytes];
@@ -167,7 +167,7 @@ fn lines_between<R: Clock, W: Write>(
     stream: &mut Stream,
     tables: (&Tables, &Tables),
     every: usize,
-) -> Result<(), BenchError> {
+) -> Result<(), MeasureError> {
     let (old, new) = tables;
     let times = stream.rounds(rt, alloc, old, new)?;
     let bytes = times[0].bytes;
@@ -185,7 +185,7 @@ fn lines_to_changed<R: Clock, W: Write>(
     stream: &mut Stream,
     old: &Tables,
     every: usize,
-) -> Result<(), BenchError> {
+) -> Result<(), MeasureError> {
     let new = changed(alloc, old, every, Waker::Lost)?;
     lines_between(rt, alloc, out, stream, (old, &new), every)
 }
@@ -198,7 +198,7 @@ fn lines_between_standings<R: Clock, W: Write>(
     stream: &mut Stream,
     old: &Tables,
     new: &Tables,
-) -> Result<(), BenchError> {
+) -> Result<(), MeasureError> {
     let times = stream.rounds(rt, alloc, old, new)?;
     let rounds = part_rounds(&times, Part::Feed);
     let tasks = old.task_count();
@@ -218,7 +218,7 @@ fn lines_to_kept<R: Clock, W: Write>(
     out: &mut W,
     stream: &mut Stream,
     old: &Tables,
-) -> Result<(), BenchError> {
+) -> Result<(), MeasureError> {
     let new = changed(alloc, old, old.task_count(), Waker::Kept)?;
     lines_between_standings(rt, alloc, out, stream, old, &new)
 }
@@ -230,7 +230,7 @@ fn lines_in_pieces<R: Clock, W: Write>(
     out: &mut W,
     stream: &mut Stream,
     old: &Tables,
-) -> Result<(), BenchError> {
+) -> Result<(), MeasureError> {
     let tasks = old.task_count();
     let new = changed(alloc, old, tasks, Waker::Lost)?;
     let (bytes, nanos) = stream.pieces(rt, alloc, old, &new)?;
@@ -250,7 +250,7 @@ fn lines_of<R: Clock, W: Write>(
     alloc: Global,
     out: &mut W,
     tables: &Tables,
-) -> Result<(), BenchError> {
+) -> Result<(), MeasureError> {
     let (mut stream, bytes, feed) = Stream::of(rt, alloc, tables)?;
     let once = Rounds::new([feed; ROUNDS]);
     write_rate(
@@ -273,7 +273,7 @@ fn lines<R: Clock, W: Write>(
     alloc: Global,
     out: &mut W,
     tasks: u64,
-) -> Result<(), BenchError> {
+) -> Result<(), MeasureError> {
     let tables = tables_of(alloc, tasks, Waker::Lost)?;
     lines_of(rt, alloc, out, &tables)
 }
@@ -289,7 +289,7 @@ const LINE_HEADS: [&str; 8] = [
     "most",
 ];
 
-fn warning_rounds<R: Clock>(rt: &R, stream: &Stream) -> Result<(usize, Rounds), BenchError> {
+fn warning_rounds<R: Clock>(rt: &R, stream: &Stream) -> Result<(usize, Rounds), MeasureError> {
     let mut nanos = [0u64; ROUNDS];
     let mut count = 0;
     for round in &mut nanos {
@@ -306,7 +306,7 @@ fn warnings_of<R: Clock, W: Write>(
     alloc: Global,
     out: &mut W,
     tables: &Tables,
-) -> Result<(), BenchError> {
+) -> Result<(), MeasureError> {
     let (stream, _, _) = Stream::of(rt, alloc, tables)?;
     let (count, rounds) = warning_rounds(rt, &stream)?;
     let tasks = tables.task_count();
@@ -319,7 +319,7 @@ fn warnings<R: Clock, W: Write>(
     alloc: Global,
     out: &mut W,
     tasks: u64,
-) -> Result<(), BenchError> {
+) -> Result<(), MeasureError> {
     let heads = [
         "microseconds of",
         "how many",
@@ -336,12 +336,12 @@ fn warnings<R: Clock, W: Write>(
     Ok(())
 }
 
-/// Measures all, and writes the tables.
-pub(crate) fn all<R: Wait + Threads + Clock + Files + AllocGlobal + Sync, W: Write>(
+/// Measures all, and writes the tables. What a measurement stops at is its error; the tables before it are written.
+pub fn all<R: Wait + Threads + Clock + Files + AllocGlobal + Sync, W: Write>(
     rt: &R,
     alloc: Global,
     out: &mut W,
-) -> Result<(), BenchError> {
+) -> Result<(), MeasureError> {
     leaving::all(rt, alloc, out)?;
     calls(rt, alloc, out, 200_000)?;
     floor::all(rt, alloc, out)?;
@@ -352,16 +352,15 @@ pub(crate) fn all<R: Wait + Threads + Clock + Files + AllocGlobal + Sync, W: Wri
     lines(rt, alloc, out, 100_000)?;
     warnings(rt, alloc, out, 100_000)?;
     text_report::all(rt, alloc, out)?;
-    live_report::all(rt, alloc, out)?;
-    script_report::all(rt, alloc, out)
+    live_report::all(rt, alloc, out)
 }
 
-/// Does each thing once in a small size, and writes what was done.
-pub(crate) fn small<R: Wait + Threads + Clock + Files + AllocGlobal + Sync, W: Write>(
+/// Does each thing once in a small size, and writes what was done, which is the same each time.
+pub fn small<R: Wait + Threads + Clock + Files + AllocGlobal + Sync, W: Write>(
     rt: &R,
     alloc: Global,
     out: &mut W,
-) -> Result<(), BenchError> {
+) -> Result<(), MeasureError> {
     for measure in MEASURES {
         for threads in [1u64, 2, 4] {
             measure.nanos(rt, alloc, threads, 100)?;
@@ -373,8 +372,7 @@ pub(crate) fn small<R: Wait + Threads + Clock + Files + AllocGlobal + Sync, W: W
     leaving::small(rt, alloc, out)?;
     small_line(rt, alloc, out)?;
     text_report::small(alloc, out)?;
-    live_report::small(rt, alloc, out)?;
-    script_report::small(rt, alloc, out)
+    live_report::small(rt, alloc, out)
 }
 
 fn small_change<R: Clock, W: Write>(
@@ -383,7 +381,7 @@ fn small_change<R: Clock, W: Write>(
     out: &mut W,
     stream: &mut Stream,
     tables: &Tables,
-) -> Result<(), BenchError> {
+) -> Result<(), MeasureError> {
     let new = changed(alloc, tables, 5, Waker::Kept)?;
     let times = stream.rounds(rt, alloc, tables, &new)?;
     writeln!(out, "a line of 2 changed tasks: {} bytes", times[0].bytes)?;
@@ -397,7 +395,7 @@ fn small_lines<R: Clock, W: Write>(
     alloc: Global,
     out: &mut W,
     tables: &Tables,
-) -> Result<(), BenchError> {
+) -> Result<(), MeasureError> {
     let (mut stream, bytes, _) = Stream::of(rt, alloc, tables)?;
     writeln!(out, "a line of 10 new tasks: {bytes} bytes")?;
     let (count, _) = stream.warn(rt)?;
@@ -405,7 +403,7 @@ fn small_lines<R: Clock, W: Write>(
     small_change(rt, alloc, out, &mut stream, tables)
 }
 
-fn small_line<R: Clock, W: Write>(rt: &R, alloc: Global, out: &mut W) -> Result<(), BenchError> {
+fn small_line<R: Clock, W: Write>(rt: &R, alloc: Global, out: &mut W) -> Result<(), MeasureError> {
     let tables = tables_of(alloc, 10, Waker::Lost)?;
     small_lines(rt, alloc, out, &tables)
 }

@@ -1,6 +1,6 @@
 //! Lines of an aggregator over the ledgers of tasks, beside bare readings of the same ledgers.
 
-use crate::error::BenchError;
+use crate::error::MeasureError;
 use crate::lines::{location, name_of};
 use crate::rounds::{ROUNDS, nanos_since};
 use std::alloc::Global;
@@ -77,7 +77,7 @@ impl Write for Counter {
     }
 }
 
-fn spec_of(alloc: Global) -> Result<TaskSpec, BenchError> {
+fn spec_of(alloc: Global) -> Result<TaskSpec, MeasureError> {
     let name = name_of(alloc, b"connection")?;
     let location = location(alloc)?;
     Ok(TaskSpec {
@@ -93,10 +93,10 @@ pub(crate) fn task_of<R: Wait>(
     alloc: Global,
     recorder: &mut Recorder,
     created: u64,
-) -> Result<TaskOwner, BenchError> {
+) -> Result<TaskOwner, MeasureError> {
     match recorder.task(rt, alloc, spec_of(alloc)?, created) {
         Ok((owner, _)) => Ok(owner),
-        Err(_) => Err(BenchError::Memory),
+        Err(_) => Err(MeasureError::Memory),
     }
 }
 
@@ -107,11 +107,11 @@ pub(crate) fn push_task<R: Wait>(
     recorder: &mut Recorder,
     owners: &mut Vec<TaskOwner>,
     created: u64,
-) -> Result<(), BenchError> {
+) -> Result<(), MeasureError> {
     let owner = task_of(rt, alloc, recorder, created)?;
     match owners.push(owner) {
         Ok(()) => Ok(()),
-        Err(_) => Err(BenchError::Memory),
+        Err(_) => Err(MeasureError::Memory),
     }
 }
 
@@ -120,10 +120,10 @@ pub(crate) fn collect<R: Wait>(
     rt: &R,
     aggregator: &mut Aggregator,
     taker: &mut Taker,
-) -> Result<(), BenchError> {
+) -> Result<(), MeasureError> {
     match aggregator.collect(rt, taker, CAPACITY) {
         Ok(_) => Ok(()),
-        Err(_) => Err(BenchError::Memory),
+        Err(_) => Err(MeasureError::Memory),
     }
 }
 
@@ -136,7 +136,7 @@ fn push_tasks<R: Wait>(
     aggregator: &mut Aggregator,
     owners: &mut Vec<TaskOwner>,
     tasks: u64,
-) -> Result<(), BenchError> {
+) -> Result<(), MeasureError> {
     for created in 0..tasks {
         push_task(rt, alloc, recorder, owners, created)?;
         if created % CAPACITY == CAPACITY - 1 {
@@ -154,10 +154,10 @@ fn push_of_first<R: Wait>(
     aggregator: &mut Aggregator,
     owners: &mut Vec<TaskOwner>,
     tasks: u64,
-) -> Result<(), BenchError> {
+) -> Result<(), MeasureError> {
     match recorders.get_mut(0) {
         Some(recorder) => push_tasks(rt, alloc, recorder, taker, aggregator, owners, tasks),
-        None => Err(BenchError::Refused),
+        None => Err(MeasureError::Refused),
     }
 }
 
@@ -168,7 +168,7 @@ pub(crate) fn record<R: Wait>(
     aggregator: &mut Aggregator,
     owners: &mut Vec<TaskOwner>,
     tasks: u64,
-) -> Result<(), BenchError> {
+) -> Result<(), MeasureError> {
     let limits = Limits {
         recorders: 1,
         capacity: CAPACITY,
@@ -184,22 +184,22 @@ pub(crate) fn record<R: Wait>(
             owners,
             tasks,
         ),
-        Err(_) => Err(BenchError::Memory),
+        Err(_) => Err(MeasureError::Memory),
     }
 }
 
-fn poll<R: Wait>(rt: &R, owner: &mut TaskOwner) -> Result<(), BenchError> {
+fn poll<R: Wait>(rt: &R, owner: &mut TaskOwner) -> Result<(), MeasureError> {
     if owner.start_poll(rt, 86_400_000_010_000).is_ok()
         && owner.end_poll(rt, 86_400_000_350_000).is_ok()
     {
         Ok(())
     } else {
-        Err(BenchError::Refused)
+        Err(MeasureError::Refused)
     }
 }
 
 // Polls one task of so many, and none where that is 0.
-fn change<R: Wait>(rt: &R, owners: &mut Vec<TaskOwner>, every: usize) -> Result<(), BenchError> {
+fn change<R: Wait>(rt: &R, owners: &mut Vec<TaskOwner>, every: usize) -> Result<(), MeasureError> {
     for i in 0..owners.len() {
         if every != 0 && i % every == 0 {
             if let Some(owner) = owners.get_mut(i) {
@@ -211,7 +211,7 @@ fn change<R: Wait>(rt: &R, owners: &mut Vec<TaskOwner>, every: usize) -> Result<
 }
 
 // The nanoseconds in which each owner reads its row. Each task has one handle.
-fn reading_time<R: Wait + Clock>(rt: &R, owners: &mut Vec<TaskOwner>) -> Result<u64, BenchError> {
+fn reading_time<R: Wait + Clock>(rt: &R, owners: &mut Vec<TaskOwner>) -> Result<u64, MeasureError> {
     let mut handles = 0u64;
     let start = Instant::now(rt)?;
     for i in 0..owners.len() {
@@ -223,11 +223,11 @@ fn reading_time<R: Wait + Clock>(rt: &R, owners: &mut Vec<TaskOwner>) -> Result<
     if handles == owners.len() as u64 {
         Ok(nanos)
     } else {
-        Err(BenchError::Refused)
+        Err(MeasureError::Refused)
     }
 }
 
-fn refresh_time<R: Wait + Clock>(rt: &R, aggregator: &mut Aggregator) -> Result<u64, BenchError> {
+fn refresh_time<R: Wait + Clock>(rt: &R, aggregator: &mut Aggregator) -> Result<u64, MeasureError> {
     let start = Instant::now(rt)?;
     aggregator.refresh(rt);
     nanos_since(rt, &start)
@@ -237,12 +237,12 @@ fn refresh_time<R: Wait + Clock>(rt: &R, aggregator: &mut Aggregator) -> Result<
 pub(crate) fn publish_time<R: Clock>(
     rt: &R,
     aggregator: &mut Aggregator,
-) -> Result<(u64, u64), BenchError> {
+) -> Result<(u64, u64), MeasureError> {
     let mut writer = Counter { bytes: 0 };
     let now = aggregator.tables().now().saturating_add(1);
     let start = Instant::now(rt)?;
     if aggregator.publish(now, &mut writer).is_err() {
-        return Err(BenchError::Refused);
+        return Err(MeasureError::Refused);
     }
     Ok((nanos_since(rt, &start)?, writer.bytes))
 }
@@ -253,7 +253,7 @@ pub(crate) fn line<R: Wait + Clock>(
     aggregator: &mut Aggregator,
     owners: &mut Vec<TaskOwner>,
     every: usize,
-) -> Result<LiveTimes, BenchError> {
+) -> Result<LiveTimes, MeasureError> {
     change(rt, owners, every)?;
     let readings = reading_time(rt, owners)?;
     let refresh = refresh_time(rt, aggregator)?;
@@ -272,7 +272,7 @@ pub(crate) fn lines<R: Wait + Clock>(
     aggregator: &mut Aggregator,
     owners: &mut Vec<TaskOwner>,
     every: usize,
-) -> Result<[LiveTimes; ROUNDS], BenchError> {
+) -> Result<[LiveTimes; ROUNDS], MeasureError> {
     let mut times = [line(rt, aggregator, owners, every)?; ROUNDS];
     for round in &mut times {
         *round = line(rt, aggregator, owners, every)?;

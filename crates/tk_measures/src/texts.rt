@@ -1,7 +1,7 @@
 //! Texts of lines of each kind, read and written, beside what JSON alone costs.
 
 use crate::boxes::boxed;
-use crate::error::BenchError;
+use crate::error::MeasureError;
 use crate::lines::value_of;
 use crate::rounds::{ROUNDS, Rounds, nanos_since};
 use serde_json::Value;
@@ -168,25 +168,25 @@ pub(crate) fn spaced(alloc: Global, text: &[u8]) -> Result<Vec<u8>, AllocError> 
     Ok(out)
 }
 
-fn line_of(alloc: Global, text: &[u8]) -> Result<Box<Line>, BenchError> {
+fn line_of(alloc: Global, text: &[u8]) -> Result<Box<Line>, MeasureError> {
     match Line::read(alloc, text) {
         Ok(line) => boxed(alloc, line),
-        Err(_) => Err(BenchError::Refused),
+        Err(_) => Err(MeasureError::Refused),
     }
 }
 
 // A round reads so often, so the line isn't put into a box.
-fn reads(alloc: Global, text: &[u8]) -> Result<(), BenchError> {
+fn reads(alloc: Global, text: &[u8]) -> Result<(), MeasureError> {
     match Line::read(alloc, text) {
         Ok(_) => Ok(()),
-        Err(_) => Err(BenchError::Refused),
+        Err(_) => Err(MeasureError::Refused),
     }
 }
 
-fn writes(line: &Line) -> Result<(), BenchError> {
+fn writes(line: &Line) -> Result<(), MeasureError> {
     match line.write() {
         Ok(_) => Ok(()),
-        Err(_) => Err(BenchError::Memory),
+        Err(_) => Err(MeasureError::Memory),
     }
 }
 
@@ -199,13 +199,13 @@ pub(crate) struct Sample {
 }
 
 impl Sample {
-    pub(crate) fn new(alloc: Global, text: &[u8], times: u64) -> Result<Sample, BenchError> {
+    pub(crate) fn new(alloc: Global, text: &[u8], times: u64) -> Result<Sample, MeasureError> {
         let line = line_of(alloc, text)?;
         let value = value_of(alloc, text)?;
         Ok(Sample { line, value, times })
     }
 
-    fn go(&self, alloc: Global, text: &[u8], way: Way) -> Result<(), BenchError> {
+    fn go(&self, alloc: Global, text: &[u8], way: Way) -> Result<(), MeasureError> {
         match way {
             Way::Read => reads(alloc, text)?,
             Way::JsonRead => {
@@ -225,7 +225,7 @@ impl Sample {
         alloc: Global,
         text: &[u8],
         way: Way,
-    ) -> Result<u64, BenchError> {
+    ) -> Result<u64, MeasureError> {
         let start = Instant::now(rt)?;
         for _ in 0..self.times {
             self.go(alloc, text, way)?;
@@ -240,7 +240,7 @@ impl Sample {
         alloc: Global,
         text: &[u8],
         way: Way,
-    ) -> Result<Rounds, BenchError> {
+    ) -> Result<Rounds, MeasureError> {
         let mut nanos = [0u64; ROUNDS];
         for round in &mut nanos {
             *round = self.nanos(rt, alloc, text, way)?;

@@ -1,7 +1,7 @@
 //! Lines of a stream: made, written, and fed to a client.
 
 use crate::boxes::boxed;
-use crate::error::BenchError;
+use crate::error::MeasureError;
 use crate::ids::id_above;
 use crate::rounds::{ROUNDS, nanos_since};
 use serde_json::Value;
@@ -68,14 +68,14 @@ impl LineTimes {
     }
 }
 
-pub(crate) fn name_of(alloc: Global, bytes: &[u8]) -> Result<Name, BenchError> {
+pub(crate) fn name_of(alloc: Global, bytes: &[u8]) -> Result<Name, MeasureError> {
     match Name::new(alloc, bytes) {
         Ok(name) => Ok(name),
-        Err(_) => Err(BenchError::Memory),
+        Err(_) => Err(MeasureError::Memory),
     }
 }
 
-pub(crate) fn location(alloc: Global) -> Result<Location, BenchError> {
+pub(crate) fn location(alloc: Global) -> Result<Location, MeasureError> {
     Ok(Location {
         file: name_of(alloc, b"src/server/connection.rs")?,
         line: 120,
@@ -83,7 +83,7 @@ pub(crate) fn location(alloc: Global) -> Result<Location, BenchError> {
     })
 }
 
-fn info_of(alloc: Global, id: TaskId) -> Result<TaskInfo, BenchError> {
+fn info_of(alloc: Global, id: TaskId) -> Result<TaskInfo, MeasureError> {
     let name = name_of(alloc, b"connection")?;
     let location = location(alloc)?;
     Ok(TaskInfo {
@@ -120,21 +120,21 @@ fn put_task(
     tables: &mut Tables,
     above: u64,
     waker: Waker,
-) -> Result<(), BenchError> {
+) -> Result<(), MeasureError> {
     let info = info_of(alloc, id_above(above)?)?;
     if tables.task(info.id).is_some() {
-        return Err(BenchError::Refused);
+        return Err(MeasureError::Refused);
     }
     match tables.add_task(info, row_of(above, waker)) {
         Ok(()) => Ok(()),
-        Err(_) => Err(BenchError::Memory),
+        Err(_) => Err(MeasureError::Memory),
     }
 }
 
-fn new_tables(alloc: Global) -> Result<Box<Tables>, BenchError> {
+fn new_tables(alloc: Global) -> Result<Box<Tables>, MeasureError> {
     match Tables::new(alloc) {
         Ok(tables) => boxed(alloc, tables),
-        Err(_) => Err(BenchError::Memory),
+        Err(_) => Err(MeasureError::Memory),
     }
 }
 
@@ -143,7 +143,7 @@ pub(crate) fn tables_of(
     alloc: Global,
     tasks: u64,
     waker: Waker,
-) -> Result<Box<Tables>, BenchError> {
+) -> Result<Box<Tables>, MeasureError> {
     let mut tables = new_tables(alloc)?;
     for above in 0..tasks {
         put_task(alloc, &mut tables, above, waker)?;
@@ -160,10 +160,10 @@ fn change(tables: &mut Tables, every: usize, waker: Waker) {
     }
 }
 
-fn copy_of(alloc: Global, tables: &Tables) -> Result<Box<Tables>, BenchError> {
+fn copy_of(alloc: Global, tables: &Tables) -> Result<Box<Tables>, MeasureError> {
     match tables.copy() {
         Ok(copy) => boxed(alloc, copy),
-        Err(_) => Err(BenchError::Memory),
+        Err(_) => Err(MeasureError::Memory),
     }
 }
 
@@ -173,7 +173,7 @@ pub(crate) fn changed(
     old: &Tables,
     every: usize,
     waker: Waker,
-) -> Result<Box<Tables>, BenchError> {
+) -> Result<Box<Tables>, MeasureError> {
     let mut tables = copy_of(alloc, old)?;
     change(&mut tables, every, waker);
     Ok(tables)
@@ -185,28 +185,28 @@ pub(crate) fn line_between(
     old: &Tables,
     new: &Tables,
     seq: u64,
-) -> Result<Box<Line>, BenchError> {
+) -> Result<Box<Line>, MeasureError> {
     if seq == 0 || seq > 1 << 63 {
-        return Err(BenchError::Refused);
+        return Err(MeasureError::Refused);
     }
     match Line::between(alloc, old, new, seq, false) {
         Ok(line) => boxed(alloc, line),
-        Err(_) => Err(BenchError::Memory),
+        Err(_) => Err(MeasureError::Memory),
     }
 }
 
-fn ended(mut text: Vec<u8>) -> Result<Vec<u8>, BenchError> {
+fn ended(mut text: Vec<u8>) -> Result<Vec<u8>, MeasureError> {
     match text.push(b'\n') {
         Ok(()) => Ok(text),
-        Err(_) => Err(BenchError::Memory),
+        Err(_) => Err(MeasureError::Memory),
     }
 }
 
 /// The text of a line and its end.
-pub(crate) fn ended_text(line: &Line) -> Result<Vec<u8>, BenchError> {
+pub(crate) fn ended_text(line: &Line) -> Result<Vec<u8>, MeasureError> {
     match line.write() {
         Ok(text) => ended(text),
-        Err(_) => Err(BenchError::Memory),
+        Err(_) => Err(MeasureError::Memory),
     }
 }
 
@@ -215,7 +215,7 @@ fn text_between(
     old: &Tables,
     new: &Tables,
     seq: u64,
-) -> Result<Vec<u8>, BenchError> {
+) -> Result<Vec<u8>, MeasureError> {
     let line = line_between(alloc, old, new, seq)?;
     ended_text(&line)
 }
@@ -227,7 +227,7 @@ pub(crate) fn put_line(
     old: &Tables,
     new: &Tables,
     seq: u64,
-) -> Result<(), BenchError> {
+) -> Result<(), MeasureError> {
     let line = line_between(alloc, old, new, seq)?;
     let text = ended_text(&line)?;
     bytes.extend_from_slice(&text)?;
@@ -235,7 +235,7 @@ pub(crate) fn put_line(
 }
 
 /// The text of a first line, which tells of the tables, and its end.
-pub(crate) fn first_text(alloc: Global, tables: &Tables) -> Result<Vec<u8>, BenchError> {
+pub(crate) fn first_text(alloc: Global, tables: &Tables) -> Result<Vec<u8>, MeasureError> {
     let empty = new_tables(alloc)?;
     text_between(alloc, &empty, tables, 1)
 }
@@ -246,27 +246,27 @@ fn json_write_time<R: Clock>(
     alloc: Global,
     value: &Value,
     bytes: usize,
-) -> Result<u64, BenchError> {
+) -> Result<u64, MeasureError> {
     let start = Instant::now(rt)?;
     let text = value.to_vec(alloc)?;
     let nanos = nanos_since(rt, &start)?;
     if text.len() < bytes {
         Ok(nanos)
     } else {
-        Err(BenchError::Refused)
+        Err(MeasureError::Refused)
     }
 }
 
 /// The JSON value of a text.
-pub(crate) fn value_of(alloc: Global, text: &[u8]) -> Result<Box<Value>, BenchError> {
+pub(crate) fn value_of(alloc: Global, text: &[u8]) -> Result<Box<Value>, MeasureError> {
     match Value::from_slice(alloc, text) {
         Ok(value) => boxed(alloc, value),
-        Err(_) => Err(BenchError::Refused),
+        Err(_) => Err(MeasureError::Refused),
     }
 }
 
 // The nanoseconds in which a JSON value is read of the text, and in which it is written.
-fn json_times<R: Clock>(rt: &R, alloc: Global, text: &[u8]) -> Result<(u64, u64), BenchError> {
+fn json_times<R: Clock>(rt: &R, alloc: Global, text: &[u8]) -> Result<(u64, u64), MeasureError> {
     let start = Instant::now(rt)?;
     let value = value_of(alloc, text)?;
     let read = nanos_since(rt, &start)?;
@@ -274,10 +274,10 @@ fn json_times<R: Clock>(rt: &R, alloc: Global, text: &[u8]) -> Result<(u64, u64)
     Ok((read, write))
 }
 
-fn new_client(alloc: Global) -> Result<Box<Client>, BenchError> {
+fn new_client(alloc: Global) -> Result<Box<Client>, MeasureError> {
     match Client::new(alloc, MAX_LINE) {
         Ok(client) => boxed(alloc, client),
-        Err(_) => Err(BenchError::Memory),
+        Err(_) => Err(MeasureError::Memory),
     }
 }
 
@@ -290,13 +290,17 @@ pub(crate) struct Stream {
 
 impl Stream {
     /// A client that has taken no line.
-    pub(crate) fn new(alloc: Global) -> Result<Stream, BenchError> {
+    pub(crate) fn new(alloc: Global) -> Result<Stream, MeasureError> {
         let client = new_client(alloc)?;
         Ok(Stream { client, seq: 2 })
     }
 
     // A stream whose client has taken the text of a first line, its bytes, and the nanoseconds of the feed.
-    fn fed<R: Clock>(rt: &R, alloc: Global, text: &[u8]) -> Result<(Stream, u64, u64), BenchError> {
+    fn fed<R: Clock>(
+        rt: &R,
+        alloc: Global,
+        text: &[u8],
+    ) -> Result<(Stream, u64, u64), MeasureError> {
         let mut stream = Stream::new(alloc)?;
         let feed = stream.feed(rt, text)?;
         Ok((stream, text.len() as u64, feed))
@@ -307,26 +311,26 @@ impl Stream {
         rt: &R,
         alloc: Global,
         tables: &Tables,
-    ) -> Result<(Stream, u64, u64), BenchError> {
+    ) -> Result<(Stream, u64, u64), MeasureError> {
         let text = first_text(alloc, tables)?;
         Stream::fed(rt, alloc, &text)
     }
 
     /// The nanoseconds in which the client takes the text.
-    pub(crate) fn feed<R: Clock>(&mut self, rt: &R, text: &[u8]) -> Result<u64, BenchError> {
+    pub(crate) fn feed<R: Clock>(&mut self, rt: &R, text: &[u8]) -> Result<u64, MeasureError> {
         let start = Instant::now(rt)?;
         if self.client.feed(text).is_err() {
-            return Err(BenchError::Refused);
+            return Err(MeasureError::Refused);
         }
         nanos_since(rt, &start)
     }
 
     /// How many warnings the client has, and the nanoseconds in which it lists them.
-    pub(crate) fn warn<R: Clock>(&self, rt: &R) -> Result<(usize, u64), BenchError> {
+    pub(crate) fn warn<R: Clock>(&self, rt: &R) -> Result<(usize, u64), MeasureError> {
         let lints = Lints::default();
         let start = Instant::now(rt)?;
         let Ok(warnings) = self.client.warnings(&lints) else {
-            return Err(BenchError::Memory);
+            return Err(MeasureError::Memory);
         };
         let nanos = nanos_since(rt, &start)?;
         Ok((warnings.len(), nanos))
@@ -339,7 +343,7 @@ impl Stream {
         alloc: Global,
         old: &Tables,
         new: &Tables,
-    ) -> Result<LineTimes, BenchError> {
+    ) -> Result<LineTimes, MeasureError> {
         let start = Instant::now(rt)?;
         let line = line_between(alloc, old, new, self.seq)?;
         let between = nanos_since(rt, &start)?;
@@ -353,7 +357,7 @@ impl Stream {
         alloc: Global,
         line: &Line,
         between: u64,
-    ) -> Result<LineTimes, BenchError> {
+    ) -> Result<LineTimes, MeasureError> {
         let start = Instant::now(rt)?;
         let text = ended_text(line)?;
         let write = nanos_since(rt, &start)?;
@@ -376,7 +380,7 @@ impl Stream {
         alloc: Global,
         old: &Tables,
         new: &Tables,
-    ) -> Result<[LineTimes; ROUNDS], BenchError> {
+    ) -> Result<[LineTimes; ROUNDS], MeasureError> {
         self.line(rt, alloc, old, new)?;
         let first = self.line(rt, alloc, new, old)?;
         let second = self.line(rt, alloc, old, new)?;
@@ -387,7 +391,12 @@ impl Stream {
     }
 
     // Lines from the old tables to the new and back.
-    fn piece(&mut self, alloc: Global, old: &Tables, new: &Tables) -> Result<Vec<u8>, BenchError> {
+    fn piece(
+        &mut self,
+        alloc: Global,
+        old: &Tables,
+        new: &Tables,
+    ) -> Result<Vec<u8>, MeasureError> {
         let mut bytes = Vec::new(alloc);
         for _ in 0..LINES / 2 {
             put_line(alloc, &mut bytes, old, new, self.seq)?;
@@ -404,7 +413,7 @@ impl Stream {
         alloc: Global,
         old: &Tables,
         new: &Tables,
-    ) -> Result<(u64, [u64; ROUNDS]), BenchError> {
+    ) -> Result<(u64, [u64; ROUNDS]), MeasureError> {
         let mut bytes = 0;
         let mut nanos = [0u64; ROUNDS];
         for round in &mut nanos {

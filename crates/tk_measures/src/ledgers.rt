@@ -1,6 +1,6 @@
 //! Calls on the ledgers of tasks, made by several threads at once.
 
-use crate::error::BenchError;
+use crate::error::MeasureError;
 use crate::ids::id_above;
 use crate::rounds::nanos_since;
 use std::alloc::Global;
@@ -67,27 +67,27 @@ impl Job {
     }
 }
 
-fn owner_of<R: Wait>(rt: &R, alloc: Global, above: u64) -> Result<TaskOwner, BenchError> {
+fn owner_of<R: Wait>(rt: &R, alloc: Global, above: u64) -> Result<TaskOwner, MeasureError> {
     match TaskOwner::new(rt, alloc, id_above(above)?, 0) {
         Ok(owner) => Ok(owner),
-        Err(_) => Err(BenchError::Memory),
+        Err(_) => Err(MeasureError::Memory),
     }
 }
 
-fn job_of<R: Wait>(rt: &R, owner: &mut TaskOwner, call: Call) -> Result<Job, BenchError> {
+fn job_of<R: Wait>(rt: &R, owner: &mut TaskOwner, call: Call) -> Result<Job, MeasureError> {
     match owner.clone_waker(rt) {
         Ok(waker) => match call {
             Call::Wake => Ok(Job::Wake(waker)),
             Call::Clone => Ok(Job::Clone(waker)),
         },
-        Err(_) => Err(BenchError::Memory),
+        Err(_) => Err(MeasureError::Memory),
     }
 }
 
-fn push(jobs: &mut Vec<Job>, job: Job) -> Result<(), BenchError> {
+fn push(jobs: &mut Vec<Job>, job: Job) -> Result<(), MeasureError> {
     match jobs.push(job) {
         Ok(()) => Ok(()),
-        Err(_) => Err(BenchError::Memory),
+        Err(_) => Err(MeasureError::Memory),
     }
 }
 
@@ -96,7 +96,7 @@ fn push_on<R: Wait>(
     jobs: &mut Vec<Job>,
     owner: &mut TaskOwner,
     call: Call,
-) -> Result<(), BenchError> {
+) -> Result<(), MeasureError> {
     match job_of(rt, owner, call) {
         Ok(job) => push(jobs, job),
         Err(error) => Err(error),
@@ -109,7 +109,7 @@ fn jobs_on<R: Wait>(
     owner: &mut TaskOwner,
     call: Call,
     threads: u64,
-) -> Result<Vec<Job>, BenchError> {
+) -> Result<Vec<Job>, MeasureError> {
     let mut jobs = Vec::new(alloc);
     for _ in 0..threads {
         push_on(rt, &mut jobs, owner, call)?;
@@ -123,7 +123,7 @@ fn jobs_of_one<R: Wait>(
     alloc: Global,
     call: Call,
     threads: u64,
-) -> Result<Vec<Job>, BenchError> {
+) -> Result<Vec<Job>, MeasureError> {
     match owner_of(rt, alloc, 0) {
         Ok(mut owner) => jobs_on(rt, alloc, &mut owner, call, threads),
         Err(error) => Err(error),
@@ -135,7 +135,7 @@ fn job_alone<R: Wait>(
     alloc: Global,
     call: Option<Call>,
     above: u64,
-) -> Result<Job, BenchError> {
+) -> Result<Job, MeasureError> {
     let mut owner = owner_of(rt, alloc, above)?;
     match call {
         Some(call) => job_of(rt, &mut owner, call),
@@ -149,7 +149,7 @@ fn push_alone<R: Wait>(
     jobs: &mut Vec<Job>,
     call: Option<Call>,
     above: u64,
-) -> Result<(), BenchError> {
+) -> Result<(), MeasureError> {
     match job_alone(rt, alloc, call, above) {
         Ok(job) => push(jobs, job),
         Err(error) => Err(error),
@@ -162,7 +162,7 @@ fn jobs_alone<R: Wait>(
     alloc: Global,
     call: Option<Call>,
     threads: u64,
-) -> Result<Vec<Job>, BenchError> {
+) -> Result<Vec<Job>, MeasureError> {
     let mut jobs = Vec::new(alloc);
     for above in 0..threads {
         push_alone(rt, alloc, &mut jobs, call, above)?;
@@ -175,14 +175,14 @@ fn time_of<R: Wait + Threads + Clock + Sync>(
     rt: &R,
     jobs: Vec<Job>,
     times: u64,
-) -> Result<u64, BenchError> {
+) -> Result<u64, MeasureError> {
     let start = Instant::now(rt)?;
     let done = map_vec(rt, jobs, &|job: Job| -> u64 { job.run(rt, times) })?;
     let nanos = nanos_since(rt, &start)?;
     if done.iter().all(|each| *each == times) {
         Ok(nanos)
     } else {
-        Err(BenchError::Memory)
+        Err(MeasureError::Memory)
     }
 }
 
@@ -193,7 +193,7 @@ pub(crate) fn on_one_task<R: Wait + Threads + Clock + Sync>(
     call: Call,
     threads: u64,
     times: u64,
-) -> Result<u64, BenchError> {
+) -> Result<u64, MeasureError> {
     time_of(rt, jobs_of_one(rt, alloc, call, threads)?, times)
 }
 
@@ -205,12 +205,12 @@ pub(crate) fn on_own_tasks<R: Wait + Threads + Clock + Sync>(
     call: Option<Call>,
     threads: u64,
     times: u64,
-) -> Result<u64, BenchError> {
+) -> Result<u64, MeasureError> {
     time_of(rt, jobs_alone(rt, alloc, call, threads)?, times)
 }
 
 /// The nanoseconds of so many wakes of a row alone, which no one shares, at moments that no compiler foresees.
-pub(crate) fn on_a_row<R: Clock>(rt: &R, times: u64) -> Result<u64, BenchError> {
+pub(crate) fn on_a_row<R: Clock>(rt: &R, times: u64) -> Result<u64, MeasureError> {
     let start = Instant::now(rt)?;
     let mut row = TaskRow::opening(0);
     let mut moment = 1u64;
@@ -224,6 +224,6 @@ pub(crate) fn on_a_row<R: Clock>(rt: &R, times: u64) -> Result<u64, BenchError> 
     if row.wakes == times && row.self_wakes < times && row.last_wake > Some(times) {
         Ok(nanos)
     } else {
-        Err(BenchError::Refused)
+        Err(MeasureError::Refused)
     }
 }

@@ -1,6 +1,6 @@
 //! The view of a stream of many lines, beside feeding its bytes and reading them as JSON alone.
 
-use crate::error::BenchError;
+use crate::error::MeasureError;
 use crate::lines::{Stream, first_text, put_line, value_of};
 use crate::rounds::{ROUNDS, Rounds, nanos_since};
 use std::alloc::Global;
@@ -26,7 +26,7 @@ impl Whole {
         }
     }
 
-    fn nanos<R: Clock>(self, rt: &R, alloc: Global, bytes: &[u8]) -> Result<u64, BenchError> {
+    fn nanos<R: Clock>(self, rt: &R, alloc: Global, bytes: &[u8]) -> Result<u64, MeasureError> {
         match self {
             Whole::View => view_time(rt, alloc, bytes),
             Whole::Feed => feed_time(rt, alloc, bytes),
@@ -40,7 +40,7 @@ impl Whole {
         rt: &R,
         alloc: Global,
         bytes: &[u8],
-    ) -> Result<Rounds, BenchError> {
+    ) -> Result<Rounds, MeasureError> {
         let mut nanos = [0u64; ROUNDS];
         for round in &mut nanos {
             *round = self.nanos(rt, alloc, bytes)?;
@@ -55,7 +55,7 @@ pub(crate) fn stream_of(
     old: &Tables,
     new: &Tables,
     pairs: u64,
-) -> Result<Vec<u8>, BenchError> {
+) -> Result<Vec<u8>, MeasureError> {
     let mut bytes = first_text(alloc, old)?;
     let mut seq = 2u64;
     for _ in 0..pairs {
@@ -66,27 +66,27 @@ pub(crate) fn stream_of(
     Ok(bytes)
 }
 
-fn view(alloc: Global, mut bytes: &[u8]) -> Result<usize, BenchError> {
+fn view(alloc: Global, mut bytes: &[u8]) -> Result<usize, MeasureError> {
     let mut written = Vec::new(alloc);
     let lints = Lints::default();
     match view_stream(alloc, &mut bytes, &mut written, View::Report, &lints) {
         Ok(_) => Ok(written.len()),
-        Err(_) => Err(BenchError::Refused),
+        Err(_) => Err(MeasureError::Refused),
     }
 }
 
-fn view_time<R: Clock>(rt: &R, alloc: Global, bytes: &[u8]) -> Result<u64, BenchError> {
+fn view_time<R: Clock>(rt: &R, alloc: Global, bytes: &[u8]) -> Result<u64, MeasureError> {
     let start = Instant::now(rt)?;
     view(alloc, bytes)?;
     nanos_since(rt, &start)
 }
 
-fn feed_time<R: Clock>(rt: &R, alloc: Global, bytes: &[u8]) -> Result<u64, BenchError> {
+fn feed_time<R: Clock>(rt: &R, alloc: Global, bytes: &[u8]) -> Result<u64, MeasureError> {
     let mut stream = Stream::new(alloc)?;
     stream.feed(rt, bytes)
 }
 
-fn json_time<R: Clock>(rt: &R, alloc: Global, bytes: &[u8]) -> Result<u64, BenchError> {
+fn json_time<R: Clock>(rt: &R, alloc: Global, bytes: &[u8]) -> Result<u64, MeasureError> {
     let start = Instant::now(rt)?;
     for line in bytes.split(|byte| *byte == b'\n') {
         if !line.is_empty() {
@@ -97,6 +97,6 @@ fn json_time<R: Clock>(rt: &R, alloc: Global, bytes: &[u8]) -> Result<u64, Bench
 }
 
 /// How many bytes the report of a stream has.
-pub(crate) fn report_size(alloc: Global, bytes: &[u8]) -> Result<usize, BenchError> {
+pub(crate) fn report_size(alloc: Global, bytes: &[u8]) -> Result<usize, MeasureError> {
     view(alloc, bytes)
 }

@@ -1,10 +1,10 @@
 //! Tables in Markdown.
 
-use crate::error::BenchError;
+use crate::error::MeasureError;
 use std::io::Write;
 
-/// Begins a table: the heads of its columns.
-pub(crate) fn write_head<W: Write>(out: &mut W, heads: &[&str]) -> Result<(), BenchError> {
+/// Begins a table: the heads of its columns. [`MeasureError::Device`] where the output fails.
+pub fn write_head<W: Write>(out: &mut W, heads: &[&str]) -> Result<(), MeasureError> {
     out.write_all(b"\n|")?;
     for head in heads {
         write!(out, " {head} |")?;
@@ -17,13 +17,14 @@ pub(crate) fn write_head<W: Write>(out: &mut W, heads: &[&str]) -> Result<(), Be
     Ok(())
 }
 
-/// A row: what it is of, its counts, and its numbers with their first digit behind the point.
-pub(crate) fn write_row<W: Write>(
+/// A row: what it is of, its counts, and its numbers with their first digit behind the point. [`MeasureError::Device`] where
+/// the output fails.
+pub fn write_row<W: Write>(
     out: &mut W,
     names: &[&str],
     counts: &[u64],
     numbers: &[(u64, u64)],
-) -> Result<(), BenchError> {
+) -> Result<(), MeasureError> {
     out.write_all(b"|")?;
     for name in names {
         write!(out, " {name} |")?;
@@ -38,8 +39,8 @@ pub(crate) fn write_row<W: Write>(
     Ok(())
 }
 
-/// A quotient, and its first digit behind the point.
-pub(crate) fn tenths(above: u64, below: u64) -> (u64, u64) {
+/// A quotient, and its first digit behind the point; 0.0 where `below` is 0.
+pub fn tenths(above: u64, below: u64) -> (u64, u64) {
     let all = above.saturating_mul(10).checked_div(below).unwrap_or(0);
     (all / 10, all % 10)
 }

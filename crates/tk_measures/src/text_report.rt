@@ -1,6 +1,6 @@
 //! The tables of texts, and of the views of a stream.
 
-use crate::error::BenchError;
+use crate::error::MeasureError;
 use crate::lines::{Waker, changed, tables_of};
 use crate::table::{tenths, write_head, write_row};
 use crate::texts::{Sample, Told, Way, spaced, text_of};
@@ -24,7 +24,7 @@ fn ways<R: Clock, W: Write>(
     what: (&'static str, &'static str, u64),
     text: &[u8],
     times: u64,
-) -> Result<(), BenchError> {
+) -> Result<(), MeasureError> {
     let sample = Sample::new(alloc, text, times)?;
     let (told, layout, items) = what;
     for way in WAYS {
@@ -43,7 +43,7 @@ fn layouts<R: Clock, W: Write>(
     what: (&'static str, u64),
     text: &[u8],
     times: u64,
-) -> Result<(), BenchError> {
+) -> Result<(), MeasureError> {
     let (told, items) = what;
     ways(rt, alloc, out, (told, "compact", items), text, times)?;
     let other = spaced(alloc, text)?;
@@ -56,7 +56,7 @@ fn texts<R: Clock, W: Write>(
     out: &mut W,
     items: u64,
     times: u64,
-) -> Result<(), BenchError> {
+) -> Result<(), MeasureError> {
     for told in TOLD {
         let text = text_of(alloc, told, items)?;
         layouts(rt, alloc, out, (told.name(), items), text.as_bytes(), times)?;
@@ -69,7 +69,7 @@ fn wholes<R: Clock, W: Write>(
     alloc: Global,
     out: &mut W,
     bytes: &[u8],
-) -> Result<(), BenchError> {
+) -> Result<(), MeasureError> {
     let heads = [
         "what",
         "bytes",
@@ -95,17 +95,17 @@ fn wholes<R: Clock, W: Write>(
 }
 
 // A stream of so many pairs of lines between tables of which all rows differ.
-fn stream_between(alloc: Global, old: &Tables, pairs: u64) -> Result<Vec<u8>, BenchError> {
+fn stream_between(alloc: Global, old: &Tables, pairs: u64) -> Result<Vec<u8>, MeasureError> {
     let new = changed(alloc, old, 1, Waker::Lost)?;
     stream_of(alloc, old, &new, pairs)
 }
 
-fn stream_of_tasks(alloc: Global, tasks: u64, pairs: u64) -> Result<Vec<u8>, BenchError> {
+fn stream_of_tasks(alloc: Global, tasks: u64, pairs: u64) -> Result<Vec<u8>, MeasureError> {
     let old = tables_of(alloc, tasks, Waker::Kept)?;
     stream_between(alloc, &old, pairs)
 }
 
-fn views<R: Clock, W: Write>(rt: &R, alloc: Global, out: &mut W) -> Result<(), BenchError> {
+fn views<R: Clock, W: Write>(rt: &R, alloc: Global, out: &mut W) -> Result<(), MeasureError> {
     let bytes = stream_of_tasks(alloc, 10_000, 10)?;
     wholes(rt, alloc, out, &bytes)
 }
@@ -126,7 +126,7 @@ pub(crate) fn all<R: Clock, W: Write>(
     rt: &R,
     alloc: Global,
     out: &mut W,
-) -> Result<(), BenchError> {
+) -> Result<(), MeasureError> {
     write_head(out, &HEADS)?;
     texts(rt, alloc, out, 1, 10_000)?;
     texts(rt, alloc, out, 100, 100)?;
@@ -134,7 +134,7 @@ pub(crate) fn all<R: Clock, W: Write>(
     views(rt, alloc, out)
 }
 
-fn small_text<W: Write>(alloc: Global, out: &mut W, told: Told) -> Result<(), BenchError> {
+fn small_text<W: Write>(alloc: Global, out: &mut W, told: Told) -> Result<(), MeasureError> {
     let text = text_of(alloc, told, 2)?;
     Sample::new(alloc, text.as_bytes(), 1)?;
     writeln!(out, "a line of 2 {}: {} bytes", told.name(), text.len())?;
@@ -142,7 +142,7 @@ fn small_text<W: Write>(alloc: Global, out: &mut W, told: Told) -> Result<(), Be
 }
 
 /// Does each thing once in a small size, and writes what was done.
-pub(crate) fn small<W: Write>(alloc: Global, out: &mut W) -> Result<(), BenchError> {
+pub(crate) fn small<W: Write>(alloc: Global, out: &mut W) -> Result<(), MeasureError> {
     for told in TOLD {
         small_text(alloc, out, told)?;
     }

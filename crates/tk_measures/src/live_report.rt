@@ -1,7 +1,7 @@
 //! The table of lines over the ledgers of tasks.
 
 use crate::boxes::boxed;
-use crate::error::BenchError;
+use crate::error::MeasureError;
 use crate::live::{LivePart, LiveTimes, line, lines, publish_time, record};
 use crate::rounds::{ROUNDS, Rounds};
 use crate::table::{tenths, write_head, write_row};
@@ -38,7 +38,7 @@ fn write_part<W: Write>(
     every: usize,
     rounds: &Rounds,
     readings: u64,
-) -> Result<(), BenchError> {
+) -> Result<(), MeasureError> {
     let [least, median, most] = rounds.each_of(1_000);
     let ratio = tenths(rounds.median(), readings);
     let counts = [tasks as u64, every as u64];
@@ -50,7 +50,7 @@ fn write_parts<W: Write>(
     tasks: usize,
     every: usize,
     times: &[LiveTimes; ROUNDS],
-) -> Result<(), BenchError> {
+) -> Result<(), MeasureError> {
     let readings = part_rounds(times, LivePart::Readings).median();
     for part in PARTS {
         let rounds = part_rounds(times, part);
@@ -65,7 +65,7 @@ fn lines_of<R: Wait + Clock, W: Write>(
     out: &mut W,
     aggregator: &mut Aggregator,
     owners: &mut Vec<TaskOwner>,
-) -> Result<(), BenchError> {
+) -> Result<(), MeasureError> {
     for every in [0usize, 100, 1] {
         let times = lines(rt, aggregator, owners, every)?;
         write_parts(out, owners.len(), every, &times)?;
@@ -79,17 +79,17 @@ fn lines_from<R: Wait + Clock, W: Write>(
     out: &mut W,
     aggregator: &mut Aggregator,
     tasks: u64,
-) -> Result<(), BenchError> {
+) -> Result<(), MeasureError> {
     let mut owners = Vec::new(alloc);
     record(rt, alloc, aggregator, &mut owners, tasks)?;
     publish_time(rt, aggregator)?;
     lines_of(rt, out, aggregator, &mut owners)
 }
 
-fn new_aggregator(alloc: Global) -> Result<Box<Aggregator>, BenchError> {
+fn new_aggregator(alloc: Global) -> Result<Box<Aggregator>, MeasureError> {
     match Aggregator::new(alloc, 0) {
         Ok(aggregator) => boxed(alloc, aggregator),
-        Err(_) => Err(BenchError::Memory),
+        Err(_) => Err(MeasureError::Memory),
     }
 }
 
@@ -98,7 +98,7 @@ fn lines_over<R: Wait + Clock, W: Write>(
     alloc: Global,
     out: &mut W,
     tasks: u64,
-) -> Result<(), BenchError> {
+) -> Result<(), MeasureError> {
     let mut aggregator = new_aggregator(alloc)?;
     lines_from(rt, alloc, out, &mut aggregator, tasks)
 }
@@ -118,7 +118,7 @@ pub(crate) fn all<R: Wait + Clock, W: Write>(
     rt: &R,
     alloc: Global,
     out: &mut W,
-) -> Result<(), BenchError> {
+) -> Result<(), MeasureError> {
     write_head(out, &HEADS)?;
     for tasks in [1_000u64, 10_000, 100_000] {
         lines_over(rt, alloc, out, tasks)?;
@@ -132,7 +132,7 @@ fn small_lines<R: Wait + Clock, W: Write>(
     alloc: Global,
     out: &mut W,
     aggregator: &mut Aggregator,
-) -> Result<(), BenchError> {
+) -> Result<(), MeasureError> {
     let mut owners = Vec::new(alloc);
     record(rt, alloc, aggregator, &mut owners, 10)?;
     let (_, first) = publish_time(rt, aggregator)?;
@@ -150,7 +150,7 @@ pub(crate) fn small<R: Wait + Clock, W: Write>(
     rt: &R,
     alloc: Global,
     out: &mut W,
-) -> Result<(), BenchError> {
+) -> Result<(), MeasureError> {
     let mut aggregator = new_aggregator(alloc)?;
     small_lines(rt, alloc, out, &mut aggregator)
 }

@@ -1,7 +1,7 @@
 //! What an aggregator whose closed items leave keeps resident: tasks are made, told, closed and told again, and leave
 //! with the line behind.
 
-use crate::error::BenchError;
+use crate::error::MeasureError;
 use crate::live::{collect, publish_time, push_task};
 use crate::making::resident;
 use crate::table::{tenths, write_head, write_row};
@@ -30,28 +30,28 @@ fn push_all<R: Wait>(
     recorder: &mut Recorder,
     owners: &mut Vec<TaskOwner>,
     live: u64,
-) -> Result<(), BenchError> {
+) -> Result<(), MeasureError> {
     for _ in 0..live {
         push_task(rt, alloc, recorder, owners, 0)?;
     }
     Ok(())
 }
 
-fn close<R: Wait>(rt: &R, owner: TaskOwner) -> Result<(), BenchError> {
+fn close<R: Wait>(rt: &R, owner: TaskOwner) -> Result<(), MeasureError> {
     match owner.close(rt, 0) {
         Ok(_) => Ok(()),
-        Err(_) => Err(BenchError::Refused),
+        Err(_) => Err(MeasureError::Refused),
     }
 }
 
-fn close_last<R: Wait>(rt: &R, owners: &mut Vec<TaskOwner>) -> Result<(), BenchError> {
+fn close_last<R: Wait>(rt: &R, owners: &mut Vec<TaskOwner>) -> Result<(), MeasureError> {
     match owners.pop() {
         Some(owner) => close(rt, owner),
         None => Ok(()),
     }
 }
 
-fn close_all<R: Wait>(rt: &R, owners: &mut Vec<TaskOwner>) -> Result<(), BenchError> {
+fn close_all<R: Wait>(rt: &R, owners: &mut Vec<TaskOwner>) -> Result<(), MeasureError> {
     for _ in 0..owners.len() {
         close_last(rt, owners)?;
     }
@@ -67,7 +67,7 @@ fn turn<R: Wait + Clock>(
     aggregator: &mut Aggregator,
     owners: &mut Vec<TaskOwner>,
     live: u64,
-) -> Result<(), BenchError> {
+) -> Result<(), MeasureError> {
     push_all(rt, alloc, recorder, owners, live)?;
     collect(rt, aggregator, taker)?;
     publish_time(rt, aggregator)?;
@@ -86,7 +86,7 @@ fn turns<R: Wait + Clock>(
     owners: &mut Vec<TaskOwner>,
     live: u64,
     tasks: u64,
-) -> Result<(), BenchError> {
+) -> Result<(), MeasureError> {
     for _ in 0..tasks.checked_div(live).unwrap_or(0) {
         turn(rt, alloc, recorder, taker, aggregator, owners, live)?;
     }
@@ -103,7 +103,7 @@ fn looks<R: Wait + Clock + Files + AllocGlobal>(
     owners: &mut Vec<TaskOwner>,
     live: u64,
     tasks: u64,
-) -> Result<Kept, BenchError> {
+) -> Result<Kept, MeasureError> {
     let mut bytes = [0u64; 10];
     for look in &mut bytes {
         turns(
@@ -131,7 +131,7 @@ fn with_owners<R: Wait + Clock + Files + AllocGlobal>(
     aggregator: &mut Aggregator,
     live: u64,
     tasks: u64,
-) -> Result<Kept, BenchError> {
+) -> Result<Kept, MeasureError> {
     let mut owners = Vec::new(alloc);
     looks(
         rt,
@@ -152,10 +152,10 @@ fn with_aggregator<R: Wait + Clock + Files + AllocGlobal>(
     taker: &mut Taker,
     live: u64,
     tasks: u64,
-) -> Result<Kept, BenchError> {
+) -> Result<Kept, MeasureError> {
     match Aggregator::with_retention(alloc, 0, 0) {
         Ok(mut aggregator) => with_owners(rt, alloc, recorder, taker, &mut aggregator, live, tasks),
-        Err(_) => Err(BenchError::Memory),
+        Err(_) => Err(MeasureError::Memory),
     }
 }
 
@@ -166,10 +166,10 @@ fn by_first<R: Wait + Clock + Files + AllocGlobal>(
     taker: &mut Taker,
     live: u64,
     tasks: u64,
-) -> Result<Kept, BenchError> {
+) -> Result<Kept, MeasureError> {
     match recorders.get_mut(0) {
         Some(recorder) => with_aggregator(rt, alloc, recorder, taker, live, tasks),
-        None => Err(BenchError::Refused),
+        None => Err(MeasureError::Refused),
     }
 }
 
@@ -179,7 +179,7 @@ fn run<R: Wait + Clock + Files + AllocGlobal>(
     alloc: Global,
     live: u64,
     tasks: u64,
-) -> Result<Kept, BenchError> {
+) -> Result<Kept, MeasureError> {
     let limits = Limits {
         recorders: 1,
         capacity: live,
@@ -189,7 +189,7 @@ fn run<R: Wait + Clock + Files + AllocGlobal>(
         Ok((mut recorders, mut taker)) => {
             by_first(rt, alloc, &mut recorders, &mut taker, live, tasks)
         }
-        Err(_) => Err(BenchError::Memory),
+        Err(_) => Err(MeasureError::Memory),
     }
 }
 
@@ -199,7 +199,7 @@ fn measure<R: Wait + Clock + Files + AllocGlobal, W: Write>(
     alloc: Global,
     out: &mut W,
     live: u64,
-) -> Result<(), BenchError> {
+) -> Result<(), MeasureError> {
     let kept = run(rt, alloc, live, TASKS)?;
     let bytes = [kept.bytes[0], kept.bytes[4], kept.bytes[9]];
     let kilobytes = bytes.map(|bytes| tenths(bytes, 1_000));
@@ -217,7 +217,7 @@ pub(crate) fn all<R: Wait + Clock + Files + AllocGlobal, W: Write>(
     rt: &R,
     alloc: Global,
     out: &mut W,
-) -> Result<(), BenchError> {
+) -> Result<(), MeasureError> {
     let heads = [
         "resident kilobytes with",
         "tasks",
@@ -237,7 +237,7 @@ pub(crate) fn small<R: Wait + Clock + Files + AllocGlobal, W: Write>(
     rt: &R,
     alloc: Global,
     out: &mut W,
-) -> Result<(), BenchError> {
+) -> Result<(), MeasureError> {
     let stay = run(rt, alloc, 10, 100)?.tasks;
     writeln!(
         out,

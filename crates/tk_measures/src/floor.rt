@@ -1,6 +1,6 @@
 //! Calls on ledgers beside a bare cell of as many words, on one thread.
 
-use crate::error::BenchError;
+use crate::error::MeasureError;
 use crate::ids::id_above;
 use crate::ledgers::{Call, on_own_tasks};
 use crate::rounds::{ROUNDS, Rounds, nanos_since};
@@ -113,40 +113,40 @@ fn adds_by_user<R: Wait>(rt: &R, user: &mut ResourceUser, times: u64) -> u64 {
     done
 }
 
-fn task<R: Wait>(rt: &R, alloc: Global) -> Result<TaskOwner, BenchError> {
+fn task<R: Wait>(rt: &R, alloc: Global) -> Result<TaskOwner, MeasureError> {
     match TaskOwner::new(rt, alloc, id_above(0)?, 1) {
         Ok(owner) => Ok(owner),
-        Err(_) => Err(BenchError::Memory),
+        Err(_) => Err(MeasureError::Memory),
     }
 }
 
-fn op<R: Wait>(rt: &R, alloc: Global) -> Result<OpOwner, BenchError> {
+fn op<R: Wait>(rt: &R, alloc: Global) -> Result<OpOwner, MeasureError> {
     let Ok(id) = AsyncOpId::from_value(id_above(0)?.value()) else {
-        return Err(BenchError::Refused);
+        return Err(MeasureError::Refused);
     };
     match OpOwner::new(rt, alloc, id, 1, &[AttrValue::U64(0)]) {
         Ok(owner) => Ok(owner),
-        Err(_) => Err(BenchError::Memory),
+        Err(_) => Err(MeasureError::Memory),
     }
 }
 
-fn user<R: Wait>(rt: &R, alloc: Global) -> Result<ResourceUser, BenchError> {
+fn user<R: Wait>(rt: &R, alloc: Global) -> Result<ResourceUser, MeasureError> {
     let Ok(id) = ResourceId::from_value(id_above(0)?.value()) else {
-        return Err(BenchError::Refused);
+        return Err(MeasureError::Refused);
     };
     match ResourceOwner::new(rt, alloc, id, 1, &[AttrValue::U64(0)]) {
-        Ok(mut owner) => owner.user(rt).map_err(|_| BenchError::Refused),
-        Err(_) => Err(BenchError::Memory),
+        Ok(mut owner) => owner.user(rt).map_err(|_| MeasureError::Refused),
+        Err(_) => Err(MeasureError::Memory),
     }
 }
 
 // The nanoseconds since a moment, if all was done as often as it had to be.
-fn took<R: Clock>(rt: &R, start: &Instant, done: u64, times: u64) -> Result<u64, BenchError> {
+fn took<R: Clock>(rt: &R, start: &Instant, done: u64, times: u64) -> Result<u64, MeasureError> {
     let nanos = nanos_since(rt, start)?;
     if done == times {
         Ok(nanos)
     } else {
-        Err(BenchError::Refused)
+        Err(MeasureError::Refused)
     }
 }
 
@@ -155,7 +155,7 @@ fn on_a_cell<R: Wait + Clock>(
     alloc: Global,
     part: Part,
     times: u64,
-) -> Result<u64, BenchError> {
+) -> Result<u64, MeasureError> {
     let cell = SeqCell::new(alloc, [1u64; 16])?;
     let start = Instant::now(rt)?;
     let done = if part == Part::Look {
@@ -166,7 +166,7 @@ fn on_a_cell<R: Wait + Clock>(
     took(rt, &start, done, times)
 }
 
-fn on_a_task<R: Wait + Clock>(rt: &R, alloc: Global, times: u64) -> Result<u64, BenchError> {
+fn on_a_task<R: Wait + Clock>(rt: &R, alloc: Global, times: u64) -> Result<u64, MeasureError> {
     let mut owner = task(rt, alloc)?;
     let start = Instant::now(rt)?;
     let done = reads(rt, &mut owner, times);
@@ -178,7 +178,7 @@ fn on_an_op<R: Wait + Clock>(
     alloc: Global,
     part: Part,
     times: u64,
-) -> Result<u64, BenchError> {
+) -> Result<u64, MeasureError> {
     let mut owner = op(rt, alloc)?;
     let start = Instant::now(rt)?;
     let done = match part {
@@ -189,7 +189,7 @@ fn on_an_op<R: Wait + Clock>(
     took(rt, &start, done, times)
 }
 
-fn by_a_user<R: Wait + Clock>(rt: &R, alloc: Global, times: u64) -> Result<u64, BenchError> {
+fn by_a_user<R: Wait + Clock>(rt: &R, alloc: Global, times: u64) -> Result<u64, MeasureError> {
     let mut user = user(rt, alloc)?;
     let start = Instant::now(rt)?;
     let done = adds_by_user(rt, &mut user, times);
@@ -217,7 +217,7 @@ impl Part {
         rt: &R,
         alloc: Global,
         times: u64,
-    ) -> Result<u64, BenchError> {
+    ) -> Result<u64, MeasureError> {
         match self {
             Part::Look | Part::Exchange => on_a_cell(rt, alloc, self, times),
             Part::Read => on_a_task(rt, alloc, times),
@@ -234,7 +234,7 @@ impl Part {
         rt: &R,
         alloc: Global,
         times: u64,
-    ) -> Result<Rounds, BenchError> {
+    ) -> Result<Rounds, MeasureError> {
         let mut nanos = [0u64; ROUNDS];
         for round in &mut nanos {
             *round = self.nanos(rt, alloc, times)?;
@@ -250,7 +250,7 @@ fn write_parts<R: Wait + Threads + Clock + Sync, W: Write>(
     out: &mut W,
     parts: &[Part],
     times: u64,
-) -> Result<(), BenchError> {
+) -> Result<(), MeasureError> {
     let mut bare = 0;
     for part in parts {
         let rounds = part.rounds(rt, alloc, times)?;
@@ -269,7 +269,7 @@ pub(crate) fn all<R: Wait + Threads + Clock + Sync, W: Write>(
     rt: &R,
     alloc: Global,
     out: &mut W,
-) -> Result<(), BenchError> {
+) -> Result<(), MeasureError> {
     let heads = [
         "nanoseconds of",
         "least",
@@ -287,7 +287,7 @@ pub(crate) fn small<R: Wait + Threads + Clock + Sync, W: Write>(
     rt: &R,
     alloc: Global,
     out: &mut W,
-) -> Result<(), BenchError> {
+) -> Result<(), MeasureError> {
     for part in READS.iter().chain(CHANGES.iter()) {
         part.nanos(rt, alloc, 100)?;
         writeln!(out, "{}: 100", part.name())?;
