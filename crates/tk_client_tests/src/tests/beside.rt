@@ -1,6 +1,6 @@
 //! Random lines, fed to a client and taken plainly: faults, tables and warnings are the same behind each.
 
-use super::given::{Came, fed, holds};
+use super::given::{Came, fed, holds, on_made};
 use super::random::line_behind;
 use super::spelled::{Row, is_spawn, row_of, text_of};
 use rand_pcg::Pcg32;
@@ -158,10 +158,11 @@ fn run(
 
 fn new_client_runs(alloc: Global, codes: &mut Vec<u32>, count: u64) -> Option<(u64, bool)> {
     let lints = Lints::new(50, 1000)?;
-    match Client::new(alloc, ALLOWED) {
-        Ok(mut client) => run(alloc, &mut client, &lints, codes, count).ok(),
-        Err(_) => None,
-    }
+    on_made(
+        Client::new(alloc, ALLOWED),
+        None,
+        |client| run(alloc, client, &lints, codes, count).ok(),
+    )
 }
 
 // Of 20,000 lines more than half are applied, and each fault comes that a whole line can have, but for one that is too long.

@@ -1,7 +1,8 @@
 //! Streams with a fault, fed whole and byte by byte.
 
 use super::given::{
-    Came, both, empty_line, fed, fed_in_pieces, first_line, holds, line_of, opened_line, text_of,
+    Came, both, empty_line, fed, fed_in_pieces, first_line, holds, line_of, on_client, on_made,
+    opened_line, text_of,
 };
 use super::texts as text;
 use std::alloc::Global;
@@ -62,10 +63,11 @@ fn new_client_comes(
     tables: &[u8],
     first: &[u8],
 ) -> bool {
-    match Client::new(alloc, ALLOWED) {
-        Ok(mut client) => comes(alloc, &mut client, bytes, wanted, tables, first),
-        Err(_) => false,
-    }
+    on_client(
+        alloc,
+        ALLOWED,
+        |client| comes(alloc, client, bytes, wanted, tables, first),
+    )
 }
 
 fn comes_to_tables(alloc: Global, bytes: &[u8], wanted: Came, tables: &[u8]) -> bool {
@@ -75,15 +77,18 @@ fn comes_to_tables(alloc: Global, bytes: &[u8], wanted: Came, tables: &[u8]) -> 
     }
 }
 
+fn tables_behind(alloc: Global, client: &mut Client, lines: &[u8]) -> Option<Vec<u8>> {
+    let _came = fed(client, lines);
+    text_of(alloc, client.tables())
+}
+
 // The text of the tables of these lines.
 fn tables_of(alloc: Global, lines: &[u8]) -> Option<Vec<u8>> {
-    match Client::new(alloc, ALLOWED) {
-        Ok(mut client) => {
-            let _came = fed(&mut client, lines);
-            text_of(alloc, client.tables())
-        }
-        Err(_) => None,
-    }
+    on_made(
+        Client::new(alloc, ALLOWED),
+        None,
+        |client| tables_behind(alloc, client, lines),
+    )
 }
 
 fn comes_behind(alloc: Global, bytes: &[u8], wanted: Came, before: &[u8]) -> bool {
@@ -132,10 +137,7 @@ fn is_held(alloc: Global, front: &[u8]) -> bool {
         lines: 0,
         used: front.len(),
     };
-    match Client::new(alloc, ALLOWED) {
-        Ok(mut client) => fed(&mut client, front) == wanted,
-        Err(_) => false,
-    }
+    on_client(alloc, ALLOWED, |client| fed(client, front) == wanted)
 }
 
 // Whether each front of a line is held without a fault, and the snapshot behind one that isn't empty is no JSON.
@@ -224,13 +226,10 @@ fn gap_in(client: &mut Client, bytes: &[u8], size: usize) -> Option<(u64, u64)> 
 }
 
 fn has_gap(alloc: Global, bytes: &[u8], wanted: (u64, u64)) -> bool {
-    match Client::new(alloc, ALLOWED) {
-        Ok(mut client) => {
-            gap_in(&mut client, bytes, bytes.len()) == Some(wanted)
-                && gap_in(&mut client, bytes, 1) == Some(wanted)
-        }
-        Err(_) => false,
-    }
+    on_client(alloc, ALLOWED, |client| {
+        gap_in(client, bytes, bytes.len()) == Some(wanted)
+            && gap_in(client, bytes, 1) == Some(wanted)
+    })
 }
 
 fn tells_gap(alloc: Global, bytes: Option<Vec<u8>>, wanted: (u64, u64)) -> bool {
@@ -314,10 +313,7 @@ fn are_too_long(client: &mut Client, line: &[u8]) -> bool {
 }
 
 fn are_too_long_for_new_client(alloc: Global, line: &[u8]) -> bool {
-    match Client::new(alloc, 10) {
-        Ok(mut client) => are_too_long(&mut client, line),
-        Err(_) => false,
-    }
+    on_client(alloc, 10, |client| are_too_long(client, line))
 }
 
 #[test]

@@ -1,11 +1,39 @@
 //! Lines that the tests feed, and what comes of them.
 //!
-//! Each function owns at most one text, line or client, and lends it to the next: that keeps the proofs short.
+//! How a value ends is proved where it is owned, which is dear for clients, tables and lines. So one function owns them all.
+ghost use Rattle.std.specs.Prelude.{◌≡◌, ◌≤◌};
+ghost use Rattle.tk_stream.specs.Tables.{empty_tables};
 
 use super::texts as text;
 use std::alloc::Global;
 use tk_client::{Client, FeedError};
 use tk_stream::{Line, Tables};
+
+// What a look at a value answers, or this answer, where none was made.
+pub(super) fn on_made<T: Drop, E: Drop, A: Drop, F: FnOnce(&mut T) -> A>(
+    made: Result<T, E>,
+    otherwise: A,
+    look: F,
+) -> A
+    requires { F.IsAlwaysCallable look }
+{
+    match made {
+        Ok(mut value) => look(&mut value),
+        Err(_) => otherwise,
+    }
+}
+
+// Whether a check holds of a new client that takes lines of so many bytes.
+pub(super) fn on_client<F: FnOnce(&mut Client) -> bool>(
+    alloc: Global,
+    max_line: usize,
+    check: F,
+) -> bool
+    requires limit { 1 ≤ max_line }
+    requires callable { F.IsAlwaysCallable check }
+{
+    on_made(Client::new(alloc, max_line), false, check)
+}
 
 // One list of bytes behind another.
 pub(super) fn both(alloc: Global, first: &[u8], second: &[u8]) -> Option<Vec<u8>> {
@@ -150,15 +178,20 @@ pub(super) fn holds(alloc: Global, client: &Client, wanted: &[u8]) -> bool {
     is_text_of(alloc, client.tables(), wanted)
 }
 
-// The text of tables as a snapshot.
-pub(super) fn text_of(alloc: Global, tables: &Tables) -> Option<Vec<u8>> {
-    match snapshot_of(alloc, tables) {
-        Some(line) => line.write().ok(),
-        None => None,
-    }
+fn text_between(alloc: Global, none: &Tables, tables: &Tables) -> Option<Vec<u8>>
+    requires { none.now ≡ empty_tables }
+{
+    on_made(
+        Line::between(alloc, none, tables, 1, true),
+        None,
+        |line| line.write().ok(),
+    )
 }
 
-fn snapshot_of(alloc: Global, tables: &Tables) -> Option<Line> {
-    let none = Tables::new(alloc).ok()?;
-    Line::between(alloc, &none, tables, 1, true).ok()
+// The text of tables as a snapshot.
+pub(super) fn text_of(alloc: Global, tables: &Tables) -> Option<Vec<u8>> {
+    match Tables::new(alloc) {
+        Ok(none) => text_between(alloc, &none, tables),
+        Err(_) => None,
+    }
 }

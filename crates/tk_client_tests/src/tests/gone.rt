@@ -1,6 +1,6 @@
 //! Lines of version 2, which say what is gone.
 
-use super::given::{both, fed, fed_in_pieces};
+use super::given::{both, fed, fed_in_pieces, on_client};
 use super::texts as text;
 use std::alloc::Global;
 use tk_client::{Client, Lints, WarningKind};
@@ -59,10 +59,7 @@ fn leave_by_name(client: &mut Client) -> bool {
 }
 
 fn leave_in_new_client(alloc: Global) -> bool {
-    match Client::new(alloc, 16_777_216) {
-        Ok(mut client) => leave_by_name(&mut client),
-        Err(_) => false,
-    }
+    on_client(alloc, 16_777_216, |client| leave_by_name(client))
 }
 
 #[test]
@@ -85,10 +82,11 @@ fn faults(client: &mut Client, bytes: &[u8], code: u32, lines: u64, names: &[&st
 }
 
 fn new_client_faults(alloc: Global, bytes: &[u8], code: u32, lines: u64, names: &[&str]) -> bool {
-    match Client::new(alloc, 16_777_216) {
-        Ok(mut client) => faults(&mut client, bytes, code, lines, names),
-        Err(_) => false,
-    }
+    on_client(
+        alloc,
+        16_777_216,
+        |client| faults(client, bytes, code, lines, names),
+    )
 }
 
 // Whether the line comes to this fault behind the three tasks, which stand then.

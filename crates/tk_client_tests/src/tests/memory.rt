@@ -2,17 +2,9 @@
 //!
 //! With `rt try --test --fail-alloc N` the N-th allocation is refused.
 
-use super::given::{both, first_line, line_of};
+use super::given::{both, first_line, line_of, on_made};
 use std::alloc::Global;
 use tk_client::{Client, Lints};
-
-// A client, asked for again where the first one found no memory.
-fn client_of(alloc: Global) -> Option<Client> {
-    match Client::new(alloc, 1000) {
-        Ok(client) => Some(client),
-        Err(_) => Client::new(alloc, 1000).ok(),
-    }
-}
 
 // Feeds bytes in pieces of 100, and again what a piece left untaken, and counts the lines.
 fn fed_on(client: &mut Client, bytes: &[u8]) -> u64 {
@@ -47,11 +39,10 @@ fn takes_both(client: &mut Client, bytes: &[u8]) -> bool {
     lines == 2 && client.tables().task_count() == 1 && warned(client, &lints) == 0
 }
 
+// Of a client that is asked for again where the first one found no memory.
 fn client_takes_both(alloc: Global, bytes: &[u8]) -> bool {
-    match client_of(alloc) {
-        Some(mut client) => takes_both(&mut client, bytes),
-        None => false,
-    }
+    let client = Client::new(alloc, 1000).or_else(|_| Client::new(alloc, 1000));
+    on_made(client, false, |client| takes_both(client, bytes))
 }
 
 fn with_second(alloc: Global, first: &[u8]) -> Option<Vec<u8>> {

@@ -1,6 +1,6 @@
 //! A stream of 1,000 lines, cut at every size.
 
-use super::given::{fed, fed_in_pieces, holds, line_of, row_of, text_of};
+use super::given::{fed, fed_in_pieces, holds, line_of, on_client, row_of, text_of};
 use super::texts as text;
 use std::alloc::Global;
 use tk_client::{Client, Lints, Warning};
@@ -141,10 +141,11 @@ fn all_same_as_whole(
 }
 
 fn new_client_is_same(alloc: Global, bytes: &[u8], sizes: (usize, usize)) -> bool {
-    match Client::new(alloc, 1000) {
-        Ok(mut client) => all_same_as_whole(alloc, &mut client, bytes, sizes),
-        Err(_) => false,
-    }
+    on_client(
+        alloc,
+        1000,
+        |client| all_same_as_whole(alloc, client, bytes, sizes),
+    )
 }
 
 // Whether they lead to what the stream leads to that is fed whole.

@@ -1,6 +1,8 @@
 //! Lines with one task: which warnings its row has, and which line is next.
 
-use super::given::{empty_line, fed, fed_in_pieces, first_line, line_of, row_of};
+use super::given::{
+    empty_line, fed, fed_in_pieces, first_line, line_of, on_client, on_made, row_of,
+};
 use super::texts as text;
 use std::alloc::Global;
 use tk_client::{Client, Fault, FeedError, Lints, Warning, WarningKind};
@@ -36,10 +38,11 @@ fn warned_by(client: &mut Client, line: &[u8], lints: &Lints) -> Option<u64> {
 }
 
 fn new_client_warned_by(alloc: Global, line: &[u8], lints: &Lints) -> Option<u64> {
-    match Client::new(alloc, 2000) {
-        Ok(mut client) => warned_by(&mut client, line, lints),
-        Err(_) => None,
-    }
+    on_made(
+        Client::new(alloc, 2000),
+        None,
+        |client| warned_by(client, line, lints),
+    )
 }
 
 // The warnings of tables with one task of that row.
@@ -203,10 +206,7 @@ fn has_gaps(alloc: Global, client: &mut Client) -> bool {
 }
 
 fn new_client_has_gaps(alloc: Global) -> bool {
-    match Client::new(alloc, 300) {
-        Ok(mut client) => has_gaps(alloc, &mut client),
-        Err(_) => false,
-    }
+    on_client(alloc, 300, |client| has_gaps(alloc, client))
 }
 
 #[test]
@@ -231,10 +231,7 @@ fn is_taken_in_pieces(client: &mut Client, line: &[u8]) -> bool {
 }
 
 fn new_client_takes(alloc: Global, line: &[u8]) -> bool {
-    match Client::new(alloc, 1000) {
-        Ok(mut client) => is_taken_in_pieces(&mut client, line),
-        Err(_) => false,
-    }
+    on_client(alloc, 1000, |client| is_taken_in_pieces(client, line))
 }
 
 #[test]

@@ -1,20 +1,42 @@
 //! Tables that are filled from lines, and lines that are compared by their texts.
 //!
-//! Each function owns at most one line or one table, and lends it to the next: that keeps the proofs short.
+//! How a value ends is proved where it is owned, which is dear for tables and lines. So one function owns them all.
 
 use std::alloc::Global;
 use tk_core::{OpRow, ResourceRow, TaskRow};
 use tk_ids::{OpInfo, ResourceInfo, TaskInfo};
-use tk_stream::{Line, Tables};
+use tk_stream::{Line, LineError, Tables};
 
-// Whether a check holds of new tables. They are owned here alone, so their end is proved once.
+// Whether a value was made and a check holds of it.
+pub(super) fn on_made<T: Drop, E: Drop, F: FnOnce(&mut T) -> bool>(
+    made: Result<T, E>,
+    check: F,
+) -> bool
+    requires { F.IsAlwaysCallable check }
+{
+    match made {
+        Ok(mut value) => check(&mut value),
+        Err(_) => false,
+    }
+}
+
+// Whether a check holds of new tables.
 pub(super) fn on_new<F: FnOnce(&mut Tables) -> bool>(alloc: Global, check: F) -> bool
     requires { F.IsAlwaysCallable check }
 {
-    match Tables::new(alloc) {
-        Ok(mut tables) => check(&mut tables),
-        Err(_) => false,
-    }
+    on_made(Tables::new(alloc), check)
+}
+
+// Whether a text is a line, and a check holds of it.
+pub(super) fn on_line<F: FnOnce(&mut Line) -> bool>(alloc: Global, text: &[u8], check: F) -> bool
+    requires { F.IsAlwaysCallable check }
+{
+    on_made(Line::read(alloc, text), check)
+}
+
+// The error that reading answers, if any.
+pub(super) fn error_of(alloc: Global, text: &[u8]) -> Option<LineError> {
+    Line::read(alloc, text).err()
 }
 
 pub(super) fn put_task(tables: &mut Tables, info: TaskInfo, row: TaskRow) -> Option<()> {
@@ -93,10 +115,10 @@ pub(super) fn writes(line: &Line, text: &[u8]) -> bool {
 
 // Whether the line between tables, with the wanted line's number, writes itself so.
 pub(super) fn leads(alloc: Global, old: &Tables, new: &Tables, wanted: &Line, text: &[u8]) -> bool {
-    match Line::between(alloc, old, new, wanted.seq(), false) {
-        Ok(line) => writes(&line, text),
-        Err(_) => false,
-    }
+    on_made(
+        Line::between(alloc, old, new, wanted.seq(), false),
+        |line| writes(line, text),
+    )
 }
 
 // A text with another part in the place of one, where that first stands.

@@ -1,6 +1,8 @@
 //! Lines between tables, by their whole texts.
+ghost use Rattle.std.specs.Prelude.{◌≡◌};
+ghost use Rattle.tk_stream.specs.Tables.{empty_tables};
 
-use super::given::{fill, leads, on_new, put_counts, writes};
+use super::given::{fill, leads, on_line, on_made, on_new, put_counts, writes};
 use super::texts::{CHANGED, FIRST, FULL, UNCHANGED};
 use std::alloc::Global;
 use tk_stream::{Line, Tables};
@@ -15,10 +17,7 @@ fn leads_from_empty(alloc: Global, new: &Tables, line: &Line, text: &str) -> boo
 
 // The same of their copy.
 fn copy_leads_from_empty(alloc: Global, new: &Tables, line: &Line, text: &str) -> bool {
-    match new.copy() {
-        Ok(copy) => leads_from_empty(alloc, &copy, line, text),
-        Err(_) => false,
-    }
+    on_made(new.copy(), |copy| leads_from_empty(alloc, copy, line, text))
 }
 
 fn leads_to_filled(alloc: Global, line: &Line, text: &str) -> bool {
@@ -32,16 +31,28 @@ fn leads_to_filled(alloc: Global, line: &Line, text: &str) -> bool {
 // Tables that are filled from a line, and their copy, have that line between them and empty ones.
 #[test]
 fn tells_all_of_what_is_new(rt: HostRuntime) {
-    match Line::read(rt.alloc(), FIRST.as_bytes()) {
-        Ok(line) => assert!(rt; leads_to_filled(rt.alloc(), &line, FIRST)),
-        Err(_) => assert!(rt; false, "no line"),
-    }
+    let alloc = rt.alloc();
+    assert!(rt;
+        on_line(
+            alloc,
+            FIRST.as_bytes(),
+            |line| leads_to_filled(alloc, line, FIRST)
+        )
+    );
+}
+
+fn is_snapshot_over(alloc: Global, none: &Tables, new: &Tables, line: &Line, text: &str) -> bool
+    requires { none.now ≡ empty_tables }
+{
+    on_made(
+        Line::between(alloc, none, new, line.seq(), true),
+        |line| writes(line, text.as_bytes()),
+    )
 }
 
 fn is_snapshot(alloc: Global, new: &Tables, line: &Line, text: &str) -> bool {
-    let empty = Tables::new(alloc).unwrap();
-    match Line::between(alloc, &empty, new, line.seq(), true) {
-        Ok(line) => writes(&line, text.as_bytes()),
+    match Tables::new(alloc) {
+        Ok(none) => is_snapshot_over(alloc, &none, new, line, text),
         Err(_) => false,
     }
 }
@@ -54,10 +65,14 @@ fn is_snapshot_of_filled(alloc: Global, line: &Line, text: &str) -> bool {
 
 #[test]
 fn tells_a_snapshot(rt: HostRuntime) {
-    match Line::read(rt.alloc(), FULL.as_bytes()) {
-        Ok(line) => assert!(rt; is_snapshot_of_filled(rt.alloc(), &line, FULL)),
-        Err(_) => assert!(rt; false, "no line"),
-    }
+    let alloc = rt.alloc();
+    assert!(rt;
+        on_line(
+            alloc,
+            FULL.as_bytes(),
+            |line| is_snapshot_of_filled(alloc, line, FULL)
+        )
+    );
 }
 
 fn set_task(tables: &mut Tables, line: &Line) {
@@ -94,13 +109,9 @@ fn change(tables: &mut Tables, line: &Line) -> bool {
 }
 
 fn leads_to_changed(alloc: Global, old: &Tables, line: &Line, text: &str) -> bool {
-    match old.copy() {
-        Ok(new) => {
-            let mut new = new;
-            change(&mut new, line) && leads(alloc, old, &new, line, text.as_bytes())
-        }
-        Err(_) => false,
-    }
+    on_made(old.copy(), |new| {
+        change(new, line) && leads(alloc, old, new, line, text.as_bytes())
+    })
 }
 
 fn leads_from_filled(alloc: Global, first: &Line, line: &Line, text: &str) -> bool {
@@ -110,24 +121,33 @@ fn leads_from_filled(alloc: Global, first: &Line, line: &Line, text: &str) -> bo
 }
 
 fn leads_from_first(alloc: Global, line: &Line, text: &str) -> bool {
-    match Line::read(alloc, FIRST.as_bytes()) {
-        Ok(first) => leads_from_filled(alloc, &first, line, text),
-        Err(_) => false,
-    }
+    on_line(
+        alloc,
+        FIRST.as_bytes(),
+        |first| leads_from_filled(alloc, first, line, text),
+    )
 }
 
 #[test]
 fn tells_rows_and_counts_that_differ(rt: HostRuntime) {
-    match Line::read(rt.alloc(), CHANGED.as_bytes()) {
-        Ok(line) => assert!(rt; leads_from_first(rt.alloc(), &line, CHANGED)),
-        Err(_) => assert!(rt; false, "no line"),
-    }
+    let alloc = rt.alloc();
+    assert!(rt;
+        on_line(
+            alloc,
+            CHANGED.as_bytes(),
+            |line| leads_from_first(alloc, line, CHANGED)
+        )
+    );
 }
 
 #[test]
 fn tells_nothing_where_nothing_differs(rt: HostRuntime) {
-    match Line::read(rt.alloc(), UNCHANGED.as_bytes()) {
-        Ok(line) => assert!(rt; leads_from_first(rt.alloc(), &line, UNCHANGED)),
-        Err(_) => assert!(rt; false, "no line"),
-    }
+    let alloc = rt.alloc();
+    assert!(rt;
+        on_line(
+            alloc,
+            UNCHANGED.as_bytes(),
+            |line| leads_from_first(alloc, line, UNCHANGED)
+        )
+    );
 }

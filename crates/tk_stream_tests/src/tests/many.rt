@@ -1,6 +1,6 @@
 //! A line of many tasks.
 
-use super::given::{on_new, put_task, writes};
+use super::given::{on_line, on_made, on_new, put_task, writes};
 use super::texts::FIRST;
 use std::alloc::Global;
 use tk_ids::{TaskId, TaskInfo};
@@ -30,10 +30,9 @@ fn put_many(tables: &mut Tables, line: &Line, count: u32) -> bool {
 
 // Whether the text is a line of so many tasks that writes itself so.
 fn reads_back(alloc: Global, text: &[u8], count: u32) -> bool {
-    match Line::read(alloc, text) {
-        Ok(line) => line.new_tasks().len() == count as usize && writes(&line, text),
-        Err(_) => false,
-    }
+    on_line(alloc, text, |line| {
+        line.new_tasks().len() == count as usize && writes(line, text)
+    })
 }
 
 fn text_reads_back(alloc: Global, line: &Line, count: u32) -> bool {
@@ -44,10 +43,10 @@ fn text_reads_back(alloc: Global, line: &Line, count: u32) -> bool {
 }
 
 fn line_reads_back(alloc: Global, old: &Tables, new: &Tables, line: &Line, count: u32) -> bool {
-    match Line::between(alloc, old, new, line.seq(), false) {
-        Ok(line) => text_reads_back(alloc, &line, count),
-        Err(_) => false,
-    }
+    on_made(
+        Line::between(alloc, old, new, line.seq(), false),
+        |line| text_reads_back(alloc, line, count),
+    )
 }
 
 fn tables_read_back(alloc: Global, new: &Tables, line: &Line, count: u32) -> bool {
@@ -65,8 +64,12 @@ fn many_read_back(alloc: Global, line: &Line, count: u32) -> bool {
 
 #[test]
 fn writes_and_reads_ten_thousand_tasks(rt: HostRuntime) {
-    match Line::read(rt.alloc(), FIRST.as_bytes()) {
-        Ok(line) => assert!(rt; many_read_back(rt.alloc(), &line, 10_000)),
-        Err(_) => assert!(rt; false, "no line"),
-    }
+    let alloc = rt.alloc();
+    assert!(rt;
+        on_line(
+            alloc,
+            FIRST.as_bytes(),
+            |line| many_read_back(alloc, line, 10_000)
+        )
+    );
 }

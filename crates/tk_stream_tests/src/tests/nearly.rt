@@ -3,7 +3,7 @@
 //! What a line writes is taken by a reader of its own, and every other text is read by `serde_json`. A text with a space in
 //! front of it is such another one with the same meaning, so the two are compared by it.
 
-use super::given::writes;
+use super::given::{error_of, on_line, writes};
 use super::texts::{CHANGED, EMPTY, FIRST, FULL, GONE, SIGNED, TWO, UNCHANGED};
 use std::alloc::{AllocError, Global};
 use tk_stream::Line;
@@ -80,23 +80,17 @@ fn spaced(alloc: Global, text: &[u8], at: usize, damage: Damage) -> Result<Vec<u
 }
 
 fn is_line_like(alloc: Global, text: &[u8], wanted: &Line) -> bool {
-    match Line::read(alloc, text) {
-        Ok(line) => match line.write() {
-            Ok(text) => writes(wanted, text.as_slice()),
-            Err(_) => false,
-        },
+    on_line(alloc, text, |line| match line.write() {
+        Ok(text) => writes(wanted, text.as_slice()),
         Err(_) => false,
-    }
+    })
 }
 
 // Whether both texts are the same line, or no line for the same reason.
 fn answered_alike(alloc: Global, text: &[u8], other: &[u8]) -> bool {
-    match Line::read(alloc, text) {
-        Ok(line) => is_line_like(alloc, other, &line),
-        Err(error) => match Line::read(alloc, other) {
-            Ok(_) => false,
-            Err(reason) => reason == error,
-        },
+    match error_of(alloc, text) {
+        None => on_line(alloc, text, |line| is_line_like(alloc, other, line)),
+        Some(error) => error_of(alloc, other) == Some(error),
     }
 }
 
@@ -133,10 +127,7 @@ fn all_damaged_alike(alloc: Global, text: &[u8], seed: u64) -> bool {
 
 // Whether the text is a line that writes itself so.
 fn is_written(alloc: Global, text: &[u8]) -> bool {
-    match Line::read(alloc, text) {
-        Ok(line) => writes(&line, text),
-        Err(_) => false,
-    }
+    on_line(alloc, text, |line| writes(line, text))
 }
 
 fn made_alike(alloc: Global, text: &str, seed: u64) -> bool {
@@ -181,10 +172,9 @@ fn has_name(line: &Line, name: &[u8]) -> bool {
 }
 
 fn name_reads_back(alloc: Global, text: &[u8], byte: u8) -> bool {
-    match Line::read(alloc, text) {
-        Ok(line) => has_name(&line, &[b'x', byte, b'y']) && writes(&line, text),
-        Err(_) => false,
-    }
+    on_line(alloc, text, |line| {
+        has_name(line, &[b'x', byte, b'y']) && writes(line, text)
+    })
 }
 
 fn byte_reads_back(alloc: Global, byte: u8) -> bool {

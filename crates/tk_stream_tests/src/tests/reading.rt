@@ -1,6 +1,6 @@
 //! Texts that are lines.
 
-use super::given::{changed, writes};
+use super::given::{changed, error_of, on_line, writes};
 use super::texts::{CHANGED, EMPTY, FIRST, FULL, GONE, SIGNED, TWO, UNCHANGED};
 use std::alloc::Global;
 use tk_ids::{OpInfo, ResourceInfo, TaskInfo};
@@ -37,10 +37,11 @@ const GONE_OTHERS: [(&str, &str); 3] = [
 
 // Whether the text is a line that writes itself so.
 fn reads_as(alloc: Global, text: &str, wanted: &str) -> bool {
-    match Line::read(alloc, text.as_bytes()) {
-        Ok(line) => writes(&line, wanted.as_bytes()),
-        Err(_) => false,
-    }
+    on_line(
+        alloc,
+        text.as_bytes(),
+        |line| writes(line, wanted.as_bytes()),
+    )
 }
 
 fn all_read_as_written(alloc: Global, texts: &[&str]) -> bool {
@@ -118,18 +119,17 @@ fn counts_of_first(line: &Line) -> Option<(u64, u64)> {
 }
 
 // Each reader shows what stands at its key.
+fn shows_each(line: &Line) -> bool {
+    shows_numbers(line)
+        && sched_of_task(line) == Some(14)
+        && busy_of_op(line) == Some(5)
+        && handles_of_resource(line) == Some(2)
+        && counts_of_first(line) == Some((1, 0))
+}
+
 #[test]
 fn shows_each_key(rt: HostRuntime) {
-    match Line::read(rt.alloc(), FULL.as_bytes()) {
-        Ok(line) => {
-            assert!(rt; shows_numbers(&line));
-            assert!(rt; sched_of_task(&line) == Some(14));
-            assert!(rt; busy_of_op(&line) == Some(5));
-            assert!(rt; handles_of_resource(&line) == Some(2));
-            assert!(rt; counts_of_first(&line) == Some((1, 0)));
-        }
-        Err(_) => assert!(rt; false, "no line"),
-    }
+    assert!(rt; on_line(rt.alloc(), FULL.as_bytes(), |line| shows_each(line)));
 }
 
 fn are_gone(line: &Line, tasks: &[u64], resources: usize, op: u64) -> bool {
@@ -163,17 +163,18 @@ fn says_nothing_of_what_is_gone(line: &Line) -> bool {
 // What a line of version 2 says is gone, and that one of version 1 says nothing of it.
 #[test]
 fn shows_what_is_gone(rt: HostRuntime) {
-    match Line::read(rt.alloc(), GONE.as_bytes()) {
-        Ok(line) => {
-            assert!(rt; line.version() == 2);
-            assert!(rt; are_gone(&line, &[1099511627777, 1099511627779], 0, 1099511627780));
-        }
-        Err(_) => assert!(rt; false, "no line of version 2"),
-    }
-    match Line::read(rt.alloc(), FULL.as_bytes()) {
-        Ok(line) => assert!(rt; says_nothing_of_what_is_gone(&line)),
-        Err(_) => assert!(rt; false, "no line"),
-    }
+    let tasks = [1099511627777, 1099511627779];
+    let is_told = on_line(rt.alloc(), GONE.as_bytes(), |line| {
+        line.version() == 2 && are_gone(line, &tasks, 0, 1099511627780)
+    });
+    assert!(rt; is_told);
+    assert!(rt;
+        on_line(
+            rt.alloc(),
+            FULL.as_bytes(),
+            |line| says_nothing_of_what_is_gone(line)
+        )
+    );
 }
 
 fn copies_task(info: &TaskInfo) -> bool {
@@ -207,10 +208,13 @@ fn copies_each(line: &Line) -> Option<bool> {
 // Each info's copy is equal to it, and shows its name.
 #[test]
 fn copies_infos(rt: HostRuntime) {
-    match Line::read(rt.alloc(), FULL.as_bytes()) {
-        Ok(line) => assert!(rt; copies_each(&line) == Some(true)),
-        Err(_) => assert!(rt; false, "no line"),
-    }
+    assert!(rt;
+        on_line(
+            rt.alloc(),
+            FULL.as_bytes(),
+            |line| copies_each(line) == Some(true)
+        )
+    );
 }
 
 // A text of so many bytes between quotation marks.
@@ -227,7 +231,7 @@ fn quoted(alloc: Global, length: u32) -> Option<String> {
 fn reads_name_of(alloc: Global, length: u32) -> Option<bool> {
     let name = quoted(alloc, length)?;
     let text = changed(alloc, FULL, "\"Sync\"", name.as_str())?;
-    Some(Line::read(alloc, text.as_bytes()).is_ok())
+    Some(error_of(alloc, text.as_bytes()).is_none())
 }
 
 #[test]

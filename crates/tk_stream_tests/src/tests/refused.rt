@@ -1,10 +1,10 @@
 //! Texts that are no lines, and the errors.
 
-use super::given::changed;
+use super::given::{changed, error_of};
 use super::texts::{EMPTY, FULL, GONE};
 use std::alloc::Global;
 use std::test::Fail;
-use tk_stream::{Line, LineError};
+use tk_stream::LineError;
 
 // What `serde_json` does not read: no text, words that are no JSON, no UTF-8, and a bare line end in a text.
 #[rattlefmt::skip]
@@ -118,14 +118,6 @@ const PLAIN: [(&str, &str); 2] = [
     ("\"v\":1",              "\"v\":2"),
     ("\"dropped\":[0,0,0],", "\"dropped\":[0,0,0],\"gone_ops\":[],\"gone_resources\":[],\"gone_tasks\":[],"),
 ];
-
-// The error that reading answers, if any.
-fn error_of(alloc: Global, bytes: &[u8]) -> Option<LineError> {
-    match Line::read(alloc, bytes) {
-        Ok(_) => None,
-        Err(e) => Some(e),
-    }
-}
 
 fn all_are(alloc: Global, texts: &[&[u8]], wanted: LineError) -> bool {
     for text in texts {

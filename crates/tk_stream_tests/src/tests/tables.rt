@@ -1,6 +1,6 @@
 //! Tables, filled, changed and cut.
 
-use super::given::{fill, on_new, put_counts, put_task};
+use super::given::{fill, on_line, on_new, put_counts, put_task};
 use super::texts::TWO;
 use std::alloc::Global;
 use tk_ids::{AsyncOpId, ResourceId, TaskId};
@@ -124,10 +124,8 @@ fn filled_hold_all(alloc: Global, line: &Line) -> bool {
 
 #[test]
 fn keeps_items_in_order_of_arrival(rt: HostRuntime) {
-    match Line::read(rt.alloc(), TWO.as_bytes()) {
-        Ok(line) => assert!(rt; filled_hold_all(rt.alloc(), &line)),
-        Err(_) => assert!(rt; false, "no line"),
-    }
+    let alloc = rt.alloc();
+    assert!(rt; on_line(alloc, TWO.as_bytes(), |line| filled_hold_all(alloc, line)));
 }
 
 // Puts the line's second task in again, which was cut, with the first one's row.
@@ -166,10 +164,8 @@ fn filled_are_cut(alloc: Global, line: &Line) -> bool {
 
 #[test]
 fn cuts_each_list(rt: HostRuntime) {
-    match Line::read(rt.alloc(), TWO.as_bytes()) {
-        Ok(line) => assert!(rt; filled_are_cut(rt.alloc(), &line)),
-        Err(_) => assert!(rt; false, "no line"),
-    }
+    let alloc = rt.alloc();
+    assert!(rt; on_line(alloc, TWO.as_bytes(), |line| filled_are_cut(alloc, line)));
 }
 
 // Counts of a resource that is there are replaced.
@@ -191,8 +187,12 @@ fn filled_are_replaced(alloc: Global, line: &Line) -> bool {
 
 #[test]
 fn replaces_counts(rt: HostRuntime) {
-    match Line::read(rt.alloc(), TWO.as_bytes()) {
-        Ok(line) => assert!(rt; filled_are_replaced(rt.alloc(), &line)),
-        Err(_) => assert!(rt; false, "no line"),
-    }
+    let alloc = rt.alloc();
+    assert!(rt;
+        on_line(
+            alloc,
+            TWO.as_bytes(),
+            |line| filled_are_replaced(alloc, line)
+        )
+    );
 }
