@@ -11,11 +11,15 @@ use tk_ledgers::{Origin, TaskInspector, TaskOwner, WakerHandle};
 
 const WAKERS: usize = 4;
 
-// How often the inspector reads.
-const READINGS: u32 = 100_000;
+// How often the inspector reads at least.
+const READINGS: u64 = 100_000;
 
-// How often it reads before, at most, until each count has risen, and how often each other thread makes its calls, at most.
+// How often it reads at most, until each count has risen.
 const TURNS: u64 = 1_000_000;
+
+// How often each other thread makes its calls, at most. It is more by far than the inspector needs, since they have to go on as
+// long as it reads, whatever else the machine does.
+const CALLS: u64 = 20_000_000;
 
 // Wakes once, and clones a waker that is dropped.
 fn wake_and_clone<R: Wait>(rt: &R, waker: &mut WakerHandle, moment: u64) {
@@ -26,7 +30,7 @@ fn wake_and_clone<R: Wait>(rt: &R, waker: &mut WakerHandle, moment: u64) {
 }
 
 fn wake_until_done<R: Wait>(rt: &R, waker: &mut WakerHandle, done: &AtomicBool) {
-    for moment in 0..TURNS {
+    for moment in 0..CALLS {
         if done.load(Ordering::SeqCst) {
             return;
         }
@@ -49,7 +53,7 @@ fn wake_in_threads<R: Wait + Threads + Sync>(
 }
 
 fn polls_until_done<R: Wait>(rt: &R, owner: &mut TaskOwner, done: &AtomicBool) -> bool {
-    for moment in 0..TURNS {
+    for moment in 0..CALLS {
         if done.load(Ordering::SeqCst) {
             return true;
         }
@@ -103,24 +107,29 @@ fn sees_all_rise<R: Wait>(rt: &R, inspector: &mut TaskInspector) -> bool {
     false
 }
 
-// Whether no reading falls behind the one before it.
+// Whether no reading falls behind the one before it, from a first one until each count has risen, and so many at least.
 fn never_falls<R: Wait>(rt: &R, inspector: &mut TaskInspector) -> bool {
-    let mut before = inspector.read(rt);
-    for _ in 0..READINGS {
+    let first = inspector.read(rt);
+    let mut before = first;
+    for turn in 0..TURNS {
         let row = inspector.read(rt);
         if !are_as_great(&row, &before) {
             return false;
         }
+        if turn >= READINGS {
+            if are_greater(&row, &first) {
+                return true;
+            }
+            thread::yield_now();
+        }
         before = row;
     }
-    true
+    false
 }
 
-// The others have begun, no reading falls, and they go on behind the last one.
+// The others have begun, no reading falls, and they go on while it reads.
 fn reads_beside<R: Wait>(rt: &R, inspector: &mut TaskInspector, done: &AtomicBool) -> bool {
-    let rises = sees_all_rise(rt, inspector)
-        && never_falls(rt, inspector)
-        && sees_all_rise(rt, inspector);
+    let rises = sees_all_rise(rt, inspector) && never_falls(rt, inspector);
     done.store(true, Ordering::SeqCst);
     rises
 }
