@@ -6,7 +6,7 @@ use std::io::Write;
 use std::sync::Wait;
 use std::thread::Threads;
 use std::time::Clock;
-use tk_measures::{MeasureError, Rounds, tenths, write_head, write_row};
+use tk_measures::{MeasureError, Rounds, tenths, write_row};
 
 // One row of the table: milliseconds of a run, and how often those on plain rows they are.
 fn write_run<W: Write>(
@@ -64,15 +64,10 @@ fn runs_of_tasks<R: Threads + Wait + Sync + Clock, W: Write>(
     runs(rt, alloc, out, (name, commands.saturating_add(1)), &script)
 }
 
-const HEADS: [&str; 7] = [
-    "milliseconds of a script of",
-    "run",
-    "commands",
-    "least",
-    "median",
-    "most",
-    "times plain rows'",
-];
+const HEADS: &str = "
+| milliseconds of a script of | run | commands | least | median | most | times plain rows' |
+|---|---|---|---|---|---|---|
+";
 
 /// Measures, and writes the table.
 pub(crate) fn all<R: Threads + Wait + Sync + Clock, W: Write>(
@@ -80,7 +75,7 @@ pub(crate) fn all<R: Threads + Wait + Sync + Clock, W: Write>(
     alloc: Global,
     out: &mut W,
 ) -> Result<(), MeasureError> {
-    write_head(out, &HEADS)?;
+    out.write_all(HEADS.as_bytes())?;
     runs_of_polls(rt, alloc, out, 49_999)?;
     runs_of_tasks(rt, alloc, out, "30,000 tasks in 1,000 lines", 1_000, 30)?;
     runs_of_tasks(rt, alloc, out, "65,000 tasks in one line", 1, 65_000)

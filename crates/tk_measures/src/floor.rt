@@ -4,7 +4,7 @@ use crate::error::MeasureError;
 use crate::ids::id_above;
 use crate::ledgers::{Call, on_own_tasks};
 use crate::rounds::{ROUNDS, Rounds, nanos_since};
-use crate::table::{tenths, write_head, write_row};
+use crate::table::{tenths, write_row};
 use crossbeam_utils::atomic::SeqCell;
 use std::alloc::Global;
 use std::io::Write;
@@ -264,20 +264,18 @@ fn write_parts<R: Wait + Threads + Clock + Sync, W: Write>(
     Ok(())
 }
 
+const HEADS: &str = "
+| nanoseconds of | least | median | most | times the bare cell's |
+|---|---|---|---|---|
+";
+
 /// Measures, and writes the table.
 pub(crate) fn all<R: Wait + Threads + Clock + Sync, W: Write>(
     rt: &R,
     alloc: Global,
     out: &mut W,
 ) -> Result<(), MeasureError> {
-    let heads = [
-        "nanoseconds of",
-        "least",
-        "median",
-        "most",
-        "times the bare cell's",
-    ];
-    write_head(out, &heads)?;
+    out.write_all(HEADS.as_bytes())?;
     write_parts(rt, alloc, out, &READS, 200_000)?;
     write_parts(rt, alloc, out, &CHANGES, 200_000)
 }

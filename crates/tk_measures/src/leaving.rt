@@ -4,7 +4,7 @@
 use crate::error::MeasureError;
 use crate::live::{collect, publish_time, push_task};
 use crate::making::resident;
-use crate::table::{tenths, write_head, write_row};
+use crate::table::{tenths, write_row};
 use std::alloc::{AllocGlobal, Global};
 use std::fs::Files;
 use std::io::Write;
@@ -211,6 +211,11 @@ fn measure<R: Wait + Clock + Files + AllocGlobal, W: Write>(
     )
 }
 
+const HEADS: &str = "
+| resident kilobytes with | tasks | live at a time | stay behind | behind a tenth | behind half | behind all |
+|---|---|---|---|---|---|---|
+";
+
 /// Measures, and writes the table. Memory that something measured earlier has let go would hide what grows here, so it
 /// comes first, and the larger row before the smaller.
 pub(crate) fn all<R: Wait + Clock + Files + AllocGlobal, W: Write>(
@@ -218,16 +223,7 @@ pub(crate) fn all<R: Wait + Clock + Files + AllocGlobal, W: Write>(
     alloc: Global,
     out: &mut W,
 ) -> Result<(), MeasureError> {
-    let heads = [
-        "resident kilobytes with",
-        "tasks",
-        "live at a time",
-        "stay behind",
-        "behind a tenth",
-        "behind half",
-        "behind all",
-    ];
-    write_head(out, &heads)?;
+    out.write_all(HEADS.as_bytes())?;
     measure(rt, alloc, out, 1_000)?;
     measure(rt, alloc, out, 100)
 }

@@ -2,7 +2,7 @@
 //!
 //! - [`report`]: what is measured, and the tables in Markdown that tell of it.
 //! - [`Rounds`], [`nanos_since`]: the times of some rounds of one thing, in nanoseconds.
-//! - [`write_head`], [`write_row`], [`tenths`]: tables, for those who measure more.
+//! - [`write_row`], [`tenths`]: rows of tables, for those who measure more.
 //! - [`MeasureError`]: why a measurement stops.
 #![tactic(auto)]
 
@@ -25,4 +25,4 @@ mod views;
 
 pub use error::MeasureError;
 pub use rounds::{ROUNDS, Rounds, nanos_since};
-pub use table::{tenths, write_head, write_row};
+pub use table::{tenths, write_row};

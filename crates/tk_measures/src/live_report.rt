@@ -4,7 +4,7 @@ use crate::boxes::boxed;
 use crate::error::MeasureError;
 use crate::live::{LivePart, LiveTimes, line, lines, publish_time, record};
 use crate::rounds::{ROUNDS, Rounds};
-use crate::table::{tenths, write_head, write_row};
+use crate::table::{tenths, write_row};
 use std::alloc::Global;
 use std::io::Write;
 use std::sync::Wait;
@@ -103,15 +103,10 @@ fn lines_over<R: Wait + Clock, W: Write>(
     lines_from(rt, alloc, out, &mut aggregator, tasks)
 }
 
-const HEADS: [&str; 7] = [
-    "microseconds of",
-    "tasks",
-    "one changed of",
-    "least",
-    "median",
-    "most",
-    "times bare readings",
-];
+const HEADS: &str = "
+| microseconds of | tasks | one changed of | least | median | most | times bare readings |
+|---|---|---|---|---|---|---|
+";
 
 /// Measures, and writes the table.
 pub(crate) fn all<R: Wait + Clock, W: Write>(
@@ -119,7 +114,7 @@ pub(crate) fn all<R: Wait + Clock, W: Write>(
     alloc: Global,
     out: &mut W,
 ) -> Result<(), MeasureError> {
-    write_head(out, &HEADS)?;
+    out.write_all(HEADS.as_bytes())?;
     for tasks in [1_000u64, 10_000, 100_000] {
         lines_over(rt, alloc, out, tasks)?;
     }

@@ -3,7 +3,7 @@
 use crate::error::MeasureError;
 use crate::live::task_of;
 use crate::rounds::{ROUNDS, Rounds, nanos_since};
-use crate::table::{tenths, write_head, write_row};
+use crate::table::{tenths, write_row};
 use std::alloc::{AllocGlobal, Global};
 use std::fs;
 use std::fs::Files;
@@ -147,6 +147,16 @@ fn rounds<R: Wait + Clock + Files + AllocGlobal>(
     }
 }
 
+const MAKING_HEADS: &str = "
+| nanoseconds of | tasks | least | median | most |
+|---|---|---|---|---|
+";
+
+const RESIDENT_HEADS: &str = "
+| resident | tasks | bytes a task |
+|---|---|---|
+";
+
 /// Measures, and writes the tables.
 pub(crate) fn all<R: Wait + Clock + Files + AllocGlobal, W: Write>(
     rt: &R,
@@ -156,11 +166,11 @@ pub(crate) fn all<R: Wait + Clock + Files + AllocGlobal, W: Write>(
     let took = rounds(rt, alloc, TASKS)?;
     let making = Rounds::new(took.map(|round| round.making));
     let dropping = Rounds::new(took.map(|round| round.dropping));
-    write_head(out, &["nanoseconds of", "tasks", "least", "median", "most"])?;
+    out.write_all(MAKING_HEADS.as_bytes())?;
     let tasks = TASKS as u64;
     write_row(out, &["making a task"], &[tasks], &making.each_of(tasks))?;
     write_row(out, &["letting it go"], &[tasks], &dropping.each_of(tasks))?;
-    write_head(out, &["resident", "tasks", "bytes a task"])?;
+    out.write_all(RESIDENT_HEADS.as_bytes())?;
     let bytes = tenths(took[0].bytes, tasks);
     write_row(out, &["tasks that are made"], &[tasks], &[bytes])
 }

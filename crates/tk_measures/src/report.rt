@@ -4,7 +4,7 @@ use crate::error::MeasureError;
 use crate::ledgers::{Call, on_a_row, on_one_task, on_own_tasks};
 use crate::lines::{LineTimes, Part, Stream, Waker, changed, tables_of};
 use crate::rounds::{ROUNDS, Rounds};
-use crate::table::{tenths, write_head, write_row};
+use crate::table::{tenths, write_row};
 use crate::{floor, leaving, live_report, making, text_report};
 use std::alloc::{AllocGlobal, Global};
 use std::fs::Files;
@@ -97,23 +97,18 @@ fn write_calls<W: Write>(
     write_row(out, &[name], &[threads], &[least, median, most, ratio])
 }
 
+const CALL_HEADS: &str = "
+| nanoseconds of | threads | least | median | most | times a row's |
+|---|---|---|---|---|---|
+";
+
 fn calls<R: Wait + Threads + Clock + Sync, W: Write>(
     rt: &R,
     alloc: Global,
     out: &mut W,
     times: u64,
 ) -> Result<(), MeasureError> {
-    write_head(
-        out,
-        &[
-            "nanoseconds of",
-            "threads",
-            "least",
-            "median",
-            "most",
-            "times a row's",
-        ],
-    )?;
+    out.write_all(CALL_HEADS.as_bytes())?;
     let row = row_rounds(rt, times)?;
     let alone = row.median();
     write_calls(out, "a wake of a row alone", 1, &row, times, alone)?;
@@ -278,16 +273,10 @@ fn lines<R: Clock, W: Write>(
     lines_of(rt, alloc, out, &tables)
 }
 
-const LINE_HEADS: [&str; 8] = [
-    "a line is",
-    "tasks",
-    "one row changed of",
-    "bytes",
-    "microseconds, median",
-    "MB/s, least",
-    "median",
-    "most",
-];
+const LINE_HEADS: &str = "
+| a line is | tasks | one row changed of | bytes | microseconds, median | MB/s, least | median | most |
+|---|---|---|---|---|---|---|---|
+";
 
 fn warning_rounds<R: Clock>(rt: &R, stream: &Stream) -> Result<(usize, Rounds), MeasureError> {
     let mut nanos = [0u64; ROUNDS];
@@ -314,21 +303,18 @@ fn warnings_of<R: Clock, W: Write>(
     write_row(out, &["warnings"], &counts, &rounds.each_of(1_000))
 }
 
+const WARNING_HEADS: &str = "
+| microseconds of | how many | tasks | least | median | most |
+|---|---|---|---|---|---|
+";
+
 fn warnings<R: Clock, W: Write>(
     rt: &R,
     alloc: Global,
     out: &mut W,
     tasks: u64,
 ) -> Result<(), MeasureError> {
-    let heads = [
-        "microseconds of",
-        "how many",
-        "tasks",
-        "least",
-        "median",
-        "most",
-    ];
-    write_head(out, &heads)?;
+    out.write_all(WARNING_HEADS.as_bytes())?;
     for waker in [Waker::Kept, Waker::Lost] {
         let tables = tables_of(alloc, tasks, waker)?;
         warnings_of(rt, alloc, out, &tables)?;
@@ -346,7 +332,7 @@ pub fn all<R: Wait + Threads + Clock + Files + AllocGlobal + Sync, W: Write>(
     calls(rt, alloc, out, 200_000)?;
     floor::all(rt, alloc, out)?;
     making::all(rt, alloc, out)?;
-    write_head(out, &LINE_HEADS)?;
+    out.write_all(LINE_HEADS.as_bytes())?;
     lines(rt, alloc, out, 1_000)?;
     lines(rt, alloc, out, 10_000)?;
     lines(rt, alloc, out, 100_000)?;

@@ -1,4 +1,6 @@
 //! The times of some rounds of one thing.
+ghost use Rattle.std.specs.Prelude.{◌≡◌, IsPermutation, IsSorted};
+ghost use Rattle.tk_measures.specs.Figures as spec;
 
 use crate::error::MeasureError;
 use crate::table::{rate, tenths};
@@ -15,31 +17,34 @@ pub struct Rounds {
 
 impl Rounds {
     /// The times of rounds, in nanoseconds, in any order.
-    pub fn new(mut nanos: [u64; ROUNDS]) -> Rounds {
+    pub fn new(mut nanos: [u64; ROUNDS]) -> Rounds
+        ensures same { IsPermutation nanos result.nanos }
+        ensures ascending { IsSorted ⟦<u64 as Ord>⟧.cmp result.nanos }
+    {
         nanos.sort_unstable();
         Rounds { nanos }
     }
 
-    /// The least, the median and the most as numbers of such a unit, with their first digit behind the point.
-    pub fn each_of(&self, unit: u64) -> [(u64, u64); 3] {
-        [
-            tenths(self.nanos[0], unit),
-            tenths(self.nanos[2], unit),
-            tenths(self.nanos[4], unit),
-        ]
+    /// The least, the median and the most, in tenths of such a unit.
+    pub fn each_of(&self, unit: u64) -> [u64; 3]
+        ensures { result ≡ spec.each_of self.now.nanos unit }
+    {
+        let [least, _, median, _, most] = self.nanos;
+        [least, median, most].map(|nanos| tenths(nanos, unit))
     }
 
-    /// The least, the median and the most of megabytes in a second, where each round takes so many bytes.
-    pub fn rates(&self, bytes: u64) -> [(u64, u64); 3] {
-        [
-            rate(bytes, self.nanos[4]),
-            rate(bytes, self.nanos[2]),
-            rate(bytes, self.nanos[0]),
-        ]
+    /// The least, the median and the most of megabytes in a second, in tenths, where each round takes so many bytes.
+    pub(crate) fn rates(&self, bytes: u64) -> [u64; 3]
+        ensures { result ≡ spec.rates self.now.nanos bytes }
+    {
+        let [least, _, median, _, most] = self.nanos;
+        [most, median, least].map(|nanos| rate(bytes, nanos))
     }
 
     /// The median, in nanoseconds.
-    pub fn median(&self) -> u64 {
+    pub fn median(&self) -> u64
+        ensures { result ≡ spec.median self.now.nanos }
+    {
         self.nanos[2]
     }
 }

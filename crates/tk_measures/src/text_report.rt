@@ -2,7 +2,7 @@
 
 use crate::error::MeasureError;
 use crate::lines::{Waker, changed, tables_of};
-use crate::table::{tenths, write_head, write_row};
+use crate::table::{tenths, write_row};
 use crate::texts::{Sample, Told, Way, spaced, text_of};
 use crate::views::{Whole, report_size, stream_of};
 use std::alloc::Global;
@@ -64,21 +64,18 @@ fn texts<R: Clock, W: Write>(
     Ok(())
 }
 
+const WHOLE_HEADS: &str = "
+| what | bytes | milliseconds, median | MB/s, least | median | most |
+|---|---|---|---|---|---|
+";
+
 fn wholes<R: Clock, W: Write>(
     rt: &R,
     alloc: Global,
     out: &mut W,
     bytes: &[u8],
 ) -> Result<(), MeasureError> {
-    let heads = [
-        "what",
-        "bytes",
-        "milliseconds, median",
-        "MB/s, least",
-        "median",
-        "most",
-    ];
-    write_head(out, &heads)?;
+    out.write_all(WHOLE_HEADS.as_bytes())?;
     let size = bytes.len() as u64;
     for whole in WHOLES {
         let rounds = whole.rounds(rt, alloc, bytes)?;
@@ -110,16 +107,10 @@ fn views<R: Clock, W: Write>(rt: &R, alloc: Global, out: &mut W) -> Result<(), M
     wholes(rt, alloc, out, &bytes)
 }
 
-const HEADS: [&str; 8] = [
-    "a line of",
-    "written",
-    "what",
-    "items",
-    "bytes",
-    "MB/s, least",
-    "median",
-    "most",
-];
+const HEADS: &str = "
+| a line of | written | what | items | bytes | MB/s, least | median | most |
+|---|---|---|---|---|---|---|---|
+";
 
 /// Measures all, and writes the tables.
 pub(crate) fn all<R: Clock, W: Write>(
@@ -127,7 +118,7 @@ pub(crate) fn all<R: Clock, W: Write>(
     alloc: Global,
     out: &mut W,
 ) -> Result<(), MeasureError> {
-    write_head(out, &HEADS)?;
+    out.write_all(HEADS.as_bytes())?;
     texts(rt, alloc, out, 1, 10_000)?;
     texts(rt, alloc, out, 100, 100)?;
     texts(rt, alloc, out, 10_000, 1)?;
