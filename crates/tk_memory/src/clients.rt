@@ -40,13 +40,13 @@ fn on_fed<A: Drop, F: FnOnce(&mut Client) -> A>(
 ) -> A
     requires { F.IsAlwaysCallable look }
 {
-    match Client::new(alloc, MAX_LINE) {
-        Ok(mut client) => match client.feed(bytes) {
-            Ok(_) => look(&mut client),
-            Err(_) => otherwise,
-        },
-        Err(_) => otherwise,
-    }
+    let answer = on_made(Client::new(alloc, MAX_LINE), None, |client| {
+        match client.feed(bytes) {
+            Ok(_) => Some(look(client)),
+            Err(_) => None,
+        }
+    });
+    answer.unwrap_or(otherwise)
 }
 
 // Whether the client's tables are those of a client that was fed the first so many bytes.

@@ -75,13 +75,13 @@ pub(crate) fn on_filled<A: Drop, F: FnOnce(&mut Tables) -> A>(
 ) -> A
     requires { F.IsAlwaysCallable look }
 {
-    match Tables::new(alloc) {
-        Ok(mut tables) => match fill(alloc, &mut tables) {
-            Some(()) => look(&mut tables),
-            None => otherwise,
-        },
-        Err(_) => otherwise,
-    }
+    let answer = on_made(Tables::new(alloc), None, |tables| {
+        match fill(alloc, tables) {
+            Some(()) => Some(look(tables)),
+            None => None,
+        }
+    });
+    answer.unwrap_or(otherwise)
 }
 
 // ---- comparing
