@@ -1,6 +1,7 @@
 //! Lines that the tests feed, and what comes of them.
 //!
-//! How a value ends is proved where it is owned, which is dear for clients, tables and lines. So one function owns them all.
+//! How a value ends is proved where it is owned, which is dear for clients, tables and lines. So one function owns them, where
+//! nothing needs to be known of what they hold.
 ghost use Rattle.std.specs.Prelude.{◌≡◌, ◌≤◌};
 ghost use Rattle.tk_stream.specs.Tables.{empty_tables};
 

@@ -1,6 +1,7 @@
 //! Tables that are filled from lines, and lines that are compared by their texts.
 //!
-//! How a value ends is proved where it is owned, which is dear for tables and lines. So one function owns them all.
+//! How a value ends is proved where it is owned, which is dear for tables and lines. So one function owns them, where nothing needs
+//! to be known of what they hold.
 
 use std::alloc::Global;
 use tk_core::{OpRow, ResourceRow, TaskRow};
