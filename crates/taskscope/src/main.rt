@@ -3,8 +3,6 @@
 
 mod command_line;
 mod program;
-#[cfg(test)]
-mod tests;
 
 use program::{refuse_words, run_program};
 use std::env::Env;

@@ -3,19 +3,23 @@
 //! A call looks at the words, makes the next row of them, and exchanges them where they are still the same:
 //! then the exchange is its entry. Where the row stays as it is, the look was its entry. Where another call
 //! came between, it tries again.
-ghost use Rattle.std.specs.Prelude.{◌≡◌, ◌≢◌, ◌<◌, [], true, false, Some, IfOk, IfSome, IfNone, MatchBool};
+ghost use Rattle.std.specs.Prelude.{◌≡◌, ◌≢◌, ◌<◌, [], true, false, nat_eq, if◌then◌else◌, Some, IfOk, IfSome, IfNone, MatchBool, MatchResult};
+ghost use lib.Pointwise.{pointwise};
 ghost use Rattle.std.specs.Arc.{arc_value};
-ghost use Rattle.crossbeam_utils.specs.Seq.{cell_view};
+ghost use Rattle.crossbeam_utils.specs.Register.{Forks, Merges, Turns};
+ghost use Rattle.crossbeam_utils.specs.Seq.{IsSamePass, cell_view};
 ghost use Rattle.tk_core.specs.Legal.{may_call, has_ended, own};
 ghost use Rattle.tk_cell.specs.Views.{opened, known, Holds, after_split, split_off};
 ghost use Rattle.tk_cell.specs.Calls.{Calls, Joins};
-ghost use Rattle.tk_cell.specs.Parts.{view_of, IsOne};
+ghost use Rattle.tk_cell.specs.Parts.{view_of, IsOne, Kept};
 ghost use Rattle.tk_cell.specs.Steps.{Plays, LooksFor, LeadsTo};
 
 use crate::part::{Part, Rule};
 use crate::steps::{Both, Exchanges, Looks, OffSplit, Opens, Pick, Settling, Whole};
 use crate::token::Token;
+use atomic_table::{Join, Split};
 use crossbeam_utils::atomic::seq_cell::{Pass, RuledSeqCell};
+use crossbeam_utils::rule::Outcome;
 use std::alloc::{AllocError, Global};
 use std::marker::{Brand, Model};
 use std::sync::{Arc, Wait};
@@ -64,8 +68,9 @@ impl<O: Sequential> Shared<O> {
             Rule<O>,
             16,
         >::ruled(alloc, [0; 16])?;
-        cell.swap_as::<Opens<O, K>, R>(rt, &mut pass, row.to_words());
-        Ok((Shared { cell }, Token { caller: 0, pass }))
+        let shared = Shared { cell };
+        shared.swap_as::<Opens<O, K>, R>(rt, &mut pass, row.to_words());
+        Ok((shared, Token { caller: 0, pass }))
     }
 
     /// Makes the call as the token's caller, as one entry of the ledger's history, and gives its reply.
@@ -135,7 +140,7 @@ impl<O: Sequential> Shared<O> {
         ensures looks { LooksFor O.meaning (Some call) token.old.view result result token.new.view }
     {
         let _ = call;
-        self.cell.load_as::<Looks<O, K>, R>(rt, &mut token.pass)
+        self.load_as::<Looks<O, K>, R>(rt, &mut token.pass)
     }
 
     #[inline(always)]
@@ -157,8 +162,7 @@ impl<O: Sequential> Shared<O> {
         ensures plays { MatchBool result (Plays O.meaning token.old.view call current new token.new.view) (token.new.view ≡ token.old.view) }
     {
         let _ = call;
-        self.cell
-            .compare_exchange_as::<Exchanges<O, K>, R>(rt, &mut token.pass, current, new)
+        self.compare_exchange_as::<Exchanges<O, K>, R>(rt, &mut token.pass, current, new)
             .is_ok()
     }
 
@@ -185,7 +189,7 @@ impl<O: Sequential> Shared<O> {
         ensures kept { token.new ≡ known token.old.ledger (after_split number token.old.view) }
         ensures given { result ≡ known token.old.ledger (split_off number token.old.view) }
     {
-        let pass = self.cell.split_pass::<OffSplit<K>>(&mut token.pass);
+        let pass = self.split_as::<OffSplit<K>>(&mut token.pass);
         Token {
             caller: number,
             pass,
@@ -214,8 +218,8 @@ impl<O: Sequential> Shared<O> {
         ensures joined { Joins O.meaning token.old.view other.view token.new.view }
     {
         let theirs = self.hand_over(other);
-        self.cell.join_pass::<Both>(&mut token.pass, theirs);
-        self.cell.load_as::<Settling<O>, R>(rt, &mut token.pass);
+        self.join_as::<Both>(&mut token.pass, theirs);
+        self.load_as::<Settling<O>, R>(rt, &mut token.pass);
     }
 
     // A pass with the token's view that has taken no step yet: only such a one can be joined.
@@ -227,6 +231,80 @@ impl<O: Sequential> Shared<O> {
         ensures whole { result.me.1 ≡ [] }
     {
         let mut pass = token.pass;
-        self.cell.split_pass::<Whole>(&mut pass)
+        self.split_as::<Whole>(&mut pass)
+    }
+
+    // What follows are the cell's own calls on this ledger's cell. A token's view is proved from these: from the cell's,
+    // each took the prover a minute.
+
+    #[inline(always)]
+    fn load_as<M: Outcome<[u64; 16], Part<O, O::Call, O::Reply>>, R: Wait>(
+        &self,
+        rt: &R,
+        pass: &mut Pass<[u64; 16], Part<O, O::Call, O::Reply>>,
+    ) -> [u64; 16]
+        requires cell { pass.old.table_id ≡ self.now }
+        requires rule { Turns (Kept O.meaning) pass.old.id (cell_view pass.old) (λ x. x) M.then }
+        ensures cell { IsSamePass pass.old pass.new }
+        ensures rule { M.then (cell_view pass.old) result result (cell_view pass.new) }
+    {
+        self.cell.load_as::<M, R>(rt, pass)
+    }
+
+    fn swap_as<M: Outcome<[u64; 16], Part<O, O::Call, O::Reply>>, R: Wait>(
+        &self,
+        rt: &R,
+        pass: &mut Pass<[u64; 16], Part<O, O::Call, O::Reply>>,
+        new: [u64; 16],
+    ) -> [u64; 16]
+        requires cell { pass.old.table_id ≡ self.now }
+        requires rule { Turns (Kept O.meaning) pass.old.id (cell_view pass.old) (λ _. new) M.then }
+        ensures cell { IsSamePass pass.old pass.new }
+        ensures rule { M.then (cell_view pass.old) result new (cell_view pass.new) }
+    {
+        self.cell.swap_as::<M, R>(rt, pass, new)
+    }
+
+    #[inline(always)]
+    fn compare_exchange_as<M: Outcome<[u64; 16], Part<O, O::Call, O::Reply>>, R: Wait>(
+        &self,
+        rt: &R,
+        pass: &mut Pass<[u64; 16], Part<O, O::Call, O::Reply>>,
+        current: [u64; 16],
+        new: [u64; 16],
+    ) -> Result<[u64; 16], [u64; 16]>
+        requires cell { pass.old.table_id ≡ self.now }
+        requires rule { Turns (Kept O.meaning) pass.old.id (cell_view pass.old) (λ x. if pointwise nat_eq x current then new else x) M.then }
+        ensures cell { IsSamePass pass.old pass.new }
+        ensures rule { MatchResult result
+            (λ x. (pointwise nat_eq x current ≡ true) × M.then (cell_view pass.old) x new (cell_view pass.new))
+            (λ x. (pointwise nat_eq x current ≡ false) × M.then (cell_view pass.old) x x (cell_view pass.new)) }
+    {
+        self.cell
+            .compare_exchange_as::<M, R>(rt, pass, current, new)
+    }
+
+    fn split_as<M: Split<Part<O, O::Call, O::Reply>>>(
+        &self,
+        pass: &mut Pass<[u64; 16], Part<O, O::Call, O::Reply>>,
+    ) -> Pass<[u64; 16], Part<O, O::Call, O::Reply>>
+        requires own { pass.old.table_id ≡ self.now }
+        requires rule { Forks (Kept O.meaning) pass.old.id (cell_view pass.old) (M.left (cell_view pass.old)) (M.right (cell_view pass.old)) }
+        ensures kept { IsSamePass pass.old pass.new × (cell_view pass.new ≡ M.left (cell_view pass.old)) }
+        ensures given { (result.table_id ≡ pass.old.table_id) × (cell_view result ≡ M.right (cell_view pass.old)) × (result.me.1 ≡ []) }
+    {
+        self.cell.split_pass::<M>(pass)
+    }
+
+    fn join_as<M: Join<Part<O, O::Call, O::Reply>>>(
+        &self,
+        pass: &mut Pass<[u64; 16], Part<O, O::Call, O::Reply>>,
+        other: Pass<[u64; 16], Part<O, O::Call, O::Reply>>,
+    )
+        requires own { (pass.old.table_id ≡ self.now) × (other.table_id ≡ pass.old.table_id) × (other.me.1 ≡ []) }
+        requires rule { Merges (Kept O.meaning) pass.old.id (cell_view pass.old) other.id (cell_view other) (M.both (cell_view pass.old) (cell_view other)) M.spent }
+        ensures { IsSamePass pass.old pass.new × (cell_view pass.new ≡ M.both (cell_view pass.old) (cell_view other)) }
+    {
+        self.cell.join_pass::<M>(pass, other);
     }
 }

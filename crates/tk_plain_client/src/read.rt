@@ -118,10 +118,8 @@ fn counts_at(alloc: Global, value: &Value) -> Result<Vec<(u64, u64, u64)>, Unrea
 
 fn are_three_numbers(value: &Value, key: &str) -> bool {
     match list(value, key) {
-        Some([tasks, resources, ops]) => {
-            tasks.as_u64().is_some() && resources.as_u64().is_some() && ops.as_u64().is_some()
-        }
-        _ => false,
+        Some(list) => list.len() == 3 && list.iter().all(|count| count.as_u64().is_some()),
+        None => false,
     }
 }
 
