@@ -29,6 +29,7 @@ class Edit:
         self.name = os.path.basename(path)[: -len(".edit")]
         self.function = None
         self.tests = None
+        self.module = None
         self.changes = []
         file = old = None
         with open(path) as lines:
@@ -36,7 +37,7 @@ class Edit:
                 if line.startswith("function: "):
                     self.function = line[len("function: "):]
                 elif line.startswith("tests: "):
-                    self.tests = line[len("tests: "):]
+                    self.tests, _, self.module = line[len("tests: "):].partition(" ")
                 elif line.startswith("file: "):
                     file = line[len("file: "):]
                 elif line.startswith("old: "):
@@ -181,7 +182,8 @@ def try_tests(crate, edit):
         except BadEdit as bad:
             return f"BAD EDIT: {bad}"
         tests = os.path.join(work, "crates", edit.tests)
-        run = subprocess.run(["rt", "try", "--test", "--seconds", "300"], cwd=tests, capture_output=True, text=True)
+        words = ["rt", "try", "--test", "--seconds", "300", *(["--", edit.module] if edit.module else [])]
+        run = subprocess.run(words, cwd=tests, capture_output=True, text=True)
     failed = re.search(r"^test result: FAILED.*?(\d+) passed.*?(\d+) failed", run.stdout, re.M)
     if failed:
         return f"refused: {failed.group(2)} tests of {edit.tests} fail, {failed.group(1)} pass"

@@ -5,7 +5,8 @@
 #        tests/wrong_bodies.sh --fit, which takes a second: whether each can still be put into the sources. The gate asks that.
 #
 # An edit has the form of those in must-fail/, and one line more. `function: PATH` is the function whose proof must fail. Where
-# no contract can refuse it, `tests: CRATE` is the crate of which a test must fail, as `rt try --test` runs them on a copy.
+# no contract can refuse it, `tests: CRATE` is the crate of which a test must fail, as `rt try --test` runs them on a copy, or
+# `tests: CRATE MODULE` where only those of one module are to be run.
 # The crate is proved first, over the work that earlier checks kept in its out/; then the edits are applied to a copy,
 # several at a time where each changes the body of another function, and `rt check --only PATH ..` is run there. Edits that
 # such a check doesn't tell of are tried again without the others, and at last alone. JOBS (2) crates at a time; a check may take 4 GB.

@@ -4,7 +4,7 @@ ghost use Rattle.tk_live.specs.Refusals as spec;
 
 use tk_core::Refusal;
 
-/// Why a line of a script stops it, in the order in which these are tried.
+/// Why a line of a script stops it, in the order in which these are tried; `Memory` may come before any of them.
 #[derive(Clone, Copy, Debug, PartialEq, Eq)]
 pub enum Stop {
     /// The line says no command, `capacity` behind another command, or what may not stand there: in a block what is no line of it,

@@ -216,7 +216,7 @@ fn refresh_each<R: Wait>(
 // ---- all of them
 
 /// A call on an aggregator.
-#[derive(Clone, Copy, Drop, PartialEq, Eq)]
+#[derive(Clone, Copy, Drop)]
 enum Case {
     Collect,
     Publish,

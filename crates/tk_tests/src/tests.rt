@@ -1,5 +1,8 @@
-//! Scripts whose streams a client is fed.
+//! Streams and scripts, in memory.
 
+mod app;
 mod damaged;
+mod live;
+mod report;
 mod scripts;
 mod streams;

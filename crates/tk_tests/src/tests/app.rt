@@ -1,4 +1,4 @@
-//! Scripts that are run in memory: what they write, and what they stop at.
+//! Tests of `tk_app`: scripts that are run in memory, what they write, and what they stop at.
 
 mod blocks;
 mod capacity;

@@ -1,5 +1,0 @@
-//! Tests of `tk_app` through its public calls, in a crate above it: so its own proof is made once, without them.
-#![tactic(auto)]
-
-#[cfg(test)]
-mod tests;

@@ -1,4 +1,0 @@
-//! Scripts that are made at random.
-
-mod beside;
-mod random;

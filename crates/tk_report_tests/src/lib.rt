@@ -1,5 +1,0 @@
-//! Tests of `tk_report` through its public calls, in a crate above it: so its own proof is made once, without them.
-#![tactic(auto)]
-
-#[cfg(test)]
-mod tests;

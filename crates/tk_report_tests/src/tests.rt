@@ -1,7 +1,0 @@
-//! Streams in memory: what their views write, and what they stop at.
-
-mod given;
-mod many;
-mod readers;
-mod reports;
-mod writers;

@@ -1,0 +1,4 @@
+//! Tests of `tk_live`: scripts that are made at random, beside the plain run.
+
+mod beside;
+mod random;
