@@ -1,5 +1,7 @@
-"""Tries the wrong bodies that the gate leaves out; tests/wrong_bodies.sh says how."""
+"""Tries the wrong bodies that are no must-fail edits; tests/wrong_bodies.sh says how."""
 
+import importlib.machinery
+import importlib.util
 import os
 import re
 import shutil
@@ -129,10 +131,32 @@ def copy_of(crate, work):
     return os.path.join(work, "crates", crate)
 
 
+def words_for(edits):
+    return ["--jobs", "1", *[word for edit in edits for word in ("--only", edit.function)]]
+
+
 def check(copy, edits):
-    only = [word for edit in edits for word in ("--only", edit.function)]
-    run = subprocess.run(["rt", "check", "--jobs", "1", *only], cwd=copy, capture_output=True, text=True)
+    run = subprocess.run(["rt", "check", *words_for(edits)], cwd=copy, capture_output=True, text=True)
     return run.returncode, run.stdout + run.stderr
+
+
+def crates_of_rt():
+    """`rt` as a module, which knows how it calls the prover, and the crates as it sees them, by name."""
+    loader = importlib.machinery.SourceFileLoader("rt_command", os.path.realpath(shutil.which("rt")))
+    rt = importlib.util.module_from_spec(importlib.util.spec_from_loader("rt_command", loader))
+    loader.exec_module(rt)
+    return rt.rtlib, {crate.name: crate for crate in rt.crates_of(ROOT)}
+
+
+def check_behind_the_gate(rtlib, crate):
+    """A check of a copy over the libraries that `rt ci` left in out/, as it tries a must-fail edit itself: these fit one another alone, and `rt check` would prove its own first."""
+
+    def call(copy, edits):
+        words = [rtlib.RATTLE, "check", *crate.words(words_for(edits), keeps=False)]
+        run = subprocess.run(words, cwd=copy, capture_output=True, text=True)
+        return run.returncode, run.stdout + run.stderr
+
+    return call
 
 
 def reason(said, place=""):
@@ -197,7 +221,7 @@ def restore(crate, copy, edits):
         shutil.copy(os.path.join(CRATES, crate, file), os.path.join(copy, file))
 
 
-def try_edits(crate, copy, edits):
+def try_edits(crate, copy, edits, check=check):
     """Tries edits in one check, and again without those of which it tells, until it tells of none."""
     said = {}
     try:
@@ -216,12 +240,20 @@ def try_edits(crate, copy, edits):
         yield said[edit]
     for group in [rest] if told else [[edit] for edit in rest]:
         if group:
-            yield from try_edits(crate, copy, group)
+            yield from try_edits(crate, copy, group, check)
+
+
+def edits_in(folder):
+    names = sorted(os.listdir(folder)) if os.path.isdir(folder) else []
+    return [Edit(os.path.join(folder, name)) for name in names if name.endswith(".edit")]
+
+
+def gate_edits_of(crate):
+    return edits_in(os.path.join(CRATES, crate, "wrong-bodies", "gate"))
 
 
 def edits_of(crate):
-    folder = os.path.join(CRATES, crate, "wrong-bodies")
-    return [Edit(os.path.join(folder, name)) for name in sorted(os.listdir(folder)) if name.endswith(".edit")]
+    return edits_in(os.path.join(CRATES, crate, "wrong-bodies")) + gate_edits_of(crate)
 
 
 def fit(crates):
@@ -260,6 +292,25 @@ def try_crate(crate, only):
         return said + [line for group in groups_of(edits) for line in try_edits(crate, copy, group)]
 
 
+def try_behind_the_gate(rtlib, crate, edit):
+    for below in crate.below():
+        if not os.path.isdir(below.rlib):
+            why = f"{crate.name}/{edit.name}: NOT TRIED: rt ci has left no library of {below.name}"
+            print(why, flush=True)
+            return [why]
+    with tempfile.TemporaryDirectory() as work:
+        copy_sources([crate.name], work)
+        copy = os.path.join(work, "crates", crate.name)
+        return list(try_edits(crate.name, copy, [edit], check_behind_the_gate(rtlib, crate)))
+
+
+def try_gate(pool):
+    """Tries what the gate tries behind `rt ci`, which has proved the crates as they stand."""
+    rtlib, known = crates_of_rt()
+    edits = [(known[crate], edit) for crate in crates_with_edits() for edit in gate_edits_of(crate)]
+    return pool.map(lambda it: try_behind_the_gate(rtlib, *it), edits)
+
+
 def crates_with_edits():
     return sorted(name for name in os.listdir(CRATES) if os.path.isdir(os.path.join(CRATES, name, "wrong-bodies")))
 
@@ -267,13 +318,14 @@ def crates_with_edits():
 def main(words):
     if words[:1] == ["--fit"]:
         sys.exit(0 if fit(crates_with_edits()) else 1)
-    crates = words[:1] or crates_with_edits()
+    is_gate = words == ["--gate"]
+    crates = [] if is_gate else words[:1] or crates_with_edits()
     for crate in crates:
         if not os.path.isdir(os.path.join(CRATES, crate, "wrong-bodies")):
             sys.exit(f"there are no wrong bodies of {crate}")
-    only = words[1:]
     with ThreadPoolExecutor(int(os.environ.get("JOBS", "2"))) as pool:
-        said = [line for lines in pool.map(lambda crate: try_crate(crate, only), crates) for line in lines]
+        tried = try_gate(pool) if is_gate else pool.map(lambda crate: try_crate(crate, words[1:]), crates)
+        said = [line for lines in tried for line in lines]
     refused = sum(line.startswith("refused") for line in said)
     print(f"{refused} refused, {len(said) - refused} let through")
     sys.exit(0 if said and refused == len(said) else 1)

@@ -1,8 +1,9 @@
 #!/bin/sh
-# Tries the wrong bodies that the gate leaves out, crates/NAME/wrong-bodies/*.edit: the prover, or a test, must refuse each.
+# Tries the wrong bodies that are no must-fail edits, crates/NAME/wrong-bodies/*.edit and gate/*.edit: the prover, or a test, must refuse each.
 #
 # Usage: tests/wrong_bodies.sh [CRATE [NAME ..]], of all crates, of one, or some of its wrong bodies alone.
 #        tests/wrong_bodies.sh --fit, which takes a second: whether each can still be put into the sources. The gate asks that.
+#        tests/wrong_bodies.sh --gate: those of gate/ alone, over the libraries that `rt ci` has just left here. The gate does that.
 #
 # An edit has the form of those in must-fail/, and one line more. `function: PATH` is the function whose proof must fail. Where
 # no contract can refuse it, `tests: CRATE` is the crate of which a test must fail, as `rt try --test` runs them on a copy, or

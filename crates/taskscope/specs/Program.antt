@@ -5,7 +5,7 @@ use Rattle.tk_client.specs.Warnings.{LintsView}
 use Rattle.tk_app.specs.Demo.{Demonstrates}
 use Rattle.tk_live.specs.Script.{ReadsAndRuns}
 use Rattle.tk_report.specs.Views.{IsOfWriter, Views}
-use Rattle.tk_report.specs.declared.fault.AppFault.{AppFault}
+use Rattle.tk_fault.specs.declared.fault.AppFault.{AppFault}
 use Rattle.tk_report.specs.declared.view.View.{View}
 use Rattle.tk_report.specs.declared.view.View.TheVariants.{Report, Lint}
 use Rattle.taskscope.specs.declared.command_line.Request.{Request}

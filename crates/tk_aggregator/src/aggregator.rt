@@ -86,6 +86,15 @@ impl Model for Aggregator {
     ghost invariant = { λ a. IsStanding a.tables a.told a.tasks.items a.resources.items a.ops.items a.held a.last };
 }
 
+// A line's text and its line end.
+fn text_of(line: &Line) -> Result<Vec<u8>, LineError>
+    ensures { IfOk result (λ text. text.items ≡ sent_text line.now) }
+{
+    let mut text = line.write()?;
+    text.push(b'\n')?;
+    Ok(text)
+}
+
 impl Aggregator {
     /// One that has told nothing, whose next line has the number `after + 1`. It makes room for 16 tasks. Its lines are of
     /// version 1, and nothing leaves.
@@ -416,8 +425,7 @@ impl Aggregator {
         ensures leaving { IfOk result (λ made. unwrap_or made.1 none_gone ≡ leaving_at snapshot self.now now) }
     {
         let (line, leaving) = self.next_line(now, snapshot)?;
-        let mut text = line.write()?;
-        text.push(b'\n')?;
+        let text = text_of(&line)?;
         Ok((text, leaving))
     }
 

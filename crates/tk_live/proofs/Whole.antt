@@ -2,8 +2,8 @@
 use Rattle.std.proofs.Common.{ℕ, List, Bool, [], Option, Result, Ok, Err, inl, inr, refl}
 use Rattle.std.specs.Io.KnownBytes.{Appends}
 use Rattle.std.proofs.KnownBytes.{Appends-nil}
-use Rattle.tk_report.specs.declared.fault.AppFault.{AppFault}
-use Rattle.tk_report.specs.declared.fault.AppFault.TheVariants as faults
+use Rattle.tk_fault.specs.declared.fault.AppFault.{AppFault}
+use Rattle.tk_fault.specs.declared.fault.AppFault.TheVariants as faults
 use Rattle.tk_stream.specs.Streams.{Sending}
 use Rattle.tk_live.specs.Commands.{Line, settings_of}
 use Rattle.tk_live.specs.Course.{Course, course_of}

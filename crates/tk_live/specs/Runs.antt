@@ -8,8 +8,8 @@ use Rattle.tk_events.specs.declared.item.Offer.{Offer}
 use Rattle.tk_events.specs.Handles.{Recording, Taking, offers_made}
 use Rattle.tk_events.specs.Offers.{shown, tasks_in, resources_in, ops_in}
 use Rattle.tk_ledgers.specs.Tasks.{TaskSight}
-use Rattle.tk_report.specs.declared.fault.AppFault.{AppFault}
-use Rattle.tk_report.specs.declared.fault.AppFault.TheVariants as faults
+use Rattle.tk_fault.specs.declared.fault.AppFault.{AppFault}
+use Rattle.tk_fault.specs.declared.fault.AppFault.TheVariants as faults
 use Rattle.tk_stream.specs.Streams.{Sending, GoesOn, lines_sent, bytes_sent, tables_sent, last_sent}
 use Rattle.tk_stream.specs.Tables.{empty_tables}
 use Rattle.tk_aggregator.specs.Absorbing.{infos_of}

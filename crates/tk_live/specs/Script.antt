@@ -1,8 +1,8 @@
 -- What the run of a script has written at its end.
 use Rattle.std.specs.Prelude.{◌≡◌, ℕ, ◌+◌, ◌⊎◌, Bool, ◌∷◌, List, [], ◌++◌, length, Option, Some, Result, Ok, Err}
 use Rattle.std.specs.List.{enumerate_from}
-use Rattle.tk_report.specs.declared.fault.AppFault.{AppFault}
-use Rattle.tk_report.specs.declared.fault.AppFault.TheVariants as faults
+use Rattle.tk_fault.specs.declared.fault.AppFault.{AppFault}
+use Rattle.tk_fault.specs.declared.fault.AppFault.TheVariants as faults
 use Rattle.tk_stream.specs.Sent.{IsCut}
 use Rattle.tk_stream.specs.Streams.{Sending, MaySend, line_sent, tables_sent, last_sent}
 use Rattle.tk_stream.specs.Spelling.{sent_text}

@@ -1,7 +1,7 @@
 -- What reading a whole script does to the known bytes.
 use Rattle.std.specs.Prelude.{◌≡◌, ℕ, ◌≤◌, List, length, Option, IfSome}
-use Rattle.tk_report.specs.declared.fault.AppFault.{AppFault}
-use Rattle.tk_report.specs.declared.fault.AppFault.TheVariants as faults
+use Rattle.tk_fault.specs.declared.fault.AppFault.{AppFault}
+use Rattle.tk_fault.specs.declared.fault.AppFault.TheVariants as faults
 
 -- the reader had these bytes and no others, where its bytes are known
 abbrev pub Held : Option (List ℕ) → List ℕ → Type 0

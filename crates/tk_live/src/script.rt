@@ -22,7 +22,7 @@ use std::alloc::{AllocError, Global};
 use std::io::{Read, Write};
 use std::sync::Wait;
 use std::thread::Threads;
-use tk_report::AppFault;
+use tk_fault::AppFault;
 
 /// How many events the console holds where the script doesn't say, and no item leaves there.
 const DEFAULT: Settings = Settings {

@@ -4,7 +4,7 @@ ghost use Rattle.tk_live.specs.Transfer.{IsScript, IsReading};
 
 use std::alloc::Global;
 use std::io::Read;
-use tk_report::AppFault;
+use tk_fault::AppFault;
 
 /// The longest script that is read, in bytes.
 pub const MAX_SCRIPT: usize = 1_048_576;

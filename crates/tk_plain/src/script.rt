@@ -3,8 +3,8 @@
 use crate::run::Plain;
 use std::alloc::Global;
 use std::io::Write;
+use tk_fault::AppFault;
 use tk_live::{Stop, command_of};
-use tk_report::AppFault;
 
 fn is_skipped(line: &[u8]) -> bool {
     match line.first() {

@@ -11,8 +11,8 @@ use Rattle.tk_client.specs.Feeding.{ClientView, Took, Stopped, StoppedBy}
 use Rattle.tk_client.specs.Meaning.{empty_start, stops, meaning, after}
 use Rattle.tk_client.proofs.FeedLemmas.{goes-then}
 use Rattle.tk_client.proofs.Pieces.{meaning-append, stops-append}
-use Rattle.tk_report.specs.declared.fault.AppFault.{AppFault}
-use Rattle.tk_report.specs.declared.fault.AppFault.TheVariants as faults
+use Rattle.tk_fault.specs.declared.fault.AppFault.{AppFault}
+use Rattle.tk_fault.specs.declared.fault.AppFault.TheVariants as faults
 use Rattle.tk_report.specs.Taken.{HasTaken, Reading, Takes, TakesAll, first, stop_of}
 use Rattle.tk_report.specs.declared.view.View.{View}
 use Rattle.tk_report.specs.Views.{AreAll, LeadTo, Views, outcome_of, text_of}
@@ -83,7 +83,7 @@ reads_more given left new piece lines sum old now r read taken =
 
 -- a piece more was read, and has a fault
 pub stops_all : (given left new : Option (List ℕ)) (piece : List ℕ) (lines : ℕ) (old now : ClientView) (answer : AppFault) (r : Reading given left lines old) → Consumes left new piece
-    → Takes (r.bytes ++ piece) (Err answer) now → TakesAll {C = ClientView} (λ c. c) given new (Err answer)
+    → Takes (r.bytes ++ piece) (Err answer) now → TakesAll given new (Err answer) now
 stops_all given left new piece lines old now faults.Memory r read h = tt
 stops_all given left new piece lines old now faults.Read r read h = tt
 stops_all given left new piece lines old now faults.Write r read h = absurd h
@@ -99,21 +99,21 @@ stops_all given left new piece lines old now (faults.Stream behind fault) r read
 -- ---- what is shown
 
 -- a stream that isn't taken isn't shown
-pub shows_none : (view : View) (lints : LintsView) (given left old new : Option (List ℕ)) (answer : AppFault) → TakesAll {C = ClientView} (λ c. c) given left (Err answer)
+pub shows_none : (view : View) (lints : LintsView) (given left old new : Option (List ℕ)) (now : ClientView) (answer : AppFault) → TakesAll given left (Err answer) now
     → Views view lints given left (Err answer) old new
-shows_none view lints given left old new faults.Memory h = tt
-shows_none view lints given left old new faults.Read h = tt
-shows_none view lints given left old new faults.Write h = absurd h
-shows_none view lints given left old new (faults.Script line name) h = absurd h
-shows_none view lints given left old new (faults.Stream lines fault) h = h
+shows_none view lints given left old new now faults.Memory h = tt
+shows_none view lints given left old new now faults.Read h = tt
+shows_none view lints given left old new now faults.Write h = absurd h
+shows_none view lints given left old new now (faults.Script line name) h = absurd h
+shows_none view lints given left old new now (faults.Stream lines fault) h = h
 
 -- the tables to which all bytes lead
-pub leads : (given left : Option (List ℕ)) (client : ClientView) → TakesAll {C = ClientView} (λ c. c) given left (Ok client) → LeadTo given client.start.tables
+pub leads : (given left : Option (List ℕ)) (client : ClientView) → TakesAll given left (Ok tt) client → LeadTo given client.start.tables
 leads given left client h = record { bytes = h.0; all = h.2; start = client.start; lines = h.1; come = h.3.took.came; shows = refl }
 
 -- their text went out
 pub shows_all : (view : View) (lints : LintsView) (given left old new : Option (List ℕ)) (client : ClientView) (text : List ℕ) (warnings : ℕ)
-    → TakesAll {C = ClientView} (λ c. c) given left (Ok client) → text ≡ text_of view lints client.start.tables → Appends old new text
+    → TakesAll given left (Ok tt) client → text ≡ text_of view lints client.start.tables → Appends old new text
     → warnings ≡ length (warnings_in lints client.start.tables) → Views view lints given left (Ok warnings) old new
 shows_all view lints given left old new client text warnings h is wrote counted = record {
   tables = client.start.tables;
@@ -124,7 +124,7 @@ shows_all view lints given left old new client text warnings h is wrote counted 
 
 -- a front of it went out
 pub shows_front : (view : View) (lints : LintsView) (given left old new : Option (List ℕ)) (client : ClientView) (text front : List ℕ)
-    → TakesAll {C = ClientView} (λ c. c) given left (Ok client) → text ≡ text_of view lints client.start.tables → IsCut text front → Appends old new front
+    → TakesAll given left (Ok tt) client → text ≡ text_of view lints client.start.tables → IsCut text front → Appends old new front
     → Views view lints given left (Err faults.Write) old new
 shows_front view lints given left old new client text front h is cut wrote = record {
   tables = client.start.tables;

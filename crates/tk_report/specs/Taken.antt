@@ -6,8 +6,8 @@ use Rattle.tk_client.specs.declared.fault.Fault.{Fault}
 use Rattle.tk_client.specs.declared.fault.Fault.TheVariants as client
 use Rattle.tk_client.specs.Feeding.{ClientView, Took}
 use Rattle.tk_client.specs.Meaning.{empty_start, stops}
-use Rattle.tk_report.specs.declared.fault.AppFault.{AppFault}
-use Rattle.tk_report.specs.declared.fault.AppFault.TheVariants as faults
+use Rattle.tk_fault.specs.declared.fault.AppFault.{AppFault}
+use Rattle.tk_fault.specs.declared.fault.AppFault.TheVariants as faults
 use Rattle.tk_report.specs.Views.{AreAll, HaveFault, outcome_of}
 
 -- where a client begins
@@ -38,9 +38,9 @@ pub record Reading (given left : Option (List ℕ)) (lines : ℕ) (now : ClientV
   pub taken : HasTaken bytes lines now
 
 -- a client has taken all bytes of a reader, or they have a fault, or could not be read, or there was no memory
-abbrev pub TakesAll : {C : Type 0} → (C → ClientView) → Option (List ℕ) → Option (List ℕ) → Result C AppFault → Type 0
-TakesAll view given left (Ok taker) = (bytes : List ℕ) × (lines : ℕ) × AreAll given bytes × HasTaken bytes lines (view taker)
-TakesAll view given left (Err (faults.Stream lines fault)) = HaveFault given left lines fault
-TakesAll view given left (Err faults.Memory) = Unit {0}
-TakesAll view given left (Err faults.Read) = Unit {0}
-TakesAll view given left (Err other) = ⊥
+abbrev pub TakesAll : Option (List ℕ) → Option (List ℕ) → Result (Unit {0}) AppFault → ClientView → Type 0
+TakesAll given left (Ok tt) now = (bytes : List ℕ) × (lines : ℕ) × AreAll given bytes × HasTaken bytes lines now
+TakesAll given left (Err (faults.Stream lines fault)) now = HaveFault given left lines fault
+TakesAll given left (Err faults.Memory) now = Unit {0}
+TakesAll given left (Err faults.Read) now = Unit {0}
+TakesAll given left (Err other) now = ⊥

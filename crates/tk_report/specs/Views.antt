@@ -6,8 +6,8 @@ use Rattle.tk_stream.specs.Tables.{TablesView}
 use Rattle.tk_client.specs.declared.fault.Fault.{Fault}
 use Rattle.tk_client.specs.Meaning.{Outcome, Start, empty_start, goes, stops, meaning}
 use Rattle.tk_client.specs.Warnings.{LintsView, warnings_in}
-use Rattle.tk_report.specs.declared.fault.AppFault.{AppFault}
-use Rattle.tk_report.specs.declared.fault.AppFault.TheVariants as faults
+use Rattle.tk_fault.specs.declared.fault.AppFault.{AppFault}
+use Rattle.tk_fault.specs.declared.fault.AppFault.TheVariants as faults
 use Rattle.tk_report.specs.declared.view.View.{View}
 use Rattle.tk_report.specs.declared.view.View.TheVariants.{Report, Lint}
 use Rattle.tk_report.specs.Report.{report_of, lint_of}

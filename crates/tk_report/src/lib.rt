@@ -6,12 +6,11 @@
 //! - [`AppFault`]: what a run of the program stops at.
 #![tactic(auto)]
 
-mod fault;
 pub mod laws;
 mod lines;
 mod reporting;
 mod view;
 
-pub use fault::AppFault;
 pub use reporting::report;
+pub use tk_fault::AppFault;
 pub use view::{View, view_stream};

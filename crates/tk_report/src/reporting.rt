@@ -4,10 +4,10 @@ ghost use Rattle.std.specs.Option.{option_map_or};
 ghost use Rattle.tk_report.specs.Behind.{Puts};
 ghost use Rattle.tk_report.specs.Report as spec;
 
-use crate::fault::AppFault;
 use crate::lines::{put_heading, put_op, put_resource, put_task, put_warning};
 use std::alloc::{AllocError, Global};
 use tk_client::{Lints, Warning, warnings_in};
+use tk_fault::AppFault;
 use tk_stream::Tables;
 
 fn put_task_at(out: &mut String, tables: &Tables, place: usize) -> Result<(), AllocError>

@@ -1,14 +1,14 @@
 //! Views of a stream: what its tables show, once it was read to its end.
 ghost use Rattle.std.specs.Prelude.{◌≡◌, ◌≤◌, ◌<◌, ◌+◌, ◌^◌, ◌++◌, ℕ, List, length, IfOk, IfErr};
-ghost use Rattle.tk_report.specs.Taken.{HasTaken, Takes, TakesAll, stop_of};
+ghost use Rattle.tk_report.specs.Taken.{HasTaken, Takes, TakesAll, first, stop_of};
 ghost use Rattle.tk_report.specs.Views as shown;
 ghost use Rattle.tk_client.specs.Warnings.{LintsView, warnings_in};
 
-use crate::fault::AppFault;
 use crate::reporting::{lines_of_warnings, report_with};
 use std::alloc::{AllocError, Global};
 use std::io::{Read, Write};
 use tk_client::{Client, Fault, FeedError, Lints, Warning};
+use tk_fault::AppFault;
 use tk_stream::{Tables, send};
 
 /// What is written of a stream's tables.
@@ -53,19 +53,17 @@ fn feed_more(client: &mut Client, lines: u64, piece: &[u8]) -> Result<u64, AppFa
     }
 }
 
-// A client that has taken the reader's bytes to their end. It gives up after 2^32 reads.
-fn take_stream<R: Read>(alloc: Global, reader: &mut R) -> Result<Client, AppFault>
-    ensures { TakesAll (λ c. c) (R.remaining reader.old) (R.remaining reader.new) result }
+// Feeds a new client with the reader's bytes to their end. It gives up after 2^32 reads.
+fn take_stream<R: Read>(client: &mut Client, reader: &mut R) -> Result<(), AppFault>
+    requires { client.old ≡ first }
+    ensures { TakesAll (R.remaining reader.old) (R.remaining reader.new) result client.new }
 {
-    let Ok(mut client) = Client::new(alloc, MAX_LINE) else {
-        return Err(AppFault::Memory);
-    };
     let mut piece = [0u8; PIECE];
     let mut lines = 0;
     for _ in 0u64..4_294_967_296 {
         match reader.read(&mut piece) {
-            Ok(0) => return Ok(client),
-            Ok(n) => lines = feed_more(&mut client, lines, &piece[..n])?,
+            Ok(0) => return Ok(()),
+            Ok(n) => lines = feed_more(client, lines, &piece[..n])?,
             Err(_) => return Err(AppFault::Read),
         }
     }
@@ -85,6 +83,34 @@ fn text_of(
     match view {
         View::Report => report_with(alloc, tables, warnings),
         View::Lint => lines_of_warnings(alloc, tables, warnings),
+    }
+}
+
+// What `view_stream` does by a new client.
+fn view_by<R: Read, W: Write>(
+    client: &mut Client,
+    alloc: Global,
+    reader: &mut R,
+    writer: &mut W,
+    view: View,
+    lints: &Lints,
+) -> Result<u64, AppFault>
+    requires { client.old ≡ first }
+    ensures views { shown.Views view lints.now (R.remaining reader.old) (R.remaining reader.new) result
+        (W.contents writer.old) (W.contents writer.new) }
+    ensures unwritten { IfErr result (λ fault. (shown.IsOfWriter fault → ⊥) → writer.new ≡ writer.old) }
+{
+    take_stream(client, reader)?;
+    let Ok(list) = client.warnings(lints) else {
+        return Err(AppFault::Memory);
+    };
+    let warnings = list.as_slice();
+    let Ok(text) = text_of(alloc, view, client.tables(), warnings) else {
+        return Err(AppFault::Memory);
+    };
+    match send(writer, text.as_slice()) {
+        Ok(()) => Ok(warnings.len() as u64),
+        Err(_) => Err(AppFault::Write),
     }
 }
 
@@ -108,16 +134,8 @@ pub fn view_stream<R: Read, W: Write>(
     // Only a writer's fault comes once something was written.
     ensures unwritten { IfErr result (λ fault. (shown.IsOfWriter fault → ⊥) → writer.new ≡ writer.old) }
 {
-    let client = take_stream(alloc, reader)?;
-    let Ok(list) = client.warnings(lints) else {
-        return Err(AppFault::Memory);
-    };
-    let warnings = list.as_slice();
-    let Ok(text) = text_of(alloc, view, client.tables(), warnings) else {
-        return Err(AppFault::Memory);
-    };
-    match send(writer, text.as_slice()) {
-        Ok(()) => Ok(warnings.len() as u64),
-        Err(_) => Err(AppFault::Write),
+    match Client::new(alloc, MAX_LINE) {
+        Ok(mut client) => view_by(&mut client, alloc, reader, writer, view, lints),
+        Err(_) => Err(AppFault::Memory),
     }
 }

@@ -2,7 +2,6 @@
 
 mod app;
 mod damaged;
-mod live;
 mod report;
 mod scripts;
 mod streams;

@@ -2,7 +2,7 @@ use Rattle.std.proofs.Common.{◌≡◌, [], ◌∷◌, List, ℕ, Option, Some,
 use Rattle.std.specs.Io.KnownBytes.{Appends}
 use Rattle.std.proofs.lemmas.List.{append-nil}
 use Rattle.clap.specs.Values.{kind_of}
-use Rattle.tk_report.specs.declared.fault.AppFault.TheVariants as faults
+use Rattle.tk_fault.specs.declared.fault.AppFault.TheVariants as faults
 use Rattle.taskscope.specs.Program.{Does}
 use Rattle.taskscope.specs.Requests.{AsksFor, IsPlain, asked, refusals, texts}
 use Rattle.taskscope.specs.declared.command_line.Request.{Request}

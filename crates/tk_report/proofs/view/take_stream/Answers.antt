@@ -6,7 +6,7 @@ use Rattle.tk_report.proofs.view.take_stream.Goals as goal
 
 pub loop-init : goal.loop-init
 loop-init g c = record {
-  reading = record { bytes = []; read = Consumes-nil (g.R.Read.remaining c.args.reader.now); taken = begins c.in-Ok.client c.in-Ok.ensures.ok };
+  reading = record { bytes = []; read = Consumes-nil (g.R.Read.remaining c.args.reader.now); taken = begins c.args.client.now c.requires };
   few = omega arith;
 }
 
@@ -20,16 +20,16 @@ returns-in-Ok-eq0 g c =
       r.taken,
     )
 
-pub returns-in_err-lines-in-Ok-read : goal.returns-in_err-lines-in-Ok-read
-returns-in_err-lines-in-Ok-read g c =
+pub returns-in_err-lines-in-Ok : goal.returns-in_err-lines-in-Ok
+returns-in_err-lines-in-Ok g c =
     let r = c.loop.invariant.reading in
     let p = err_from_is_err_and c.from_residual.result c.from_residual.ensures.1 in
-    rw (p.1, p.2) (stops_all _ _ _ _ c.loop.lines c.loop.client c.feed_more.new.client c.in_err-lines-in-Ok-read.field-0.0 r c.in-Ok-read.ensures.bytes.0 (c.in_err-lines-in-Ok-read.ensures.takes r.bytes r.taken))
+    rw (p.1, p.2) (stops_all _ _ _ _ c.loop.lines c.loop.client c.feed_more.new.client c.in_err-lines-in-Ok.field-0.0 r c.in-Ok.ensures.bytes.0 (c.in_err-lines-in-Ok.ensures.takes r.bytes r.taken))
 
 pub loop-preserved : goal.loop-preserved
 loop-preserved g c =
     let r = c.loop.invariant.reading in
     record {
-      reading = reads_more _ _ _ _ c.loop.lines c.in_ok-lines-in-Ok-read.lines c.loop.client c.feed_more.new.client r c.in-Ok-read.ensures.bytes.0 (c.in_ok-lines-in-Ok-read.ensures.takes r.bytes r.taken);
-      few = omega (arith, c.loop.invariant.few, c.in_ok-lines-in-Ok-read.ensures.few);
+      reading = reads_more _ _ _ _ c.loop.lines c.in_ok-lines-in-Ok.lines c.loop.client c.feed_more.new.client r c.in-Ok.ensures.bytes.0 (c.in_ok-lines-in-Ok.ensures.takes r.bytes r.taken);
+      few = omega (arith, c.loop.invariant.few, c.in_ok-lines-in-Ok.ensures.few);
     }

@@ -1,7 +1,7 @@
 //! What a run of the program stops at.
 ghost use Rattle.std.specs.Prelude.{◌≡◌, Some};
 ghost use Rattle.std.specs.Fmt.{DisplaysOnOk};
-ghost use Rattle.tk_report.specs.Faults as spec;
+ghost use Rattle.tk_fault.specs.Faults as spec;
 
 use std::error::Error;
 use std::fmt;

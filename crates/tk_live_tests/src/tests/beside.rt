@@ -6,9 +6,9 @@ use std::alloc::Global;
 use std::process::Abort;
 use std::sync::Wait;
 use std::thread::Threads;
+use tk_fault::AppFault;
 use tk_live::{Open, run_script};
 use tk_plain::run_plain;
-use tk_report::AppFault;
 
 // What each line of a stream begins with that has lost nothing.
 const NONE_DROPPED: &[u8] = b"{\"dropped\":[0,0,0],";

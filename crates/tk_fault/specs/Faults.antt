@@ -2,8 +2,8 @@
 use Rattle.std.specs.Prelude.{ℕ, List, ◌++◌, codes, decimal}
 use Rattle.tk_client.specs.declared.fault.Fault.{Fault}
 use Rattle.tk_client.specs.declared.fault.Fault.TheVariants as client
-use Rattle.tk_report.specs.declared.fault.AppFault.{AppFault}
-use Rattle.tk_report.specs.declared.fault.AppFault.TheVariants.{Memory, Read, Write, Script, Stream}
+use Rattle.tk_fault.specs.declared.fault.AppFault.{AppFault}
+use Rattle.tk_fault.specs.declared.fault.AppFault.TheVariants.{Memory, Read, Write, Script, Stream}
 
 -- each fault has a number of its own
 abbrev pub code_of : AppFault → ℕ

@@ -1,4 +1,0 @@
-//! Tests of `tk_live`: scripts that are made at random, beside the plain run.
-
-mod beside;
-mod random;
