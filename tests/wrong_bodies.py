@@ -177,6 +177,8 @@ def judge_alone(status, said):
         return "LET THROUGH: the function is still proved"
     if status != 1:
         return "BAD EDIT: the prover could not tell"
+    if re.search(r"^fn .*: no proof: .*does not cover", said, re.M):
+        return "BAD EDIT: the prover does not cover the body, so no contract was tried"
     first = reason(said)
     if first:
         return "refused: " + first
