@@ -1,7 +1,7 @@
 //! How the layers are used together: three tasks, from the console that records them to their report.
 //!
 //! `yield` wakes itself three times, `lose` drops its only waker, and `hold` keeps one that nobody calls.
-ghost use Rattle.std.specs.Prelude.{◌≡◌, ℕ, List, IfOk, IfErr, OnOk};
+ghost use Rattle.std.specs.Prelude.{◌≡◌, ℕ, List, Ok, IfOk, IfErr, OnOk};
 ghost use Rattle.tk_aggregator.specs.Aggregates.{new_aggregating};
 ghost use Rattle.tk_stream.specs.Streams.{IsStreamTo};
 ghost use Rattle.tk_app.specs.Demo.{Demonstrates, IsReportOfAStream};
@@ -205,14 +205,23 @@ fn report_by<R: Wait>(
     report(alloc, tables, &Lints::default())
 }
 
+// A value by itself, in a function that knows nothing of it: how it ends is dear to prove where its fields are known.
+fn boxed<T: Drop, E: Drop>(alloc: Global, made: Result<T, E>) -> Result<Box<T>, AppFault>
+    ensures ok { IfOk result (λ own. made ≡ Ok own.value) }
+    ensures memory { IfErr result (λ fault. fault ≡ AppFault.Memory) }
+{
+    match made {
+        Ok(value) => Box::new(alloc, value).map_err(|_| AppFault::Memory),
+        Err(_) => Err(AppFault::Memory),
+    }
+}
+
 fn text_of<R: Wait>(rt: &R, alloc: Global, taker: &mut Taker, now: u64) -> Result<Vec<u8>, AppFault>
     ensures ok { IfOk result (λ text. IsReportOfAStream text.items) }
     ensures memory { IfErr result (λ fault. fault ≡ AppFault.Memory) }
 {
-    match Aggregator::new(alloc, 0) {
-        Ok(mut aggregator) => report_by(rt, alloc, &mut aggregator, taker, now),
-        Err(_) => Err(AppFault::Memory),
-    }
+    let mut aggregator = boxed(alloc, Aggregator::new(alloc, 0))?;
+    report_by(rt, alloc, &mut aggregator, taker, now)
 }
 
 fn show_recorded<R: Wait + RandomSource + AllocGlobal>(

@@ -6,23 +6,23 @@ use Rattle.std.proofs.lemmas.Bool.{cases_eq}
 use Rattle.std.specs.Option.{option_map_or}
 use Rattle.tk_stream.specs.Streams.{Sending}
 use Rattle.tk_live.specs.Blocks.{Block, Wakers, no_lines, is_named, with_line, lines_of_worker, lines_of_other}
-use Rattle.tk_live.specs.Commands.{Said, Line, says, bad, skipped, joins, works, is_skipped, block_said, block_line, line_of}
-use Rattle.tk_live.specs.Commands as said
+use Rattle.tk_script.specs.Commands.{Said, Line, says, bad, skipped, joins, works, is_skipped, block_said, block_line, line_of}
+use Rattle.tk_script.specs.Commands as said
 use Rattle.tk_live.specs.Course.{Course, start_of_all, step, step_on, joined, line_after}
 use Rattle.tk_live.specs.Runs.{StandsFor, Stays, Keeps, IsOpen, Came, BlockCame, LineCame, block_of}
 use Rattle.tk_live.specs.Script.{Fronts}
 use Rattle.tk_live.specs.Stops.{Stops, line_stop, stop_inside, stop_outside, LineStops, LineLeaves, LineMayFail, MayFailWhere, MayFailInside, MayFailOutside, Closes, EndsIn, work_stop}
 use Rattle.tk_live.specs.Threads.{Apart}
-use Rattle.tk_live.specs.declared.block.BlockSaid.{BlockSaid}
-use Rattle.tk_live.specs.declared.block.BlockSaid.TheVariants as blocks
+use Rattle.tk_script.specs.declared.block.BlockSaid.{BlockSaid}
+use Rattle.tk_script.specs.declared.block.BlockSaid.TheVariants as blocks
 use Rattle.tk_live.specs.declared.block.OpenBlock.{OpenBlock}
-use Rattle.tk_live.specs.declared.block.Worker.{Worker}
-use Rattle.tk_live.specs.declared.block.Worker.TheVariants.{One, Two}
-use Rattle.tk_live.specs.declared.block.WorkerLine.{WorkerLine}
+use Rattle.tk_script.specs.declared.block.Worker.{Worker}
+use Rattle.tk_script.specs.declared.block.Worker.TheVariants.{One, Two}
+use Rattle.tk_script.specs.declared.block.WorkerLine.{WorkerLine}
 use Rattle.tk_live.specs.declared.interpreter.Interpreter.{Interpreter}
-use Rattle.tk_live.specs.declared.stop.Stop.{Stop}
-use Rattle.tk_live.specs.declared.stop.Stop.TheVariants.{BadCommand, Memory, WriteFault}
-use Rattle.tk_live.specs.declared.settings.Settings.{Settings}
+use Rattle.tk_script.specs.declared.stop.Stop.{Stop}
+use Rattle.tk_script.specs.declared.stop.Stop.TheVariants.{BadCommand, Memory, WriteFault}
+use Rattle.tk_script.specs.declared.settings.Settings.{Settings}
 use Rattle.tk_live.proofs.Lines.{unsent, no_front}
 use Rattle.tk_live.proofs.Moving.{named_before}
 use Rattle.tk_live.proofs.Standing.{unmarked, rests}

@@ -15,7 +15,7 @@ use Rattle.tk_stream.specs.Streams.{Sending}
 use Rattle.tk_live.specs.Course.{Course}
 use Rattle.tk_live.specs.Ran.{picked, AreLinesOf}
 use Rattle.tk_live.specs.Runs.{Keeps, offer_tells, held_tells}
-use Rattle.tk_live.specs.declared.settings.Settings.{Settings}
+use Rattle.tk_script.specs.declared.settings.Settings.{Settings}
 
 -- what one recorder kept is what was taken of it, and then what is left of it
 pub kept_is : (r : Recording) (t after : Taking) (back : Retiring) (left : List Offer) → after ≡ finished_with t (back ∷ []) → back.offers.number ≡ 1 → back.offers.kept ≡ r.kept → AreLeft after left → t.recorders ≡ 1

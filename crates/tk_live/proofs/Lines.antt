@@ -7,17 +7,17 @@ use Rattle.std.proofs.lemmas.List.{append-nil}
 use Rattle.std.proofs.lemmas.List.Sums.{fold-append, count_by-le-length}
 use Rattle.std.proofs.lemmas.List.Splits.{length-slice_split}
 use Rattle.tk_stream.specs.Streams.{Sending}
-use Rattle.tk_live.specs.Commands.{Said, Line, says, bad, is_setting}
-use Rattle.tk_live.specs.Commands as said
+use Rattle.tk_script.specs.Commands.{Said, Line, says, bad, is_setting}
+use Rattle.tk_script.specs.Commands as said
 use Rattle.tk_live.specs.Course.{Course, step, step_on, start_of_all, line_after, course_of}
-use Rattle.tk_live.specs.Pieces.{pieces_at}
+use Rattle.tk_script.specs.Pieces.{pieces_at}
 use Rattle.tk_live.specs.Runs.{StandsFor, Does, Comes}
 use Rattle.tk_live.specs.Script.{FrontOf}
 use Rattle.tk_live.specs.Stops.{Goes, AllGo}
 use Rattle.tk_live.specs.declared.interpreter.Interpreter.{Interpreter}
-use Rattle.tk_live.specs.declared.stop.Stop.{Stop}
-use Rattle.tk_live.specs.declared.stop.Stop.TheVariants.{BadCommand, NoSuchItem, Call, OffersSpent, Clock, NumbersSpent, Memory, WriteFault, NoThread, Stopped}
-use Rattle.tk_live.specs.declared.settings.Settings.{Settings}
+use Rattle.tk_script.specs.declared.stop.Stop.{Stop}
+use Rattle.tk_script.specs.declared.stop.Stop.TheVariants.{BadCommand, NoSuchItem, Call, OffersSpent, Clock, NumbersSpent, Memory, WriteFault, NoThread, Stopped}
+use Rattle.tk_script.specs.declared.settings.Settings.{Settings}
 
 -- no line was sent
 pub unsent : (i : Interpreter) (settings : Settings) (k : Course) (kept : List Bool) (sent : List Sending) → StandsFor i settings k kept sent → StandsFor i settings k kept (sent ++ [])

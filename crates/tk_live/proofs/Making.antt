@@ -16,7 +16,7 @@ use Rattle.tk_aggregator.specs.Aggregates.{Aggregating}
 use Rattle.tk_aggregator.specs.Told.{made_resource, made_op}
 use Rattle.tk_live.specs.Course.{Course, place, resource_info, new_resource, resource_made, op_info, new_op}
 use Rattle.tk_live.specs.Runs.{numbers_of, Keeps}
-use Rattle.tk_live.specs.declared.settings.Settings.{Settings}
+use Rattle.tk_script.specs.declared.settings.Settings.{Settings}
 use Rattle.tk_live.proofs.Offers.{recorded}
 use Rattle.tk_live.proofs.Recording.{nothing_more, offered_more, resource_id_is, op_id_is}
 

@@ -5,7 +5,7 @@ use Rattle.std.proofs.lemmas.Option.{none-some}
 use Rattle.std.specs.HashMap.{HashMap, get}
 use Rattle.tk_live.specs.Blocks.{is_named, is_last}
 use Rattle.tk_live.specs.Threads.{spends, AreMarked}
-use Rattle.tk_live.specs.declared.block.WorkerLine.{WorkerLine}
+use Rattle.tk_script.specs.declared.block.WorkerLine.{WorkerLine}
 
 -- lines that don't name a waker don't spend it
 unspent : (n : ℕ) (ls : List WorkerLine) → is_named n ls ≡ false → spends n ls ≡ false

@@ -10,7 +10,7 @@ use borrow.Author.Tests.{ltb-true}
 use Rattle.tk_live.specs.Blocks.{is_named}
 use Rattle.tk_live.specs.Named.{live_item, with_item}
 use Rattle.tk_live.specs.Threads.{Moved, Moves}
-use Rattle.tk_live.specs.declared.block.WorkerLine.{WorkerLine}
+use Rattle.tk_script.specs.declared.block.WorkerLine.{WorkerLine}
 use Rattle.tk_live.proofs.Places.{length-set, live_within}
 
 -- what stands at a place, if it isn't empty

@@ -19,14 +19,14 @@ use Rattle.tk_aggregator.specs.Told.{Told, tells}
 use Rattle.tk_aggregator.specs.declared.stream_error.StreamError.{StreamError}
 use Rattle.tk_aggregator.specs.declared.stream_error.StreamError.TheVariants as errors
 use Rattle.tk_aggregator.proofs.FollowLemmas.{gathered_is_absorbed, gathers_stays}
-use Rattle.tk_live.specs.Commands.{publish}
+use Rattle.tk_script.specs.Commands.{publish}
 use Rattle.tk_live.specs.Course.{Due, Course}
 use Rattle.tk_live.specs.Ran.{infos_with, leaving}
 use Rattle.tk_live.specs.Runs.{StandsFor, Keeps, Takes, Sent, offer_tells, held_tells, bytes_behind}
 use Rattle.tk_live.specs.Stops.{stop_of}
 use Rattle.tk_live.specs.declared.interpreter.Interpreter.{Interpreter}
-use Rattle.tk_live.specs.declared.settings.Settings.{Settings}
-use Rattle.tk_live.specs.declared.stop.Stop.TheVariants.{Clock, NumbersSpent}
+use Rattle.tk_script.specs.declared.settings.Settings.{Settings}
+use Rattle.tk_script.specs.declared.stop.Stop.TheVariants.{Clock, NumbersSpent}
 use Rattle.tk_live.proofs.Leaving.{absorb_told, infos_leave, just_due, each_line_push}
 use Rattle.tk_live.proofs.Streams.{goes_push, tables_push, last_push}
 

@@ -13,8 +13,8 @@ use Rattle.tk_aggregator.specs.Told.{Told}
 use Rattle.tk_live.specs.Course.{Names, Course, place, task_info}
 use Rattle.tk_live.specs.Runs.{Numbers, numbers_of, Keeps, Offered}
 use Rattle.tk_live.specs.Stops.{offer_stop}
-use Rattle.tk_live.specs.declared.stop.Stop.TheVariants.{OffersSpent}
-use Rattle.tk_live.specs.declared.settings.Settings.{Settings}
+use Rattle.tk_script.specs.declared.stop.Stop.TheVariants.{OffersSpent}
+use Rattle.tk_script.specs.declared.settings.Settings.{Settings}
 
 pub nothing_more : (n : ℕ) → n + 0 ≡ n
 nothing_more n = omega arith

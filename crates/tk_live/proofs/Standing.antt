@@ -17,17 +17,17 @@ use Rattle.tk_cell.specs.Views.{Known}
 use Rattle.tk_events.specs.Items.{owner_view}
 use Rattle.tk_ledgers.specs.Handles.{Sight, Drew}
 use Rattle.tk_stream.specs.Streams.{Sending}
-use Rattle.tk_live.specs.Commands.{Said}
-use Rattle.tk_live.specs.Commands as said
+use Rattle.tk_script.specs.Commands.{Said}
+use Rattle.tk_script.specs.Commands as said
 use Rattle.tk_live.specs.Course.{Names, Course}
 use Rattle.tk_live.specs.Known.{Handled, and_call, drawn_from, owner_of, caller_of}
 use Rattle.tk_live.specs.Named.{live_item}
 use Rattle.tk_live.specs.Runs.{Numbers, numbers_of, Holds, Keeps, Stays, StandsFor, Rests}
 use Rattle.tk_live.specs.Stops.{IsReply, Leaves, if_there}
 use Rattle.tk_live.specs.declared.interpreter.Interpreter.{Interpreter}
-use Rattle.tk_live.specs.declared.stop.Stop.{Stop}
-use Rattle.tk_live.specs.declared.stop.Stop.TheVariants.{NoSuchItem}
-use Rattle.tk_live.specs.declared.settings.Settings.{Settings}
+use Rattle.tk_script.specs.declared.stop.Stop.{Stop}
+use Rattle.tk_script.specs.declared.stop.Stop.TheVariants.{NoSuchItem}
+use Rattle.tk_script.specs.declared.settings.Settings.{Settings}
 use Rattle.tk_live.proofs.Places.{live_item-map}
 
 pub from_not : (b : Bool) → true ≡ not b → b ≡ false

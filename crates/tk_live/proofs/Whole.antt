@@ -5,14 +5,14 @@ use Rattle.std.proofs.KnownBytes.{Appends-nil}
 use Rattle.tk_fault.specs.declared.fault.AppFault.{AppFault}
 use Rattle.tk_fault.specs.declared.fault.AppFault.TheVariants as faults
 use Rattle.tk_stream.specs.Streams.{Sending}
-use Rattle.tk_live.specs.Commands.{Line, settings_of}
+use Rattle.tk_script.specs.Commands.{Line, settings_of}
 use Rattle.tk_live.specs.Course.{Course, course_of}
 use Rattle.tk_live.specs.Ran.{CameOf, AreLinesOf, picked}
 use Rattle.tk_live.specs.Runs.{Stays, LinesCame}
 use Rattle.tk_live.specs.Script.{LinesWrite, RunWrites, ReadsAndRuns}
 use Rattle.tk_live.specs.Transfer.{IsReading, IsScript}
 use Rattle.tk_live.specs.declared.interpreter.Interpreter.{Interpreter}
-use Rattle.tk_live.specs.declared.settings.Settings.{Settings}
+use Rattle.tk_script.specs.declared.settings.Settings.{Settings}
 
 -- what a finished taker tells of an interpreter
 abbrev pub Ends : Interpreter → Type 0

@@ -16,10 +16,10 @@ use Rattle.tk_live.specs.Known.{Handled, caller_of}
 use Rattle.tk_live.specs.Named.{live_item, with_item}
 use Rattle.tk_live.specs.Stops.{work_stop, if_there}
 use Rattle.tk_live.specs.Threads.{callers, spends, Apart, Moves, Worked}
-use Rattle.tk_live.specs.declared.block.WakerCall.{WakerCall}
-use Rattle.tk_live.specs.declared.block.WakerCall.TheVariants as calls
-use Rattle.tk_live.specs.declared.stop.Stop.TheVariants.{BadCommand, NoSuchItem}
-use Rattle.tk_live.specs.declared.block.WorkerLine.{WorkerLine}
+use Rattle.tk_script.specs.declared.block.WakerCall.{WakerCall}
+use Rattle.tk_script.specs.declared.block.WakerCall.TheVariants as calls
+use Rattle.tk_script.specs.declared.stop.Stop.TheVariants.{BadCommand, NoSuchItem}
+use Rattle.tk_script.specs.declared.block.WorkerLine.{WorkerLine}
 use Rattle.tk_live.proofs.Moving.{put_here, put_elsewhere, none_at, all_same}
 use Rattle.tk_live.proofs.Places.{length-set, live_within, live_item-map}
 

@@ -7,11 +7,11 @@ use Rattle.tk_core.specs.declared.task.call.TaskCall.TheVariants.{WakeRef}
 use Rattle.tk_core.specs.declared.task.row.TaskRow.{TaskRow}
 use Rattle.tk_live.specs.Known.{Handled, and_call}
 use Rattle.tk_live.specs.Named.{live_item, with_item}
-use Rattle.tk_live.specs.declared.block.WakerCall.{WakerCall}
-use Rattle.tk_live.specs.declared.block.WakerCall.TheVariants as calls
-use Rattle.tk_live.specs.declared.block.WorkerLine.{WorkerLine}
-use Rattle.tk_live.specs.declared.block.Worker.{Worker}
-use Rattle.tk_live.specs.declared.block.Worker.TheVariants.{One, Two}
+use Rattle.tk_script.specs.declared.block.WakerCall.{WakerCall}
+use Rattle.tk_script.specs.declared.block.WakerCall.TheVariants as calls
+use Rattle.tk_script.specs.declared.block.WorkerLine.{WorkerLine}
+use Rattle.tk_script.specs.declared.block.Worker.{Worker}
+use Rattle.tk_script.specs.declared.block.Worker.TheVariants.{One, Two}
 
 -- what numbers name of wakers
 abbrev pub Wakers : Type 0

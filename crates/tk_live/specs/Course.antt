@@ -24,7 +24,7 @@ use Rattle.tk_core.specs.Task.{opening_row}
 use Rattle.tk_events.specs.Items.{infos_of, first_values}
 use Rattle.tk_aggregator.specs.Told.{Told, made_task, made_resource, made_op, polled}
 use Rattle.tk_live.specs.Blocks.{Block, no_lines, with_line, after_block}
-use Rattle.tk_live.specs.Commands.{Said, Line, says, opens, joins, works, task, start, finish, close, self_wake, clone, again, wake_ref, wake, release, resource, close_resource, change_resource, op, op_task, start_op, finish_op, close_op, change_op, poll_op, capacity, retention, publish, is_setting}
+use Rattle.tk_script.specs.Commands.{Said, Line, says, opens, joins, works, task, start, finish, close, self_wake, clone, again, wake_ref, wake, release, resource, close_resource, change_resource, op, op_task, start_op, finish_op, close_op, change_op, poll_op, capacity, retention, publish, is_setting}
 use Rattle.tk_live.specs.Known.{Handled, and_call, drawn_from}
 use Rattle.tk_live.specs.Named.{live_item, with_item, with_change}
 

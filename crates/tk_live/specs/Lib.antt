@@ -1,14 +1,9 @@
--- A script's text
-pub mod Pieces
-pub mod Words
-pub mod Attributes
+-- What a script's handles are
 pub mod Known
 pub mod Named
 pub mod Blocks
-pub mod Commands
 -- What its lines come to
 pub mod Course
-pub mod Refusals
 pub mod Stops
 pub mod Ran
 -- Reading a script, and what its run writes

@@ -13,8 +13,8 @@ use Rattle.tk_aggregator.specs.Aggregates.{Pairs, ReadTask, ReadResource, ReadOp
 use Rattle.tk_aggregator.specs.Told.{Told}
 use Rattle.tk_live.specs.Course.{Due, Course, start_of_all, course_of}
 use Rattle.tk_live.specs.Stops.{AllGo}
-use Rattle.tk_live.specs.Commands.{Line}
-use Rattle.tk_live.specs.declared.settings.Settings.{Settings}
+use Rattle.tk_script.specs.Commands.{Line}
+use Rattle.tk_script.specs.declared.settings.Settings.{Settings}
 
 -- infos and poll counts with what was told more, in order
 abbrev pub infos_with : Infos → List Told → Infos

@@ -16,20 +16,20 @@ use Rattle.tk_aggregator.specs.Absorbing.{infos_of}
 use Rattle.tk_aggregator.specs.Aggregates.{Aggregating, held_events}
 use Rattle.tk_aggregator.specs.Told.{Told, tells}
 use Rattle.tk_live.specs.Blocks.{Block}
-use Rattle.tk_live.specs.Commands.{Said, Line}
+use Rattle.tk_script.specs.Commands.{Said, Line}
 use Rattle.tk_live.specs.Course.{Names, Due, Course, start_of_all, step, line_after, course_of}
 use Rattle.tk_live.specs.Known.{owner_of, caller_of}
 use Rattle.tk_live.specs.Named.{EachLive}
 use Rattle.tk_live.specs.Ran.{infos_with, picked, EachIsLine, written_by}
-use Rattle.tk_live.specs.Refusals.{stop_name}
+use Rattle.tk_script.specs.Refusals.{stop_name}
 use Rattle.tk_live.specs.Script.{FrontOf, Fronts}
 use Rattle.tk_live.specs.Stops.{Stops, stop_of, line_stop, Leaves, Goes, AllGo, LineStops, LineLeaves}
 use Rattle.tk_live.specs.Threads.{Apart}
 use Rattle.tk_live.specs.declared.block.OpenBlock.{OpenBlock}
 use Rattle.tk_live.specs.declared.interpreter.Interpreter.{Interpreter}
-use Rattle.tk_live.specs.declared.settings.Settings.{Settings}
-use Rattle.tk_live.specs.declared.stop.Stop.{Stop}
-use Rattle.tk_live.specs.declared.stop.Stop.TheVariants.{BadCommand}
+use Rattle.tk_script.specs.declared.settings.Settings.{Settings}
+use Rattle.tk_script.specs.declared.stop.Stop.{Stop}
+use Rattle.tk_script.specs.declared.stop.Stop.TheVariants.{BadCommand}
 
 -- what an offer tells
 abbrev pub offer_tells : Offer → Told

@@ -8,14 +8,14 @@ use Rattle.tk_stream.specs.Streams.{Sending, MaySend, line_sent, tables_sent, la
 use Rattle.tk_stream.specs.Spelling.{sent_text}
 use Rattle.tk_stream.specs.Tables.{empty_tables}
 use Rattle.tk_live.specs.Blocks.{Block}
-use Rattle.tk_live.specs.Commands.{Said, Line, says, publish, lines_of, last_line, settings_of}
+use Rattle.tk_script.specs.Commands.{Said, Line, says, publish, lines_of, last_line, settings_of}
 use Rattle.tk_live.specs.Course.{Course, start_of_all, course_of}
 use Rattle.tk_live.specs.Ran.{Ran, CameOf, written_by}
-use Rattle.tk_live.specs.Refusals.{stop_name}
+use Rattle.tk_script.specs.Refusals.{stop_name}
 use Rattle.tk_live.specs.Stops.{AllGo, LineStops, LineLeaves}
 use Rattle.tk_live.specs.Transfer.{IsScript}
-use Rattle.tk_live.specs.declared.stop.Stop.{Stop}
-use Rattle.tk_live.specs.declared.stop.Stop.TheVariants.{BadCommand, WriteFault}
+use Rattle.tk_script.specs.declared.stop.Stop.{Stop}
+use Rattle.tk_script.specs.declared.stop.Stop.TheVariants.{BadCommand, WriteFault}
 
 -- what went out of a command that stops: at a fault of the writer a proper front of the line that was due, else nothing
 abbrev pub FrontOf : List Sending → Said → Stop → List ℕ → Type 0

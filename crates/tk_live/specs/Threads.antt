@@ -8,7 +8,7 @@ use Rattle.tk_ledgers.specs.Tasks.{TaskSight}
 use Rattle.tk_live.specs.Known.{caller_of}
 use Rattle.tk_live.specs.Named.{live_item}
 use Rattle.tk_live.specs.Blocks.{Wakers, after_lines, is_last, is_named}
-use Rattle.tk_live.specs.declared.block.WorkerLine.{WorkerLine}
+use Rattle.tk_script.specs.declared.block.WorkerLine.{WorkerLine}
 
 -- what is known of the wakers of places
 abbrev pub callers : List (Option TaskSight) → Wakers

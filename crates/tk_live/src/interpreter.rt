@@ -9,15 +9,13 @@ mod resources;
 mod tasks;
 mod wakers;
 
-use crate::command::Command;
-use crate::settings::Settings;
-use crate::stop::Stop;
 use std::alloc::Global;
 use std::io::Write;
 use std::sync::Wait;
 use tk_aggregator::{Aggregator, StreamError};
 use tk_events::{Console, Limits, Recorder, RetiredRecorder, Taker};
 use tk_ledgers::{OpOwner, ResourceOwner, ResourceUser, TaskOwner, WakerHandle};
+use tk_script::{Command, Settings, Stop};
 
 /// The recorder, the taker and the aggregator of a script, and the handles that its numbers name.
 #[derive(Drop)]
@@ -51,11 +49,11 @@ impl Interpreter {
     ghost use Rattle.std.specs.Prelude.{◌≡◌, ◌≤◌, ◌||◌, not, ℕ, List, [], Bool, IfOk};
     ghost use Rattle.std.specs.Vec.{vec_capacity};
     ghost use Rattle.tk_stream.specs.Streams.{Sending};
-    ghost use Rattle.tk_live.specs.Commands.{view, IsGood, capacity, retention, is_setting};
+    ghost use Rattle.tk_script.specs.Commands.{view, IsGood, capacity, retention, is_setting};
     ghost use Rattle.tk_live.specs.Course.{Course, step, step_on, start_of_all};
     ghost use Rattle.tk_live.specs.Ran.{picked, AreLinesOf};
     ghost use Rattle.tk_live.specs.Runs.{StandsFor, Stays, Comes, Does};
-    ghost use Rattle.tk_live.specs.declared.settings.Settings.{Settings};
+    ghost use Rattle.tk_script.specs.declared.settings.Settings.{Settings};
 
     pub(crate) fn new(alloc: Global, settings: Settings) -> Result<Interpreter, Stop>
         requires { (1 ≤ settings.capacity) × (settings.capacity ≤ 65536) }

@@ -4,17 +4,17 @@ ghost use Rattle.tk_live.specs.Blocks.{after_lines, after_block};
 ghost use Rattle.tk_live.specs.Threads.{callers, Apart, Moved, Moves, Worked};
 ghost use Rattle.tk_live.specs.Runs.{block_of};
 ghost use Rattle.tk_live.specs.Stops.{EndsIn, Closes};
-ghost use Rattle.tk_live.specs.declared.stop.Stop.TheVariants as stops;
+ghost use Rattle.tk_script.specs.declared.stop.Stop.TheVariants as stops;
 
-use crate::block::{OpenBlock, WorkerLine};
+use crate::block::OpenBlock;
 use crate::gate::Gate;
 use crate::seats::{put_seat, take_seat};
-use crate::stop::Stop;
 use crate::worker::{Wakers, work};
 use std::alloc::{AllocError, Global};
 use std::snapshot::Snapshot;
 use std::sync::Wait;
 use std::thread::{Promise, PromisedHandle, Scope, Threads, scope, scope_env};
+use tk_script::{Stop, WorkerLine};
 
 // So many empty places.
 fn no_wakers(alloc: Global, count: usize) -> Result<Wakers, AllocError>

@@ -2,86 +2,24 @@
 //!
 //! A line is a command, its words between single spaces. Empty lines and lines that begin with `#` are
 //! skipped, and counted. A script stops at its first fault, and what the lines before it wrote stays.
-ghost use Rattle.std.specs.Prelude.{◌≡◌, ◌≤◌, [], ℕ, List, length, IfOk, IfSome};
+ghost use Rattle.std.specs.Prelude.{◌≡◌, ◌≤◌, [], ℕ, List, length};
 ghost use Rattle.std.specs.Io.KnownBytes.{Appends};
-ghost use Rattle.tk_live.specs.Commands.{is_skipped, ends_line, last_line, block_line, line_of, lines_of, settings_said, settings_of};
+ghost use Rattle.tk_script.specs.Commands.{ends_line, last_line, block_line, line_of, lines_of, settings_of};
 ghost use Rattle.tk_live.specs.Course.{start_of_all};
-ghost use Rattle.tk_live.specs.Pieces.{pieces_at};
+ghost use Rattle.tk_script.specs.Pieces.{pieces_at};
 ghost use Rattle.tk_live.specs.Runs.{StandsFor, BlockComes, LineComes, LinesCame};
 ghost use Rattle.tk_live.specs.Script.{RunWrites, ReadsAndRuns};
 
-use crate::block::{BlockSaid, OpenBlock, block_said};
-use crate::command::{Command, command_of};
+use crate::block::OpenBlock;
 use crate::gate::Gate;
 use crate::interpreter::Interpreter;
-use crate::pieces::Pieces;
-use crate::settings::Settings;
-use crate::stop::Stop;
 use crate::transfer::{MAX_SCRIPT, read_script};
-use std::alloc::{AllocError, Global};
+use std::alloc::Global;
 use std::io::{Read, Write};
 use std::sync::Wait;
 use std::thread::Threads;
 use tk_fault::AppFault;
-
-/// How many events the console holds where the script doesn't say, and no item leaves there.
-const DEFAULT: Settings = Settings {
-    capacity: 1_024,
-    retention: None,
-};
-
-fn is_skipped(line: &[u8]) -> bool
-    ensures { result ≡ is_skipped line.now }
-{
-    match line.first() {
-        Some(byte) => *byte == b'#',
-        None => true,
-    }
-}
-
-// The settings behind a line, if further ones may be said there.
-fn settings_by(
-    alloc: Global,
-    line: &[u8],
-    settings: Settings,
-) -> Result<Option<Settings>, AllocError>
-    requires { (1 ≤ settings.capacity) × (settings.capacity ≤ 65536) }
-    ensures said { IfOk result (λ o. o ≡ settings_said settings (line_of line.now)) }
-    ensures fits { IfOk result (λ o. IfSome o (λ s. (1 ≤ s.capacity) × (s.capacity ≤ 65536))) }
-{
-    if is_skipped(line) {
-        return Ok(Some(settings));
-    }
-    if block_said(line).is_some() {
-        return Ok(None);
-    }
-    match command_of(alloc, line)? {
-        Some(Command::Capacity { count }) => Ok(Some(Settings {
-            capacity: count,
-            ..settings
-        })),
-        Some(Command::Retention { span }) => Ok(Some(Settings {
-            retention: Some(span),
-            ..settings
-        })),
-        _ => Ok(None),
-    }
-}
-
-// The settings of a script: those that it says before every other command.
-fn settings_in(alloc: Global, script: &[u8]) -> Result<Settings, AllocError>
-    ensures said { IfOk result (λ s. s ≡ settings_of (lines_of script.now)) }
-    ensures fits { IfOk result (λ s. (1 ≤ s.capacity) × (s.capacity ≤ 65536)) }
-{
-    let mut settings = DEFAULT;
-    for line in Pieces::new(script, b'\n') {
-        match settings_by(alloc, line, settings)? {
-            Some(more) => settings = more,
-            None => return Ok(settings),
-        }
-    }
-    Ok(settings)
-}
+use tk_script::{BlockSaid, Pieces, Stop, block_said, command_of, is_skipped, settings_in};
 
 // A line that only blocks have.
 fn run_block_line<R: Threads + Wait + Sync, G: Gate + Sync>(

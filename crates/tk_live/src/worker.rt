@@ -4,11 +4,11 @@ ghost use Rattle.tk_live.specs.Blocks.{after_call, after_line, after_lines};
 ghost use Rattle.tk_live.specs.Known.{caller_of};
 ghost use Rattle.tk_live.specs.Threads.{callers};
 
-use crate::block::{WakerCall, WorkerLine};
 use crate::gate::Gate;
 use crate::seats::{put_seat, take_seat};
 use std::sync::Wait;
 use tk_ledgers::{Origin, WakerHandle};
+use tk_script::{WakerCall, WorkerLine};
 
 /// The wakers of their places, from number 1, where they are there.
 pub(crate) type Wakers = Vec<Option<WakerHandle>>;

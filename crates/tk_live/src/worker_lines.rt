@@ -2,10 +2,10 @@
 ghost use Rattle.std.specs.Prelude.{◌≡◌};
 ghost use Rattle.tk_live.specs.Blocks as blocks;
 
-use crate::block::{WakerCall, WorkerLine};
 use std::alloc::{AllocError, Global};
 use std::collections::HashMap;
 use std::marker::Model;
+use tk_script::{WakerCall, WorkerLine};
 
 fn is_last(call: WakerCall) -> bool
     ensures { result ≡ blocks.is_last call }
@@ -27,7 +27,7 @@ pub(crate) struct WorkerLines {
 impl Model for WorkerLines {
     ghost use Rattle.std.specs.Prelude.{List};
     ghost use Rattle.tk_live.specs.Threads.{AreMarked};
-    ghost use Rattle.tk_live.specs.declared.block.WorkerLine.{WorkerLine};
+    ghost use Rattle.tk_script.specs.declared.block.WorkerLine.{WorkerLine};
 
     ghost Value = { List WorkerLine };
 

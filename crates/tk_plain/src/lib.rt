@@ -1,6 +1,6 @@
 //! The run of a script on plain rows, without ledgers and events, which tests and measures compare with the run over live ledgers.
 //!
-//! It reads commands as `tk_live` does, steps the row of each item by its calls, and writes the lines between whole tables.
+//! It reads commands by `tk_script`, as that does, steps the row of each item by its calls, and writes the lines between whole tables.
 //! Nothing is dropped, so the two runs write the same where the live one drops nothing. Its contracts promise nothing.
 #![tactic(auto)]
 

@@ -6,7 +6,7 @@ use crate::run::Plain;
 use std::alloc::{AllocError, Global};
 use std::io::Write;
 use tk_ids::Dropped;
-use tk_live::Stop;
+use tk_script::Stop;
 use tk_stream::{Line, LineError, Tables, send};
 
 /// The greatest number of a line.

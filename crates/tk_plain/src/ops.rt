@@ -7,7 +7,7 @@ use crate::tasks::made_task;
 use std::alloc::Global;
 use tk_core::{OpCall, OpRow};
 use tk_ids::{AsyncOpId, AttrInfos, AttrValue, Attrs, IdError, Name, OpInfo, ResourceId, TaskId};
-use tk_live::Stop;
+use tk_script::Stop;
 use tk_stream::Tables;
 
 fn info_of(

@@ -6,7 +6,7 @@ use crate::tasks::location_of;
 use std::alloc::Global;
 use tk_core::{ResourceCall, ResourceRow};
 use tk_ids::{AttrInfos, AttrValue, Attrs, IdError, Name, ResourceId, ResourceInfo};
-use tk_live::Stop;
+use tk_script::Stop;
 use tk_stream::Tables;
 
 fn info_of(

@@ -5,7 +5,7 @@ use std::alloc::{AllocError, Global};
 use std::io::Write;
 use tk_core::{OpCall, ResourceCall, TaskCall};
 use tk_ids::{IdBlock, IdError};
-use tk_live::{Command, Stop};
+use tk_script::{Command, Stop};
 use tk_stream::Tables;
 
 /// The task of a waker, by its number, and whether the waker is spent.

@@ -4,14 +4,7 @@ use crate::run::Plain;
 use std::alloc::Global;
 use std::io::Write;
 use tk_fault::AppFault;
-use tk_live::{Stop, command_of};
-
-fn is_skipped(line: &[u8]) -> bool {
-    match line.first() {
-        Some(byte) => *byte == b'#',
-        None => true,
-    }
-}
+use tk_script::{Stop, command_of, is_skipped};
 
 fn run_line<W: Write>(
     plain: &mut Plain,

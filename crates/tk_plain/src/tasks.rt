@@ -4,7 +4,7 @@ use crate::run::{Plain, Waker, place_of};
 use std::alloc::Global;
 use tk_core::{TaskCall, TaskRow};
 use tk_ids::{IdError, Location, Name, TaskId, TaskInfo, TaskKind};
-use tk_live::Stop;
+use tk_script::Stop;
 use tk_stream::Tables;
 
 /// A place on a line of the script.

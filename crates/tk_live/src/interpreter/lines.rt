@@ -6,10 +6,10 @@ ghost use Rattle.tk_stream.specs.Streams.{MaySend};
 ghost use Rattle.tk_aggregator.specs.Aggregates.{IsDue, IsSound, Refuses, after_line, line_at, sending_at};
 
 use super::Interpreter;
-use crate::stop::Stop;
 use std::io::Write;
 use std::sync::Wait;
 use tk_aggregator::{Aggregator, StreamError};
+use tk_script::Stop;
 
 // The next line, as a snapshot or not.
 fn write_line<W: Write>(
@@ -54,7 +54,7 @@ fn send<W: Write>(
 
 impl Interpreter {
     ghost use Rattle.std.specs.Prelude.{ℕ};
-    ghost use Rattle.tk_live.specs.Commands as said;
+    ghost use Rattle.tk_script.specs.Commands as said;
     ghost use Rattle.tk_live.specs.Course.{step};
     ghost use Rattle.tk_live.specs.Runs.{Comes};
 

@@ -9,13 +9,13 @@ ghost use Rattle.tk_cell.specs.Calls.{Calls};
 
 use super::Interpreter;
 use crate::seats::{is_made, put_seat, take_seat};
-use crate::stop::Stop;
 use std::alloc::Global;
 use std::sync::Wait;
 use tk_core::{AttrOp, Refusal};
 use tk_events::RecordError;
 use tk_ids::{Attrs, IdBlock, IdError, Name, OpSpec, ResourceId, TaskId};
 use tk_ledgers::OpOwner;
+use tk_script::Stop;
 
 // The id of the resource of this number.
 fn resource_id(number: u64) -> Result<ResourceId, IdError>
@@ -65,7 +65,7 @@ fn change<R: Wait>(rt: &R, owner: &mut OpOwner, index: u64, op: AttrOp) -> Resul
 impl Interpreter {
     ghost use Rattle.std.specs.Prelude.{◌≡◌, ℕ, true};
     ghost use Rattle.tk_ids.specs.Names.{is_name};
-    ghost use Rattle.tk_live.specs.Commands as said;
+    ghost use Rattle.tk_script.specs.Commands as said;
     ghost use Rattle.tk_live.specs.Runs.{Does};
 
     // An operation on a resource.

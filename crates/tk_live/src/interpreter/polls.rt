@@ -4,11 +4,11 @@ ghost use Rattle.tk_ids.specs.Ids.{id_of};
 
 use super::Interpreter;
 use crate::seats::is_made;
-use crate::stop::Stop;
 use std::alloc::Global;
 use std::sync::Wait;
 use tk_events::PollOp;
 use tk_ids::{AsyncOpId, IdBlock, IdError, Name, ResourceId, TaskId};
+use tk_script::Stop;
 
 // The ids of the task, the resource and the operation of these numbers.
 fn ids_of(task: u64, resource: u64, op: u64) -> Result<(TaskId, ResourceId, AsyncOpId), IdError>
@@ -41,7 +41,7 @@ fn poll_of(
 impl Interpreter {
     ghost use Rattle.std.specs.Prelude.{◌≡◌, ℕ, true};
     ghost use Rattle.tk_ids.specs.Names.{is_name};
-    ghost use Rattle.tk_live.specs.Commands as said;
+    ghost use Rattle.tk_script.specs.Commands as said;
     ghost use Rattle.tk_live.specs.Runs.{Does};
 
     // A poll operation on a resource, by an operation and a task.

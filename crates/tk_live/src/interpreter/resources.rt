@@ -10,13 +10,13 @@ ghost use Rattle.tk_live.specs.Course as course;
 use super::Interpreter;
 use super::tasks::place_of;
 use crate::seats::{put_seat, take_seat};
-use crate::stop::Stop;
 use std::alloc::Global;
 use std::sync::Wait;
 use tk_core::{AttrOp, Refusal};
 use tk_events::RecordError;
 use tk_ids::{Attrs, IdError, Name, ResourceSpec};
 use tk_ledgers::ResourceUser;
+use tk_script::Stop;
 
 // What is told of a resource on a line of the script.
 fn spec_of(
@@ -57,7 +57,7 @@ fn change<R: Wait>(rt: &R, user: &mut ResourceUser, index: u64, op: AttrOp) -> R
 impl Interpreter {
     ghost use Rattle.std.specs.Prelude.{◌≡◌, ℕ, true};
     ghost use Rattle.tk_ids.specs.Names.{is_name};
-    ghost use Rattle.tk_live.specs.Commands as said;
+    ghost use Rattle.tk_script.specs.Commands as said;
     ghost use Rattle.tk_live.specs.Runs.{Does};
 
     // A resource and a user of it, on a line of this number.

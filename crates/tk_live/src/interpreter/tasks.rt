@@ -4,11 +4,11 @@ ghost use Rattle.tk_live.specs.Course as course;
 
 use super::Interpreter;
 use crate::seats::{put_seat, take_seat};
-use crate::stop::Stop;
 use std::alloc::Global;
 use std::sync::Wait;
 use tk_events::RecordError;
 use tk_ids::{IdError, Location, Name, TaskKind, TaskSpec};
+use tk_script::Stop;
 
 /// A place on a line of the script.
 pub(super) fn place_of(alloc: Global, line: u32) -> Result<Location, IdError>
@@ -38,7 +38,7 @@ fn spec_of(alloc: Global, line: u32, kind: TaskKind, name: &[u8]) -> Result<Task
 impl Interpreter {
     ghost use Rattle.std.specs.Prelude.{◌≡◌, ℕ, true};
     ghost use Rattle.tk_ids.specs.Names.{is_name};
-    ghost use Rattle.tk_live.specs.Commands as said;
+    ghost use Rattle.tk_script.specs.Commands as said;
     ghost use Rattle.tk_live.specs.Runs.{Does};
 
     // A task, on a line of this number.

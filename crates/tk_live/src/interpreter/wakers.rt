@@ -5,21 +5,21 @@ use crate::block::OpenBlock;
 use crate::gate::Gate;
 use crate::join::run_block;
 use crate::seats::{put_seat, take_seat};
-use crate::stop::Stop;
 use std::alloc::Global;
 use std::mem;
 use std::sync::Wait;
 use std::thread::Threads;
 use tk_core::Refusal;
 use tk_ledgers::Origin;
+use tk_script::Stop;
 
 impl Interpreter {
     ghost use Rattle.std.specs.Prelude.{◌≡◌, ℕ, List, Bool, OnOk, IfErr};
     ghost use Rattle.tk_stream.specs.Streams.{Sending};
-    ghost use Rattle.tk_live.specs.Commands as said;
+    ghost use Rattle.tk_script.specs.Commands as said;
     ghost use Rattle.tk_live.specs.Course.{Course, joined};
     ghost use Rattle.tk_live.specs.Runs.{Does, StandsFor, block_of};
-    ghost use Rattle.tk_live.specs.declared.settings.Settings.{Settings};
+    ghost use Rattle.tk_script.specs.declared.settings.Settings.{Settings};
     ghost use Rattle.tk_live.specs.Stops.{Closes, EndsIn};
     ghost use Rattle.tk_live.specs.Threads.{Apart};
 

@@ -1,7 +1,7 @@
 use Rattle.std.proofs.Common.{◌≡◌, List, subst}
 use Rattle.tk_live.specs.Blocks.{after_lines}
 use Rattle.tk_live.specs.Threads.{callers, Apart}
-use Rattle.tk_live.specs.declared.block.WorkerLine.{WorkerLine}
+use Rattle.tk_script.specs.declared.block.WorkerLine.{WorkerLine}
 use Rattle.tk_live.proofs.Working.{worked_all, part_long, block_made}
 use Rattle.tk_live.proofs.join.run_block.Goals as goal
 

@@ -1,4 +1,4 @@
-use Rattle.tk_live.specs.Commands.{settings_of, last_line, lines_of}
+use Rattle.tk_script.specs.Commands.{settings_of, last_line, lines_of}
 use Rattle.tk_live.proofs.Whole.{stays_of, writes}
 use Rattle.tk_live.proofs.script.run.Goals as goal
 

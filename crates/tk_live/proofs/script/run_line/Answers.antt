@@ -1,6 +1,6 @@
 use Rattle.std.proofs.Common.{◌≡◌, true, false, Some, None, sym, ap, ◌∙◌}
 use Rattle.std.specs.Prelude.{option_map}
-use Rattle.tk_live.specs.Commands.{view, said, block_said, block_line, is_skipped}
+use Rattle.tk_script.specs.Commands.{view, said, block_said, block_line, is_skipped}
 use Rattle.tk_live.proofs.Blocks.{open_some, open_none, said_came, block_came, skipped_came, refused, lacked, bad_came, line_is_block, line_is_said}
 use Rattle.tk_live.proofs.script.run_line.Goals as goal
 

@@ -3,9 +3,9 @@ use Rattle.std.specs.List.{enumerate_from}
 use Rattle.std.specs.Io.KnownBytes.{Appends}
 use Rattle.std.proofs.KnownBytes.{Appends-nil, Appends-trans}
 use Rattle.std.proofs.lemmas.List.{map-append, length-map}
-use Rattle.tk_live.specs.Commands.{Line, line_of, lines_of, settings_of}
+use Rattle.tk_script.specs.Commands.{Line, line_of, lines_of, settings_of}
 use Rattle.tk_live.specs.Course.{Course, start_of_all, course_of}
-use Rattle.tk_live.specs.Pieces.{pieces_at, pieces_left}
+use Rattle.tk_script.specs.Pieces.{pieces_at, pieces_left}
 use Rattle.tk_live.specs.Ran.{written_by}
 use Rattle.tk_live.specs.Runs.{StandsFor, Stays, IsOpen}
 use Rattle.tk_live.specs.Stops.{AllGo}

@@ -2,9 +2,9 @@ use Rattle.std.proofs.Common.{◌≡◌, List, Bool, ◌++◌, length, map}
 use Rattle.std.specs.List.{enumerate_from}
 use Rattle.std.specs.Io.KnownBytes.{Appends}
 use Rattle.tk_stream.specs.Streams.{Sending}
-use Rattle.tk_live.specs.Commands.{line_of, lines_of, settings_of}
+use Rattle.tk_script.specs.Commands.{line_of, lines_of, settings_of}
 use Rattle.tk_live.specs.Course.{start_of_all, course_of}
-use Rattle.tk_live.specs.Pieces.{pieces_at, pieces_left}
+use Rattle.tk_script.specs.Pieces.{pieces_at, pieces_left}
 use Rattle.tk_live.specs.Ran.{written_by}
 use Rattle.tk_live.specs.Runs.{StandsFor, IsOpen}
 use Rattle.tk_live.specs.Stops.{AllGo}

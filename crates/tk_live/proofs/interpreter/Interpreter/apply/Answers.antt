@@ -1,5 +1,5 @@
 use Rattle.std.proofs.Common.{ℕ, List, [], refl}
-use Rattle.tk_live.specs.Commands as said
+use Rattle.tk_script.specs.Commands as said
 use Rattle.tk_live.proofs.Lines.{quietly}
 use Rattle.tk_live.proofs.interpreter.Interpreter.apply.Goals as goal
 

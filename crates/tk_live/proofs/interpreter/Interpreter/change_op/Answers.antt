@@ -3,7 +3,7 @@ use Rattle.tk_core.specs.declared.op.call.OpCall.TheVariants.{PollStart, PollEnd
 use Rattle.tk_core.specs.declared.op.call.OpCall.TheVariants as op_calls
 use Rattle.tk_core.specs.declared.reply.Reply.TheVariants.{Done}
 use Rattle.tk_core.specs.OpMeaning.{op_meaning}
-use Rattle.tk_live.specs.Commands as said
+use Rattle.tk_script.specs.Commands as said
 use Rattle.tk_live.specs.Course.{op_called}
 use Rattle.tk_live.specs.Known.{and_call, owner_of}
 use Rattle.tk_live.specs.Named.{live_item}

@@ -2,7 +2,7 @@ use Rattle.std.proofs.Common.{◌≡◌, [], Some, None, inr, refl, ap, sym, ◌
 use Rattle.tk_core.specs.declared.resource.call.ResourceCall.TheVariants as resource_calls
 use Rattle.tk_core.specs.declared.reply.Reply.TheVariants.{Done}
 use Rattle.tk_core.specs.ResourceMeaning.{resource_meaning}
-use Rattle.tk_live.specs.Commands as said
+use Rattle.tk_script.specs.Commands as said
 use Rattle.tk_live.specs.Course.{user_called}
 use Rattle.tk_live.specs.Known.{and_call, caller_of}
 use Rattle.tk_live.specs.Named.{live_item}

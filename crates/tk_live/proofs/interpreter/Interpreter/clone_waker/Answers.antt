@@ -4,7 +4,7 @@ use Rattle.tk_core.specs.declared.task.call.TaskCall.TheVariants.{CloneWaker}
 use Rattle.tk_core.specs.declared.reply.Refusal.TheVariants.{HandlesSpent}
 use Rattle.tk_core.specs.TaskMeaning.{task_meaning}
 use Rattle.tk_ledgers.specs.Handles.{NotDrawn}
-use Rattle.tk_live.specs.Commands as said
+use Rattle.tk_script.specs.Commands as said
 use Rattle.tk_live.specs.Course.{Names, task_called, waker_drawn}
 use Rattle.tk_live.specs.Known.{and_call, drawn_from, owner_of, caller_of}
 use Rattle.tk_live.specs.Named.{live_item, with_change}

@@ -1,7 +1,7 @@
 use Rattle.std.proofs.Common.{◌≡◌, ◌∷◌, ◌++◌, [], true, false, Some, None, inl, inr, refl, ap, sym, ◌∙◌, subst}
 use Rattle.std.specs.Prelude.{option_map}
 use Rattle.tk_ledgers.specs.Tasks.{is_polling}
-use Rattle.tk_live.specs.Commands as said
+use Rattle.tk_script.specs.Commands as said
 use Rattle.tk_live.specs.Course.{Names}
 use Rattle.tk_live.specs.Known.{owner_of}
 use Rattle.tk_live.specs.Named.{live_item, with_item}
@@ -39,6 +39,6 @@ returns g c line settings k kept sent stands =
     let e = c.in-Err.ensures in
     let told : live_item n k.names.tasks ≡ Some (owner_of owner) = told_live owner_of n i.tasks.items k.names.tasks c.take_seat.result owner stands.holds.tasks_are c.take_seat.ensures.taken c.in-Some.is in
     let open_is : is_polling owner ≡ true = to_not (is_polling owner) e.exact in (
-      inl (ap (λ o. unless_polled (option_map is_polled o)) told ∙ (ap (λ b. unless_polled (Some b)) open_is ∙ ap (λ r. Some (Rattle.tk_live.specs.declared.stop.Stop.TheVariants.Call r)) (sym e.already_polling.0))),
+      inl (ap (λ o. unless_polled (option_map is_polled o)) told ∙ (ap (λ b. unless_polled (Some b)) open_is ∙ ap (λ r. Some (Rattle.tk_script.specs.declared.stop.Stop.TheVariants.Call r)) (sym e.already_polling.0))),
       rests _ settings k line (said.close n c.args.moment) kept sent stands.keeps,
     )

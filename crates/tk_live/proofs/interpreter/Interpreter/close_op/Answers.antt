@@ -1,11 +1,11 @@
 use Rattle.std.proofs.Common.{◌≡◌, ◌∷◌, ◌++◌, [], true, false, Some, None, inl, inr, refl, ap, sym, ◌∙◌, subst}
 use Rattle.std.specs.Prelude.{option_map}
 use Rattle.tk_ledgers.specs.Ops.{is_polling}
-use Rattle.tk_live.specs.Commands as said
+use Rattle.tk_script.specs.Commands as said
 use Rattle.tk_live.specs.Known.{owner_of}
 use Rattle.tk_live.specs.Named.{live_item, with_item}
 use Rattle.tk_live.specs.Stops.{unless_polled, is_polled_op}
-use Rattle.tk_live.specs.declared.stop.Stop.TheVariants.{Call}
+use Rattle.tk_script.specs.declared.stop.Stop.TheVariants.{Call}
 use Rattle.tk_live.proofs.Places.{used_up, length-set}
 use Rattle.tk_live.proofs.Standing.{from_not, to_not, on_handles, rests, told_live}
 use Rattle.tk_live.proofs.interpreter.Interpreter.close_op.Goals as goal

@@ -4,7 +4,7 @@ use Rattle.tk_core.specs.declared.task.call.TaskCall.TheVariants.{PollEnd}
 use Rattle.tk_core.specs.declared.reply.Reply.TheVariants.{Done}
 use Rattle.tk_core.specs.TaskMeaning.{task_meaning}
 use Rattle.tk_ledgers.specs.Tasks.{is_polling}
-use Rattle.tk_live.specs.Commands as said
+use Rattle.tk_script.specs.Commands as said
 use Rattle.tk_live.specs.Course.{Names, task_called}
 use Rattle.tk_live.specs.Known.{and_call, owner_of}
 use Rattle.tk_live.specs.Named.{live_item}
@@ -44,7 +44,7 @@ returns-in-Err g c line settings k kept sent stands =
     let e = c.in-Err.ensures in
     let told : live_item n k.names.tasks ≡ Some (owner_of owner) = told_live owner_of n i.tasks.items k.names.tasks c.take_seat.result owner stands.holds.tasks_are c.take_seat.ensures.taken c.in-Some.is in
     let open_is : is_polling owner ≡ false = sym e.exact in (
-      inl (ap (λ o. while_polled (option_map is_polled o)) told ∙ (ap (λ b. while_polled (Some b)) open_is ∙ ap (λ r. Some (Rattle.tk_live.specs.declared.stop.Stop.TheVariants.Call r)) (sym e.not_polling.0))),
+      inl (ap (λ o. while_polled (option_map is_polled o)) told ∙ (ap (λ b. while_polled (Some b)) open_is ∙ ap (λ r. Some (Rattle.tk_script.specs.declared.stop.Stop.TheVariants.Call r)) (sym e.not_polling.0))),
       rests _ settings k line (said.finish n c.args.moment) kept sent stands.keeps,
     )
 

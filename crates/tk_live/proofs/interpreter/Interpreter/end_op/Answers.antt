@@ -4,12 +4,12 @@ use Rattle.tk_core.specs.declared.op.call.OpCall.TheVariants.{PollEnd}
 use Rattle.tk_core.specs.declared.reply.Reply.TheVariants.{Done}
 use Rattle.tk_core.specs.OpMeaning.{op_meaning}
 use Rattle.tk_ledgers.specs.Ops.{is_polling}
-use Rattle.tk_live.specs.Commands as said
+use Rattle.tk_script.specs.Commands as said
 use Rattle.tk_live.specs.Course.{op_called}
 use Rattle.tk_live.specs.Known.{and_call, owner_of}
 use Rattle.tk_live.specs.Named.{live_item}
 use Rattle.tk_live.specs.Stops.{while_polled, is_polled_op}
-use Rattle.tk_live.specs.declared.stop.Stop.TheVariants.{Call}
+use Rattle.tk_script.specs.declared.stop.Stop.TheVariants.{Call}
 use Rattle.tk_live.proofs.Places.{put_changed, place_left, length_change}
 use Rattle.tk_live.proofs.Standing.{on_handles, rests, told_live, owner_called}
 use Rattle.tk_live.proofs.interpreter.Interpreter.end_op.Goals as goal

@@ -5,7 +5,7 @@ use Rattle.tk_ids.specs.Ids.{id_of}
 use Rattle.tk_core.specs.declared.op.call.OpCall.TheVariants.{Enlist}
 use Rattle.tk_core.specs.Op.{opening_row}
 use Rattle.tk_events.specs.Items.{first_values}
-use Rattle.tk_live.specs.Commands as said
+use Rattle.tk_script.specs.Commands as said
 use Rattle.tk_live.specs.Known.{owner_of}
 use Rattle.tk_live.specs.Runs.{numbers_of, Keeps}
 use Rattle.tk_live.proofs.Making.{op_offered}

@@ -8,7 +8,7 @@ use Rattle.tk_core.specs.Resource.{opening_row}
 use Rattle.tk_core.specs.ResourceMeaning.{resource_meaning}
 use Rattle.tk_events.specs.Items.{first_values}
 use Rattle.tk_ledgers.specs.Handles.{NotDrawn}
-use Rattle.tk_live.specs.Commands as said
+use Rattle.tk_script.specs.Commands as said
 use Rattle.tk_live.specs.Course.{new_resource, step}
 use Rattle.tk_live.specs.Known.{and_call, drawn_from, owner_of, caller_of}
 use Rattle.tk_live.specs.Runs.{numbers_of}

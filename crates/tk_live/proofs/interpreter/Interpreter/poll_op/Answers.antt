@@ -1,7 +1,7 @@
 use Rattle.std.proofs.Common.{◌∷◌, ◌++◌, [], length, Ok, inl, refl, ap, sym, ◌∙◌, subst}
 use Rattle.tk_ids.specs.Ids.{id_of}
 use Rattle.tk_events.specs.declared.event.Shown.TheVariants.{Polled}
-use Rattle.tk_live.specs.Commands as said
+use Rattle.tk_script.specs.Commands as said
 use Rattle.tk_live.specs.Known.{owner_of}
 use Rattle.tk_live.specs.Runs.{numbers_of, Keeps}
 use Rattle.tk_aggregator.specs.Told.{polled}

@@ -5,7 +5,7 @@ use Rattle.tk_stream.specs.Spelling.{sent_text}
 use Rattle.tk_aggregator.specs.Aggregates.{IsSound, Refuses, after_line, sending_at}
 use Rattle.tk_stream.specs.Sent.{IsCut}
 use Rattle.tk_stream.specs.Streams.{Sending, MaySend, line_sent}
-use Rattle.tk_live.specs.Commands as said
+use Rattle.tk_script.specs.Commands as said
 use Rattle.tk_live.specs.Course.{Due}
 use Rattle.tk_live.specs.Runs.{Sent}
 use Rattle.tk_live.proofs.Publishing.{collected, took_more, line_last, published, one_line, broke, is_due, too_low, none_left, stays, ready, still}

@@ -1,6 +1,6 @@
 use Rattle.std.proofs.Common.{refl, ap, ◌∙◌, ◌++◌, ◌||◌}
 use Rattle.std.specs.Prelude.{not}
-use Rattle.tk_live.specs.Commands.{view, is_setting}
+use Rattle.tk_script.specs.Commands.{view, is_setting}
 use Rattle.tk_live.proofs.Lines.{begun}
 use Rattle.tk_live.proofs.interpreter.Interpreter.run.Goals as goal
 

@@ -3,7 +3,7 @@ use Rattle.std.specs.Prelude.{option_map}
 use Rattle.tk_core.specs.declared.task.call.TaskCall.TheVariants.{WakeRef}
 use Rattle.tk_core.specs.declared.reply.Reply.TheVariants.{Woken}
 use Rattle.tk_core.specs.TaskMeaning.{task_meaning}
-use Rattle.tk_live.specs.Commands as said
+use Rattle.tk_script.specs.Commands as said
 use Rattle.tk_live.specs.Course.{Names, task_called}
 use Rattle.tk_live.specs.Known.{and_call, owner_of}
 use Rattle.tk_live.specs.Named.{live_item}
@@ -47,7 +47,7 @@ returns-in-Err g c line settings k kept sent stands =
     let owner = c.in-Some.owner in
     let e = c.in-Err.ensures in
     let told : live_item n k.names.tasks ≡ Some (owner_of owner) = told_live owner_of n i.tasks.items k.names.tasks c.take_seat.result owner stands.holds.tasks_are c.take_seat.ensures.taken c.in-Some.is in (
-      inl (ap (λ o. while_polled (option_map is_polled o)) told ∙ (ap (λ b. while_polled (Some b)) (sym e.exact) ∙ ap (λ r. Some (Rattle.tk_live.specs.declared.stop.Stop.TheVariants.Call r)) (sym e.not_polling))),
+      inl (ap (λ o. while_polled (option_map is_polled o)) told ∙ (ap (λ b. while_polled (Some b)) (sym e.exact) ∙ ap (λ r. Some (Rattle.tk_script.specs.declared.stop.Stop.TheVariants.Call r)) (sym e.not_polling))),
       rests _ settings k line (said.self_wake n c.args.moment) kept sent stands.keeps,
     )
 

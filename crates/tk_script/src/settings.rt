@@ -1,0 +1,69 @@
+//! How a script is run.
+ghost use Rattle.std.specs.Prelude.{◌≡◌, ◌≤◌, IfOk, IfSome};
+ghost use Rattle.tk_script.specs.Commands.{line_of, lines_of, settings_said, settings_of};
+
+use crate::block::block_said;
+use crate::command::{Command, command_of};
+use crate::lines::is_skipped;
+use crate::pieces::Pieces;
+use std::alloc::{AllocError, Global};
+
+/// What the settings of a script say: how many events the console holds, from 1 to 65,536, and how long a closed item stays, in
+/// nanoseconds. Without that no item leaves.
+#[derive(Clone, Copy, Debug, PartialEq, Eq)]
+pub struct Settings {
+    pub capacity: u64,
+    pub retention: Option<u64>,
+}
+
+/// How many events the console holds where the script doesn't say, and no item leaves there.
+const DEFAULT: Settings = Settings {
+    capacity: 1_024,
+    retention: None,
+};
+
+// The settings behind a line, if further ones may be said there.
+fn settings_by(
+    alloc: Global,
+    line: &[u8],
+    settings: Settings,
+) -> Result<Option<Settings>, AllocError>
+    requires { (1 ≤ settings.capacity) × (settings.capacity ≤ 65536) }
+    ensures said { IfOk result (λ o. o ≡ settings_said settings (line_of line.now)) }
+    ensures fits { IfOk result (λ o. IfSome o (λ s. (1 ≤ s.capacity) × (s.capacity ≤ 65536))) }
+{
+    if is_skipped(line) {
+        return Ok(Some(settings));
+    }
+    if block_said(line).is_some() {
+        return Ok(None);
+    }
+    match command_of(alloc, line)? {
+        Some(Command::Capacity { count }) => Ok(Some(Settings {
+            capacity: count,
+            ..settings
+        })),
+        Some(Command::Retention { span }) => Ok(Some(Settings {
+            retention: Some(span),
+            ..settings
+        })),
+        _ => Ok(None),
+    }
+}
+
+/// The settings of a script: those that it says before every other command.
+///
+/// The error is want of memory, for the attributes that a line declares.
+pub fn settings_in(alloc: Global, script: &[u8]) -> Result<Settings, AllocError>
+    ensures said { IfOk result (λ s. s ≡ settings_of (lines_of script.now)) }
+    ensures fits { IfOk result (λ s. (1 ≤ s.capacity) × (s.capacity ≤ 65536)) }
+{
+    let mut settings = DEFAULT;
+    for line in Pieces::new(script, b'\n') {
+        match settings_by(alloc, line, settings)? {
+            Some(more) => settings = more,
+            None => return Ok(settings),
+        }
+    }
+    Ok(settings)
+}
