@@ -1,17 +1,44 @@
 #!/bin/sh
-# Measures what calls, lines and scripts cost, and prints the tables that bench/FIGURES.md records: bench/run.sh
+# Measures what calls, lines and scripts cost, and prints the tables that bench/FIGURES.md records.
 #
-# It takes the proved program, and makes it first where there is none, which takes some minutes. Let nothing else run
-# beside it: it uses up to four processors, and some gigabytes of memory for the lines of 100,000 tasks.
+# Usage: bench/run.sh
+#        bench/run.sh --check          proves the crates of bench/, and runs their tests and, in small sizes, their programs
+#        bench/run.sh --wrong-bodies   tries the wrong bodies of tk_measures
+#
+# Each lays the crates of bench/ out beside the product's in a temporary folder, and lets `rt ci` prove there what it has not
+# passed on this machine yet: behind the gate, the crates of bench/ alone. RT_JOBS checks at a time. Let nothing else run beside
+# a measurement: it uses up to four processors, and some gigabytes of memory for the lines of 100,000 tasks.
 
 self=$(readlink -f -- "$0" 2>/dev/null) || self=$0
 root=$(CDPATH= cd -P -- "$(dirname -- "$self")/.." && pwd) || exit 2
-program=$root/crates/tk_bench/out/tk_bench
+. "$root/bench/workspace.sh"
 
-if [ ! -x "$program" ]; then
-    (cd "$root/crates/tk_bench" && rt run -- small >&2) || exit 2
-fi
+copy_judge() {
+    mkdir "$workspace/tests" && cp "$root"/tests/wrong_bodies*.sh "$root"/tests/wrong_bodies*.py "$workspace/tests/" || exit 2
+}
 
-echo "$(date -u +%Y-%m-%d), $(nproc) processors, $(sed -n 's/^model name[^:]*: //p' /proc/cpuinfo | head -n 1)"
-echo
-exec "$program"
+case $1 in
+'')
+    lay_out tk_bench
+    prove
+    echo "$(nproc) processors, $(sed -n 's/^model name[^:]*: //p' /proc/cpuinfo | head -n 1)"
+    echo
+    "$workspace/crates/tk_bench/out/tk_bench"
+    ;;
+--check)
+    lay_out tk_measures_tests tk_bench tk_memory
+    copy_judge
+    "$workspace/tests/wrong_bodies.sh" --fit >&2 || exit 1
+    prove
+    ;;
+--wrong-bodies)
+    lay_out tk_measures
+    copy_judge
+    prove
+    "$workspace/tests/wrong_bodies.sh" --built tk_measures
+    ;;
+*)
+    echo "bench/run.sh: there is no $1" >&2
+    exit 2
+    ;;
+esac
