@@ -21,7 +21,7 @@ case $1 in
 '')
     lay_out tk_bench
     prove
-    echo "$(nproc) processors, $(sed -n 's/^model name[^:]*: //p' /proc/cpuinfo | head -n 1)"
+    echo "$(date -u +%Y-%m-%d), $(nproc) processors, $(sed -n 's/^model name[^:]*: //p' /proc/cpuinfo | head -n 1)"
     echo
     "$workspace/crates/tk_bench/out/tk_bench"
     ;;
