@@ -75,17 +75,21 @@ def goals(said, function=None, file=None):
     return [it for it in unproved(said, function, file) if kind(it) not in gone]
 
 
-def refusal(said, names):
-    """A refusal by these goals, and what the prover says of the first."""
-    about = [it for it in messages(said) if f"`{names[0]}`" in it and not it.startswith(("help", "fn "))]
+def refusal(said, names, function=None):
+    """A refusal by these goals, and what the prover says of the first, if it says it of this function."""
     more = f" and {len(names) - 3} more" if len(names) > 3 else ""
-    return f"{REFUSED} by {', '.join(names[:3])}{more}" + (f": {about[0][:SHOWN]}" if about else "")
+    told = ""
+    for message in messages(said):
+        at = IN_PROOFS.match(message) or NOT_PROVED.match(message)
+        if at and at["goal"] == names[0] and (function is None or "error" not in at.groupdict() or is_function(function, at["file"])):
+            told = told or ": " + message[:SHOWN]
+    return f"{REFUSED} by {', '.join(names[:3])}{more}{told}"
 
 
 def alone(status, said):
     """What a check of one edit says."""
     if not re.search(r"^only=\d+ proved=\d+", said, re.M):
-        error = re.search(r"^.*(?:^|[ :])error: .*$", said, re.M)
+        error = re.search(r"^.*(?:^|[ :])error(\[\S+\])?: .*$", said, re.M)
         return f"{BAD_EDIT}: it did not reach the prover: " + (error.group(0)[:SHOWN] if error else "")
     if status == 0:
         return f"{LET_THROUGH}: the function is still proved"
@@ -105,7 +109,7 @@ def among(function, said, file=None):
     if not re.search(rf"^fn \S+?::{re.escape(function)}: (not proved|no proof)", said, re.M):
         return None
     names = goals(said, function, file)
-    return refusal(said, names) if names else None
+    return refusal(said, names, function) if names else None
 
 
 def last_line(verdicts):
