@@ -13,8 +13,9 @@ self=$(readlink -f -- "$0" 2>/dev/null) || self=$0
 root=$(CDPATH= cd -P -- "$(dirname -- "$self")/.." && pwd) || exit 2
 . "$root/bench/workspace.sh"
 
-copy_judge() {
-    mkdir "$workspace/tests" && cp "$root"/tests/wrong_bodies*.sh "$root"/tests/wrong_bodies*.py "$workspace/tests/" || exit 2
+# The scripts that look through the crates of the folder that they stand in.
+copy_scripts() {
+    mkdir "$workspace/tests" && cp "$root"/tests/wrong_bodies*.sh "$root"/tests/*.py "$workspace/tests/" || exit 2
 }
 
 case $1 in
@@ -27,13 +28,14 @@ case $1 in
     ;;
 --check)
     lay_out tk_measures_tests tk_bench tk_memory
-    copy_judge
+    copy_scripts
     "$workspace/tests/wrong_bodies.sh" --fit >&2 || exit 1
+    "$workspace/tests/unused_ghosts.py" >&2 || exit 1
     prove
     ;;
 --wrong-bodies)
     lay_out tk_measures
-    copy_judge
+    copy_scripts
     prove
     "$workspace/tests/wrong_bodies.sh" --built tk_measures
     ;;

@@ -1,3 +1,4 @@
+#!/usr/bin/env python3
 """Tests of tests/wrong_bodies_verdict.py, on what the prover said of edits of tk_ids and tk_stream (tests/wrong_bodies_said).
 
 Usage: tests/wrong_bodies_test.py, in a second. The last line of each file is the status of the check.
