@@ -36,7 +36,7 @@ case $1 in
     prove
     echo "$(date -u +%Y-%m-%d), $(nproc) processors, $(sed -n 's/^model name[^:]*: //p' /proc/cpuinfo | head -n 1)"
     echo
-    "$workspace/crates/tk_bench/out/tk_bench"
+    attend "$workspace/crates/tk_bench/out/tk_bench"
     ;;
 --check)
     lay_out tk_measures_tests tk_bench tk_memory
@@ -49,7 +49,7 @@ case $1 in
     lay_out tk_measures
     copy_scripts
     prove
-    "$workspace/tests/wrong_bodies.sh" --built tk_measures
+    attend "$workspace/tests/wrong_bodies.sh" --built tk_measures
     ;;
 --fmt)
     lay_out tk_measures_tests tk_bench tk_memory

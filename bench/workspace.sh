@@ -4,12 +4,22 @@
 # and each crate a line in bench/crates.list; here the ending goes, and the lines of both lists that are asked for are joined.
 
 workspace=
-proving=
+running=
 
-# Ends what was started, and takes the folder away.
+# Ends what runs, and takes the folder away.
 leave() {
-    [ -z "$proving" ] || { kill "$proving" && wait "$proving"; } 2> /dev/null
+    [ -z "$running" ] || { kill "$running" && wait "$running"; } 2> /dev/null
     [ -z "$workspace" ] || rm -rf "$workspace"
+}
+
+# Runs a command, which ends with the script where that is interrupted, and answers its status.
+attend() {
+    "$@" &
+    running=$!
+    wait "$running"
+    set -- $?
+    running=
+    return "$1"
 }
 
 # The lines of both lists that say of these crates, and of those that they stand on.
@@ -55,12 +65,11 @@ lay_out() {
     done
 }
 
+in_workspace() {
+    cd "$workspace" && exec "$@"
+}
+
 # Proves what the folder has, and tries its programs. What `rt ci` passed before on this machine it takes as it was.
 prove() {
-    (cd "$workspace" && exec rt ci) >&2 &
-    proving=$!
-    wait "$proving"
-    proved=$?
-    proving=
-    [ "$proved" = 0 ] || exit 1
+    attend in_workspace rt ci >&2 || exit 1
 }
