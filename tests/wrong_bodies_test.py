@@ -69,6 +69,10 @@ class Among(unittest.TestCase):
         self.refused_by("attrs::are_attributes", "returns-else-list-lt-MOST_ATTRIBUTES")
         self.refused_by("attrs::Attrs::new", "invariant_of-result, returns-then-are_attributes-clause-attrs")
 
+    def test_what_is_said_of_another_function_is_not_shown(self):
+        self.assertTrue(verdict.among("id::is_id", said("several")[1], "src/id.rt").startswith("refused by returns-then-recorder: note: src/id.rt"))
+        self.assertEqual(verdict.among("attrs::is_used", said("several")[1]), "refused by returns")
+
     def test_one_that_only_calls_another_is_not_told_of(self):
         self.assertIsNone(verdict.among("attrs::are_distinct", said("several")[1]))
 

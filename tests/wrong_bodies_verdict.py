@@ -75,15 +75,19 @@ def goals(said, function=None, file=None):
     return [it for it in unproved(said, function, file) if kind(it) not in gone]
 
 
-def refusal(said, names, function=None):
-    """A refusal by these goals, and what the prover says of the first, if it says it of this function."""
+def is_of(message, goal, function, file):
+    """Whether a message is of this goal of this function, or at a place in this file; of any where the function is None."""
+    if (at := IN_PROOFS.match(message)) and at["goal"] == goal:
+        return function is None or is_function(function, at["file"])
+    at = NOT_PROVED.match(message)
+    return bool(at) and at["goal"] == goal and (function is None or at["file"] == file)
+
+
+def refusal(said, names, function=None, file=None):
+    """A refusal by these goals, and what the prover says of the first, where that can only be of this function."""
+    told = [it for it in messages(said) if is_of(it, names[0], function, file)]
     more = f" and {len(names) - 3} more" if len(names) > 3 else ""
-    told = ""
-    for message in messages(said):
-        at = IN_PROOFS.match(message) or NOT_PROVED.match(message)
-        if at and at["goal"] == names[0] and (function is None or "error" not in at.groupdict() or is_function(function, at["file"])):
-            told = told or ": " + message[:SHOWN]
-    return f"{REFUSED} by {', '.join(names[:3])}{more}{told}"
+    return f"{REFUSED} by {', '.join(names[:3])}{more}" + (f": {told[0][:SHOWN]}" if told else "")
 
 
 def alone(status, said):
@@ -109,7 +113,7 @@ def among(function, said, file=None):
     if not re.search(rf"^fn \S+?::{re.escape(function)}: (not proved|no proof)", said, re.M):
         return None
     names = goals(said, function, file)
-    return refusal(said, names, function) if names else None
+    return refusal(said, names, function, file) if names else None
 
 
 def last_line(verdicts):
