@@ -71,7 +71,10 @@ def kind(goal):
 
 def goals(said, function=None, file=None):
     """The goals that are refused. One that may only have another name now than the answer which a proof file has for it says nothing."""
-    gone = {kind(name) for it in misses(said) for name in re.findall(r"`goal\.([^`]+)`: module \S+ has no `", it)}
+    gone = set()
+    for message in misses(said):
+        if function is None or is_function(function, IN_PROOFS.match(message)["file"]):
+            gone |= {kind(name) for name in re.findall(r"`goal\.([^`]+)`: module \S+ has no `", message)}
     return [it for it in unproved(said, function, file) if kind(it) not in gone]
 
 
