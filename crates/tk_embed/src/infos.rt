@@ -1,5 +1,5 @@
 //! What an entry says of its item once.
-ghost use Rattle.std.specs.Prelude.{◌≡◌, ◌≢◌, ◌∷◌, [], true, map, IfOk, IfErr, if◌then◌else◌};
+ghost use Rattle.std.specs.Prelude.{◌≡◌, ◌≢◌, ◌∷◌, [], true, map, IfOk, IfErr};
 ghost use Rattle.std.specs.List.{flat_map};
 ghost use Rattle.tk_embed.specs.Entries as spec;
 ghost use Rattle.tk_embed.specs.Faults.{OfBad, HasBadPiece, HasBadAttrs, HasBadTaskInfo, HasBadResourceInfo, HasBadOpInfo, reaches_out, attr_pieces, IsNoId};

@@ -1,12 +1,12 @@
 //! The calls on an operation's row.
-ghost use Rattle.std.specs.Prelude.{◌≡◌, ◌≤◌, true, false, length, map, if◌then◌else◌};
+ghost use Rattle.std.specs.Prelude.{◌≡◌, true, false};
 ghost use Rattle.tk_core.specs.declared.op.call.OpCall.TheVariants.{PollStart, PollEnd, Close, SetTask, Attr as Change};
 ghost use Rattle.tk_core.specs.OpMeaning.{op_meaning};
 ghost use Rattle.tk_core.specs.Op.{opening_row};
 ghost use Rattle.tk_core.specs.OpWords.{words_of};
 ghost use Rattle.tk_embed.specs.Border.{Makes};
 ghost use Rattle.tk_ids.specs.Ids.{is_id};
-ghost use Rattle.tk_embed.specs.Attr.{value_of, change_of, Opens};
+ghost use Rattle.tk_embed.specs.Attr.{change_of, Opens};
 
 use crate::attr::{Attr, change, value};
 use crate::reply::code;

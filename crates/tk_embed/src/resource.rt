@@ -1,11 +1,10 @@
 //! The calls on a resource's row.
-ghost use Rattle.std.specs.Prelude.{◌≡◌, ◌≤◌, true, length, map, if◌then◌else◌};
 ghost use Rattle.tk_core.specs.declared.resource.call.ResourceCall.TheVariants.{Close, Attr as Change};
 ghost use Rattle.tk_core.specs.ResourceMeaning.{resource_meaning};
 ghost use Rattle.tk_core.specs.Resource.{opening_row};
 ghost use Rattle.tk_core.specs.ResourceWords.{words_of};
 ghost use Rattle.tk_embed.specs.Border.{Makes};
-ghost use Rattle.tk_embed.specs.Attr.{value_of, change_of, Opens};
+ghost use Rattle.tk_embed.specs.Attr.{change_of, Opens};
 
 use crate::attr::{Attr, change, value};
 use crate::reply::code;

@@ -1,9 +1,8 @@
 //! Tables from entries.
-ghost use Rattle.std.specs.Prelude.{◌≡◌, ◌∷◌, ◌++◌, [], None, is_some, IfOk, IfErr, OnOk, map};
+ghost use Rattle.std.specs.Prelude.{◌≡◌, ◌∷◌, ◌++◌, [], None, is_some, IfOk, IfErr, OnOk};
 ghost use Rattle.tk_core.specs.OpWords as op_words;
 ghost use Rattle.tk_core.specs.ResourceWords as resource_words;
 ghost use Rattle.tk_core.specs.TaskWords as task_words;
-ghost use Rattle.tk_ids.specs.Ids.{is_id};
 ghost use Rattle.tk_stream.specs.Tables.{item_with, counts_id, task_with, resource_with, op_with};
 ghost use Rattle.tk_embed.specs.Entries as spec;
 ghost use Rattle.tk_embed.specs.Faults as faults;
