@@ -1,7 +1,5 @@
 """Tries the wrong bodies that are no must-fail edits; tests/wrong_bodies.sh says how."""
 
-import importlib.machinery
-import importlib.util
 import os
 import re
 import shutil
@@ -10,9 +8,10 @@ import sys
 import tempfile
 from concurrent.futures import ThreadPoolExecutor
 
+import behind_the_gate
 import wrong_bodies_verdict as verdict
+from behind_the_gate import ROOT
 
-ROOT = os.path.dirname(os.path.dirname(os.path.abspath(__file__)))
 CRATES = os.path.join(ROOT, "crates")
 # So many edits of a crate are tried in one check at most.
 GROUP = int(os.environ.get("GROUP", "12"))
@@ -144,31 +143,6 @@ def said_by(words, folder):
     return run.returncode, run.stdout + run.stderr
 
 
-def crates_behind_the_gate():
-    """Of each crate, by name: the libraries below it, and the words of a check over those that `rt ci` left in out/, as `rt ci`
-    tries a must-fail edit itself. They fit one another alone, and `rt check` would prove its own first.
-
-    All that this script takes of rt's inside it takes here: the file of `rt` as a module, its crates_of(), and a crate's words().
-    """
-    try:
-        loader = importlib.machinery.SourceFileLoader("rt_command", os.path.realpath(shutil.which("rt")))
-        rt = importlib.util.module_from_spec(importlib.util.spec_from_loader("rt_command", loader))
-        loader.exec_module(rt)
-        return {
-            crate.name: (
-                [(it.name, it.rlib) for it in crate.below()],
-                [rt.rtlib.RATTLE, "check", *crate.words(["--jobs", "1"], keeps=False)],
-            )
-            for crate in rt.crates_of(ROOT)
-        }
-    except (AttributeError, ImportError, OSError, SyntaxError, TypeError, ValueError) as changed:
-        sys.exit(
-            f"no wrong body was tried: the inside of this kit's rt is another ({changed}). See in the file of `rt` how checked()"
-            " calls the prover for a must-fail edit, and mend crates_behind_the_gate() in tests/wrong_bodies.py, which alone"
-            " depends on it."
-        )
-
-
 def try_tests(crate, edit):
     """Runs the tests that an edit names on a copy of the sources: some must fail."""
     with tempfile.TemporaryDirectory() as work:
@@ -279,28 +253,28 @@ def try_crate(crate, edits):
         return said + [line for group in groups_of(edits) for line in try_edits(crate, copy, group)]
 
 
-def try_built(crate, edits, below, words):
+def try_built(crate, edits, built):
     """Tries edits of a crate over the libraries that `rt ci` left."""
     if edits[0].tests:
         return [tell(crate, edit, try_tests(crate, edit)) for edit in edits]
-    lacking = [name for name, rlib in below if not os.path.isdir(rlib)]
+    lacking = built.lacking()
     if lacking:
-        why = f"{verdict.NOT_JUDGED}: rt ci has left no library of {lacking[0]}"
+        why = f"{verdict.NOT_JUDGED}: rt ci has left no library of {lacking}"
         return [tell(crate, edit, why) for edit in edits]
     with tempfile.TemporaryDirectory() as work:
         copy_sources([crate], work)
         copy = os.path.join(work, "crates", crate)
-        return list(try_edits(crate, copy, edits, lambda copy, some: said_by([*words, *only(some)], copy)))
+        return list(try_edits(crate, copy, edits, lambda copy, some: said_by([*built.check(), *only(some)], copy)))
 
 
 def try_all_built(pool, edits_by_crate):
     """Tries edits over what `rt ci` has left here, a group of them at a time."""
-    known = crates_behind_the_gate()
+    known = behind_the_gate.crates()
     groups = []
     for crate, edits in edits_by_crate.items():
         groups += [(crate, group) for group in groups_of([edit for edit in edits if edit.function])]
         groups += [(crate, [edit]) for edit in edits if edit.tests]
-    return pool.map(lambda it: try_built(*it, *known[it[0]]), groups)
+    return pool.map(lambda it: try_built(*it, known[it[0]]), groups)
 
 
 def crates_with_edits():
