@@ -108,19 +108,19 @@ impl Inner {
     pub(crate) fn record<T: Item>(&self, make: impl FnOnce(u64) -> T) -> Arc<T> {
         let number = shard();
         let mut shard = lock(&self.shards[number].0);
-        let has_number = shard.drawn[T::KIND as usize] < NUMBERS;
-        let has_room = shard.fresh.held() < self.capacity;
+        let drawn = &mut shard.drawn[T::KIND as usize];
         let mut id = 0;
-        if has_number {
-            shard.drawn[T::KIND as usize] += 1;
-            id = id_of(number + 1, shard.drawn[T::KIND as usize]);
+        if *drawn < NUMBERS {
+            *drawn += 1;
+            id = id_of(number + 1, *drawn);
         }
         let cell = Arc::new(make(id));
-        if has_number && has_room {
+        if id != 0 && shard.fresh.held() < self.capacity {
             T::list(&mut shard.fresh).push(Arc::clone(&cell));
         } else {
-            cell.leave();
             shard.dropped.add(T::KIND);
+            drop(shard);
+            cell.leave();
         }
         cell
     }

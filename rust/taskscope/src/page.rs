@@ -179,3 +179,219 @@ impl Page {
         }
     }
 }
+
+#[cfg(test)]
+mod tests {
+    use super::*;
+    use crate::ffi::Words;
+
+    const ID: u64 = (1 << 40) + 1;
+
+    fn head() -> Head {
+        Head {
+            seq: 1,
+            moment: 9,
+            dropped_tasks: 0,
+            dropped_resources: 0,
+            dropped_ops: 0,
+            told_tasks: 0,
+            told_resources: 0,
+            told_ops: 0,
+            told_counts: 0,
+            snapshot: false,
+        }
+    }
+
+    fn name(text: &'static str) -> Name {
+        Name::new(text.into())
+    }
+
+    fn task(page: &mut Page) -> TaskEntry {
+        let mut row = [0; 16];
+        // SAFETY: the words are lent for the call.
+        unsafe { ffi::taskscope_task_open(7, &mut row) };
+        let (name, file) = (page.piece(&name("task")), page.piece(&name("main.rs")));
+        TaskEntry {
+            row,
+            told: row,
+            id: ID,
+            name,
+            file,
+            line: 1,
+            column: 1,
+            kind: 0,
+        }
+    }
+
+    fn opened(open: unsafe extern "C" fn(u64, *const ffi::Attr, usize, &mut Words) -> bool) -> Words {
+        let mut row = [0; 16];
+        // SAFETY: there are no attributes, and the words are lent for the call.
+        assert!(unsafe { open(7, [].as_ptr(), 0, &mut row) });
+        row
+    }
+
+    fn resource(page: &mut Page) -> ResourceEntry {
+        let row = opened(ffi::taskscope_resource_open);
+        let (concrete, file) = (page.piece(&name("Semaphore")), page.piece(&name("main.rs")));
+        let attrs = Piece::default();
+        ResourceEntry {
+            row,
+            told: row,
+            id: ID,
+            parent: 0,
+            concrete,
+            kind: concrete,
+            file,
+            attrs,
+            line: 1,
+            column: 1,
+        }
+    }
+
+    fn op(page: &mut Page) -> OpEntry {
+        let row = opened(ffi::taskscope_op_open);
+        let source = page.piece(&name("acquire"));
+        OpEntry {
+            row,
+            told: row,
+            id: ID,
+            resource: ID,
+            parent: 0,
+            source,
+            attrs: Piece::default(),
+        }
+    }
+
+    /// A page with one good entry of each kind.
+    fn page() -> Page {
+        let mut page = Page::default();
+        let (task, resource, op) = (task(&mut page), resource(&mut page), op(&mut page));
+        page.tasks.push(task);
+        page.resources.push(resource);
+        page.ops.push(op);
+        page.counts.push(CountEntry {
+            resource: ID,
+            ready: 1,
+            pending: 0,
+            told_ready: 0,
+            told_pending: 0,
+        });
+        page
+    }
+
+    fn bad(kind: ItemKind, id: u64, reason: BadItem) -> Fault {
+        Fault::BadItem { kind, id, reason }
+    }
+
+    type Edit = fn(&mut Page);
+
+    // What an edit of a good page makes of its line.
+    #[rustfmt::skip]
+    const FAULTS: [(&str, Edit, ItemKind, u64, BadItem); 16] = [
+        ("a task's id is 0",               |page| page.tasks[0].id = 0,                        ItemKind::Task, 0, BadItem::Id),
+        ("a task's name is empty",         |page| page.tasks[0].name.len = 0,                  ItemKind::Task, ID, BadItem::Name),
+        ("a task's name reaches out",      |page| page.tasks[0].name.len = 9_999,              ItemKind::Task, ID, BadItem::Piece),
+        ("a task's file is none",          |page| page.text[4] = 10,                           ItemKind::Task, ID, BadItem::Name),
+        ("a task's words are none",        |page| page.tasks[0].row[0] = u64::MAX,             ItemKind::Task, ID, BadItem::Words),
+        ("a task stands twice",            |page| page.tasks.push(page.tasks[0]),              ItemKind::Task, ID, BadItem::Repeated),
+        ("a resource's id is none",        |page| page.resources[0].id = 65 << 40,             ItemKind::Resource, 65 << 40, BadItem::Id),
+        ("a resource's parent is none",    |page| page.resources[0].parent = 7,                ItemKind::Resource, ID, BadItem::Id),
+        ("a resource's attributes reach out", |page| page.resources[0].attrs.len = 1,          ItemKind::Resource, ID, BadItem::Piece),
+        ("a resource stands twice",        |page| page.resources.push(page.resources[0]),      ItemKind::Resource, ID, BadItem::Repeated),
+        ("an operation's resource is none", |page| page.ops[0].resource = 0,                   ItemKind::Op, ID, BadItem::Id),
+        ("an operation's words are none",  |page| page.ops[0].row[15] = 1 << 63,               ItemKind::Op, ID, BadItem::Words),
+        ("an attribute stands twice",      attribute_twice,                                    ItemKind::Op, ID, BadItem::Attrs),
+        ("there are 7 attributes",         seven_attributes,                                   ItemKind::Resource, ID, BadItem::Attrs),
+        ("poll counts are of no resource", |page| page.counts[0].resource = 0,                 ItemKind::PollCounts, 0, BadItem::Id),
+        ("poll counts stand twice",        |page| page.counts.push(page.counts[0]),            ItemKind::PollCounts, ID, BadItem::Repeated),
+    ];
+
+    fn push_attribute(page: &mut Page, text: &'static str) {
+        let name = page.piece(&name(text));
+        page.attrs.push(AttrEntry {
+            name,
+            unit: Piece::default(),
+            kind: 0,
+            has_unit: false,
+        });
+    }
+
+    fn attribute_twice(page: &mut Page) {
+        push_attribute(page, "permits");
+        push_attribute(page, "permits");
+        page.ops[0].attrs.len = 2;
+    }
+
+    fn seven_attributes(page: &mut Page) {
+        ["a", "b", "c", "d", "e", "f", "g"]
+            .into_iter()
+            .for_each(|name| push_attribute(page, name));
+        page.resources[0].attrs.len = 7;
+    }
+
+    #[test]
+    fn what_is_no_entry_is_told() {
+        assert!(page().line(&head()).is_ok());
+        assert!(page().gone_line(&head(), 0).is_ok());
+        for (case, edit, kind, id, reason) in FAULTS {
+            let mut page = page();
+            edit(&mut page);
+            assert_eq!(page.line(&head()), Err(bad(kind, id, reason)), "{case}");
+            assert_eq!(page.gone_line(&head(), 0), Err(bad(kind, id, reason)), "{case}");
+        }
+    }
+
+    #[test]
+    fn a_line_has_a_number_and_tells_no_more_than_there_is() {
+        let page = page();
+        for seq in [0, (1 << 63) + 1] {
+            assert_eq!(page.line(&Head { seq, ..head() }), Err(Fault::LinesSpent));
+            assert_eq!(page.gone_line(&Head { seq, ..head() }, 0), Err(Fault::LinesSpent));
+        }
+        assert!(page.line(&Head { seq: 1 << 63, ..head() }).is_ok());
+        let mut page = page;
+        page.set_told(ItemKind::Op, 2);
+        assert_eq!(page.line(&head()), Err(Fault::Misfit { status: 4 }));
+    }
+
+    #[test]
+    fn a_line_that_does_not_fit_leaves_the_room_as_it_was() {
+        let page = page();
+        let whole = page.line(&head()).expect("a line");
+        let mut room = vec![1; whole.len() - 1];
+        let answer = page.write_line(&head(), &mut room);
+        assert_eq!((answer.status, answer.len), (1, whole.len()));
+        assert!(room.iter().all(|&byte| byte == 1));
+        let mut room = vec![1; whole.len() + 1];
+        let answer = page.write_line(&head(), &mut room);
+        assert_eq!((answer.status, answer.len), (0, whole.len()));
+        assert_eq!((&room[..whole.len()], room[whole.len()]), (&whole[..], 1));
+    }
+
+    // Names of quotation marks take twice their bytes, so this line is longer than what is likely.
+    #[test]
+    fn a_line_longer_than_likely_is_written() {
+        let mut page = Page::default();
+        for number in 1..=200 {
+            let mut entry = task(&mut page);
+            entry.id = (1 << 40) + number;
+            entry.row = [0; 16];
+            // SAFETY: the words are lent for the calls.
+            unsafe {
+                ffi::taskscope_task_open(u64::MAX, &mut entry.row);
+                ffi::taskscope_task_start(&mut entry.row, u64::MAX);
+                ffi::taskscope_task_end(&mut entry.row, u64::MAX);
+                ffi::taskscope_task_wake_by_ref(&mut entry.row, u64::MAX, false);
+                ffi::taskscope_task_close(&mut entry.row, u64::MAX);
+            }
+            entry.line = u32::MAX;
+            entry.column = u32::MAX;
+            page.tasks.push(entry);
+        }
+        let line = page.line(&head()).expect("a line");
+        assert_eq!(
+            String::from_utf8(line).expect("text").matches("\"polls\":1").count(),
+            200
+        );
+    }
+}
