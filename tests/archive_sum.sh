@@ -7,18 +7,17 @@
 # One line, the SHA-256 of all that in a fixed order, to standard output. rust/taskscope/prebuilt/TARGET/sources.sha256 keeps
 # that of the archive beside it; `tests/rust.sh` compares the two.
 
-root=$(CDPATH= cd -P -- "$(dirname -- "$0")/.." && pwd) || exit 2
-cd "$root" || exit 2
-version=$(rt version) || exit 2
-crates='tk_ids tk_core tk_stream tk_embed'
-{
-    for crate in $crates; do
-        for part in src specs proofs; do
-            find "crates/$crate/$part" -type f
-        done
-    done | LC_ALL=C sort | xargs sha256sum || exit 2
-    for crate in $crates; do
-        grep -E "^$crate[ :]" crates.txt || exit 2
+set -e
+root=$(CDPATH= cd -P -- "$(dirname -- "$0")/.." && pwd)
+work=$(mktemp -d)
+trap 'rm -rf "$work"' EXIT
+cd "$root"
+for crate in tk_ids tk_core tk_stream tk_embed; do
+    for part in src specs proofs; do
+        find "crates/$crate/$part" -type f >> "$work/files"
     done
-    echo "$version"
-} | sha256sum | cut -d ' ' -f 1
+    grep -E "^${crate}[ :]" crates.txt >> "$work/lines"
+done
+LC_ALL=C sort "$work/files" | xargs sha256sum > "$work/sums"
+rt version > "$work/version"
+cat "$work/sums" "$work/lines" "$work/version" | sha256sum | cut -d ' ' -f 1

@@ -58,11 +58,7 @@ impl<F: Future> Future for CountedWait<F> {
 
     fn poll(mut self: Pin<&mut Self>, cx: &mut Context<'_>) -> Poll<F::Output> {
         let answer = self.wait.as_mut().poll(cx);
-        let count = if answer.is_ready() {
-            &self.counts.ready
-        } else {
-            &self.counts.pending
-        };
+        let count = if answer.is_ready() { &self.counts.ready } else { &self.counts.pending };
         count.fetch_add(1, Ordering::SeqCst);
         answer
     }
@@ -118,10 +114,7 @@ impl Service {
         work: impl Future<Output = ()> + Send + 'static,
     ) -> Inspected<Counted> {
         let (name, polls) = (name.into(), Arc::<AtomicU64>::default());
-        let counted = Counted {
-            work: Box::pin(work),
-            polls: Arc::clone(&polls),
-        };
+        let counted = Counted { work: Box::pin(work), polls: Arc::clone(&polls) };
         let inspected = self.console.inspect(name.clone(), counted);
         self.tasks.push((inspected.id(), name, polls));
         inspected
@@ -160,19 +153,12 @@ impl Service {
             let (console, counts) = (self.console.clone(), Arc::clone(&self.waits));
             let work = self.inspect(format!("limited-{limited}"), async move {
                 for _ in 0..20 {
-                    let wait = CountedWait {
-                        wait: Box::pin(semaphore.acquire()),
-                        counts: Arc::clone(&counts),
-                    };
+                    let wait = CountedWait { wait: Box::pin(semaphore.acquire()), counts: Arc::clone(&counts) };
                     let acquire = console.op(&resource, "Semaphore::acquire").open().inspect(wait);
                     let permit = acquire.await.expect("the semaphore stays open");
-                    resource
-                        .change("permits", Change::sub(1u64))
-                        .expect("there was a permit");
+                    resource.change("permits", Change::sub(1u64)).expect("there was a permit");
                     sleep(Duration::from_millis(2)).await;
-                    resource
-                        .change("permits", Change::add(1u64))
-                        .expect("there are two permits");
+                    resource.change("permits", Change::add(1u64)).expect("there are two permits");
                     drop(permit);
                 }
             });
@@ -189,15 +175,14 @@ impl Service {
             }
         });
         let self_waker = self.inspect("self-waker", SelfWaker(1_000));
-        let hash = self
-            .console
-            .blocking("hash", || std::thread::sleep(Duration::from_millis(40)));
-        self.tasks.push((hash.id(), "hash".into(), Arc::new(AtomicU64::new(1))));
-        vec![
-            tokio::spawn(sleeper),
-            tokio::spawn(self_waker),
-            spawn_blocking(move || hash.run()),
-        ]
+        let calls = Arc::<AtomicU64>::default();
+        let called = Arc::clone(&calls);
+        let hash = self.console.blocking("hash", move || {
+            called.fetch_add(1, Ordering::SeqCst);
+            std::thread::sleep(Duration::from_millis(40));
+        });
+        self.tasks.push((hash.id(), "hash".into(), calls));
+        vec![tokio::spawn(sleeper), tokio::spawn(self_waker), spawn_blocking(move || hash.run())]
     }
 
     async fn run(&mut self, resource: &Resource) {
@@ -220,10 +205,7 @@ impl Service {
         for (id, name, polls) in &self.tasks {
             let _ = writeln!(text, "mine {id} {name} polls {}", polls.load(Ordering::SeqCst));
         }
-        let (ready, pending) = (
-            self.waits.ready.load(Ordering::SeqCst),
-            self.waits.pending.load(Ordering::SeqCst),
-        );
+        let (ready, pending) = (self.waits.ready.load(Ordering::SeqCst), self.waits.pending.load(Ordering::SeqCst));
         let _ = writeln!(text, "mine {} ready {ready} pending {pending}", resource.id());
         text
     }
@@ -242,15 +224,8 @@ fn main() -> Result<(), Box<dyn Error>> {
     let console = Console::open(Settings::default());
     let publisher = Publisher::start(&console, Duration::from_millis(100), writer)?;
     let runtime = runtime()?;
-    let resource = console
-        .resource("tokio::sync::Semaphore", "Sync")
-        .attr(Attr::new("permits", 2u64))
-        .open();
-    let mut service = Service {
-        console,
-        tasks: Vec::new(),
-        waits: Arc::default(),
-    };
+    let resource = console.resource("tokio::sync::Semaphore", "Sync").attr(Attr::new("permits", 2u64)).open();
+    let mut service = Service { console, tasks: Vec::new(), waits: Arc::default() };
     runtime.block_on(service.run(&resource));
     // The last line is written while the lost task is there: the runtime drops it at its own end.
     publisher.stop()?;

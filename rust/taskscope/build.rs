@@ -28,10 +28,7 @@ fn folder() -> Result<PathBuf, String> {
         return if folder.join(ARCHIVE).exists() {
             Ok(folder)
         } else {
-            Err(format!(
-                "TASKSCOPE_LIB names {}, which has no {ARCHIVE}",
-                folder.display()
-            ))
+            Err(format!("TASKSCOPE_LIB names {}, which has no {ARCHIVE}", folder.display()))
         };
     }
     let target = env::var("TARGET").map_err(|error| format!("TARGET: {error}"))?;

@@ -37,17 +37,9 @@ impl Value {
     pub(crate) fn for_library(self) -> ffi::Attr {
         let none = ffi::Attr::default();
         match self {
-            Value::U64(number) => ffi::Attr {
-                kind: 0,
-                number,
-                ..none
-            },
+            Value::U64(number) => ffi::Attr { kind: 0, number, ..none },
             Value::Bool(flag) => ffi::Attr { kind: 1, flag, ..none },
-            Value::I64(signed) => ffi::Attr {
-                kind: 2,
-                signed,
-                ..none
-            },
+            Value::I64(signed) => ffi::Attr { kind: 2, signed, ..none },
         }
     }
 }
@@ -106,19 +98,12 @@ pub struct Attr {
 impl Attr {
     /// An attribute without a unit.
     pub fn new(name: impl Into<Cow<'static, str>>, first: impl Into<Value>) -> Attr {
-        Attr {
-            name: Name::new(name.into()),
-            unit: None,
-            first: first.into(),
-        }
+        Attr { name: Name::new(name.into()), unit: None, first: first.into() }
     }
 
     /// The attribute, with this unit.
     pub fn with_unit(self, unit: impl Into<Cow<'static, str>>) -> Attr {
-        Attr {
-            unit: Some(Name::new(unit.into())),
-            ..self
-        }
+        Attr { unit: Some(Name::new(unit.into())), ..self }
     }
 }
 

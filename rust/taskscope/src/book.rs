@@ -166,10 +166,7 @@ impl<T: Item> Table<T> {
 
     /// These items left. They are gone from the tables.
     fn leave(&mut self, leaving: &[(u64, u64)]) -> Vec<Arc<T>> {
-        let left: Vec<Arc<T>> = leaving
-            .iter()
-            .filter_map(|(place, _)| self.told.remove(place))
-            .collect();
+        let left: Vec<Arc<T>> = leaving.iter().filter_map(|(place, _)| self.told.remove(place)).collect();
         left.iter().for_each(|cell| cell.row().leave());
         left
     }
@@ -184,8 +181,7 @@ impl<T: Item> Table<T> {
 
     /// These items did not leave, as their line was not made.
     fn stay(&mut self, leaving: &[(u64, u64)]) {
-        self.closed
-            .extend(leaving.iter().map(|&(place, from)| Reverse((from, place))));
+        self.closed.extend(leaving.iter().map(|&(place, from)| Reverse((from, place))));
     }
 }
 

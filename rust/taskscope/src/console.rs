@@ -30,10 +30,7 @@ pub struct Settings {
 impl Default for Settings {
     /// 65,536 new items, and a retention of one hour.
     fn default() -> Settings {
-        Settings {
-            capacity: 65_536,
-            retention: Some(Duration::from_secs(3600)),
-        }
+        Settings { capacity: 65_536, retention: Some(Duration::from_secs(3600)) }
     }
 }
 
@@ -79,9 +76,7 @@ fn shard() -> usize {
 
 /// A span in nanoseconds, which stays at the greatest `u64`.
 fn nanoseconds(span: Duration) -> u64 {
-    span.as_secs()
-        .saturating_mul(1_000_000_000)
-        .saturating_add(span.subsec_nanos().into())
+    span.as_secs().saturating_mul(1_000_000_000).saturating_add(span.subsec_nanos().into())
 }
 
 impl Inner {

@@ -27,10 +27,7 @@ thread_local! {
 }
 
 fn polled_of(console: &Arc<Inner>, task: u64) -> Polled {
-    Polled {
-        console: Arc::as_ptr(console) as usize,
-        task,
-    }
+    Polled { console: Arc::as_ptr(console) as usize, task }
 }
 
 /// The task of this console that this thread polls.
@@ -50,10 +47,7 @@ impl<'a> Polling<'a> {
         // A poll that was left open by hand goes on.
         let _ = task.start_poll();
         let polled = polled_of(&task.console, task.cell.id);
-        Polling {
-            before: POLLED.with(|cell| cell.replace(polled)),
-            task,
-        }
+        Polling { before: POLLED.with(|cell| cell.replace(polled)), task }
     }
 }
 
@@ -173,11 +167,7 @@ fn lend(lent: &mut Option<Arc<Recorded>>, task: &Task, waker: &Waker) -> Manuall
         *lent = None;
     }
     let recorded = lent.get_or_insert_with(|| {
-        Arc::new(Recorded {
-            console: Arc::clone(&task.console),
-            cell: Arc::clone(&task.cell),
-            waker: waker.clone(),
-        })
+        Arc::new(Recorded { console: Arc::clone(&task.console), cell: Arc::clone(&task.cell), waker: waker.clone() })
     });
     let data = Arc::as_ptr(recorded).cast::<()>();
     // SAFETY: the four functions take this data. As it is never dropped, it gives up no count, and `lent` keeps the value for
@@ -276,11 +266,7 @@ impl<F: Future> Future for InspectedOp<F> {
 impl Task {
     /// The future, whose polls and wakers are recorded as those of this task.
     pub fn inspect<F>(self, future: F) -> Inspected<F> {
-        Inspected {
-            future,
-            task: self,
-            lent: None,
-        }
+        Inspected { future, task: self, lent: None }
     }
 
     /// The call, recorded as the one poll of this task.
@@ -304,11 +290,7 @@ impl Op {
     /// # drop(task);
     /// ```
     pub fn inspect<F>(self, future: F) -> InspectedOp<F> {
-        InspectedOp {
-            future,
-            op: self,
-            task: None,
-        }
+        InspectedOp { future, op: self, task: None }
     }
 }
 

@@ -23,11 +23,7 @@ pub struct Location {
 impl Location {
     /// A line, counted from 1, of a file, and a column. The file is a name, which becomes what a line of the stream can hold.
     pub fn new(file: impl Into<Cow<'static, str>>, line: u32, column: u32) -> Location {
-        Location {
-            file: Name::new(file.into()),
-            line,
-            column,
-        }
+        Location { file: Name::new(file.into()), line, column }
     }
 
     /// Where the caller of this function stands, or that of the function around it where that has `#[track_caller]`.

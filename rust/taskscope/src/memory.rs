@@ -22,10 +22,7 @@ impl Tried {
     fn new(block: *mut c_void) -> Tried {
         let block = block.cast::<u8>();
         if block.is_null() {
-            Tried {
-                ok: false,
-                block: NonNull::dangling().as_ptr(),
-            }
+            Tried { ok: false, block: NonNull::dangling().as_ptr() }
         } else {
             Tried { ok: true, block }
         }

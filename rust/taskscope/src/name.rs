@@ -77,11 +77,7 @@ mod tests {
 
     #[test]
     fn long_names_are_cut() {
-        for (given, held) in [
-            ("x".repeat(1024), 1024),
-            ("x".repeat(1025), 1024),
-            ("\u{e9}".repeat(600), 600),
-        ] {
+        for (given, held) in [("x".repeat(1024), 1024), ("x".repeat(1025), 1024), ("\u{e9}".repeat(600), 600)] {
             assert_eq!(Name::new(given.into()).as_bytes().len(), held);
         }
     }

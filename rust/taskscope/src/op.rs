@@ -54,10 +54,7 @@ impl Item for OpCell {
 
     fn entered(page: &Page, place: usize) -> Reading<Words> {
         let entry = &page.ops[place];
-        Reading {
-            now: entry.row,
-            told: entry.told,
-        }
+        Reading { now: entry.row, told: entry.told }
     }
 
     fn closed(words: &Words) -> Option<u64> {
@@ -84,21 +81,12 @@ pub struct OpBuilder<'a> {
 impl<'a> OpBuilder<'a> {
     pub(crate) fn new(console: &'a Console, resource: &Resource, source: Cow<'static, str>) -> OpBuilder<'a> {
         let counts = Arc::clone(resource.counts());
-        OpBuilder {
-            console,
-            parent: 0,
-            source: Name::new(source),
-            attrs: Attrs::default(),
-            counts,
-        }
+        OpBuilder { console, parent: 0, source: Name::new(source), attrs: Attrs::default(), counts }
     }
 
     /// The operation is a part of this one.
     pub fn parent(self, parent: OpId) -> OpBuilder<'a> {
-        OpBuilder {
-            parent: parent.0,
-            ..self
-        }
+        OpBuilder { parent: parent.0, ..self }
     }
 
     /// Adds an attribute, as [`ResourceBuilder::attr`](crate::ResourceBuilder::attr) does.
@@ -125,10 +113,7 @@ impl<'a> OpBuilder<'a> {
             row: Row::listed(words),
             counts: self.counts,
         });
-        Op {
-            console: Arc::clone(console),
-            cell,
-        }
+        Op { console: Arc::clone(console), cell }
     }
 }
 

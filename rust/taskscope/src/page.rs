@@ -29,10 +29,7 @@ impl Page {
 
     fn piece_of(&mut self, start: usize, end: usize) -> Piece {
         match (u32::try_from(start), u32::try_from(end)) {
-            (Ok(start), Ok(end)) => Piece {
-                start,
-                len: end - start,
-            },
+            (Ok(start), Ok(end)) => Piece { start, len: end - start },
             _ => {
                 self.is_too_long = true;
                 Piece::default()
@@ -106,10 +103,7 @@ impl Page {
             5 => self.tasks.get(place).map(|entry| (ItemKind::Task, entry.id)),
             6 => self.resources.get(place).map(|entry| (ItemKind::Resource, entry.id)),
             7 => self.ops.get(place).map(|entry| (ItemKind::Op, entry.id)),
-            8 => self
-                .counts
-                .get(place)
-                .map(|entry| (ItemKind::PollCounts, entry.resource)),
+            8 => self.counts.get(place).map(|entry| (ItemKind::PollCounts, entry.resource)),
             _ => None,
         };
         match (item, BadItem::from_number(answer.reason)) {
@@ -120,13 +114,7 @@ impl Page {
 
     fn with_told(&self, head: &Head) -> Head {
         let [told_tasks, told_resources, told_ops, told_counts] = self.told;
-        Head {
-            told_tasks,
-            told_resources,
-            told_ops,
-            told_counts,
-            ..*head
-        }
+        Head { told_tasks, told_resources, told_ops, told_counts, ..*head }
     }
 
     fn write_line(&self, head: &Head, out: &mut [u8]) -> Answer {
@@ -211,16 +199,7 @@ mod tests {
         // SAFETY: the words are lent for the call.
         unsafe { ffi::taskscope_task_open(7, &mut row) };
         let (name, file) = (page.piece(&name("task")), page.piece(&name("main.rs")));
-        TaskEntry {
-            row,
-            told: row,
-            id: ID,
-            name,
-            file,
-            line: 1,
-            column: 1,
-            kind: 0,
-        }
+        TaskEntry { row, told: row, id: ID, name, file, line: 1, column: 1, kind: 0 }
     }
 
     fn opened(open: unsafe extern "C" fn(u64, *const ffi::Attr, usize, &mut Words) -> bool) -> Words {
@@ -234,32 +213,13 @@ mod tests {
         let row = opened(ffi::taskscope_resource_open);
         let (concrete, file) = (page.piece(&name("Semaphore")), page.piece(&name("main.rs")));
         let attrs = Piece::default();
-        ResourceEntry {
-            row,
-            told: row,
-            id: ID,
-            parent: 0,
-            concrete,
-            kind: concrete,
-            file,
-            attrs,
-            line: 1,
-            column: 1,
-        }
+        ResourceEntry { row, told: row, id: ID, parent: 0, concrete, kind: concrete, file, attrs, line: 1, column: 1 }
     }
 
     fn op(page: &mut Page) -> OpEntry {
         let row = opened(ffi::taskscope_op_open);
         let source = page.piece(&name("acquire"));
-        OpEntry {
-            row,
-            told: row,
-            id: ID,
-            resource: ID,
-            parent: 0,
-            source,
-            attrs: Piece::default(),
-        }
+        OpEntry { row, told: row, id: ID, resource: ID, parent: 0, source, attrs: Piece::default() }
     }
 
     /// A page with one good entry of each kind.
@@ -269,13 +229,7 @@ mod tests {
         page.tasks.push(task);
         page.resources.push(resource);
         page.ops.push(op);
-        page.counts.push(CountEntry {
-            resource: ID,
-            ready: 1,
-            pending: 0,
-            told_ready: 0,
-            told_pending: 0,
-        });
+        page.counts.push(CountEntry { resource: ID, ready: 1, pending: 0, told_ready: 0, told_pending: 0 });
         page
     }
 
@@ -308,12 +262,7 @@ mod tests {
 
     fn push_attribute(page: &mut Page, text: &'static str) {
         let name = page.piece(&name(text));
-        page.attrs.push(AttrEntry {
-            name,
-            unit: Piece::default(),
-            kind: 0,
-            has_unit: false,
-        });
+        page.attrs.push(AttrEntry { name, unit: Piece::default(), kind: 0, has_unit: false });
     }
 
     fn attribute_twice(page: &mut Page) {
@@ -323,9 +272,7 @@ mod tests {
     }
 
     fn seven_attributes(page: &mut Page) {
-        ["a", "b", "c", "d", "e", "f", "g"]
-            .into_iter()
-            .for_each(|name| push_attribute(page, name));
+        ["a", "b", "c", "d", "e", "f", "g"].into_iter().for_each(|name| push_attribute(page, name));
         page.resources[0].attrs.len = 7;
     }
 
@@ -389,9 +336,6 @@ mod tests {
             page.tasks.push(entry);
         }
         let line = page.line(&head()).expect("a line");
-        assert_eq!(
-            String::from_utf8(line).expect("text").matches("\"polls\":1").count(),
-            200
-        );
+        assert_eq!(String::from_utf8(line).expect("text").matches("\"polls\":1").count(), 200);
     }
 }

@@ -18,10 +18,7 @@ pub(crate) struct PollCounts {
 
 impl PollCounts {
     pub(crate) fn new(resource: u64) -> Arc<PollCounts> {
-        Arc::new(PollCounts {
-            resource,
-            row: Row::unlisted([0, 0]),
-        })
+        Arc::new(PollCounts { resource, row: Row::unlisted([0, 0]) })
     }
 
     pub(crate) fn count(self: &Arc<PollCounts>, console: &Inner, is_ready: bool) {
@@ -46,21 +43,12 @@ impl Item for PollCounts {
 
     fn enter(&self, page: &mut Page, reading: &Reading<[u64; 2]>) {
         let ([ready, pending], [told_ready, told_pending]) = (reading.now, reading.told);
-        page.counts.push(CountEntry {
-            resource: self.resource,
-            ready,
-            pending,
-            told_ready,
-            told_pending,
-        });
+        page.counts.push(CountEntry { resource: self.resource, ready, pending, told_ready, told_pending });
     }
 
     fn entered(page: &Page, place: usize) -> Reading<[u64; 2]> {
         let entry = &page.counts[place];
-        Reading {
-            now: [entry.ready, entry.pending],
-            told: [entry.told_ready, entry.told_pending],
-        }
+        Reading { now: [entry.ready, entry.pending], told: [entry.told_ready, entry.told_pending] }
     }
 
     fn closed(_words: &[u64; 2]) -> Option<u64> {

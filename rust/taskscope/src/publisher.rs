@@ -45,10 +45,7 @@ impl<W: Write + Send + 'static> Publisher<W> {
         let thread = thread::Builder::new()
             .name("taskscope".into())
             .spawn(move || publish_until(&stopped, &console, every, writer))?;
-        Ok(Publisher {
-            stop,
-            thread: Some(thread),
-        })
+        Ok(Publisher { stop, thread: Some(thread) })
     }
 }
 

@@ -58,10 +58,7 @@ impl Item for ResourceCell {
 
     fn entered(page: &Page, place: usize) -> Reading<Words> {
         let entry = &page.resources[place];
-        Reading {
-            now: entry.row,
-            told: entry.told,
-        }
+        Reading { now: entry.row, told: entry.told }
     }
 
     fn closed(words: &Words) -> Option<u64> {
@@ -99,22 +96,12 @@ impl<'a> ResourceBuilder<'a> {
         location: Location,
     ) -> ResourceBuilder<'a> {
         let (concrete, kind) = (Name::new(concrete), Name::new(kind));
-        ResourceBuilder {
-            console,
-            parent: 0,
-            concrete,
-            kind,
-            location,
-            attrs: Attrs::default(),
-        }
+        ResourceBuilder { console, parent: 0, concrete, kind, location, attrs: Attrs::default() }
     }
 
     /// The resource is a part of this one.
     pub fn parent(self, parent: ResourceId) -> ResourceBuilder<'a> {
-        ResourceBuilder {
-            parent: parent.0,
-            ..self
-        }
+        ResourceBuilder { parent: parent.0, ..self }
     }
 
     /// Adds an attribute. One that is more than 6, or whose name another has, is left out: its changes are refused with
@@ -126,10 +113,7 @@ impl<'a> ResourceBuilder<'a> {
 
     /// Where the resource was made: without this, where [`Console::resource`] was called.
     pub fn location(self, location: impl Into<Location>) -> ResourceBuilder<'a> {
-        ResourceBuilder {
-            location: location.into(),
-            ..self
-        }
+        ResourceBuilder { location: location.into(), ..self }
     }
 
     /// Makes the resource, created now. Where the thread's recorder is full it is counted as dropped: its calls work all the
@@ -152,10 +136,7 @@ impl<'a> ResourceBuilder<'a> {
             row: Row::listed(words),
             counts: PollCounts::new(id),
         });
-        Resource(Arc::new(OpenResource {
-            console: Arc::clone(console),
-            cell,
-        }))
+        Resource(Arc::new(OpenResource { console: Arc::clone(console), cell }))
     }
 }
 
@@ -168,8 +149,7 @@ impl Drop for OpenResource {
     fn drop(&mut self) {
         let now = self.console.now();
         // SAFETY: the row's lock lends the words to this call alone.
-        self.console
-            .step(&self.cell, |words| unsafe { ffi::taskscope_resource_close(words, now) });
+        self.console.step(&self.cell, |words| unsafe { ffi::taskscope_resource_close(words, now) });
     }
 }
 

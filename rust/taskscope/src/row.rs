@@ -71,12 +71,7 @@ impl<W: Copy + Default + PartialEq> Row<W> {
     }
 
     fn new(now: W, listed: bool) -> Row<W> {
-        Row(Mutex::new(State {
-            now,
-            told: W::default(),
-            listed,
-            standing: Standing::New,
-        }))
+        Row(Mutex::new(State { now, told: W::default(), listed, standing: Standing::New }))
     }
 
     /// Makes a call on the words, and has the item listed where it isn't: `list` learns whether it is new.
@@ -107,10 +102,7 @@ impl<W: Copy + Default + PartialEq> Row<W> {
     /// The words now, and as they were told.
     pub(crate) fn reading(&self) -> Reading<W> {
         let state = lock(&self.0);
-        Reading {
-            now: state.now,
-            told: state.told,
-        }
+        Reading { now: state.now, told: state.told }
     }
 
     /// A line told these words. The answer is the item's place among those told.

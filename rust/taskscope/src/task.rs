@@ -71,10 +71,7 @@ impl Item for TaskCell {
 
     fn entered(page: &Page, place: usize) -> Reading<Words> {
         let entry = &page.tasks[place];
-        Reading {
-            now: entry.row,
-            told: entry.told,
-        }
+        Reading { now: entry.row, told: entry.told }
     }
 
     fn closed(words: &Words) -> Option<u64> {
@@ -132,12 +129,7 @@ pub struct TaskBuilder<'a> {
 
 impl<'a> TaskBuilder<'a> {
     pub(crate) fn new(console: &'a Console, name: Cow<'static, str>, location: Location) -> TaskBuilder<'a> {
-        TaskBuilder {
-            console,
-            name: Name::new(name),
-            location,
-            kind: TaskKind::Spawn,
-        }
+        TaskBuilder { console, name: Name::new(name), location, kind: TaskKind::Spawn }
     }
 
     /// How the task runs: without this it is of kind [`Spawn`](TaskKind::Spawn).
@@ -147,10 +139,7 @@ impl<'a> TaskBuilder<'a> {
 
     /// Where the task was made: without this, where [`Console::task`] was called.
     pub fn location(self, location: impl Into<Location>) -> TaskBuilder<'a> {
-        TaskBuilder {
-            location: location.into(),
-            ..self
-        }
+        TaskBuilder { location: location.into(), ..self }
     }
 
     /// Makes the task, created now, and gives its owner. Where the thread's recorder is full it is counted as dropped: its
@@ -168,10 +157,7 @@ impl<'a> TaskBuilder<'a> {
             location: self.location,
             row: Row::listed(words),
         });
-        Task {
-            console: Arc::clone(console),
-            cell,
-        }
+        Task { console: Arc::clone(console), cell }
     }
 }
 
@@ -248,11 +234,7 @@ pub struct TaskWaker {
 impl TaskWaker {
     fn new(console: &Arc<Inner>, cell: &Arc<TaskCell>) -> TaskWaker {
         cell.clone_waker(console);
-        TaskWaker {
-            console: Arc::clone(console),
-            cell: Arc::clone(cell),
-            is_spent: false,
-        }
+        TaskWaker { console: Arc::clone(console), cell: Arc::clone(cell), is_spent: false }
     }
 
     /// The id of the task that it wakes.

@@ -17,10 +17,7 @@ struct Border {
 
 /// The text without comments, with one space between two words.
 fn words_of(source: &str) -> String {
-    let code: Vec<&str> = source
-        .lines()
-        .map(|line| line.split("//").next().unwrap_or(""))
-        .collect();
+    let code: Vec<&str> = source.lines().map(|line| line.split("//").next().unwrap_or("")).collect();
     code.join(" ").split_whitespace().collect::<Vec<_>>().join(" ")
 }
 
@@ -35,10 +32,7 @@ fn fields(list: &str) -> Vec<(String, String)> {
         }
         sign == ',' && depth == 0
     });
-    let pair = |part: &str| {
-        part.split_once(':')
-            .map(|(name, kind)| (name.trim().to_string(), kind.trim().to_string()))
-    };
+    let pair = |part: &str| part.split_once(':').map(|(name, kind)| (name.trim().to_string(), kind.trim().to_string()));
     parts.filter_map(pair).collect()
 }
 
@@ -52,9 +46,7 @@ fn parameters(list: &str) -> Vec<String> {
     let mut all = Vec::new();
     for (_, kind) in fields(list) {
         let slice = |start: &str| {
-            kind.strip_prefix(start)
-                .and_then(|rest| rest.strip_suffix(']'))
-                .filter(|of| !of.contains(';'))
+            kind.strip_prefix(start).and_then(|rest| rest.strip_suffix(']')).filter(|of| !of.contains(';'))
         };
         if kind == "Global" {
             continue;
@@ -89,18 +81,13 @@ fn read(border: &mut Border, source: &str, export: &str) {
         let result = result.split([' ', ';']).next().unwrap_or("()");
         let mut signature = parameters(list);
         signature.push(format!("-> {result}"));
-        assert!(
-            border.exports.insert(name.to_string(), signature).is_none(),
-            "{name} is declared twice"
-        );
+        assert!(border.exports.insert(name.to_string(), signature).is_none(), "{name} is declared twice");
     }
     for text in code.split("#[repr(C)]").skip(1) {
         let text = text.split_once("pub struct ").map_or("", |(_, rest)| rest);
         let (name, rest) = text.split_once('{').expect("a struct with fields");
         let fields = fields(inside(rest, '{', '}'));
-        let fields = fields
-            .iter()
-            .map(|(name, kind)| format!("{}: {}", name.replace("pub ", ""), spelled(kind)));
+        let fields = fields.iter().map(|(name, kind)| format!("{}: {}", name.replace("pub ", ""), spelled(kind)));
         border.structs.insert(name.trim().to_string(), fields.collect());
     }
 }
@@ -125,11 +112,7 @@ fn of_library(folder: &Path) -> Option<Border> {
     for file in fs::read_dir(folder).ok()? {
         let path = file.expect("a file").path();
         if path.extension().map_or(false, |kind| kind == "rt") {
-            read(
-                &mut border,
-                &fs::read_to_string(&path).expect("a source"),
-                "pub extern \"C\" fn ",
-            );
+            read(&mut border, &fs::read_to_string(&path).expect("a source"), "pub extern \"C\" fn ");
         }
     }
     Some(border)
@@ -186,13 +169,6 @@ fn a_slice_is_a_pointer_and_a_length() {
     read(&mut border, source, "pub extern \"C\" fn ");
     assert_eq!(
         border.exports["taskscope_x"],
-        [
-            "&mut [u64; 16]",
-            "*const Piece",
-            "usize",
-            "*mut u8",
-            "usize",
-            "-> Answer"
-        ]
+        ["&mut [u64; 16]", "*const Piece", "usize", "*mut u8", "usize", "-> Answer"]
     );
 }

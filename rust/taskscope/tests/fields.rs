@@ -7,33 +7,19 @@ use std::panic::Location as Caller;
 use taskscope::{Attr, Change, Console, Location, Refused, Settings, TaskKind, Value};
 
 fn attrs() -> [Attr; 3] {
-    [
-        Attr::new("permits", 7u64),
-        Attr::new("fair", true),
-        Attr::new("lag", -5i64).with_unit("ms"),
-    ]
+    [Attr::new("permits", 7u64), Attr::new("fair", true), Attr::new("lag", -5i64).with_unit("ms")]
 }
 
 #[test]
 fn what_is_new_comes_through() {
     let console = Console::open(Settings::default());
-    let task = console
-        .task("a \"task\"")
-        .kind(TaskKind::Blocking)
-        .location(Location::new("main.rs", 10, 5))
-        .open();
+    let task = console.task("a \"task\"").kind(TaskKind::Blocking).location(Location::new("main.rs", 10, 5)).open();
     let outer = console.resource("Outer", "Part").open();
     let [permits, fair, lag] = attrs();
     let (resource, line, column) = {
         let at = Caller::caller();
         (
-            console
-                .resource("Semaphore", "Sync")
-                .attr(permits)
-                .attr(fair)
-                .attr(lag)
-                .parent(outer.id())
-                .location(at),
+            console.resource("Semaphore", "Sync").attr(permits).attr(fair).attr(lag).parent(outer.id()).location(at),
             at.line(),
             at.column(),
         )
@@ -41,18 +27,12 @@ fn what_is_new_comes_through() {
     let resource = resource.open();
     let first = console.op(&resource, "Semaphore::acquire").open();
     let [permits, ..] = attrs();
-    let second = console
-        .op(&resource, "Acquire::poll")
-        .attr(permits)
-        .parent(first.id())
-        .open();
+    let second = console.op(&resource, "Acquire::poll").attr(permits).parent(first.id()).open();
     let told = publish(&console);
     let (t, r, o) = (task.id().value(), resource.id().value(), second.id().value());
     assert_eq!(
         list(&told, "new_tasks"),
-        [format!(
-            r#"{{"id":{t},"kind":"blocking","loc":["main.rs",10,5],"name":"a \"task\""}}"#
-        )]
+        [format!(r#"{{"id":{t},"kind":"blocking","loc":["main.rs",10,5],"name":"a \"task\""}}"#)]
     );
     assert_eq!(
         with_id(&told, "new_resources", r).expect("the resource"),
@@ -69,13 +49,7 @@ fn what_is_new_comes_through() {
             first.id().value(),
         )
     );
-    assert_eq!(
-        value(
-            with_id(&told, "new_resources", outer.id().value()).expect("the parent"),
-            "parent"
-        ),
-        "null"
-    );
+    assert_eq!(value(with_id(&told, "new_resources", outer.id().value()).expect("the parent"), "parent"), "null");
     assert_eq!((number(&told, "seq"), value(&told, "snapshot")), (1, "false"));
 }
 
@@ -88,21 +62,10 @@ fn an_item_is_made_where_its_maker_is_called() {
     let call = console.blocking("call", || ());
     let resource = console.resource("Semaphore", "Sync").open();
     let told = publish(&console);
-    let made = [
-        ("new_tasks", task.id().value()),
-        ("new_tasks", future.id().value()),
-        ("new_tasks", call.id().value()),
-    ];
-    for (offset, (key, id)) in made
-        .into_iter()
-        .chain([("new_resources", resource.id().value())])
-        .enumerate()
-    {
+    let made = [("new_tasks", task.id().value()), ("new_tasks", future.id().value()), ("new_tasks", call.id().value())];
+    for (offset, (key, id)) in made.into_iter().chain([("new_resources", resource.id().value())]).enumerate() {
         let place = format!("[\"{}\",{},", file!(), line as usize + offset);
-        assert!(
-            with_id(&told, key, id).expect("the item").contains(&place),
-            "{place} in {told}"
-        );
+        assert!(with_id(&told, key, id).expect("the item").contains(&place), "{place} in {told}");
     }
 }
 
@@ -110,12 +73,7 @@ fn an_item_is_made_where_its_maker_is_called() {
 fn calls_on_attributes_are_answered_and_told() {
     let console = Console::open(Settings::default());
     let [permits, fair, lag] = attrs();
-    let resource = console
-        .resource("Semaphore", "Sync")
-        .attr(permits)
-        .attr(fair)
-        .attr(lag)
-        .open();
+    let resource = console.resource("Semaphore", "Sync").attr(permits).attr(fair).attr(lag).open();
     let [permits, ..] = attrs();
     let mut op = console.op(&resource, "acquire").attr(permits).open();
     assert_eq!(resource.change("permits", Change::sub(3u64)), Ok(()));
@@ -140,11 +98,7 @@ fn a_seventh_attribute_and_a_second_of_one_name_are_left_out() {
     }
     let seven = seven.open();
     // Both names become `?`.
-    let twice = console
-        .resource("Twice", "Sync")
-        .attr(Attr::new("\u{e9}", 1u64))
-        .attr(Attr::new("", true))
-        .open();
+    let twice = console.resource("Twice", "Sync").attr(Attr::new("\u{e9}", 1u64)).attr(Attr::new("", true)).open();
     assert_eq!(seven.change("f", Change::add(1u64)), Ok(()));
     assert_eq!(seven.change("g", Change::add(1u64)), Err(Refused::NoAttribute));
     assert_eq!(twice.change("\u{e8}", Change::add(4u64)), Ok(()));
@@ -174,17 +128,8 @@ fn polls_by_hand_are_answered_and_told() {
     let told = publish(&console);
     let (t, r) = (task.id().value(), resource.id().value());
     let row = list(&told, "op_stats")[0];
-    assert_eq!(
-        (value(row, "polling"), number(row, "polls"), number(row, "task")),
-        ("true", 1, t)
-    );
-    assert_eq!(
-        (
-            value(common::task(&told, t), "polling"),
-            number(common::task(&told, t), "polls")
-        ),
-        ("true", 1)
-    );
+    assert_eq!((value(row, "polling"), number(row, "polls"), number(row, "task")), ("true", 1, t));
+    assert_eq!((value(common::task(&told, t), "polling"), number(common::task(&told, t), "polls")), ("true", 1));
     assert_eq!(list(&told, "poll_counts"), [format!("[{r},2,1]")]);
     // What is dropped with an open poll ends it, and is closed.
     drop((task, op));

@@ -32,13 +32,7 @@ fn a_wake_within_the_poll_is_a_self_wake() {
     while future.as_mut().poll(&mut Context::from_waker(&waker)).is_pending() {}
     let told = publish(&console);
     let row = task(&told, future.id().value());
-    for (key, count) in [
-        ("polls", 3),
-        ("wakes", 2),
-        ("self_wakes", 2),
-        ("clones", 1),
-        ("drops", 1),
-    ] {
+    for (key, count) in [("polls", 3), ("wakes", 2), ("self_wakes", 2), ("clones", 1), ("drops", 1)] {
         assert_eq!(number(row, key), count, "{key}");
     }
 }
@@ -52,9 +46,7 @@ fn the_waker_of_two_polls_is_the_same_while_the_executors_is() {
         let (kept, same) = (Arc::clone(&kept), Arc::clone(&same));
         Calls(move |cx: &mut Context<'_>| {
             let mut kept = kept.lock().unwrap();
-            same.lock()
-                .unwrap()
-                .push(kept.as_ref().map_or(false, |waker| waker.will_wake(cx.waker())));
+            same.lock().unwrap().push(kept.as_ref().map_or(false, |waker| waker.will_wake(cx.waker())));
             *kept = Some(cx.waker().clone());
             Poll::Pending
         })
@@ -73,22 +65,15 @@ fn the_waker_of_two_polls_is_the_same_while_the_executors_is() {
 #[test]
 fn a_poll_that_panics_has_ended() {
     let console = Console::open(Settings::default());
-    let mut future = Box::pin(console.inspect(
-        "panics",
-        Calls(|_: &mut Context<'_>| -> Poll<()> { panic!("as the test wants") }),
-    ));
+    let mut future =
+        Box::pin(console.inspect("panics", Calls(|_: &mut Context<'_>| -> Poll<()> { panic!("as the test wants") })));
     let id = future.id().value();
     let waker = noop();
-    let poll = catch_unwind(AssertUnwindSafe(|| {
-        future.as_mut().poll(&mut Context::from_waker(&waker))
-    }));
+    let poll = catch_unwind(AssertUnwindSafe(|| future.as_mut().poll(&mut Context::from_waker(&waker))));
     assert!(poll.is_err());
     let told = publish(&console);
     let row = task(&told, id);
-    assert_eq!(
-        (value(row, "polling"), number(row, "polls"), value(row, "dropped")),
-        ("false", 1, "null")
-    );
+    assert_eq!((value(row, "polling"), number(row, "polls"), value(row, "dropped")), ("false", 1, "null"));
     // The thread polls the task no more, so this is no self-wake.
     let mut other = Box::pin(console.inspect(
         "other",
@@ -111,9 +96,7 @@ fn a_poll_of_an_operation_that_panics_has_ended_and_is_not_counted() {
     let op = console.op(&resource, "acquire").open();
     let mut wait = Box::pin(op.inspect(Calls(|_: &mut Context<'_>| -> Poll<()> { panic!("as the test wants") })));
     let waker = noop();
-    let poll = catch_unwind(AssertUnwindSafe(|| {
-        wait.as_mut().poll(&mut Context::from_waker(&waker))
-    }));
+    let poll = catch_unwind(AssertUnwindSafe(|| wait.as_mut().poll(&mut Context::from_waker(&waker))));
     assert!(poll.is_err());
     let told = publish(&console);
     let row = list(&told, "op_stats")[0];
@@ -126,17 +109,14 @@ fn an_operation_is_of_the_task_that_polls_it() {
     let console = Console::open(Settings::default());
     let resource = console.resource("Semaphore", "Sync").open();
     let mut polls = 0;
-    let wait = console
-        .op(&resource, "acquire")
-        .open()
-        .inspect(Calls(move |_: &mut Context<'_>| {
-            polls += 1;
-            if polls < 3 {
-                Poll::Pending
-            } else {
-                Poll::Ready(())
-            }
-        }));
+    let wait = console.op(&resource, "acquire").open().inspect(Calls(move |_: &mut Context<'_>| {
+        polls += 1;
+        if polls < 3 {
+            Poll::Pending
+        } else {
+            Poll::Ready(())
+        }
+    }));
     let mut future = Box::pin(console.inspect("waits", wait));
     let waker = noop();
     while future.as_mut().poll(&mut Context::from_waker(&waker)).is_pending() {}
@@ -189,12 +169,7 @@ fn tasks_of_two_consoles_are_not_taken_for_each_other() {
     ));
     assert!(keeps.as_mut().poll(&mut Context::from_waker(&noop())).is_pending());
     let resource = other.resource("Semaphore", "Sync").open();
-    let mut wait = Box::pin(
-        other
-            .op(&resource, "acquire")
-            .open()
-            .inspect(Calls(|_: &mut Context<'_>| Poll::Pending)),
-    );
+    let mut wait = Box::pin(other.op(&resource, "acquire").open().inspect(Calls(|_: &mut Context<'_>| Poll::Pending)));
     // `one`'s tasks have the ids of `other`'s, if this thread draws both from the same recorder.
     let same_ids: Vec<_> = (0..2)
         .map(|_| {
@@ -236,10 +211,7 @@ fn a_blocking_call_is_one_poll() {
 
 #[test]
 fn what_finds_no_room_is_counted_and_works() {
-    let console = Console::open(Settings {
-        capacity: 1,
-        ..Settings::default()
-    });
+    let console = Console::open(Settings { capacity: 1, ..Settings::default() });
     let kept = console.task("kept").open();
     let mut dropped = console.task("dropped").open();
     let resource = console.resource("Semaphore", "Sync").open();
@@ -273,8 +245,5 @@ fn a_waker_that_outlives_its_task_finds_it_gone() {
     drop(waker);
     let told = publish(&console);
     let row = common::task(&told, id);
-    assert_eq!(
-        (number(row, "clones"), number(row, "drops"), number(row, "wakes")),
-        (2, 2, 2)
-    );
+    assert_eq!((number(row, "clones"), number(row, "drops"), number(row, "wakes")), (2, 2, 2));
 }

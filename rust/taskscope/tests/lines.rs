@@ -34,28 +34,19 @@ fn a_line_tells_what_changed_since_the_one_before() {
 #[test]
 fn what_changes_back_and_what_is_refused_is_not_told() {
     let console = Console::open(Settings::default());
-    let resource = console
-        .resource("Semaphore", "Sync")
-        .attr(Attr::new("permits", 2u64))
-        .open();
+    let resource = console.resource("Semaphore", "Sync").attr(Attr::new("permits", 2u64)).open();
     let mut task = console.task("polled").open();
     publish(&console);
     resource.change("permits", Change::add(1u64)).unwrap();
     resource.change("permits", Change::sub(1u64)).unwrap();
     task.end_poll().unwrap_err();
     let told = publish(&console);
-    assert!(
-        list(&told, "resource_stats").is_empty() && list(&told, "task_stats").is_empty(),
-        "{told}"
-    );
+    assert!(list(&told, "resource_stats").is_empty() && list(&told, "task_stats").is_empty(), "{told}");
     // Such an item is listed again by the next call.
     resource.change("permits", Change::add(1u64)).unwrap();
     task.start_poll().unwrap();
     let told = publish(&console);
-    assert_eq!(
-        (list(&told, "resource_stats").len(), list(&told, "task_stats").len()),
-        (1, 1)
-    );
+    assert_eq!((list(&told, "resource_stats").len(), list(&told, "task_stats").len()), (1, 1));
 }
 
 #[test]
@@ -64,10 +55,7 @@ fn a_moment_of_a_line_is_not_before_those_that_it_tells() {
     for _ in 0..100 {
         let task = console.task("made").open();
         let told = publish(&console);
-        assert!(
-            number(common::task(&told, task.id().value()), "created") <= number(&told, "now"),
-            "{told}"
-        );
+        assert!(number(common::task(&told, task.id().value()), "created") <= number(&told, "now"), "{told}");
     }
 }
 
@@ -106,9 +94,7 @@ impl Program {
     fn call(&mut self) {
         match self.chance.below(10) {
             0 => self.tasks.push(self.console.task("task").open()),
-            1 => self
-                .resources
-                .push(self.console.resource("R", "K").attr(Attr::new("n", 0u64)).open()),
+            1 => self.resources.push(self.console.resource("R", "K").attr(Attr::new("n", 0u64)).open()),
             2 | 3 => self.wait(),
             4 => drop(self.chance.take(&mut self.tasks)),
             5 => drop(self.chance.take(&mut self.ops)),
@@ -155,11 +141,7 @@ impl Program {
 
     fn change(&mut self) {
         if let Some(resource) = self.resources.last() {
-            let change = if self.chance.below(2) == 0 {
-                Change::add(1u64)
-            } else {
-                Change::sub(1u64)
-            };
+            let change = if self.chance.below(2) == 0 { Change::add(1u64) } else { Change::sub(1u64) };
             let _ = resource.change("n", change);
         }
     }
@@ -167,18 +149,9 @@ impl Program {
 
 #[test]
 fn a_stream_leads_to_what_a_snapshot_tells() {
-    for (seed, retention) in [
-        (1, None),
-        (2, Some(0)),
-        (3, Some(100)),
-        (4, Some(2_000)),
-        (5, Some(3_600_000_000)),
-    ] {
+    for (seed, retention) in [(1, None), (2, Some(0)), (3, Some(100)), (4, Some(2_000)), (5, Some(3_600_000_000))] {
         let retention = retention.map(Duration::from_micros);
-        let console = Console::open(Settings {
-            capacity: 20,
-            retention,
-        });
+        let console = Console::open(Settings { capacity: 20, retention });
         let mut program = Program {
             console: console.clone(),
             chance: Chance(seed),
@@ -196,21 +169,13 @@ fn a_stream_leads_to_what_a_snapshot_tells() {
             tables.apply(&publish(&console));
             let mut whole = Tables::default();
             whole.apply(&snapshot(&console));
-            assert_eq!(
-                (&whole.items, &whole.dropped),
-                (&tables.items, &tables.dropped),
-                "seed {seed}, turn {turn}"
-            );
+            assert_eq!((&whole.items, &whole.dropped), (&tables.items, &tables.dropped), "seed {seed}, turn {turn}");
             // A reader of the stream keeps the counts of resources that left. Of those that are there both have the same.
             for (resource, counts) in &whole.counts {
                 assert_eq!(Some(counts), tables.counts.get(resource), "seed {seed}, turn {turn}");
             }
             for (resource, ..) in &tables.items["resource_stats"] {
-                assert_eq!(
-                    whole.counts.get(resource),
-                    tables.counts.get(resource),
-                    "seed {seed}, turn {turn}"
-                );
+                assert_eq!(whole.counts.get(resource), tables.counts.get(resource), "seed {seed}, turn {turn}");
             }
         }
         assert_ne!(tables.dropped, "0,0,0", "seed {seed}: the recorders were never full");

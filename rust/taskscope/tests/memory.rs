@@ -49,19 +49,13 @@ fn round(console: &Console) {
 
 #[test]
 fn a_million_tasks_that_left_take_no_memory() {
-    let console = Console::open(Settings {
-        retention: Some(Duration::ZERO),
-        ..Settings::default()
-    });
+    let console = Console::open(Settings { retention: Some(Duration::ZERO), ..Settings::default() });
     (0..10).for_each(|_| round(&console));
     let early = HELD.load(Ordering::Relaxed);
     (10..1_000).for_each(|_| round(&console));
     let late = HELD.load(Ordering::Relaxed);
     // Tables of the standard library may keep some room more or less.
-    assert!(
-        late < early + 100_000,
-        "{early} bytes after 10,000 tasks, {late} after 1,000,000"
-    );
+    assert!(late < early + 100_000, "{early} bytes after 10,000 tasks, {late} after 1,000,000");
     let told = console.snapshot().unwrap();
     assert!(told.len() < 1_000, "{} bytes tell that nothing is there", told.len());
 }

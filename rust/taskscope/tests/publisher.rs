@@ -54,10 +54,7 @@ impl<F: FnMut() -> io::Result<usize>> Write for Fails<F> {
 fn until(condition: impl Fn() -> bool) {
     let started = Instant::now();
     while !condition() {
-        assert!(
-            started.elapsed() < Duration::from_secs(60),
-            "it took more than a minute"
-        );
+        assert!(started.elapsed() < Duration::from_secs(60), "it took more than a minute");
         sleep(Duration::from_millis(1));
     }
 }

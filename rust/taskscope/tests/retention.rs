@@ -8,10 +8,7 @@ use std::time::Duration;
 use taskscope::{Console, Origin, Settings};
 
 fn keeps_for(retention: Duration) -> Console {
-    Console::open(Settings {
-        retention: Some(retention),
-        ..Settings::default()
-    })
+    Console::open(Settings { retention: Some(retention), ..Settings::default() })
 }
 
 #[test]
@@ -32,10 +29,7 @@ fn a_close_is_told_before_its_item_leaves() {
     assert_eq!(value(lines[0], "now"), value(lines[1], "now"));
     assert!(list(lines[1], "task_stats").is_empty());
     let told = publish(&console);
-    assert!(
-        told.lines().count() == 1 && list(&told, "task_stats").is_empty(),
-        "{told}"
-    );
+    assert!(told.lines().count() == 1 && list(&told, "task_stats").is_empty(), "{told}");
     assert_eq!(number(&told, "seq"), 4);
     drop(stays);
 }
@@ -59,10 +53,7 @@ fn an_item_stays_for_its_retention() {
 
 #[test]
 fn without_a_retention_nothing_leaves() {
-    let console = Console::open(Settings {
-        retention: None,
-        ..Settings::default()
-    });
+    let console = Console::open(Settings { retention: None, ..Settings::default() });
     drop(console.task("closed").open());
     for _ in 0..3 {
         assert_eq!(publish(&console).lines().count(), 1);
@@ -79,14 +70,8 @@ fn a_snapshot_removes_nothing_and_tells_of_nothing_that_left() {
     let id = closed.id().value();
     drop(closed);
     let told = snapshot(&console);
-    assert!(
-        told.lines().count() == 1 && value(&told, "snapshot") == "true",
-        "{told}"
-    );
-    let ids: Vec<u64> = list(&told, "new_tasks")
-        .into_iter()
-        .map(|info| number(info, "id"))
-        .collect();
+    assert!(told.lines().count() == 1 && value(&told, "snapshot") == "true", "{told}");
+    let ids: Vec<u64> = list(&told, "new_tasks").into_iter().map(|info| number(info, "id")).collect();
     assert_eq!(ids, [id]);
     // The snapshot was the first to tell of its close, so it leaves with the next line.
     let told = publish(&console);

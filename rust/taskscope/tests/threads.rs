@@ -69,13 +69,8 @@ fn wakes_of_one_task_from_many_threads_are_all_counted() {
     tables.apply(&stream);
     let row = &tables.items["task_stats"][0].2;
     let each = THREADS * WAKES / 4;
-    let counts = [
-        ("polls", 1),
-        ("wakes", 3 * each),
-        ("clones", 1 + 2 * each),
-        ("drops", 1 + 2 * each),
-        ("self_wakes", 0),
-    ];
+    let counts =
+        [("polls", 1), ("wakes", 3 * each), ("clones", 1 + 2 * each), ("drops", 1 + 2 * each), ("self_wakes", 0)];
     for (key, count) in counts {
         assert_eq!(number(row, key), count, "{key}");
     }
@@ -91,10 +86,7 @@ fn wakes_of_one_task_from_many_threads_are_all_counted() {
 fn items_of_many_threads_are_all_told() {
     const EACH: u64 = 2_000;
     // They stay within the recorders' room, also where all threads have one recorder.
-    let console = Console::open(Settings {
-        retention: None,
-        ..Settings::default()
-    });
+    let console = Console::open(Settings { retention: None, ..Settings::default() });
     let publisher = Publisher::start(&console, Duration::from_millis(1), Vec::new()).expect("a thread");
     let polls = AtomicU64::new(0);
     thread::scope(|scope| {
@@ -119,19 +111,10 @@ fn items_of_many_threads_are_all_told() {
     let stream = String::from_utf8(publisher.stop().expect("the stream")).expect("text");
     let mut tables = Tables::default();
     tables.apply(&stream);
-    let sum = |stats: &str| {
-        tables.items[stats]
-            .iter()
-            .map(|item| number(&item.2, "polls"))
-            .sum::<u64>()
-    };
+    let sum = |stats: &str| tables.items[stats].iter().map(|item| number(&item.2, "polls")).sum::<u64>();
     let polls = polls.into_inner();
     assert_eq!((sum("task_stats"), sum("op_stats")), (polls, polls));
-    for (stats, count) in [
-        ("task_stats", THREADS * EACH),
-        ("op_stats", THREADS * EACH),
-        ("resource_stats", THREADS),
-    ] {
+    for (stats, count) in [("task_stats", THREADS * EACH), ("op_stats", THREADS * EACH), ("resource_stats", THREADS)] {
         let items = &tables.items[stats];
         assert_eq!(items.len() as u64, count, "{stats}");
         assert!(items.iter().all(|item| value(&item.2, "dropped") != "null"), "{stats}");
@@ -149,10 +132,7 @@ fn items_of_many_threads_are_all_told() {
 
 #[test]
 fn lines_of_threads_that_publish_at_once_are_one_stream() {
-    let console = Console::open(Settings {
-        retention: Some(Duration::ZERO),
-        ..Settings::default()
-    });
+    let console = Console::open(Settings { retention: Some(Duration::ZERO), ..Settings::default() });
     let lines = Mutex::new(Vec::new());
     thread::scope(|scope| {
         for turn in 0..THREADS {
@@ -162,10 +142,7 @@ fn lines_of_threads_that_publish_at_once_are_one_stream() {
                     let task = console.task("made").open();
                     let line = if turn == 0 { snapshot(console) } else { publish(console) };
                     drop(task);
-                    lines
-                        .lock()
-                        .unwrap()
-                        .extend(line.lines().map(str::to_string).collect::<Vec<_>>());
+                    lines.lock().unwrap().extend(line.lines().map(str::to_string).collect::<Vec<_>>());
                 }
             });
         }

@@ -41,9 +41,7 @@ pub fn snapshot(console: &Console) -> String {
 
 /// The values of a list of a line, as their texts.
 pub fn list<'a>(line: &'a str, key: &str) -> Vec<&'a str> {
-    let from = line
-        .find(&format!("\"{key}\":["))
-        .map_or("", |at| &line[at + key.len() + 4..]);
+    let from = line.find(&format!("\"{key}\":[")).map_or("", |at| &line[at + key.len() + 4..]);
     let mut values = Vec::new();
     let (mut depth, mut start, mut is_text, mut is_escaped) = (0, 0, false, false);
     for (at, byte) in from.bytes().enumerate() {
@@ -80,9 +78,7 @@ pub fn value<'a>(object: &'a str, key: &str) -> &'a str {
 }
 
 pub fn number(object: &str, key: &str) -> u64 {
-    value(object, key)
-        .parse()
-        .unwrap_or_else(|_| panic!("{key} in {object}"))
+    value(object, key).parse().unwrap_or_else(|_| panic!("{key} in {object}"))
 }
 
 /// The object with this id in a list of a line.
@@ -122,10 +118,7 @@ impl Tables {
         for (new, stats, gone) in KINDS {
             let items = self.items.entry(stats).or_default();
             for id in list(line, gone).iter().map(|id| id.parse::<u64>().expect("an id")) {
-                let place = items
-                    .iter()
-                    .position(|item| item.0 == id)
-                    .expect("what is gone was there");
+                let place = items.iter().position(|item| item.0 == id).expect("what is gone was there");
                 items.remove(place);
             }
             for info in list(line, new) {
@@ -135,19 +128,12 @@ impl Tables {
             }
             for row in list(line, stats) {
                 let id = number(row, "id");
-                let item = items
-                    .iter_mut()
-                    .find(|item| item.0 == id)
-                    .expect("a row is of an item that is there");
+                let item = items.iter_mut().find(|item| item.0 == id).expect("a row is of an item that is there");
                 item.2 = row.to_string();
             }
         }
         for counts in list(line, "poll_counts") {
-            let id = counts[1..]
-                .split(',')
-                .next()
-                .and_then(|id| id.parse().ok())
-                .expect("a resource");
+            let id = counts[1..].split(',').next().and_then(|id| id.parse().ok()).expect("a resource");
             self.counts.insert(id, counts.to_string());
         }
         self.dropped = list(line, "dropped").join(",");
