@@ -105,8 +105,12 @@ over_debian() {
         --config "source.debian.directory=\"$folder\"" "$@")
 }
 
+# A test that skips something says so by this word.
 try_crate() {
-    TASKSCOPE_LIB=$1 TASKSCOPE_STREAMS=$work/streams over_debian test -p taskscope
+    TASKSCOPE_LIB=$1 TASKSCOPE_STREAMS=$work/streams over_debian test -p taskscope > "$work/tests" 2>&1
+    tests=$?
+    cat "$work/tests"
+    [ "$tests" -eq 0 ] && ! grep -q SKIPPED "$work/tests"
 }
 
 sum_fits() {
@@ -128,6 +132,24 @@ if has_bytes; then
 else
     echo 'the kept archive has other bytes than the new one'
     step 'the tests of the crate pass with the kept archive' try_crate "$kept"
+fi
+
+# Races are looked for where the compiler has ThreadSanitizer, which Debian's has not. The standard library is not compiled for it.
+flags='-Zsanitizer=thread -Cunsafe-allow-abi-mismatch=sanitizer --cfg taskscope_races'
+
+has_sanitizer() {
+    # shellcheck disable=SC2086 # a word for each flag
+    echo 'fn main() {}' | RUSTC_BOOTSTRAP=1 rustc $flags --target "$target" -o "$work/empty" - && "$work/empty"
+}
+
+look_for_races() {
+    TASKSCOPE_LIB=$work/new RUSTC_BOOTSTRAP=1 RUSTFLAGS=$flags over_debian test -p taskscope --test races --target "$target"
+}
+
+if has_sanitizer > "$work/said" 2>&1; then
+    step 'ThreadSanitizer sees no race' look_for_races
+else
+    echo 'nothing looked for races, as this rustc has no ThreadSanitizer'
 fi
 
 document() {
@@ -160,7 +182,7 @@ view() {
 counts_agree() {
     while read -r _ id what rest; do
         case $what in
-        ready) line="^resource $id closed $what $rest type " ;;
+        ready) line="^resource $id live $what $rest type " ;;
         *) line="^task $id [a-z]* [a-z]* $rest .* name $what\$" ;;
         esac
         grep -q "$line" "$work/report" || {

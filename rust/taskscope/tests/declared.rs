@@ -6,6 +6,7 @@
 
 use std::collections::BTreeMap;
 use std::fs;
+use std::io::{self, Write};
 use std::path::{Path, PathBuf};
 
 /// What crosses the border: of each export its parameters and its result, and of each struct its fields.
@@ -124,7 +125,8 @@ fn both_sides_declare_the_same() {
     let library = match of_library(&folder) {
         Some(border) => border,
         None => {
-            eprintln!("SKIPPED: the library's sources are not at {}", folder.display());
+            // Not by `eprintln`, of which nothing is seen where a test passes.
+            let _ = writeln!(io::stderr(), "SKIPPED: the library's sources are not at {}", folder.display());
             return;
         }
     };

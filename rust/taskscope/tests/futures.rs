@@ -247,3 +247,41 @@ fn a_waker_that_outlives_its_task_finds_it_gone() {
     let row = common::task(&told, id);
     assert_eq!((number(row, "clones"), number(row, "drops"), number(row, "wakes")), (2, 2, 2));
 }
+
+/// An executor that polls within the wake.
+struct PollsAtOnce(Mutex<Option<std::pin::Pin<Box<dyn Future<Output = ()> + Send>>>>);
+
+impl std::task::Wake for PollsAtOnce {
+    fn wake(self: Arc<Self>) {
+        let mut future = self.0.lock().unwrap().take().expect("the future is not being polled");
+        let _ = future.as_mut().poll(&mut Context::from_waker(&Waker::from(Arc::clone(&self))));
+        *self.0.lock().unwrap() = Some(future);
+    }
+}
+
+#[test]
+fn a_wake_stands_before_the_poll_to_which_it_leads() {
+    let console = Console::open(Settings::default());
+    let kept: Arc<Mutex<Option<Waker>>> = Arc::default();
+    let slot = Arc::clone(&kept);
+    let future = console.inspect(
+        "polled at once",
+        Calls(move |cx: &mut Context<'_>| {
+            *slot.lock().unwrap() = Some(cx.waker().clone());
+            Poll::Pending
+        }),
+    );
+    let id = future.id().value();
+    let executor = Arc::new(PollsAtOnce(Mutex::new(Some(Box::pin(future)))));
+    Waker::from(executor).wake();
+    for by_value in [true, false] {
+        let waker = kept.lock().unwrap().take().expect("the waker of the last poll");
+        if by_value {
+            waker.wake();
+        } else {
+            waker.wake_by_ref();
+        }
+        let told = publish(&console);
+        assert_eq!(value(task(&told, id), "scheduled"), "false", "by value: {by_value}");
+    }
+}
