@@ -247,12 +247,9 @@ impl<F: Future> Future for InspectedOp<F> {
         let this = unsafe { self.get_unchecked_mut() };
         // SAFETY: as above.
         let future = unsafe { Pin::new_unchecked(&mut this.future) };
-        match polled_task(&this.op.console) {
-            Some(task) if this.task != Some(task) => {
-                this.op.set_task(task);
-                this.task = Some(task);
-            }
-            _ => {}
+        if let Some(task) = polled_task(&this.op.console).filter(|task| this.task != Some(*task)) {
+            this.op.set_task(task);
+            this.task = Some(task);
         }
         let _ = this.op.start_poll();
         let polling = OpPolling(&mut this.op);

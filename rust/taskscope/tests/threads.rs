@@ -15,7 +15,7 @@ use std::sync::{Arc, Mutex};
 use std::task::{Context, Poll, Waker};
 use std::thread;
 use std::time::Duration;
-use taskscope::{Console, Publisher, Settings, TaskId};
+use taskscope::{Console, Origin, Publisher, Settings, TaskId};
 
 const THREADS: u64 = 8;
 const WAKES: u64 = 100_000;
@@ -160,6 +160,38 @@ fn lines_of_threads_that_publish_at_once_are_one_stream() {
     let gone: usize = lines.iter().map(|line| list(line, "gone_tasks").len()).sum();
     assert_eq!(gone as u64, THREADS * 50);
     keep("lines_of_threads", &stream);
+}
+
+#[test]
+fn no_line_tells_of_calls_on_what_left() {
+    let console = Console::open(Settings { retention: Some(Duration::ZERO), ..Settings::default() });
+    let threads = AtomicU64::new(THREADS / 2);
+    let mut tables = Tables::default();
+    thread::scope(|scope| {
+        for _ in 0..THREADS / 2 {
+            scope.spawn(|| {
+                for _ in 0..300 {
+                    let resource = console.resource("Semaphore", "Sync").open();
+                    let mut op = console.op(&resource, "acquire").open();
+                    let waker = console.task("closed").open().waker();
+                    drop(resource);
+                    for _ in 0..100 {
+                        let _ = waker.wake_by_ref(Origin::Outside);
+                        op.count_poll(true);
+                        op.start_poll().unwrap();
+                        op.end_poll().unwrap();
+                    }
+                }
+                threads.fetch_sub(1, Ordering::SeqCst);
+            });
+        }
+        while threads.load(Ordering::SeqCst) > 0 {
+            // It ends by a panic where a row is of no item that is there.
+            tables.apply(&publish(&console));
+        }
+    });
+    tables.apply(&publish(&console));
+    assert!(tables.items.values().all(Vec::is_empty), "{tables:?}");
 }
 
 #[test]
