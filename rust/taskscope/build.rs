@@ -9,8 +9,6 @@ const ARCHIVE: &str = "libtk_embed.a";
 
 fn main() {
     println!("cargo:rerun-if-env-changed=TASKSCOPE_LIB");
-    // Set by `tests/rust.sh` for ThreadSanitizer.
-    println!("cargo:rustc-check-cfg=cfg(taskscope_races)");
     let folder = match folder() {
         Ok(folder) => folder,
         Err(message) => {

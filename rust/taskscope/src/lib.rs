@@ -57,6 +57,8 @@
 
 #![deny(missing_docs, unsafe_op_in_unsafe_fn)]
 #![warn(missing_debug_implementations)]
+// `taskscope_races` is set for `tests/races.rs` alone, by `tests/rust.sh`.
+#![allow(unknown_lints, unexpected_cfgs)]
 
 mod attr;
 mod book;

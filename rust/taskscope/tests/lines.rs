@@ -161,7 +161,7 @@ fn a_stream_leads_to_what_a_snapshot_tells() {
             ops: Vec::new(),
         };
         let mut tables = Tables::default();
-        for turn in 0..200 {
+        for turn in 0..100 {
             (0..program.chance.below(60)).for_each(|_| program.call());
             if turn % 20 == 7 {
                 sleep(Duration::from_millis(1));
