@@ -1,0 +1,181 @@
+//! What the inspection of a program costs: wakes, polls, clones of wakers and spawns, each plain, inspected, and under a
+//! `tracing` span; and lines, by how many tasks there are and how many of them changed.
+//!
+//! Usage: taskscope-bench
+//!
+//! Each figure is the least of many short rounds, as other programs of the machine take its processors in between. Calls are told
+//! in nanoseconds and in readings of the clock, lines in microseconds. The table goes to standard output.
+
+use std::future::Future;
+use std::hint::black_box;
+use std::pin::Pin;
+use std::sync::{Arc, Mutex};
+use std::task::{Context, Poll, Wake, Waker};
+use std::time::{Duration, Instant};
+use taskscope::{Console, Origin, Settings, Task};
+use tokio::runtime::{Builder, Runtime};
+use tracing::Instrument;
+
+struct Noop;
+
+impl Wake for Noop {
+    fn wake(self: Arc<Self>) {}
+    fn wake_by_ref(self: &Arc<Self>) {}
+}
+
+/// Is pending forever, and keeps a clone of its first poll's waker where it has a slot for it.
+struct Pending(Option<Arc<Mutex<Option<Waker>>>>);
+
+impl Future for Pending {
+    type Output = ();
+
+    fn poll(mut self: Pin<&mut Self>, cx: &mut Context<'_>) -> Poll<()> {
+        if let Some(slot) = self.0.take() {
+            *slot.lock().unwrap() = Some(cx.waker().clone());
+        }
+        black_box(cx);
+        Poll::Pending
+    }
+}
+
+/// The waker that a future is lent.
+fn waker_of<F: Future>(wrap: impl FnOnce(Pending) -> F) -> (Pin<Box<F>>, Waker) {
+    let slot = Arc::new(Mutex::new(None));
+    let mut future = Box::pin(wrap(Pending(Some(Arc::clone(&slot)))));
+    let noop = Waker::from(Arc::new(Noop));
+    assert!(future.as_mut().poll(&mut Context::from_waker(&noop)).is_pending());
+    let waker = slot.lock().unwrap().take().unwrap();
+    (future, waker)
+}
+
+/// Nanoseconds of one call, of the least of many rounds.
+fn least(rounds: u32, calls: u32, mut round: impl FnMut(u32)) -> f64 {
+    let time = |_| {
+        let started = Instant::now();
+        round(calls);
+        started.elapsed()
+    };
+    let least = (0..rounds).map(time).min().unwrap_or_default();
+    least.as_secs_f64() * 1e9 / f64::from(calls)
+}
+
+/// A console that keeps all that a measure makes.
+fn console() -> Console {
+    Console::open(Settings { capacity: usize::MAX, retention: Some(Duration::ZERO) })
+}
+
+/// A row of the table of calls.
+fn tell(what: &str, clock: f64, plain: f64, inspected: f64, span: Option<f64>) {
+    let span = span.map_or_else(|| "-".to_string(), |span| format!("{span:.1}"));
+    let readings = (inspected - plain) / clock;
+    println!("| {what} | {plain:.1} | {inspected:.1} | {span} | {readings:.1} |");
+}
+
+fn wakes(clock: f64) {
+    let (_plain, plain) = waker_of(|future| future);
+    let console = console();
+    let (_inspected, inspected) = waker_of(|future| console.inspect("woken", future));
+    let (_span, span) = waker_of(|future| future.instrument(tracing::info_span!("woken")));
+    let wake = |waker: &Waker| least(200, 20_000, |calls| (0..calls).for_each(|_| black_box(waker).wake_by_ref()));
+    tell("a wake by reference", clock, wake(&plain), wake(&inspected), Some(wake(&span)));
+    let copy = |waker: &Waker| least(200, 20_000, |calls| (0..calls).for_each(|_| drop(black_box(waker).clone())));
+    tell("a waker's clone and drop", clock, copy(&plain), copy(&inspected), Some(copy(&span)));
+}
+
+fn polls(clock: f64) {
+    fn poll(future: impl Future) -> f64 {
+        let waker = Waker::from(Arc::new(Noop));
+        let (mut future, mut cx) = (Box::pin(future), Context::from_waker(&waker));
+        least(200, 20_000, |calls| {
+            for _ in 0..calls {
+                let _ = black_box(future.as_mut().poll(&mut cx));
+            }
+        })
+    }
+    let console = console();
+    let inspected = poll(console.inspect("polled", Pending(None)));
+    let span = poll(Pending(None).instrument(tracing::info_span!("polled")));
+    tell("a poll", clock, poll(Pending(None)), inspected, Some(span));
+}
+
+fn spawns(clock: f64) -> std::io::Result<()> {
+    let runtime = Builder::new_multi_thread().worker_threads(2).build()?;
+    fn spawn<F: Future<Output = ()> + Send + 'static>(
+        runtime: &Runtime,
+        after: impl Fn(),
+        make: impl Fn() -> F,
+    ) -> f64 {
+        least(40, 1_000, |calls| {
+            runtime.block_on(async {
+                for _ in 0..calls {
+                    tokio::spawn(make()).await.unwrap();
+                }
+            });
+            after();
+        })
+    }
+    let console = console();
+    let plain = spawn(&runtime, || (), || async {});
+    let inspected = spawn(&runtime, || (), || console.inspect("spawned", async {}));
+    let span = spawn(&runtime, || (), || async {}.instrument(tracing::info_span!("spawned")));
+    tell("a spawn and join on tokio", clock, plain, inspected, Some(span));
+    let publish = || drop(console.publish());
+    let published = spawn(&runtime, publish, || console.inspect("spawned", async {}));
+    tell("the same, with its share of a line", clock, plain, published, None);
+    Ok(())
+}
+
+/// Microseconds of a publish, of the least of some rounds, each behind these wakes, and the bytes of the line.
+fn publish(console: &Console, rounds: u32, woken: &dyn Fn()) -> (f64, usize) {
+    let mut best = (f64::MAX, 0);
+    for _ in 0..rounds {
+        woken();
+        let started = Instant::now();
+        let len = console.publish().unwrap().len();
+        let micros = started.elapsed().as_secs_f64() * 1e6;
+        if micros < best.0 {
+            best = (micros, len);
+        }
+    }
+    best
+}
+
+fn lines() {
+    println!("\n| tasks | all new | none changed | 1 of 100 changed | all changed | a snapshot |");
+    println!("|---|---|---|---|---|---|");
+    for count in [1_000, 10_000, 100_000] {
+        let console = console();
+        let tasks: Vec<Task> = (0..count).map(|_| console.task("listed").open()).collect();
+        let wake = |step: usize| {
+            for task in tasks.iter().step_by(step) {
+                let _ = task.wake_by_ref(Origin::Outside);
+            }
+        };
+        let (new, _) = publish(&console, 1, &|| ());
+        let (none, _) = publish(&console, 200, &|| ());
+        let (some, _) = publish(&console, 20, &|| wake(100));
+        let (all, bytes) = publish(&console, 5, &|| wake(1));
+        let started = Instant::now();
+        let snapshot = console.snapshot().unwrap().len();
+        let micros = started.elapsed().as_secs_f64() * 1e6;
+        println!("| {count} | {new:.0} | {none:.1} | {some:.0} | {all:.0} ({bytes} bytes) | {micros:.0} ({snapshot} bytes) |");
+    }
+}
+
+fn main() -> std::io::Result<()> {
+    tracing::subscriber::set_global_default(tracing_subscriber::registry()).expect("no other subscriber is set");
+    let opened = Instant::now();
+    let clock = least(200, 20_000, |calls| {
+        (0..calls).for_each(|_| {
+            black_box(opened.elapsed());
+        })
+    });
+    println!("A reading of the clock: {clock:.1} ns. The figures of calls are in ns, those of lines in µs.\n");
+    println!("| | plain | inspected | under a span | more by inspection, in readings of the clock |");
+    println!("|---|---|---|---|---|");
+    wakes(clock);
+    polls(clock);
+    spawns(clock)?;
+    lines();
+    Ok(())
+}

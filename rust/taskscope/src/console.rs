@@ -1,0 +1,257 @@
+//! The console: it makes items, and publishes what became of them.
+
+use crate::book::{Book, Total};
+use crate::fault::Fault;
+use crate::id::{id_of, NUMBERS};
+use crate::item::{Item, Lists};
+use crate::location::Location;
+use crate::op::OpBuilder;
+use crate::resource::{Resource, ResourceBuilder};
+use crate::row::lock;
+use crate::task::TaskBuilder;
+use std::borrow::Cow;
+use std::cell::Cell;
+use std::fmt;
+use std::sync::atomic::{AtomicUsize, Ordering};
+use std::sync::{Arc, Mutex};
+use std::time::{Duration, Instant};
+
+/// How much a console keeps.
+#[derive(Clone, Debug)]
+pub struct Settings {
+    /// How many new items each of the 16 recorders holds until the next line: a thread's items all go to one recorder. What
+    /// finds no room is counted as dropped.
+    pub capacity: usize,
+    /// How long behind its close an item stays in the tables of the stream. `None`: for good, and so the memory of a program
+    /// that goes on making items has no bound.
+    pub retention: Option<Duration>,
+}
+
+impl Default for Settings {
+    /// 65,536 new items, and a retention of one hour.
+    fn default() -> Settings {
+        Settings { capacity: 65_536, retention: Some(Duration::from_secs(3600)) }
+    }
+}
+
+const SHARDS: usize = 16;
+
+/// What the threads of one shard have for the next line: new items, and items that changed.
+#[derive(Debug, Default)]
+struct Shard {
+    drawn: [u64; 3],
+    dropped: Total,
+    fresh: Lists,
+    changed: Lists,
+}
+
+/// A shard's lock, apart from the others' in memory, so that threads of different shards don't meet.
+#[derive(Debug, Default)]
+#[repr(align(128))]
+struct ShardLock(Mutex<Shard>);
+
+pub(crate) struct Inner {
+    opened: Instant,
+    capacity: usize,
+    /// In nanoseconds.
+    retention: Option<u64>,
+    shards: [ShardLock; SHARDS],
+    book: Mutex<Book>,
+}
+
+/// The shard of this thread. Threads are given the shards in turn.
+fn shard() -> usize {
+    static NEXT: AtomicUsize = AtomicUsize::new(0);
+    thread_local! {
+        static SHARD: Cell<Option<usize>> = const { Cell::new(None) };
+    }
+    SHARD.with(|shard| {
+        shard.get().unwrap_or_else(|| {
+            let next = NEXT.fetch_add(1, Ordering::Relaxed) % SHARDS;
+            shard.set(Some(next));
+            next
+        })
+    })
+}
+
+/// A span in nanoseconds, which stays at the greatest `u64`.
+fn nanoseconds(span: Duration) -> u64 {
+    span.as_secs().saturating_mul(1_000_000_000).saturating_add(span.subsec_nanos().into())
+}
+
+impl Inner {
+    /// Nanoseconds since the console was opened.
+    #[inline]
+    pub(crate) fn now(&self) -> u64 {
+        nanoseconds(self.opened.elapsed())
+    }
+
+    /// Makes a call on an item's words, and lists the item for the next line where it isn't.
+    #[inline]
+    pub(crate) fn step<T: Item, R>(&self, cell: &Arc<T>, call: impl FnOnce(&mut T::Words) -> R) -> R {
+        cell.row().step(call, |is_new| self.list(cell, is_new))
+    }
+
+    #[cold]
+    fn list<T: Item>(&self, cell: &Arc<T>, is_new: bool) {
+        let mut shard = lock(&self.shards[shard()].0);
+        let lists = if is_new { &mut shard.fresh } else { &mut shard.changed };
+        T::list(lists).push(Arc::clone(cell));
+    }
+
+    /// Makes an item and lists it as new, or counts it as dropped. Its id is 0 where the recorder has no number for it.
+    pub(crate) fn record<T: Item>(&self, make: impl FnOnce(u64) -> T) -> Arc<T> {
+        let number = shard();
+        let mut shard = lock(&self.shards[number].0);
+        let drawn = &mut shard.drawn[T::KIND as usize];
+        let mut id = 0;
+        if *drawn < NUMBERS {
+            *drawn += 1;
+            id = id_of(number + 1, *drawn);
+        }
+        let cell = Arc::new(make(id));
+        if id != 0 && shard.fresh.held() < self.capacity {
+            T::list(&mut shard.fresh).push(Arc::clone(&cell));
+        } else {
+            shard.dropped.add(T::KIND);
+            drop(shard);
+            cell.leave();
+        }
+        cell
+    }
+
+    /// Moves what the shards list to the book, and sums up what was dropped.
+    fn take(&self, book: &mut Book) -> Total {
+        let mut total = Total::default();
+        for shard in &self.shards {
+            let shard = &mut *lock(&shard.0);
+            total.add_all(&shard.dropped);
+            book.take(&mut shard.fresh, &mut shard.changed);
+        }
+        total
+    }
+
+    fn line(&self, whole: bool) -> Result<Vec<u8>, Fault> {
+        let mut book = lock(&self.book);
+        let dropped = self.take(&mut book);
+        if whole {
+            book.snapshot(dropped, || self.now(), self.retention)
+        } else {
+            book.publish(dropped, || self.now(), self.retention)
+        }
+    }
+}
+
+/// A console: it makes the items of a program, and publishes what became of them. Clones are the same console.
+///
+/// ```
+/// use taskscope::{Console, Settings};
+///
+/// let console = Console::open(Settings::default());
+/// let task = console.inspect("fetch", async { 7 });
+/// // Hand `task` to an executor, and write what `publish` gives to a file or a socket from time to time.
+/// let line = console.publish()?;
+/// assert!(line.starts_with(b"{") && line.ends_with(b"}\n"));
+/// # drop(task);
+/// # Ok::<(), taskscope::Fault>(())
+/// ```
+#[derive(Clone)]
+pub struct Console(Arc<Inner>);
+
+impl Console {
+    /// A console without items. The moments of its stream are counted from now.
+    pub fn open(settings: Settings) -> Console {
+        Console(Arc::new(Inner {
+            opened: Instant::now(),
+            capacity: settings.capacity,
+            retention: settings.retention.map(nanoseconds),
+            shards: Default::default(),
+            book: Mutex::default(),
+        }))
+    }
+
+    pub(crate) fn inner(&self) -> &Arc<Inner> {
+        &self.0
+    }
+
+    /// How many nanoseconds ago the console was opened: the moment that a call records now.
+    pub fn now(&self) -> u64 {
+        self.0.now()
+    }
+
+    /// Begins a task of this name, made where this is called.
+    ///
+    /// [`inspect`](Console::inspect) and [`blocking`](Console::blocking) make the task of a future or a call. This is for who
+    /// starts and ends polls by hand.
+    ///
+    /// ```
+    /// use taskscope::{Console, Location, Origin, Settings, Woken};
+    ///
+    /// let console = Console::open(Settings::default());
+    /// let mut task = console.task("fetch").location(Location::new("main.rs", 10, 5)).open();
+    /// task.start_poll()?;
+    /// let waker = task.waker();
+    /// task.end_poll()?;
+    /// assert_eq!(waker.wake(Origin::Outside), Woken::Scheduled);
+    /// # Ok::<(), taskscope::Refused>(())
+    /// ```
+    #[track_caller]
+    pub fn task(&self, name: impl Into<Cow<'static, str>>) -> TaskBuilder<'_> {
+        TaskBuilder::new(self, name.into(), Location::caller())
+    }
+
+    /// Begins a resource of this type and kind, made where this is called.
+    ///
+    /// ```
+    /// use taskscope::{Attr, Change, Console, Settings};
+    ///
+    /// let console = Console::open(Settings::default());
+    /// let semaphore = console.resource("Semaphore", "Sync").attr(Attr::new("permits", 2u64)).open();
+    /// semaphore.change("permits", Change::sub(1u64))?;
+    /// let mut acquire = console.op(&semaphore, "Semaphore::acquire").open();
+    /// acquire.start_poll()?;
+    /// acquire.end_poll()?;
+    /// # Ok::<(), taskscope::Refused>(())
+    /// ```
+    #[track_caller]
+    pub fn resource(
+        &self,
+        concrete: impl Into<Cow<'static, str>>,
+        kind: impl Into<Cow<'static, str>>,
+    ) -> ResourceBuilder<'_> {
+        ResourceBuilder::new(self, concrete.into(), kind.into(), Location::caller())
+    }
+
+    /// Begins an async operation on a resource, by the call that makes it, as `Semaphore::acquire`.
+    pub fn op(&self, resource: &Resource, source: impl Into<Cow<'static, str>>) -> OpBuilder<'_> {
+        OpBuilder::new(self, resource, source.into())
+    }
+
+    /// The next line of the stream, with its line end: what is new or has changed since the line before. Where closed items
+    /// leave with it, a second line behind it says which.
+    ///
+    /// Its cost is by what changed, not by how many items there are. Where several threads publish, their lines are to be
+    /// written in the order of their numbers.
+    ///
+    /// # Errors
+    /// Nothing counts as told then, and the next call tells it. [`Memory`](Fault::Memory) may come at any call, and
+    /// [`LinesSpent`](Fault::LinesSpent) behind 2^63 lines. The others don't come while this crate and its library fit each
+    /// other. Where a line was made and the one about what leaves was not, this is no error, and these items leave later.
+    pub fn publish(&self) -> Result<Vec<u8>, Fault> {
+        self.0.line(false)
+    }
+
+    /// The next line of the stream, as one that tells all, from which a new reader can begin. Nothing leaves with it.
+    ///
+    /// # Errors
+    /// As of [`publish`](Console::publish).
+    pub fn snapshot(&self) -> Result<Vec<u8>, Fault> {
+        self.0.line(true)
+    }
+}
+
+impl fmt::Debug for Console {
+    fn fmt(&self, f: &mut fmt::Formatter<'_>) -> fmt::Result {
+        f.debug_struct("Console").finish_non_exhaustive()
+    }
+}

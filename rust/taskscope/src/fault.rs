@@ -1,0 +1,90 @@
+//! Why no line was made.
+
+use crate::id;
+use crate::item::ItemKind;
+use std::error::Error;
+use std::fmt;
+
+/// Why no line was made. Nothing counts as told then, and the next call tells it.
+#[derive(Clone, Copy, Debug, PartialEq, Eq)]
+pub enum Fault {
+    /// There was no memory for the line.
+    Memory,
+    /// The stream has all of its 2^63 lines.
+    LinesSpent,
+    /// The library refused an item of the line. It refuses none that this crate makes while the two fit each other.
+    BadItem {
+        /// The kind of the item.
+        kind: ItemKind,
+        /// Its number in the stream, for poll counts that of their resource.
+        id: u64,
+        /// What was wrong.
+        reason: BadItem,
+    },
+    /// The library answered what this crate doesn't know. It doesn't while the two fit each other.
+    Misfit {
+        /// The answer.
+        status: u32,
+    },
+}
+
+/// What is wrong with an item.
+#[derive(Clone, Copy, Debug, PartialEq, Eq)]
+pub enum BadItem {
+    /// An id is none: its own, its resource's or its parent's.
+    Id,
+    /// A name is none.
+    Name,
+    /// A piece of it reaches out of the text or the attributes.
+    Piece,
+    /// It has more than 6 attributes, or two of one name.
+    Attrs,
+    /// Its words are those of no row.
+    Words,
+    /// Its id stood before in the list.
+    Repeated,
+}
+
+impl BadItem {
+    pub(crate) fn from_number(reason: u32) -> Option<BadItem> {
+        Some(match reason {
+            1 => BadItem::Id,
+            2 => BadItem::Name,
+            3 => BadItem::Piece,
+            4 => BadItem::Attrs,
+            5 => BadItem::Words,
+            6 => BadItem::Repeated,
+            _ => return None,
+        })
+    }
+}
+
+impl fmt::Display for BadItem {
+    fn fmt(&self, f: &mut fmt::Formatter<'_>) -> fmt::Result {
+        f.write_str(match self {
+            BadItem::Id => "an id is none",
+            BadItem::Name => "a name is none",
+            BadItem::Piece => "a piece reaches out",
+            BadItem::Attrs => "the attributes are none of an item",
+            BadItem::Words => "the words are those of no row",
+            BadItem::Repeated => "the id stood before",
+        })
+    }
+}
+
+impl fmt::Display for Fault {
+    fn fmt(&self, f: &mut fmt::Formatter<'_>) -> fmt::Result {
+        match self {
+            Fault::Memory => f.write_str("out of memory"),
+            Fault::LinesSpent => f.write_str("no line is left in the stream"),
+            Fault::BadItem { kind, id, reason } => {
+                write!(f, "{kind} ")?;
+                id::print(*id, f)?;
+                write!(f, ": {reason}")
+            }
+            Fault::Misfit { status } => write!(f, "the library answered {status}, which is unknown here"),
+        }
+    }
+}
+
+impl Error for Fault {}

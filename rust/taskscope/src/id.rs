@@ -1,0 +1,66 @@
+//! The ids of items.
+
+use std::fmt;
+
+/// How many numbers a recorder gives to items of one kind.
+pub(crate) const NUMBERS: u64 = (1 << 40) - 1;
+
+/// The id of the item with this number, of a recorder from 1 to 64.
+pub(crate) fn id_of(recorder: usize, number: u64) -> u64 {
+    ((recorder as u64) << 40) + number
+}
+
+pub(crate) fn print(id: u64, f: &mut fmt::Formatter<'_>) -> fmt::Result {
+    write!(f, "{}.{}", id >> 40, id & NUMBERS)
+}
+
+/// The id of a task. It is printed as reports print it: its recorder, a full stop, and its number, as `1.12`.
+#[derive(Clone, Copy, Debug, PartialEq, Eq, PartialOrd, Ord, Hash)]
+pub struct TaskId(pub(crate) u64);
+
+/// The id of a resource, printed as that of a task.
+#[derive(Clone, Copy, Debug, PartialEq, Eq, PartialOrd, Ord, Hash)]
+pub struct ResourceId(pub(crate) u64);
+
+/// The id of an async operation, printed as that of a task.
+#[derive(Clone, Copy, Debug, PartialEq, Eq, PartialOrd, Ord, Hash)]
+pub struct OpId(pub(crate) u64);
+
+impl TaskId {
+    /// The number that the stream has for it.
+    pub fn value(self) -> u64 {
+        self.0
+    }
+}
+
+impl ResourceId {
+    /// The number that the stream has for it.
+    pub fn value(self) -> u64 {
+        self.0
+    }
+}
+
+impl OpId {
+    /// The number that the stream has for it.
+    pub fn value(self) -> u64 {
+        self.0
+    }
+}
+
+impl fmt::Display for TaskId {
+    fn fmt(&self, f: &mut fmt::Formatter<'_>) -> fmt::Result {
+        print(self.0, f)
+    }
+}
+
+impl fmt::Display for ResourceId {
+    fn fmt(&self, f: &mut fmt::Formatter<'_>) -> fmt::Result {
+        print(self.0, f)
+    }
+}
+
+impl fmt::Display for OpId {
+    fn fmt(&self, f: &mut fmt::Formatter<'_>) -> fmt::Result {
+        print(self.0, f)
+    }
+}

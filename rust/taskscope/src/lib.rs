@@ -1,0 +1,94 @@
+//! Inspects the tasks of a program, and the resources and async operations that they wait for.
+//!
+//! Each call on an item is one step on its row, which a proved library makes; the rows of two items never meet. From time to time
+//! [`Console::publish`] gives a line of JSON that tells what is new and what changed, which the same library writes. `taskscope
+//! view` shows such lines as a report, and `taskscope lint` the warnings about them.
+//!
+//! - [`Console`] makes items and publishes lines, by its [`Settings`]. [`Publisher`] does so each so often, on a thread.
+//! - [`Inspected`] is a future whose polls and wakers are recorded, [`Blocking`] a call that blocks its thread, and
+//!   [`InspectedOp`] a future that is an async operation. Most programs need no more.
+//! - [`Task`] is the owner of a task, for polls by hand, [`TaskWaker`] one of its wakers. [`Resource`] is what tasks wait for,
+//!   and [`Op`] one wait. [`TaskBuilder`], [`ResourceBuilder`] and [`OpBuilder`] make them.
+//! - [`Location`] says where an item was made. [`Attr`] is an attribute of a resource or an operation, [`Value`] its value, and
+//!   [`Change`] a change of it.
+//! - [`Refused`] is why a call was refused, [`Woken`] what a wake found, and [`Fault`] why no line was made.
+//!
+//! Moments and spans are nanoseconds; a moment counts from when the console was opened.
+//!
+//! # Names
+//!
+//! A line holds names of 1 to 1,024 bytes of printable ASCII. Of any other name each character that is not printable ASCII becomes
+//! `?`, what stands behind the first 1,024 characters is cut off, and the empty name becomes `?`. This holds for names, files,
+//! types, kinds, sources and units alike.
+//!
+//! # Misuse
+//!
+//! A waker that woke by value is gone:
+//!
+//! ```compile_fail,E0382
+//! # use taskscope::{Console, Origin, Settings};
+//! # let task = Console::open(Settings::default()).task("fetch").open();
+//! let waker = task.waker();
+//! waker.wake(Origin::Outside);
+//! waker.wake(Origin::Outside);
+//! ```
+//!
+//! a task has one owner:
+//!
+//! ```compile_fail,E0599
+//! # use taskscope::{Console, Settings};
+//! # let task = Console::open(Settings::default()).task("fetch").open();
+//! let other = task.clone();
+//! ```
+//!
+//! and what is dropped is closed or released, once. All go to other threads, and all but futures and calls are shared:
+//!
+//! ```
+//! use taskscope::{Console, Op, Publisher, Resource, Task, TaskWaker};
+//!
+//! fn is_shared<T: Send + Sync + 'static>() {}
+//! is_shared::<Console>();
+//! is_shared::<Publisher<Vec<u8>>>();
+//! is_shared::<Task>();
+//! is_shared::<TaskWaker>();
+//! is_shared::<Resource>();
+//! is_shared::<Op>();
+//! ```
+
+#![deny(missing_docs, unsafe_op_in_unsafe_fn)]
+#![warn(missing_debug_implementations)]
+// `taskscope_races` is set for `tests/races.rs` alone, by `tests/rust.sh`.
+#![allow(unknown_lints, unexpected_cfgs)]
+
+mod attr;
+mod book;
+mod console;
+mod fault;
+mod ffi;
+mod id;
+mod inspected;
+mod item;
+mod location;
+mod memory;
+mod name;
+mod op;
+mod page;
+mod poll_counts;
+mod publisher;
+mod refused;
+mod resource;
+mod row;
+mod task;
+
+pub use attr::{Attr, Change, Value};
+pub use console::{Console, Settings};
+pub use fault::{BadItem, Fault};
+pub use id::{OpId, ResourceId, TaskId};
+pub use inspected::{Blocking, Inspected, InspectedOp};
+pub use item::ItemKind;
+pub use location::Location;
+pub use op::{Op, OpBuilder};
+pub use publisher::Publisher;
+pub use refused::{Refused, Woken};
+pub use resource::{Resource, ResourceBuilder};
+pub use task::{Origin, Task, TaskBuilder, TaskKind, TaskWaker};

@@ -1,0 +1,40 @@
+//! Where an item was made.
+
+use crate::name::Name;
+use std::borrow::Cow;
+use std::panic;
+
+/// Where in the sources an item was made.
+///
+/// ```
+/// use taskscope::Location;
+///
+/// let here = Location::caller();
+/// let there = Location::new("src/main.rs", 10, 5);
+/// assert_ne!(here, there);
+/// ```
+#[derive(Clone, Debug, PartialEq, Eq)]
+pub struct Location {
+    pub(crate) file: Name,
+    pub(crate) line: u32,
+    pub(crate) column: u32,
+}
+
+impl Location {
+    /// A line, counted from 1, of a file, and a column. The file is a name, which becomes what a line of the stream can hold.
+    pub fn new(file: impl Into<Cow<'static, str>>, line: u32, column: u32) -> Location {
+        Location { file: Name::new(file.into()), line, column }
+    }
+
+    /// Where the caller of this function stands, or that of the function around it where that has `#[track_caller]`.
+    #[track_caller]
+    pub fn caller() -> Location {
+        panic::Location::caller().into()
+    }
+}
+
+impl From<&'static panic::Location<'static>> for Location {
+    fn from(at: &'static panic::Location<'static>) -> Location {
+        Location::new(at.file(), at.line(), at.column())
+    }
+}

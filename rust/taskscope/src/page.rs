@@ -1,0 +1,341 @@
+//! The entries of one line, and the library's call that makes it.
+
+use crate::attr::Attrs;
+use crate::fault::{BadItem, Fault};
+use crate::ffi::{self, Answer, AttrEntry, CountEntry, Head, OpEntry, Piece, ResourceEntry, TaskEntry};
+use crate::item::ItemKind;
+use crate::name::Name;
+
+/// The entries of one line, with the text and the attributes of which they have pieces.
+#[derive(Debug, Default)]
+pub(crate) struct Page {
+    pub(crate) tasks: Vec<TaskEntry>,
+    pub(crate) resources: Vec<ResourceEntry>,
+    pub(crate) ops: Vec<OpEntry>,
+    pub(crate) counts: Vec<CountEntry>,
+    attrs: Vec<AttrEntry>,
+    text: Vec<u8>,
+    /// How many entries of each kind were told.
+    told: [usize; 4],
+    /// Whether a piece lies behind what 32 bits count.
+    is_too_long: bool,
+}
+
+impl Page {
+    /// So many entries of the kind, the first of its list, were told by the lines before.
+    pub(crate) fn set_told(&mut self, kind: ItemKind, count: usize) {
+        self.told[kind as usize] = count;
+    }
+
+    fn piece_of(&mut self, start: usize, end: usize) -> Piece {
+        match (u32::try_from(start), u32::try_from(end)) {
+            (Ok(start), Ok(end)) => Piece { start, len: end - start },
+            _ => {
+                self.is_too_long = true;
+                Piece::default()
+            }
+        }
+    }
+
+    /// Adds a name to the text.
+    pub(crate) fn piece(&mut self, name: &Name) -> Piece {
+        let start = self.text.len();
+        self.text.extend_from_slice(name.as_bytes());
+        self.piece_of(start, self.text.len())
+    }
+
+    /// Adds the attributes of an item to the list of attributes.
+    pub(crate) fn attrs(&mut self, attrs: &Attrs) -> Piece {
+        let start = self.attrs.len();
+        for attr in attrs.as_slice() {
+            let entry = AttrEntry {
+                name: self.piece(&attr.name),
+                unit: attr.unit.as_ref().map_or(Piece::default(), |unit| self.piece(unit)),
+                kind: attr.first.for_library().kind,
+                has_unit: attr.unit.is_some(),
+            };
+            self.attrs.push(entry);
+        }
+        self.piece_of(start, self.attrs.len())
+    }
+
+    /// The line that leads from what was told to what is, or with `snapshot` the line that tells all.
+    pub(crate) fn line(&self, head: &Head) -> Result<Vec<u8>, Fault> {
+        self.fill(|out| self.write_line(head, out))
+    }
+
+    /// The line that says of the entries which leave.
+    pub(crate) fn gone_line(&self, head: &Head, retention: u64) -> Result<Vec<u8>, Fault> {
+        self.fill(|out| self.write_gone_line(head, retention, out))
+    }
+
+    /// A length that lines with these entries seldom exceed.
+    fn likely_len(&self) -> usize {
+        let items = self.tasks.len() + self.resources.len() + self.ops.len();
+        1024 + 512 * items + 64 * (self.counts.len() + self.attrs.len()) + 2 * self.text.len()
+    }
+
+    /// Has a line written, in more room where it doesn't fit.
+    fn fill(&self, write: impl Fn(&mut [u8]) -> Answer) -> Result<Vec<u8>, Fault> {
+        if self.is_too_long {
+            return Err(Fault::Memory);
+        }
+        let mut line = vec![0; self.likely_len()];
+        loop {
+            let answer = write(&mut line);
+            match answer.status {
+                0 => {
+                    line.truncate(answer.len);
+                    return Ok(line);
+                }
+                1 if answer.len > line.len() => line.resize(answer.len, 0),
+                _ => return Err(self.fault(&answer)),
+            }
+        }
+    }
+
+    /// What an answer says that is none of a written line.
+    fn fault(&self, answer: &Answer) -> Fault {
+        let place = answer.place;
+        let item = match answer.status {
+            2 => return Fault::Memory,
+            3 => return Fault::LinesSpent,
+            5 => self.tasks.get(place).map(|entry| (ItemKind::Task, entry.id)),
+            6 => self.resources.get(place).map(|entry| (ItemKind::Resource, entry.id)),
+            7 => self.ops.get(place).map(|entry| (ItemKind::Op, entry.id)),
+            8 => self.counts.get(place).map(|entry| (ItemKind::PollCounts, entry.resource)),
+            _ => None,
+        };
+        match (item, BadItem::from_number(answer.reason)) {
+            (Some((kind, id)), Some(reason)) => Fault::BadItem { kind, id, reason },
+            _ => Fault::Misfit { status: answer.status },
+        }
+    }
+
+    fn with_told(&self, head: &Head) -> Head {
+        let [told_tasks, told_resources, told_ops, told_counts] = self.told;
+        Head { told_tasks, told_resources, told_ops, told_counts, ..*head }
+    }
+
+    fn write_line(&self, head: &Head, out: &mut [u8]) -> Answer {
+        let head = self.with_told(head);
+        // SAFETY: each pointer and the length behind it are those of one slice that is lent for the call, and `out` is lent to
+        // it alone.
+        unsafe {
+            ffi::taskscope_line(
+                &head,
+                self.tasks.as_ptr(),
+                self.tasks.len(),
+                self.resources.as_ptr(),
+                self.resources.len(),
+                self.ops.as_ptr(),
+                self.ops.len(),
+                self.counts.as_ptr(),
+                self.counts.len(),
+                self.attrs.as_ptr(),
+                self.attrs.len(),
+                self.text.as_ptr(),
+                self.text.len(),
+                out.as_mut_ptr(),
+                out.len(),
+            )
+        }
+    }
+
+    fn write_gone_line(&self, head: &Head, retention: u64, out: &mut [u8]) -> Answer {
+        let head = self.with_told(head);
+        // SAFETY: as of `write_line`.
+        unsafe {
+            ffi::taskscope_gone_line(
+                &head,
+                retention,
+                self.tasks.as_ptr(),
+                self.tasks.len(),
+                self.resources.as_ptr(),
+                self.resources.len(),
+                self.ops.as_ptr(),
+                self.ops.len(),
+                self.counts.as_ptr(),
+                self.counts.len(),
+                self.attrs.as_ptr(),
+                self.attrs.len(),
+                self.text.as_ptr(),
+                self.text.len(),
+                out.as_mut_ptr(),
+                out.len(),
+            )
+        }
+    }
+}
+
+#[cfg(test)]
+mod tests {
+    use super::*;
+    use crate::ffi::Words;
+
+    const ID: u64 = (1 << 40) + 1;
+
+    fn head() -> Head {
+        Head {
+            seq: 1,
+            moment: 9,
+            dropped_tasks: 0,
+            dropped_resources: 0,
+            dropped_ops: 0,
+            told_tasks: 0,
+            told_resources: 0,
+            told_ops: 0,
+            told_counts: 0,
+            snapshot: false,
+        }
+    }
+
+    fn name(text: &'static str) -> Name {
+        Name::new(text.into())
+    }
+
+    fn task(page: &mut Page) -> TaskEntry {
+        let mut row = [0; 16];
+        // SAFETY: the words are lent for the call.
+        unsafe { ffi::taskscope_task_open(7, &mut row) };
+        let (name, file) = (page.piece(&name("task")), page.piece(&name("main.rs")));
+        TaskEntry { row, told: row, id: ID, name, file, line: 1, column: 1, kind: 0 }
+    }
+
+    fn opened(open: unsafe extern "C" fn(u64, *const ffi::Attr, usize, &mut Words) -> bool) -> Words {
+        let mut row = [0; 16];
+        // SAFETY: there are no attributes, and the words are lent for the call.
+        assert!(unsafe { open(7, [].as_ptr(), 0, &mut row) });
+        row
+    }
+
+    fn resource(page: &mut Page) -> ResourceEntry {
+        let row = opened(ffi::taskscope_resource_open);
+        let (concrete, file) = (page.piece(&name("Semaphore")), page.piece(&name("main.rs")));
+        let attrs = Piece::default();
+        ResourceEntry { row, told: row, id: ID, parent: 0, concrete, kind: concrete, file, attrs, line: 1, column: 1 }
+    }
+
+    fn op(page: &mut Page) -> OpEntry {
+        let row = opened(ffi::taskscope_op_open);
+        let source = page.piece(&name("acquire"));
+        OpEntry { row, told: row, id: ID, resource: ID, parent: 0, source, attrs: Piece::default() }
+    }
+
+    /// A page with one good entry of each kind.
+    fn page() -> Page {
+        let mut page = Page::default();
+        let (task, resource, op) = (task(&mut page), resource(&mut page), op(&mut page));
+        page.tasks.push(task);
+        page.resources.push(resource);
+        page.ops.push(op);
+        page.counts.push(CountEntry { resource: ID, ready: 1, pending: 0, told_ready: 0, told_pending: 0 });
+        page
+    }
+
+    fn bad(kind: ItemKind, id: u64, reason: BadItem) -> Fault {
+        Fault::BadItem { kind, id, reason }
+    }
+
+    type Edit = fn(&mut Page);
+
+    // What an edit of a good page makes of its line.
+    #[rustfmt::skip]
+    const FAULTS: [(&str, Edit, ItemKind, u64, BadItem); 16] = [
+        ("a task's id is 0",               |page| page.tasks[0].id = 0,                        ItemKind::Task, 0, BadItem::Id),
+        ("a task's name is empty",         |page| page.tasks[0].name.len = 0,                  ItemKind::Task, ID, BadItem::Name),
+        ("a task's name reaches out",      |page| page.tasks[0].name.len = 9_999,              ItemKind::Task, ID, BadItem::Piece),
+        ("a task's file is none",          |page| page.text[4] = 10,                           ItemKind::Task, ID, BadItem::Name),
+        ("a task's words are none",        |page| page.tasks[0].row[0] = u64::MAX,             ItemKind::Task, ID, BadItem::Words),
+        ("a task stands twice",            |page| page.tasks.push(page.tasks[0]),              ItemKind::Task, ID, BadItem::Repeated),
+        ("a resource's id is none",        |page| page.resources[0].id = 65 << 40,             ItemKind::Resource, 65 << 40, BadItem::Id),
+        ("a resource's parent is none",    |page| page.resources[0].parent = 7,                ItemKind::Resource, ID, BadItem::Id),
+        ("a resource's attributes reach out", |page| page.resources[0].attrs.len = 1,          ItemKind::Resource, ID, BadItem::Piece),
+        ("a resource stands twice",        |page| page.resources.push(page.resources[0]),      ItemKind::Resource, ID, BadItem::Repeated),
+        ("an operation's resource is none", |page| page.ops[0].resource = 0,                   ItemKind::Op, ID, BadItem::Id),
+        ("an operation's words are none",  |page| page.ops[0].row[15] = 1 << 63,               ItemKind::Op, ID, BadItem::Words),
+        ("an attribute stands twice",      attribute_twice,                                    ItemKind::Op, ID, BadItem::Attrs),
+        ("there are 7 attributes",         seven_attributes,                                   ItemKind::Resource, ID, BadItem::Attrs),
+        ("poll counts are of no resource", |page| page.counts[0].resource = 0,                 ItemKind::PollCounts, 0, BadItem::Id),
+        ("poll counts stand twice",        |page| page.counts.push(page.counts[0]),            ItemKind::PollCounts, ID, BadItem::Repeated),
+    ];
+
+    fn push_attribute(page: &mut Page, text: &'static str) {
+        let name = page.piece(&name(text));
+        page.attrs.push(AttrEntry { name, unit: Piece::default(), kind: 0, has_unit: false });
+    }
+
+    fn attribute_twice(page: &mut Page) {
+        push_attribute(page, "permits");
+        push_attribute(page, "permits");
+        page.ops[0].attrs.len = 2;
+    }
+
+    fn seven_attributes(page: &mut Page) {
+        ["a", "b", "c", "d", "e", "f", "g"].into_iter().for_each(|name| push_attribute(page, name));
+        page.resources[0].attrs.len = 7;
+    }
+
+    #[test]
+    fn what_is_no_entry_is_told() {
+        assert!(page().line(&head()).is_ok());
+        assert!(page().gone_line(&head(), 0).is_ok());
+        for (case, edit, kind, id, reason) in FAULTS {
+            let mut page = page();
+            edit(&mut page);
+            assert_eq!(page.line(&head()), Err(bad(kind, id, reason)), "{case}");
+            assert_eq!(page.gone_line(&head(), 0), Err(bad(kind, id, reason)), "{case}");
+        }
+    }
+
+    #[test]
+    fn a_line_has_a_number_and_tells_no_more_than_there_is() {
+        let page = page();
+        for seq in [0, (1 << 63) + 1] {
+            assert_eq!(page.line(&Head { seq, ..head() }), Err(Fault::LinesSpent));
+            assert_eq!(page.gone_line(&Head { seq, ..head() }, 0), Err(Fault::LinesSpent));
+        }
+        assert!(page.line(&Head { seq: 1 << 63, ..head() }).is_ok());
+        let mut page = page;
+        page.set_told(ItemKind::Op, 2);
+        assert_eq!(page.line(&head()), Err(Fault::Misfit { status: 4 }));
+    }
+
+    #[test]
+    fn a_line_that_does_not_fit_leaves_the_room_as_it_was() {
+        let page = page();
+        let whole = page.line(&head()).expect("a line");
+        let mut room = vec![1; whole.len() - 1];
+        let answer = page.write_line(&head(), &mut room);
+        assert_eq!((answer.status, answer.len), (1, whole.len()));
+        assert!(room.iter().all(|&byte| byte == 1));
+        let mut room = vec![1; whole.len() + 1];
+        let answer = page.write_line(&head(), &mut room);
+        assert_eq!((answer.status, answer.len), (0, whole.len()));
+        assert_eq!((&room[..whole.len()], room[whole.len()]), (&whole[..], 1));
+    }
+
+    // Names of quotation marks take twice their bytes, so this line is longer than what is likely.
+    #[test]
+    fn a_line_longer_than_likely_is_written() {
+        let mut page = Page::default();
+        for number in 1..=200 {
+            let mut entry = task(&mut page);
+            entry.id = (1 << 40) + number;
+            entry.row = [0; 16];
+            // SAFETY: the words are lent for the calls.
+            unsafe {
+                ffi::taskscope_task_open(u64::MAX, &mut entry.row);
+                ffi::taskscope_task_start(&mut entry.row, u64::MAX);
+                ffi::taskscope_task_end(&mut entry.row, u64::MAX);
+                ffi::taskscope_task_wake_by_ref(&mut entry.row, u64::MAX, false);
+                ffi::taskscope_task_close(&mut entry.row, u64::MAX);
+            }
+            entry.line = u32::MAX;
+            entry.column = u32::MAX;
+            page.tasks.push(entry);
+        }
+        let line = page.line(&head()).expect("a line");
+        assert_eq!(String::from_utf8(line).expect("text").matches("\"polls\":1").count(), 200);
+    }
+}

@@ -1,0 +1,69 @@
+//! What the library answers to a call on a row.
+
+use std::error::Error;
+use std::fmt;
+
+/// Why a call was refused. It then changed nothing.
+#[derive(Clone, Copy, Debug, PartialEq, Eq)]
+pub enum Refused {
+    /// A poll is open: another one can't start.
+    AlreadyPolling,
+    /// No poll is open that could end.
+    NotPolling,
+    /// The item is closed.
+    Closed,
+    /// The item has no attribute of the name.
+    NoAttribute,
+    /// The value is of another kind than the attribute, or a `bool` is added or taken away.
+    WrongKind,
+    /// The attribute would leave 0 to 2^64 - 1, or a signed one -2^63 to 2^63 - 1.
+    OutOfRange,
+}
+
+impl fmt::Display for Refused {
+    fn fmt(&self, f: &mut fmt::Formatter<'_>) -> fmt::Result {
+        f.write_str(match self {
+            Refused::AlreadyPolling => "a poll is open already",
+            Refused::NotPolling => "no poll is open",
+            Refused::Closed => "the item is closed",
+            Refused::NoAttribute => "the item has no such attribute",
+            Refused::WrongKind => "the value is of another kind than the attribute",
+            Refused::OutOfRange => "the attribute would leave its range",
+        })
+    }
+}
+
+impl Error for Refused {}
+
+/// Whether a call was made, by the number of its reply.
+pub(crate) fn done(reply: u32) -> Result<(), Refused> {
+    match reply {
+        1 => Err(Refused::AlreadyPolling),
+        2 => Err(Refused::NotPolling),
+        3 => Err(Refused::Closed),
+        5 => Err(Refused::NoAttribute),
+        6 => Err(Refused::WrongKind),
+        7 => Err(Refused::OutOfRange),
+        _ => Ok(()),
+    }
+}
+
+/// What a wake found.
+#[derive(Clone, Copy, Debug, PartialEq, Eq)]
+pub enum Woken {
+    /// The task was not scheduled, and is now.
+    Scheduled,
+    /// The task was scheduled already.
+    Already,
+    /// The task is closed.
+    Gone,
+}
+
+/// What a wake found, by the number of its reply.
+pub(crate) fn woken(reply: u32) -> Woken {
+    match reply {
+        16 => Woken::Scheduled,
+        17 => Woken::Already,
+        _ => Woken::Gone,
+    }
+}

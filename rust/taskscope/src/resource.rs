@@ -1,0 +1,193 @@
+//! Resources: what tasks wait for.
+
+use crate::attr::{Attr, Attrs, Change};
+use crate::console::{Console, Inner};
+use crate::ffi::{self, ResourceEntry, Words};
+use crate::id::ResourceId;
+use crate::item::{closed, Item, ItemKind, Lists};
+use crate::location::Location;
+use crate::name::Name;
+use crate::page::Page;
+use crate::poll_counts::PollCounts;
+use crate::refused::{done, Refused};
+use crate::row::{Reading, Row};
+use std::borrow::Cow;
+use std::fmt;
+use std::sync::Arc;
+
+#[derive(Debug)]
+pub(crate) struct ResourceCell {
+    id: u64,
+    /// The parent's id, or 0.
+    parent: u64,
+    concrete: Name,
+    kind: Name,
+    location: Location,
+    attrs: Attrs,
+    row: Row<Words>,
+    pub(crate) counts: Arc<PollCounts>,
+}
+
+impl Item for ResourceCell {
+    type Words = Words;
+    const KIND: ItemKind = ItemKind::Resource;
+
+    fn row(&self) -> &Row<Words> {
+        &self.row
+    }
+
+    fn list(lists: &mut Lists) -> &mut Vec<Arc<ResourceCell>> {
+        &mut lists.resources
+    }
+
+    fn enter(&self, page: &mut Page, reading: &Reading<Words>) {
+        let entry = ResourceEntry {
+            row: reading.now,
+            told: reading.told,
+            id: self.id,
+            parent: self.parent,
+            concrete: page.piece(&self.concrete),
+            kind: page.piece(&self.kind),
+            file: page.piece(&self.location.file),
+            attrs: page.attrs(&self.attrs),
+            line: self.location.line,
+            column: self.location.column,
+        };
+        page.resources.push(entry);
+    }
+
+    fn entered(page: &Page, place: usize) -> Reading<Words> {
+        let entry = &page.resources[place];
+        Reading { now: entry.row, told: entry.told }
+    }
+
+    fn closed(words: &Words) -> Option<u64> {
+        closed(words)
+    }
+
+    fn leaves(told: &Words, moment: u64, retention: u64) -> bool {
+        // SAFETY: the words are lent for the call.
+        unsafe { ffi::taskscope_resource_leaves(told, moment, retention) }
+    }
+
+    fn leave(&self) {
+        self.row.leave();
+        self.counts.row().leave();
+    }
+}
+
+/// A resource that is about to be made: [`Console::resource`] begins it, and [`open`](ResourceBuilder::open) makes it.
+#[derive(Debug)]
+#[must_use = "no resource is made before `open`"]
+pub struct ResourceBuilder<'a> {
+    console: &'a Console,
+    parent: u64,
+    concrete: Name,
+    kind: Name,
+    location: Location,
+    attrs: Attrs,
+}
+
+impl<'a> ResourceBuilder<'a> {
+    pub(crate) fn new(
+        console: &'a Console,
+        concrete: Cow<'static, str>,
+        kind: Cow<'static, str>,
+        location: Location,
+    ) -> ResourceBuilder<'a> {
+        let (concrete, kind) = (Name::new(concrete), Name::new(kind));
+        ResourceBuilder { console, parent: 0, concrete, kind, location, attrs: Attrs::default() }
+    }
+
+    /// The resource is a part of this one.
+    pub fn parent(self, parent: ResourceId) -> ResourceBuilder<'a> {
+        ResourceBuilder { parent: parent.0, ..self }
+    }
+
+    /// Adds an attribute. One that is more than 6, or whose name another has, is left out: its changes are refused with
+    /// [`NoAttribute`](Refused::NoAttribute), or are those of the other.
+    pub fn attr(mut self, attr: Attr) -> ResourceBuilder<'a> {
+        self.attrs.add(attr);
+        self
+    }
+
+    /// Where the resource was made: without this, where [`Console::resource`] was called.
+    pub fn location(self, location: impl Into<Location>) -> ResourceBuilder<'a> {
+        ResourceBuilder { location: location.into(), ..self }
+    }
+
+    /// Makes the resource, created now. Where the thread's recorder is full it is counted as dropped: its calls work all the
+    /// same, and no line tells of it or of its poll operations.
+    pub fn open(self) -> Resource {
+        let console = self.console.inner();
+        let created = console.now();
+        let mut words = [0; 16];
+        let values = self.attrs.first_values();
+        // SAFETY: values and words are lent for the call, and the length is that of the values. It answers false for more than
+        // 6 attributes alone, and `Attrs` has no more.
+        unsafe { ffi::taskscope_resource_open(created, values.as_ptr(), values.len(), &mut words) };
+        let cell = console.record(|id| ResourceCell {
+            id,
+            parent: self.parent,
+            concrete: self.concrete,
+            kind: self.kind,
+            location: self.location,
+            attrs: self.attrs,
+            row: Row::listed(words),
+            counts: PollCounts::new(id),
+        });
+        Resource(Arc::new(OpenResource { console: Arc::clone(console), cell }))
+    }
+}
+
+struct OpenResource {
+    console: Arc<Inner>,
+    cell: Arc<ResourceCell>,
+}
+
+impl Drop for OpenResource {
+    fn drop(&mut self) {
+        let now = self.console.now();
+        // SAFETY: the row's lock lends the words to this call alone.
+        self.console.step(&self.cell, |words| unsafe { ffi::taskscope_resource_close(words, now) });
+    }
+}
+
+/// A resource, which threads share by its clones. It is closed when the last clone is dropped.
+#[derive(Clone)]
+pub struct Resource(Arc<OpenResource>);
+
+impl Resource {
+    /// The resource's id.
+    pub fn id(&self) -> ResourceId {
+        ResourceId(self.0.cell.id)
+    }
+
+    pub(crate) fn counts(&self) -> &Arc<PollCounts> {
+        &self.0.cell.counts
+    }
+
+    /// Changes the attribute with this name.
+    ///
+    /// # Errors
+    /// In this order: [`NoAttribute`](Refused::NoAttribute), [`WrongKind`](Refused::WrongKind),
+    /// [`OutOfRange`](Refused::OutOfRange).
+    pub fn change(&self, name: &str, change: Change) -> Result<(), Refused> {
+        let index = self.0.cell.attrs.index(name);
+        let (how, attr) = change.for_library();
+        // SAFETY: the row's lock lends the words to this call alone, and the attribute is lent for it.
+        let call = |words: &mut Words| unsafe { ffi::taskscope_resource_change(words, index, how, &attr) };
+        done(self.0.console.step(&self.0.cell, call))
+    }
+
+    /// Counts a poll operation of the resource, up to 2^64 - 1 of each of the two.
+    pub fn count_poll(&self, is_ready: bool) {
+        self.counts().count(&self.0.console, is_ready);
+    }
+}
+
+impl fmt::Debug for Resource {
+    fn fmt(&self, f: &mut fmt::Formatter<'_>) -> fmt::Result {
+        f.debug_tuple("Resource").field(&self.id()).finish()
+    }
+}

@@ -1,0 +1,159 @@
+//! A row that threads share: its words under a lock of their own, and what the last line told of it.
+//!
+//! This lock is all that stands between the proved steps and threads. It lends the words to one call at a time, as `&mut` in
+//! the library's declarations asks, so the calls on one row are one history, in the order of its lock.
+//!
+//! | `listed` | the item |
+//! |---|---|
+//! | no | is as the last line told it |
+//! | yes | stands in one list, of a shard or of the book, which the next line reads; or in none for good, as no line tells of it (any more) |
+//!
+//! The call that finds a row unlisted lists it, under the row's lock: a list's lock is taken behind that of a row, and never
+//! the other way round.
+
+use std::sync::{Mutex, MutexGuard, PoisonError};
+
+/// Locks, also where a thread panicked with the lock: what is under the locks of this crate is whole between any two
+/// statements that may panic.
+#[cfg(not(taskscope_races))]
+#[inline]
+pub(crate) fn lock<T>(mutex: &Mutex<T>) -> MutexGuard<'_, T> {
+    mutex.lock().unwrap_or_else(PoisonError::into_inner)
+}
+
+/// The same for `tests/races.rs`: the standard library is not compiled for ThreadSanitizer, which so can't see the order that
+/// a wait within it makes.
+#[cfg(taskscope_races)]
+pub(crate) fn lock<T>(mutex: &Mutex<T>) -> MutexGuard<'_, T> {
+    use std::sync::TryLockError;
+    loop {
+        match mutex.try_lock() {
+            Ok(guard) => return guard,
+            Err(TryLockError::Poisoned(error)) => return PoisonError::into_inner(error),
+            Err(TryLockError::WouldBlock) => std::thread::yield_now(),
+        }
+    }
+}
+
+/// Which lines tell of an item.
+#[derive(Clone, Copy, Debug, PartialEq, Eq)]
+enum Standing {
+    /// The next one, as it is new.
+    New,
+    /// Those after the last one. The place orders the told items of a kind.
+    Told(u64),
+    /// None, as it left or found no room.
+    Gone,
+}
+
+impl Standing {
+    fn place(self) -> Option<u64> {
+        match self {
+            Standing::Told(place) => Some(place),
+            Standing::New | Standing::Gone => None,
+        }
+    }
+}
+
+#[derive(Debug)]
+struct State<W> {
+    now: W,
+    told: W,
+    listed: bool,
+    standing: Standing,
+}
+
+/// The words `W` of one item.
+#[derive(Debug)]
+pub(crate) struct Row<W>(Mutex<State<W>>);
+
+/// The words of a row, now and as they were told.
+#[derive(Clone, Copy, Debug)]
+pub(crate) struct Reading<W> {
+    pub(crate) now: W,
+    pub(crate) told: W,
+}
+
+impl<W: Copy + Default + PartialEq> Row<W> {
+    /// A row that some list has, so that no call lists it.
+    pub(crate) fn listed(now: W) -> Row<W> {
+        Row::new(now, true)
+    }
+
+    /// A row that the first call on it lists.
+    pub(crate) fn unlisted(now: W) -> Row<W> {
+        Row::new(now, false)
+    }
+
+    fn new(now: W, listed: bool) -> Row<W> {
+        Row(Mutex::new(State { now, told: W::default(), listed, standing: Standing::New }))
+    }
+
+    /// Makes a call on the words, and has the item listed where it isn't: `list` learns whether it is new.
+    #[inline]
+    pub(crate) fn step<T>(&self, call: impl FnOnce(&mut W) -> T, list: impl FnOnce(bool)) -> T {
+        let mut state = lock(&self.0);
+        let reply = call(&mut state.now);
+        if !state.listed {
+            state.listed = true;
+            list(state.standing == Standing::New);
+        }
+        reply
+    }
+
+    /// The place of a listed item among those told, where it differs from what was told. Otherwise it is in no list from now on.
+    pub(crate) fn changed_place(&self) -> Option<u64> {
+        let mut state = lock(&self.0);
+        match state.standing {
+            Standing::Told(place) if state.now != state.told => Some(place),
+            Standing::Told(_) => {
+                state.listed = false;
+                None
+            }
+            Standing::New | Standing::Gone => None,
+        }
+    }
+
+    /// The words now, and as they were told.
+    pub(crate) fn reading(&self) -> Reading<W> {
+        let state = lock(&self.0);
+        Reading { now: state.now, told: state.told }
+    }
+
+    /// A line told these words. The answer is the item's place among those told.
+    pub(crate) fn tell(&self, words: W) -> Option<u64> {
+        let mut state = lock(&self.0);
+        state.told = words;
+        state.standing.place()
+    }
+
+    /// The first line that tells of the item told these words.
+    pub(crate) fn tell_first(&self, words: W, place: u64) {
+        let mut state = lock(&self.0);
+        state.told = words;
+        state.standing = Standing::Told(place);
+    }
+
+    /// Whether a listed item that was just told has changed since. If not, it is in no list from now on.
+    pub(crate) fn stays_listed(&self) -> bool {
+        let mut state = lock(&self.0);
+        state.listed = state.now != state.told;
+        state.listed
+    }
+
+    /// No line tells of the item any more.
+    pub(crate) fn leave(&self) {
+        let mut state = lock(&self.0);
+        state.standing = Standing::Gone;
+        state.listed = true;
+    }
+
+    pub(crate) fn is_gone(&self) -> bool {
+        lock(&self.0).standing == Standing::Gone
+    }
+
+    /// The item's place among those told, where it is one of them.
+    pub(crate) fn place(&self) -> Option<u64> {
+        lock(&self.0).standing.place()
+    }
+}

@@ -1,0 +1,275 @@
+//! Tasks, and their wakers.
+
+use crate::console::{Console, Inner};
+use crate::ffi::{self, TaskEntry, Words};
+use crate::id::TaskId;
+use crate::item::{closed, Item, ItemKind, Lists};
+use crate::location::Location;
+use crate::name::Name;
+use crate::page::Page;
+use crate::refused::{done, woken, Refused, Woken};
+use crate::row::{Reading, Row};
+use std::borrow::Cow;
+use std::fmt;
+use std::sync::Arc;
+
+/// How a task runs.
+#[derive(Clone, Copy, Debug, PartialEq, Eq)]
+pub enum TaskKind {
+    /// It is polled, as what an executor spawns.
+    Spawn,
+    /// It is a call that blocks its thread, with one poll.
+    Blocking,
+}
+
+/// Where a wake comes from.
+#[derive(Clone, Copy, Debug, PartialEq, Eq)]
+pub enum Origin {
+    /// From within a poll of the task itself: a self-wake.
+    Inside,
+    /// From anywhere else.
+    Outside,
+}
+
+#[derive(Debug)]
+pub(crate) struct TaskCell {
+    pub(crate) id: u64,
+    kind: TaskKind,
+    name: Name,
+    location: Location,
+    row: Row<Words>,
+}
+
+impl Item for TaskCell {
+    type Words = Words;
+    const KIND: ItemKind = ItemKind::Task;
+
+    fn row(&self) -> &Row<Words> {
+        &self.row
+    }
+
+    fn list(lists: &mut Lists) -> &mut Vec<Arc<TaskCell>> {
+        &mut lists.tasks
+    }
+
+    fn enter(&self, page: &mut Page, reading: &Reading<Words>) {
+        let entry = TaskEntry {
+            row: reading.now,
+            told: reading.told,
+            id: self.id,
+            name: page.piece(&self.name),
+            file: page.piece(&self.location.file),
+            line: self.location.line,
+            column: self.location.column,
+            kind: match self.kind {
+                TaskKind::Spawn => 0,
+                TaskKind::Blocking => 1,
+            },
+        };
+        page.tasks.push(entry);
+    }
+
+    fn entered(page: &Page, place: usize) -> Reading<Words> {
+        let entry = &page.tasks[place];
+        Reading { now: entry.row, told: entry.told }
+    }
+
+    fn closed(words: &Words) -> Option<u64> {
+        closed(words)
+    }
+
+    fn leaves(told: &Words, moment: u64, retention: u64) -> bool {
+        // SAFETY: the words are lent for the call.
+        unsafe { ffi::taskscope_task_leaves(told, moment, retention) }
+    }
+}
+
+impl TaskCell {
+    #[inline]
+    pub(crate) fn wake_by_ref(self: &Arc<TaskCell>, console: &Inner, origin: Origin) -> Woken {
+        let now = console.now();
+        // SAFETY: the row's lock lends the words to this call alone.
+        let wake = |words: &mut Words| unsafe { ffi::taskscope_task_wake_by_ref(words, now, origin == Origin::Inside) };
+        woken(console.step(self, wake))
+    }
+
+    /// A wake that uses up a waker, which is not used after this.
+    #[inline]
+    pub(crate) fn wake(self: &Arc<TaskCell>, console: &Inner, origin: Origin) -> Woken {
+        let now = console.now();
+        // SAFETY: the row's lock lends the words to this call alone.
+        let wake = |words: &mut Words| unsafe { ffi::taskscope_task_wake(words, now, origin == Origin::Inside) };
+        woken(console.step(self, wake))
+    }
+
+    /// Counts a waker, which is not used before this. At 2^62 clones one more is not counted.
+    #[inline]
+    pub(crate) fn clone_waker(self: &Arc<TaskCell>, console: &Inner) {
+        // SAFETY: the row's lock lends the words to this call alone.
+        console.step(self, |words| unsafe { ffi::taskscope_task_clone(words) });
+    }
+
+    /// Counts a waker as dropped, which is not used after this.
+    #[inline]
+    pub(crate) fn release_waker(self: &Arc<TaskCell>, console: &Inner) {
+        // SAFETY: the row's lock lends the words to this call alone.
+        console.step(self, |words| unsafe { ffi::taskscope_task_release(words) });
+    }
+}
+
+/// A task that is about to be made: [`Console::task`] begins it, and [`open`](TaskBuilder::open) makes it.
+#[derive(Debug)]
+#[must_use = "no task is made before `open`"]
+pub struct TaskBuilder<'a> {
+    console: &'a Console,
+    name: Name,
+    location: Location,
+    kind: TaskKind,
+}
+
+impl<'a> TaskBuilder<'a> {
+    pub(crate) fn new(console: &'a Console, name: Cow<'static, str>, location: Location) -> TaskBuilder<'a> {
+        TaskBuilder { console, name: Name::new(name), location, kind: TaskKind::Spawn }
+    }
+
+    /// How the task runs: without this it is of kind [`Spawn`](TaskKind::Spawn).
+    pub fn kind(self, kind: TaskKind) -> TaskBuilder<'a> {
+        TaskBuilder { kind, ..self }
+    }
+
+    /// Where the task was made: without this, where [`Console::task`] was called.
+    pub fn location(self, location: impl Into<Location>) -> TaskBuilder<'a> {
+        TaskBuilder { location: location.into(), ..self }
+    }
+
+    /// Makes the task, created now, and gives its owner. Where the thread's recorder is full it is counted as dropped: its
+    /// owner and wakers work all the same, and no line tells of it.
+    pub fn open(self) -> Task {
+        let console = self.console.inner();
+        let created = console.now();
+        let mut words = [0; 16];
+        // SAFETY: the words are lent for the call.
+        unsafe { ffi::taskscope_task_open(created, &mut words) };
+        let cell = console.record(|id| TaskCell {
+            id,
+            kind: self.kind,
+            name: self.name,
+            location: self.location,
+            row: Row::listed(words),
+        });
+        Task { console: Arc::clone(console), cell }
+    }
+}
+
+/// The owner of a task, which polls it. The task is closed when this is dropped.
+pub struct Task {
+    pub(crate) console: Arc<Inner>,
+    pub(crate) cell: Arc<TaskCell>,
+}
+
+impl Task {
+    /// The task's id.
+    pub fn id(&self) -> TaskId {
+        TaskId(self.cell.id)
+    }
+
+    /// A poll starts now.
+    ///
+    /// # Errors
+    /// [`AlreadyPolling`](Refused::AlreadyPolling) where one is open.
+    pub fn start_poll(&mut self) -> Result<(), Refused> {
+        let now = self.console.now();
+        // SAFETY: the row's lock lends the words to this call alone.
+        let start = |words: &mut Words| unsafe { ffi::taskscope_task_start(words, now) };
+        done(self.console.step(&self.cell, start))
+    }
+
+    /// The open poll ends now.
+    ///
+    /// # Errors
+    /// [`NotPolling`](Refused::NotPolling) where none is open.
+    pub fn end_poll(&mut self) -> Result<(), Refused> {
+        let now = self.console.now();
+        // SAFETY: the row's lock lends the words to this call alone.
+        let end = |words: &mut Words| unsafe { ffi::taskscope_task_end(words, now) };
+        done(self.console.step(&self.cell, end))
+    }
+
+    /// A waker of the task, counted as a clone.
+    pub fn waker(&self) -> TaskWaker {
+        TaskWaker::new(&self.console, &self.cell)
+    }
+
+    /// A wake that uses no waker up.
+    pub fn wake_by_ref(&self, origin: Origin) -> Woken {
+        self.cell.wake_by_ref(&self.console, origin)
+    }
+}
+
+impl Drop for Task {
+    /// Closes the task, and ends its poll where one is open.
+    fn drop(&mut self) {
+        let now = self.console.now();
+        // SAFETY: the row's lock lends the words to this call alone. `end` is refused, and changes nothing, where no poll is open.
+        self.console.step(&self.cell, |words| unsafe {
+            ffi::taskscope_task_end(words, now);
+            ffi::taskscope_task_close(words, now)
+        });
+    }
+}
+
+impl fmt::Debug for Task {
+    fn fmt(&self, f: &mut fmt::Formatter<'_>) -> fmt::Result {
+        f.debug_tuple("Task").field(&self.id()).finish()
+    }
+}
+
+/// A waker of a task. Each is counted as a clone when it is made, and as dropped when it is dropped or wakes by value.
+pub struct TaskWaker {
+    console: Arc<Inner>,
+    cell: Arc<TaskCell>,
+    is_spent: bool,
+}
+
+impl TaskWaker {
+    fn new(console: &Arc<Inner>, cell: &Arc<TaskCell>) -> TaskWaker {
+        cell.clone_waker(console);
+        TaskWaker { console: Arc::clone(console), cell: Arc::clone(cell), is_spent: false }
+    }
+
+    /// The id of the task that it wakes.
+    pub fn id(&self) -> TaskId {
+        TaskId(self.cell.id)
+    }
+
+    /// Wakes the task, and uses the waker up.
+    pub fn wake(mut self, origin: Origin) -> Woken {
+        self.is_spent = true;
+        self.cell.wake(&self.console, origin)
+    }
+
+    /// Wakes the task, and keeps the waker.
+    pub fn wake_by_ref(&self, origin: Origin) -> Woken {
+        self.cell.wake_by_ref(&self.console, origin)
+    }
+}
+
+impl Clone for TaskWaker {
+    fn clone(&self) -> TaskWaker {
+        TaskWaker::new(&self.console, &self.cell)
+    }
+}
+
+impl Drop for TaskWaker {
+    fn drop(&mut self) {
+        if !self.is_spent {
+            self.cell.release_waker(&self.console);
+        }
+    }
+}
+
+impl fmt::Debug for TaskWaker {
+    fn fmt(&self, f: &mut fmt::Formatter<'_>) -> fmt::Result {
+        f.debug_tuple("TaskWaker").field(&self.id()).finish()
+    }
+}

@@ -1,0 +1,183 @@
+//! What a line tells: what is new and what changed, in the order of the tables, and nothing else.
+
+mod common;
+
+use common::{list, number, publish, snapshot, Tables};
+use std::thread::sleep;
+use std::time::Duration;
+use taskscope::{Attr, Change, Console, Op, Origin, Resource, Settings, Task, TaskWaker};
+
+fn ids(line: &str, key: &str) -> Vec<u64> {
+    list(line, key).into_iter().map(|object| number(object, "id")).collect()
+}
+
+#[test]
+fn a_line_tells_what_changed_since_the_one_before() {
+    let console = Console::open(Settings::default());
+    let tasks: Vec<Task> = (0..5).map(|_| console.task("listed").open()).collect();
+    let id = |place: usize| tasks[place].id().value();
+    let told = publish(&console);
+    assert_eq!(ids(&told, "new_tasks"), (0..5).map(id).collect::<Vec<_>>());
+    assert!(ids(&publish(&console), "task_stats").is_empty());
+    // Told ones stand in the order in which they were told first, whatever the order of the calls, and new ones behind them.
+    let new = console.task("new").open();
+    for place in [3, 0, 3] {
+        let _ = tasks[place].wake_by_ref(Origin::Outside);
+    }
+    let told = publish(&console);
+    assert_eq!(ids(&told, "task_stats"), [id(0), id(3), new.id().value()]);
+    assert_eq!(ids(&told, "new_tasks"), [new.id().value()]);
+    assert!(ids(&publish(&console), "task_stats").is_empty());
+    assert_eq!(ids(&snapshot(&console), "task_stats").len(), 6);
+}
+
+#[test]
+fn what_changes_back_and_what_is_refused_is_not_told() {
+    let console = Console::open(Settings::default());
+    let resource = console.resource("Semaphore", "Sync").attr(Attr::new("permits", 2u64)).open();
+    let mut task = console.task("polled").open();
+    publish(&console);
+    resource.change("permits", Change::add(1u64)).unwrap();
+    resource.change("permits", Change::sub(1u64)).unwrap();
+    task.end_poll().unwrap_err();
+    let told = publish(&console);
+    assert!(list(&told, "resource_stats").is_empty() && list(&told, "task_stats").is_empty(), "{told}");
+    // Such an item is listed again by the next call.
+    resource.change("permits", Change::add(1u64)).unwrap();
+    task.start_poll().unwrap();
+    let told = publish(&console);
+    assert_eq!((list(&told, "resource_stats").len(), list(&told, "task_stats").len()), (1, 1));
+}
+
+#[test]
+fn a_moment_of_a_line_is_not_before_those_that_it_tells() {
+    let console = Console::open(Settings::default());
+    for _ in 0..100 {
+        let task = console.task("made").open();
+        let told = publish(&console);
+        assert!(number(common::task(&told, task.id().value()), "created") <= number(&told, "now"), "{told}");
+    }
+}
+
+/// Numbers that look like chance, the same in each run: xorshift64.
+struct Chance(u64);
+
+impl Chance {
+    fn below(&mut self, bound: usize) -> usize {
+        self.0 ^= self.0 << 13;
+        self.0 ^= self.0 >> 7;
+        self.0 ^= self.0 << 17;
+        (self.0 % bound as u64) as usize
+    }
+
+    /// One of a list, taken out of it.
+    fn take<T>(&mut self, list: &mut Vec<T>) -> Option<T> {
+        if list.is_empty() {
+            return None;
+        }
+        let place = self.below(list.len());
+        Some(list.swap_remove(place))
+    }
+}
+
+/// The items of a program that calls them by chance.
+struct Program {
+    console: Console,
+    chance: Chance,
+    tasks: Vec<Task>,
+    wakers: Vec<TaskWaker>,
+    resources: Vec<Resource>,
+    ops: Vec<Op>,
+}
+
+impl Program {
+    fn call(&mut self) {
+        match self.chance.below(10) {
+            0 => self.tasks.push(self.console.task("task").open()),
+            1 => self.resources.push(self.console.resource("R", "K").attr(Attr::new("n", 0u64)).open()),
+            2 | 3 => self.wait(),
+            4 => drop(self.chance.take(&mut self.tasks)),
+            5 => drop(self.chance.take(&mut self.ops)),
+            6 => drop(self.chance.take(&mut self.resources)),
+            7 => self.wake(),
+            8 => self.poll(),
+            _ => self.change(),
+        }
+    }
+
+    fn wait(&mut self) {
+        if let Some(resource) = self.chance.take(&mut self.resources) {
+            self.ops.push(self.console.op(&resource, "wait").open());
+            self.resources.push(resource);
+        }
+    }
+
+    fn wake(&mut self) {
+        if let Some(task) = self.tasks.last() {
+            self.wakers.push(task.waker());
+        }
+        if let Some(waker) = self.chance.take(&mut self.wakers) {
+            let _ = waker.wake_by_ref(Origin::Outside);
+            if self.chance.below(2) == 0 {
+                let _ = waker.wake(Origin::Outside);
+            }
+        }
+    }
+
+    fn poll(&mut self) {
+        if let (Some(mut task), Some(mut op)) = (self.chance.take(&mut self.tasks), self.chance.take(&mut self.ops)) {
+            let _ = task.start_poll();
+            op.set_task(task.id());
+            let _ = op.start_poll();
+            op.count_poll(self.chance.below(2) == 0);
+            if self.chance.below(3) > 0 {
+                let _ = op.end_poll();
+                let _ = task.end_poll();
+            }
+            self.tasks.push(task);
+            self.ops.push(op);
+        }
+    }
+
+    fn change(&mut self) {
+        if let Some(resource) = self.resources.last() {
+            let change = if self.chance.below(2) == 0 { Change::add(1u64) } else { Change::sub(1u64) };
+            let _ = resource.change("n", change);
+        }
+    }
+}
+
+#[test]
+fn a_stream_leads_to_what_a_snapshot_tells() {
+    for (seed, retention) in [(1, None), (2, Some(0)), (3, Some(100)), (4, Some(2_000)), (5, Some(3_600_000_000))] {
+        let retention = retention.map(Duration::from_micros);
+        let console = Console::open(Settings { capacity: 20, retention });
+        let mut program = Program {
+            console: console.clone(),
+            chance: Chance(seed),
+            tasks: Vec::new(),
+            wakers: Vec::new(),
+            resources: Vec::new(),
+            ops: Vec::new(),
+        };
+        let mut tables = Tables::default();
+        for turn in 0..100 {
+            (0..program.chance.below(60)).for_each(|_| program.call());
+            if turn % 20 == 7 {
+                sleep(Duration::from_millis(1));
+            }
+            tables.apply(&publish(&console));
+            let mut whole = Tables::default();
+            whole.apply(&snapshot(&console));
+            assert_eq!((&whole.items, &whole.dropped), (&tables.items, &tables.dropped), "seed {seed}, turn {turn}");
+            // A reader of the stream keeps the counts of resources that left. Of those that are there both have the same.
+            for (resource, counts) in &whole.counts {
+                assert_eq!(Some(counts), tables.counts.get(resource), "seed {seed}, turn {turn}");
+            }
+            for (resource, ..) in &tables.items["resource_stats"] {
+                assert_eq!(whole.counts.get(resource), tables.counts.get(resource), "seed {seed}, turn {turn}");
+            }
+        }
+        assert_ne!(tables.dropped, "0,0,0", "seed {seed}: the recorders were never full");
+    }
+}

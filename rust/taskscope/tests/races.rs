@@ -1,0 +1,80 @@
+//! Threads that make every kind of call at once, while others publish: for ThreadSanitizer, by `tests/rust.sh`.
+//!
+//! It ends by a panic where a count is wrong. Threads are joined one by one, as ThreadSanitizer knows that order.
+
+mod common;
+
+use common::{list, noop, number, snapshot, value, Calls};
+use std::future::Future;
+use std::sync::mpsc::channel;
+use std::task::{Context, Poll};
+use std::thread::{spawn, JoinHandle};
+use std::time::Duration;
+use taskscope::{Attr, Change, Console, Publisher, Resource, Settings, TaskWaker};
+
+const THREADS: u64 = 8;
+const TURNS: u64 = 3_000;
+
+/// The calls of one thread: on a waker that all threads have, on a resource, and on items of its own.
+fn call(console: &Console, waker: &std::task::Waker, by_hand: &TaskWaker, resource: &Resource) {
+    for turn in 0..TURNS {
+        match turn % 3 {
+            0 => drop(waker.clone()),
+            _ => waker.wake_by_ref(),
+        }
+        drop(by_hand.clone());
+        let mut task = console.task("made").open();
+        let mut op = console.op(resource, "wait").open();
+        task.start_poll().unwrap();
+        op.set_task(task.id());
+        op.start_poll().unwrap();
+        op.count_poll(turn % 2 == 0);
+        resource.change("calls", Change::add(1u64)).unwrap();
+        op.end_poll().unwrap();
+        task.end_poll().unwrap();
+    }
+}
+
+fn main() {
+    let console = Console::open(Settings { capacity: 300, retention: Some(Duration::from_micros(300)) });
+    let (sender, wakers) = channel();
+    let mut future = Box::pin(console.inspect(
+        "shared",
+        Calls(move |cx: &mut Context<'_>| {
+            sender.send(cx.waker().clone()).unwrap();
+            Poll::Pending
+        }),
+    ));
+    let id = future.id().value();
+    assert!(future.as_mut().poll(&mut Context::from_waker(&noop())).is_pending());
+    let waker = wakers.recv().unwrap();
+    let task = console.task("by hand").open();
+    let resource = console.resource("Semaphore", "Sync").attr(Attr::new("calls", 0u64)).open();
+    let publisher = Publisher::start(&console, Duration::from_millis(1), Vec::new()).unwrap();
+    let threads: Vec<JoinHandle<()>> = (0..THREADS)
+        .map(|_| {
+            let (console, waker, by_hand, resource) = (console.clone(), waker.clone(), task.waker(), resource.clone());
+            spawn(move || call(&console, &waker, &by_hand, &resource))
+        })
+        .collect();
+    let snapshots = {
+        let console = console.clone();
+        spawn(move || (0..50).map(|_| console.snapshot().unwrap().len()).sum::<usize>())
+    };
+    threads.into_iter().for_each(|thread| thread.join().unwrap());
+    assert!(snapshots.join().unwrap() > 0);
+    assert!(!publisher.stop().unwrap().is_empty());
+    let told = snapshot(&console);
+    let row = common::task(&told, id);
+    assert_eq!(number(row, "wakes"), THREADS * TURNS * 2 / 3);
+    assert_eq!(
+        (number(row, "clones"), number(row, "drops")),
+        (1 + THREADS * (1 + TURNS / 3), THREADS * (1 + TURNS / 3))
+    );
+    let row = common::task(&told, task.id().value());
+    assert_eq!((number(row, "clones"), number(row, "drops")), (THREADS * (1 + TURNS), THREADS * (1 + TURNS)));
+    let calls = THREADS * TURNS;
+    assert_eq!(value(list(&told, "resource_stats")[0], "attrs"), format!("[{calls}]"));
+    assert_eq!(list(&told, "poll_counts"), [format!("[{},{},{}]", resource.id().value(), calls / 2, calls / 2)]);
+    drop((waker, future));
+}

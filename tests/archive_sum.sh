@@ -1,0 +1,23 @@
+#!/bin/sh
+# Writes the sum of what the Rust crate's archive is built from: the sources of tk_embed and of the crates of this repository below
+# it, their lines of crates.txt, and the toolchain.
+#
+# Usage: tests/archive_sum.sh
+#
+# One line, the SHA-256 of all that in a fixed order, to standard output. rust/taskscope/prebuilt/TARGET/sources.sha256 keeps
+# that of the archive beside it; `tests/rust.sh` compares the two.
+
+set -e
+root=$(CDPATH= cd -P -- "$(dirname -- "$0")/.." && pwd)
+work=$(mktemp -d)
+trap 'rm -rf "$work"' EXIT
+cd "$root"
+for crate in tk_ids tk_core tk_stream tk_embed; do
+    for part in src specs proofs; do
+        find "crates/$crate/$part" -type f >> "$work/files"
+    done
+    grep -E "^${crate}[ :]" crates.txt >> "$work/lines"
+done
+LC_ALL=C sort "$work/files" | xargs sha256sum > "$work/sums"
+rt version > "$work/version"
+cat "$work/sums" "$work/lines" "$work/version" | sha256sum | cut -d ' ' -f 1

@@ -1,0 +1,231 @@
+#!/bin/sh
+# Tries the Rust crate of rust/ over the proved library, and shows a service's stream by the proved program.
+#
+# Usage: tests/rust.sh            behind `rt ci`, or `rt run` in crates/taskscope.
+#        tests/rust.sh --renew    builds the archive that rust/taskscope/prebuilt keeps anew, with the sum of its sources, and tries nothing.
+#
+# It builds the archive (`rt lib` in crates/tk_embed), sees that the one that is kept is of the same sources and says whether it has the
+# same bytes, and runs the crate's tests with the new one, and with the kept one where their bytes differ. Then it runs the service of
+# rust/examples/service.rs: `view` of its stream must tell of each task as many polls as the service counted itself, and of the semaphore as
+# many poll operations, and `lint` the two warnings that are due and no other. `view` must take the streams of the tests with threads too.
+#
+# It works on a copy of rust/ and without network, over the crates that Debian's packages have: cargo, rustc, librust-tokio-dev. Where one
+# is missing it tries to install it by apt-get. Where it can't, it says so and skips all; with CI=true that is a failure.
+# CARGO_TARGET_DIR may name a folder that keeps what cargo builds; otherwise it is a temporary one.
+#
+# Its last line is `N passed, M failed`, and its status 1 where M isn't 0.
+
+root=$(CDPATH= cd -P -- "$(dirname -- "$0")/.." && pwd) || exit 2
+work=$(mktemp -d) || exit 2
+trap 'rm -rf "$work"' EXIT
+trap 'exit 2' HUP INT TERM
+target=x86_64-unknown-linux-gnu
+kept=$root/rust/taskscope/prebuilt/$target
+passed=0
+failed=0
+
+# Runs the command behind the name of a step. What it says is shown where it fails.
+step() {
+    name=$1
+    shift
+    if "$@" > "$work/said" 2>&1; then
+        passed=$((passed + 1))
+        echo "ok: $name"
+    else
+        failed=$((failed + 1))
+        echo "FAILED: $name"
+        tail -n 60 "$work/said"
+        return 1
+    fi
+}
+
+finish() {
+    echo "$passed passed, $failed failed"
+    [ "$failed" -eq 0 ]
+    exit
+}
+
+build_archive() {
+    (cd "$root/crates/tk_embed" && rt lib) && cp "$root/crates/tk_embed/out/libtk_embed.a" "$work/new"
+}
+
+renew() {
+    mkdir -p "$kept" && cp "$work/new/libtk_embed.a" "$kept" && "$root/tests/archive_sum.sh" > "$kept/sources.sha256"
+}
+
+mkdir "$work/new" "$work/streams" || exit 2
+if [ "$1" = --renew ]; then
+    step 'the archive is built' build_archive && step 'it is kept, with the sum of its sources' renew
+    finish
+fi
+
+# What is needed
+
+as_root() {
+    if [ "$(id -u)" -eq 0 ]; then "$@"; else sudo -n "$@"; fi
+}
+
+# The folder with the sources of Debian's crates.
+crates_folder() {
+    dpkg -L librust-tokio-dev 2> /dev/null | sed -n 's|/tokio-[^/]*$||p' | head -n 1
+}
+
+missing() {
+    command -v cargo > /dev/null || echo cargo
+    command -v rustc > /dev/null || echo rustc
+    [ -n "$(crates_folder)" ] || echo librust-tokio-dev
+}
+
+packages=$(missing)
+if [ -n "$packages" ]; then
+    # shellcheck disable=SC2086 # a word for each package
+    { as_root apt-get update && as_root apt-get install -y --no-install-recommends $packages; } > "$work/said" 2>&1
+fi
+packages=$(missing)
+if [ -n "$packages" ]; then
+    # shellcheck disable=SC2086 # a word for each package
+    echo "skipped, as these packages of Debian are neither here nor to be had:" $packages
+    [ "$CI" = true ] && failed=1
+    finish
+fi
+
+# The crate and its tests
+
+folder=$(crates_folder)
+cp -R "$root/rust" "$work/rust" && rm -rf "$work/rust/target" "$work/rust/Cargo.lock" "$work/rust/bench" || exit 2
+ln -s "$root/crates" "$work/crates" || exit 2
+CARGO_TARGET_DIR=${CARGO_TARGET_DIR:-$work/target}
+export CARGO_TARGET_DIR
+
+# cargo over Debian's crates: its command, then its words.
+over_debian() {
+    command=$1
+    shift
+    (cd "$work/rust" && cargo "$command" --offline --config 'source.crates-io.replace-with="debian"' \
+        --config "source.debian.directory=\"$folder\"" "$@")
+}
+
+# A test that skips something says so by this word.
+try_crate() {
+    TASKSCOPE_LIB=$1 TASKSCOPE_STREAMS=$work/streams over_debian test -p taskscope > "$work/tests" 2>&1
+    tests=$?
+    cat "$work/tests"
+    [ "$tests" -eq 0 ] && ! grep -q SKIPPED "$work/tests"
+}
+
+sum_fits() {
+    sum=$("$root/tests/archive_sum.sh") && [ "$sum" = "$(cat "$kept/sources.sha256")" ] || {
+        echo "the kept archive is of other sources: tests/rust.sh --renew builds it anew"
+        return 1
+    }
+}
+
+has_bytes() {
+    cmp -s "$work/new/libtk_embed.a" "$kept/libtk_embed.a"
+}
+
+step 'the archive is built' build_archive || finish
+step 'the kept archive is of these sources' sum_fits
+step 'the tests of the crate pass' try_crate "$work/new"
+if has_bytes; then
+    echo 'the kept archive has the bytes of the new one'
+else
+    echo 'the kept archive has other bytes than the new one'
+    step 'the tests of the crate pass with the kept archive' try_crate "$kept"
+fi
+
+# Races are looked for where the compiler has ThreadSanitizer, which Debian's has not. The standard library is not compiled for it.
+flags='-Zsanitizer=thread -Cunsafe-allow-abi-mismatch=sanitizer --cfg taskscope_races'
+
+has_sanitizer() {
+    # shellcheck disable=SC2086 # a word for each flag
+    echo 'fn main() {}' | RUSTC_BOOTSTRAP=1 rustc $flags --target "$target" -o "$work/empty" - && "$work/empty"
+}
+
+look_for_races() {
+    TASKSCOPE_LIB=$work/new RUSTC_BOOTSTRAP=1 RUSTFLAGS=$flags over_debian test -p taskscope --test races --target "$target"
+}
+
+if has_sanitizer > "$work/said" 2>&1; then
+    step 'ThreadSanitizer sees no race' look_for_races
+else
+    echo 'nothing looked for races, as this rustc has no ThreadSanitizer'
+fi
+
+document() {
+    TASKSCOPE_LIB=$work/new RUSTDOCFLAGS='-D warnings' over_debian doc --no-deps -p taskscope
+}
+
+step 'its documentation has no warning' document
+if cargo fmt --version > "$work/said" 2>&1; then
+    step 'its sources are formatted' sh -c "cd '$work/rust' && cargo fmt --all --check"
+fi
+if cargo clippy --version > "$work/said" 2>&1; then
+    lint_sources() {
+        TASKSCOPE_LIB=$work/new over_debian clippy --workspace --all-targets -- -D warnings
+    }
+    step 'clippy has no warning' lint_sources
+fi
+
+# The service and its stream
+
+run_service() {
+    TASKSCOPE_LIB=$work/new over_debian build --release -p taskscope-examples &&
+        "$CARGO_TARGET_DIR/release/service" "$work/service.stream" > "$work/counted"
+}
+
+view() {
+    "$root/taskscope" view < "$1" > "$2"
+}
+
+# Each line of what the service counted has its line in the report.
+counts_agree() {
+    while read -r _ id what rest; do
+        case $what in
+        ready) line="^resource $id live $what $rest type " ;;
+        *) line="^task $id [a-z]* [a-z]* $rest .* name $what\$" ;;
+        esac
+        grep -q "$line" "$work/report" || {
+            echo "the service counted: $id $what $rest. The report:"
+            grep " $id " "$work/report"
+            return 1
+        }
+    done < "$work/counted"
+    [ "$(grep -c '^mine .* polls ' "$work/counted")" -eq "$(grep -c '^task ' "$work/report")" ]
+}
+
+# The id of the service's task with a name.
+id_of() {
+    sed -n "s/^mine \([0-9.]*\) $1 .*/\1/p" "$work/counted"
+}
+
+warnings_are_due() {
+    "$root/taskscope" lint < "$work/service.stream" > "$work/warnings"
+    [ $? -eq 3 ] || return 1
+    printf 'warn %s self-wakes 1000 of 1000\nwarn %s lost-waker\n' "$(id_of self-waker)" "$(id_of lost)" > "$work/due"
+    diff "$work/due" "$work/warnings"
+}
+
+to_standard_output() {
+    "$CARGO_TARGET_DIR/release/service" 2> "$work/counted" > "$work/service.stream" &&
+        view "$work/service.stream" "$work/report" && counts_agree
+}
+
+view_streams() {
+    for stream in wakes_of_one_task items_of_many_threads lines_of_threads; do
+        view "$work/streams/$stream.stream" "$work/report" || return 1
+        case $stream in
+        wakes*) grep -q '^task .* closed polls 1 wakes 600000 self 0 clones 400001 drops 400001 ' "$work/report" ;;
+        items*) [ "$(grep -c '^task .* closed ' "$work/report")" -eq 8000 ] ;;
+        lines*) [ "$(wc -l < "$work/report")" -eq 1 ] ;;
+        esac || { head -n 3 "$work/report"; return 1; }
+    done
+}
+
+if step 'the service runs' run_service && step 'its stream is viewed' view "$work/service.stream" "$work/report"; then
+    step 'each task has the polls that the service counted' counts_agree
+    step 'the warnings are the two that are due' warnings_are_due
+    step 'the same of a stream to standard output' to_standard_output
+fi
+step 'the streams of threads are viewed' view_streams
+finish
