@@ -1,5 +1,5 @@
 #!/usr/bin/env python3
-"""Tests of tests/wrong_bodies_verdict.py, on what the prover said of edits of tk_ids and tk_stream (tests/wrong_bodies_said).
+"""Tests of tests/wrong_bodies_verdict.py, on what the prover said of edits of tk_ids, tk_stream and tk_aggregator (tests/wrong_bodies_said).
 
 Usage: tests/wrong_bodies_test.py, in a second. The last line of each file is the status of the check.
 """
@@ -41,6 +41,12 @@ class Alone(unittest.TestCase):
 
     def test_a_goal_beside_lost_names_refuses(self):
         self.begins("renamed_and_wrong", "refused by invariant_of-result, returns-then-fits-clause-attrs: ")
+
+    def test_an_answer_to_a_goal_that_is_nothing_any_more_judges_nothing(self):
+        self.begins("nothing_left_to_show", "refused by returns-in-Some-clause-none: note: src/aggregator.rt:238:28: ")
+        status, text = said("nothing_left_to_show")
+        alone = "\n".join(line for line in text.split("\n") if not line.startswith("note: src/"))
+        self.assertTrue(verdict.alone(status, alone).startswith("NOT JUDGED: "))
 
     def test_an_answer_that_fails_refuses(self):
         self.begins("answer_fails", "refused by returns-then-not-index-clause-told, returns-else-i-self-clause-told, ")

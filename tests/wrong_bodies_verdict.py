@@ -15,7 +15,8 @@ SHOWN = 160
 BEGINS = re.compile(r"(note|help|warning|error): |fn \S+: |\S+:\d+:\d+: |only=\d|logic |statements |by-macro: |logic=")
 # An error in a proof file; of a goal that it answers it gives the name first.
 IN_PROOFS = re.compile(r"(?:note: )?(?:\./)?proofs/(?P<file>\S+?):\d+:\d+: (?:error: )?(?:`(?P<goal>[^`]+)`: )?(?P<error>.*)")
-MISSES = re.compile(r"has no field( `[^`]+`)?|\S+ is not in scope|has no `[^`]+`|was not admitted")
+# The last is an answer to a goal of which nothing is left to show.
+MISSES = re.compile(r"has no field( `[^`]+`)?|\S+ is not in scope|has no `[^`]+`|was not admitted|expected type `Unit\b")
 NO_SEARCH = re.compile(r"fn \S+?::(?P<function>\S+): no proof: .*?`search` did not prove (?P<goals>`[^;]*)")
 NOT_PROVED = re.compile(r"(?:note: )?(?P<file>src/\S+?):\d+:\d+: it is not proved that .*?\(`(?P<goal>[^`]+)`\)")
 
@@ -32,7 +33,7 @@ def messages(said):
 
 
 def misses(said):
-    """The errors of proof files that only miss a name."""
+    """The errors of proof files that only miss a name, or a goal."""
     return [it for it in messages(said) if (at := IN_PROOFS.match(it)) and MISSES.search(at["error"])]
 
 
