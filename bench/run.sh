@@ -26,7 +26,7 @@ format() {
         find "$crate" -name '*.in' | while IFS= read -r file; do
             inner=${file#"$crate"/}
             cmp -s "$copy/${inner%.in}" "$file" || cp "$copy/${inner%.in}" "$file" || exit 1
-        done
+        done || exit 1
     done
 }
 
@@ -46,7 +46,7 @@ case $1 in
     prove
     ;;
 --wrong-bodies)
-    lay_out tk_measures
+    lay_out tk_measures_tests
     copy_scripts
     prove
     attend "$workspace/tests/wrong_bodies.sh" --built tk_measures

@@ -51,7 +51,7 @@ lay_out_crate() {
     done
     find "$workspace/crates/$1" -type f -name '*.in' | while IFS= read -r file; do
         mv "$file" "${file%.in}" || exit 2
-    done
+    done || exit 2
 }
 
 # Leaves in $workspace a folder with these crates and those below them, until the script ends, however it ends.
