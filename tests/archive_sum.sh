@@ -1,6 +1,6 @@
 #!/bin/sh
 # Writes the sum of what the Rust crate's archive is built from: the sources of tk_embed and of the crates of this repository below
-# it, their lines of crates.txt, and the toolchain.
+# it but tk_client, which its laws alone stand on, their lines of crates.txt, and the toolchain.
 #
 # Usage: tests/archive_sum.sh
 #

@@ -1,12 +1,13 @@
 #!/bin/sh
-# Refuses one request for memory after the other: in each call of crates/tk_memory, and in the program's `run`, `view`, `lint` and `demo`.
+# Refuses one request for memory after the other: in each call of tk_memory, and in the program's `run`, `view`, `lint` and `demo`.
 #
 # Usage: tests/refused_memory.sh
 #
-# It takes the two programs that `rt run` left in crates/tk_memory/out and crates/taskscope/out. A small C library (cc and
+# tk_memory stands in bench/crates. Both programs are made in a temporary folder (bench/workspace.sh), by `rt ci`: behind the gate and
+# bench/run.sh --check in a minute, since what they passed is kept on this machine, and else by their proofs. A small C library (cc and
 # LD_PRELOAD) counts their requests and refuses one of them, the first, the second and so on, until a run meets no refusal.
 # In tk_memory a case is what lies between two marks, which are requests of sizes that nothing else asks for. The program
-# itself says of each case whether all is right (src/verdict.rt). A call whose name begins with `none: ` may make no request.
+# itself says of each case whether all is right (src/verdict.rt.in). A call whose name begins with `none: ` may make no request.
 # A refused `run` must answer want of memory by its name, with status 1 and only whole lines of the output before it; `view`,
 # `lint` and `demo` likewise, with no output before it. Or they do without that request, and write the whole output.
 #
@@ -14,14 +15,13 @@
 # `N passed, M failed`, and the status 1 where M isn't 0.
 
 root=$(CDPATH= cd -P -- "$(dirname -- "$0")/.." && pwd) || exit 2
-cases=$root/crates/tk_memory/out/tk_memory
-program=$root/crates/taskscope/out/taskscope
-work=$(mktemp -d) || exit 2
-trap 'rm -rf "$work"' EXIT
-trap 'exit 2' HUP INT TERM
-for built in "$cases" "$program"; do
-    [ -x "$built" ] || { echo "the program is not built: $built" >&2; exit 2; }
-done
+. "$root/bench/workspace.sh"
+lay_out tk_memory taskscope
+prove
+cases=$workspace/crates/tk_memory/out/tk_memory
+program=$workspace/crates/taskscope/out/taskscope
+work=$workspace/refused
+mkdir "$work" || exit 2
 
 cat > "$work/refuse.c" <<'C'
 #define _GNU_SOURCE

@@ -4,7 +4,7 @@
 # Usage: tests/rust.sh            behind `rt ci`, or `rt run` in crates/taskscope.
 #        tests/rust.sh --renew    builds the archive that rust/taskscope/prebuilt keeps anew, with the sum of its sources, and tries nothing.
 #
-# It builds the archive (`rt lib` in crates/tk_embed), sees that the one that is kept is of the same sources and says whether it has the
+# It builds the archive (tests/archive.py), sees that the one that is kept is of the same sources and says whether it has the
 # same bytes, and runs the crate's tests with the new one, and with the kept one where their bytes differ. Then it runs the service of
 # rust/examples/service.rs: `view` of its stream must tell of each task as many polls as the service counted itself, and of the semaphore as
 # many poll operations, and `lint` the two warnings that are due and no other. `view` must take the streams of the tests with threads too.
@@ -46,7 +46,7 @@ finish() {
 }
 
 build_archive() {
-    (cd "$root/crates/tk_embed" && rt lib) && cp "$root/crates/tk_embed/out/libtk_embed.a" "$work/new"
+    "$root/tests/archive.py" "$work/new/libtk_embed.a"
 }
 
 renew() {

@@ -1,7 +1,5 @@
 """Tries the wrong bodies that are no must-fail edits; tests/wrong_bodies.sh says how."""
 
-import importlib.machinery
-import importlib.util
 import os
 import re
 import shutil
@@ -10,14 +8,15 @@ import sys
 import tempfile
 from concurrent.futures import ThreadPoolExecutor
 
-ROOT = os.path.dirname(os.path.dirname(os.path.abspath(__file__)))
+import behind_the_gate
+import wrong_bodies_verdict as verdict
+from behind_the_gate import ROOT
+
 CRATES = os.path.join(ROOT, "crates")
 # So many edits of a crate are tried in one check at most.
 GROUP = int(os.environ.get("GROUP", "12"))
 # An edit with such a word may change more than a body, so it is tried alone.
 STATES = re.compile(r"\b(ensures|requires|ghost|struct|enum|impl|trait|use|fn|derive)\b")
-# What a proof says that only misses a name which an edit took away tells little of the contract.
-MISSES = re.compile(r"^(\./)?proofs/.*(has no field|is not in scope|has no `|was not admitted)")
 
 
 class BadEdit(Exception):
@@ -131,69 +130,17 @@ def copy_of(crate, work):
     return os.path.join(work, "crates", crate)
 
 
-def words_for(edits):
-    return ["--jobs", "1", *[word for edit in edits for word in ("--only", edit.function)]]
+def only(edits):
+    return [word for edit in edits for word in ("--only", edit.function)]
 
 
 def check(copy, edits):
-    run = subprocess.run(["rt", "check", *words_for(edits)], cwd=copy, capture_output=True, text=True)
+    return said_by(["rt", "check", "--jobs", "1", *only(edits)], copy)
+
+
+def said_by(words, folder):
+    run = subprocess.run(words, cwd=folder, capture_output=True, text=True)
     return run.returncode, run.stdout + run.stderr
-
-
-def crates_of_rt():
-    """`rt` as a module, which knows how it calls the prover, and the crates as it sees them, by name."""
-    loader = importlib.machinery.SourceFileLoader("rt_command", os.path.realpath(shutil.which("rt")))
-    rt = importlib.util.module_from_spec(importlib.util.spec_from_loader("rt_command", loader))
-    loader.exec_module(rt)
-    return rt.rtlib, {crate.name: crate for crate in rt.crates_of(ROOT)}
-
-
-def check_behind_the_gate(rtlib, crate):
-    """A check of a copy over the libraries that `rt ci` left in out/, as it tries a must-fail edit itself: these fit one another alone, and `rt check` would prove its own first."""
-
-    def call(copy, edits):
-        words = [rtlib.RATTLE, "check", *crate.words(words_for(edits), keeps=False)]
-        run = subprocess.run(words, cwd=copy, capture_output=True, text=True)
-        return run.returncode, run.stdout + run.stderr
-
-    return call
-
-
-def reason(said, place=""):
-    """The first error of a check, if it is one at this place and does not only miss a name."""
-    for line in said.split("\n"):
-        if re.match(r"(note: )?[^ ]+:\d+:\d+: ", line) and ("error" in line or line.startswith("note: ")):
-            if place in line and not MISSES.match(line):
-                return line[:160]
-    return None
-
-
-def judge_alone(status, said):
-    """What a check of one edit says: that it was refused, or what is wrong with the edit."""
-    if not re.search(r"^only=\d+ proved=\d+", said, re.M):
-        error = re.search(r"^.*(?:^|[ :])error: .*$", said, re.M)
-        return "BAD EDIT: it did not reach the prover: " + (error.group(0)[:200] if error else "")
-    if status == 0:
-        return "LET THROUGH: the function is still proved"
-    if status != 1:
-        return "BAD EDIT: the prover could not tell"
-    if re.search(r"^fn .*: no proof: .*does not cover", said, re.M):
-        return "BAD EDIT: the prover does not cover the body, so no contract was tried"
-    first = reason(said)
-    if first:
-        return "refused: " + first
-    if re.search("not proved|no proof", said):
-        return "refused (a proof file misses a name that the edit took away)"
-    return "BAD EDIT: nothing says why it was refused"
-
-
-def judge_among(edit, said):
-    """What a check of several edits says of this one, where it tells: the proof of its own function fails."""
-    path = edit.function.replace("::", "/")
-    if re.search(rf"^fn \S*::{re.escape(edit.function)}: not proved", said, re.M):
-        first = reason(said, f"/{path}/") or reason(said, edit.changes[0][0] + ":")
-        return f"refused: {first}" if first else None
-    return None
 
 
 def try_tests(crate, edit):
@@ -201,26 +148,37 @@ def try_tests(crate, edit):
     with tempfile.TemporaryDirectory() as work:
         below = crates_under(edit.tests)
         if crate not in below:
-            return f"BAD EDIT: {edit.tests} does not stand on {crate}"
+            return f"{verdict.BAD_EDIT}: {edit.tests} does not stand on {crate}"
         copy_sources(below, work)
         try:
             edit.apply(os.path.join(work, "crates", crate))
         except BadEdit as bad:
-            return f"BAD EDIT: {bad}"
+            return f"{verdict.BAD_EDIT}: {bad}"
         tests = os.path.join(work, "crates", edit.tests)
         words = ["rt", "try", "--test", "--seconds", "300", *(["--", edit.module] if edit.module else [])]
         run = subprocess.run(words, cwd=tests, capture_output=True, text=True)
     failed = re.search(r"^test result: FAILED.*?(\d+) passed.*?(\d+) failed", run.stdout, re.M)
     if failed:
-        return f"refused: {failed.group(2)} tests of {edit.tests} fail, {failed.group(1)} pass"
+        return f"{verdict.REFUSED}: {failed.group(2)} tests of {edit.tests} fail, {failed.group(1)} pass"
     if re.search(r"^test result: ok", run.stdout, re.M):
-        return f"LET THROUGH: no test of {edit.tests} fails"
-    return "BAD EDIT: it did not come to the tests: " + (run.stdout + run.stderr).strip()[-200:]
+        return f"{verdict.LET_THROUGH}: no test of {edit.tests} fails"
+    return f"{verdict.BAD_EDIT}: it did not come to the tests: " + (run.stdout + run.stderr).strip()[-200:]
 
 
 def restore(crate, copy, edits):
     for file in {file for edit in edits for file in edit.files()}:
         shutil.copy(os.path.join(CRATES, crate, file), os.path.join(copy, file))
+
+
+def own_file(edit, edits):
+    """The file that it changes, where no other of these edits does."""
+    file = edit.changes[0][0]
+    return None if any(file in other.files() for other in edits if other is not edit) else file
+
+
+def tell(crate, edit, said):
+    print(f"{crate}/{edit.name}: {said}", flush=True)
+    return said
 
 
 def try_edits(crate, copy, edits, check=check):
@@ -231,15 +189,15 @@ def try_edits(crate, copy, edits, check=check):
             edit.apply(copy)
         status, text = check(copy, edits)
         for edit in edits:
-            said[edit] = judge_alone(status, text) if len(edits) == 1 else judge_among(edit, text)
+            alone = len(edits) == 1
+            said[edit] = verdict.alone(status, text) if alone else verdict.among(edit.function, text, own_file(edit, edits))
     except BadEdit as bad:
-        said = {edit: f"BAD EDIT: {bad}" if len(edits) == 1 else None for edit in edits}
+        said = {edit: f"{verdict.BAD_EDIT}: {bad}" if len(edits) == 1 else None for edit in edits}
     restore(crate, copy, edits)
     told = [edit for edit in edits if said[edit]]
     rest = [edit for edit in edits if not said[edit]]
     for edit in told:
-        print(f"{crate}/{edit.name}: {said[edit]}", flush=True)
-        yield said[edit]
+        yield tell(crate, edit, said[edit])
     for group in [rest] if told else [[edit] for edit in rest]:
         if group:
             yield from try_edits(crate, copy, group, check)
@@ -272,65 +230,83 @@ def fit(crates):
     return edits and not strange
 
 
-def try_crate(crate, only):
+def chosen(crate, names):
+    """The crate's edits of these names, or all."""
     edits = edits_of(crate)
-    for name in set(only).difference(edit.name for edit in edits):
+    for name in set(names).difference(edit.name for edit in edits):
         sys.exit(f"{crate} has no wrong body {name}")
-    edits = [edit for edit in edits if not only or edit.name in only]
-    said = []
-    for edit in [edit for edit in edits if edit.tests]:
-        said.append(try_tests(crate, edit))
-        print(f"{crate}/{edit.name}: {said[-1]}", flush=True)
+    return [edit for edit in edits if not names or edit.name in names]
+
+
+def try_crate(crate, edits):
+    """Tries edits of a crate over a check of it, begun with what earlier checks kept."""
+    said = [tell(crate, edit, try_tests(crate, edit)) for edit in edits if edit.tests]
     edits = [edit for edit in edits if not edit.tests]
     if not edits:
         return said
-    run = subprocess.run(["rt", "check"], cwd=os.path.join(CRATES, crate), capture_output=True, text=True)
-    if run.returncode:
-        why = f"{crate}: NOT PROVED as it stands, so that no wrong body was tried: {run.stdout.strip()[-200:]}"
-        print(why, flush=True)
-        return said + [why]
+    status, text = said_by(["rt", "check"], os.path.join(CRATES, crate))
+    if status:
+        why = f"{verdict.NOT_JUDGED}: the crate isn't proved as it stands: {text.strip()[-200:]}"
+        return said + [tell(crate, edit, why) for edit in edits]
     with tempfile.TemporaryDirectory() as work:
         copy = copy_of(crate, work)
         return said + [line for group in groups_of(edits) for line in try_edits(crate, copy, group)]
 
 
-def try_behind_the_gate(rtlib, crate, edit):
-    for below in crate.below():
-        if not os.path.isdir(below.rlib):
-            why = f"{crate.name}/{edit.name}: NOT TRIED: rt ci has left no library of {below.name}"
-            print(why, flush=True)
-            return [why]
+def try_built(crate, edits, built):
+    """Tries edits of a crate over the libraries that `rt ci` left."""
+    if edits[0].tests:
+        return [tell(crate, edit, try_tests(crate, edit)) for edit in edits]
+    lacking = built.lacking()
+    if lacking:
+        why = f"{verdict.NOT_JUDGED}: rt ci has left no library of {lacking}"
+        return [tell(crate, edit, why) for edit in edits]
     with tempfile.TemporaryDirectory() as work:
-        copy_sources([crate.name], work)
-        copy = os.path.join(work, "crates", crate.name)
-        return list(try_edits(crate.name, copy, [edit], check_behind_the_gate(rtlib, crate)))
+        copy_sources([crate], work)
+        copy = os.path.join(work, "crates", crate)
+        return list(try_edits(crate, copy, edits, lambda copy, some: said_by([*built.check(), *only(some)], copy)))
 
 
-def try_gate(pool):
-    """Tries what the gate tries behind `rt ci`, which has proved the crates as they stand."""
-    rtlib, known = crates_of_rt()
-    edits = [(known[crate], edit) for crate in crates_with_edits() for edit in gate_edits_of(crate)]
-    return pool.map(lambda it: try_behind_the_gate(rtlib, *it), edits)
+def try_all_built(pool, edits_by_crate):
+    """Tries edits over what `rt ci` has left here, a group of them at a time."""
+    known = behind_the_gate.crates()
+    groups = []
+    for crate, edits in edits_by_crate.items():
+        groups += [(crate, group) for group in groups_of([edit for edit in edits if edit.function])]
+        groups += [(crate, [edit]) for edit in edits if edit.tests]
+    return pool.map(lambda it: try_built(*it, known[it[0]]), groups)
 
 
 def crates_with_edits():
     return sorted(name for name in os.listdir(CRATES) if os.path.isdir(os.path.join(CRATES, name, "wrong-bodies")))
 
 
+def verdicts(pool, words):
+    """What each edit that these words ask for comes to, by crates or groups."""
+    mode = words[0] if words and words[0].startswith("--") else ""
+    crate, names = words[1 if mode else 0 :][:1], words[2 if mode else 1 :]
+    for name in crate:
+        if not os.path.isdir(os.path.join(CRATES, name)):
+            sys.exit(f"there is no crate {name}")
+    crates = crate or crates_with_edits()
+    if mode == "--gate":
+        return try_all_built(pool, {name: gate_edits_of(name) for name in crates})
+    if mode == "--built":
+        return try_all_built(pool, {name: chosen(name, names) for name in crates})
+    if mode == "--file":
+        return try_all_built(pool, {name: [Edit(path) for path in names] for name in crate})
+    if mode:
+        sys.exit(f"there is no {mode}: the head of tests/wrong_bodies.sh says what there is")
+    return pool.map(lambda name: try_crate(name, chosen(name, names)), crates)
+
+
 def main(words):
-    if words[:1] == ["--fit"]:
+    if words == ["--fit"]:
         sys.exit(0 if fit(crates_with_edits()) else 1)
-    is_gate = words == ["--gate"]
-    crates = [] if is_gate else words[:1] or crates_with_edits()
-    for crate in crates:
-        if not os.path.isdir(os.path.join(CRATES, crate, "wrong-bodies")):
-            sys.exit(f"there are no wrong bodies of {crate}")
     with ThreadPoolExecutor(int(os.environ.get("JOBS", "2"))) as pool:
-        tried = try_gate(pool) if is_gate else pool.map(lambda crate: try_crate(crate, words[1:]), crates)
-        said = [line for lines in tried for line in lines]
-    refused = sum(line.startswith("refused") for line in said)
-    print(f"{refused} refused, {len(said) - refused} let through")
-    sys.exit(0 if said and refused == len(said) else 1)
+        said = [line for lines in verdicts(pool, words) for line in lines]
+    print(verdict.last_line(said))
+    sys.exit(0 if verdict.is_well(said) else 1)
 
 
 main(sys.argv[1:])

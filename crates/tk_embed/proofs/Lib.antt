@@ -1,0 +1,5 @@
+pub mod EntryLemmas
+pub mod LineLemmas
+pub mod LeftOutLemmas
+pub mod PublishingLemmas
+pub mod FaultLemmas

@@ -1,0 +1,6 @@
+use Rattle.std.proofs.Common.{take}
+use Rattle.tk_embed.specs.Entries.{AddOps}
+use Rattle.tk_embed.proofs.tables.put_ops.Given as goal
+
+abbrev pub invariant-loop-i : goal.invariant-loop-i
+invariant-loop-i l = AddOps l.text l.attrs l.now (take l.i l.entries) l.fn.tables l.tables

@@ -1,0 +1,7 @@
+pub mod Attr
+pub mod Border
+pub mod Entries
+pub mod Faults
+pub mod Lines
+pub mod LeftOut
+pub mod Publishing

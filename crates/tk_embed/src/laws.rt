@@ -1,0 +1,41 @@
+//! Laws of the definitions: each is the contract of a function that does nothing.
+ghost use Rattle.std.specs.Prelude.{◌≡◌, ℕ, List, length};
+ghost use Rattle.tk_client.specs.Feeding.{ClientView, Took};
+ghost use Rattle.tk_client.specs.Meaning.{empty_start};
+ghost use Rattle.tk_client.specs.Streams.{AreShort};
+ghost use Rattle.tk_stream.specs.Lines.{line_between};
+ghost use Rattle.tk_stream.specs.Retention.{line_pruned, prune};
+ghost use Rattle.tk_stream.specs.Streams.{IsStreamTo, IsUninterrupted, lines_sent, tables_sent, last_sent};
+ghost use Rattle.tk_stream.specs.Tables.{TablesView, AreDistinct, empty_tables};
+ghost use Rattle.tk_embed.specs.LeftOut.{LeftOut, leaving_out, AreUnchanged, AreStaying};
+ghost use Rattle.tk_embed.specs.Publishing.{Publishing, ArePublished, bytes_published, sendings};
+
+use tk_client::laws::streams_are_fed;
+
+/// Entries may leave out what didn't change: the line is the same. The line of what leaves is the same where they leave out what
+/// stays.
+pub fn entries_may_be_left_out()
+    ensures changes { (left : LeftOut) (old new : TablesView) (seq : ℕ) → AreUnchanged left old new
+        → line_between (leaving_out left old) (leaving_out left new) seq ≡ line_between old new seq }
+    ensures leaving { (left : LeftOut) (told : TablesView) (now retention seq : ℕ) → AreDistinct told → AreStaying left told now retention
+        → line_pruned (leaving_out left told) (prune (record (leaving_out left told) { now = now }) (leaving_out left told) now retention) seq
+        ≡ line_pruned told (prune (record told { now = now }) told now retention) seq }
+{}
+
+/// The lines that a program asks for, one after the other, where the entries leave out at most what a line would not tell of, are an
+/// uninterrupted stream of the tables of all items, if these may be sent.
+pub fn publishings_are_a_stream()
+    ensures { (ps : List Publishing) → ArePublished empty_tables ps → IsUninterrupted (sendings ps)
+        → IsStreamTo (bytes_published ps) (tables_sent empty_tables (sendings ps)) (last_sent 0 (sendings ps)) }
+{}
+
+/// So a client that takes all of its bytes holds the tables of all items, as the last line was asked for.
+pub fn clients_hold_all_items()
+    ensures { (old new : ClientView) (ps : List Publishing) (lines : ℕ) → old.start ≡ empty_start → ArePublished empty_tables ps
+        → IsUninterrupted (sendings ps) → AreShort old.max_line (lines_sent empty_tables (sendings ps))
+        → Took old (bytes_published ps) lines new
+        → (lines ≡ length (sendings ps)) × (new.start.tables ≡ tables_sent empty_tables (sendings ps)) }
+{
+    publishings_are_a_stream();
+    streams_are_fed();
+}

@@ -1,0 +1,59 @@
+"""What `rt ci` left in out/, for scripts that go on from there: tests/wrong_bodies.py, and tests/archive.py.
+
+The libraries that it left fit one another alone, and `rt check` and `rt lib` would prove their own first.
+"""
+
+import importlib.machinery
+import importlib.util
+import os
+import shutil
+import sys
+
+ROOT = os.path.dirname(os.path.dirname(os.path.abspath(__file__)))
+
+
+class Crate:
+    """A crate behind the gate: the libraries below it, and the prover's words for it over these, as `rt ci` itself has them."""
+
+    def __init__(self, below, prover, words, toolchain):
+        self.below = below
+        self.prover = prover
+        self.words = words
+        self.toolchain = toolchain
+
+    def lacking(self):
+        """A library that `rt ci` has not left, if there is one."""
+        return next((name for name, rlib in self.below if not os.path.isdir(rlib)), None)
+
+    def check(self):
+        return [self.prover, "check", *self.words]
+
+    def archive(self, to):
+        """The words that prove a static library from nothing and build its archive."""
+        return [self.prover, "build", *self.words, "--toolchain", self.toolchain, "--backend", "llvm", "-o", to]
+
+
+def crates():
+    """The crates by name.
+
+    All that these scripts take of rt's inside they take here: the file of `rt` as a module, its crates_of(), a crate's words(), and
+    where the kit is.
+    """
+    try:
+        loader = importlib.machinery.SourceFileLoader("rt_command", os.path.realpath(shutil.which("rt")))
+        rt = importlib.util.module_from_spec(importlib.util.spec_from_loader("rt_command", loader))
+        loader.exec_module(rt)
+        return {
+            crate.name: Crate(
+                [(it.name, it.rlib) for it in crate.below()],
+                rt.rtlib.RATTLE,
+                crate.words(["--jobs", "1"], keeps=False),
+                os.path.join(rt.KIT, "toolchain"),
+            )
+            for crate in rt.crates_of(ROOT)
+        }
+    except (AttributeError, ImportError, OSError, SyntaxError, TypeError, ValueError) as changed:
+        sys.exit(
+            f"nothing was tried: the inside of this kit's rt is another ({changed}). See in the file of `rt` how checked() calls the"
+            " prover for a must-fail edit, and mend crates() in tests/behind_the_gate.py, which alone depends on it."
+        )
