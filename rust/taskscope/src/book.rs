@@ -110,8 +110,6 @@ impl<T: Item> Table<T> {
             cell.row().tell(T::entered(page, entry).now);
             note_close::<T>(&mut self.closed, page, entry, Some(*place), retention);
         }
-        // Those that left in the meantime are in no list, and the others are told.
-        self.changed.retain(|cell| !cell.row().is_gone());
         self.tell_fresh(page, self.told.len(), retention);
     }
 

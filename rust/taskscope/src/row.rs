@@ -134,9 +134,12 @@ impl<W: Copy + Default + PartialEq> Row<W> {
         state.standing = Standing::Told(place);
     }
 
-    /// Whether a listed item that was just told has changed since. If not, it is in no list from now on.
+    /// Whether a listed item that was just told has changed since. If not, or where it is gone, it is in no list from now on.
     pub(crate) fn stays_listed(&self) -> bool {
         let mut state = lock(&self.0);
+        if state.standing == Standing::Gone {
+            return false;
+        }
         state.listed = state.now != state.told;
         state.listed
     }

@@ -5,7 +5,7 @@ mod common;
 use common::{list, number, publish, snapshot, value, Tables};
 use std::thread::sleep;
 use std::time::Duration;
-use taskscope::{Console, Origin, Settings};
+use taskscope::{Console, Origin, Settings, Task};
 
 fn keeps_for(retention: Duration) -> Console {
     Console::open(Settings { retention: Some(retention), ..Settings::default() })
@@ -32,6 +32,18 @@ fn a_close_is_told_before_its_item_leaves() {
     assert!(told.lines().count() == 1 && list(&told, "task_stats").is_empty(), "{told}");
     assert_eq!(number(&told, "seq"), 4);
     drop(stays);
+}
+
+#[test]
+fn what_leaves_is_told_in_the_order_of_the_tables() {
+    let console = keeps_for(Duration::ZERO);
+    let mut tasks: Vec<Task> = (0..4).map(|_| console.task("closed").open()).collect();
+    let ids: Vec<String> = tasks.iter().map(|task| task.id().value().to_string()).collect();
+    publish(&console);
+    while let Some(last) = tasks.pop() {
+        drop(last);
+    }
+    assert_eq!(list(&publish(&console), "gone_tasks"), ids);
 }
 
 #[test]
