@@ -55,10 +55,14 @@ fn an_item_stays_for_its_retention() {
     let told = publish(&console);
     let closed = number(common::task(&told, id), "dropped");
     let mut lines = told;
-    while list(&lines, "gone_tasks").is_empty() {
+    for _ in 0..2_000 {
+        if !list(&lines, "gone_tasks").is_empty() {
+            break;
+        }
         sleep(Duration::from_millis(5));
         lines = publish(&console);
     }
+    assert_eq!(list(&lines, "gone_tasks"), [id.to_string()]);
     let gone = lines.lines().last().expect("a line");
     assert!(number(gone, "now") >= closed + 40_000_000, "{closed} {gone}");
 }
