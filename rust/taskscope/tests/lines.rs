@@ -29,7 +29,10 @@ fn a_line_tells_what_changed_since_the_one_before() {
     assert_eq!(ids(&told, "task_stats"), [id(0), id(3), new.id().value()]);
     assert_eq!(ids(&told, "new_tasks"), [new.id().value()]);
     assert!(ids(&publish(&console), "task_stats").is_empty());
-    assert_eq!(ids(&snapshot(&console), "task_stats").len(), 6);
+    let _ = tasks[4].wake_by_ref(Origin::Outside);
+    assert_eq!(ids(&snapshot(&console), "task_stats"), (0..5).map(id).chain([new.id().value()]).collect::<Vec<_>>());
+    // What a snapshot told is not told again.
+    assert!(ids(&publish(&console), "task_stats").is_empty());
 }
 
 #[test]

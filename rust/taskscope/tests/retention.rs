@@ -92,6 +92,13 @@ fn a_snapshot_removes_nothing_and_tells_of_nothing_that_left() {
     // The snapshot was the first to tell of its close, so it leaves with the next line.
     let told = publish(&console);
     assert_eq!(list(&told, "gone_tasks"), [id.to_string()]);
+    // So it is with a task that an earlier line told as open.
+    let task = console.task("open").open();
+    publish(&console);
+    let id = task.id().value();
+    drop(task);
+    assert_ne!(value(common::task(&snapshot(&console), id), "dropped"), "null");
+    assert_eq!(list(&publish(&console), "gone_tasks"), [id.to_string()]);
     assert!(list(&snapshot(&console), "new_tasks").is_empty());
 }
 
