@@ -8,7 +8,8 @@
 //! - [`Inspected`] is a future whose polls and wakers are recorded, [`Blocking`] a call that blocks its thread, and
 //!   [`InspectedOp`] a future that is an async operation. Most programs need no more.
 //! - [`Task`] is the owner of a task, for polls by hand, [`TaskWaker`] one of its wakers. [`Resource`] is what tasks wait for,
-//!   and [`Op`] one wait. [`TaskBuilder`], [`ResourceBuilder`] and [`OpBuilder`] make them.
+//!   and [`Op`] one wait. [`TaskBuilder`], [`ResourceBuilder`] and [`OpBuilder`] make them. [`SharedTask`] is a task for who
+//!   learns of its polls and wakers by events.
 //! - [`Location`] says where an item was made. [`Attr`] is an attribute of a resource or an operation, [`Value`] its value, and
 //!   [`Change`] a change of it.
 //! - [`Refused`] is why a call was refused, [`Woken`] what a wake found, and [`Fault`] why no line was made.
@@ -44,12 +45,13 @@
 //! and what is dropped is closed or released, once. All go to other threads, and all but futures and calls are shared:
 //!
 //! ```
-//! use taskscope::{Console, Op, Publisher, Resource, Task, TaskWaker};
+//! use taskscope::{Console, Op, Publisher, Resource, SharedTask, Task, TaskWaker};
 //!
 //! fn is_shared<T: Send + Sync + 'static>() {}
 //! is_shared::<Console>();
 //! is_shared::<Publisher<Vec<u8>>>();
 //! is_shared::<Task>();
+//! is_shared::<SharedTask>();
 //! is_shared::<TaskWaker>();
 //! is_shared::<Resource>();
 //! is_shared::<Op>();
@@ -78,6 +80,7 @@ mod publisher;
 mod refused;
 mod resource;
 mod row;
+mod shared;
 mod task;
 
 pub use attr::{Attr, Change, Value};
@@ -91,4 +94,5 @@ pub use op::{Op, OpBuilder};
 pub use publisher::Publisher;
 pub use refused::{Refused, Woken};
 pub use resource::{Resource, ResourceBuilder};
+pub use shared::SharedTask;
 pub use task::{Origin, Task, TaskBuilder, TaskKind, TaskWaker};

@@ -204,17 +204,23 @@ impl Task {
     pub fn wake_by_ref(&self, origin: Origin) -> Woken {
         self.cell.wake_by_ref(&self.console, origin)
     }
+
+    /// Closes the task, and ends its poll where one is open. A closed task stays as it is.
+    pub(crate) fn close(&self) {
+        let now = self.console.now();
+        // SAFETY: the row's lock lends the words to this call alone. What is refused changes nothing: `end` where no poll is open,
+        // and both where the task is closed.
+        self.console.step(&self.cell, |words| unsafe {
+            ffi::taskscope_task_end(words, now);
+            ffi::taskscope_task_close(words, now)
+        });
+    }
 }
 
 impl Drop for Task {
     /// Closes the task, and ends its poll where one is open.
     fn drop(&mut self) {
-        let now = self.console.now();
-        // SAFETY: the row's lock lends the words to this call alone. `end` is refused, and changes nothing, where no poll is open.
-        self.console.step(&self.cell, |words| unsafe {
-            ffi::taskscope_task_end(words, now);
-            ffi::taskscope_task_close(words, now)
-        });
+        self.close();
     }
 }
 

@@ -1,0 +1,265 @@
+//! Reads the fields of tokio's spans and events.
+
+use std::fmt::{self, Debug, Write};
+use taskscope::Value;
+use tracing_core::field::{Field, Visit};
+
+fn text(value: &dyn Debug) -> String {
+    let mut text = String::new();
+    // A `String` takes all that is written.
+    let _ = write!(text, "{value:?}");
+    text
+}
+
+/// tokio's kinds of tasks.
+#[derive(Clone, Copy, Debug, Default, PartialEq, Eq)]
+pub(crate) enum Kind {
+    /// `tokio::spawn`, and what later versions of tokio may add.
+    #[default]
+    Task,
+    /// `spawn_local`.
+    Local,
+    /// What `block_on` runs, on the thread that calls it.
+    BlockOn,
+    /// `spawn_blocking`.
+    Blocking,
+}
+
+/// Takes the first bytes of what is written.
+#[derive(Default)]
+struct Word {
+    bytes: [u8; 16],
+    len: usize,
+}
+
+impl Write for Word {
+    fn write_str(&mut self, text: &str) -> fmt::Result {
+        for (place, byte) in self.bytes[self.len..].iter_mut().zip(text.bytes()) {
+            *place = byte;
+            self.len += 1;
+        }
+        Ok(())
+    }
+}
+
+impl Kind {
+    fn read(value: &dyn Debug) -> Kind {
+        let mut word = Word::default();
+        let _ = write!(word, "{value:?}");
+        match &word.bytes[..word.len] {
+            b"local" => Kind::Local,
+            b"block_on" => Kind::BlockOn,
+            b"blocking" => Kind::Blocking,
+            _ => Kind::Task,
+        }
+    }
+}
+
+/// A place in the sources, of which parts may be missing.
+#[derive(Debug, Default)]
+pub(crate) struct Place {
+    pub(crate) file: String,
+    pub(crate) line: u32,
+    pub(crate) column: u32,
+}
+
+impl Place {
+    /// Whether the field is one of a place.
+    fn number(&mut self, name: &str, value: u64) {
+        let value = u32::try_from(value).unwrap_or(u32::MAX);
+        match name {
+            "loc.line" => self.line = value,
+            "loc.col" => self.column = value,
+            _ => {}
+        }
+    }
+
+    /// Reads `file:line:column`.
+    fn read(text: &str) -> Place {
+        let mut parts = text.rsplitn(3, ':');
+        let mut number = || parts.next().and_then(|part| part.parse().ok()).unwrap_or(0);
+        let (column, line) = (number(), number());
+        Place { file: parts.next().unwrap_or_default().to_owned(), line, column }
+    }
+}
+
+/// The span of a task, `runtime.spawn`.
+#[derive(Debug, Default)]
+pub(crate) struct TaskFields {
+    pub(crate) kind: Kind,
+    pub(crate) name: String,
+    pub(crate) place: Place,
+}
+
+impl Visit for TaskFields {
+    fn record_debug(&mut self, field: &Field, value: &dyn Debug) {
+        match field.name() {
+            "kind" => self.kind = Kind::read(value),
+            "task.name" => self.name = text(value),
+            "spawn.location" => self.place = Place::read(&text(value)),
+            _ => {}
+        }
+    }
+
+    fn record_str(&mut self, field: &Field, value: &str) {
+        match field.name() {
+            "loc.file" => self.place.file = value.to_owned(),
+            "task.name" => self.name = value.to_owned(),
+            _ => {}
+        }
+    }
+
+    fn record_u64(&mut self, field: &Field, value: u64) {
+        self.place.number(field.name(), value);
+    }
+}
+
+/// The span of a resource, `runtime.resource`, or of an operation, `runtime.resource.async_op`.
+#[derive(Debug, Default)]
+pub(crate) struct ItemFields {
+    pub(crate) kind: String,
+    pub(crate) concrete: String,
+    pub(crate) source: String,
+    pub(crate) inherits: bool,
+    pub(crate) place: Place,
+}
+
+impl Visit for ItemFields {
+    fn record_debug(&mut self, field: &Field, value: &dyn Debug) {
+        self.record_str(field, &text(value));
+    }
+
+    fn record_str(&mut self, field: &Field, value: &str) {
+        match field.name() {
+            "kind" => self.kind = value.to_owned(),
+            "concrete_type" => self.concrete = value.to_owned(),
+            "source" => self.source = value.to_owned(),
+            "loc.file" => self.place.file = value.to_owned(),
+            _ => {}
+        }
+    }
+
+    fn record_bool(&mut self, field: &Field, value: bool) {
+        if field.name() == "inherits_child_attrs" {
+            self.inherits = value;
+        }
+    }
+
+    fn record_u64(&mut self, field: &Field, value: u64) {
+        self.place.number(field.name(), value);
+    }
+}
+
+/// What becomes of a waker.
+#[derive(Clone, Copy, Debug, PartialEq, Eq)]
+pub(crate) enum WakerCall {
+    Clone,
+    Drop,
+    Wake,
+    WakeByRef,
+}
+
+/// The event of a waker, `tokio::task::waker`.
+#[derive(Debug, Default)]
+pub(crate) struct WakerFields {
+    /// The span of the task, which stands under `task.id`.
+    pub(crate) span: Option<u64>,
+    pub(crate) call: Option<WakerCall>,
+}
+
+impl Visit for WakerFields {
+    fn record_debug(&mut self, _: &Field, _: &dyn Debug) {}
+
+    fn record_u64(&mut self, field: &Field, value: u64) {
+        if field.name() == "task.id" {
+            self.span = Some(value);
+        }
+    }
+
+    fn record_str(&mut self, field: &Field, value: &str) {
+        if field.name() == "op" {
+            self.call = match value {
+                "waker.clone" => Some(WakerCall::Clone),
+                "waker.drop" => Some(WakerCall::Drop),
+                "waker.wake" => Some(WakerCall::Wake),
+                "waker.wake_by_ref" => Some(WakerCall::WakeByRef),
+                _ => None,
+            };
+        }
+    }
+}
+
+/// The event of a poll operation, `runtime::resource::poll_op`.
+#[derive(Debug, Default)]
+pub(crate) struct PollFields {
+    pub(crate) is_ready: Option<bool>,
+}
+
+impl Visit for PollFields {
+    fn record_debug(&mut self, _: &Field, _: &dyn Debug) {}
+
+    fn record_bool(&mut self, field: &Field, value: bool) {
+        if field.name() == "is_ready" {
+            self.is_ready = Some(value);
+        }
+    }
+}
+
+/// What is done to an attribute.
+#[derive(Clone, Copy, Debug, Default, PartialEq, Eq)]
+pub(crate) enum How {
+    Add,
+    Sub,
+    #[default]
+    Set,
+}
+
+/// The event of an attribute, `runtime::resource::state_update` or `runtime::resource::async_op::state_update`.
+#[derive(Debug, Default)]
+pub(crate) struct UpdateFields {
+    pub(crate) name: &'static str,
+    /// None where the value is a text, or of no kind that attributes have.
+    pub(crate) value: Option<Value>,
+    pub(crate) how: How,
+    pub(crate) unit: Option<String>,
+}
+
+impl UpdateFields {
+    fn set(&mut self, field: &Field, value: Value) {
+        self.name = field.name();
+        self.value = Some(value);
+    }
+}
+
+impl Visit for UpdateFields {
+    fn record_debug(&mut self, field: &Field, _: &dyn Debug) {
+        self.name = field.name();
+    }
+
+    fn record_u64(&mut self, field: &Field, value: u64) {
+        self.set(field, Value::U64(value));
+    }
+
+    fn record_i64(&mut self, field: &Field, value: i64) {
+        self.set(field, Value::I64(value));
+    }
+
+    fn record_bool(&mut self, field: &Field, value: bool) {
+        self.set(field, Value::Bool(value));
+    }
+
+    fn record_str(&mut self, field: &Field, value: &str) {
+        let name = field.name();
+        if name.ends_with(".unit") {
+            self.unit = Some(value.to_owned());
+        } else if name.ends_with(".op") {
+            self.how = match value {
+                "add" => How::Add,
+                "sub" => How::Sub,
+                _ => How::Set,
+            };
+        } else {
+            self.name = name;
+        }
+    }
+}

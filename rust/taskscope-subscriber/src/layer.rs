@@ -1,0 +1,391 @@
+//! tokio's spans and events become calls on rows.
+
+use crate::attributes::Types;
+use crate::entered::{self, Entered, Frame, Key};
+use crate::fields::{ItemFields, Kind, PollFields, TaskFields, UpdateFields, WakerFields};
+use crate::item::{Item, Op, Part, Resource, What};
+use crate::left_out::LeftOut;
+use crate::places::Places;
+use crate::task::{Home, Polls, Task};
+use std::fmt;
+use std::sync::atomic::{AtomicU64, Ordering};
+use std::sync::Arc;
+use taskscope::{Console, Origin, TaskKind};
+use tracing_core::span::{Attributes, Id};
+use tracing_core::subscriber::Interest;
+use tracing_core::{Event, Metadata, Subscriber};
+use tracing_subscriber::layer::{Context, Layer};
+use tracing_subscriber::registry::LookupSpan;
+
+/// Which items are told.
+#[derive(Clone, Copy, Debug, Default, PartialEq, Eq)]
+pub enum Items {
+    /// Tasks, resources and async operations.
+    #[default]
+    All,
+    /// Tasks alone. A lock or a channel then costs what it costs without the layer.
+    Tasks,
+}
+
+/// A span's item, as the span's extension.
+struct Extension(Arc<Item>);
+
+/// What spans and events are of tokio.
+#[derive(Clone, Copy, PartialEq, Eq)]
+enum Source {
+    Task,
+    Waker,
+    Resource,
+    Op,
+    OpPoll,
+    Poll,
+    ResourceUpdate,
+    OpUpdate,
+    Other,
+}
+
+impl Source {
+    #[inline]
+    fn of(metadata: &Metadata<'_>) -> Source {
+        if metadata.is_event() {
+            match metadata.target() {
+                "tokio::task::waker" | "runtime::waker" => Source::Waker,
+                "runtime::resource::poll_op" => Source::Poll,
+                "runtime::resource::state_update" => Source::ResourceUpdate,
+                "runtime::resource::async_op::state_update" => Source::OpUpdate,
+                _ => Source::Other,
+            }
+        } else {
+            match metadata.name() {
+                "runtime.spawn" => Source::Task,
+                "runtime.resource" => Source::Resource,
+                "runtime.resource.async_op" => Source::Op,
+                "runtime.resource.async_op.poll" => Source::OpPoll,
+                _ => Source::Other,
+            }
+        }
+    }
+
+    fn is_told(self, items: Items) -> bool {
+        match self {
+            Source::Task | Source::Waker => true,
+            Source::Other => false,
+            _ => items == Items::All,
+        }
+    }
+}
+
+/// Whether a span or an event is one of tokio's that a [`TaskscopeLayer`] reads: a filter for the layer where it stands beside
+/// others.
+pub fn is_of_tokio(metadata: &Metadata<'_>) -> bool {
+    Source::of(metadata) != Source::Other
+}
+
+/// Tells a console what tokio's spans and events say. A registry has one at most.
+///
+/// [`Builder::layer`](crate::Builder::layer) makes one with a console and a thread that publishes. This is for a program that has
+/// both:
+///
+/// ```
+/// use taskscope::{Console, Settings};
+/// use taskscope_subscriber::{Rootless, TaskscopeLayer};
+/// use tracing_subscriber::layer::SubscriberExt;
+///
+/// let console = Console::open(Settings::default());
+/// let subscriber = Rootless(tracing_subscriber::registry().with(TaskscopeLayer::new(&console)));
+/// tracing::subscriber::set_global_default(subscriber)?;
+/// # Ok::<(), tracing::subscriber::SetGlobalDefaultError>(())
+/// ```
+pub struct TaskscopeLayer {
+    /// Tells the spans of this layer's registry from those of others.
+    number: u64,
+    console: Console,
+    items: Items,
+    polls: Polls,
+    /// Whether no other layer stands beside it, so that what it doesn't read is turned off.
+    is_alone: bool,
+    left_out: Arc<LeftOut>,
+    places: Places,
+    resource_types: Types,
+    op_types: Types,
+}
+
+impl TaskscopeLayer {
+    /// A layer that tells this console of all items, and counts a task's own polls.
+    pub fn new(console: &Console) -> TaskscopeLayer {
+        static LAST: AtomicU64 = AtomicU64::new(0);
+        TaskscopeLayer {
+            number: LAST.fetch_add(1, Ordering::Relaxed) + 1,
+            console: console.clone(),
+            items: Items::default(),
+            polls: Polls::default(),
+            is_alone: false,
+            left_out: Arc::default(),
+            places: Places::default(),
+            resource_types: Types::of_resources(),
+            op_types: Types::of_ops(),
+        }
+    }
+
+    /// Which items are told.
+    pub fn items(self, items: Items) -> TaskscopeLayer {
+        TaskscopeLayer { items, ..self }
+    }
+
+    /// Which enters of a task's span are polls of it.
+    pub fn polls(self, polls: Polls) -> TaskscopeLayer {
+        TaskscopeLayer { polls, ..self }
+    }
+
+    /// No other layer stands beside it.
+    pub(crate) fn alone(self) -> TaskscopeLayer {
+        TaskscopeLayer { is_alone: true, ..self }
+    }
+
+    /// What of the program's events no row has. It is kept when the layer becomes a part of a subscriber.
+    pub fn left_out(&self) -> Arc<LeftOut> {
+        Arc::clone(&self.left_out)
+    }
+
+    fn key(&self, span: u64) -> Key {
+        Key { layer: self.number, span }
+    }
+
+    /// The item of a span, which a thread may have kept.
+    #[inline]
+    fn item<S>(&self, entered: &mut Entered, id: &Id, ctx: &Context<'_, S>) -> Option<Arc<Item>>
+    where
+        S: Subscriber + for<'a> LookupSpan<'a>,
+    {
+        entered.take(self.key(id.into_u64())).or_else(|| {
+            let span = ctx.span(id)?;
+            let extensions = span.extensions();
+            extensions.get::<Extension>().map(|extension| Arc::clone(&extension.0))
+        })
+    }
+
+    fn new_task(&self, entered: &mut Entered, attributes: &Attributes<'_>) -> What {
+        let mut fields = TaskFields::default();
+        attributes.record(&mut fields);
+        let place = self.places.tell(&fields.place);
+        let location = place.location();
+        let name = if fields.name.is_empty() { place.name() } else { fields.name.into() };
+        // No waker of what `block_on` runs is told of, so it can't be told from a task that nobody will wake.
+        let kind = match fields.kind {
+            Kind::Task | Kind::Local => TaskKind::Spawn,
+            Kind::BlockOn | Kind::Blocking => TaskKind::Blocking,
+        };
+        let shared = self.console.task(name).kind(kind).location(location).open().share();
+        let home = Home { thread: entered.thread(), within: entered.polled(self.number).map(Task::id) };
+        What::Task(Task::new(shared, fields.kind, home))
+    }
+
+    fn new_resource(&self, entered: &Entered, attributes: &Attributes<'_>) -> What {
+        let mut fields = ItemFields::default();
+        attributes.record(&mut fields);
+        let values = self.resource_types.begin(&fields.concrete);
+        let parent = entered.innermost(self.number, |item| item.resource().map(|_| Arc::clone(item)));
+        let location = self.places.tell(&fields.place).location();
+        let mut builder = self.console.resource(fields.concrete.clone(), fields.kind).location(location);
+        if let Some(id) = parent.as_deref().and_then(Item::resource).and_then(Resource::id) {
+            builder = builder.parent(id);
+        }
+        let owner = values.attrs().fold(builder, |builder, attr| builder.attr(attr)).open();
+        What::Resource(Resource(Part::new(fields.concrete, parent, fields.inherits, owner, values)))
+    }
+
+    /// An operation of the innermost resource.
+    fn new_op(&self, entered: &Entered, attributes: &Attributes<'_>) -> Option<What> {
+        let resource = entered.innermost(self.number, |item| item.resource().map(Resource::owner)).flatten();
+        let resource = match resource {
+            Some(resource) => resource,
+            None => {
+                self.left_out.stray.add();
+                return None;
+            }
+        };
+        let mut fields = ItemFields::default();
+        attributes.record(&mut fields);
+        let values = self.op_types.begin(&fields.source);
+        let parent = entered.innermost(self.number, |item| item.op().map(|_| Arc::clone(item)));
+        let mut builder = self.console.op(&resource, fields.source.clone());
+        if let Some(id) = parent.as_deref().and_then(Item::op).and_then(Op::id) {
+            builder = builder.parent(id);
+        }
+        let owner = values.attrs().fold(builder, |builder, attr| builder.attr(attr)).open();
+        Some(What::Op(Op::new(Part::new(fields.source, parent, fields.inherits, owner, values))))
+    }
+
+    /// A call on a waker. A wake while this thread is within a poll of the task is the task's own.
+    fn call_waker<S>(&self, entered: &mut Entered, event: &Event<'_>, ctx: &Context<'_, S>)
+    where
+        S: Subscriber + for<'a> LookupSpan<'a>,
+    {
+        let mut fields = WakerFields::default();
+        event.record(&mut fields);
+        let (span, call) = match (fields.span, fields.call) {
+            (Some(span), Some(call)) if span != 0 => (span, call),
+            _ => return self.left_out.unknown.add(),
+        };
+        let key = self.key(span);
+        let polled = entered.frames(self.number).find(|frame| frame.key == key && frame.is_poll);
+        if let Some(task) = polled.and_then(|frame| frame.item.task()) {
+            return task.call_waker(call, Origin::Inside, &self.left_out);
+        }
+        match self.item(entered, &Id::from_u64(span), ctx).filter(|item| !item.is_closed()) {
+            Some(item) => {
+                if let Some(task) = item.task() {
+                    task.call_waker(call, Origin::Outside, &self.left_out);
+                }
+                entered.keep(key, item);
+            }
+            None => self.left_out.late.add(),
+        }
+    }
+
+    /// A poll operation of the innermost resource.
+    fn count_poll(&self, entered: &Entered, event: &Event<'_>) {
+        let mut fields = PollFields::default();
+        event.record(&mut fields);
+        let is_ready = match fields.is_ready {
+            Some(is_ready) => is_ready,
+            None => return self.left_out.unknown.add(),
+        };
+        let counted =
+            entered.innermost(self.number, |item| item.resource().map(|resource| resource.count_poll(is_ready)));
+        if counted.is_none() {
+            self.left_out.stray.add();
+        }
+    }
+
+    /// A change of an attribute of the innermost operation, or resource.
+    fn update(&self, entered: &Entered, event: &Event<'_>, is_of_op: bool) {
+        let mut fields = UpdateFields::default();
+        event.record(&mut fields);
+        let updated = if is_of_op {
+            let update = |op: &Op| op.update(&fields, &self.op_types, &self.left_out);
+            entered.innermost(self.number, |item| item.op().map(update))
+        } else {
+            let update = |resource: &Resource| resource.update(&fields, &self.resource_types, &self.left_out);
+            entered.innermost(self.number, |item| item.resource().map(update))
+        };
+        if updated.is_none() {
+            self.left_out.stray.add();
+        }
+    }
+
+    /// Whether a poll starts as a span is entered.
+    #[inline]
+    fn starts_poll(&self, entered: &mut Entered, key: Key, item: &Item) -> bool {
+        match &item.what {
+            What::Task(task) => self.starts_task_poll(entered, key, task),
+            What::OpPoll(op) => {
+                let task = entered.polled(self.number).map(Task::id);
+                op.op().map_or(false, |op| op.start_poll(task))
+            }
+            What::Resource(_) | What::Op(_) => false,
+        }
+    }
+
+    #[inline]
+    fn starts_task_poll(&self, entered: &mut Entered, key: Key, task: &Task) -> bool {
+        if entered.frames(self.number).any(|frame| frame.key == key && frame.is_poll) {
+            self.left_out.nested.add();
+            return false;
+        }
+        let thread = entered.thread();
+        if self.polls == Polls::Own && !task.is_polled(thread, entered.polled(self.number)) {
+            self.left_out.foreign.add();
+            return false;
+        }
+        let starts = task.start_poll();
+        if !starts {
+            self.left_out.nested.add();
+        }
+        starts
+    }
+}
+
+impl<S> Layer<S> for TaskscopeLayer
+where
+    S: Subscriber + for<'a> LookupSpan<'a>,
+{
+    fn register_callsite(&self, metadata: &'static Metadata<'static>) -> Interest {
+        if self.is_alone && !Source::of(metadata).is_told(self.items) {
+            Interest::never()
+        } else {
+            Interest::always()
+        }
+    }
+
+    fn on_new_span(&self, attributes: &Attributes<'_>, id: &Id, ctx: Context<'_, S>) {
+        let source = Source::of(attributes.metadata());
+        if !source.is_told(self.items) {
+            return;
+        }
+        entered::with(|entered| {
+            let what = match source {
+                Source::Task => self.new_task(entered, attributes),
+                Source::Resource => self.new_resource(entered, attributes),
+                Source::Op => self.new_op(entered, attributes)?,
+                Source::OpPoll => {
+                    What::OpPoll(entered.innermost(self.number, |item| item.op().map(|_| Arc::clone(item)))?)
+                }
+                _ => return None,
+            };
+            let item = Item::new(what);
+            ctx.span(id)?.extensions_mut().replace(Extension(Arc::clone(&item)));
+            entered.keep(self.key(id.into_u64()), item);
+            Some(())
+        });
+    }
+
+    #[inline]
+    fn on_event(&self, event: &Event<'_>, ctx: Context<'_, S>) {
+        let source = Source::of(event.metadata());
+        if !source.is_told(self.items) {
+            return;
+        }
+        entered::with(|entered| match source {
+            Source::Waker => self.call_waker(entered, event, &ctx),
+            Source::Poll => self.count_poll(entered, event),
+            Source::ResourceUpdate => self.update(entered, event, false),
+            Source::OpUpdate => self.update(entered, event, true),
+            _ => {}
+        });
+    }
+
+    #[inline]
+    fn on_enter(&self, id: &Id, ctx: Context<'_, S>) {
+        entered::with(|entered| {
+            let item = self.item(entered, id, &ctx)?;
+            let key = self.key(id.into_u64());
+            let is_poll = self.starts_poll(entered, key, &item);
+            entered.push(Frame { key, item, is_poll });
+            Some(())
+        });
+    }
+
+    #[inline]
+    fn on_exit(&self, id: &Id, _: Context<'_, S>) {
+        entered::with(|entered| {
+            entered.leave(self.key(id.into_u64()), |frame| match &frame.item.what {
+                What::Task(task) if frame.is_poll => task.end_poll(),
+                What::OpPoll(op) if frame.is_poll => op.op().map_or((), Op::end_poll),
+                _ => {}
+            });
+        });
+    }
+
+    fn on_close(&self, id: Id, ctx: Context<'_, S>) {
+        if let Some(item) = entered::with(|entered| self.item(entered, &id, &ctx)).flatten() {
+            item.close();
+        }
+    }
+}
+
+impl fmt::Debug for TaskscopeLayer {
+    fn fmt(&self, f: &mut fmt::Formatter<'_>) -> fmt::Result {
+        f.debug_struct("TaskscopeLayer").field("items", &self.items).field("polls", &self.polls).finish_non_exhaustive()
+    }
+}

@@ -1,0 +1,83 @@
+//! Inspects a tokio program by one line in its `main`.
+//!
+//! ```no_run
+//! taskscope_subscriber::init();
+//! ```
+//!
+//! The program is built with tokio's feature `tracing` and with `--cfg tokio_unstable`, and is started with a variable that says
+//! where its stream goes. `taskscope view` shows the stream as a report, and `taskscope lint` the warnings about it:
+//!
+//! ```sh
+//! RUSTFLAGS="--cfg tokio_unstable" cargo build
+//! TASKSCOPE_STREAM=program.stream ./program
+//! taskscope view < program.stream
+//! ```
+//!
+//! - [`init`] reads the variables. [`Builder`] says the same in the program, and [`Output`] where lines go.
+//! - [`TaskscopeLayer`] stands beside other layers, with [`Rootless`] around them; [`Items`] and [`Polls`] say what it tells, and
+//!   [`is_of_tokio`] what it reads. [`Guard`] is the thread that publishes.
+//! - [`LeftOut`] counts what of the program's events no row has.
+//!
+//! # Variables
+//!
+//! | Variable | What it says | Without it |
+//! |---|---|---|
+//! | `TASKSCOPE_STREAM` | where lines go: the path of a file or of a pipe (`mkfifo`), `unix:PATH` for a socket, or `stderr` | nothing is inspected, and nothing costs more |
+//! | `TASKSCOPE_INTERVAL_MS` | milliseconds from one line to the next | 100 |
+//! | `TASKSCOPE_ITEMS` | `tasks`: resources and operations are not told, and locks and channels cost no more; or `all` | `all` |
+//! | `TASKSCOPE_POLLS` | `all`: each enter of a task's span is a poll, as for tokio-console; or `own` ([`Polls`]) | `own` |
+//! | `TASKSCOPE_RETENTION_MS` | milliseconds that an item stays behind its close; or `none`: for good | 3600000 |
+//! | `TASKSCOPE_CAPACITY` | how many new items each of the 16 recorders holds until the next line | 65536 |
+//!
+//! # What becomes of tokio's spans and events
+//!
+//! | tokio says | What is told |
+//! |---|---|
+//! | a span `runtime.spawn` is made | a task. Its name is its place where it has none. `task` and `local` are of kind `spawn`, `blocking` and `block_on` of kind `blocking` |
+//! | it is entered and left | a poll starts and ends, where it is one of the task ([`Polls`]) |
+//! | it is closed | the task is closed |
+//! | `waker.clone`, `waker.drop` | a waker is cloned, dropped |
+//! | `waker.wake_by_ref`, `waker.wake` | a wake, and by value also a drop; from within where this thread is within a poll of the task |
+//! | the same once the span is closed | nothing: `late` |
+//! | a span `runtime.resource`, `runtime.resource.async_op` | a resource, an operation of the innermost resource. The parent is the innermost of its kind |
+//! | a span `runtime.resource.async_op.poll` is entered and left | a poll of the operation, by the task that the thread polls, starts and ends |
+//! | `poll_op` | a poll operation of the innermost resource |
+//! | `state_update` | a change of an attribute of the innermost item, and of its parent that has `inherits_child_attrs` |
+//!
+//! A resource has its attributes from its beginning, and tokio tells them behind it: those of tokio's types are known here, and of
+//! any other type an attribute is known from its second item on. Until then its changes count as `unsayable`.
+
+#![deny(missing_docs, unsafe_op_in_unsafe_fn)]
+#![warn(missing_debug_implementations)]
+
+mod attributes;
+mod builder;
+mod entered;
+mod fields;
+mod item;
+mod layer;
+mod left_out;
+mod output;
+mod places;
+mod publishing;
+mod rootless;
+mod task;
+
+pub use builder::Builder;
+pub use layer::{is_of_tokio, Items, TaskscopeLayer};
+pub use left_out::LeftOut;
+pub use output::Output;
+pub use publishing::Guard;
+pub use rootless::Rootless;
+pub use task::Polls;
+
+/// Inspects the program as the environment says, by the variables in the [head](crate#variables) of this crate. It is the first line
+/// of `main`, as tasks that were spawned before are not told.
+///
+/// Where that can't be done, as a variable has a wrong value or a file can't be made, it says so on standard error, and the program
+/// goes on without.
+pub fn init() {
+    if let Err(error) = Builder::from_env().and_then(Builder::init) {
+        output::say(format_args!("nothing is inspected: {error}"));
+    }
+}

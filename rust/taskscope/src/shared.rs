@@ -1,0 +1,126 @@
+//! Tasks whose polls and wakers are known by events alone.
+
+use crate::ffi::{self, Words};
+use crate::id::TaskId;
+use crate::refused::{done, Refused, Woken};
+use crate::task::{Origin, Task};
+
+/// Whether the task waits for a poll, by the flags of its row.
+fn is_scheduled(words: &Words) -> bool {
+    words[0] & 64 != 0
+}
+
+/// Whether a waker is out: more were cloned than dropped.
+fn has_waker(words: &Words) -> bool {
+    words[11] > words[12]
+}
+
+/// A task for who learns of its polls and wakers by events, as a layer of `tracing` does: threads share it, and a waker has no
+/// value of its own but is counted. [`Task::share`] makes one.
+///
+/// It is closed by [`close`](SharedTask::close), or else when it is dropped. Wakers may outlive the close.
+///
+/// ```
+/// use taskscope::{Console, Origin, Refused, Settings, Woken};
+///
+/// let console = Console::open(Settings::default());
+/// let task = console.task("fetch").open().share();
+/// task.start_poll()?;
+/// task.clone_waker();
+/// task.end_poll()?;
+/// assert_eq!(task.wake(Origin::Outside), Some(Woken::Scheduled));
+/// assert_eq!(task.wake(Origin::Outside), None);
+/// task.close();
+/// assert_eq!(task.start_poll(), Err(Refused::Closed));
+/// # Ok::<(), taskscope::Refused>(())
+/// ```
+#[derive(Debug)]
+pub struct SharedTask(Task);
+
+impl SharedTask {
+    /// The task's id.
+    pub fn id(&self) -> TaskId {
+        self.0.id()
+    }
+
+    /// A poll starts now.
+    ///
+    /// # Errors
+    /// [`AlreadyPolling`](Refused::AlreadyPolling) where one is open, and [`Closed`](Refused::Closed).
+    #[inline]
+    pub fn start_poll(&self) -> Result<(), Refused> {
+        let now = self.0.console.now();
+        // SAFETY: the row's lock lends the words to this call alone.
+        self.step(|words| done(unsafe { ffi::taskscope_task_start(words, now) }))
+    }
+
+    /// The open poll ends now.
+    ///
+    /// # Errors
+    /// [`NotPolling`](Refused::NotPolling) where none is open, and [`Closed`](Refused::Closed).
+    #[inline]
+    pub fn end_poll(&self) -> Result<(), Refused> {
+        let now = self.0.console.now();
+        // SAFETY: the row's lock lends the words to this call alone.
+        self.step(|words| done(unsafe { ffi::taskscope_task_end(words, now) }))
+    }
+
+    /// Whether the task waits for a poll: it was not polled yet, or was woken since its last poll started, and is not closed.
+    pub fn is_scheduled(&self) -> bool {
+        self.step(|words| is_scheduled(words))
+    }
+
+    /// Counts a waker as cloned.
+    #[inline]
+    pub fn clone_waker(&self) {
+        self.0.cell.clone_waker(&self.0.console);
+    }
+
+    /// Counts a waker as dropped. Where none is out, which the answer `false` says, nothing is counted.
+    #[inline]
+    pub fn release_waker(&self) -> bool {
+        self.step(|words| {
+            let is_out = has_waker(words);
+            if is_out {
+                // SAFETY: the row's lock lends the words to this call alone.
+                unsafe { ffi::taskscope_task_release(words) };
+            }
+            is_out
+        })
+    }
+
+    /// A wake that uses a waker up. Where none is out nothing is counted, and there is no answer.
+    #[inline]
+    pub fn wake(&self, origin: Origin) -> Option<Woken> {
+        let now = self.0.console.now();
+        self.step(|words| {
+            has_waker(words).then(|| {
+                // SAFETY: the row's lock lends the words to this call alone.
+                crate::refused::woken(unsafe { ffi::taskscope_task_wake(words, now, origin == Origin::Inside) })
+            })
+        })
+    }
+
+    /// A wake that uses no waker up.
+    #[inline]
+    pub fn wake_by_ref(&self, origin: Origin) -> Woken {
+        self.0.wake_by_ref(origin)
+    }
+
+    /// Closes the task, and ends its poll where one is open. A closed task stays as it is.
+    pub fn close(&self) {
+        self.0.close();
+    }
+
+    #[inline]
+    fn step<R>(&self, call: impl FnOnce(&mut Words) -> R) -> R {
+        self.0.console.step(&self.0.cell, call)
+    }
+}
+
+impl Task {
+    /// The task, for who learns of its polls and wakers by events.
+    pub fn share(self) -> SharedTask {
+        SharedTask(self)
+    }
+}
