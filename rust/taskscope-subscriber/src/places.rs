@@ -9,9 +9,12 @@ use taskscope::Location;
 /// How many places are kept.
 const MOST: usize = 4096;
 
+/// The places of one file, by lines and columns.
+type OfFile = HashMap<(u32, u32), &'static str>;
+
 /// The places that were come to, as text that stays.
 #[derive(Debug, Default)]
-pub(crate) struct Places(RwLock<HashMap<String, HashMap<(u32, u32), &'static str>>>);
+pub(crate) struct Places(RwLock<HashMap<String, OfFile>>);
 
 /// A place as it is told.
 pub(crate) struct Told {

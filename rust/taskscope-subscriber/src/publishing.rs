@@ -3,9 +3,9 @@
 use crate::item::lock;
 use crate::left_out::LeftOut;
 use crate::output::{say, Output, Target};
-use std::ffi::c_int;
 use std::io;
 use std::mem::MaybeUninit;
+use std::os::raw::c_int;
 use std::process;
 use std::sync::{Arc, Condvar, Mutex, PoisonError};
 use std::thread;

@@ -1,0 +1,324 @@
+//! Where lines go: files, pipes and sockets, readers that come late, that go away and that don't read, and a full disk.
+
+#[path = "../../taskscope/tests/common/mod.rs"]
+mod common;
+
+use common::{number, value, Tables};
+use std::fs::{self, File};
+use std::io::{BufRead, BufReader, ErrorKind, Read};
+use std::os::unix::net::{UnixListener, UnixStream};
+use std::path::{Path, PathBuf};
+use std::process::Command;
+use std::sync::atomic::{AtomicUsize, Ordering};
+use std::thread::sleep;
+use std::time::{Duration, Instant};
+use taskscope_subscriber::{Builder, Guard, Output, Rootless, TaskscopeLayer};
+use tracing_subscriber::layer::SubscriberExt;
+
+/// A folder that is removed with what it has.
+struct Folder(PathBuf);
+
+impl Folder {
+    fn new() -> Folder {
+        static LAST: AtomicUsize = AtomicUsize::new(0);
+        let number = LAST.fetch_add(1, Ordering::Relaxed);
+        let path = std::env::temp_dir().join(format!("taskscope-outputs-{}-{number}", std::process::id()));
+        fs::create_dir(&path).expect("a folder");
+        Folder(path)
+    }
+
+    fn path(&self, name: &str) -> PathBuf {
+        self.0.join(name)
+    }
+
+    fn pipe(&self) -> PathBuf {
+        let path = self.path("pipe");
+        assert!(Command::new("mkfifo").arg(&path).status().expect("mkfifo").success());
+        path
+    }
+}
+
+impl Drop for Folder {
+    fn drop(&mut self) {
+        let _ = fs::remove_dir_all(&self.0);
+    }
+}
+
+const OFTEN: Duration = Duration::from_millis(2);
+
+fn start(output: Output) -> (TaskscopeLayer, Guard) {
+    Builder::new().interval(OFTEN).layer(output).expect("it can be opened")
+}
+
+/// Runs a task of a name under a layer.
+fn run(layer: TaskscopeLayer, name: &str) -> tracing::Dispatch {
+    let subscriber = tracing::Dispatch::new(Rootless(tracing_subscriber::registry().with(layer)));
+    run_more(&subscriber, name);
+    subscriber
+}
+
+fn run_more(subscriber: &tracing::Dispatch, name: &str) {
+    tracing::dispatcher::with_default(subscriber, || {
+        let runtime = tokio::runtime::Builder::new_current_thread().build().expect("a runtime");
+        let spawn = || tokio::task::Builder::new().name(name).spawn(async {}).expect("a runtime");
+        runtime.block_on(async { spawn().await.expect("no panic") });
+    });
+}
+
+/// The names of the tasks that lines lead to. Each line is whole, and the numbers of lines follow each other.
+fn names(lines: &str) -> Vec<String> {
+    let mut tables = Tables::default();
+    let mut last = None;
+    for line in lines.lines() {
+        assert!(line.starts_with('{') && line.ends_with('}'), "{line}");
+        let seq = number(line, "seq");
+        assert!(last.map_or(true, |last| seq == last + 1) || value(line, "snapshot") == "true", "{last:?} {line}");
+        last = Some(seq);
+        tables.apply(line);
+    }
+    let tasks = tables.items.get("task_stats").map_or(&[][..], |tasks| tasks);
+    let names = tasks.iter().map(|(_, info, _)| value(info, "name").trim_matches('"').to_owned());
+    // The others have places for names.
+    names.filter(|name| !name.contains(".rs:")).collect()
+}
+
+/// Reads lines until they have this text.
+fn read_until(reader: &mut impl BufRead, text: &str) -> String {
+    let mut lines = String::new();
+    while !lines.contains(text) {
+        assert_ne!(reader.read_line(&mut lines).expect("a line"), 0, "the end before {text}");
+    }
+    lines
+}
+
+/// A reader of a pipe that came once no other one was there, and its first line.
+fn read_pipe(path: &Path) -> (BufReader<File>, String) {
+    loop {
+        let mut reader = BufReader::new(File::open(path).expect("a writer comes"));
+        let mut line = String::new();
+        reader.read_line(&mut line).expect("a line");
+        // That the reader before is gone, the program learns by its next line.
+        if line.contains("\"snapshot\":true") {
+            return (reader, line);
+        }
+        drop(reader);
+        sleep(Duration::from_millis(50));
+    }
+}
+
+fn until(condition: impl Fn() -> bool) {
+    let started = Instant::now();
+    while !condition() {
+        assert!(started.elapsed() < Duration::from_secs(60), "it took more than a minute");
+        sleep(Duration::from_millis(1));
+    }
+}
+
+#[test]
+fn a_file_has_all_lines_and_a_last_one() {
+    let folder = Folder::new();
+    let path = folder.path("stream");
+    let (layer, guard) = start(Output::File(path.clone()));
+    until(|| fs::read_to_string(&path).expect("a file").lines().count() > 2);
+    run(layer, "told last");
+    guard.finish();
+    let lines = fs::read_to_string(&path).expect("a file");
+    assert_eq!(names(&lines), ["told last"]);
+    assert_eq!(value(lines.lines().next().expect("a line"), "snapshot"), "false");
+    sleep(OFTEN * 4);
+    assert_eq!(fs::read_to_string(&path).expect("a file").len(), lines.len());
+}
+
+#[test]
+fn a_pipe_is_read_late_and_again() {
+    let folder = Folder::new();
+    let path = folder.pipe();
+    let (layer, guard) = start(Output::Pipe(path.clone()));
+    let subscriber = run(layer, "before");
+    sleep(OFTEN * 4);
+    for name in ["first reader", "second reader"] {
+        let (mut reader, mut lines) = read_pipe(&path);
+        assert!(names(&lines).contains(&"before".to_owned()), "{lines}");
+        run_more(&subscriber, name);
+        lines.push_str(&read_until(&mut reader, name));
+        assert!(names(&lines).contains(&name.to_owned()));
+    }
+    let (mut reader, mut lines) = read_pipe(&path);
+    run_more(&subscriber, "told last");
+    guard.finish();
+    reader.read_to_string(&mut lines).expect("lines");
+    assert_eq!(names(&lines), ["before", "first reader", "second reader", "told last"]);
+}
+
+#[test]
+fn readers_of_a_socket_come_late_and_go() {
+    let folder = Folder::new();
+    let path = folder.path("socket");
+    let (layer, guard) = start(Output::Socket(path.clone()));
+    let subscriber = run(layer, "before");
+    let connect = || BufReader::new(UnixStream::connect(&path).expect("it listens"));
+    let mut stays = connect();
+    let mut of_stays = read_until(&mut stays, "before");
+    assert_eq!(value(&of_stays, "snapshot"), "true");
+    let mut goes = connect();
+    let of_goes = read_until(&mut goes, "before");
+    assert_eq!(value(&of_goes, "snapshot"), "true");
+    drop(goes);
+    run_more(&subscriber, "told last");
+    sleep(OFTEN * 4);
+    guard.finish();
+    stays.read_to_string(&mut of_stays).expect("lines");
+    assert_eq!(names(&of_stays), ["before", "told last"]);
+    drop(guard);
+    until(|| !path.exists());
+}
+
+#[test]
+fn a_reader_that_does_not_read_holds_nobody_up() {
+    let folder = Folder::new();
+    let path = folder.path("socket");
+    let (layer, guard) = start(Output::Socket(path.clone()));
+    let _stalled = UnixStream::connect(&path).expect("it listens");
+    let mut reads = BufReader::new(UnixStream::connect(&path).expect("it listens"));
+    let subscriber = run(layer, "before");
+    // More than the buffers of a socket hold.
+    for round in 0..200 {
+        run_more(&subscriber, &format!("{round} {}", "x".repeat(1000)));
+        sleep(Duration::from_millis(1));
+    }
+    run_more(&subscriber, "told last");
+    let lines = read_until(&mut reads, "told last");
+    assert_eq!(names(&lines).len(), 202);
+    let started = Instant::now();
+    guard.finish();
+    assert!(started.elapsed() < Duration::from_secs(10), "{:?}", started.elapsed());
+}
+
+#[test]
+fn a_socket_that_was_left_behind_is_made_anew_and_one_in_use_is_not() {
+    let folder = Folder::new();
+    let path = folder.path("socket");
+    drop(UnixListener::bind(&path).expect("a socket"));
+    let (_layer, _guard) = start(Output::Socket(path.clone()));
+    let error = Builder::new().layer(Output::Socket(path)).expect_err("it is in use");
+    assert_eq!(error.kind(), ErrorKind::AddrInUse);
+}
+
+#[test]
+fn what_can_not_be_opened_is_an_error() {
+    let folder = Folder::new();
+    let file = folder.path("file");
+    File::create(&file).expect("a file");
+    let outputs = [
+        (Output::File(folder.path("none/file")), ErrorKind::NotFound),
+        (Output::Pipe(folder.path("none")), ErrorKind::NotFound),
+        (Output::Pipe(file), ErrorKind::InvalidInput),
+        (Output::Socket(folder.path("none/socket")), ErrorKind::NotFound),
+    ];
+    for (output, kind) in outputs {
+        assert_eq!(Builder::new().layer(output.clone()).expect_err("it can't").kind(), kind, "{output:?}");
+    }
+}
+
+// What follows runs this program again, as one that a variable inspects.
+
+const PROGRAM: &str = "TASKSCOPE_TEST_PROGRAM";
+
+/// The program, where it is asked for by the variable. It ends by `exit`.
+#[test]
+fn program() {
+    let how = match std::env::var(PROGRAM) {
+        Ok(how) => how,
+        Err(_) => return,
+    };
+    taskscope_subscriber::init();
+    let runtime =
+        tokio::runtime::Builder::new_multi_thread().worker_threads(2).enable_all().build().expect("a runtime");
+    runtime.block_on(async {
+        let spawn = |name| tokio::task::Builder::new().name(name).spawn(std::future::ready(())).expect("a runtime");
+        spawn("first").await.expect("no panic");
+        let pause = if how == "long" { 2500 } else { 30 };
+        tokio::time::sleep(Duration::from_millis(pause)).await;
+        spawn("told last").await.expect("no panic");
+    });
+    std::process::exit(7);
+}
+
+/// The program with these variables, started by a shell behind its words.
+fn command(shell: &str, how: &str, variables: &[(&str, &Path)]) -> Command {
+    let program = std::env::current_exe().expect("this program");
+    let mut command = Command::new("sh");
+    command.args(["-c", &format!("{shell} exec \"$0\" --exact program --nocapture")]).arg(program);
+    command.env(PROGRAM, how).env("TASKSCOPE_INTERVAL_MS", "5").env_remove("RUST_TEST_THREADS");
+    command.envs(variables.iter().copied());
+    command
+}
+
+/// Runs it to its end, and answers what it said on standard error.
+fn said(mut command: Command) -> String {
+    let output = command.output().expect("it runs");
+    assert_eq!(output.status.code(), Some(7), "{output:?}");
+    String::from_utf8(output.stderr).expect("text")
+}
+
+#[test]
+fn an_exit_writes_a_last_line() {
+    let folder = Folder::new();
+    let path = folder.path("stream");
+    let said = said(command("", "short", &[("TASKSCOPE_STREAM", &path)]));
+    assert_eq!(names(&fs::read_to_string(&path).expect("a file")), ["first", "told last"], "{said}");
+}
+
+#[test]
+fn without_a_stream_nothing_is_said_and_a_wrong_value_is() {
+    assert_eq!(said(command("", "short", &[])), "");
+    let folder = Folder::new();
+    let path = folder.path("stream");
+    let wrong = ("TASKSCOPE_ITEMS", Path::new("some"));
+    let said = said(command("", "short", &[("TASKSCOPE_STREAM", &path), wrong]));
+    let wanted = "taskscope: nothing is inspected: TASKSCOPE_ITEMS is `all` or `tasks`, and not \"some\"\n";
+    assert_eq!(said, wanted);
+    assert!(!path.exists());
+}
+
+#[test]
+fn standard_error_has_lines_alone() {
+    let said = said(command("", "short", &[("TASKSCOPE_STREAM", Path::new("stderr"))]));
+    assert_eq!(names(&said), ["first", "told last"]);
+}
+
+#[test]
+fn a_reader_that_goes_away_is_said_once() {
+    let folder = Folder::new();
+    let path = folder.pipe();
+    // SIGPIPE ends a program that doesn't ignore it.
+    let child = command("", "long", &[("TASKSCOPE_STREAM", &path)])
+        .stderr(std::process::Stdio::piped())
+        .spawn()
+        .expect("it runs");
+    drop(read_pipe(&path));
+    drop(read_pipe(&path));
+    let output = child.wait_with_output().expect("it ends");
+    assert_eq!(output.status.code(), Some(7));
+    let said = String::from_utf8(output.stderr).expect("text");
+    assert_eq!(said.matches("a reader is gone").count(), 1, "{said}");
+}
+
+#[test]
+fn a_full_disk_is_said_once() {
+    let said = said(command("", "short", &[("TASKSCOPE_STREAM", Path::new("/dev/full"))]));
+    assert_eq!(said.matches("/dev/full: ").count(), 1, "{said}");
+    assert!(said.contains("the stream has ended"), "{said}");
+}
+
+#[test]
+fn a_file_that_can_not_grow_has_whole_lines_alone() {
+    let folder = Folder::new();
+    let path = folder.path("stream");
+    // A write behind so many blocks of 512 bytes brings SIGXFSZ, which ends a program.
+    let said = said(command("ulimit -f 32 &&", "long", &[("TASKSCOPE_STREAM", &path)]));
+    assert_eq!(said.matches("the stream goes on when there is room").count(), 1, "{said}");
+    let lines = fs::read_to_string(&path).expect("a file");
+    assert!((1..=16_384).contains(&lines.len()) && lines.ends_with("}\n"), "{lines}");
+    assert_eq!(names(&lines), ["first"]);
+}
