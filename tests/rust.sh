@@ -216,7 +216,7 @@ view_streams() {
         view "$work/streams/$stream.stream" "$work/report" || return 1
         case $stream in
         wakes*) grep -q '^task .* closed polls 1 wakes 600000 self 0 clones 400001 drops 400001 ' "$work/report" ;;
-        items*) [ "$(grep -c '^task .* closed ' "$work/report")" -eq 8000 ] ;;
+        items*) [ "$(grep -c '^task .* closed ' "$work/report")" -eq 3200 ] ;;
         lines*) [ "$(wc -l < "$work/report")" -eq 1 ] ;;
         esac || { head -n 3 "$work/report"; return 1; }
     done

@@ -315,27 +315,22 @@ mod tests {
         assert_eq!((&room[..whole.len()], room[whole.len()]), (&whole[..], 1));
     }
 
-    // Names of quotation marks take twice their bytes, so this line is longer than what is likely.
     #[test]
     fn a_line_longer_than_likely_is_written() {
         let mut page = Page::default();
         for number in 1..=200 {
             let mut entry = task(&mut page);
             entry.id = (1 << 40) + number;
-            entry.row = [0; 16];
-            // SAFETY: the words are lent for the calls.
-            unsafe {
-                ffi::taskscope_task_open(u64::MAX, &mut entry.row);
-                ffi::taskscope_task_start(&mut entry.row, u64::MAX);
-                ffi::taskscope_task_end(&mut entry.row, u64::MAX);
-                ffi::taskscope_task_wake_by_ref(&mut entry.row, u64::MAX, false);
-                ffi::taskscope_task_close(&mut entry.row, u64::MAX);
-            }
-            entry.line = u32::MAX;
-            entry.column = u32::MAX;
+            // A closed task, all of whose numbers are the greatest.
+            entry.row = [u64::MAX; 16];
+            entry.row[0] = 31;
+            entry.row[15] = 0;
+            (entry.line, entry.column) = (u32::MAX, u32::MAX);
             page.tasks.push(entry);
         }
         let line = page.line(&head()).expect("a line");
-        assert_eq!(String::from_utf8(line).expect("text").matches("\"polls\":1").count(), 200);
+        assert!(line.len() > page.likely_len());
+        let told = String::from_utf8(line).expect("text").matches(&format!("\"polls\":{}", u64::MAX)).count();
+        assert_eq!(told, 200);
     }
 }

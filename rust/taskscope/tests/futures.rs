@@ -214,22 +214,22 @@ fn what_finds_no_room_is_counted_and_works() {
     let console = Console::open(Settings { capacity: 1, ..Settings::default() });
     let kept = console.task("kept").open();
     let mut dropped = console.task("dropped").open();
-    let resource = console.resource("Semaphore", "Sync").open();
-    let op = console.op(&resource, "acquire").open();
-    op.count_poll(true);
+    let resources = ["first", "second"].map(|name| console.resource(name, "Sync").open());
+    let ops = ["first", "second", "third"].map(|name| console.op(&resources[0], name).open());
+    ops[0].count_poll(true);
     assert_eq!(dropped.start_poll(), Ok(()));
     assert_eq!(dropped.wake_by_ref(Origin::Outside), Woken::Scheduled);
     assert_eq!(dropped.waker().wake(Origin::Outside), Woken::Already);
     let told = publish(&console);
-    assert_eq!(list(&told, "dropped"), ["1", "1", "1"]);
+    assert_eq!(list(&told, "dropped"), ["1", "2", "3"]);
     assert_eq!(list(&told, "task_stats").len(), 1);
     task(&told, kept.id().value());
     assert!(list(&told, "resource_stats").is_empty() && list(&told, "poll_counts").is_empty());
     // A line makes room, but not for what was dropped.
-    drop((dropped, op, resource));
+    drop((dropped, ops, resources));
     let later = console.task("later").open();
     let told = publish(&console);
-    assert_eq!(list(&told, "dropped"), ["1", "1", "1"]);
+    assert_eq!(list(&told, "dropped"), ["1", "2", "3"]);
     assert_eq!(list(&told, "task_stats").len(), 1);
     task(&told, later.id().value());
 }

@@ -2,8 +2,9 @@
 
 mod common;
 
-use common::{list, number, publish, snapshot, Tables};
-use std::thread::sleep;
+use common::{list, number, publish, snapshot, value, Tables};
+use std::sync::atomic::{AtomicBool, Ordering};
+use std::thread::{self, sleep};
 use std::time::Duration;
 use taskscope::{Attr, Change, Console, Op, Origin, Resource, Settings, Task, TaskWaker};
 
@@ -28,7 +29,10 @@ fn a_line_tells_what_changed_since_the_one_before() {
     assert_eq!(ids(&told, "task_stats"), [id(0), id(3), new.id().value()]);
     assert_eq!(ids(&told, "new_tasks"), [new.id().value()]);
     assert!(ids(&publish(&console), "task_stats").is_empty());
-    assert_eq!(ids(&snapshot(&console), "task_stats").len(), 6);
+    let _ = tasks[4].wake_by_ref(Origin::Outside);
+    assert_eq!(ids(&snapshot(&console), "task_stats"), (0..5).map(id).chain([new.id().value()]).collect::<Vec<_>>());
+    // What a snapshot told is not told again.
+    assert!(ids(&publish(&console), "task_stats").is_empty());
 }
 
 #[test]
@@ -52,10 +56,26 @@ fn what_changes_back_and_what_is_refused_is_not_told() {
 #[test]
 fn a_moment_of_a_line_is_not_before_those_that_it_tells() {
     let console = Console::open(Settings::default());
-    for _ in 0..100 {
-        let task = console.task("made").open();
-        let told = publish(&console);
-        assert!(number(common::task(&told, task.id().value()), "created") <= number(&told, "now"), "{told}");
+    let task = console.task("woken").open();
+    publish(&console);
+    let is_done = AtomicBool::new(false);
+    let mut moments = Vec::new();
+    thread::scope(|scope| {
+        scope.spawn(|| {
+            while !is_done.load(Ordering::SeqCst) {
+                let _ = task.wake_by_ref(Origin::Outside);
+            }
+        });
+        while moments.len() < 2_000 {
+            let line = publish(&console);
+            if let Some(row) = common::with_id(&line, "task_stats", task.id().value()) {
+                moments.push((value(row, "last_wake").to_string(), number(&line, "now")));
+            }
+        }
+        is_done.store(true, Ordering::SeqCst);
+    });
+    for (wake, now) in moments {
+        assert!(wake.parse::<u64>().expect("a moment") <= now, "{wake} {now}");
     }
 }
 

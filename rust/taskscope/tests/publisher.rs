@@ -11,7 +11,8 @@ use std::thread::sleep;
 use std::time::{Duration, Instant};
 use taskscope::{Console, Publisher, Settings};
 
-const HOUR: Duration = Duration::from_secs(3600);
+/// A pause that no test waits for.
+const LONG: Duration = Duration::from_secs(100);
 
 /// A writer that others read.
 #[derive(Clone, Default)]
@@ -78,14 +79,16 @@ fn a_stop_and_a_drop_do_not_wait_and_write_a_last_line() {
     for drops in [false, true] {
         let console = Console::open(Settings::default());
         let shared = Shared::default();
-        let publisher = Publisher::start(&console, HOUR, shared.clone()).unwrap();
+        let publisher = Publisher::start(&console, LONG, shared.clone()).unwrap();
         until(|| shared.text().lines().count() == 1);
         let _task = console.task("last").open();
+        let started = Instant::now();
         if drops {
             drop(publisher);
         } else {
             publisher.stop().unwrap();
         }
+        assert!(started.elapsed() < LONG / 2, "it waited for {:?}", started.elapsed());
         let stream = shared.text();
         assert_eq!(stream.lines().count(), 2);
         assert_eq!(list(stream.lines().last().unwrap(), "new_tasks").len(), 1);
@@ -112,7 +115,7 @@ fn a_panic_of_the_writer_goes_on_in_the_stop_and_not_in_the_drop() {
     let console = Console::open(Settings::default());
     let start = || {
         let writer = Fails(0, || -> io::Result<usize> { panic!("as the test wants") });
-        Publisher::start(&console, HOUR, writer).unwrap()
+        Publisher::start(&console, LONG, writer).unwrap()
     };
     drop(start());
     let publisher = start();

@@ -55,10 +55,14 @@ fn an_item_stays_for_its_retention() {
     let told = publish(&console);
     let closed = number(common::task(&told, id), "dropped");
     let mut lines = told;
-    while list(&lines, "gone_tasks").is_empty() {
+    for _ in 0..2_000 {
+        if !list(&lines, "gone_tasks").is_empty() {
+            break;
+        }
         sleep(Duration::from_millis(5));
         lines = publish(&console);
     }
+    assert_eq!(list(&lines, "gone_tasks"), [id.to_string()]);
     let gone = lines.lines().last().expect("a line");
     assert!(number(gone, "now") >= closed + 40_000_000, "{closed} {gone}");
 }
@@ -88,6 +92,13 @@ fn a_snapshot_removes_nothing_and_tells_of_nothing_that_left() {
     // The snapshot was the first to tell of its close, so it leaves with the next line.
     let told = publish(&console);
     assert_eq!(list(&told, "gone_tasks"), [id.to_string()]);
+    // So it is with a task that an earlier line told as open.
+    let task = console.task("open").open();
+    publish(&console);
+    let id = task.id().value();
+    drop(task);
+    assert_ne!(value(common::task(&snapshot(&console), id), "dropped"), "null");
+    assert_eq!(list(&publish(&console), "gone_tasks"), [id.to_string()]);
     assert!(list(&snapshot(&console), "new_tasks").is_empty());
 }
 

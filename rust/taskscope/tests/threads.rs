@@ -84,7 +84,7 @@ fn wakes_of_one_task_from_many_threads_are_all_counted() {
 
 #[test]
 fn items_of_many_threads_are_all_told() {
-    const EACH: u64 = 1_000;
+    const EACH: u64 = 400;
     // They stay within the recorders' room, also where all threads have one recorder.
     let console = Console::open(Settings { retention: None, ..Settings::default() });
     let publisher = Publisher::start(&console, Duration::from_millis(1), Vec::new()).expect("a thread");

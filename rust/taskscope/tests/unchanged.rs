@@ -39,6 +39,8 @@ fn a_line_takes_memory_by_what_changed() {
     for count in [100, 1_000, 20_000] {
         let console = Console::open(Settings::default());
         let tasks: Vec<Task> = (0..count).map(|_| console.task("listed").open()).collect();
+        // As many are closed, and wait until they may leave.
+        (0..count).for_each(|_| drop(console.task("closed").open()));
         console.publish().unwrap();
         none.push(asked(&console));
         for task in &tasks[..10] {
