@@ -9,8 +9,11 @@
 # rust/examples/service.rs: `view` of its stream must tell of each task as many polls as the service counted itself, and of the semaphore as
 # many poll operations, and `lint` the two warnings that are due and no other. `view` must take the streams of the tests with threads too.
 #
-# It works on a copy of rust/ and without network, over the crates that Debian's packages have: cargo, rustc, librust-tokio-dev. Where one
-# is missing it tries to install it by apt-get. Where it can't, it says so and skips all; with CI=true that is a failure.
+# Of rust/taskscope-subscriber it runs the tests, then tokio's echo server: `view` must tell of as many polls and tasks as the runtime's own
+# metrics; and a program with three faults, of which `lint` must warn and of no other.
+#
+# It works on a copy of rust/ and without network, over the crates that Debian's packages have: cargo, rustc, librust-tokio-dev,
+# librust-tracing-dev, librust-tracing-subscriber-dev. Where one is missing it tries to install it by apt-get. Where it can't, it says so and skips all; with CI=true that is a failure.
 # CARGO_TARGET_DIR may name a folder that keeps what cargo builds; otherwise it is a temporary one.
 #
 # Its last line is `N passed, M failed`, and its status 1 where M isn't 0.
@@ -74,6 +77,9 @@ missing() {
     command -v cargo > /dev/null || echo cargo
     command -v rustc > /dev/null || echo rustc
     [ -n "$(crates_folder)" ] || echo librust-tokio-dev
+    for package in librust-tracing-dev librust-tracing-subscriber-dev; do
+        dpkg -L "$package" > /dev/null 2>&1 || echo "$package"
+    done
 }
 
 packages=$(missing)
@@ -92,17 +98,25 @@ fi
 # The crate and its tests
 
 folder=$(crates_folder)
-cp -R "$root/rust" "$work/rust" && rm -rf "$work/rust/target" "$work/rust/Cargo.lock" "$work/rust/bench" || exit 2
+cp -R "$root/rust" "$work/rust" && rm -rf "$work/rust/bench" "$work/rust"/target "$work/rust"/Cargo.lock \
+    "$work/rust"/taskscope-subscriber/target "$work/rust"/taskscope-subscriber/Cargo.lock || exit 2
 ln -s "$root/crates" "$work/crates" || exit 2
 CARGO_TARGET_DIR=${CARGO_TARGET_DIR:-$work/target}
 export CARGO_TARGET_DIR
 
 # cargo over Debian's crates: its command, then its words.
 over_debian() {
-    command=$1
-    shift
-    (cd "$work/rust" && cargo "$command" --offline --config 'source.crates-io.replace-with="debian"' \
-        --config "source.debian.directory=\"$folder\"" "$@")
+    over_debian_in "$work/rust" "$@"
+}
+
+over_debian_in() {
+    (
+        cd "$1" || exit
+        command=$2
+        shift 2
+        cargo "$command" --offline --config 'source.crates-io.replace-with="debian"' \
+            --config "source.debian.directory=\"$folder\"" "$@"
+    )
 }
 
 # A test that skips something says so by this word.
@@ -228,4 +242,60 @@ if step 'the service runs' run_service && step 'its stream is viewed' view "$wor
     step 'the same of a stream to standard output' to_standard_output
 fi
 step 'the streams of threads are viewed' view_streams
+
+# A tokio program, inspected by one line in its `main`. tokio tells of its tasks where all is compiled with this flag.
+unstable=$CARGO_TARGET_DIR/unstable
+
+over_unstable() {
+    CARGO_TARGET_DIR=$unstable RUSTFLAGS='--cfg tokio_unstable' TASKSCOPE_LIB=$work/new \
+        over_debian_in "$work/rust/taskscope-subscriber" "$@"
+}
+
+try_subscriber() {
+    over_unstable test
+}
+
+document_subscriber() {
+    RUSTDOCFLAGS='-D warnings' over_unstable doc --no-deps
+}
+
+lint_subscriber() {
+    over_unstable clippy --all-targets -- -D warnings
+}
+
+# As many polls as the workers counted, as many tasks as were scheduled from outside of them, and each poll but the first of a task behind
+# a wake.
+echo_agrees() {
+    TASKSCOPE_STREAM=$work/echo.stream "$unstable/debug/examples/echo" 1000 > "$work/metrics" || return 1
+    view "$work/echo.stream" "$work/report" || return 1
+    awk '$1 == "task" && $3 == "spawn" { tasks++; polls += $6; wakes += $8 } END { print tasks, polls, wakes }' "$work/report" > "$work/sums"
+    read -r tasks polls wakes < "$work/sums" && read -r _ all _ remote _ local < "$work/metrics"
+    echo "the report: tasks $tasks polls $polls wakes $wakes; the metrics: $(cat "$work/metrics")"
+    [ "$tasks" -eq 1000 ] && [ "$tasks" -eq "$remote" ] && [ "$polls" -eq "$all" ] && [ "$local" -eq $((polls - tasks)) ] &&
+        [ "$wakes" -ge "$local" ]
+}
+
+faults_are_warned_of() {
+    TASKSCOPE_STREAM=$work/faults.stream "$unstable/debug/examples/faults" || return 1
+    "$root/taskscope" lint < "$work/faults.stream" > "$work/warnings"
+    [ $? -eq 3 ] || return 1
+    view "$work/faults.stream" "$work/report" || return 1
+    # The warnings, with the names of their tasks.
+    while read -r _ id what _; do
+        echo "$what of $(sed -n "s/^task $id .* name //p" "$work/report")"
+    done < "$work/warnings" | sort > "$work/warned"
+    printf '%s\n' 'lost-waker of lost' 'never-yielded of busy' 'self-wakes of eager' | diff - "$work/warned"
+}
+
+if step 'the tests of the subscriber pass' try_subscriber; then
+    step 'the echo server has the polls that its metrics have' echo_agrees
+    step 'the warnings of the three faults are due' faults_are_warned_of
+fi
+step 'the documentation of the subscriber has no warning' document_subscriber
+if cargo fmt --version > "$work/said" 2>&1; then
+    step 'the sources of the subscriber are formatted' sh -c "cd '$work/rust/taskscope-subscriber' && cargo fmt --check"
+fi
+if cargo clippy --version > "$work/said" 2>&1; then
+    step 'clippy has no warning of the subscriber' lint_subscriber
+fi
 finish

@@ -24,12 +24,12 @@ pub struct Builder {
 }
 
 impl Default for Builder {
-    /// No output, a line each 100 milliseconds, and all else as the parts have it by default.
+    /// No output, a line each 100 milliseconds, a retention of a minute, and all else as the parts have it by default.
     fn default() -> Builder {
         Builder {
             output: None,
             interval: Duration::from_millis(100),
-            settings: Settings::default(),
+            settings: Settings { retention: Some(Duration::from_secs(60)), ..Settings::default() },
             items: Items::default(),
             polls: Polls::default(),
         }
@@ -113,7 +113,8 @@ impl Builder {
         Builder { interval, ..self }
     }
 
-    /// How long behind its close an item stays in the tables of the stream: an hour without this, and for good with `None`.
+    /// How long behind its close an item stays in the tables of the stream: a minute without this, and for good with `None`. An item
+    /// takes some 600 bytes until it leaves, and each lock of a mutex makes two of them.
     pub fn retention(mut self, retention: impl Into<Option<Duration>>) -> Builder {
         self.settings.retention = retention.into();
         self

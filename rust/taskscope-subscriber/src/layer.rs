@@ -30,6 +30,16 @@ pub enum Items {
 /// A span's item, as the span's extension.
 struct Extension(Arc<Item>);
 
+/// The item of a span, as the span's extensions have it.
+fn extension<S>(id: &Id, ctx: &Context<'_, S>) -> Option<Arc<Item>>
+where
+    S: Subscriber + for<'a> LookupSpan<'a>,
+{
+    let span = ctx.span(id)?;
+    let extensions = span.extensions();
+    extensions.get::<Extension>().map(|extension| Arc::clone(&extension.0))
+}
+
 /// What spans and events are of tokio.
 #[derive(Clone, Copy, PartialEq, Eq)]
 enum Source {
@@ -151,17 +161,21 @@ impl TaskscopeLayer {
         Key { layer: self.number, span }
     }
 
-    /// The item of a span, which a thread may have kept.
+    /// The item of a span, which this thread may have kept.
     #[inline]
     fn item<S>(&self, entered: &mut Entered, id: &Id, ctx: &Context<'_, S>) -> Option<Arc<Item>>
     where
         S: Subscriber + for<'a> LookupSpan<'a>,
     {
-        entered.take(self.key(id.into_u64())).or_else(|| {
-            let span = ctx.span(id)?;
-            let extensions = span.extensions();
-            extensions.get::<Extension>().map(|extension| Arc::clone(&extension.0))
-        })
+        entered.take(self.key(id.into_u64())).or_else(|| extension(id, ctx))
+    }
+
+    /// Calls with what this thread entered. What a thread says while it ends is stray.
+    #[inline]
+    fn with_entered(&self, call: impl FnOnce(&mut Entered)) {
+        if entered::with(call).is_none() {
+            self.left_out.stray.add();
+        }
     }
 
     fn new_task(&self, entered: &mut Entered, attributes: &Attributes<'_>) -> What {
@@ -214,6 +228,18 @@ impl TaskscopeLayer {
         }
         let owner = values.attrs().fold(builder, |builder, attr| builder.attr(attr)).open();
         Some(What::Op(Op::new(Part::new(fields.source, parent, fields.inherits, owner, values))))
+    }
+
+    fn new_item(&self, entered: &mut Entered, source: Source, attributes: &Attributes<'_>) -> Option<What> {
+        match source {
+            Source::Task => Some(self.new_task(entered, attributes)),
+            Source::Resource => Some(self.new_resource(entered, attributes)),
+            Source::Op => self.new_op(entered, attributes),
+            Source::OpPoll => {
+                entered.innermost(self.number, |item| item.op().map(|_| Arc::clone(item))).map(What::OpPoll)
+            }
+            _ => None,
+        }
     }
 
     /// A call on a waker. A wake while this thread is within a poll of the task is the task's own.
@@ -323,20 +349,12 @@ where
         if !source.is_told(self.items) {
             return;
         }
-        entered::with(|entered| {
-            let what = match source {
-                Source::Task => self.new_task(entered, attributes),
-                Source::Resource => self.new_resource(entered, attributes),
-                Source::Op => self.new_op(entered, attributes)?,
-                Source::OpPoll => {
-                    What::OpPoll(entered.innermost(self.number, |item| item.op().map(|_| Arc::clone(item)))?)
-                }
-                _ => return None,
-            };
-            let item = Item::new(what);
-            ctx.span(id)?.extensions_mut().replace(Extension(Arc::clone(&item)));
-            entered.keep(self.key(id.into_u64()), item);
-            Some(())
+        self.with_entered(|entered| {
+            let item = self.new_item(entered, source, attributes).map(Item::new);
+            if let (Some(item), Some(span)) = (item, ctx.span(id)) {
+                span.extensions_mut().replace(Extension(Arc::clone(&item)));
+                entered.keep(self.key(id.into_u64()), item);
+            }
         });
     }
 
@@ -346,7 +364,7 @@ where
         if !source.is_told(self.items) {
             return;
         }
-        entered::with(|entered| match source {
+        self.with_entered(|entered| match source {
             Source::Waker => self.call_waker(entered, event, &ctx),
             Source::Poll => self.count_poll(entered, event),
             Source::ResourceUpdate => self.update(entered, event, false),
@@ -357,18 +375,18 @@ where
 
     #[inline]
     fn on_enter(&self, id: &Id, ctx: Context<'_, S>) {
-        entered::with(|entered| {
-            let item = self.item(entered, id, &ctx)?;
-            let key = self.key(id.into_u64());
-            let is_poll = self.starts_poll(entered, key, &item);
-            entered.push(Frame { key, item, is_poll });
-            Some(())
+        self.with_entered(|entered| {
+            if let Some(item) = self.item(entered, id, &ctx) {
+                let key = self.key(id.into_u64());
+                let is_poll = self.starts_poll(entered, key, &item);
+                entered.push(Frame { key, item, is_poll });
+            }
         });
     }
 
     #[inline]
     fn on_exit(&self, id: &Id, _: Context<'_, S>) {
-        entered::with(|entered| {
+        self.with_entered(|entered| {
             entered.leave(self.key(id.into_u64()), |frame| match &frame.item.what {
                 What::Task(task) if frame.is_poll => task.end_poll(),
                 What::OpPoll(op) if frame.is_poll => op.op().map_or((), Op::end_poll),
@@ -378,7 +396,9 @@ where
     }
 
     fn on_close(&self, id: Id, ctx: Context<'_, S>) {
-        if let Some(item) = entered::with(|entered| self.item(entered, &id, &ctx)).flatten() {
+        // Also on a thread that ends.
+        let kept = entered::with(|entered| entered.take(self.key(id.into_u64()))).flatten();
+        if let Some(item) = kept.or_else(|| extension(&id, &ctx)) {
             item.close();
         }
     }

@@ -38,7 +38,8 @@ impl LeftOut {
     }
 
     /// What came outside of the items that it belongs to: poll operations and attributes outside of any resource, operations of
-    /// no resource, and drops and wakes of a waker of which no clone was told. It comes of what was made before the layer was there.
+    /// no resource, and drops and wakes of a waker of which no clone was told. It comes of what was made before the layer was there,
+    /// and of a thread that is ending.
     pub fn stray(&self) -> u64 {
         self.stray.get()
     }

@@ -241,3 +241,25 @@ fn what_belongs_to_nothing_is_stray() {
     let row = common::task(&line, number(list(&line, "new_tasks")[1], "id"));
     assert_eq!(numbers(row, ["wakes", "clones", "drops"]), [0, 0, 0]);
 }
+
+thread_local!(static KEPT: std::cell::RefCell<Option<tracing::Span>> = const { std::cell::RefCell::new(None) });
+
+#[test]
+fn a_thread_that_ends_closes_its_tasks() {
+    let console = Console::open(Settings::default());
+    let layer = TaskscopeLayer::new(&console);
+    let left_out = layer.left_out();
+    let subscriber = Dispatch::new(Rootless(tracing_subscriber::registry().with(layer)));
+    let keeps = move || {
+        // It is dropped behind what was first used after it, so behind what the layer keeps for this thread.
+        KEPT.with(|kept| {
+            let mut kept = kept.borrow_mut();
+            *kept = with_default(&subscriber, || {
+                Some(tracing::trace_span!(target: "tokio::task", "runtime.spawn", kind = %"task", task.name = "kept"))
+            });
+        });
+    };
+    std::thread::spawn(keeps).join().expect("no panic");
+    assert_ne!(value(row(&publish(&console), "kept"), "dropped"), "null");
+    assert_eq!(left_out.to_string(), "nothing");
+}
