@@ -1,9 +1,9 @@
 //! What is told, how often, and where it goes.
 
+use crate::alone::Alone;
 use crate::layer::{Items, TaskscopeLayer};
 use crate::output::Output;
 use crate::publishing::{keep_until_exit, Guard};
-use crate::rootless::Rootless;
 use crate::task::Polls;
 use std::env;
 use std::ffi::OsString;
@@ -11,7 +11,6 @@ use std::io::{self, ErrorKind};
 use std::time::Duration;
 use taskscope::{Console, Settings};
 use tracing_core::dispatcher::{set_global_default, Dispatch};
-use tracing_subscriber::layer::SubscriberExt;
 
 /// What is told of a program, how often, and where it goes.
 #[derive(Clone, Debug)]
@@ -149,7 +148,7 @@ impl Builder {
     /// A layer to stand beside others, and the guard of the thread that publishes what it tells. `output` is where the lines go, in
     /// the place of what [`output`](Builder::output) said.
     ///
-    /// The subscriber with the layer is to be wrapped in [`Rootless`], and a filter of other layers must not turn off what
+    /// The subscriber with the layer is to be wrapped in [`Rootless`](crate::Rootless), and a filter of other layers must not turn off what
     /// [`is_of_tokio`](crate::is_of_tokio) says: give each its own by `with_filter`.
     ///
     /// # Errors
@@ -170,9 +169,8 @@ impl Builder {
             None => return Ok(()),
         };
         let (layer, guard) = self.start(&output, true)?;
-        let subscriber = Rootless(tracing_subscriber::registry().with(layer));
-        set_global_default(Dispatch::new(subscriber))
-            .map_err(|error| io::Error::new(ErrorKind::AlreadyExists, error))?;
+        let subscriber = Dispatch::new(Alone::new(layer));
+        set_global_default(subscriber).map_err(|error| io::Error::new(ErrorKind::AlreadyExists, error))?;
         keep_until_exit(guard);
         Ok(())
     }

@@ -15,7 +15,7 @@ use tracing_core::span::{Attributes, Id};
 use tracing_core::subscriber::Interest;
 use tracing_core::{Event, Metadata, Subscriber};
 use tracing_subscriber::layer::{Context, Layer};
-use tracing_subscriber::registry::LookupSpan;
+use tracing_subscriber::registry::{LookupSpan, SpanRef};
 
 /// Which items are told.
 #[derive(Clone, Copy, Debug, Default, PartialEq, Eq)]
@@ -31,13 +31,8 @@ pub enum Items {
 struct Extension(Arc<Item>);
 
 /// The item of a span, as the span's extensions have it.
-fn extension<S>(id: &Id, ctx: &Context<'_, S>) -> Option<Arc<Item>>
-where
-    S: Subscriber + for<'a> LookupSpan<'a>,
-{
-    let span = ctx.span(id)?;
-    let extensions = span.extensions();
-    extensions.get::<Extension>().map(|extension| Arc::clone(&extension.0))
+pub(crate) fn extension<'a, S: LookupSpan<'a>>(span: &SpanRef<'a, S>) -> Option<Arc<Item>> {
+    span.extensions().get::<Extension>().map(|extension| Arc::clone(&extension.0))
 }
 
 /// What spans and events are of tokio.
@@ -161,15 +156,6 @@ impl TaskscopeLayer {
         Key { layer: self.number, span }
     }
 
-    /// The item of a span, which this thread may have kept.
-    #[inline]
-    fn item<S>(&self, entered: &mut Entered, id: &Id, ctx: &Context<'_, S>) -> Option<Arc<Item>>
-    where
-        S: Subscriber + for<'a> LookupSpan<'a>,
-    {
-        entered.take(self.key(id.into_u64())).or_else(|| extension(id, ctx))
-    }
-
     /// Calls with what this thread entered. What a thread says while it ends is stray.
     #[inline]
     fn with_entered(&self, call: impl FnOnce(&mut Entered)) {
@@ -243,10 +229,7 @@ impl TaskscopeLayer {
     }
 
     /// A call on a waker. A wake while this thread is within a poll of the task is the task's own.
-    fn call_waker<S>(&self, entered: &mut Entered, event: &Event<'_>, ctx: &Context<'_, S>)
-    where
-        S: Subscriber + for<'a> LookupSpan<'a>,
-    {
+    fn call_waker(&self, entered: &mut Entered, event: &Event<'_>, find: impl FnOnce(&Id) -> Option<Arc<Item>>) {
         let mut fields = WakerFields::default();
         event.record(&mut fields);
         let (span, call) = match (fields.span, fields.call) {
@@ -258,7 +241,8 @@ impl TaskscopeLayer {
         if let Some(task) = polled.and_then(|frame| frame.item.task()) {
             return task.call_waker(call, Origin::Inside, &self.left_out);
         }
-        match self.item(entered, &Id::from_u64(span), ctx).filter(|item| !item.is_closed()) {
+        let item = entered.take(key).or_else(|| find(&Id::from_u64(span)));
+        match item.filter(|item| !item.is_closed()) {
             Some(item) => {
                 if let Some(task) = item.task() {
                     task.call_waker(call, Origin::Outside, &self.left_out);
@@ -332,11 +316,9 @@ impl TaskscopeLayer {
     }
 }
 
-impl<S> Layer<S> for TaskscopeLayer
-where
-    S: Subscriber + for<'a> LookupSpan<'a>,
-{
-    fn register_callsite(&self, metadata: &'static Metadata<'static>) -> Interest {
+/// What becomes of spans and events. `find` looks for the item of a span in a registry.
+impl TaskscopeLayer {
+    pub(crate) fn interest(&self, metadata: &'static Metadata<'static>) -> Interest {
         if self.is_alone && !Source::of(metadata).is_told(self.items) {
             Interest::never()
         } else {
@@ -344,14 +326,19 @@ where
         }
     }
 
-    fn on_new_span(&self, attributes: &Attributes<'_>, id: &Id, ctx: Context<'_, S>) {
+    pub(crate) fn make<'a, S: LookupSpan<'a>>(
+        &self,
+        attributes: &Attributes<'_>,
+        id: &Id,
+        span: Option<SpanRef<'a, S>>,
+    ) {
         let source = Source::of(attributes.metadata());
         if !source.is_told(self.items) {
             return;
         }
         self.with_entered(|entered| {
             let item = self.new_item(entered, source, attributes).map(Item::new);
-            if let (Some(item), Some(span)) = (item, ctx.span(id)) {
+            if let (Some(item), Some(span)) = (item, span) {
                 span.extensions_mut().replace(Extension(Arc::clone(&item)));
                 entered.keep(self.key(id.into_u64()), item);
             }
@@ -359,13 +346,13 @@ where
     }
 
     #[inline]
-    fn on_event(&self, event: &Event<'_>, ctx: Context<'_, S>) {
+    pub(crate) fn read(&self, event: &Event<'_>, find: impl FnOnce(&Id) -> Option<Arc<Item>>) {
         let source = Source::of(event.metadata());
         if !source.is_told(self.items) {
             return;
         }
         self.with_entered(|entered| match source {
-            Source::Waker => self.call_waker(entered, event, &ctx),
+            Source::Waker => self.call_waker(entered, event, find),
             Source::Poll => self.count_poll(entered, event),
             Source::ResourceUpdate => self.update(entered, event, false),
             Source::OpUpdate => self.update(entered, event, true),
@@ -374,10 +361,10 @@ where
     }
 
     #[inline]
-    fn on_enter(&self, id: &Id, ctx: Context<'_, S>) {
+    pub(crate) fn enter(&self, id: &Id, find: impl FnOnce() -> Option<Arc<Item>>) {
+        let key = self.key(id.into_u64());
         self.with_entered(|entered| {
-            if let Some(item) = self.item(entered, id, &ctx) {
-                let key = self.key(id.into_u64());
+            if let Some(item) = entered.take(key).or_else(find) {
                 let is_poll = self.starts_poll(entered, key, &item);
                 entered.push(Frame { key, item, is_poll });
             }
@@ -385,7 +372,7 @@ where
     }
 
     #[inline]
-    fn on_exit(&self, id: &Id, _: Context<'_, S>) {
+    pub(crate) fn exit(&self, id: &Id) {
         self.with_entered(|entered| {
             entered.leave(self.key(id.into_u64()), |frame| match &frame.item.what {
                 What::Task(task) if frame.is_poll => task.end_poll(),
@@ -395,12 +382,44 @@ where
         });
     }
 
-    fn on_close(&self, id: Id, ctx: Context<'_, S>) {
-        // Also on a thread that ends.
+    /// Also on a thread that ends.
+    pub(crate) fn close(&self, id: &Id, find: impl FnOnce() -> Option<Arc<Item>>) {
         let kept = entered::with(|entered| entered.take(self.key(id.into_u64()))).flatten();
-        if let Some(item) = kept.or_else(|| extension(&id, &ctx)) {
+        if let Some(item) = kept.or_else(find) {
             item.close();
         }
+    }
+}
+
+impl<S> Layer<S> for TaskscopeLayer
+where
+    S: Subscriber + for<'a> LookupSpan<'a>,
+{
+    fn register_callsite(&self, metadata: &'static Metadata<'static>) -> Interest {
+        self.interest(metadata)
+    }
+
+    fn on_new_span(&self, attributes: &Attributes<'_>, id: &Id, ctx: Context<'_, S>) {
+        self.make(attributes, id, ctx.span(id));
+    }
+
+    #[inline]
+    fn on_event(&self, event: &Event<'_>, ctx: Context<'_, S>) {
+        self.read(event, |id| extension(&ctx.span(id)?));
+    }
+
+    #[inline]
+    fn on_enter(&self, id: &Id, ctx: Context<'_, S>) {
+        self.enter(id, || extension(&ctx.span(id)?));
+    }
+
+    #[inline]
+    fn on_exit(&self, id: &Id, _: Context<'_, S>) {
+        self.exit(id);
+    }
+
+    fn on_close(&self, id: Id, ctx: Context<'_, S>) {
+        self.close(&id, || extension(&ctx.span(&id)?));
     }
 }
 

@@ -50,6 +50,7 @@
 #![deny(missing_docs, unsafe_op_in_unsafe_fn)]
 #![warn(missing_debug_implementations)]
 
+mod alone;
 mod attributes;
 mod builder;
 mod entered;
