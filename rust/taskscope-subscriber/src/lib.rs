@@ -38,7 +38,7 @@
 //! | it is closed | the task is closed |
 //! | `waker.clone`, `waker.drop` | a waker is cloned, dropped |
 //! | `waker.wake_by_ref`, `waker.wake` | a wake, and by value also a drop; from within where this thread is within a poll of the task |
-//! | the same once the span is closed | nothing: `late` |
+//! | the same once the span is closed | nothing: `late` in [`LeftOut`] |
 //! | a span `runtime.resource`, `runtime.resource.async_op` | a resource, an operation of the innermost resource. The parent is the innermost of its kind |
 //! | a span `runtime.resource.async_op.poll` is entered and left | a poll of the operation, by the task that the thread polls, starts and ends |
 //! | `poll_op` | a poll operation of the innermost resource |
