@@ -4,7 +4,7 @@ use crate::attributes::{Types, Update, Values};
 use crate::fields::UpdateFields;
 use crate::left_out::LeftOut;
 use crate::task::Task;
-use std::sync::atomic::{AtomicBool, Ordering};
+use std::sync::atomic::{AtomicBool, AtomicU64, Ordering};
 use std::sync::{Arc, Mutex, MutexGuard, PoisonError};
 use taskscope::{Change, OpId, Refused, ResourceId, TaskId};
 
@@ -165,12 +165,13 @@ impl Resource {
 #[derive(Debug)]
 pub(crate) struct Op {
     pub(crate) part: Part<taskscope::Op>,
-    task: Mutex<Option<TaskId>>,
+    /// The number of the task that polled it last, or 0.
+    task: AtomicU64,
 }
 
 impl Op {
     pub(crate) fn new(part: Part<taskscope::Op>) -> Op {
-        Op { part, task: Mutex::new(None) }
+        Op { part, task: AtomicU64::new(0) }
     }
 
     pub(crate) fn id(&self) -> Option<OpId> {
@@ -184,10 +185,8 @@ impl Op {
             Some(owner) => owner,
             None => return false,
         };
-        let mut polled_by = lock(&self.task);
-        if let Some(task) = task.filter(|task| *polled_by != Some(*task)) {
+        if let Some(task) = task.filter(|task| self.task.swap(task.value(), Ordering::Relaxed) != task.value()) {
             owner.set_task(task);
-            *polled_by = Some(task);
         }
         owner.start_poll().is_ok()
     }

@@ -81,8 +81,8 @@ pub(crate) trait Target: Send {
     /// Whether the next line has to be one that tells all: a reader came, or lines were lost.
     fn needs_all(&mut self, is_last: bool) -> bool;
 
-    /// Takes whole lines.
-    fn write(&mut self, lines: &[u8]);
+    /// Takes whole lines. Where one was asked for that tells all, the first does.
+    fn write(&mut self, lines: &[u8], tells_all: bool);
 
     /// Hands on what waits for slow readers. The answer is whether something still waits.
     fn hand_on(&mut self) -> bool {
@@ -119,7 +119,7 @@ impl<W: Write + Send> Target for Plain<W> {
         false
     }
 
-    fn write(&mut self, lines: &[u8]) {
+    fn write(&mut self, lines: &[u8], _tells_all: bool) {
         if let Some(writer) = &mut self.writer {
             if writer.write_all(lines).and_then(|()| writer.flush()).is_err() {
                 self.writer = None;
@@ -177,11 +177,11 @@ impl Target for Rewindable {
         matches!(self.state, Writing::Lost { retry, .. } if is_last || Instant::now() >= retry)
     }
 
-    fn write(&mut self, lines: &[u8]) {
+    fn write(&mut self, lines: &[u8], tells_all: bool) {
         let is_due = match self.state {
             Writing::Goes => true,
             // Only a line that tells all follows lines that were lost.
-            Writing::Lost { .. } => lines_tell_all(lines),
+            Writing::Lost { .. } => tells_all,
             Writing::Ended => false,
         };
         if !is_due {
@@ -195,12 +195,6 @@ impl Target for Rewindable {
             Err(error) => self.failed(&error),
         }
     }
-}
-
-/// A line has this key, and a name in it no quotation mark that is not escaped.
-fn lines_tell_all(lines: &[u8]) -> bool {
-    const KEY: &[u8] = b"\"snapshot\":true";
-    lines.windows(KEY.len()).any(|window| window == KEY)
 }
 
 /// Where readers come from.
@@ -349,7 +343,7 @@ impl<D: Door> Target for Readers<D> {
         self.readers.len() > before
     }
 
-    fn write(&mut self, lines: &[u8]) {
+    fn write(&mut self, lines: &[u8], _tells_all: bool) {
         self.each(|reader| reader.add(lines));
     }
 

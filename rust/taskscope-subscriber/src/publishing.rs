@@ -139,9 +139,10 @@ impl Publishing {
     }
 
     fn publish(&mut self, is_last: bool) {
-        let lines = if self.target.needs_all(is_last) { self.console.snapshot() } else { self.console.publish() };
+        let tells_all = self.target.needs_all(is_last);
+        let lines = if tells_all { self.console.snapshot() } else { self.console.publish() };
         match lines {
-            Ok(lines) => self.target.write(&lines),
+            Ok(lines) => self.target.write(&lines, tells_all),
             // The next line tells what this one would have told.
             Err(Fault::Memory) => {}
             Err(fault) => {

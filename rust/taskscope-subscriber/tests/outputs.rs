@@ -8,7 +8,7 @@ use std::fs::{self, File};
 use std::io::{BufRead, BufReader, ErrorKind, Read};
 use std::os::unix::net::{UnixListener, UnixStream};
 use std::path::{Path, PathBuf};
-use std::process::Command;
+use std::process::{Command, Stdio};
 use std::sync::atomic::{AtomicUsize, Ordering};
 use std::thread::sleep;
 use std::time::{Duration, Instant};
@@ -292,10 +292,7 @@ fn a_reader_that_goes_away_is_said_once() {
     let folder = Folder::new();
     let path = folder.pipe();
     // SIGPIPE ends a program that doesn't ignore it.
-    let child = command("", "long", &[("TASKSCOPE_STREAM", &path)])
-        .stderr(std::process::Stdio::piped())
-        .spawn()
-        .expect("it runs");
+    let child = command("", "long", &[("TASKSCOPE_STREAM", &path)]).stderr(Stdio::piped()).spawn().expect("it runs");
     drop(read_pipe(&path));
     drop(read_pipe(&path));
     let output = child.wait_with_output().expect("it ends");
@@ -312,13 +309,24 @@ fn a_full_disk_is_said_once() {
 }
 
 #[test]
-fn a_file_that_can_not_grow_has_whole_lines_alone() {
+fn a_file_that_can_not_grow_has_whole_lines_and_goes_on_with_all() {
     let folder = Folder::new();
     let path = folder.path("stream");
     // A write behind so many blocks of 512 bytes brings SIGXFSZ, which ends a program.
-    let said = said(command("ulimit -f 32 &&", "long", &[("TASKSCOPE_STREAM", &path)]));
+    let mut command = command("ulimit -S -f 32 &&", "long", &[("TASKSCOPE_STREAM", &path)]);
+    let child = command.stderr(Stdio::piped()).spawn().expect("it runs");
+    let lines = || fs::read_to_string(&path).unwrap_or_default();
+    until(|| lines().len() > 16_000);
+    sleep(Duration::from_millis(100));
+    let limited = lines();
+    assert!(limited.len() <= 16_384 && limited.ends_with("}\n") && names(&limited) == ["first"], "{limited}");
+    let unlimited = ["--fsize=unlimited", "--pid", &child.id().to_string()];
+    assert!(Command::new("prlimit").args(unlimited).status().expect("prlimit").success());
+    let output = child.wait_with_output().expect("it ends");
+    assert_eq!(output.status.code(), Some(7));
+    let said = String::from_utf8(output.stderr).expect("text");
     assert_eq!(said.matches("the stream goes on when there is room").count(), 1, "{said}");
-    let lines = fs::read_to_string(&path).expect("a file");
-    assert!((1..=16_384).contains(&lines.len()) && lines.ends_with("}\n"), "{lines}");
-    assert_eq!(names(&lines), ["first"]);
+    let all = lines();
+    assert!(all.starts_with(&limited) && all[limited.len()..].contains("\"snapshot\":true"), "{all}");
+    assert_eq!(names(&all), ["first", "told last"]);
 }
