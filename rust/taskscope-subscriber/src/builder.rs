@@ -96,9 +96,6 @@ impl Builder {
         if let Some(items) = choice("TASKSCOPE_ITEMS", [("all", Items::All), ("tasks", Items::Tasks)])? {
             builder.items = items;
         }
-        if let Some(polls) = choice("TASKSCOPE_POLLS", [("own", Polls::Own), ("all", Polls::All)])? {
-            builder.polls = polls;
-        }
         Ok(builder)
     }
 
@@ -130,7 +127,7 @@ impl Builder {
         Builder { items, ..self }
     }
 
-    /// Which enters of a task's span are polls of it: its own without this.
+    /// Which enters of a task's span are polls of it, for a [`layer`](Builder::layer): its own without this.
     pub fn polls(self, polls: Polls) -> Builder {
         Builder { polls, ..self }
     }

@@ -25,7 +25,6 @@
 //! | `TASKSCOPE_STREAM` | where lines go: the path of a file or of a pipe (`mkfifo`), `unix:PATH` for a socket, or `stderr` | nothing is inspected, and nothing costs more |
 //! | `TASKSCOPE_INTERVAL_MS` | milliseconds from one line to the next | 100 |
 //! | `TASKSCOPE_ITEMS` | `tasks`: resources and operations are not told, and locks and channels cost no more; or `all` | `all` |
-//! | `TASKSCOPE_POLLS` | `all`: each enter of a task's span is a poll, as for tokio-console; or `own` ([`Polls`]) | `own` |
 //! | `TASKSCOPE_RETENTION_MS` | milliseconds that an item stays in the tables behind its close; or `none`: for good | 60000 |
 //! | `TASKSCOPE_CAPACITY` | how many new items each of the 16 recorders holds until the next line | 65536 |
 //!
