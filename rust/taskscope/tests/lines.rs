@@ -66,7 +66,7 @@ fn a_moment_of_a_line_is_not_before_those_that_it_tells() {
                 let _ = task.wake_by_ref(Origin::Outside);
             }
         });
-        while moments.len() < 2_000 {
+        while moments.len() < 100 {
             let line = publish(&console);
             if let Some(row) = common::with_id(&line, "task_stats", task.id().value()) {
                 moments.push((value(row, "last_wake").to_string(), number(&line, "now")));
@@ -181,7 +181,7 @@ fn a_stream_leads_to_what_a_snapshot_tells() {
             ops: Vec::new(),
         };
         let mut tables = Tables::default();
-        for turn in 0..100 {
+        for turn in 0..60 {
             (0..program.chance.below(60)).for_each(|_| program.call());
             if turn % 20 == 7 {
                 sleep(Duration::from_millis(1));
