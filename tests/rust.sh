@@ -215,7 +215,7 @@ view_streams() {
     for stream in wakes_of_one_task items_of_many_threads lines_of_threads; do
         view "$work/streams/$stream.stream" "$work/report" || return 1
         case $stream in
-        wakes*) grep -q '^task .* closed polls 1 wakes 600000 self 0 clones 400001 drops 400001 ' "$work/report" ;;
+        wakes*) grep -q '^task .* closed polls 1 wakes 800000 self 0 clones 400001 drops 400001 ' "$work/report" ;;
         items*) [ "$(grep -c '^task .* closed ' "$work/report")" -eq 3200 ] ;;
         lines*) [ "$(wc -l < "$work/report")" -eq 1 ] ;;
         esac || { head -n 3 "$work/report"; return 1; }
