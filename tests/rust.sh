@@ -11,6 +11,7 @@
 #
 # It works on a copy of rust/ and without network, over the crates that Debian's packages have: cargo, rustc, librust-tokio-dev. Where one
 # is missing it tries to install it by apt-get. Where it can't, it says so and skips all; with CI=true that is a failure.
+# TASKSCOPE_ARCHIVE may name an archive that tests/archive.py has just built, as the gate does.
 # CARGO_TARGET_DIR may name a folder that keeps what cargo builds; otherwise it is a temporary one.
 #
 # Its last line is `N passed, M failed`, and its status 1 where M isn't 0.
@@ -46,7 +47,11 @@ finish() {
 }
 
 build_archive() {
-    "$root/tests/archive.py" "$work/new/libtk_embed.a"
+    if [ -n "$TASKSCOPE_ARCHIVE" ]; then
+        cp "$TASKSCOPE_ARCHIVE" "$work/new/libtk_embed.a"
+    else
+        "$root/tests/archive.py" "$work/new/libtk_embed.a"
+    fi
 }
 
 renew() {
