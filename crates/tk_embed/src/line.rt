@@ -91,9 +91,6 @@ fn change_line(
     ensures ok { IfOk result (λ line. IsChangeFor head.now (record { tasks = tasks.now; resources = resources.now; ops = ops.now; counts = counts.now; attrs = attrs.now; text = text.now }) line.items) }
     ensures err { IfErr result (IsFault head.now (record { tasks = tasks.now; resources = resources.now; ops = ops.now; counts = counts.now; attrs = attrs.now; text = text.now })) }
 {
-    let new = tables_of(
-        alloc, head, tasks, resources, ops, counts, attrs, text, true,
-    )?;
     let Some(told_tasks) = front(tasks, head.told_tasks) else {
         return Err(Fault::FewEntries);
     };
@@ -106,6 +103,9 @@ fn change_line(
     let Some(told_counts) = front(counts, head.told_counts) else {
         return Err(Fault::FewEntries);
     };
+    let new = tables_of(
+        alloc, head, tasks, resources, ops, counts, attrs, text, true,
+    )?;
     match tables_of(
         alloc,
         head,

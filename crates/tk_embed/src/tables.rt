@@ -3,7 +3,7 @@ ghost use Rattle.std.specs.Prelude.{◌≡◌, ◌∷◌, ◌++◌, [], None, is
 ghost use Rattle.tk_core.specs.OpWords as op_words;
 ghost use Rattle.tk_core.specs.ResourceWords as resource_words;
 ghost use Rattle.tk_core.specs.TaskWords as task_words;
-ghost use Rattle.tk_stream.specs.Tables.{item_with, counts_id, task_with, resource_with, op_with};
+ghost use Rattle.tk_stream.specs.Tables.{item_with, counts_id, empty_tables, task_with, resource_with, op_with};
 ghost use Rattle.tk_embed.specs.Entries as spec;
 ghost use Rattle.tk_embed.specs.Faults as faults;
 
@@ -252,6 +252,44 @@ fn count_fault(place: usize, bad: Bad) -> Fault
     }
 }
 
+// Puts the entries into empty tables. What owns these is left by no error here.
+fn fill(
+    alloc: Global,
+    tables: &mut Tables,
+    head: &Head,
+    tasks: &[TaskEntry],
+    resources: &[ResourceEntry],
+    ops: &[OpEntry],
+    counts: &[CountEntry],
+    attrs: &[AttrEntry],
+    text: &[u8],
+    now: bool,
+) -> Result<(), Fault>
+    requires { tables.old ≡ empty_tables }
+    ensures ok { OnOk result (spec.AreTables now head.now (record { tasks = tasks.now; resources = resources.now; ops = ops.now; counts = counts.now; attrs = attrs.now; text = text.now }) tables.new) }
+    ensures err { IfErr result (faults.IsFaultOf now (record { tasks = tasks.now; resources = resources.now; ops = ops.now; counts = counts.now; attrs = attrs.now; text = text.now })) }
+{
+    if let Err((place, bad)) = put_tasks(alloc, tables, text, tasks, now) {
+        return Err(task_fault(place, bad));
+    }
+    if let Err((place, bad)) = put_resources(alloc, tables, text, attrs, resources, now) {
+        return Err(resource_fault(place, bad));
+    }
+    if let Err((place, bad)) = put_ops(alloc, tables, text, attrs, ops, now) {
+        return Err(op_fault(place, bad));
+    }
+    if let Err((place, bad)) = put_counts(tables, counts, now) {
+        return Err(count_fault(place, bad));
+    }
+    let dropped = Dropped {
+        tasks: head.dropped_tasks,
+        resources: head.dropped_resources,
+        ops: head.dropped_ops,
+    };
+    tables.set_totals(dropped, head.moment);
+    Ok(())
+}
+
 /// The tables of the entries: with `now` each with its row, and otherwise each with the row that was told.
 pub(crate) fn tables_of(
     alloc: Global,
@@ -270,23 +308,19 @@ pub(crate) fn tables_of(
     let Ok(mut tables) = Tables::new(alloc) else {
         return Err(Fault::Memory);
     };
-    if let Err((place, bad)) = put_tasks(alloc, &mut tables, text, tasks, now) {
-        return Err(task_fault(place, bad));
+    match fill(
+        alloc,
+        &mut tables,
+        head,
+        tasks,
+        resources,
+        ops,
+        counts,
+        attrs,
+        text,
+        now,
+    ) {
+        Ok(()) => Ok(tables),
+        Err(fault) => Err(fault),
     }
-    if let Err((place, bad)) = put_resources(alloc, &mut tables, text, attrs, resources, now) {
-        return Err(resource_fault(place, bad));
-    }
-    if let Err((place, bad)) = put_ops(alloc, &mut tables, text, attrs, ops, now) {
-        return Err(op_fault(place, bad));
-    }
-    if let Err((place, bad)) = put_counts(&mut tables, counts, now) {
-        return Err(count_fault(place, bad));
-    }
-    let dropped = Dropped {
-        tasks: head.dropped_tasks,
-        resources: head.dropped_resources,
-        ops: head.dropped_ops,
-    };
-    tables.set_totals(dropped, head.moment);
-    Ok(tables)
 }

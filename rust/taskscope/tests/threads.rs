@@ -56,7 +56,10 @@ fn wakes_of_one_task_from_many_threads_are_all_counted() {
                 for turn in 0..WAKES {
                     match turn % 4 {
                         0 => waker.clone().wake(),
-                        1 => drop(waker.clone()),
+                        1 => {
+                            drop(waker.clone());
+                            waker.wake_by_ref();
+                        }
                         _ => waker.wake_by_ref(),
                     }
                 }
@@ -69,8 +72,13 @@ fn wakes_of_one_task_from_many_threads_are_all_counted() {
     tables.apply(&stream);
     let row = &tables.items["task_stats"][0].2;
     let each = THREADS * WAKES / 4;
-    let counts =
-        [("polls", 1), ("wakes", 3 * each), ("clones", 1 + 2 * each), ("drops", 1 + 2 * each), ("self_wakes", 0)];
+    let counts = [
+        ("polls", 1),
+        ("wakes", THREADS * WAKES),
+        ("clones", 1 + 2 * each),
+        ("drops", 1 + 2 * each),
+        ("self_wakes", 0),
+    ];
     for (key, count) in counts {
         assert_eq!(number(row, key), count, "{key}");
     }
