@@ -1,0 +1,3 @@
+pub mod CourseLemmas
+pub mod PutLemmas
+pub mod Weaving
