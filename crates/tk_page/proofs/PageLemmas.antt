@@ -1,0 +1,79 @@
+-- What a page is made of, and what lines of a piece come to.
+use Rattle.std.proofs.Common.{◌≡◌, ℕ, ◌+◌, ◌-◌, ◌≤◌, List, ◌++◌, length, take, drop, Option, Ok, Err, ap, sym, ◌∙◌, append_assoc, take-append-drop, length-take, arith}
+use Rattle.std.specs.Io.KnownBytes.{Appends}
+use Rattle.std.proofs.Math.Seq.{take-add}
+use Rattle.tk_client.specs.Feeding.{ClientView}
+use Rattle.tk_client.specs.Meaning.{empty_start}
+use Rattle.tk_client.specs.Warnings.{LintsView, warnings_in}
+use Rattle.tk_client.proofs.Pieces.{stops-append}
+use Rattle.tk_fault.specs.declared.fault.AppFault.{AppFault}
+use Rattle.tk_fault.specs.declared.fault.AppFault.TheVariants as faults
+use Rattle.tk_page.specs.Pages.{IsPage, Pages}
+use Rattle.tk_report.specs.Taken.{Takes, TakesAll}
+use Rattle.tk_report.proofs.ViewLemmas.{leads}
+use Rattle.tk_stream.specs.Sent.{IsCut}
+
+-- so many bytes at most
+pub few_taken : (n : ℕ) (bytes : List ℕ) → length (take n bytes) ≤ n
+few_taken n bytes = omega (arith, length-take n bytes)
+
+-- a front of a piece, and the bytes behind it
+pub more_taken : (front piece : List ℕ) (at n : ℕ) → front ++ take (at + n) piece ≡ (front ++ take at piece) ++ take ((at + n) - at) (drop at piece)
+more_taken front piece at n =
+    let same : (at + n) - at ≡ n = omega arith in
+    ap (λ xs. front ++ xs) (take-add at n piece)
+    ∙ sym (append_assoc front (take at piece) (take n (drop at piece)))
+    ∙ ap (λ k. (front ++ take at piece) ++ take k (drop at piece)) (sym same)
+
+-- with what is behind them, they are the piece
+pub whole_piece : (front piece : List ℕ) (at n : ℕ)
+    → ((front ++ take at piece) ++ take ((at + n) - at) (drop at piece)) ++ drop (at + n) piece ≡ front ++ piece
+whole_piece front piece at n =
+    ap (λ xs. xs ++ drop (at + n) piece) (sym (more_taken front piece at n))
+    ∙ append_assoc front (take (at + n) piece) (drop (at + n) piece)
+    ∙ ap (λ xs. front ++ xs) (take-append-drop (at + n) piece)
+
+-- a fault in a front of bytes is the fault of all
+pub front_stops : (bytes rest : List ℕ) (now : ClientView) (answer : AppFault) → Takes bytes (Err answer) now → Takes (bytes ++ rest) (Err answer) now
+front_stops bytes rest now faults.Memory h = tt
+front_stops bytes rest now faults.Read h = absurd h
+front_stops bytes rest now faults.Write h = absurd h
+front_stops bytes rest now (faults.Script line name) h = absurd h
+front_stops bytes rest now (faults.Stream lines fault) h = (h.0, h.1, stops-append 268435456 empty_start bytes rest h.0 lines h.1 fault h.2)
+
+-- ---- what is written
+
+-- a stream that isn't taken has no page
+pub pages_none : (lints : LintsView) (given left old new : Option (List ℕ)) (now : ClientView) (answer : AppFault) → TakesAll given left (Err answer) now
+    → Pages lints given left (Err answer) old new
+pages_none lints given left old new now faults.Memory h = tt
+pages_none lints given left old new now faults.Read h = tt
+pages_none lints given left old new now faults.Write h = absurd h
+pages_none lints given left old new now (faults.Script line name) h = absurd h
+pages_none lints given left old new now (faults.Stream lines fault) h = h
+
+-- the page went out
+pub pages_all : (lints : LintsView) (given left old new : Option (List ℕ)) (client : ClientView) (text : List ℕ) (warnings : ℕ)
+    → TakesAll given left (Ok tt) client → IsPage text → Appends old new text
+    → warnings ≡ length (warnings_in lints client.start.tables) → Pages lints given left (Ok warnings) old new
+pages_all lints given left old new client text warnings h page wrote counted = record {
+  tables = client.start.tables;
+  lead = leads given left client h;
+  text = text;
+  page = page;
+  wrote = wrote;
+  counted = counted;
+}
+
+-- a front of it went out
+pub pages_front : (lints : LintsView) (given left old new : Option (List ℕ)) (client : ClientView) (text front : List ℕ)
+    → TakesAll given left (Ok tt) client → IsPage text → IsCut text front → Appends old new front → Pages lints given left (Err faults.Write) old new
+pages_front lints given left old new client text front h page cut wrote = record {
+  tables = client.start.tables;
+  lead = leads given left client h;
+  text = text;
+  page = page;
+  front = front;
+  cut = cut;
+  wrote = wrote;
+}

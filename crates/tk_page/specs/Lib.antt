@@ -1,0 +1,4 @@
+-- The numbers of a page
+pub mod Figures
+-- What a page is
+pub mod Pages

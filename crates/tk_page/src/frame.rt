@@ -1,0 +1,100 @@
+//! The frame of a page: its head with the style, and its end with the script. `frame/make.py` writes this file.
+
+/// What stands before the page's text.
+pub const HEAD: &str = "<!DOCTYPE html>
+<html lang=\"en\"><head><meta charset=\"utf-8\"><meta http-equiv=\"Content-Security-Policy\" content=\"default-src 'none'; style-src 'sha256-WyueHCBB6jJHerEG6rsrk/BUQYNaLutkGNTVbO7/A/Q='; script-src 'sha256-AP46l21RYjgXy5GFR5n6f9DKzmT8OhDhAXr5f9rCN/w='\"><meta name=\"viewport\" content=\"width=device-width, initial-scale=1\"><meta name=\"color-scheme\" content=\"light dark\"><title>taskscope</title><style>:root{--bg:#fff;--ink:#1a2027;--dim:#5a6672;--rule:#d5dce3;--card:#f6f8fa;--idle:#e6ebf0;--busy:#1f6fb8;--wait:#e07b00;--wake:#7b8794;--own:#b5179e;--bad:#c62828;--link:#0b5cad}
+@media (prefers-color-scheme:dark){:root{--bg:#11161c;--ink:#e4e9ee;--dim:#9aa7b4;--rule:#2b353f;--card:#19212a;--idle:#25303b;--busy:#4fa3e8;--wait:#ffa53d;--wake:#8796a5;--own:#f06fd8;--bad:#ff6b61;--link:#7fc0ff}}
+*{box-sizing:border-box}
+body{margin:0;background:var(--bg);color:var(--ink);font:15px/1.45 system-ui,'Segoe UI','DejaVu Sans',sans-serif}
+header,main{max-width:1440px;margin:0 auto;padding:0 24px}
+header{display:flex;flex-wrap:wrap;align-items:baseline;gap:4px 20px;padding-top:18px}
+h1{font-size:20px;margin:0}
+h2{font-size:17px;margin:26px 0 8px}
+h3{font-size:15px;margin:0}
+p{margin:4px 0}
+small,.facts,.legend,.controls,caption{color:var(--dim)}
+small{font-size:12px;font-weight:400}
+.facts b{color:var(--ink)}
+.count{background:var(--bad);color:var(--bg);border-radius:10px;padding:1px 9px;font-size:13px}
+a{color:inherit;text-decoration-color:var(--dim);text-underline-offset:3px}
+ul.odd{list-style:none;margin:0;padding:0;display:grid;grid-template-columns:repeat(auto-fit,minmax(300px,1fr));gap:12px}
+ul.odd li{background:var(--card);border-left:5px solid var(--bad);border-radius:4px;padding:10px 14px}
+ul.odd li.holds{border-color:var(--busy)}
+ul.odd li.self{border-color:var(--own)}
+ul.odd li.unpolled{border-color:var(--wait)}
+ul.odd h3 .icon{font-weight:700}
+.do{color:var(--dim);font-size:14px}
+.legend{display:flex;flex-wrap:wrap;gap:4px 18px;font-size:13px}
+.legend i{display:inline-block;width:14px;height:12px;border-radius:2px;vertical-align:-1px}
+.k-busy{background:var(--busy)}.k-wait{background:var(--wait)}.k-alive{background:var(--idle)}.k-lost{background:var(--bad);opacity:.4}
+.legend .k-wake,.legend .k-own{height:5px;vertical-align:2px}.k-wake{background:var(--wake)}.k-own{background:var(--own)}
+.controls{display:flex;flex-wrap:wrap;gap:6px 20px;font-size:14px;align-items:center}
+input[type=search]{font:inherit;padding:3px 8px;border:1px solid var(--rule);border-radius:4px;background:var(--bg);color:inherit}
+.scroll{overflow-x:auto}
+table{border-collapse:collapse;width:100%;font-size:14px}
+caption{text-align:left;font-size:13px;padding:2px 0 6px}
+th,td{padding:4px 8px;text-align:left;border-bottom:1px solid var(--rule);vertical-align:middle}
+thead th{white-space:nowrap;position:sticky;top:0;background:var(--bg);z-index:1}
+thead button{font:inherit;font-weight:600;color:inherit;background:none;border:0;padding:0;cursor:pointer}
+thead button:focus-visible,a:focus-visible,input:focus-visible{outline:2px solid var(--link);outline-offset:2px}
+[aria-sort=descending] button::after{content:' ▾'}[aria-sort=ascending] button::after{content:' ▴'}
+.num{text-align:right;white-space:nowrap;font-variant-numeric:tabular-nums}
+tbody th{font-weight:600;min-width:150px;max-width:280px;overflow-wrap:anywhere}
+tr:target{background:var(--card);outline:2px solid var(--link);outline-offset:-2px}
+.course{width:48%;min-width:340px;padding:4px 0}
+svg{display:block}
+svg.strip{width:100%;height:30px}
+svg.total{width:100%;height:44px;border-bottom:1px solid var(--rule)}
+tr.sum td{border:0;padding-bottom:0}tr.sum td:nth-child(2){padding-left:0;padding-right:0}
+.lead{text-align:right;font-size:13px}
+svg.bar{display:inline-block;width:52px;height:9px;background:var(--idle);border-radius:2px;vertical-align:0;margin-right:4px}
+.busy{fill:var(--busy)}.wait{fill:var(--wait)}.alive{fill:var(--idle)}.wake{fill:var(--wake)}.own{fill:var(--own)}.lost{fill:var(--bad);fill-opacity:.28}
+.axis{display:flex;justify-content:space-between;font-size:11px;color:var(--dim)}
+.badge{display:inline-block;font-size:11.5px;font-weight:600;border:1px solid currentColor;border-radius:9px;padding:0 7px;margin:2px 4px 0 0;color:var(--bad);white-space:nowrap}
+.badge.holds{color:var(--busy)}.badge.self{color:var(--own)}.badge.unpolled{color:var(--wait)}
+.name::after{content:''}.st{white-space:nowrap}.st.closed{color:var(--dim)}.st.running{color:var(--busy);font-weight:600}.st.waiting{color:var(--wait);font-weight:600}
+.res{border:1px solid var(--rule);border-radius:4px;padding:10px 14px;margin-bottom:10px}
+dl{display:flex;flex-wrap:wrap;gap:2px 22px;margin:2px 0}dl div{display:flex;gap:6px}dt{color:var(--dim)}dd{margin:0;font-weight:600;font-variant-numeric:tabular-nums}
+summary{cursor:pointer}
+@media print{:root{--bg:#fff;--ink:#000;--dim:#444;--rule:#bbb;--card:#f4f4f4;--idle:#e6ebf0;--busy:#1f6fb8;--wait:#e07b00;--wake:#7b8794;--own:#b5179e;--bad:#c62828}*{print-color-adjust:exact;-webkit-print-color-adjust:exact}.controls{display:none}tr,li,.res{break-inside:avoid}thead{display:table-row-group}thead th{position:static}.do,.legend,.lead,.controls,caption,h3,small,.badge{font-size:inherit}body{font-size:11px}header,main{padding:0;max-width:none}table{font-size:10.5px}.course{min-width:0}@page{size:landscape;margin:12mm}}
+.missing{flex-basis:100%;background:var(--card);border-left:5px solid var(--bad);padding:6px 12px;border-radius:4px}
+.badges{line-height:1.5}
+.controls{visibility:hidden}.live .controls{visibility:visible}
+td dl{margin:0}
+</style></head><body>
+";
+
+/// What stands behind it.
+pub const TAIL: &str = "
+<script>'use strict';
+document.body.className = 'live';
+const table = document.getElementById('table'), body = table.tBodies[0], all = [...body.rows];
+const filter = document.getElementById('filter'), only = document.getElementById('only'), shown = document.getElementById('shown');
+const show = () => {
+  const word = filter.value.toLowerCase();
+  let n = 0;
+  for (const row of all) {
+    const name = row.querySelector('th').textContent.toLowerCase();
+    row.hidden = !name.includes(word) || (only.checked && row.dataset.odd !== '1');
+    if (!row.hidden) n++;
+  }
+  shown.textContent = n === all.length ? '' : n + ' of ' + all.length + ' tasks';
+};
+filter.addEventListener('input', show);
+only.addEventListener('change', show);
+const of = (cell) => cell.dataset.v === undefined ? cell.textContent : BigInt(cell.dataset.v);
+for (const button of table.tHead.querySelectorAll('button')) {
+  const head = button.parentNode;
+  button.addEventListener('click', () => {
+    const i = head.cellIndex, down = head.getAttribute('aria-sort') !== 'descending';
+    for (const other of table.tHead.querySelectorAll('[aria-sort]')) other.removeAttribute('aria-sort');
+    head.setAttribute('aria-sort', down ? 'descending' : 'ascending');
+    all.sort((a, b) => {
+      const x = of(a.cells[i]), y = of(b.cells[i]);
+      return (x < y ? -1 : x > y ? 1 : 0) * (down ? -1 : 1);
+    });
+    body.append(...all);
+  });
+}
+</script></body></html>
+";

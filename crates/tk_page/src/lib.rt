@@ -1,0 +1,21 @@
+//! A stream as one page of HTML, which needs nothing else: what is odd, each task's course of time, and the resources.
+//!
+//! - [`view_page`]: reads a stream to its end, line by line, and writes the page.
+//! - [`Sample`]: what a course of time keeps of a task at a line.
+#![tactic(auto)]
+
+mod cards;
+mod drawing;
+mod figures;
+mod frame;
+mod history;
+mod oddities;
+mod ranks;
+mod resources;
+mod sample;
+mod strips;
+mod tasks;
+mod view;
+
+pub use sample::Sample;
+pub use view::view_page;
