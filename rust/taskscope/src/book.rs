@@ -57,13 +57,50 @@ impl<T> Default for Table<T> {
     }
 }
 
-impl<T: Item> Table<T> {
+/// Which of the told items a line lists, before the new ones.
+#[derive(Clone, Copy, Debug, PartialEq, Eq)]
+enum Listed {
+    Changed,
+    All,
+}
+
+/// What the tables do alike, whatever their items are.
+trait Told {
+    /// Takes the lists of this kind out of a shard.
+    fn take(&mut self, fresh: &mut Lists, changed: &mut Lists);
+
+    /// Enters the items that a line lists.
+    fn enter(&mut self, listed: Listed, page: &mut Page);
+
+    /// The page that these were entered in was told.
+    fn tell(&mut self, listed: Listed, page: &Page, retention: Option<u64>);
+}
+
+impl<T: Item> Told for Table<T> {
     fn take(&mut self, fresh: &mut Lists, changed: &mut Lists) {
         self.fresh.append(T::list(fresh));
         self.changed.append(T::list(changed));
     }
 
-    /// Enters what changed and what is new.
+    fn enter(&mut self, listed: Listed, page: &mut Page) {
+        match listed {
+            Listed::Changed => self.enter_changes(page),
+            Listed::All => self.enter_all(page),
+        }
+        self.enter_fresh(page);
+    }
+
+    fn tell(&mut self, listed: Listed, page: &Page, retention: Option<u64>) {
+        let first_fresh = match listed {
+            Listed::Changed => self.tell_changes(page, retention),
+            Listed::All => self.tell_all(page, retention),
+        };
+        self.tell_fresh(page, first_fresh, retention);
+    }
+}
+
+impl<T: Item> Table<T> {
+    /// Enters what changed, in the order of the places.
     fn enter_changes(&mut self, page: &mut Page) {
         let mut changed: Vec<(u64, Arc<T>)> = std::mem::take(&mut self.changed)
             .into_iter()
@@ -75,16 +112,14 @@ impl<T: Item> Table<T> {
             cell.enter(page, &cell.row().reading());
         }
         page.set_told(T::KIND, self.changed.len());
-        self.enter_fresh(page);
     }
 
-    /// Enters all items.
+    /// Enters all items that were told.
     fn enter_all(&mut self, page: &mut Page) {
         for cell in self.told.values() {
             cell.enter(page, &cell.row().reading());
         }
         page.set_told(T::KIND, self.told.len());
-        self.enter_fresh(page);
     }
 
     fn enter_fresh(&mut self, page: &mut Page) {
@@ -95,22 +130,22 @@ impl<T: Item> Table<T> {
         }
     }
 
-    /// The page was told, which had what changed and what is new.
-    fn tell_changes(&mut self, page: &Page, retention: Option<u64>) {
+    /// What changed was told. Gives how many entries that were.
+    fn tell_changes(&mut self, page: &Page, retention: Option<u64>) -> usize {
         for (entry, cell) in self.changed.iter().enumerate() {
             let place = cell.row().tell(T::entered(page, entry).now);
             note_close::<T>(&mut self.closed, page, entry, place, retention);
         }
-        self.tell_fresh(page, self.changed.len(), retention);
+        self.changed.len()
     }
 
-    /// The page was told, which had all items.
-    fn tell_all(&mut self, page: &Page, retention: Option<u64>) {
+    /// All told items were told again. Gives how many entries that were.
+    fn tell_all(&mut self, page: &Page, retention: Option<u64>) -> usize {
         for (entry, (place, cell)) in self.told.iter().enumerate() {
             cell.row().tell(T::entered(page, entry).now);
             note_close::<T>(&mut self.closed, page, entry, Some(*place), retention);
         }
-        self.tell_fresh(page, self.told.len(), retention);
+        self.told.len()
     }
 
     /// The new items became told ones. `entry` is the first of theirs.
@@ -210,36 +245,25 @@ pub(crate) struct Book {
 }
 
 impl Book {
+    fn tables(&mut self) -> [&mut dyn Told; 4] {
+        [&mut self.tasks, &mut self.resources, &mut self.ops, &mut self.counts]
+    }
+
     /// Empties the lists of a shard into those for the next line.
     pub(crate) fn take(&mut self, fresh: &mut Lists, changed: &mut Lists) {
-        self.tasks.take(fresh, changed);
-        self.resources.take(fresh, changed);
-        self.ops.take(fresh, changed);
-        self.counts.take(fresh, changed);
+        for table in self.tables() {
+            table.take(fresh, changed);
+        }
     }
 
     /// The line of what changed, and where items leave with it the line that says so behind it.
-    ///
-    /// The moment is read once the rows were, so that no moment in a line is above the line's own.
     pub(crate) fn publish(
         &mut self,
         dropped: Total,
         now: impl Fn() -> u64,
         retention: Option<u64>,
     ) -> Result<Vec<u8>, Fault> {
-        let mut page = Page::default();
-        self.tasks.enter_changes(&mut page);
-        self.resources.enter_changes(&mut page);
-        self.ops.enter_changes(&mut page);
-        self.counts.enter_changes(&mut page);
-        let moment = now();
-        let mut lines = page.line(&self.head(moment, dropped, false))?;
-        self.seq += 1;
-        self.tasks.tell_changes(&page, retention);
-        self.resources.tell_changes(&page, retention);
-        self.ops.tell_changes(&page, retention);
-        self.counts.tell_changes(&page, retention);
-        drop(page);
+        let (moment, mut lines) = self.line(Listed::Changed, dropped, now, retention)?;
         if let Some(retention) = retention {
             lines.extend(self.gone_line(moment, dropped, retention));
         }
@@ -253,18 +277,31 @@ impl Book {
         now: impl Fn() -> u64,
         retention: Option<u64>,
     ) -> Result<Vec<u8>, Fault> {
-        let mut page = Page::default();
-        self.tasks.enter_all(&mut page);
-        self.resources.enter_all(&mut page);
-        self.ops.enter_all(&mut page);
-        self.counts.enter_all(&mut page);
-        let line = page.line(&self.head(now(), dropped, true))?;
-        self.seq += 1;
-        self.tasks.tell_all(&page, retention);
-        self.resources.tell_all(&page, retention);
-        self.ops.tell_all(&page, retention);
-        self.counts.tell_all(&page, retention);
+        let (_, line) = self.line(Listed::All, dropped, now, retention)?;
         Ok(line)
+    }
+
+    /// A line of these items and the new ones, with its moment.
+    ///
+    /// The moment is read once the rows were, so that no moment in a line is above the line's own.
+    fn line(
+        &mut self,
+        listed: Listed,
+        dropped: Total,
+        now: impl Fn() -> u64,
+        retention: Option<u64>,
+    ) -> Result<(u64, Vec<u8>), Fault> {
+        let mut page = Page::default();
+        for table in self.tables() {
+            table.enter(listed, &mut page);
+        }
+        let moment = now();
+        let line = page.line(&self.head(moment, dropped, listed == Listed::All))?;
+        self.seq += 1;
+        for table in self.tables() {
+            table.tell(listed, &page, retention);
+        }
+        Ok((moment, line))
     }
 
     /// The line that says what leaves, or no bytes where nothing does, or where the line can't be made: what leaves then stays
