@@ -6,11 +6,12 @@ use Rattle.std.proofs.lemmas.Bool.{cases_lt, cases_eq}
 use Rattle.std.proofs.lemmas.Option.{slice_get_within}
 use Rattle.futures.specs.declared.task.Poll.{Poll}
 use Rattle.futures.specs.declared.task.Poll.TheVariants.{Ready, Pending}
+use Rattle.tk_ledgers.specs.Scopes.{Scoped}
 use Rattle.tk_exec.specs.Places.{value_at, values_at, AreKept}
 use Rattle.futures.specs.Poll.{IfReady, OnPending}
 use Rattle.tk_exec.specs.Seats.{Seat, Tasks, unfinished, outputs_of, output_or, LookedAt, PolledAt}
 use Rattle.tk_exec.specs.Turns.{ComesBefore, PassedOver, TurnPolls, TurnDoes}
-use Rattle.tk_exec.specs.Drives.{Driving, idle_after, EndsPolled, EndsIdle, IsOutput, Gives, GaveAll, Stalls, RanGives, DriverGives, OneTurn}
+use Rattle.tk_exec.specs.Drives.{Driving, idle_after, EndsPolled, EndsIdle, IsOutput, Gives, GaveAll, Finishes, Stalls, RanGives, DriverGives, OneTurn}
 use Rattle.tk_exec.specs.declared.driver.Ran.{Ran}
 use Rattle.tk_exec.specs.declared.driver.Ran.TheVariants.{Finished, Stalled}
 use Rattle.tk_exec.specs.declared.executor.Turn.{Turn}
@@ -128,7 +129,7 @@ behind_idle zero answer earlier p = p
 behind_idle (suc zero) answer earlier p = p
 behind_idle (suc (suc n)) answer earlier p = behind_idle (suc n) answer earlier p
 
-module _ {W A C : Type 0} (reads : C → ℕ → C → Type 0) (gives : W → A → Type 0) where
+module _ {W A C : Type 0} (reads : C → ℕ → C → Type 0) (polls : W → Scoped → Poll A → W → Scoped → Type 0) (gives : W → A → Type 0) where
   -- the task that stands at a place afterwards gives nothing that the one before didn't give
   abbrev NarrowsAt : Option (Seat W A) → Option (Seat W A) → Type 0
   NarrowsAt old new = (seat : Seat W A) → old ≡ Some seat → (left : Seat W A) × (new ≡ Some left) × ((x : A) → Gives gives left x → Gives gives seat x)
@@ -138,7 +139,7 @@ module _ {W A C : Type 0} (reads : C → ℕ → C → Type 0) (gives : W → A 
       let work = subst (λ (w : W). IsOutput new.out (gives w) x) looked.0.work gave in
       subst (λ (o : Option A). IsOutput o (gives old.task.work) x) looked.1 work
 
-  polled_narrows : (old new : Seat W A) (ready : Bool) (clock clock' : C) → PolledAt reads gives old ready new clock clock' → (x : A) → Gives gives new x → Gives gives old x
+  polled_narrows : (old new : Seat W A) (ready : Bool) (clock clock' : C) → PolledAt reads polls gives old ready new clock clock' → (x : A) → Gives gives new x → Gives gives old x
   polled_narrows old new ready clock clock' p x gave = subst (λ (o : Option A). IsOutput o (gives old.task.work) x) (sym p.unfinished) (by_answer p.answer p.out p.value p.same)
     where
       by_answer : (answer : Poll A) → new.out ≡ output_or answer old.out → IfReady answer (gives old.task.work) → OnPending answer ((y : A) → gives new.task.work y → gives old.task.work y) → gives old.task.work x
@@ -156,7 +157,7 @@ module _ {W A C : Type 0} (reads : C → ℕ → C → Type 0) (gives : W → A 
   same_narrows old new same seat there = (seat, same ∙ there, λ (x : A) gave. gave)
 
   module _ (old new : Tasks W A) (clock clock' : C) where
-    polls_narrow : (id : ℕ) (ready : Bool) → TurnPolls reads gives old new id ready clock clock' → (place : ℕ) → NarrowsAt (slice_get old.seats place) (slice_get new.seats place)
+    polls_narrow : (id : ℕ) (ready : Bool) → TurnPolls reads polls gives old new id ready clock clock' → (place : ℕ) → NarrowsAt (slice_get old.seats place) (slice_get new.seats place)
     polls_narrow id ready t place seat there = go (order old.next place t.place) seat there
       where
         go : (place ≡ t.place) ⊎ (ComesBefore old.next place t.place ⊎ ComesBefore old.next t.place place) → NarrowsAt (slice_get old.seats place) (slice_get new.seats place)
@@ -169,16 +170,16 @@ module _ {W A C : Type 0} (reads : C → ℕ → C → Type 0) (gives : W → A 
         go (inr (inl first)) seat there = passed_narrows _ _ (t.passed place (slice_get_within old.seats place seat there) first) seat there
         go (inr (inr later)) seat there = same_narrows _ _ (t.others place later) seat there
 
-    turn_narrows : (answer : Turn) → TurnDoes reads gives old answer new clock clock' → (place : ℕ) → NarrowsAt (slice_get old.seats place) (slice_get new.seats place)
+    turn_narrows : (answer : Turn) → TurnDoes reads polls gives old answer new clock clock' → (place : ℕ) → NarrowsAt (slice_get old.seats place) (slice_get new.seats place)
     turn_narrows (turns.Polled id ready) t place seat there = polls_narrow id ready t place seat there
     turn_narrows turns.Idle t place seat there = passed_narrows _ _ (t.passed place (slice_get_within old.seats place seat there)) seat there
 
-    as_long : (answer : Turn) → TurnDoes reads gives old answer new clock clock' → length new.seats ≡ length old.seats
+    as_long : (answer : Turn) → TurnDoes reads polls gives old answer new clock clock' → length new.seats ≡ length old.seats
     as_long (turns.Polled id ready) t = t.as_long
     as_long turns.Idle t = t.as_long
 
     -- what is given for all tasks after a turn is given before it
-    pub gave_before : (answer : Turn) → TurnDoes reads gives old answer new clock clock' → (outputs : List A) → GaveAll gives new.seats outputs → GaveAll gives old.seats outputs
+    pub gave_before : (answer : Turn) → TurnDoes reads polls gives old answer new clock clock' → (outputs : List A) → GaveAll gives new.seats outputs → GaveAll gives old.seats outputs
     gave_before answer t outputs gave = record {
       as_many = gave.as_many ∙ as_long answer t;
       each = λ place seat x there is. let n = turn_narrows answer t place seat there in n.2 x (gave.each place n.0 x n.1 is);
@@ -197,7 +198,7 @@ module _ {W A C : Type 0} (reads : C → ℕ → C → Type 0) (gives : W → A 
 
   module _ (old new : Tasks W A) (clock clock' : C) (idle max_idle n : ℕ) where
     -- a stall after this turn
-    pub stalls : (answer : Turn) → TurnDoes reads gives old answer new clock clock' → idle < max_idle → max_idle ≤ idle_after idle answer → unfinished old.seats ≢ 0 → n ≡ unfinished new.seats → Stalls reads gives old clock idle max_idle n
+    pub stalls : (answer : Turn) → TurnDoes reads polls gives old answer new clock clock' → idle < max_idle → max_idle ≤ idle_after idle answer → unfinished old.seats ≢ 0 → n ≡ unfinished new.seats → Stalls reads polls gives old clock idle max_idle n
     stalls (turns.Polled id ready) t less most some number = absurd (omega (arith, less, most))
     stalls turns.Idle t less most some number =
         let whole : max_idle ≡ idle + 1 = omega (arith, less, most) in
@@ -217,7 +218,7 @@ module _ {W A C : Type 0} (reads : C → ℕ → C → Type 0) (gives : W → A 
         }
 
     -- a stall later on
-    pub stalls_later : (answer : Turn) → TurnDoes reads gives old answer new clock clock' → Stalls reads gives new clock' (idle_after idle answer) max_idle n → Stalls reads gives old clock idle max_idle n
+    pub stalls_later : (answer : Turn) → TurnDoes reads polls gives old answer new clock clock' → Stalls reads polls gives new clock' (idle_after idle answer) max_idle n → Stalls reads polls gives old clock idle max_idle n
     stalls_later answer t s = record {
       answers = answer ∷ s.answers;
       left = s.left;
@@ -236,22 +237,41 @@ module _ {W A C : Type 0} (reads : C → ℕ → C → Type 0) (gives : W → A 
         }
         ends turns.Idle e = record { earlier = e.earlier; polled = e.polled; ends = idles_before idle s.answers ∙ e.ends }
 
+  -- all tasks are finished, and these are their outputs
+  pub finishes : (tasks : Tasks W A) (clock : C) (outputs : List A) → unfinished tasks.seats ≡ 0 → outputs ≡ outputs_of tasks.seats → GaveAll gives tasks.seats outputs × Finishes reads polls gives tasks clock outputs
+  finishes tasks clock outputs none given = (
+    subst (λ (l : List A). GaveAll gives tasks.seats l) (sym given) (all_gave gives tasks.seats none),
+    record { answers = []; left = tasks; clock' = clock; turned = (refl, refl); all = none; given = given },
+  )
+
+  -- they are finished later on
+  finishes_later : (old new : Tasks W A) (clock clock' : C) (answer : Turn) (outputs : List A) → TurnDoes reads polls gives old answer new clock clock'
+      → Finishes reads polls gives new clock' outputs → Finishes reads polls gives old clock outputs
+  finishes_later old new clock clock' answer outputs t f = record {
+    answers = answer ∷ f.answers;
+    left = f.left;
+    clock' = f.clock';
+    turned = (new, clock', t, f.turned);
+    all = f.all;
+    given = f.given;
+  }
+
   -- what the tasks of a driver may give
   pub driver_gives : (run : Option (Tasks W A)) (tasks : Tasks W A) (clock : C) (idle max_idle : ℕ) (driver : Driving W A C) (ran : Ran A)
-      → record { tasks = run; clock = clock; idle = idle; max_idle = max_idle } ≡ driver → run ≡ Some tasks → RanGives reads gives (Some tasks) clock idle max_idle ran → DriverGives reads gives driver ran
+      → record { tasks = run; clock = clock; idle = idle; max_idle = max_idle } ≡ driver → run ≡ Some tasks → RanGives reads polls gives (Some tasks) clock idle max_idle ran → DriverGives reads polls gives driver ran
   driver_gives run tasks clock idle max_idle driver ran view is gave =
-      subst (λ (d : Driving W A C). DriverGives reads gives d ran) view (subst (λ (r : Option (Tasks W A)). RanGives reads gives r clock idle max_idle ran) (sym is) gave)
+      subst (λ (d : Driving W A C). DriverGives reads polls gives d ran) view (subst (λ (r : Option (Tasks W A)). RanGives reads polls gives r clock idle max_idle ran) (sym is) gave)
 
   -- a driver made one turn
   pub one_turn : (run : Option (Tasks W A)) (before after : Tasks W A) (answer : Turn) (clock clock' : C) (idle idle' max_idle : ℕ) (driver : Driving W A C)
-      → record { tasks = run; clock = clock; idle = idle; max_idle = max_idle } ≡ driver → run ≡ Some before → TurnDoes reads gives before answer after clock clock' → idle' ≡ idle_after idle answer
-      → OneTurn reads gives driver (record { tasks = Some after; clock = clock'; idle = idle'; max_idle = max_idle })
-  one_turn run before after answer clock clock' idle idle' max_idle driver view is turned behind =
-      subst (λ (d : Driving W A C). OneTurn reads gives d (record { tasks = Some after; clock = clock'; idle = idle'; max_idle = max_idle })) view
-      (record { before = before; after = after; answer = answer; stood = is; stands = refl; turned = turned; idle = behind; most = refl })
+      → record { tasks = run; clock = clock; idle = idle; max_idle = max_idle } ≡ driver → run ≡ Some before → unfinished before.seats ≢ 0 → TurnDoes reads polls gives before answer after clock clock' → idle' ≡ idle_after idle answer
+      → OneTurn reads polls gives driver (record { tasks = Some after; clock = clock'; idle = idle'; max_idle = max_idle })
+  one_turn run before after answer clock clock' idle idle' max_idle driver view is some turned behind =
+      subst (λ (d : Driving W A C). OneTurn reads polls gives d (record { tasks = Some after; clock = clock'; idle = idle'; max_idle = max_idle })) view
+      (record { before = before; after = after; answer = answer; stood = is; waits = omega (arith, some); stands = refl; turned = turned; idle = behind; most = refl })
 
   -- what is given after a turn is given before it
-  pub given_before : (old new : Tasks W A) (clock clock' : C) (idle max_idle : ℕ) (answer : Turn) → TurnDoes reads gives old answer new clock clock'
-      → (ran : Ran A) → RanGives reads gives (Some new) clock' (idle_after idle answer) max_idle ran → RanGives reads gives (Some old) clock idle max_idle ran
-  given_before old new clock clock' idle max_idle answer t (Finished outputs) gave = gave_before old new clock clock' answer t outputs gave
+  pub given_before : (old new : Tasks W A) (clock clock' : C) (idle max_idle : ℕ) (answer : Turn) → TurnDoes reads polls gives old answer new clock clock'
+      → (ran : Ran A) → RanGives reads polls gives (Some new) clock' (idle_after idle answer) max_idle ran → RanGives reads polls gives (Some old) clock idle max_idle ran
+  given_before old new clock clock' idle max_idle answer t (Finished outputs) gave = (gave_before old new clock clock' answer t outputs gave.0, finishes_later old new clock clock' answer outputs t gave.1)
   given_before old new clock clock' idle max_idle answer t (Stalled n) s = stalls_later old new clock clock' idle max_idle n answer t s

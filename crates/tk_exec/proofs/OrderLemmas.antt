@@ -15,6 +15,7 @@ use Rattle.indexmap.proofs.CallerLemmas.{insert_entry-new}
 use Rattle.futures.specs.declared.task.Poll.{Poll}
 use Rattle.futures.specs.declared.task.Poll.TheVariants.{Ready, Pending}
 use Rattle.tk_ledgers.specs.Tasks.{TaskSight}
+use Rattle.tk_ledgers.specs.Scopes.{Scoped}
 use Rattle.tk_exec.specs.Polls.{Tracked}
 use Rattle.tk_exec.specs.Places.{value_at, values_at, AreKept, ids_of, IsOnlyAt, AreOrdered}
 use Rattle.tk_exec.specs.Seats.{Seat, Tasks, LookedAt, PolledAt, unfinished, is_ready, output_or}
@@ -144,7 +145,7 @@ module _ {W A : Type 0} where
       pub looked_ordered : (v : Seat W A) (scheduled : Bool) → LookedAt old scheduled v → AreOrdered (slice_set slots k (Some v)) es next count
       looked_ordered v scheduled looked = ordered_write v next count looked.0.id are.within (ap (λ (o : Option A). cond (not (is_some o)) 1 0 + count) (sym looked.1))
 
-      module _ {C : Type 0} (reads : C → ℕ → C → Type 0) (gives : W → A → Type 0) (ready : Bool) (v : Seat W A) (clock clock' : C) (p : PolledAt reads gives old ready v clock clock') where
+      module _ {C : Type 0} (reads : C → ℕ → C → Type 0) (polls : W → Scoped → Poll A → W → Scoped → Type 0) (gives : W → A → Type 0) (ready : Bool) (v : Seat W A) (clock clock' : C) (p : PolledAt reads polls gives old ready v clock clock') where
         pub polled_counted : 1 ≤ count
         polled_counted = let some = some_unfinished (values_at slots (values_of es)) place old old_stood p.unfinished in omega (arith, some, are.counted)
 

@@ -38,6 +38,17 @@ module _ (a s w e : TaskSight) (first second : ℕ) (entries : TaskEntries) (p :
       (grows_more a s w (starts first) entries p q)
       (grows_more w e c (ends second) (closes second) r t)
 
+-- an end, and a close behind it
+pub over_and_shut : (w e c : TaskSight) (second : ℕ) → Grows w (ends second) e → Grows e (closes second) c → Grows w (entry 0 (PollEnd second) Done ∷ closes second) c
+over_and_shut w e c second r t = grows_more w e c (ends second) (closes second) r t
+
+-- what grew up to an owner, or from it, where the scope holds it
+pub grows_to : {entries : TaskEntries} (a s w : TaskSight) → w ≡ s → Grows a entries s → Grows a entries w
+grows_to {entries} a s w same g = subst (λ (h : TaskSight). Grows a entries h) (sym same) g
+
+pub grows_from : {entries : TaskEntries} (w s b : TaskSight) → s ≡ w → Grows s entries b → Grows w entries b
+grows_from {entries} w s b same g = subst (λ (h : TaskSight). Grows h entries b) same g
+
 -- what grew in the scope, of the owner that went into it and came out
 pub grew_in : (s w : TaskSight) (a b : Scoped) → a.owner ≡ s → w ≡ b.owner → (g : ScopeGrows a b) → Grows s g.entries w
 grew_in s w a b e f g = subst (λ (h : TaskSight). Grows s g.entries h) (sym f) (subst (λ (h : TaskSight). Grows h g.entries b.owner) e g.grows)

@@ -3,7 +3,9 @@ use Rattle.std.proofs.Common.{◌≡◌, ◌≢◌, ℕ, ◌+◌, ◌<◌, ◌�
 use Rattle.std.specs.Prelude.{is_some, IfSome}
 use Rattle.std.specs.List.{slice_get}
 use Rattle.std.proofs.lemmas.Bool.{cases_lt, cases_eq}
+use Rattle.futures.specs.declared.task.Poll.{Poll}
 use Rattle.tk_ledgers.specs.Tasks.{TaskSight}
+use Rattle.tk_ledgers.specs.Scopes.{Scoped}
 use Rattle.tk_exec.specs.Seats.{OwnerReads, Seat, Tasks, LookedAt, PolledAt, ChangesAt}
 use Rattle.tk_exec.specs.Turns.{ComesBefore, PassedOver, Passed, Found, PollsAt, TurnIdles, TurnDoes}
 use Rattle.tk_exec.specs.declared.executor.Turn.{Turn}
@@ -102,8 +104,8 @@ module _ {W A : Type 0} where
       later_same i (inl (from, later)) = absurd (omega (arith, high))
       later_same i (inr (a, b, later)) = f.change.others i (λ is. absurd (omega (arith, is))) ∙ (f.passed.others i (inr (omega arith)) ∙ p.others i (inl b))
 
-  module _ {C : Type 0} (reads : C → ℕ → C → Type 0) (gives : W → A → Type 0) (old mid new : Tasks W A) (clock clock' : C) where
-    pub turn_polls : (place : ℕ) (answer : Turn) → Shown old.next place old.seats mid.seats → PollsAt reads gives place mid.seats answer new.seats clock clock' → new.next ≡ place + 1 → TurnDoes reads gives old answer new clock clock'
+  module _ {C : Type 0} (reads : C → ℕ → C → Type 0) (polls : W → Scoped → Poll A → W → Scoped → Type 0) (gives : W → A → Type 0) (old mid new : Tasks W A) (clock clock' : C) where
+    pub turn_polls : (place : ℕ) (answer : Turn) → Shown old.next place old.seats mid.seats → PollsAt reads polls gives place mid.seats answer new.seats clock clock' → new.next ≡ place + 1 → TurnDoes reads polls gives old answer new clock clock'
     turn_polls place turns.Idle s p next = absurd p
     turn_polls place (turns.Polled id ready) s p next =
         let change = p.change in
@@ -117,7 +119,7 @@ module _ {W A : Type 0} where
           stands = change.stands;
           named = p.named ∙ (ap (λ (seat : Seat W A). seat.task.id) same ∙ s.looked.0.id);
           looked = s.looked;
-          polled = subst (λ (seat : Seat W A). PolledAt reads gives seat ready change.after clock clock') same p.polled;
+          polled = subst (λ (seat : Seat W A). PolledAt reads polls gives seat ready change.after clock clock') same p.polled;
           passed = λ i less first. carry (s.passed i less first) refl (change.others i (not_after i first));
           others = λ i later. change.others i (not_before i later) ∙ s.others i later;
           as_long = change.as_long ∙ s.as_long;

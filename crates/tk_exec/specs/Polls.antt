@@ -6,7 +6,7 @@ use Rattle.tk_core.specs.declared.reply.Reply.TheVariants.{Done}
 use Rattle.tk_core.specs.declared.task.call.TaskCall.TheVariants.{PollStart, PollEnd, Close}
 use Rattle.tk_cell.specs.Calls.{entry}
 use Rattle.tk_ledgers.specs.Tasks.{TaskSight, TaskEntries, is_polling}
-use Rattle.tk_ledgers.specs.Scopes.{Grows, AreOfScope}
+use Rattle.tk_ledgers.specs.Scopes.{Scoped, Grows, ScopeGrows}
 
 -- what contracts see of an instrumented work: its task, its owner until it is finished and its receipt from then on, and the work
 pub record Tracked (W : Type 0) : Type 0 where
@@ -39,18 +39,25 @@ abbrev pub Leaves : {A W : Type 0} → Poll A → TaskSight → Tracked W → Ty
 Leaves (Ready x) after new = (new.owner ≡ None) × (new.receipt ≡ Some after)
 Leaves Pending after new = (new.owner ≡ Some after) × (new.receipt ≡ None)
 
--- one poll of a work: the clock is read twice, and the owner's list grows by the entries of one poll, with calls of its scope alone in between
-pub record Polled {A C W : Type 0} (reads : C → ℕ → C → Type 0) (answer : Poll A) (old new : Tracked W) (clock clock' : C) : Type 0 where
+-- one poll of a work: the clock is read twice; the owner starts a poll at the first moment, the work is polled once in a scope of that moment, and the owner ends the poll at the second
+pub record Polled {A C W : Type 0} (reads : C → ℕ → C → Type 0) (polls : W → Scoped → Poll A → W → Scoped → Type 0) (answer : Poll A) (old new : Tracked W) (clock clock' : C) : Type 0 where
   pub before : TaskSight
   pub after : TaskSight
   pub first : ℕ
   pub between : C
   pub second : ℕ
-  pub entries : TaskEntries
   pub id : new.id ≡ old.id
   pub was : old.owner ≡ Some before
   pub leaves : Leaves answer after new
   pub reads_first : reads clock first between
   pub reads_second : reads between second clock'
-  pub of_scope : AreOfScope entries
-  pub grows : Grows before (poll_entries answer first entries second) after
+  -- the scope that the work was lent, and what it left of it
+  pub scope : Scoped
+  pub scope' : Scoped
+  pub moment : scope.moment ≡ first
+  pub starts : Grows before (entry 0 (PollStart first) Done ∷ []) scope.owner
+  pub work : polls old.work scope answer new.work scope'
+  pub scoped : ScopeGrows scope scope'
+  pub ends : Grows scope'.owner (entry 0 (PollEnd second) Done ∷ closing answer second) after
+  -- so the owner's list grows by the entries of one poll
+  pub grows : Grows before (poll_entries answer first scoped.entries second) after

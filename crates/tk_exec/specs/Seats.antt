@@ -9,7 +9,7 @@ use Rattle.tk_core.specs.declared.task.row.TaskRow.{TaskRow}
 use Rattle.tk_core.specs.declared.task.call.TaskCall.TheVariants.{Read}
 use Rattle.tk_cell.specs.Calls.{entry}
 use Rattle.tk_ledgers.specs.Tasks.{TaskSight}
-use Rattle.tk_ledgers.specs.Scopes.{Grows}
+use Rattle.tk_ledgers.specs.Scopes.{Scoped, Grows}
 use Rattle.tk_exec.specs.Polls.{Tracked, Polled}
 
 -- a task, and its output once it is finished
@@ -58,9 +58,9 @@ module _ {W A : Type 0} where
   LookedAt old scheduled new = IsRead old.task scheduled new.task × (new.out ≡ old.out)
 
   -- a task that isn't finished was polled once: where its work is ready the output is kept, which the work gives
-  pub record PolledAt {C : Type 0} (reads : C → ℕ → C → Type 0) (gives : W → A → Type 0) (old : Seat W A) (ready : Bool) (new : Seat W A) (clock clock' : C) : Type 0 where
+  pub record PolledAt {C : Type 0} (reads : C → ℕ → C → Type 0) (polls : W → Scoped → Poll A → W → Scoped → Type 0) (gives : W → A → Type 0) (old : Seat W A) (ready : Bool) (new : Seat W A) (clock clock' : C) : Type 0 where
     pub answer : Poll A
-    pub polled : Polled reads answer old.task new.task clock clock'
+    pub polled : Polled reads polls answer old.task new.task clock clock'
     pub unfinished : old.out ≡ None
     pub is : ready ≡ is_ready answer
     pub out : new.out ≡ output_or answer old.out

@@ -1,7 +1,9 @@
 -- What an executor does: its turns, and what is put in and taken out.
 use Rattle.std.specs.Prelude.{◌≡◌, ℕ, ◌+◌, ◌<◌, ◌≤◌, ◌⊎◌, Bool, true, false, List, length, Option, Some, is_some}
 use Rattle.std.specs.List.{slice_get, remove}
+use Rattle.futures.specs.declared.task.Poll.{Poll}
 use Rattle.tk_ledgers.specs.Tasks.{TaskSight}
+use Rattle.tk_ledgers.specs.Scopes.{Scoped}
 use Rattle.tk_exec.specs.Seats.{Seat, Tasks, LookedAt, PolledAt, ChangesAt}
 use Rattle.tk_exec.specs.declared.error.ExecError.{ExecError}
 use Rattle.tk_exec.specs.declared.error.ExecError.TheVariants as errors
@@ -37,18 +39,18 @@ module _ {W A : Type 0} where
     pub looked : LookedAt change.before true change.after
 
   -- the task at one place was polled
-  pub record PolledThere {C : Type 0} (reads : C → ℕ → C → Type 0) (gives : W → A → Type 0) (place : ℕ) (old : List (Seat W A)) (id : ℕ) (ready : Bool) (new : List (Seat W A)) (clock clock' : C) : Type 0 where
+  pub record PolledThere {C : Type 0} (reads : C → ℕ → C → Type 0) (polls : W → Scoped → Poll A → W → Scoped → Type 0) (gives : W → A → Type 0) (place : ℕ) (old : List (Seat W A)) (id : ℕ) (ready : Bool) (new : List (Seat W A)) (clock clock' : C) : Type 0 where
     pub change : ChangesAt place old new
     pub named : id ≡ change.before.task.id
-    pub polled : PolledAt reads gives change.before ready change.after clock clock'
+    pub polled : PolledAt reads polls gives change.before ready change.after clock clock'
 
   -- the answer names the task at one place that was polled
-  abbrev pub PollsAt : {C : Type 0} → (C → ℕ → C → Type 0) → (W → A → Type 0) → ℕ → List (Seat W A) → Turn → List (Seat W A) → C → C → Type 0
-  PollsAt reads gives place old (turns.Polled id ready) new clock clock' = PolledThere reads gives place old id ready new clock clock'
-  PollsAt reads gives place old turns.Idle new clock clock' = ⊥
+  abbrev pub PollsAt : {C : Type 0} → (C → ℕ → C → Type 0) → (W → Scoped → Poll A → W → Scoped → Type 0) → (W → A → Type 0) → ℕ → List (Seat W A) → Turn → List (Seat W A) → C → C → Type 0
+  PollsAt reads polls gives place old (turns.Polled id ready) new clock clock' = PolledThere reads polls gives place old id ready new clock clock'
+  PollsAt reads polls gives place old turns.Idle new clock clock' = ⊥
 
   -- a turn that polls a task: each task before it in the order of the turn was passed over, it shows scheduled and is polled, and those after it stay; the next turn begins after it
-  pub record TurnPolls {C : Type 0} (reads : C → ℕ → C → Type 0) (gives : W → A → Type 0) (old new : Tasks W A) (id : ℕ) (ready : Bool) (clock clock' : C) : Type 0 where
+  pub record TurnPolls {C : Type 0} (reads : C → ℕ → C → Type 0) (polls : W → Scoped → Poll A → W → Scoped → Type 0) (gives : W → A → Type 0) (old new : Tasks W A) (id : ℕ) (ready : Bool) (clock clock' : C) : Type 0 where
     pub place : ℕ
     pub before : Seat W A
     pub read : Seat W A
@@ -57,7 +59,7 @@ module _ {W A : Type 0} where
     pub stands : slice_get new.seats place ≡ Some after
     pub named : id ≡ before.task.id
     pub looked : LookedAt before true read
-    pub polled : PolledAt reads gives read ready after clock clock'
+    pub polled : PolledAt reads polls gives read ready after clock clock'
     pub passed : (i : ℕ) → i < length old.seats → ComesBefore old.next i place → PassedOver (slice_get old.seats i) (slice_get new.seats i)
     pub others : (i : ℕ) → ComesBefore old.next place i → slice_get new.seats i ≡ slice_get old.seats i
     pub as_long : length new.seats ≡ length old.seats
@@ -71,9 +73,9 @@ module _ {W A : Type 0} where
     pub unread : clock' ≡ clock
 
   -- what a turn does, by what it answers
-  abbrev pub TurnDoes : {C : Type 0} → (C → ℕ → C → Type 0) → (W → A → Type 0) → Tasks W A → Turn → Tasks W A → C → C → Type 0
-  TurnDoes reads gives old (turns.Polled id ready) new clock clock' = TurnPolls reads gives old new id ready clock clock'
-  TurnDoes reads gives old turns.Idle new clock clock' = TurnIdles old new clock clock'
+  abbrev pub TurnDoes : {C : Type 0} → (C → ℕ → C → Type 0) → (W → Scoped → Poll A → W → Scoped → Type 0) → (W → A → Type 0) → Tasks W A → Turn → Tasks W A → C → C → Type 0
+  TurnDoes reads polls gives old (turns.Polled id ready) new clock clock' = TurnPolls reads polls gives old new id ready clock clock'
+  TurnDoes reads polls gives old turns.Idle new clock clock' = TurnIdles old new clock clock'
 
   -- a task of this id is held
   abbrev pub HoldsId : List (Seat W A) → ℕ → Type 0

@@ -1,5 +1,5 @@
 //! A future that drives an executor.
-ghost use Rattle.std.specs.Prelude.{◌≡◌, ◌+◌, ◌<◌, ◌≤◌, ◌^◌, Some, IfOk, IfErr};
+ghost use Rattle.std.specs.Prelude.{◌≡◌, ◌+◌, ◌<◌, ◌≤◌, ◌^◌, Some, None, IfOk, IfErr};
 ghost use Rattle.tk_exec.specs.declared.error.ExecError.TheVariants.{Memory};
 ghost use Rattle.tk_exec.specs.Drives.{idle_after};
 
@@ -96,13 +96,14 @@ impl<R: Wait, W: Work, C: Clock + Drop> Future for Driver<'_, R, W, C> {
 
     type Output = Ran<W::Out>;
 
-    ghost gives = { λ driver ran. DriverGives C.reads W.gives driver ran };
+    ghost gives = { λ driver ran. DriverGives C.reads W.polls W.gives driver ran };
 
     fn poll(&mut self, cx: &mut Context<'_>) -> Poll<Ran<W::Out>>
-        ensures value { IfReady result (DriverGives C.reads W.gives self.old) }
+        ensures value { IfReady result (DriverGives C.reads W.polls W.gives self.old) }
         ensures again { OnPending result ⊤ }
-        ensures same { OnPending result ((x : _) → DriverGives C.reads W.gives self.new x → DriverGives C.reads W.gives self.old x) }
-        ensures turned { OnPending result (OneTurn C.reads W.gives self.old self.new) }
+        ensures same { OnPending result ((x : _) → DriverGives C.reads W.polls W.gives self.new x → DriverGives C.reads W.polls W.gives self.old x) }
+        ensures spent { IfReady result (λ ran. self.new.tasks ≡ None) }
+        ensures turned { OnPending result (OneTurn C.reads W.polls W.gives self.old self.new) }
         ensures registered { OnPending result (Covers cx.new (λ _. ⊥)) }
         ensures kept { Keeps cx.old cx.new }
     {

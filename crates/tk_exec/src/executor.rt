@@ -151,7 +151,7 @@ impl<W: Work> Executor<W> {
         requires within { place < length self.old.seats }
         requires going { IfSome (slice_get self.old.seats place) (λ seat. is_some seat.task.owner ≡ true) }
         ensures next { self.new.next ≡ place + 1 }
-        ensures polled { PollsAt C.reads W.gives place self.old.seats result self.new.seats clock.old clock.new }
+        ensures polled { PollsAt C.reads W.polls W.gives place self.old.seats result self.new.seats clock.old clock.new }
     {
         let key = self.order[place];
         let id = self.tasks[key].id();
@@ -182,7 +182,7 @@ impl<W: Work> Executor<W> {
     /// Goes through the unfinished tasks in order of spawn, beginning after the task that was polled last and ending
     /// with it. Each owner reads once, until one shows scheduled; that task alone is polled.
     pub fn turn<R: Wait, C: Clock>(&mut self, rt: &R, clock: &mut C) -> Turn
-        ensures { TurnDoes C.reads W.gives self.old result self.new clock.old clock.new }
+        ensures { TurnDoes C.reads W.polls W.gives self.old result self.new clock.old clock.new }
     {
         let next = self.next;
         let last = self.order.len();

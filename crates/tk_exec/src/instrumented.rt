@@ -91,7 +91,7 @@ impl<W: Work> Instrumented<W> {
         ensures open { is_ok result ≡ is_some self.old.owner }
         ensures closed { IfErr result (λ refusal. refusal ≡ Closed) }
         ensures left { OnErr result ((self.new ≡ self.old) × (clock.new ≡ clock.old)) }
-        ensures polled { IfOk result (λ answer. Polled C.reads answer self.old self.new clock.old clock.new) }
+        ensures polled { IfOk result (λ answer. Polled C.reads W.polls answer self.old self.new clock.old clock.new) }
         ensures value { IfOk result (λ answer. IfReady answer (W.gives self.old.work)) }
         ensures same { IfOk result (λ answer. OnPending answer ((x : _) → W.gives self.new.work x → W.gives self.old.work x)) }
     {

@@ -1,6 +1,6 @@
 //! Works that are polled by hand, in polls that the ledgers of their tasks record.
 //!
-//! - [`Work`]: a future written by hand; [`Clock`]: what tells the moments of polls.
+//! - [`Work`]: a future written by hand; [`Clock`]: what tells the moments of polls; [`SystemClock`]: the machine's.
 //! - [`Instrumented`]: a work and the owner of its task. Each poll of the work is a poll of the task.
 //! - [`Executor`]: tasks that are polled in turn, where they are scheduled; [`Turn`]: what a turn did.
 //! - [`Driver`]: a future that makes turns until all tasks are finished, or none is scheduled; [`Ran`] and [`Outputs`]: its answer.
@@ -14,6 +14,7 @@ mod instrumented;
 mod outputs;
 mod run;
 mod slot;
+mod system_clock;
 mod work;
 mod works;
 
@@ -22,5 +23,6 @@ pub use error::ExecError;
 pub use executor::{Executor, Turn};
 pub use instrumented::Instrumented;
 pub use outputs::Outputs;
+pub use system_clock::SystemClock;
 pub use work::{Clock, Work};
 pub use works::{BusyUntil, Example, HoldWaker, LoseWaker, YieldTimes};

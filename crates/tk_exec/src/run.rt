@@ -52,7 +52,7 @@ impl<W: Work> Run<W> {
 
     /// Makes one turn.
     pub fn turn<R: Wait, C: Clock>(&mut self, rt: &R, clock: &mut C) -> Turn
-        ensures { TurnDoes C.reads W.gives self.old result self.new clock.old clock.new }
+        ensures { TurnDoes C.reads W.polls W.gives self.old result self.new clock.old clock.new }
     {
         self.executor.turn(rt, clock)
     }

@@ -89,7 +89,7 @@ impl<W: Work> Slot<W> {
     /// Polls the task once, and keeps its output.
     pub fn poll<R: Wait, C: Clock>(&mut self, rt: &R, clock: &mut C) -> bool
         requires { is_some self.old.task.owner ≡ true }
-        ensures { PolledAt C.reads W.gives self.old result self.new clock.old clock.new }
+        ensures { PolledAt C.reads W.polls W.gives self.old result self.new clock.old clock.new }
     {
         match self.task.poll_once(rt, clock) {
             Ok(Poll::Ready(out)) => {

@@ -24,11 +24,13 @@ impl BusyUntil {
 }
 
 impl Work for BusyUntil {
-    ghost use Rattle.tk_exec.specs.Works.{busy_gives};
+    ghost use Rattle.tk_exec.specs.Works.{busy_gives, busy_polls};
 
     type Out = u64;
 
     ghost gives = { busy_gives };
+
+    ghost polls = { busy_polls };
 
     fn poll<R: Wait>(&mut self, rt: &R, scope: &mut PollScope) -> Poll<u64> {
         self.polls = self.polls.saturating_add(1);

@@ -20,11 +20,13 @@ pub enum Example {
 }
 
 impl Work for Example {
-    ghost use Rattle.tk_exec.specs.Works.{example_gives};
+    ghost use Rattle.tk_exec.specs.Works.{example_gives, example_polls};
 
     type Out = u64;
 
     ghost gives = { example_gives };
+
+    ghost polls = { example_polls };
 
     fn poll<R: Wait>(&mut self, rt: &R, scope: &mut PollScope) -> Poll<u64> {
         match self {

@@ -24,11 +24,13 @@ impl YieldTimes {
 }
 
 impl Work for YieldTimes {
-    ghost use Rattle.tk_exec.specs.Works.{yield_gives};
+    ghost use Rattle.tk_exec.specs.Works.{yield_gives, yield_polls};
 
     type Out = u64;
 
     ghost gives = { yield_gives };
+
+    ghost polls = { yield_polls };
 
     fn poll<R: Wait>(&mut self, rt: &R, scope: &mut PollScope) -> Poll<u64> {
         self.polls = self.polls.saturating_add(1);

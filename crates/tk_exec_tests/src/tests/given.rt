@@ -48,7 +48,7 @@ pub(super) fn owner<R: Wait>(rt: &R, alloc: Global, n: u64) -> Option<TaskOwner>
 }
 
 // This owner's task with this work, if it has no open poll.
-fn at_rest<W: Work>(owner: TaskOwner, work: W) -> Option<Instrumented<W>>
+pub(super) fn at_rest<W: Work>(owner: TaskOwner, work: W) -> Option<Instrumented<W>>
     ensures { IfSome result (λ t. is_some t.receipt ≡ false) }
 {
     if owner.is_polling() {

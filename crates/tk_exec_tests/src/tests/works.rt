@@ -1,10 +1,10 @@
 //! The example works, polled to their ends.
 
-use super::given::{Ticks, id, task};
+use super::given::{Ticks, at_rest, id, owner, task};
 use futures::task::Poll;
 use std::alloc::Global;
 use std::sync::Wait;
-use tk_core::Refusal;
+use tk_core::{Refusal, TaskRow};
 use tk_exec::{BusyUntil, Example, HoldWaker, Instrumented, LoseWaker, YieldTimes};
 
 // Whether it is finished, and a further poll is refused.
@@ -82,4 +82,35 @@ fn an_id_is_kept(rt: HostRuntime) {
         Some(tracked) => assert!(rt; Some(tracked.id()) == id(7)),
         None => assert!(rt; false, "no task"),
     }
+}
+
+// The row of a task whose work was polled so many times.
+fn row_behind<R: Wait>(rt: &R, alloc: Global, work: Example, polls: u64) -> Option<TaskRow> {
+    let mut owner = owner(rt, alloc, 1)?;
+    let mut inspector = owner.inspect(rt).ok()?;
+    let mut tracked = at_rest(owner, work)?;
+    let mut clock = Ticks::new();
+    for _ in 0..polls {
+        tracked.poll_once(rt, &mut clock).ok()?;
+    }
+    Some(inspector.read(rt))
+}
+
+// Its own wakes, its clones and its drops.
+fn leaves<R: Wait>(rt: &R, alloc: Global, work: Example, polls: u64, wanted: (u64, u64, u64)) -> bool {
+    match row_behind(rt, alloc, work, polls) {
+        Some(row) => (row.self_wakes, row.clones, row.drops) == wanted,
+        None => false,
+    }
+}
+
+// What a work does in its polls stands in the row of its task: no contract says it of a work.
+#[test]
+fn works_wake_clone_and_release(rt: HostRuntime) {
+    let alloc = rt.alloc();
+    assert!(rt; leaves(&rt, alloc, Example::Yield(YieldTimes::new(2)), 2, (2, 0, 0)), "yields");
+    assert!(rt; leaves(&rt, alloc, Example::Hold(HoldWaker::new()), 1, (0, 1, 0)), "holds");
+    assert!(rt; leaves(&rt, alloc, Example::Hold(HoldWaker::new()), 2, (0, 1, 1)), "releases");
+    assert!(rt; leaves(&rt, alloc, Example::Lose(LoseWaker::new()), 3, (0, 3, 3)), "loses");
+    assert!(rt; leaves(&rt, alloc, Example::Busy(BusyUntil::new(4)), 2, (2, 0, 0)), "is busy");
 }

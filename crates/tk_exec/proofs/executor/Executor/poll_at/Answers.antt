@@ -36,7 +36,7 @@ invariant_of-self g c =
     let less = within c.self.inside.tasks.slots (values_of c.self.inside.order.entries) c.self.invariant.kept c.self.inside.next c.args.self.now c.args.place c.self.view_is c.requires.within in
     let is : c.index-key.result.now ≡ slice_index_or (values_of c.self.inside.order.entries) c.args.place 0 = key_at c.self.inside.order.entries c.args.place c.index-key.result.now c.index-key.ensures in
     polled_ordered c.self.inside.tasks.slots c.self.inside.order.entries c.self.inside.next c.self.inside.unfinished c.self.invariant c.args.place less c.index-key.result.now is c.index_mut.result.now c.index_mut.ensures.value
-    g.C.Clock.reads g.W.Work.gives c.poll-ready.result c.poll-ready.new.self c.args.clock.now c.poll-ready.new.clock c.poll-ready.ensures c.unfinished_after-self-inside.result c.unfinished_after-self-inside.ensures
+    g.C.Clock.reads g.W.Work.polls g.W.Work.gives c.poll-ready.result c.poll-ready.new.self c.args.clock.now c.poll-ready.new.clock c.poll-ready.ensures c.unfinished_after-self-inside.result c.unfinished_after-self-inside.ensures
 
 pub returns-clause-polled : goal.returns-clause-polled
 returns-clause-polled g c =
@@ -45,7 +45,7 @@ returns-clause-polled g c =
     let named : c.id-id.result ≡ c.index_mut.result.now.task.id = search rules in
     let there =
     write_there c.self.inside.tasks.slots (values_of c.self.inside.order.entries) c.self.invariant.kept c.args.place less c.index-key.result.now is c.self.inside.next c.args.self.now c.self.view_is c.index_mut.result.now c.poll-ready.new.self
-    (λ (before after : Seat g.row.W.Denot g.row.W-Out.Denot). (c.id-id.result ≡ before.task.id) × PolledAt g.C.Clock.reads g.W.Work.gives before c.poll-ready.result after c.args.clock.now c.poll-ready.new.clock) c.index_mut.ensures.value (named, c.poll-ready.ensures) in
+    (λ (before after : Seat g.row.W.Denot g.row.W-Out.Denot). (c.id-id.result ≡ before.task.id) × PolledAt g.C.Clock.reads g.W.Work.polls g.W.Work.gives before c.poll-ready.result after c.args.clock.now c.poll-ready.new.clock) c.index_mut.ensures.value (named, c.poll-ready.ensures) in
     record { change = there.0; named = there.1.0; polled = there.1.1 }
 
 pub unfinished_after-self-inside-requires : goal.unfinished_after-self-inside-requires
@@ -53,4 +53,4 @@ unfinished_after-self-inside-requires g c =
     let less = within c.self.inside.tasks.slots (values_of c.self.inside.order.entries) c.self.invariant.kept c.self.inside.next c.args.self.now c.args.place c.self.view_is c.requires.within in
     let is : c.index-key.result.now ≡ slice_index_or (values_of c.self.inside.order.entries) c.args.place 0 = key_at c.self.inside.order.entries c.args.place c.index-key.result.now c.index-key.ensures in
     polled_counted c.self.inside.tasks.slots c.self.inside.order.entries c.self.inside.next c.self.inside.unfinished c.self.invariant c.args.place less c.index-key.result.now is c.index_mut.result.now c.index_mut.ensures.value
-    g.C.Clock.reads g.W.Work.gives c.poll-ready.result c.poll-ready.new.self c.args.clock.now c.poll-ready.new.clock c.poll-ready.ensures
+    g.C.Clock.reads g.W.Work.polls g.W.Work.gives c.poll-ready.result c.poll-ready.new.self c.args.clock.now c.poll-ready.new.clock c.poll-ready.ensures

@@ -25,7 +25,7 @@ pub returns-in-Some : goal.returns-in-Some
 returns-in-Some g c =
     let begin : c.self.inside.next ≡ c.args.self.now.next = ap (λ (t : Tasks g.row.W.Denot g.row.W-Out.Denot). t.next) c.self.view_is in
     let f = subst (λ (n : ℕ). Found n c.len-last.result c.in-Some.place c.args.self.now.seats c.scheduled_between.new.self.seats) begin c.in-Some.ensures.some in
-    turn_polls g.C.Clock.reads g.W.Work.gives c.args.self.now c.scheduled_between.new.self c.poll_at.new.self c.args.clock.now c.poll_at.new.clock c.in-Some.place c.poll_at.result
+    turn_polls g.C.Clock.reads g.W.Work.polls g.W.Work.gives c.args.self.now c.scheduled_between.new.self c.poll_at.new.self c.args.clock.now c.poll_at.new.clock c.in-Some.place c.poll_at.result
     (found_first c.args.self.now.next c.len-last.result c.in-Some.place c.args.self.now.seats c.scheduled_between.new.self.seats f) c.poll_at.ensures.polled c.poll_at.ensures.next
 
 pub scheduled_between-requires-2-clause-within : goal.scheduled_between-requires-2-clause-within
@@ -55,7 +55,7 @@ returns-in-Some-scheduled_between g c =
     let p = subst (λ (n : ℕ). Passed n (length c.args.self.now.seats) c.args.self.now.seats c.scheduled_between.new.self.seats) begin
     (subst (λ (n : ℕ). Passed c.self.inside.next n c.args.self.now.seats c.scheduled_between.new.self.seats) last c.in_default.ensures.none) in
     let f = subst (λ (n : ℕ). Found 0 n c.in-Some-scheduled_between.place c.scheduled_between.new.self.seats c.scheduled_between-2.new.self.seats) begin c.in-Some-scheduled_between.ensures.some in
-    turn_polls g.C.Clock.reads g.W.Work.gives c.args.self.now c.scheduled_between-2.new.self c.poll_at-in-Some-scheduled_between.new.self c.args.clock.now c.poll_at-in-Some-scheduled_between.new.clock c.in-Some-scheduled_between.place c.poll_at-in-Some-scheduled_between.result
+    turn_polls g.C.Clock.reads g.W.Work.polls g.W.Work.gives c.args.self.now c.scheduled_between-2.new.self c.poll_at-in-Some-scheduled_between.new.self c.args.clock.now c.poll_at-in-Some-scheduled_between.new.clock c.in-Some-scheduled_between.place c.poll_at-in-Some-scheduled_between.result
     (found_second c.args.self.now.next c.in-Some-scheduled_between.place c.args.self.now.seats c.scheduled_between.new.self.seats c.scheduled_between-2.new.self.seats p f) c.poll_at-in-Some-scheduled_between.ensures.polled c.poll_at-in-Some-scheduled_between.ensures.next
 
 pub returns : goal.returns

@@ -1,9 +1,10 @@
-use Rattle.std.proofs.Common.{not, refl, ap, sym, ◌∙◌, true≢false}
+use Rattle.std.proofs.Common.{not, refl, ap, sym, subst, ◌∙◌, true≢false}
+use Rattle.futures.specs.declared.task.Poll.TheVariants.{Ready, Pending}
 use Rattle.tk_core.specs.declared.reply.Reply.TheVariants.{Done}
 use Rattle.tk_core.specs.declared.task.call.TaskCall.TheVariants.{PollStart, PollEnd, Close}
 use Rattle.tk_ledgers.proofs.ScopeLemmas.{grows_by_call, polling_started, polling_ended}
 use Rattle.tk_exec.specs.Polls.{Tracked}
-use Rattle.tk_exec.proofs.PollLemmas.{at_rest, rests, pending_entries, ready_entries, grew_in}
+use Rattle.tk_exec.proofs.PollLemmas.{at_rest, rests, pending_entries, ready_entries, over_and_shut, grew_in, grows_to, grows_from}
 use Rattle.tk_exec.proofs.instrumented.Instrumented.poll_once.Goals as goal
 
 pub unreachable-requires-in_default-scope : goal.unreachable-requires-in_default-scope
@@ -48,13 +49,19 @@ returns-in-Ok-close-clause-polled g c =
       first = c.now-first.result;
       between = c.now-first.new.self;
       second = c.now-second.result;
-      entries = scoped.entries;
       id = ap (λ (t : Tracked g.row.W.Denot). t.id) c.self.view_is;
       was = sym (ap (λ (t : Tracked g.row.W.Denot). t.owner) c.self.view_is) ∙ was;
       leaves = (c.take.ensures.after, refl);
       reads_first = c.now-first.ensures;
       reads_second = c.now-second.ensures;
-      of_scope = scoped.of_scope;
+      scope = c.in-Ok-scope.scope;
+      scope' = c.poll-answer.new.scope;
+      moment = c.in-Ok-scope.ensures.moment;
+      starts = grows_to c.in-Some.owner c.start_poll.new.self c.in-Ok-scope.scope.owner c.in-Ok-scope.ensures.held begun;
+      work = subst (λ (w : g.row.W.Denot). g.W.Work.polls w c.in-Ok-scope.scope (Ready c.in-Ready.out) c.poll-answer.new.self c.poll-answer.new.scope)
+          (ap (λ (t : Tracked g.row.W.Denot). t.work) c.self.view_is) c.in-Ready.ensures.polled;
+      scoped = scoped;
+      ends = grows_from c.poll-answer.new.scope.owner c.finish-owner.result c.in-Ok-close.receipt c.finish-owner.ensures.owner (over_and_shut c.finish-owner.result c.end_poll.new.self c.in-Ok-close.receipt c.now-second.result over shut);
       grows = ready_entries c.in-Some.owner c.start_poll.new.self c.finish-owner.result c.end_poll.new.self c.now-first.result c.now-second.result scoped.entries begun inside over c.in-Ready.out c.in-Ok-close.receipt shut;
     }
 
@@ -74,12 +81,18 @@ returns-in-Pending-clause-polled g c =
       first = c.now-first.result;
       between = c.now-first.new.self;
       second = c.now-second.result;
-      entries = scoped.entries;
       id = ap (λ (t : Tracked g.row.W.Denot). t.id) c.self.view_is;
       was = sym (ap (λ (t : Tracked g.row.W.Denot). t.owner) c.self.view_is) ∙ was;
       leaves = (refl, rest.0);
       reads_first = c.now-first.ensures;
       reads_second = c.now-second.ensures;
-      of_scope = scoped.of_scope;
+      scope = c.in-Ok-scope.scope;
+      scope' = c.poll-answer.new.scope;
+      moment = c.in-Ok-scope.ensures.moment;
+      starts = grows_to c.in-Some.owner c.start_poll.new.self c.in-Ok-scope.scope.owner c.in-Ok-scope.ensures.held begun;
+      work = subst (λ (w : g.row.W.Denot). g.W.Work.polls w c.in-Ok-scope.scope Pending c.poll-answer.new.self c.poll-answer.new.scope)
+          (ap (λ (t : Tracked g.row.W.Denot). t.work) c.self.view_is) c.in-Pending.ensures.polled;
+      scoped = scoped;
+      ends = grows_from c.poll-answer.new.scope.owner c.finish-owner.result c.end_poll.new.self c.finish-owner.ensures.owner over;
       grows = pending_entries c.in-Some.owner c.start_poll.new.self c.finish-owner.result c.end_poll.new.self c.now-first.result c.now-second.result scoped.entries begun inside over g.row.W-Out.Denot;
     }
