@@ -65,6 +65,9 @@ module _ {W A : Type 0} where
     rest_values = taken_values slots slots' (k ∷ keys) are 0 positive k refl others
         ∙ ap (λ (o : Option (Seat W A)). remove (cons_option o (values_at slots keys)) 0) was
 
+    pub head_values : values_at slots (k ∷ keys) ≡ s ∷ values_at slots' keys
+    head_values = ap (λ (o : Option (Seat W A)). cons_option o (values_at slots keys)) was ∙ ap (λ (l : List (Seat W A)). s ∷ l) (sym rest_values)
+
     pub rest_outputs : outputs_of (values_at slots (k ∷ keys)) ≡ cons_option s.out (outputs_of (values_at slots' keys))
     rest_outputs = ap (λ (o : Option (Seat W A)). outputs_of (cons_option o (values_at slots keys))) was
         ∙ ap (λ (l : List (Seat W A)). cons_option s.out (outputs_of l)) (sym rest_values)

@@ -3,3 +3,4 @@ pub mod PlaceLemmas
 pub mod TurnLemmas
 pub mod DriveLemmas
 pub mod OrderLemmas
+pub mod FutureLemmas

@@ -145,6 +145,10 @@ module _ {W A : Type 0} where
       pub looked_ordered : (v : Seat W A) (scheduled : Bool) → LookedAt old scheduled v → AreOrdered (slice_set slots k (Some v)) es next count
       looked_ordered v scheduled looked = ordered_write v next count looked.0.id are.within (ap (λ (o : Option A). cond (not (is_some o)) 1 0 + count) (sym looked.1))
 
+      -- the task at a place heard something or nothing
+      pub heard_ordered : (v : Seat W A) → v.task.id ≡ old.task.id → v.out ≡ old.out → AreOrdered (slice_set slots k (Some v)) es next count
+      heard_ordered v id out = ordered_write v next count id are.within (ap (λ (o : Option A). cond (not (is_some o)) 1 0 + count) (sym out))
+
       module _ {C : Type 0} (reads : C → ℕ → C → Type 0) (polls : W → Scoped → Poll A → W → Scoped → Type 0) (gives : W → A → Type 0) (ready : Bool) (v : Seat W A) (clock clock' : C) (p : PolledAt reads polls gives old ready v clock clock') where
         pub polled_counted : 1 ≤ count
         polled_counted = let some = some_unfinished (values_at slots (values_of es)) place old old_stood p.unfinished in omega (arith, some, are.counted)

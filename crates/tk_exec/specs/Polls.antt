@@ -25,6 +25,11 @@ IsAtRest id (Some owner) None = (owner.id ≡ id) × (is_polling owner ≡ false
 IsAtRest id None (Some receipt) = receipt.id ≡ id
 IsAtRest id _ _ = ⊥
 
+-- the receipt of a task that is finished, or the one that its owner leaves by closing it at this moment
+abbrev pub ClosedAt : ℕ → Option TaskSight → Option TaskSight → TaskSight → Type 0
+ClosedAt moment (Some owner) had receipt = Grows owner (entry 0 (Close moment) Done ∷ []) receipt
+ClosedAt moment None had receipt = had ≡ Some receipt
+
 -- a work that is ready closes its task at this moment
 abbrev pub closing : {A : Type 0} → Poll A → ℕ → TaskEntries
 closing (Ready x) moment = entry 0 (Close moment) Done ∷ []

@@ -1,5 +1,5 @@
 -- The tasks that an executor holds, and what happens to one of them.
-use Rattle.std.specs.Prelude.{◌≡◌, ◌≢◌, ℕ, Bool, true, false, List, [], ◌∷◌, length, filter, filter_map, Option, Some, None, is_some, not}
+use Rattle.std.specs.Prelude.{◌≡◌, ◌≢◌, ℕ, Bool, true, false, List, [], ◌∷◌, length, filter, filter_map, Option, Some, None, is_some, not, ⊤}
 use Rattle.std.specs.List.{slice_get}
 use Rattle.futures.specs.declared.task.Poll.{Poll}
 use Rattle.futures.specs.declared.task.Poll.TheVariants.{Ready, Pending}
@@ -10,7 +10,7 @@ use Rattle.tk_core.specs.declared.task.call.TaskCall.TheVariants.{Read}
 use Rattle.tk_cell.specs.Calls.{entry}
 use Rattle.tk_ledgers.specs.Tasks.{TaskSight}
 use Rattle.tk_ledgers.specs.Scopes.{Scoped, Grows}
-use Rattle.tk_exec.specs.Polls.{Tracked, Polled}
+use Rattle.tk_exec.specs.Polls.{Tracked, Polled, ClosedAt}
 
 -- a task, and its output once it is finished
 pub record Seat (W A : Type 0) : Type 0 where
@@ -52,6 +52,12 @@ module _ {W A : Type 0} where
   -- the outputs of those that are finished, in their order
   abbrev pub outputs_of : List (Seat W A) → List A
   outputs_of seats = filter_map (λ seat. seat.out) seats
+
+  -- a receipt for each task, in their order: each that isn't finished is closed at this moment
+  abbrev pub AreClosedAt : ℕ → List (Seat W A) → List TaskSight → Type 0
+  AreClosedAt moment [] [] = ⊤
+  AreClosedAt moment (seat ∷ seats) (receipt ∷ receipts) = ClosedAt moment seat.task.owner seat.task.receipt receipt × AreClosedAt moment seats receipts
+  AreClosedAt moment _ _ = ⊥
 
   -- a task was looked at
   abbrev pub LookedAt : Seat W A → Bool → Seat W A → Type 0

@@ -3,14 +3,17 @@ ghost use Rattle.std.specs.Prelude.{◌≡◌, ◌+◌, ◌<◌, ◌≤◌, ◌�
 ghost use Rattle.std.specs.List.{slice_get};
 ghost use Rattle.std.specs.Vec.{vec_len, vec_capacity};
 ghost use Rattle.tk_exec.specs.Places.{IsOnlyAt};
-ghost use Rattle.tk_exec.specs.Seats.{ChangesAt, LookedAt, unfinished, outputs_of};
+ghost use Rattle.tk_exec.specs.Seats.{ChangesAt, LookedAt, AreClosedAt, unfinished, outputs_of};
 ghost use Rattle.tk_exec.specs.Turns.{TurnDoes, PollsAt, Passed, Found, HoldsId, RefusedFor, NoneFinished, Takes};
+ghost use Rattle.tk_exec.specs.Futures.{SeatHears, AllHear};
 ghost use Rattle.tk_exec.specs.declared.error.ExecError.TheVariants.{Memory};
 
 use crate::error::ExecError;
+use crate::future_work::FutureWork;
 use crate::instrumented::Instrumented;
 use crate::slot::Slot;
 use crate::work::{Clock, Work};
+use futures::Future;
 use indexmap::IndexMap;
 use slab::Slab;
 use std::alloc::Global;
@@ -32,6 +35,9 @@ pub enum Turn {
 ///
 /// The tasks are kept in a slab, whose keys `order` has under the tasks' ids, in order of spawn. A task is found by its id
 /// without a look at the others, and those that are not finished are counted as they come and go.
+///
+/// What drops an executor is handed no runtime, so its tasks make no entry then and those that are not finished count as
+/// open for good: [`Executor::close_all`] closes them.
 #[derive(Drop)]
 pub struct Executor<W: Work> {
     tasks: Slab<Slot<W>>,
@@ -209,6 +215,42 @@ impl<W: Work> Executor<W> {
         self.unfinished
     }
 
+    /// Closes each task that is not finished, at this moment, and answers a receipt of each task, in order of spawn. Works
+    /// and outputs are dropped. Refused with `Memory`: nothing is closed then, and the executor is handed back.
+    pub fn close_all<R: Wait>(
+        self,
+        rt: &R,
+        alloc: Global,
+        moment: u64,
+    ) -> Result<Vec<TaskReceipt>, (ExecError, Executor<W>)>
+        ensures ok { IfOk result (λ receipts. AreClosedAt moment self.seats receipts.items) }
+        ensures memory { IfErr result (λ back. (back.0 ≡ Memory) × (back.1 ≡ self)) }
+    {
+        match Vec::with_capacity(alloc, self.len()) {
+            Ok(receipts) => Ok(self.close_into(rt, moment, receipts)),
+            Err(_) => Err((ExecError::Memory, self)),
+        }
+    }
+
+    // Closes all tasks, and puts their receipts into a list with room for them.
+    fn close_into<R: Wait>(
+        self,
+        rt: &R,
+        moment: u64,
+        receipts: Vec<TaskReceipt>,
+    ) -> Vec<TaskReceipt>
+        requires empty { receipts.items ≡ [] }
+        requires room { vec_len receipts + length self.seats ≤ vec_capacity receipts }
+        ensures { AreClosedAt moment self.seats result.items }
+    {
+        let mut tasks = self.tasks;
+        let mut receipts = receipts;
+        for key in self.order.into_values() {
+            receipts.push_reserved(tasks.remove(key).close(rt, moment));
+        }
+        receipts
+    }
+
     /// Puts the outputs of the finished tasks behind others, in order of spawn.
     pub(crate) fn into_outputs(self, outputs: Vec<W::Out>) -> Vec<W::Out>
         requires { vec_len outputs + length self.seats ≤ vec_capacity outputs }
@@ -222,5 +264,30 @@ impl<W: Work> Executor<W> {
             }
         }
         outputs
+    }
+}
+
+impl<F: Future> Executor<FutureWork<F>>
+where
+    F::Output: Drop,
+{
+    // Lets the future of the task at one place hear.
+    fn hear_at<R: Wait>(&mut self, rt: &R, moment: u64, place: usize) -> bool
+        requires { place < length self.old.seats }
+        ensures next { self.new.next ≡ self.old.next }
+        ensures heard { (change : ChangesAt place self.old.seats self.new.seats) × SeatHears change.before moment result change.after }
+    {
+        let key = self.order[place];
+        self.tasks[key].hear(rt, moment)
+    }
+
+    /// Lets each task's future hear, in order of spawn: a wake that came since its last poll is recorded at this moment, as
+    /// [`FutureWork::hear`] says. Called before a turn, so that the turn finds the task scheduled.
+    pub fn hear<R: Wait>(&mut self, rt: &R, moment: u64)
+        ensures { AllHear self.old moment self.new }
+    {
+        for place in 0..self.order.len() {
+            self.hear_at(rt, moment, place);
+        }
     }
 }

@@ -3,10 +3,13 @@ ghost use Rattle.std.specs.Prelude.{◌≡◌, false, not, Some, None, IfOk, IfE
 ghost use Rattle.futures.specs.Poll.{IfReady, OnPending};
 ghost use Rattle.tk_core.specs.declared.reply.Refusal.TheVariants.{Closed};
 ghost use Rattle.tk_ledgers.specs.Tasks.{is_polling};
-ghost use Rattle.tk_exec.specs.Polls.{tracked, Polled};
+ghost use Rattle.tk_exec.specs.Polls.{tracked, Polled, ClosedAt};
 ghost use Rattle.tk_exec.specs.Seats.{IsRead};
+ghost use Rattle.tk_exec.specs.Futures.{TaskHears};
 
+use crate::future_work::FutureWork;
 use crate::work::{Clock, Work};
+use futures::Future;
 use futures::task::Poll;
 use std::marker::Model;
 use std::sync::Wait;
@@ -68,6 +71,24 @@ impl<W: Work> Instrumented<W> {
         self.receipt
     }
 
+    /// The receipt of a work that was ready. One that isn't has its task closed at this moment, and is dropped.
+    ///
+    /// A task that is dropped without it makes no entry, and counts as open for good.
+    pub fn close<R: Wait>(self, rt: &R, moment: u64) -> TaskReceipt
+        ensures { ClosedAt moment self.owner self.receipt result }
+    {
+        match (self.owner, self.receipt) {
+            (Some(owner), _) => {
+                let Ok(receipt) = owner.close(rt, moment) else {
+                    unreachable!()
+                };
+                receipt
+            }
+            (None, Some(receipt)) => receipt,
+            (None, None) => unreachable!(),
+        }
+    }
+
     /// Whether the task is scheduled, by a reading of its owner. One that is finished isn't, and nothing is read.
     pub(crate) fn is_scheduled<R: Wait>(&mut self, rt: &R) -> bool
         ensures { IsRead self.old result self.new }
@@ -124,5 +145,17 @@ impl<W: Work> Instrumented<W> {
                 Ok(Poll::Pending)
             }
         }
+    }
+}
+
+impl<F: Future> Instrumented<FutureWork<F>>
+where
+    F::Output: Drop,
+{
+    /// Lets its future hear, as [`FutureWork::hear`] says. A wake that is recorded shows in the next reading.
+    pub fn hear<R: Wait>(&mut self, rt: &R, moment: u64) -> bool
+        ensures { TaskHears self.old moment result self.new }
+    {
+        self.work.hear(rt, moment)
     }
 }

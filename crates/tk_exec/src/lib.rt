@@ -1,6 +1,7 @@
 //! Works that are polled by hand, in polls that the ledgers of their tasks record.
 //!
 //! - [`Work`]: a future written by hand; [`Clock`]: what tells the moments of polls; [`SystemClock`]: the machine's.
+//! - [`FutureWork`]: a future of the kit as a work, whose task is woken by the wakers that the future keeps.
 //! - [`Instrumented`]: a work and the owner of its task. Each poll of the work is a poll of the task.
 //! - [`Executor`]: tasks that are polled in turn, where they are scheduled; [`Turn`]: what a turn did.
 //! - [`Driver`]: a future that makes turns until all tasks are finished, or none is scheduled; [`Ran`] and [`Outputs`]: its answer.
@@ -10,6 +11,7 @@
 mod driver;
 mod error;
 mod executor;
+mod future_work;
 mod instrumented;
 mod outputs;
 mod run;
@@ -21,6 +23,7 @@ mod works;
 pub use driver::{Driver, Ran};
 pub use error::ExecError;
 pub use executor::{Executor, Turn};
+pub use future_work::FutureWork;
 pub use instrumented::Instrumented;
 pub use outputs::Outputs;
 pub use system_clock::SystemClock;

@@ -1,9 +1,13 @@
 //! Inner: a task of an executor.
 ghost use Rattle.std.specs.Prelude.{◌≡◌, true, false, Some, None, is_some, IfSome};
+ghost use Rattle.tk_exec.specs.Polls.{ClosedAt};
 ghost use Rattle.tk_exec.specs.Seats.{LookedAt, PolledAt};
+ghost use Rattle.tk_exec.specs.Futures.{SeatHears};
 
+use crate::future_work::FutureWork;
 use crate::instrumented::Instrumented;
 use crate::work::{Clock, Work};
+use futures::Future;
 use futures::task::Poll;
 use std::marker::Model;
 use std::sync::Wait;
@@ -72,6 +76,13 @@ impl<W: Work> Slot<W> {
         }
     }
 
+    /// The receipt of a task that is finished. One that isn't is closed at this moment.
+    pub fn close<R: Wait>(self, rt: &R, moment: u64) -> TaskReceipt
+        ensures { ClosedAt moment self.task.owner self.task.receipt result }
+    {
+        self.task.close(rt, moment)
+    }
+
     /// Gives the task back.
     pub fn into_task(self) -> Instrumented<W>
         ensures { result ≡ self.task }
@@ -99,5 +110,17 @@ impl<W: Work> Slot<W> {
             Ok(Poll::Pending) => false,
             Err(_) => unreachable!(),
         }
+    }
+}
+
+impl<F: Future> Slot<FutureWork<F>>
+where
+    F::Output: Drop,
+{
+    /// Lets the task's future hear.
+    pub fn hear<R: Wait>(&mut self, rt: &R, moment: u64) -> bool
+        ensures { SeatHears self.old moment result self.new }
+    {
+        self.task.hear(rt, moment)
     }
 }
