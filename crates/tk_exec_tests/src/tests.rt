@@ -1,9 +1,10 @@
-//! Works polled to their ends, executors turn by turn, drivers to their answers, a poll that is read through, the machine's clock,
-//! and the errors.
+//! Works polled to their ends, executors turn by turn, drivers to their answers, a poll that is read through, futures,
+//! the machine's clock, and the errors.
 
 mod clocks;
 mod drives;
 mod errors;
+mod future_works;
 mod given;
 mod turns;
 mod waits;

@@ -1,10 +1,10 @@
 //! Executors, turn by turn.
 
-use super::given::{Ticks, id, spawns, task};
+use super::given::{Ticks, at_rest, id, owner, spawns, task};
 use std::alloc::Global;
 use std::sync::Wait;
 use tk_exec::{Example, ExecError, Executor, Instrumented, LoseWaker, Turn, Work, YieldTimes};
-use tk_ledgers::TaskReceipt;
+use tk_ledgers::{TaskInspector, TaskReceipt};
 
 fn is_idle<R: Wait, W: Work>(rt: &R, executor: &mut Executor<W>, clock: &mut Ticks) -> bool {
     executor.turn(rt, clock) == Turn::Idle
@@ -208,6 +208,61 @@ fn an_id_may_come_again(rt: HostRuntime) {
             assert!(rt; counts_two(&rt, rt.alloc(), &mut executor, &mut clock));
             assert!(rt; takes_in_again(&rt, rt.alloc(), &mut executor, &mut clock));
         }
+        Err(_) => assert!(rt; false, "no executor"),
+    }
+}
+
+// Takes in the n-th task, which somebody reads.
+fn spawns_read<R: Wait>(
+    rt: &R,
+    alloc: Global,
+    executor: &mut Executor<YieldTimes>,
+    n: u64,
+    times: u64,
+) -> Option<TaskInspector> {
+    let mut owner = owner(rt, alloc, n)?;
+    let inspector = owner.inspect(rt).ok()?;
+    let task = at_rest(owner, YieldTimes::new(times))?;
+    executor.spawn(task).ok()?;
+    Some(inspector)
+}
+
+fn is_closed_at<R: Wait>(rt: &R, mut inspector: TaskInspector, moment: u64) -> bool {
+    inspector.read(rt).dropped == Some(moment)
+}
+
+fn are_of_two(receipts: &[TaskReceipt]) -> bool {
+    match receipts {
+        [one, two] => is_of(one, 1) && is_of(two, 2),
+        _ => false,
+    }
+}
+
+fn closes_two<R: Wait>(rt: &R, alloc: Global, executor: Executor<YieldTimes>) -> bool {
+    match executor.close_all(rt, alloc, 50) {
+        Ok(receipts) => are_of_two(receipts.as_slice()),
+        Err(_) => false,
+    }
+}
+
+// The first of two tasks is finished, and closed at 2; the second one is closed with the executor.
+fn closes_the_second<R: Wait>(rt: &R, alloc: Global, mut executor: Executor<YieldTimes>) -> bool {
+    let mut clock = Ticks::new();
+    let one = spawns_read(rt, alloc, &mut executor, 1, 0);
+    let two = spawns_read(rt, alloc, &mut executor, 2, 3);
+    let (Some(one), Some(two)) = (one, two) else {
+        return false;
+    };
+    polls(rt, &mut executor, &mut clock, 1, true)
+        && closes_two(rt, alloc, executor)
+        && is_closed_at(rt, one, 2)
+        && is_closed_at(rt, two, 50)
+}
+
+#[test]
+fn an_executor_closes_what_it_holds(rt: HostRuntime) {
+    match Executor::new(rt.alloc()) {
+        Ok(executor) => assert!(rt; closes_the_second(&rt, rt.alloc(), executor)),
         Err(_) => assert!(rt; false, "no executor"),
     }
 }

@@ -97,7 +97,13 @@ fn row_behind<R: Wait>(rt: &R, alloc: Global, work: Example, polls: u64) -> Opti
 }
 
 // Its own wakes, its clones and its drops.
-fn leaves<R: Wait>(rt: &R, alloc: Global, work: Example, polls: u64, wanted: (u64, u64, u64)) -> bool {
+fn leaves<R: Wait>(
+    rt: &R,
+    alloc: Global,
+    work: Example,
+    polls: u64,
+    wanted: (u64, u64, u64),
+) -> bool {
     match row_behind(rt, alloc, work, polls) {
         Some(row) => (row.self_wakes, row.clones, row.drops) == wanted,
         None => false,
@@ -108,9 +114,24 @@ fn leaves<R: Wait>(rt: &R, alloc: Global, work: Example, polls: u64, wanted: (u6
 #[test]
 fn works_wake_clone_and_release(rt: HostRuntime) {
     let alloc = rt.alloc();
-    assert!(rt; leaves(&rt, alloc, Example::Yield(YieldTimes::new(2)), 2, (2, 0, 0)), "yields");
-    assert!(rt; leaves(&rt, alloc, Example::Hold(HoldWaker::new()), 1, (0, 1, 0)), "holds");
-    assert!(rt; leaves(&rt, alloc, Example::Hold(HoldWaker::new()), 2, (0, 1, 1)), "releases");
-    assert!(rt; leaves(&rt, alloc, Example::Lose(LoseWaker::new()), 3, (0, 3, 3)), "loses");
-    assert!(rt; leaves(&rt, alloc, Example::Busy(BusyUntil::new(4)), 2, (2, 0, 0)), "is busy");
+    assert!(rt;
+        leaves(&rt, alloc, Example::Yield(YieldTimes::new(2)), 2, (2, 0, 0)),
+        "yields"
+    );
+    assert!(rt;
+        leaves(&rt, alloc, Example::Hold(HoldWaker::new()), 1, (0, 1, 0)),
+        "holds"
+    );
+    assert!(rt;
+        leaves(&rt, alloc, Example::Hold(HoldWaker::new()), 2, (0, 1, 1)),
+        "releases"
+    );
+    assert!(rt;
+        leaves(&rt, alloc, Example::Lose(LoseWaker::new()), 3, (0, 3, 3)),
+        "loses"
+    );
+    assert!(rt;
+        leaves(&rt, alloc, Example::Busy(BusyUntil::new(4)), 2, (2, 0, 0)),
+        "is busy"
+    );
 }
