@@ -3,6 +3,9 @@ ghost use Rattle.std.specs.Prelude.{◌≡◌};
 ghost use Rattle.tk_exec.specs.declared.error.ExecError.TheVariants.{Memory};
 ghost use Rattle.tk_exec.specs.Errors.{code_of};
 
+use crate::executor::Executor;
+use crate::instrumented::Instrumented;
+use crate::work::{Clock, Work};
 use std::alloc::AllocError;
 use thiserror::Error;
 
@@ -35,5 +38,32 @@ impl From<AllocError> for ExecError {
 
     fn from(_refused: AllocError) -> ExecError {
         ExecError::Memory
+    }
+}
+
+/// The error alone, of a task that was handed back: the task is dropped, without an entry.
+impl<W: Work> From<(ExecError, Instrumented<W>)> for ExecError {
+    ghost from_gives = { λ refused e. e ≡ refused.0 };
+
+    fn from(refused: (ExecError, Instrumented<W>)) -> ExecError {
+        refused.0
+    }
+}
+
+/// The error alone, of an executor that was handed back: it is dropped, and its tasks make no entry.
+impl<W: Work> From<(ExecError, Executor<W>)> for ExecError {
+    ghost from_gives = { λ refused e. e ≡ refused.0 };
+
+    fn from(refused: (ExecError, Executor<W>)) -> ExecError {
+        refused.0
+    }
+}
+
+/// The error alone, of an executor and a clock that were handed back: they are dropped, and the tasks make no entry.
+impl<W: Work, C: Clock + Drop> From<(ExecError, Executor<W>, C)> for ExecError {
+    ghost from_gives = { λ refused e. e ≡ refused.0 };
+
+    fn from(refused: (ExecError, Executor<W>, C)) -> ExecError {
+        refused.0
     }
 }
