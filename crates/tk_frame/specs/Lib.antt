@@ -1,0 +1,12 @@
+-- How long tasks and operations have run and waited up to a moment
+pub mod Times
+-- Which items are shown, and in which order
+pub mod Queries
+-- How many tasks there are in each state
+pub mod States
+-- The lines that tell of tasks, resources, operations and warnings
+pub mod Lines
+-- The lines of a screen
+pub mod Frames
+-- Inner: no public clause cites these
+pub mod Walks

@@ -1,0 +1,132 @@
+-- The lines that tell of tasks, of warnings about them, and of resources and async operations.
+use Rattle.std.specs.Prelude.{◌==◌, ◌&&◌, ℕ, List, [], ◌∷◌, ◌++◌, length, codes, decimal, if◌then◌else◌}
+use Rattle.tk_ids.specs.Ids.{id_text}
+use Rattle.tk_ids.specs.declared.info.Dropped.{Dropped}
+use Rattle.tk_ids.specs.declared.location.Location.{Location}
+use Rattle.tk_core.specs.declared.task.row.TaskRow.{TaskRow}
+use Rattle.tk_stream.specs.declared.task.Task.{Task}
+use Rattle.tk_stream.specs.declared.resource.Resource.{Resource}
+use Rattle.tk_stream.specs.declared.op.Op.{Op}
+use Rattle.tk_stream.specs.Tables.{TablesView}
+use Rattle.tk_client.specs.declared.warning.WarningKind.{WarningKind}
+use Rattle.tk_client.specs.declared.warning.WarningKind.TheVariants.{SelfWakes, LostWaker, NeverYielded}
+use Rattle.tk_report.specs.Report.{kind_word, op_state, polled_by, run_time, task_state}
+use Rattle.tk_screen.specs.Screens.{LineView}
+use Rattle.tk_screen.specs.Texts.{duration_text, share_text, left, right}
+use Rattle.tk_screen.specs.declared.canvas.Style.TheVariants as styles
+use Rattle.tk_frame.specs.Times.{busy_until, sched_until}
+use Rattle.tk_frame.specs.declared.ranks.States.{States}
+
+-- ---- parts of lines
+
+-- a text at the right of a column, and a space
+abbrev pub cell : ℕ → List ℕ → List ℕ
+cell width text = right width text ++ codes " "
+
+-- a text at the left of a column, and a space
+abbrev pub word : ℕ → List ℕ → List ℕ
+word width text = left width text ++ codes " "
+
+-- a place in a source file
+abbrev pub location_text : Location → List ℕ
+location_text l = l.file ++ (codes ":" ++ (decimal l.line ++ (codes ":" ++ decimal l.column)))
+
+abbrev pub plain : List ℕ → LineView
+plain text = record { style = styles.Plain; text = text }
+
+abbrev pub heading : List ℕ → LineView
+heading text = record { style = styles.Heading; text = text }
+
+abbrev pub warned : List ℕ → LineView
+warned text = record { style = styles.Warning; text = text }
+
+-- ---- the first line
+
+-- how many tasks there are, and how many in each state
+abbrev pub states_text : ℕ → States → List ℕ
+states_text tasks states =
+    codes "  tasks " ++ (decimal tasks ++ (codes ": " ++ (decimal states.polling ++ (codes " polling, " ++ (decimal states.scheduled ++ (codes " scheduled, "
+    ++ (decimal states.idle ++ (codes " idle, " ++ (decimal states.closed ++ codes " closed")))))))))
+
+-- how many events were lost, where any were
+abbrev pub lost_text : Dropped → List ℕ
+lost_text d =
+    if (d.tasks == 0) && ((d.resources == 0) && (d.ops == 0)) then [] else
+    codes "  lost events of " ++ (decimal d.tasks ++ (codes " tasks, " ++ (decimal d.resources ++ (codes " resources, " ++ (decimal d.ops ++ codes " operations")))))
+
+-- the moment, the tasks by their states, how many warnings there are, and what was lost
+abbrev pub head_text : TablesView → States → ℕ → List ℕ
+head_text tables states warnings =
+    codes "now " ++ (duration_text tables.now ++ (states_text (length tables.tasks) states
+    ++ ((codes "  warnings " ++ decimal warnings) ++ lost_text tables.dropped)))
+
+-- ---- warnings
+
+-- what is odd about a task of this row, at a moment
+abbrev pub odd_text : ℕ → TaskRow → WarningKind → List ℕ
+odd_text now x SelfWakes = codes "self-wakes: " ++ (share_text x.self_wakes x.wakes ++ codes " of its wakes are its own")
+odd_text now x LostWaker = codes "lost-waker: nobody is left who could wake it"
+odd_text now x NeverYielded = codes "never-yielded: its first poll has run for " ++ duration_text (run_time now x.last_started)
+
+-- what to do about it
+abbrev pub advice : WarningKind → List ℕ
+advice SelfWakes = codes "let what it waits for wake it"
+advice LostWaker = codes "keep a waker of it until the wake"
+advice NeverYielded = codes "move work that blocks to a blocking task"
+
+-- which task is warned of, and of what
+abbrev pub odd_line_text : ℕ → Task → WarningKind → List ℕ
+odd_line_text now t kind = codes "warning " ++ (id_text t.info.id ++ (codes " " ++ odd_text now t.row kind))
+
+-- what to do, and of which name and place the task is
+abbrev pub advice_line_text : Task → WarningKind → List ℕ
+advice_line_text t kind = codes "  " ++ (advice kind ++ (codes " (" ++ (t.info.name ++ (codes ", " ++ (location_text t.info.location ++ codes ")")))))
+
+-- the lines of a warning about a task
+abbrev pub warning_of : ℕ → Task → WarningKind → List LineView
+warning_of now t kind = warned (odd_line_text now t kind) ∷ plain (advice_line_text t kind) ∷ []
+
+-- ---- tasks
+
+-- the columns of tasks
+abbrev pub task_heading : List ℕ
+task_heading = cell 7 (codes "TASK") ++ (word 9 (codes "STATE") ++ (cell 9 (codes "BUSY") ++ (cell 9 (codes "SCHED") ++ (cell 7 (codes "POLLS")
+    ++ (cell 7 (codes "WAKES") ++ (cell 4 (codes "SELF") ++ (word 20 (codes "NAME") ++ (word 8 (codes "KIND") ++ codes "LOCATION"))))))))
+
+-- how long a task ran, and how long it waited
+abbrev pub times_text : ℕ → TaskRow → List ℕ
+times_text now x = cell 9 (duration_text (busy_until x.busy x.polling x.last_started now)) ++ cell 9 (duration_text (sched_until x now))
+
+-- a task at a moment: its id and state, how long it ran and waited, its polls and wakes, which share of these is its own, its
+-- name and kind, and where it was spawned
+abbrev pub task_text : ℕ → Task → List ℕ
+task_text now t = cell 7 (id_text t.info.id) ++ (word 9 (task_state t.row)
+    ++ (times_text now t.row ++ (cell 7 (decimal t.row.polls) ++ (cell 7 (decimal t.row.wakes) ++ (cell 4 (share_text t.row.self_wakes t.row.wakes)
+    ++ (word 20 t.info.name ++ (word 8 (kind_word t.info.kind) ++ location_text t.info.location)))))))
+
+-- ---- resources and async operations
+
+-- the columns of resources
+abbrev pub resource_heading : List ℕ
+resource_heading = cell 8 (codes "RESOURCE") ++ (cell 8 (codes "READY") ++ (cell 8 (codes "PENDING") ++ codes "TYPE (KIND) LOCATION"))
+
+-- a resource's type, and what it is for
+abbrev pub type_text : List ℕ → List ℕ → List ℕ
+type_text concrete kind = concrete ++ (codes " (" ++ (kind ++ codes ") "))
+
+-- a resource, of whose poll operations so many were ready and so many pending
+abbrev pub resource_text : ℕ × ℕ → Resource → List ℕ
+resource_text polls r = cell 8 (id_text r.info.id) ++ (cell 8 (decimal polls.0) ++ (cell 8 (decimal polls.1)
+    ++ (type_text r.info.concrete r.info.kind ++ location_text r.info.location)))
+
+-- the columns of async operations
+abbrev pub op_heading : List ℕ
+op_heading = cell 9 (codes "OPERATION") ++ (word 7 (codes "STATE") ++ (cell 8 (codes "POLLS") ++ (cell 9 (codes "BUSY")
+    ++ (cell 8 (codes "TASK") ++ (cell 8 (codes "RESOURCE") ++ codes "SOURCE")))))
+
+-- an async operation at a moment: its id and state, its polls, how long they ran, the task that polls it, its resource, and the
+-- call that made it
+abbrev pub op_text : ℕ → Op → List ℕ
+op_text now o = cell 9 (id_text o.info.id) ++ (word 7 (op_state o.row) ++ (cell 8 (decimal o.row.polls)
+    ++ (cell 9 (duration_text (busy_until o.row.busy o.row.polling o.row.last_started now)) ++ (cell 8 (polled_by o.row.task)
+    ++ (cell 8 (id_text o.info.resource) ++ o.info.source)))))

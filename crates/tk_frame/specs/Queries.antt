@@ -1,0 +1,75 @@
+-- Which items a screen shows, and in which order.
+use Rattle.std.specs.Prelude.{◌==◌, ◌&&◌, ◌||◌, ℕ, suc, List, [], ◌∷◌, ◌++◌, take, Bool, true, false, is_none, Option, Some, None, if◌then◌else◌}
+use Rattle.tk_core.specs.declared.task.row.TaskRow.{TaskRow}
+use Rattle.tk_stream.specs.declared.task.Task.{Task}
+use Rattle.tk_stream.specs.declared.resource.Resource.{Resource}
+use Rattle.tk_stream.specs.declared.op.Op.{Op}
+use Rattle.tk_stream.specs.Tables.{TablesView, PollCounts, counts_of}
+use Rattle.tk_screen.specs.Rankings.{ranking}
+use Rattle.tk_screen.specs.declared.top.Ranked.{Ranked}
+use Rattle.tk_frame.specs.Times.{busy_until, sched_until}
+use Rattle.tk_frame.specs.declared.query.Column.{Column}
+use Rattle.tk_frame.specs.declared.query.Column.TheVariants.{Busy, Sched, Polls, Wakes, SelfWakes}
+use Rattle.tk_frame.specs.declared.query.Query.{Query}
+
+-- the number of a task in a column, at a moment
+abbrev pub number_in : Column → TaskRow → ℕ → ℕ
+number_in Busy x now = busy_until x.busy x.polling x.last_started now
+number_in Sched x now = sched_until x now
+number_in Polls x now = x.polls
+number_in Wakes x now = x.wakes
+number_in SelfWakes x now = x.self_wakes
+
+-- a text begins with another
+abbrev pub begins : List ℕ → List ℕ → Bool
+begins [] text = true
+begins (x ∷ part) [] = false
+begins (x ∷ part) (y ∷ text) = (x == y) && begins part text
+
+-- a text stands somewhere in another
+abbrev pub stands_in : List ℕ → List ℕ → Bool
+stands_in part [] = begins part []
+stands_in part (y ∷ text) = begins part (y ∷ text) || stands_in part text
+
+-- an open task is shown in whose name the text stands that was asked for
+abbrev pub is_shown : Query → Task → Bool
+is_shown query t = is_none t.row.dropped && stands_in query.filter.now t.info.name
+
+-- the key of a task that is shown, at a moment: its number in the column
+abbrev pub task_key : Query → ℕ → Task → Option ℕ
+task_key query now t = if is_shown query t then Some (number_in query.sort t.row now) else None
+
+-- the key of a resource that is shown, which is open: how many of its poll operations were pending
+abbrev pub resource_key_by : ℕ → Resource → Option ℕ
+resource_key_by pending r = if is_none r.row.dropped then Some pending else None
+
+abbrev pub resource_key : List PollCounts → Resource → Option ℕ
+resource_key counts r = resource_key_by (counts_of r.info.id counts).1 r
+
+-- the key of an async operation that is shown, which is open: how many polls of it started
+abbrev pub op_key : Op → Option ℕ
+op_key o = if is_none o.row.dropped then Some o.row.polls else None
+
+-- an item at a place, where it has a key
+abbrev pub rank_at : Option ℕ → ℕ → List Ranked
+rank_at None place = []
+rank_at (Some key) place = record { key = key; place = place } ∷ []
+
+-- the items that have keys, by their places, which begin here
+abbrev pub ranked_from : {X : Type 0} → (X → Option ℕ) → ℕ → List X → List Ranked
+ranked_from key place [] = []
+ranked_from key place (x ∷ xs) = rank_at (key x) place ++ ranked_from key (suc place) xs
+
+-- the first so many of their ranking: those of the greatest keys, and of equal ones the earlier
+abbrev pub top_of : {X : Type 0} → (X → Option ℕ) → ℕ → List X → List Ranked
+top_of key rows xs = take rows (ranking (ranked_from key 0 xs))
+
+-- what a screen shows of tables
+abbrev pub top_tasks : Query → TablesView → List Ranked
+top_tasks query tables = top_of (task_key query tables.now) query.rows tables.tasks
+
+abbrev pub top_resources : ℕ → TablesView → List Ranked
+top_resources rows tables = top_of (resource_key tables.counts) rows tables.resources
+
+abbrev pub top_ops : ℕ → TablesView → List Ranked
+top_ops rows tables = top_of op_key rows tables.ops

@@ -1,0 +1,77 @@
+//! Parts of lines.
+ghost use Rattle.std.specs.Prelude.{OnOk, IfSome, string_bytes};
+ghost use Rattle.tk_screen.specs.Texts.{Puts, duration_text, share_text};
+ghost use Rattle.tk_frame.specs.Lines as spec;
+
+use std::alloc::AllocError;
+use std::fmt::{Display, Write};
+use tk_ids::Location;
+use tk_screen::{put_duration, put_left, put_right, put_share};
+
+/// Puts a text at the right of a column, and a space.
+pub(crate) fn put_cell(out: &mut String, text: &str, width: usize) -> Result<(), AllocError>
+    ensures { OnOk result (Puts (string_bytes out.old) (string_bytes out.new) (spec.cell width text.now)) }
+{
+    put_right(out, text, width)?;
+    out.push_str(" ")
+}
+
+/// Puts a text at the left of a column, and a space.
+pub(crate) fn put_word(out: &mut String, text: &str, width: usize) -> Result<(), AllocError>
+    ensures { OnOk result (Puts (string_bytes out.old) (string_bytes out.new) (spec.word width text.now)) }
+{
+    put_left(out, text, width)?;
+    out.push_str(" ")
+}
+
+/// Puts a value at the right of a column. `room` holds its text for the while.
+pub(crate) fn put_value<T: Display>(
+    out: &mut String,
+    room: &mut String,
+    value: &T,
+    width: usize,
+) -> Result<(), AllocError>
+    ensures { OnOk result (IfSome (T.output value.now)
+        (λ text. Puts (string_bytes out.old) (string_bytes out.new) (spec.cell width text))) }
+{
+    room.clear();
+    write!(room, "{value}")?;
+    put_cell(out, room.as_str(), width)
+}
+
+/// Puts a time in a column.
+pub(crate) fn put_time(
+    out: &mut String,
+    room: &mut String,
+    nanos: u64,
+    width: usize,
+) -> Result<(), AllocError>
+    ensures { OnOk result (Puts (string_bytes out.old) (string_bytes out.new) (spec.cell width (duration_text nanos))) }
+{
+    room.clear();
+    put_duration(room, nanos)?;
+    put_cell(out, room.as_str(), width)
+}
+
+/// Puts a part of a whole in a column.
+pub(crate) fn put_part(
+    out: &mut String,
+    room: &mut String,
+    part: u64,
+    whole: u64,
+    width: usize,
+) -> Result<(), AllocError>
+    ensures { OnOk result (Puts (string_bytes out.old) (string_bytes out.new) (spec.cell width (share_text part whole))) }
+{
+    room.clear();
+    put_share(room, part, whole)?;
+    put_cell(out, room.as_str(), width)
+}
+
+/// Puts a place in a source file.
+pub(crate) fn put_location(out: &mut String, location: &Location) -> Result<(), AllocError>
+    ensures { OnOk result (Puts (string_bytes out.old) (string_bytes out.new) (spec.location_text location.now)) }
+{
+    let Location { file, line, column } = location;
+    write!(out, "{file}:{line}:{column}")
+}

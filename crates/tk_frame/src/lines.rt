@@ -1,0 +1,177 @@
+//! The lines of a screen.
+ghost use Rattle.std.specs.Prelude.{◌≡◌, IfOk, OnOk, flat_map, ◌∷◌, []};
+ghost use Rattle.tk_screen.specs.Texts.{Puts};
+ghost use Rattle.tk_frame.specs.Frames as spec;
+ghost use Rattle.tk_frame.specs.Lines as texts;
+
+use crate::items::{op_heading, op_line, resource_heading, resource_line};
+use crate::query::Query;
+use crate::ranks::{States, top_ops, top_resources, walk};
+use crate::tasks::{head_line, heading, task_heading, task_line};
+use crate::warnings::push_warnings;
+use std::alloc::{AllocError, Global};
+use tk_client::Warning;
+use tk_screen::{Line, Ranked};
+use tk_stream::Tables;
+
+fn push_heading(lines: &mut Vec<Line>, alloc: Global, text: &str) -> Result<(), AllocError>
+    ensures { OnOk result (Puts lines.old.items lines.new.items (texts.heading text.now ∷ [])) }
+{
+    lines.push(heading(alloc, text)?)?;
+    Ok(())
+}
+
+fn push_head(
+    lines: &mut Vec<Line>,
+    alloc: Global,
+    tables: &Tables,
+    states: States,
+    warnings: usize,
+) -> Result<(), AllocError>
+    ensures { OnOk result (Puts lines.old.items lines.new.items (texts.plain (texts.head_text tables.now states warnings) ∷ [])) }
+{
+    lines.push(head_line(alloc, tables, states, warnings)?)?;
+    Ok(())
+}
+
+fn push_task(
+    lines: &mut Vec<Line>,
+    alloc: Global,
+    tables: &Tables,
+    ranked: &Ranked,
+) -> Result<(), AllocError>
+    ensures { OnOk result (Puts lines.old.items lines.new.items (spec.task_at tables.now ranked.now)) }
+{
+    if let Some(task) = tables.task_at(ranked.place) {
+        lines.push(task_line(alloc, task, tables.now())?)?;
+    }
+    Ok(())
+}
+
+fn push_tasks(
+    lines: &mut Vec<Line>,
+    alloc: Global,
+    tables: &Tables,
+    top: &[Ranked],
+) -> Result<(), AllocError>
+    ensures { OnOk result (Puts lines.old.items lines.new.items (flat_map (spec.task_at tables.now) top.now)) }
+{
+    for ranked in top {
+        push_task(lines, alloc, tables, ranked)?;
+    }
+    Ok(())
+}
+
+fn push_resource(
+    lines: &mut Vec<Line>,
+    alloc: Global,
+    tables: &Tables,
+    ranked: &Ranked,
+) -> Result<(), AllocError>
+    ensures { OnOk result (Puts lines.old.items lines.new.items (spec.resource_at tables.now ranked.now)) }
+{
+    if let Some(resource) = tables.resource_at(ranked.place) {
+        let polls = tables.poll_counts(resource.info.id);
+        lines.push(resource_line(alloc, resource, polls)?)?;
+    }
+    Ok(())
+}
+
+fn push_resources(
+    lines: &mut Vec<Line>,
+    alloc: Global,
+    tables: &Tables,
+    top: &[Ranked],
+) -> Result<(), AllocError>
+    ensures { OnOk result (Puts lines.old.items lines.new.items (flat_map (spec.resource_at tables.now) top.now)) }
+{
+    for ranked in top {
+        push_resource(lines, alloc, tables, ranked)?;
+    }
+    Ok(())
+}
+
+fn push_op(
+    lines: &mut Vec<Line>,
+    alloc: Global,
+    tables: &Tables,
+    ranked: &Ranked,
+) -> Result<(), AllocError>
+    ensures { OnOk result (Puts lines.old.items lines.new.items (spec.op_at tables.now ranked.now)) }
+{
+    if let Some(op) = tables.op_at(ranked.place) {
+        lines.push(op_line(alloc, op, tables.now())?)?;
+    }
+    Ok(())
+}
+
+fn push_ops(
+    lines: &mut Vec<Line>,
+    alloc: Global,
+    tables: &Tables,
+    top: &[Ranked],
+) -> Result<(), AllocError>
+    ensures { OnOk result (Puts lines.old.items lines.new.items (flat_map (spec.op_at tables.now) top.now)) }
+{
+    for ranked in top {
+        push_op(lines, alloc, tables, ranked)?;
+    }
+    Ok(())
+}
+
+// Resources and async operations, where they were asked for.
+fn push_items(
+    lines: &mut Vec<Line>,
+    alloc: Global,
+    tables: &Tables,
+    query: &Query<'_>,
+) -> Result<(), AllocError>
+    ensures { OnOk result (Puts lines.old.items lines.new.items (spec.items_part query.now tables.now)) }
+{
+    if !query.resources {
+        return Ok(());
+    }
+    let resources = top_resources(alloc, tables, query.rows)?;
+    push_heading(lines, alloc, resource_heading())?;
+    push_resources(lines, alloc, tables, resources.items())?;
+    let ops = top_ops(alloc, tables, query.rows)?;
+    push_heading(lines, alloc, op_heading())?;
+    push_ops(lines, alloc, tables, ops.items())?;
+    Ok(())
+}
+
+fn push_all(
+    lines: &mut Vec<Line>,
+    alloc: Global,
+    tables: &Tables,
+    warnings: &[Warning],
+    query: &Query<'_>,
+) -> Result<(), AllocError>
+    ensures { OnOk result (Puts lines.old.items lines.new.items (spec.frame_of query.now tables.now warnings.now)) }
+{
+    let (states, top) = walk(alloc, tables, query)?;
+    push_head(lines, alloc, tables, states, warnings.len())?;
+    push_warnings(lines, alloc, tables, warnings)?;
+    push_heading(lines, alloc, task_heading())?;
+    push_tasks(lines, alloc, tables, top.items())?;
+    push_items(lines, alloc, tables, query)?;
+    Ok(())
+}
+
+/// The lines of a screen of tables with these warnings: the first line, with the moment, the tasks by their states, how many
+/// warnings there are and what was lost; the first four warnings, with what to do, and how many more there are; the open tasks
+/// of most; and where they were asked for, open resources and async operations. `docs/FORMATS.md` has their words.
+///
+/// It fails where there is no memory.
+pub fn frame(
+    alloc: Global,
+    tables: &Tables,
+    warnings: &[Warning],
+    query: &Query<'_>,
+) -> Result<Vec<Line>, AllocError>
+    ensures { IfOk result (λ lines. lines.items ≡ spec.frame_of query.now tables.now warnings.now) }
+{
+    let mut lines = Vec::new(alloc);
+    push_all(&mut lines, alloc, tables, warnings, query)?;
+    Ok(lines)
+}

@@ -1,0 +1,113 @@
+//! What was asked for, and the keys by which items are ranked.
+ghost use Rattle.std.specs.Prelude.{◌≡◌};
+ghost use Rattle.tk_frame.specs.Queries as spec;
+
+use crate::times::{busy_until, sched_until};
+use tk_core::TaskRow;
+use tk_stream::{Op, Resource, Task};
+
+/// A column of the table of tasks by which it is sorted: the greatest first.
+#[derive(Clone, Copy, Debug, PartialEq, Eq)]
+pub enum Column {
+    /// How long its polls ran, one that runs among them.
+    Busy,
+    /// How long it waited, scheduled, waiting that lasts among it.
+    Sched,
+    /// How many polls of it started.
+    Polls,
+    /// How often it was woken.
+    Wakes,
+    /// How many of its wakes came from within it.
+    SelfWakes,
+}
+
+/// What a screen is asked for. Only open items are shown.
+#[derive(Clone, Copy)]
+pub struct Query<'a> {
+    /// By which column tasks are sorted.
+    pub sort: Column,
+    /// How many tasks are shown at most, and where they are asked for as many resources, and as many async operations.
+    pub rows: usize,
+    /// A text that stands in the name of each task that is shown.
+    pub filter: &'a [u8],
+    /// Whether resources and async operations are shown too.
+    pub resources: bool,
+}
+
+// The number of a task in a column, at a moment.
+fn number_in(column: Column, row: &TaskRow, now: u64) -> u64
+    ensures { result ≡ spec.number_in column row.now now }
+{
+    match column {
+        Column::Busy => busy_until(row.busy, row.polling, row.last_started, now),
+        Column::Sched => sched_until(row, now),
+        Column::Polls => row.polls,
+        Column::Wakes => row.wakes,
+        Column::SelfWakes => row.self_wakes,
+    }
+}
+
+// Whether a text begins with another.
+fn begins(part: &[u8], text: &[u8]) -> bool
+    ensures { result ≡ spec.begins part.now text.now }
+{
+    let [first, part @ ..] = part else {
+        return true;
+    };
+    let [byte, text @ ..] = text else {
+        return false;
+    };
+    *first == *byte && begins(part, text)
+}
+
+// Whether a text stands somewhere in another.
+fn stands_in(part: &[u8], text: &[u8]) -> bool
+    ensures { result ≡ spec.stands_in part.now text.now }
+{
+    if begins(part, text) {
+        return true;
+    }
+    match text {
+        [_, text @ ..] => stands_in(part, text),
+        [] => false,
+    }
+}
+
+fn is_shown(query: &Query<'_>, task: &Task) -> bool
+    ensures { result ≡ spec.is_shown query.now task.now }
+{
+    task.row.dropped.is_none() && stands_in(query.filter, task.info.name.as_bytes())
+}
+
+/// The key of a task that is shown.
+pub(crate) fn task_key(query: &Query<'_>, task: &Task, now: u64) -> Option<u64>
+    ensures { result ≡ spec.task_key query.now now task.now }
+{
+    if is_shown(query, task) {
+        Some(number_in(query.sort, &task.row, now))
+    } else {
+        None
+    }
+}
+
+/// The key of a resource that is shown, of whose poll operations so many are pending.
+pub(crate) fn resource_key(resource: &Resource, pending: u64) -> Option<u64>
+    ensures { result ≡ spec.resource_key_by pending resource.now }
+{
+    if resource.row.dropped.is_none() {
+        Some(pending)
+    } else {
+        None
+    }
+}
+
+/// The key of an async operation that is shown.
+pub(crate) fn op_key(op: &Op) -> Option<u64>
+    ensures { result ≡ spec.op_key op.now }
+{
+    if op.row.dropped.is_none() {
+        Some(op.row.polls)
+    } else {
+        None
+    }
+}

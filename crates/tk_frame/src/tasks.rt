@@ -1,0 +1,163 @@
+//! The first line of a screen, and the lines of tasks.
+ghost use Rattle.std.specs.Prelude.{◌≡◌, ◌++◌, codes, decimal, IfOk, OnOk, string_bytes};
+ghost use Rattle.tk_report.specs.Report.{kind_word, task_state};
+ghost use Rattle.tk_screen.specs.Texts.{Puts};
+ghost use Rattle.tk_frame.specs.Lines as spec;
+
+use crate::cells::{put_cell, put_location, put_part, put_time, put_value, put_word};
+use crate::ranks::States;
+use crate::times::{busy_until, sched_until};
+use std::alloc::{AllocError, Global};
+use std::fmt::Write;
+use tk_core::TaskRow;
+use tk_ids::{Dropped, TaskKind};
+use tk_screen::{Line, Style, put_duration};
+use tk_stream::{Tables, Task};
+
+fn put_states(out: &mut String, tasks: usize, states: States) -> Result<(), AllocError>
+    ensures { OnOk result (Puts (string_bytes out.old) (string_bytes out.new) (spec.states_text tasks states)) }
+{
+    let States {
+        polling,
+        scheduled,
+        idle,
+        closed,
+    } = states;
+    write!(
+        out,
+        "  tasks {tasks}: {polling} polling, {scheduled} scheduled, {idle} idle, {closed} closed"
+    )
+}
+
+fn put_lost(out: &mut String, dropped: Dropped) -> Result<(), AllocError>
+    ensures { OnOk result (Puts (string_bytes out.old) (string_bytes out.new) (spec.lost_text dropped)) }
+{
+    let Dropped {
+        tasks,
+        resources,
+        ops,
+    } = dropped;
+    if tasks == 0 && resources == 0 && ops == 0 {
+        return Ok(());
+    }
+    write!(
+        out,
+        "  lost events of {tasks} tasks, {resources} resources, {ops} operations"
+    )
+}
+
+fn put_count(out: &mut String, warnings: usize) -> Result<(), AllocError>
+    ensures { OnOk result (Puts (string_bytes out.old) (string_bytes out.new) (codes "  warnings " ++ decimal warnings)) }
+{
+    write!(out, "  warnings {warnings}")
+}
+
+fn put_text(out: &mut String, text: &str) -> Result<(), AllocError>
+    ensures { OnOk result (Puts (string_bytes out.old) (string_bytes out.new) text.now) }
+{
+    out.push_str(text)
+}
+
+fn put_head(
+    out: &mut String,
+    tables: &Tables,
+    states: States,
+    warnings: usize,
+) -> Result<(), AllocError>
+    ensures { OnOk result (Puts (string_bytes out.old) (string_bytes out.new) (spec.head_text tables.now states warnings)) }
+{
+    put_text(out, "now ")?;
+    put_duration(out, tables.now())?;
+    put_states(out, tables.task_count(), states)?;
+    put_count(out, warnings)?;
+    put_lost(out, tables.dropped())?;
+    Ok(())
+}
+
+/// The first line of a screen: the moment, the tasks by their states, how many warnings there are, and what was lost.
+pub(crate) fn head_line(
+    alloc: Global,
+    tables: &Tables,
+    states: States,
+    warnings: usize,
+) -> Result<Line, AllocError>
+    ensures { IfOk result (λ line. line ≡ spec.plain (spec.head_text tables.now states warnings)) }
+{
+    let mut text = String::new(alloc);
+    put_head(&mut text, tables, states, warnings)?;
+    Ok(Line::new(Style::Plain, text))
+}
+
+/// A heading.
+pub(crate) fn heading(alloc: Global, text: &str) -> Result<Line, AllocError>
+    ensures { IfOk result (λ line. line ≡ spec.heading text.now) }
+{
+    let text = String::from_str(alloc, text)?;
+    Ok(Line::new(Style::Heading, text))
+}
+
+/// The columns of tasks.
+pub(crate) fn task_heading() -> &'static str
+    ensures { result.now ≡ spec.task_heading }
+{
+    "   TASK STATE          BUSY     SCHED   POLLS   WAKES SELF NAME                 KIND     LOCATION"
+}
+
+fn kind_word(kind: TaskKind) -> &'static str
+    ensures { result.now ≡ kind_word kind }
+{
+    match kind {
+        TaskKind::Spawn => "spawn",
+        TaskKind::Blocking => "blocking",
+    }
+}
+
+fn task_state(row: &TaskRow) -> &'static str
+    ensures { result.now ≡ task_state row.now }
+{
+    if row.dropped.is_some() {
+        "closed"
+    } else if row.polling {
+        "polling"
+    } else if row.scheduled {
+        "scheduled"
+    } else {
+        "idle"
+    }
+}
+
+// How long a task has run and waited.
+fn put_times(out: &mut String, room: &mut String, row: &TaskRow, now: u64) -> Result<(), AllocError>
+    ensures { OnOk result (Puts (string_bytes out.old) (string_bytes out.new) (spec.times_text now row.now)) }
+{
+    let busy = busy_until(row.busy, row.polling, row.last_started, now);
+    put_time(out, room, busy, 9)?;
+    put_time(out, room, sched_until(row, now), 9)?;
+    Ok(())
+}
+
+fn put_task(out: &mut String, room: &mut String, task: &Task, now: u64) -> Result<(), AllocError>
+    ensures { OnOk result (Puts (string_bytes out.old) (string_bytes out.new) (spec.task_text now task.now)) }
+{
+    let Task { info, row } = task;
+    put_value(out, room, &info.id, 7)?;
+    put_word(out, task_state(row), 9)?;
+    put_times(out, room, row, now)?;
+    put_value(out, room, &row.polls, 7)?;
+    put_value(out, room, &row.wakes, 7)?;
+    put_part(out, room, row.self_wakes, row.wakes, 4)?;
+    put_word(out, info.name.as_str(), 20)?;
+    put_word(out, kind_word(info.kind), 8)?;
+    put_location(out, &info.location)?;
+    Ok(())
+}
+
+/// The line of a task.
+pub(crate) fn task_line(alloc: Global, task: &Task, now: u64) -> Result<Line, AllocError>
+    ensures { IfOk result (λ line. line ≡ spec.plain (spec.task_text now task.now)) }
+{
+    let mut text = String::new(alloc);
+    let mut room = String::new(alloc);
+    put_task(&mut text, &mut room, task, now)?;
+    Ok(Line::new(Style::Plain, text))
+}

@@ -1,0 +1,222 @@
+-- The steps of a watch.
+use Rattle.std.proofs.Common.{◌≡◌, ℕ, ◌+◌, ◌<◌, List, [], ◌∷◌, ◌++◌, length, take, Option, Some, None, Ok, Err, refl, ap, sym, ◌∙◌, subst, ⊎_elim, append_assoc, append-nil, take-append-drop, drop}
+use Rattle.std.specs.Prelude.{flat_map}
+use Rattle.std.specs.Io.KnownBytes.{Appends, Consumes, IsAtEnd, Keeps}
+use Rattle.std.proofs.KnownBytes.{Appends-nil, Appends-trans, Consumes-kept, Consumes-nil, Consumes-trans}
+use Rattle.tk_client.specs.declared.fault.Fault.{Fault}
+use Rattle.tk_client.specs.declared.fault.Fault.TheVariants as client
+use Rattle.tk_client.specs.declared.fault.FeedError.{FeedError}
+use Rattle.tk_client.specs.Feeding.{ClientView, Stopped, StoppedBy}
+use Rattle.tk_client.specs.Meaning.{after, empty_start, meaning, stops}
+use Rattle.tk_client.proofs.Pieces.{meaning-append, stops-append}
+use Rattle.tk_fault.specs.declared.fault.AppFault.{AppFault}
+use Rattle.tk_fault.specs.declared.fault.AppFault.TheVariants as faults
+use Rattle.tk_report.specs.Taken.{HasTaken, first, stop_of}
+use Rattle.tk_report.specs.Views.{AreAll, outcome_of}
+use Rattle.tk_report.proofs.ViewLemmas.{begins}
+use Rattle.tk_stream.specs.Sent.{IsCut}
+use Rattle.tk_watch.specs.Drawing.{Draws, DrawsAt, text_of}
+use Rattle.tk_watch.specs.Watches.{Watches, WritesSome, lines_in, screen_of, tables_in}
+use Rattle.tk_watch.specs.Watching.{Covers, TakesTo, Watching, last_lines}
+use Rattle.tk_watch.specs.declared.drawing.Screen.{Screen}
+use Rattle.tk_watch.proofs.FrontLemmas.{ends_at_all, last_more, rise_more, rise_on, texts_more}
+
+-- ---- a piece has a fault
+
+module _ (front piece : List ℕ) (lines : ℕ) (old new : ClientView) (e : FeedError) (h : HasTaken front lines old) where
+  stops_there : (fault : Fault) → meaning old.max_line old.start (take e.used piece) ≡ stops new.start.tables e.lines fault e.used
+      → outcome_of (front ++ piece) ≡ stops new.start.tables (lines + e.lines) fault (length front + e.used)
+  stops_there fault o =
+      let part = take e.used piece in
+      let there : outcome_of (front ++ part) ≡ stops new.start.tables (lines + e.lines) fault (length front + e.used) =
+      meaning-append 268435456 empty_start old.start front part lines h.took.came
+      ∙ ap (after lines (length front)) (ap (λ k. meaning k old.start part) (sym h.limit) ∙ o) in
+      ap outcome_of (ap (λ xs. front ++ xs) (sym (take-append-drop e.used piece)) ∙ sym (append_assoc front part (drop e.used piece)))
+      ∙ stops-append 268435456 empty_start (front ++ part) (drop e.used piece) new.start.tables (lines + e.lines) (length front + e.used) fault there
+
+  stops_by : (fault : Fault) → StoppedBy fault (meaning old.max_line old.start (take e.used piece)) e new → TakesTo (front ++ piece) (Err (stop_of (lines + e.lines) fault)) new
+  stops_by client.Memory by = tt
+  stops_by client.BadJson by = (_, stops_there client.BadJson by.0)
+  stops_by client.BadShape by = (_, stops_there client.BadShape by.0)
+  stops_by (client.Gap expected found) by = (_, stops_there (client.Gap expected found) by.0)
+  stops_by client.UnknownId by = (_, stops_there client.UnknownId by.0)
+  stops_by client.Repeated by = (_, stops_there client.Repeated by.0)
+  stops_by client.TooLong by = (_, stops_there client.TooLong by.0)
+  stops_by client.Misfit by = (_, stops_there client.Misfit by.0)
+  stops_by client.Failed by = (_, stops_there client.Failed by.0)
+
+  pub stops_to : (answer : AppFault) → Stopped old piece e new → answer ≡ stop_of (lines + e.lines) e.fault → TakesTo (front ++ piece) (Err answer) new
+  stops_to answer s is = subst (λ f. TakesTo (front ++ piece) (Err f) new) (sym is) (stops_by e.fault s.by)
+
+-- ---- what a reader gave at its end
+
+none_taken : (xs : List ℕ) → take 0 xs ≡ []
+none_taken [] = refl
+none_taken (x ∷ xs) = refl
+
+pub reads_none : (left new : Option (List ℕ)) (n : ℕ) (buf : List ℕ) → n ≡ 0 → Consumes left new (take n buf) → Consumes left new []
+reads_none left new n buf is read = subst (Consumes left new) (ap (λ k. take k buf) is ∙ none_taken buf) read
+
+pub all_at_end : (given left : Option (List ℕ)) (bytes : List ℕ) → Consumes given left bytes → IsAtEnd left → AreAll given bytes
+all_at_end None left bytes read end = tt
+all_at_end (Some x) None bytes read end = absurd read
+all_at_end (Some x) (Some y) bytes read end = read ∙ ap (λ zs. bytes ++ zs) end ∙ append-nil bytes
+
+-- ---- steps
+
+-- nothing was read, and nothing drawn
+pub none_drawn : (screen : Screen) (given old : Option (List ℕ)) → WritesSome screen given given old old
+none_drawn screen given old = record { bytes = []; read = Consumes-nil given; fronts = []; rise = tt; wrote = Appends-nil old }
+
+-- nothing was read
+pub starts : (screen : Screen) (given old : Option (List ℕ)) (c : ClientView) → c ≡ first → Watching screen given given 0 None c old old
+starts screen given old c is = record {
+  bytes = [];
+  read = Consumes-nil given;
+  taken = begins c is;
+  fronts = [];
+  rise = tt;
+  last = refl;
+  wrote = Appends-nil old;
+}
+
+module _ (screen : Screen) (given left old : Option (List ℕ)) (lines : ℕ) (drawn : Option ℕ) (now : ClientView) (wrote : Option (List ℕ)) (w : Watching screen given left lines drawn now old wrote) where
+  -- a piece more was read, and taken
+  pub takes_more : (new : Option (List ℕ)) (piece : List ℕ) (sum : ℕ) (then : ClientView) → Consumes left new piece → HasTaken (w.bytes ++ piece) sum then
+      → Watching screen given new sum drawn then old wrote
+  takes_more new piece sum then read taken = record {
+    bytes = w.bytes ++ piece;
+    read = Consumes-trans given left new w.bytes piece w.read read;
+    taken = taken;
+    fronts = w.fronts;
+    rise = rise_on w.fronts w.bytes piece w.rise;
+    last = w.last;
+    wrote = w.wrote;
+  }
+
+  -- nothing more was read
+  pub keeps_on : (new : Option (List ℕ)) → Consumes left new [] → Watching screen given new lines drawn now old wrote
+  keeps_on new read = takes_more new [] lines now read (subst (λ xs. HasTaken xs lines now) (sym (append-nil w.bytes)) w.taken)
+
+  -- it stops for want of memory, or as the reader fails
+  pub stops_some : (new : Option (List ℕ)) → Keeps left new → Watches screen given new (Err faults.Read) old wrote
+  stops_some new kept = record { bytes = w.bytes; read = Consumes-kept given left new w.bytes w.read kept; fronts = w.fronts; rise = w.rise; wrote = w.wrote }
+
+  pub stops_here : Watches screen given left (Err faults.Read) old wrote
+  stops_here = record { bytes = w.bytes; read = w.read; fronts = w.fronts; rise = w.rise; wrote = w.wrote }
+
+  pub stops_without : (new : Option (List ℕ)) (piece : List ℕ) → Consumes left new piece → Watches screen given new (Err faults.Memory) old wrote
+  stops_without new piece read = record {
+    bytes = w.bytes ++ piece;
+    read = Consumes-trans given left new w.bytes piece w.read read;
+    fronts = w.fronts;
+    rise = rise_on w.fronts w.bytes piece w.rise;
+    wrote = w.wrote;
+  }
+
+  tables_are : tables_in (outcome_of w.bytes) ≡ now.start.tables
+  tables_are = ap tables_in w.taken.took.came
+
+  lines_are : lines_in (outcome_of w.bytes) ≡ lines
+  lines_are = ap lines_in w.taken.took.came
+
+  -- a screen was drawn
+  pub draws_more : (new : Option (List ℕ)) → Draws screen now.start.tables (Ok tt) wrote new → ((most : ℕ) → drawn ≡ Some most → most < lines)
+      → Watching screen given left lines (Some lines) now old new
+  draws_more new drew below = record {
+    bytes = w.bytes;
+    read = w.read;
+    taken = w.taken;
+    fronts = w.fronts ++ w.bytes ∷ [];
+    rise = rise_more w.fronts w.bytes w.rise (λ most is. subst (λ n. most < n) (sym lines_are) (below most (sym w.last ∙ is)));
+    last = last_more w.fronts w.bytes ∙ ap Some lines_are;
+    wrote = subst (Appends old new) (sym (texts_more (screen_of screen) w.fronts w.bytes))
+        (Appends-trans old wrote new (flat_map (screen_of screen) w.fronts) (screen_of screen w.bytes) w.wrote (subst (λ t. Appends wrote new (text_of screen t)) (sym tables_are) drew));
+  }
+
+  -- it could not be drawn
+  pub draws_not : (fault : AppFault) (new : Option (List ℕ)) → Draws screen now.start.tables (Err fault) wrote new → Watches screen given left (Err fault) old new
+  draws_not faults.Write new drew = record {
+    bytes = w.bytes;
+    read = w.read;
+    fronts = w.fronts;
+    rise = w.rise;
+    front = drew.0;
+    cut = subst (λ t. IsCut (text_of screen t) drew.0) (sym tables_are) drew.1;
+    wrote = Appends-trans old wrote new (flat_map (screen_of screen) w.fronts) drew.0 w.wrote drew.2;
+  }
+  draws_not faults.Memory new drew = record { bytes = w.bytes; read = w.read; fronts = w.fronts; rise = w.rise; wrote = subst (λ k. Appends old k (flat_map (screen_of screen) w.fronts)) (sym drew) w.wrote }
+  draws_not faults.Read new drew = absurd drew
+  draws_not (faults.Stream n fault) new drew = absurd drew
+  draws_not (faults.Script line name) new drew = absurd drew
+
+  -- a piece more has a fault
+  module _ (left' : Option (List ℕ)) (piece : List ℕ) (next : ClientView) (read : Consumes left left' piece) where
+    ends_by : (n : ℕ) (fault : Fault) (new : Option (List ℕ)) → TakesTo (w.bytes ++ piece) (Err (faults.Stream n fault)) next
+        → Draws screen next.start.tables (Ok tt) wrote new → Watches screen given left' (Err (faults.Stream n fault)) old new
+    ends_by n fault new h drew = record {
+      bytes = w.bytes ++ piece;
+      read = Consumes-trans given left left' w.bytes piece w.read read;
+      tables = next.start.tables;
+      used = h.0;
+      stop = h.1;
+      fronts = w.fronts;
+      rise = rise_on w.fronts w.bytes piece w.rise;
+      wrote = Appends-trans old wrote new (flat_map (screen_of screen) w.fronts) (screen_of screen (w.bytes ++ piece)) w.wrote
+          (subst (λ t. Appends wrote new (text_of screen t)) (sym (ap tables_in h.1)) drew);
+    }
+
+    ends_without : (n : ℕ) (fault : Fault) (stop : AppFault) (new : Option (List ℕ)) → TakesTo (w.bytes ++ piece) (Err (faults.Stream n fault)) next
+        → Draws screen next.start.tables (Err stop) wrote new → Watches screen given left' (Err stop) old new
+    ends_without n fault faults.Write new h d = record {
+      bytes = w.bytes ++ piece;
+      read = Consumes-trans given left left' w.bytes piece w.read read;
+      fronts = w.fronts;
+      rise = rise_on w.fronts w.bytes piece w.rise;
+      front = d.0;
+      cut = subst (λ t. IsCut (text_of screen t) d.0) (sym (ap tables_in h.1)) d.1;
+      wrote = Appends-trans old wrote new (flat_map (screen_of screen) w.fronts) d.0 w.wrote d.2;
+    }
+    ends_without n fault faults.Memory new h d = record {
+      bytes = w.bytes ++ piece;
+      read = Consumes-trans given left left' w.bytes piece w.read read;
+      fronts = w.fronts;
+      rise = rise_on w.fronts w.bytes piece w.rise;
+      wrote = subst (λ k. Appends old k (flat_map (screen_of screen) w.fronts)) (sym d) w.wrote;
+    }
+    ends_without n fault faults.Read new h d = absurd d
+    ends_without n fault (faults.Stream m f) new h d = absurd d
+    ends_without n fault (faults.Script line name) new h d = absurd d
+
+    pub ends_at : (fault answer : AppFault) (new : Option (List ℕ)) → TakesTo (w.bytes ++ piece) (Err fault) next
+        → DrawsAt screen next.start.tables fault answer wrote new → Watches screen given left' (Err answer) old new
+    ends_at faults.Memory answer new h d =
+        subst (λ a. Watches screen given left' (Err a) old new) (sym d.0)
+        (subst (λ k. Watches screen given left' (Err faults.Memory) old k) (sym d.1) (stops_without left' piece read))
+    ends_at faults.Read answer new h d = absurd h
+    ends_at faults.Write answer new h d = absurd h
+    ends_at (faults.Script line name) answer new h d = absurd h
+    ends_at (faults.Stream n fault) answer new h d =
+        ⊎_elim (λ p. subst (λ a. Watches screen given left' (Err a) old new) (sym p.0) (ends_by n fault new h p.1)) (λ q. ends_without n fault answer new h q) d
+
+  -- all was read, and the last screen has all lines
+  pub ends_all : AreAll given w.bytes → Covers drawn lines → Watches screen given left (Ok tt) old wrote
+  ends_all all covers = by drawn covers w.last
+    where
+      shows : (a b : List ℕ) → tables_in (outcome_of a) ≡ tables_in (outcome_of b) → screen_of screen a ≡ screen_of screen b
+      shows a b e = ap (text_of screen) e
+
+      by : (d : Option ℕ) → Covers d lines → last_lines w.fronts ≡ d → Watches screen given left (Ok tt) old wrote
+      by None c is = absurd c
+      by (Some most) c is =
+          let e = ends_at_all (screen_of screen) shows w.fronts w.bytes now.start lines most w.rise is c w.taken.took.came in
+          record {
+            bytes = w.bytes;
+            all = all;
+            start = now.start;
+            lines = lines;
+            come = w.taken.took.came;
+            fronts = e.init;
+            rise = e.rise;
+            wrote = subst (Appends old wrote) e.same w.wrote;
+          }

@@ -1,0 +1,93 @@
+-- What is written of a stream that is watched.
+use Rattle.std.specs.Prelude.{◌≡◌, ℕ, ◌<◌, List, [], ◌∷◌, ◌++◌, flat_map, Option, Result, Ok, Err}
+use Rattle.std.specs.Io.KnownBytes.{Appends, Consumes}
+use Rattle.tk_client.specs.declared.fault.Fault.{Fault}
+use Rattle.tk_client.specs.Meaning.{Outcome, Start, goes, stops}
+use Rattle.tk_fault.specs.declared.fault.AppFault.{AppFault}
+use Rattle.tk_fault.specs.declared.fault.AppFault.TheVariants as faults
+use Rattle.tk_frame.specs.Frames.{frame_text}
+use Rattle.tk_report.specs.Views.{AreAll, outcome_of}
+use Rattle.tk_stream.specs.Sent.{IsCut}
+use Rattle.tk_stream.specs.Tables.{TablesView}
+use Rattle.tk_watch.specs.declared.drawing.Screen.{Screen}
+
+-- the tables that bytes come to: at a fault those that stood before it
+abbrev pub tables_in : Outcome → TablesView
+tables_in (goes start lines) = start.tables
+tables_in (stops tables lines fault used) = tables
+
+-- how many of their lines are applied
+abbrev pub lines_in : Outcome → ℕ
+lines_in (goes start lines) = lines
+lines_in (stops tables lines fault used) = lines
+
+-- the screen of the tables that a stream's bytes come to
+abbrev pub screen_of : Screen → List ℕ → List ℕ
+screen_of screen bytes = frame_text screen.canvas screen.query screen.lints (tables_in (outcome_of bytes))
+
+-- bytes begin with these
+pub record IsFront (front bytes : List ℕ) : Type 0 where
+  pub rest : List ℕ
+  pub whole : bytes ≡ front ++ rest
+
+-- bytes are a front of the next ones, in which at least one line more is applied; where none are next, of all
+abbrev pub GoesBefore : List ℕ → List (List ℕ) → List ℕ → Type 0
+GoesBefore front [] bytes = IsFront front bytes
+GoesBefore front (next ∷ fronts) bytes = IsFront front next × (lines_in (outcome_of front) < lines_in (outcome_of next))
+
+-- rising fronts of bytes
+abbrev pub Rise : List (List ℕ) → List ℕ → Type 0
+Rise [] bytes = Unit {0}
+Rise (front ∷ fronts) bytes = GoesBefore front fronts bytes × Rise fronts bytes
+
+-- all bytes were read, and have no fault. Written was, for rising fronts of them of which they are the last, screen after screen of
+-- what these come to
+pub record WritesAll (screen : Screen) (given old new : Option (List ℕ)) : Type 0 where
+  pub bytes : List ℕ
+  pub all : AreAll given bytes
+  pub start : Start
+  pub lines : ℕ
+  pub come : outcome_of bytes ≡ goes start lines
+  pub fronts : List (List ℕ)
+  pub rise : Rise (fronts ++ bytes ∷ []) bytes
+  pub wrote : Appends old new (flat_map (screen_of screen) (fronts ++ bytes ∷ []))
+
+-- bytes were read, and for rising fronts of them screens were written
+pub record WritesSome (screen : Screen) (given left old new : Option (List ℕ)) : Type 0 where
+  pub bytes : List ℕ
+  pub read : Consumes given left bytes
+  pub fronts : List (List ℕ)
+  pub rise : Rise fronts bytes
+  pub wrote : Appends old new (flat_map (screen_of screen) fronts)
+
+-- so it was, and then a proper front of the screen of all that was read was written
+pub record WritesFront (screen : Screen) (given left old new : Option (List ℕ)) : Type 0 where
+  pub bytes : List ℕ
+  pub read : Consumes given left bytes
+  pub fronts : List (List ℕ)
+  pub rise : Rise fronts bytes
+  pub front : List ℕ
+  pub cut : IsCut (screen_of screen bytes) front
+  pub wrote : Appends old new (flat_map (screen_of screen) fronts ++ front)
+
+-- so it was, what was read has this fault, after so many lines that are applied, and then the screen of what stood before it was
+-- written
+pub record WritesUpTo (screen : Screen) (given left : Option (List ℕ)) (lines : ℕ) (fault : Fault) (old new : Option (List ℕ)) : Type 0 where
+  pub bytes : List ℕ
+  pub read : Consumes given left bytes
+  pub tables : TablesView
+  pub used : ℕ
+  pub stop : outcome_of bytes ≡ stops tables lines fault used
+  pub fronts : List (List ℕ)
+  pub rise : Rise fronts bytes
+  pub wrote : Appends old new (flat_map (screen_of screen) fronts ++ screen_of screen bytes)
+
+-- what watching a stream came to, by its answer: of the reader's bytes that were given and those that are left, and of the
+-- writer's before and after
+abbrev pub Watches : Screen → Option (List ℕ) → Option (List ℕ) → Result (Unit {0}) AppFault → Option (List ℕ) → Option (List ℕ) → Type 0
+Watches screen given left (Ok done) old new = WritesAll screen given old new
+Watches screen given left (Err faults.Write) old new = WritesFront screen given left old new
+Watches screen given left (Err (faults.Stream lines fault)) old new = WritesUpTo screen given left lines fault old new
+Watches screen given left (Err faults.Memory) old new = WritesSome screen given left old new
+Watches screen given left (Err faults.Read) old new = WritesSome screen given left old new
+Watches screen given left (Err (faults.Script line name)) old new = ⊥

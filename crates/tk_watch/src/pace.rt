@@ -1,0 +1,74 @@
+//! When a screen may be drawn.
+use std::thread;
+use std::time::{Clock, Duration, Instant};
+
+/// What tells when a screen may be drawn. Which screens these are is no matter of its.
+pub trait Pace {
+    /// Whether a screen may be drawn now.
+    fn is_due(&mut self) -> bool;
+
+    /// Lets time pass until a screen may be drawn.
+    fn wait(&mut self);
+
+    /// A screen was drawn now.
+    fn mark(&mut self);
+
+    /// At the end of what a reader gave: whether more may come, once some time has passed.
+    fn goes_on(&mut self) -> bool;
+}
+
+/// Screens by a clock, no two of them within a span of time.
+#[derive(Clone, Copy)]
+pub struct Every<'a, R: Clock> {
+    clock: &'a R,
+    span: Duration,
+    follows: bool,
+    last: Option<Instant>,
+}
+
+impl<'a, R: Clock> Every<'a, R> {
+    /// No two screens within so many milliseconds. A stream that is followed goes on at its end.
+    pub fn new(clock: &'a R, millis: u64, follows: bool) -> Self {
+        Every {
+            clock,
+            span: Duration::from_millis(millis),
+            follows,
+            last: None,
+        }
+    }
+
+    // How long it is until a screen may be drawn. A clock that can't be read asks for no time.
+    fn left(&self) -> Duration {
+        match &self.last {
+            Some(last) => match last.elapsed(self.clock) {
+                Ok(gone) => self.span.saturating_sub(gone),
+                Err(_) => Duration::ZERO,
+            },
+            None => Duration::ZERO,
+        }
+    }
+}
+
+// For how many milliseconds a reader that gave its end is not asked again.
+const REST: u64 = 50;
+
+impl<R: Clock> Pace for Every<'_, R> {
+    fn is_due(&mut self) -> bool {
+        self.left().is_zero()
+    }
+
+    fn wait(&mut self) {
+        thread::sleep(self.clock, self.left());
+    }
+
+    fn mark(&mut self) {
+        self.last = Instant::now(self.clock).ok();
+    }
+
+    fn goes_on(&mut self) -> bool {
+        if self.follows {
+            thread::sleep(self.clock, Duration::from_millis(REST));
+        }
+        self.follows
+    }
+}

@@ -1,0 +1,294 @@
+//! A stream that is watched.
+ghost use Rattle.std.specs.Prelude.{◌≡◌, ◌≤◌, ◌<◌, ◌+◌, ◌^◌, ◌++◌, ◌∷◌, [], ℕ, List, Option, length, take, IfOk, true, false};
+ghost use Rattle.std.specs.Io.KnownBytes.{Consumes, IsAtEnd};
+ghost use Rattle.tk_report.specs.Taken.{HasTaken, first, stop_of};
+ghost use Rattle.tk_watch.specs.Drawing.{DrawsAt};
+ghost use Rattle.tk_watch.specs.Watches.{Watches};
+ghost use Rattle.tk_watch.specs.Watching as spec;
+
+use crate::drawing::{Screen, draw};
+use crate::pace::Pace;
+use std::alloc::Global;
+use std::io::{Read, Write};
+use tk_client::{Client, Fault, FeedError};
+use tk_fault::AppFault;
+
+// How many bytes a line of a stream has at most. No script gives a longer one.
+const MAX_LINE: usize = 268_435_456;
+
+// How many bytes are read at a time.
+const PIECE: usize = 65_536;
+
+// How many lines are applied, and how many were when the last screen was drawn, if one was.
+#[derive(Clone, Copy)]
+struct Progress {
+    lines: u64,
+    drawn: Option<u64>,
+}
+
+// Why a stream isn't taken after so many lines.
+fn stopped(lines: u64, error: FeedError) -> AppFault
+    requires { lines + error.lines < 2 ^ 64 }
+    ensures { result ≡ stop_of (lines + error.lines) error.fault }
+{
+    match error.fault {
+        Fault::Memory => AppFault::Memory,
+        fault => AppFault::Stream {
+            lines: lines + error.lines,
+            fault,
+        },
+    }
+}
+
+// Feeds a client that has applied so many lines, and answers how many it has then applied.
+fn feed_more(client: &mut Client, lines: u64, piece: &[u8]) -> Result<u64, AppFault>
+    requires few { lines ≤ 2 ^ 62 }
+    requires short { length piece.now ≤ 65536 }
+    ensures takes { (front : List ℕ) → HasTaken front lines client.old → spec.TakesTo (front ++ piece.now) result client.new }
+    ensures few { IfOk result (λ sum. sum ≤ lines + 65536) }
+{
+    match client.feed(piece) {
+        Ok(more) => Ok(lines + more),
+        Err(error) => Err(stopped(lines, error)),
+    }
+}
+
+// Draws what stands at a fault of the stream, and answers that fault, or the one by which it could not be drawn.
+fn draw_at<W: Write>(
+    client: &Client,
+    alloc: Global,
+    writer: &mut W,
+    screen: &Screen<'_>,
+    fault: AppFault,
+) -> AppFault
+    ensures { DrawsAt screen.now client.now.start.tables fault result (W.contents writer.old) (W.contents writer.new) }
+{
+    match fault {
+        AppFault::Stream { .. } => match draw(client, alloc, writer, screen) {
+            Ok(()) => fault,
+            Err(stop) => stop,
+        },
+        _ => fault,
+    }
+}
+
+// Takes a piece. At a fault of the stream the screen of what stands is drawn.
+fn take_piece<W: Write>(
+    client: &mut Client,
+    alloc: Global,
+    writer: &mut W,
+    screen: &Screen<'_>,
+    lines: u64,
+    piece: &[u8],
+) -> Result<u64, AppFault>
+    requires few { lines ≤ 2 ^ 62 }
+    requires short { length piece.now ≤ 65536 }
+    ensures goes { (given left new old : Option (List ℕ)) (drawn : Option ℕ) → Consumes left new piece.now
+        → spec.Watching screen.now given left lines drawn client.old old (W.contents writer.old)
+        → spec.Goes screen.now given new result drawn client.new old (W.contents writer.new) }
+    ensures few { IfOk result (λ sum. sum ≤ lines + 65536) }
+{
+    match feed_more(client, lines, piece) {
+        Ok(sum) => Ok(sum),
+        Err(fault) => Err(draw_at(client, alloc, writer, screen, fault)),
+    }
+}
+
+// Whether lines came since the last screen, which had so many.
+fn is_new(lines: u64, drawn: Option<u64>) -> bool
+    ensures new { result ≡ true → (most : ℕ) → drawn ≡ Option.Some most → most < lines }
+    ensures old { result ≡ false → spec.Covers drawn lines }
+{
+    match drawn {
+        Some(drawn) => drawn < lines,
+        None => true,
+    }
+}
+
+// Draws a screen where lines came since the last one, which had so many, and answers how many the last one then has.
+fn draw_new<W: Write>(
+    client: &Client,
+    alloc: Global,
+    writer: &mut W,
+    screen: &Screen<'_>,
+    lines: u64,
+    drawn: Option<u64>,
+) -> Result<Option<u64>, AppFault>
+    ensures drew { (given left old : Option (List ℕ)) → spec.Watching screen.now given left lines drawn client.now old (W.contents writer.old)
+        → spec.Drew screen.now given left lines result client.now old (W.contents writer.new) }
+    ensures covers { IfOk result (λ last. spec.Covers last lines) }
+{
+    if !is_new(lines, drawn) {
+        return Ok(drawn);
+    }
+    draw(client, alloc, writer, screen)?;
+    Ok(Some(lines))
+}
+
+// Whether a screen may be drawn after a piece. Where none is due yet, but the reader had no more and no line is half read, it waits:
+// else what came last would not be drawn before more comes.
+fn may_draw<P: Pace>(pace: &mut P, piece: &[u8]) -> bool {
+    if pace.is_due() {
+        return true;
+    }
+    let is_at_rest = piece.len() < PIECE && piece.last() == Some(&b'\n');
+    if is_at_rest {
+        pace.wait();
+    }
+    is_at_rest
+}
+
+// Draws a screen after a piece, where one may be drawn and lines came since the last one.
+fn draw_after<W: Write, P: Pace>(
+    client: &Client,
+    alloc: Global,
+    writer: &mut W,
+    screen: &Screen<'_>,
+    pace: &mut P,
+    lines: u64,
+    drawn: Option<u64>,
+    piece: &[u8],
+) -> Result<Option<u64>, AppFault>
+    ensures drew { (given left old : Option (List ℕ)) → spec.Watching screen.now given left lines drawn client.now old (W.contents writer.old)
+        → spec.Drew screen.now given left lines result client.now old (W.contents writer.new) }
+{
+    if !is_new(lines, drawn) || !may_draw(pace, piece) {
+        return Ok(drawn);
+    }
+    let last = draw_new(client, alloc, writer, screen, lines, drawn)?;
+    pace.mark();
+    Ok(last)
+}
+
+// Takes a piece that was read, and draws a screen where one may be drawn.
+fn after_piece<W: Write, P: Pace>(
+    client: &mut Client,
+    alloc: Global,
+    writer: &mut W,
+    screen: &Screen<'_>,
+    pace: &mut P,
+    progress: Progress,
+    piece: &[u8],
+) -> Result<Option<Progress>, AppFault>
+    requires few { progress.lines ≤ 2 ^ 62 }
+    requires short { length piece.now ≤ 65536 }
+    ensures steps { (given left new old : Option (List ℕ)) → Consumes left new piece.now
+        → spec.Watching screen.now given left progress.lines progress.drawn client.old old (W.contents writer.old)
+        → spec.Steps screen.now given new result client.new old (W.contents writer.new) }
+    ensures few { spec.IsFew progress.lines result }
+{
+    let lines = take_piece(client, alloc, writer, screen, progress.lines, piece)?;
+    let drawn = draw_after(
+        client,
+        alloc,
+        writer,
+        screen,
+        pace,
+        lines,
+        progress.drawn,
+        piece,
+    )?;
+    Ok(Some(Progress { lines, drawn }))
+}
+
+// Draws what isn't drawn yet at the end of what the reader gave, and asks whether more may come.
+fn at_end<W: Write, P: Pace>(
+    client: &Client,
+    alloc: Global,
+    writer: &mut W,
+    screen: &Screen<'_>,
+    pace: &mut P,
+    progress: Progress,
+) -> Result<Option<Progress>, AppFault>
+    ensures steps { (given left old : Option (List ℕ)) → IsAtEnd left
+        → spec.Watching screen.now given left progress.lines progress.drawn client.now old (W.contents writer.old)
+        → spec.Steps screen.now given left result client.now old (W.contents writer.new) }
+    ensures few { spec.IsFew progress.lines result }
+{
+    let lines = progress.lines;
+    let drawn = draw_new(client, alloc, writer, screen, lines, progress.drawn)?;
+    if pace.goes_on() {
+        Ok(Some(Progress { lines, drawn }))
+    } else {
+        Ok(None)
+    }
+}
+
+// Reads once, and does what is to be done then. It answers how far it has come, unless this is the end.
+fn step<R: Read, W: Write, P: Pace>(
+    client: &mut Client,
+    alloc: Global,
+    reader: &mut R,
+    writer: &mut W,
+    screen: &Screen<'_>,
+    pace: &mut P,
+    progress: Progress,
+    piece: &mut [u8],
+) -> Result<Option<Progress>, AppFault>
+    requires few { progress.lines ≤ 2 ^ 62 }
+    requires room { length piece.old ≡ 65536 }
+    ensures steps { (given old : Option (List ℕ))
+        → spec.Watching screen.now given (R.remaining reader.old) progress.lines progress.drawn client.old old (W.contents writer.old)
+        → spec.Steps screen.now given (R.remaining reader.new) result client.new old (W.contents writer.new) }
+    ensures few { spec.IsFew progress.lines result }
+{
+    match reader.read(piece) {
+        Ok(0) => at_end(client, alloc, writer, screen, pace, progress),
+        Ok(n) => after_piece(client, alloc, writer, screen, pace, progress, &piece[..n]),
+        Err(_) => Err(AppFault::Read),
+    }
+}
+
+// What `watch_stream` does by a new client. It gives up after 2^32 reads.
+fn watch_by<R: Read, W: Write, P: Pace>(
+    client: &mut Client,
+    alloc: Global,
+    reader: &mut R,
+    writer: &mut W,
+    screen: &Screen<'_>,
+    pace: &mut P,
+) -> Result<(), AppFault>
+    requires { client.old ≡ first }
+    ensures { Watches screen.now (R.remaining reader.old) (R.remaining reader.new) result (W.contents writer.old) (W.contents writer.new) }
+{
+    let mut piece = [0u8; PIECE];
+    let mut progress = Progress {
+        lines: 0,
+        drawn: None,
+    };
+    for _ in 0u64..4_294_967_296 {
+        match step(
+            client, alloc, reader, writer, screen, pace, progress, &mut piece,
+        )? {
+            Some(next) => progress = next,
+            None => return Ok(()),
+        }
+    }
+    Err(AppFault::Read)
+}
+
+/// Reads a stream to its end, and draws a screen of what it has come to, anew once lines came and the pace allows it, and at the
+/// end where it isn't drawn yet.
+///
+/// Each screen is made whole before its first byte is written. A last line without its line end is ignored.
+///
+/// - `Memory`: there was no memory for the tables or for a screen, of which then nothing was written.
+/// - `Read`: the reader failed, or gave no end within 2^32 reads.
+/// - `Stream`: a line has a fault, or more than 268,435,456 bytes. The screen of what stood before it was drawn.
+/// - `Write`: the writer failed. A proper front of the last screen went out.
+///
+/// The screens before stay at each of them.
+pub fn watch_stream<R: Read, W: Write, P: Pace>(
+    alloc: Global,
+    reader: &mut R,
+    writer: &mut W,
+    screen: &Screen<'_>,
+    pace: &mut P,
+) -> Result<(), AppFault>
+    ensures { Watches screen.now (R.remaining reader.old) (R.remaining reader.new) result (W.contents writer.old) (W.contents writer.new) }
+{
+    match Client::new(alloc, MAX_LINE) {
+        Ok(mut client) => watch_by(&mut client, alloc, reader, writer, screen, pace),
+        Err(_) => Err(AppFault::Memory),
+    }
+}
