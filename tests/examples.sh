@@ -2,8 +2,8 @@
 # Compares what the proved program writes with files, byte for byte.
 #
 # For each of examples/*.script: its stream by `run` with *.script.stdout, what `view` writes of that stream with
-# *.script.report, and what `lint` writes of it with the warning lines of the report; the status of `lint` is 3 where there
-# are any. What `demo` writes is compared with examples/demo.report. Then each call of tests/program/calls, which says what the
+# *.script.report, what `page` writes of it with *.script.html, and what `lint` writes of it with the warning lines of the report; the status of `lint` is 3
+# where there are any. What `demo` writes is compared with examples/demo.report. Then each call of tests/program/calls, which says what the
 # program is given and what it answers: other words, help, faults, and streams that can't be read or written.
 #
 # Usage: tests/examples.sh, behind `rt ci` or `rt run` in crates/taskscope.
@@ -52,6 +52,7 @@ try_examples() {
         try "$script" 0 "$script.stdout" - run
         try "$script.stdout" 0 "$script.report" - view
         try "$script.stdout" "$warned" "$work/warnings" - lint
+        try "$script.stdout" 0 "$script.html" - page
     done
     try /dev/null 0 "$root/examples/demo.report" - demo
 }

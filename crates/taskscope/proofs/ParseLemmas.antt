@@ -25,7 +25,7 @@ use Rattle.clap.proofs.WalkLemmas.{both}
 use Rattle.tk_client.specs.Warnings.{LintsView}
 use Rattle.tk_report.specs.declared.view.View.{View}
 use Rattle.tk_report.specs.declared.view.View.TheVariants.{Report, Lint}
-use Rattle.taskscope.specs.declared.command_line.Request.TheVariants.{Show}
+use Rattle.taskscope.specs.declared.command_line.Request.TheVariants.{Page, Show}
 use Rattle.taskscope.specs.Requests.{asked, asked_in, lints_in, number_of, number_option, program}
 
 -- ---- lists of kinds
@@ -431,12 +431,16 @@ view_asks : (view : View) (lints : Option LintsView) → IsSome lints → IsSome
 view_asks view None some = absurd (true≢false (sym some))
 view_asks view (Some l) some = refl
 
+page_asks_of : (lints : Option LintsView) → IsSome lints → IsSome (option_and_then (λ l. Some (Page l)) lints)
+page_asks_of None some = absurd (true≢false (sym some))
+page_asks_of (Some l) some = refl
+
 abbrev there : App
 there = built program
 
 -- one of the commands
 abbrev IsCommand : Text → Type 0
-IsCommand name = (name ≡ codes "run") ⊎ ((name ≡ codes "view") ⊎ ((name ≡ codes "lint") ⊎ (name ≡ codes "demo")))
+IsCommand name = (name ≡ codes "run") ⊎ ((name ≡ codes "view") ⊎ ((name ≡ codes "lint") ⊎ ((name ≡ codes "page") ⊎ (name ≡ codes "demo"))))
 
 abbrev MeetsCommand : Option Text → Type 0
 MeetsCommand None = Unit {0}
@@ -452,23 +456,24 @@ EntersCommand (trailing position) = Unit {0}
 EntersCommand (subcommand name) = IsCommand name
 EntersCommand value = Unit {0}
 
-abbrev met : Bool → Bool → Bool → Bool → Bool → Option (Text × List Text)
-met a b c d e = cond a (Some (codes "run", [])) (cond b (Some (codes "view", [])) (cond c (Some (codes "lint", [])) (cond d (Some (codes "demo", [])) (cond e (Some (codes "help", [])) None))))
+abbrev met : Bool → Bool → Bool → Bool → Bool → Bool → Option (Text × List Text)
+met a b c d e f = cond a (Some (codes "run", [])) (cond b (Some (codes "view", [])) (cond c (Some (codes "lint", [])) (cond d (Some (codes "page", [])) (cond e (Some (codes "demo", [])) (cond f (Some (codes "help", [])) None)))))
 
 -- `help` is answered, so that no parse enters it
 meets_command : (waiting : Waiting) (word : Text) (h : Held) → other_fault there.top (subcommand_met (names_of there) waiting word) word h ≡ []
     → MeetsCommand (subcommand_met (names_of there) waiting word)
 meets_command (option id) word h none = tt
 meets_command positional word h none = tt
-meets_command idle word h none = go (bytes_eq (codes "run") word || false) (bytes_eq (codes "view") word || false) (bytes_eq (codes "lint") word || false) (bytes_eq (codes "demo") word || false) (bytes_eq (codes "help") word || false) none
+meets_command idle word h none = go (bytes_eq (codes "run") word || false) (bytes_eq (codes "view") word || false) (bytes_eq (codes "lint") word || false) (bytes_eq (codes "page") word || false) (bytes_eq (codes "demo") word || false) (bytes_eq (codes "help") word || false) none
   where
-    go : (a b c d e : Bool) → other_fault there.top (option_map (λ s. s.0) (met a b c d e)) word h ≡ [] → MeetsCommand (option_map (λ s. s.0) (met a b c d e))
-    go true b c d e none = inl refl
-    go false true c d e none = inr (inl refl)
-    go false false true d e none = inr (inr (inl refl))
-    go false false false true e none = inr (inr (inr refl))
-    go false false false false true none = absurd (some_kind _ _ none)
-    go false false false false false none = tt
+    go : (a b c d e f : Bool) → other_fault there.top (option_map (λ s. s.0) (met a b c d e f)) word h ≡ [] → MeetsCommand (option_map (λ s. s.0) (met a b c d e f))
+    go true b c d e f none = inl refl
+    go false true c d e f none = inr (inl refl)
+    go false false true d e f none = inr (inr (inl refl))
+    go false false false true e f none = inr (inr (inr (inl refl)))
+    go false false false false true f none = inr (inr (inr (inr refl)))
+    go false false false false false true none = absurd (some_kind _ _ none)
+    go false false false false false false none = tt
 
 module _ (c : List Rule) where
   plain_enters : (waiting : Waiting) (word : Text) (h : Held) → EntersCommand (plain_word c waiting word h).1
@@ -565,6 +570,9 @@ show_asks words none = view_asks Report _ (lints_there _ (numbers_there _ words 
 lint_asks : (words : List Text) → TakenAsks (codes "lint") words
 lint_asks words none = view_asks Lint _ (lints_there _ (numbers_there _ words refl none))
 
+page_asks : (words : List Text) → TakenAsks (codes "page") words
+page_asks words none = page_asks_of _ (lints_there _ (numbers_there _ words refl none))
+
 demo_asks : (words : List Text) → TakenAsks (codes "demo") words
 demo_asks words none = refl
 
@@ -574,7 +582,8 @@ stop_asks None rows at none checked = absurd (some_kind _ _ checked)
 stop_asks (Some (name, words)) rows (inl is) none checked = subst (λ n. TakenAsks n words) (sym is) (run_asks words) none
 stop_asks (Some (name, words)) rows (inr (inl is)) none checked = subst (λ n. TakenAsks n words) (sym is) (show_asks words) none
 stop_asks (Some (name, words)) rows (inr (inr (inl is))) none checked = subst (λ n. TakenAsks n words) (sym is) (lint_asks words) none
-stop_asks (Some (name, words)) rows (inr (inr (inr is))) none checked = subst (λ n. TakenAsks n words) (sym is) (demo_asks words) none
+stop_asks (Some (name, words)) rows (inr (inr (inr (inl is)))) none checked = subst (λ n. TakenAsks n words) (sym is) (page_asks words) none
+stop_asks (Some (name, words)) rows (inr (inr (inr (inr is)))) none checked = subst (λ n. TakenAsks n words) (sym is) (demo_asks words) none
 
 -- words that a parse takes ask for something
 pub taken_words_ask : (words : List Text) → fault_of program words ≡ [] → IsSome (asked words)

@@ -4,7 +4,7 @@ use Rattle.clap.specs.Walk.{is_empty}
 use Rattle.clap.specs.declared.error.kind.ErrorKind.TheVariants.{ArgumentConflict, DisplayHelp, InvalidSubcommand, MissingSubcommand, UnknownArgument, ValueValidation}
 use Rattle.clap.proofs.OnLiterals.{clap_on_literals}
 use Rattle.tk_report.specs.declared.view.View.TheVariants.{Report, Lint}
-use Rattle.taskscope.specs.declared.command_line.Request.TheVariants.{Demo, Run, Show}
+use Rattle.taskscope.specs.declared.command_line.Request.TheVariants.{Demo, Page, Run, Show}
 use Rattle.taskscope.specs.Requests.{AsksFor, AsksForHelp, IsMistake, plain_lints, refusals}
 
 -- the program is called by some name
@@ -20,6 +20,10 @@ module _ (name : List ℕ) where
   pub lint : AsksFor (Show Lint plain_lints) (name ∷ codes "lint" ∷ [])
   unfolding clap_on_literals
   lint = (refl, refl)
+
+  pub page : AsksFor (Page plain_lints) (name ∷ codes "page" ∷ [])
+  unfolding clap_on_literals
+  page = (refl, refl)
 
   pub demo : AsksFor Demo (name ∷ codes "demo" ∷ [])
   unfolding clap_on_literals

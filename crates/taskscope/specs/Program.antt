@@ -4,12 +4,13 @@ use Rattle.std.specs.Io.KnownBytes.{Appends}
 use Rattle.tk_client.specs.Warnings.{LintsView}
 use Rattle.tk_app.specs.Demo.{Demonstrates}
 use Rattle.tk_live.specs.Script.{ReadsAndRuns}
+use Rattle.tk_page.specs.Pages.{Pages}
 use Rattle.tk_report.specs.Views.{IsOfWriter, Views}
 use Rattle.tk_fault.specs.declared.fault.AppFault.{AppFault}
 use Rattle.tk_report.specs.declared.view.View.{View}
 use Rattle.tk_report.specs.declared.view.View.TheVariants.{Report, Lint}
 use Rattle.taskscope.specs.declared.command_line.Request.{Request}
-use Rattle.taskscope.specs.declared.command_line.Request.TheVariants.{Demo, Run, Show}
+use Rattle.taskscope.specs.declared.command_line.Request.TheVariants.{Demo, Page, Run, Show}
 
 -- the status that tells an outcome: 0 without a fault, 1 with one
 abbrev pub status_of : Result (Unit {0}) AppFault → ℕ
@@ -47,6 +48,19 @@ pub record ViewsStream (view : View) (lints : LintsView) (given left old new : O
   -- only a writer's fault comes once something was written
   pub unwritten : IfErr outcome (λ fault. (IsOfWriter fault → ⊥) → new ≡ old)
 
+-- the status that tells what a page came to: warnings are shown in it
+abbrev pub page_status : Result ℕ AppFault → ℕ
+page_status (Ok warnings) = 0
+page_status (Err fault) = 1
+
+-- a stream is read and drawn as one page, and the status tells the outcome
+pub record PagesStream (lints : LintsView) (given left old new : Option (List ℕ)) (status : ℕ) : Type 0 where
+  pub outcome : Result ℕ AppFault
+  pub told : status ≡ page_status outcome
+  pub pages : Pages lints given left outcome old new
+  -- only a writer's fault comes once something was written
+  pub unwritten : IfErr outcome (λ fault. (IsOfWriter fault → ⊥) → new ≡ old)
+
 -- the demo is shown, nothing is read, and the status tells the outcome
 pub record ShowsDemo (given left old new : Option (List ℕ)) (status : ℕ) : Type 0 where
   pub outcome : Result (Unit {0}) AppFault
@@ -58,4 +72,5 @@ pub record ShowsDemo (given left old new : Option (List ℕ)) (status : ℕ) : T
 abbrev pub Does : Request → Option (List ℕ) → Option (List ℕ) → Option (List ℕ) → Option (List ℕ) → ℕ → Type 0
 Does Run given left old new status = RunsScript given old new status
 Does (Show view lints) given left old new status = ViewsStream view lints given left old new status
+Does (Page lints) given left old new status = PagesStream lints given left old new status
 Does Demo given left old new status = ShowsDemo given left old new status

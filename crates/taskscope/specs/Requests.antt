@@ -15,7 +15,7 @@ use Rattle.tk_client.specs.Warnings.{LintsView}
 use Rattle.tk_report.specs.declared.view.View.{View}
 use Rattle.tk_report.specs.declared.view.View.TheVariants.{Report, Lint}
 use Rattle.taskscope.specs.declared.command_line.Request.{Request}
-use Rattle.taskscope.specs.declared.command_line.Request.TheVariants.{Demo, Run, Show}
+use Rattle.taskscope.specs.declared.command_line.Request.TheVariants.{Demo, Page, Run, Show}
 
 -- ---- the words that there are
 
@@ -42,13 +42,14 @@ view_command name = with_rule (with_rule (new_app name) percent_option) limit_op
 abbrev pub requiring : App → App
 requiring = on_top (λ s. record s { subcommand_required = true })
 
--- the program as a parse of its words reads it: `run`, `view`, `lint` and `demo`
+-- the program as a parse of its words reads it: `run`, `view`, `lint`, `page` and `demo`
 abbrev pub program : App
 program =
     let runs = with_subcommand (requiring (new_app (codes "taskscope"))) (new_shape (codes "run")) in
     let views = with_subcommand runs (view_command (codes "view")).top in
     let lints = with_subcommand views (view_command (codes "lint")).top in
-    with_subcommand lints (new_shape (codes "demo"))
+    let pages = with_subcommand lints (view_command (codes "page")).top in
+    with_subcommand pages (new_shape (codes "demo"))
 
 -- ---- what they ask for
 
@@ -77,12 +78,17 @@ lints_in options =
 abbrev pub view_with : View → List Row → Option Request
 view_with view options = option_and_then (λ lints. Some (Show view lints)) (lints_in options)
 
+-- a page with these options
+abbrev pub page_with : List Row → Option Request
+page_with options = option_and_then (λ lints. Some (Page lints)) (lints_in options)
+
 -- what a command asks for, by its name and its options
 abbrev pub asked_by : Text → List Row → Option Request
 asked_by name options =
     if bytes_eq name (codes "run") then Some Run
     else if bytes_eq name (codes "view") then view_with Report options
     else if bytes_eq name (codes "lint") then view_with Lint options
+    else if bytes_eq name (codes "page") then page_with options
     else if bytes_eq name (codes "demo") then Some Demo
     else None
 

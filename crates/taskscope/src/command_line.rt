@@ -23,6 +23,8 @@ pub(crate) enum Request {
     Run,
     /// To show what a stream's tables come to, with warnings by these lints.
     Show { view: View, lints: Lints },
+    /// To draw a stream as one page, with warnings by these lints.
+    Page { lints: Lints },
     /// To show three tasks of this project's own works.
     Demo,
 }
@@ -103,6 +105,21 @@ A task has these warnings:
 A last line of the stream without its line end is ignored. After a fault nothing is written. The status is 3
 where there are warnings.";
 
+const PAGE_ABOUT: &str =
+    "Reads a stream from standard input and writes it as one page of HTML to standard output";
+
+const PAGE_LONG_ABOUT: &str =
+    "Reads a stream from standard input and writes it as one page of HTML to standard output.
+
+  taskscope run < examples/lost-waker.script | taskscope page > lost-waker.html
+
+The page needs no network and no other file: open it in a browser. What is odd comes first, with what to do:
+the warnings, which `taskscope lint --help` explains, and a task that holds up the others. Then each task has
+a row with its course of time: when it was polled, when it waited, and its wakes. Resources with their
+operations come last. At most 200 tasks are drawn, the odd ones first.
+
+A last line of the stream without its line end is ignored. After a fault nothing is written.";
+
 const DEMO_ABOUT: &str = "Runs three small tasks and writes their report to standard output";
 
 const DEMO_LONG_ABOUT: &str = "Runs three small tasks and writes their report to standard output.
@@ -161,6 +178,7 @@ fn command_line<'a>(alloc: Global) -> Result<Command<'a>, Error>
         .long_about(RUN_LONG_ABOUT);
     let view = view_command(alloc, "view", VIEW_ABOUT, VIEW_LONG_ABOUT)?;
     let lint = view_command(alloc, "lint", LINT_ABOUT, LINT_LONG_ABOUT)?;
+    let page = view_command(alloc, "page", PAGE_ABOUT, PAGE_LONG_ABOUT)?;
     let demo = Command::new(alloc, "demo")
         .about(DEMO_ABOUT)
         .long_about(DEMO_LONG_ABOUT);
@@ -175,6 +193,7 @@ fn command_line<'a>(alloc: Global) -> Result<Command<'a>, Error>
             .subcommand(run)?
             .subcommand(view)?
             .subcommand(lint)?
+            .subcommand(page)?
             .subcommand(demo)?,
     )
 }
@@ -200,6 +219,13 @@ fn view_with(view: View, options: &ArgMatches) -> Option<Request>
     Some(Request::Show { view, lints })
 }
 
+fn page_with(options: &ArgMatches) -> Option<Request>
+    ensures { result ≡ spec.page_with (rows_of (found_of options.now)) }
+{
+    let lints = lints_in(options)?;
+    Some(Request::Page { lints })
+}
+
 // What a command asks for, by its name and its options.
 fn asked_by(name: &str, options: &ArgMatches) -> Option<Request>
     ensures { result ≡ spec.asked_by name.now (rows_of (found_of options.now)) }
@@ -208,6 +234,7 @@ fn asked_by(name: &str, options: &ArgMatches) -> Option<Request>
         "run" => Some(Request::Run),
         "view" => view_with(View::Report, options),
         "lint" => view_with(View::Lint, options),
+        "page" => page_with(options),
         "demo" => Some(Request::Demo),
         _ => None,
     }

@@ -2,7 +2,7 @@
 ghost use Rattle.std.specs.Prelude.{◌≡◌, ◌≢◌, ◌≤◌, ◌⊎◌, true, [], codes, IsSome};
 ghost use Rattle.clap.specs.Values.{kind_of};
 ghost use Rattle.taskscope.specs.Requests.{AsksFor, AsksForHelp, IsMistake, IsPlain, asked, is_mistake, plain_lints, refusals, texts};
-ghost use Rattle.taskscope.specs.Program.{Does, status_at, status_of, view_status};
+ghost use Rattle.taskscope.specs.Program.{Does, page_status, status_at, status_of, view_status};
 
 use crate::command_line::{Request, request_of};
 use clap::Error;
@@ -13,6 +13,7 @@ use std::random::RandomSource;
 use std::sync::Wait;
 use std::thread::Threads;
 use tk_app::{AppFault, Open, View, demo, run_script, view_stream};
+use tk_page::view_page;
 
 /// All was done, which may be to show help.
 const DONE: u8 = 0;
@@ -63,6 +64,16 @@ fn tell_view<E: Write>(view: View, outcome: Result<u64, AppFault>, faults: &mut 
     }
 }
 
+// The status of a stream's page.
+fn tell_page<E: Write>(outcome: Result<u64, AppFault>, faults: &mut E) -> u8
+    ensures { result ≡ page_status outcome }
+{
+    match outcome {
+        Ok(_warnings) => DONE,
+        Err(stop) => tell_fault(stop, faults),
+    }
+}
+
 // Does what is asked for, and answers the status.
 fn fulfil<R: Threads + Wait + Sync + RandomSource + AllocGlobal, I: Read, O: Write, E: Write>(
     rt: &R,
@@ -84,6 +95,7 @@ fn fulfil<R: Threads + Wait + Sync + RandomSource + AllocGlobal, I: Read, O: Wri
                 faults,
             )
         }
+        Request::Page { lints } => tell_page(view_page(alloc, input, output, &lints), faults),
         Request::Demo => tell_outcome(demo(rt, alloc, output), faults),
     }
 }
@@ -130,16 +142,17 @@ pub(crate) fn run_program<
     O: Write,
     E: Write,
 >(rt: &R, alloc: Global, words: &[String], input: &mut I, output: &mut O, faults: &mut E) -> u8
-    // What is asked for is done: a run reads and writes as `run_script` does, a view as `view_stream` does, and the demo
-    // writes as `demo` does. The status is 1 exactly where there was a fault, and 3 exactly where `lint` found warnings.
+    // What is asked for is done: a run reads and writes as `run_script` does, a view as `view_stream` does, a page as
+    // `view_page` does, and the demo writes as `demo` does. The status is 1 exactly where there was a fault, and 3 exactly where `lint` found warnings.
     ensures does { (request : Request) → AsksFor request (texts words.now)
         → Does request (I.remaining input.old) (I.remaining input.new) (O.contents output.old) (O.contents output.new) result }
     // A command alone asks for it with the lints of its defaults.
     ensures run { IsPlain (codes "run") (texts words.now) → AsksFor Request.Run (texts words.now) }
     ensures view { IsPlain (codes "view") (texts words.now) → AsksFor (Request.Show View.Report plain_lints) (texts words.now) }
     ensures lint { IsPlain (codes "lint") (texts words.now) → AsksFor (Request.Show View.Lint plain_lints) (texts words.now) }
+    ensures page { IsPlain (codes "page") (texts words.now) → AsksFor (Request.Page plain_lints) (texts words.now) }
     ensures demo { IsPlain (codes "demo") (texts words.now) → AsksFor Request.Demo (texts words.now) }
-    // All words that a parse takes ask for a run, a view or the demo.
+    // All words that a parse takes ask for a run, a view, a page or the demo.
     ensures asks { refusals (texts words.now) ≡ [] → IsSome (asked (texts words.now)) }
     // Other words leave the input as it is.
     ensures unread { refusals (texts words.now) ≢ [] → input.new ≡ input.old }

@@ -12,6 +12,7 @@ returns-clause-ok c =
     ap shape_of_fields c.long_about-run.ensures ∙ (ap shape_of_fields c.about.ensures ∙ ap (λ (a : App). a.top) c.new.ensures.app) in
     let view_is : shape_of c.in_ok-view.view ≡ (view_command (codes "view")).top = ap (λ (a : App). a.top) c.in_ok-view.ensures.ok in
     let lint_is : shape_of c.in_ok-lint.lint ≡ (view_command (codes "lint")).top = ap (λ (a : App). a.top) c.in_ok-lint.ensures.ok in
+    let page_is : shape_of c.in_ok-page.page ≡ (view_command (codes "page")).top = ap (λ (a : App). a.top) c.in_ok-page.ensures.ok in
     let named_is : app_of c.after_help.result ≡ new_app (codes "taskscope") =
     ap app_of_fields c.after_help.ensures ∙ (ap app_of_fields c.long_about.ensures ∙ (ap app_of_fields c.about-3.ensures
     ∙ (ap app_of_fields c.in_ok-bin_name.ensures.0 ∙ c.new-3.ensures.app))) in
@@ -26,4 +27,5 @@ returns-clause-ok c =
     let runs = c.in_ok-subcommand.ensures.shape run_local ∙ ap₂ with_subcommand top_is run_is in
     let views = c.in_ok-subcommand-2.ensures.shape c.in_ok-view.ensures.local ∙ ap₂ with_subcommand runs view_is in
     let lints = c.in_ok-subcommand-3.ensures.shape c.in_ok-lint.ensures.local ∙ ap₂ with_subcommand views lint_is in
-    c.in_ok-subcommand-4.ensures.shape demo_local ∙ ap₂ with_subcommand lints demo_is
+    let pages = c.in_ok-subcommand-4.ensures.shape c.in_ok-page.ensures.local ∙ ap₂ with_subcommand lints page_is in
+    c.in_ok-subcommand-5.ensures.shape demo_local ∙ ap₂ with_subcommand pages demo_is

@@ -6,10 +6,10 @@ use Rattle.tk_fault.specs.declared.fault.AppFault.TheVariants as faults
 use Rattle.taskscope.specs.Program.{Does}
 use Rattle.taskscope.specs.Requests.{AsksFor, IsPlain, asked, refusals, texts}
 use Rattle.taskscope.specs.declared.command_line.Request.{Request}
-use Rattle.taskscope.specs.declared.command_line.Request.TheVariants.{Demo, Run, Show}
+use Rattle.taskscope.specs.declared.command_line.Request.TheVariants.{Demo, Page, Run, Show}
 use Rattle.taskscope.proofs.ParseLemmas.{taken_words_ask}
 use Rattle.taskscope.proofs.WordLemmas.{memory_alone, mistake_among, some_is}
-use Rattle.taskscope.proofs.WordRows.{demo, lint, run, view}
+use Rattle.taskscope.proofs.WordRows.{demo, lint, page, run, view}
 use Rattle.taskscope.proofs.program.run_program.Goals as goal
 
 -- nothing was written
@@ -30,6 +30,12 @@ nothing_done (Show shown lints) given known status told = record {
   outcome = Err faults.Memory;
   told = told;
   views = tt;
+  unwritten = λ other. refl;
+}
+nothing_done (Page lints) given known status told = record {
+  outcome = Err faults.Memory;
+  told = told;
+  pages = tt;
   unwritten = λ other. refl;
 }
 nothing_done Demo given known status told = record {
@@ -71,6 +77,9 @@ returns-in-Err-clause-view g c = plain _ _ view (texts c.args.words.now)
 pub returns-in-Err-clause-lint : goal.returns-in-Err-clause-lint
 returns-in-Err-clause-lint g c = plain _ _ lint (texts c.args.words.now)
 
+pub returns-in-Err-clause-page : goal.returns-in-Err-clause-page
+returns-in-Err-clause-page g c = plain _ _ page (texts c.args.words.now)
+
 pub returns-in-Err-clause-demo : goal.returns-in-Err-clause-demo
 returns-in-Err-clause-demo g c = plain _ _ demo (texts c.args.words.now)
 
@@ -82,6 +91,9 @@ returns-in-Ok-clause-view g c = plain _ _ view (texts c.args.words.now)
 
 pub returns-in-Ok-clause-lint : goal.returns-in-Ok-clause-lint
 returns-in-Ok-clause-lint g c = plain _ _ lint (texts c.args.words.now)
+
+pub returns-in-Ok-clause-page : goal.returns-in-Ok-clause-page
+returns-in-Ok-clause-page g c = plain _ _ page (texts c.args.words.now)
 
 pub returns-in-Ok-clause-demo : goal.returns-in-Ok-clause-demo
 returns-in-Ok-clause-demo g c = plain _ _ demo (texts c.args.words.now)

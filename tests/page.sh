@@ -1,0 +1,90 @@
+#!/bin/sh
+# Looks at the pages that `taskscope page` writes, as a strict parser and a browser do.
+#
+# Usage: tests/page.sh            behind `rt ci`, or `rt run` in crates/taskscope.
+#        tests/page.sh --picture  makes docs/page.png anew, of examples/service.script.html, and tries nothing. It wants `chromium` and `pngquant`.
+#
+# The frame is what frame/make.py writes and the service's script what examples/service.py does. Of the page of each example, which
+# tests/examples.sh compares byte for byte with what the program writes, tests/page/check_page.py reads the text as HTML and compares
+# its numbers with the example's stream; of the service's, tests/page/try_script.py sorts and filters in a browser.
+#
+# The parser is Debian's python3-html5lib. Where it is missing it is installed by apt-get; where it can't be, that is said and the parser
+# skipped, or with CI=true it is a failure. The browser is `chromium`; where it is missing its steps are skipped.
+#
+# Its last line is `N passed, M failed`, and its status 1 where M isn't 0.
+
+root=$(CDPATH= cd -P -- "$(dirname -- "$0")/.." && pwd) || exit 2
+examples=$root/examples
+picture=$root/docs/page.png
+work=$(mktemp -d) || exit 2
+trap 'rm -rf "$work"' EXIT
+trap 'exit 2' HUP INT TERM
+passed=0
+failed=0
+
+# Runs the command behind the name of a step. What it says is shown where it fails.
+step() {
+    name=$1
+    shift
+    if "$@" > "$work/said" 2>&1; then
+        passed=$((passed + 1))
+        echo "ok: $name"
+    else
+        failed=$((failed + 1))
+        echo "FAILED: $name"
+        tail -n 20 "$work/said"
+    fi
+}
+
+# A screenshot of a page. The browser's profile is thrown away, since it fills the disk.
+shoot() {
+    chromium --headless=new --no-sandbox --disable-gpu --disable-dev-shm-usage --hide-scrollbars --user-data-dir="$work/profile" \
+        --blink-settings=preferredColorScheme=1 --window-size="$3" --screenshot="$2" "file://$1" > "$work/said" 2>&1
+    rm -rf "$work/profile"
+    [ -s "$2" ]
+}
+
+is_small() {
+    [ -s "$1" ] && [ "$(wc -c < "$1")" -le 150000 ]
+}
+
+if [ "$1" = --picture ]; then
+    shoot "$examples/service.script.html" "$work/page.png" 1440,960 && pngquant --force --output "$picture" 256 "$work/page.png" && is_small "$picture"
+    exit
+fi
+
+step "the frame is what its script writes" python3 "$root/crates/tk_page/frame/make.py" --check
+step "the service's script is what its script writes" python3 "$examples/service.py" --check
+step "the picture has at most 150 kB" is_small "$picture"
+
+# Debian's python has Debian's packages.
+has_parser() {
+    /usr/bin/python3 -c 'import html5lib' 2> "$work/said"
+}
+
+install_parser() {
+    [ "$(id -u)" -eq 0 ] && { apt-get update -qq && apt-get install -y -qq --no-install-recommends python3-html5lib; } > "$work/said" 2>&1
+}
+
+if has_parser || { install_parser && has_parser; }; then
+    for script in "$examples"/*.script; do
+        step "$(basename "$script" .script), as a parser reads its page" \
+            /usr/bin/python3 "$root/tests/page/check_page.py" "$script.html" "$script.stdout"
+    done
+elif [ "$CI" = true ]; then
+    failed=$((failed + 1))
+    echo "FAILED: python3-html5lib is missing, and apt-get does not give it"
+    tail -n 5 "$work/said"
+else
+    echo "skipped: the parser, since python3-html5lib is missing"
+fi
+
+if command -v chromium > /dev/null; then
+    step "the service's page, sorted and filtered in a browser" "$root/tests/page/try_script.py" "$examples/service.script.html"
+    step "the service's page, drawn by a browser" shoot "$examples/service.script.html" "$work/page.png" 1280,900
+else
+    echo "skipped: the browser, since chromium is missing"
+fi
+
+echo "$passed passed, $failed failed"
+[ "$failed" -eq 0 ]

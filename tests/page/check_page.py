@@ -1,0 +1,135 @@
+#!/usr/bin/python3
+"""Looks at pages with a strict HTML5 parser, and compares their numbers with their streams.
+
+Usage: check_page.py PAGE STREAM [PAGE STREAM ..]
+
+Of each page: the parser reports no error and every element is closed; only known elements are there, one script and one style; no
+attribute runs or loads anything; ids are distinct and each link leads to one; the policy names the sums of just this style and this
+script; each number of each row is that of its task, and there is a card for each warning, or one for more than three of a kind.
+
+It wants the package python3-html5lib.
+"""
+import base64
+import hashlib
+import re
+import sys
+from collections import Counter
+
+import html5lib
+
+from stream import Tables, busy_until, waited_until
+
+ELEMENTS = set(
+    "html head meta title style body script a article b button caption dd details div dl dt h1 h2 h3 header i input label li main p"
+    " path rect section small span summary svg table tbody td th thead tr ul".split()
+)
+LOADS = {"src", "style", "srcset", "action", "formaction", "xlink:href", "background", "ping"}
+KINDS = {"lost": "lost-waker", "never": "never-yielded", "self": "self-wakes"}
+ROWS = 200
+CARDS = 3
+RESOURCES = 50
+
+
+def name_of(element):
+    return element.tag.split("}")[-1] if isinstance(element.tag, str) else "#comment"
+
+
+def text_of(element):
+    return "".join(element.itertext())
+
+
+def sum_of(text):
+    return "'sha256-" + base64.b64encode(hashlib.sha256(text.encode()).digest()).decode() + "'"
+
+
+def check_elements(elements):
+    names = [name_of(element) for element in elements]
+    assert set(names) <= ELEMENTS, set(names) - ELEMENTS
+    assert names.count("script") == 1 and names.count("style") == 1
+    for element in elements:
+        for key, value in element.attrib.items():
+            key = key.split("}")[-1].lower()
+            assert not key.startswith("on") and key not in LOADS, (name_of(element), key)
+            assert key != "href" or re.fullmatch(r"#t\d+", value), value
+
+
+def check_links(elements):
+    ids = [element.get("id") for element in elements if element.get("id")]
+    assert len(ids) == len(set(ids))
+    for element in elements:
+        if element.get("href"):
+            assert element.get("href")[1:] in ids, element.get("href")
+
+
+def check_policy(elements):
+    policy = [element.get("content") for element in elements if element.get("http-equiv") == "Content-Security-Policy"]
+    style, script = ([e.text for e in elements if name_of(e) == name][0] for name in ("style", "script"))
+    assert policy == [f"default-src 'none'; style-src {sum_of(style)}; script-src {sum_of(script)}"], policy
+
+
+# The parser closes what it finds open, so tags are counted in the text too.
+def check_closed(text):
+    body = text[text.index("<body>") : text.index("<script>")]
+    open_tags = []
+    for slash, name, rest in re.findall(r"<(/?)([a-z0-9]+)([^>]*)>", body):
+        if slash:
+            assert open_tags.pop() == name, name
+        elif name not in ("input", "meta") and not rest.endswith("/"):
+            open_tags.append(name)
+    assert open_tags == ["body"], open_tags
+
+
+def check_row(row, tables):
+    number = int(row.get("id")[1:])
+    task, now = tables.tasks[number], tables.now
+    stats, cells = task["row"], list(row)
+    named = [text_of(element) for element in cells[0].iter() if element.get("class") == "name"]
+    assert named == [task["info"]["name"]], named
+    assert f"{number >> 40}.{number & ((1 << 40) - 1)}" in text_of(cells[0])
+    busy = busy_until(stats, now)
+    wanted = [busy, waited_until(stats, now), busy // max(1, stats["polls"])]
+    wanted += [stats["polls"], stats["wakes"], stats["self_wakes"], stats["clones"] - stats["drops"]]
+    assert [int(cell.get("data-v")) for cell in cells[3:]] == wanted, (number, wanted)
+    assert [text_of(cell) for cell in cells[6:]] == [str(count) for count in wanted[3:]], number
+    return number
+
+
+def check_rows(elements, tables):
+    table = [element for element in elements if element.get("id") == "table"]
+    rows = [row for part in table[0] if name_of(part) == "tbody" for row in part] if table else []
+    assert len(rows) == min(ROWS, len(tables.tasks)), len(rows)
+    numbers = [check_row(row, tables) for row in rows]
+    assert len(set(numbers)) == len(numbers)
+
+
+def check_cards(elements, tables):
+    warned = Counter(kind for _, kind in tables.warnings())
+    wanted = {kind: count if count <= CARDS else 1 for kind, count in warned.items()}
+    cards = Counter(KINDS[e.get("class")] for e in elements if name_of(e) == "li" and e.get("class") in KINDS)
+    assert cards == wanted, (cards, wanted)
+
+
+def check_polls(elements, tables):
+    said = [text_of(e) for e in elements if name_of(e) == "p" and text_of(e).startswith("poll operations: ")]
+    counts = [tables.counts.get(number, (0, 0)) for number in tables.resources]
+    assert said == [f"poll operations: {ready} ready, {pending} pending" for ready, pending in counts[:RESOURCES]], said
+
+
+def check(page, stream):
+    with open(page, encoding="utf-8") as file:
+        text = file.read()
+    parser = html5lib.HTMLParser(strict=False, namespaceHTMLElements=False)
+    tree = parser.parse(text)
+    assert not parser.errors, parser.errors[:5]
+    elements, tables = list(tree.iter()), Tables(stream)
+    check_elements(elements)
+    check_links(elements)
+    check_policy(elements)
+    check_closed(text)
+    check_rows(elements, tables)
+    check_cards(elements, tables)
+    check_polls(elements, tables)
+
+
+for page, stream in zip(sys.argv[1::2], sys.argv[2::2]):
+    check(page, stream)

@@ -1,0 +1,66 @@
+#!/usr/bin/python3
+"""Opens pages in a browser without a window: the page's own script runs under its policy and a stranger's doesn't; each column of
+numbers sorts both ways; the filter hides and shows.
+
+Usage: try_script.py PAGE [PAGE ..]
+
+It wants `chromium`. Sorting is seen in a copy without the policy, since the copy has a script more, which clicks and looks.
+"""
+import os
+import re
+import subprocess
+import sys
+import tempfile
+
+FLAGS = ["--headless=new", "--no-sandbox", "--disable-gpu", "--disable-dev-shm-usage", "--virtual-time-budget=3000", "--dump-dom"]
+STRANGER = '<main><script>document.title = "stranger"</script><p id="q" style="color:red" onclick="1">'
+POLICY = r'<meta http-equiv="Content-Security-Policy"[^>]*>'
+CLICKS = """<script>{
+const rows = () => [...document.querySelectorAll("#table tbody tr")];
+const column = (i) => rows().map((row) => BigInt(row.cells[i].dataset.v));
+const rises = (xs) => xs.every((x, i) => i === 0 || xs[i - 1] <= x), falls = (xs) => xs.every((x, i) => i === 0 || xs[i - 1] >= x);
+const heads = [...document.querySelectorAll("#table thead th")], all = rows().length, seen = [];
+for (let i = 3; i < heads.length; i++) {
+  const button = heads[i].querySelector("button");
+  button.click();
+  seen.push(falls(column(i)) && heads[i].getAttribute("aria-sort") === "descending");
+  button.click();
+  seen.push(rises(column(i)) && heads[i].getAttribute("aria-sort") === "ascending");
+  seen.push(document.querySelectorAll("[aria-sort]").length === 1 && rows().length === all);
+}
+const only = document.getElementById("only"), filter = document.getElementById("filter");
+const type = (word) => { filter.value = word; filter.dispatchEvent(new Event("input")); };
+only.click();
+seen.push(rows().every((row) => row.hidden === (row.dataset.odd !== "1")));
+only.click();
+type("no such name");
+seen.push(rows().every((row) => row.hidden));
+type("");
+seen.push(rows().every((row) => !row.hidden));
+document.title = seen.every((x) => x) + " " + seen.length;
+}</script></body>"""
+
+
+def opened(html):
+    """The document as the browser has it once its scripts ran."""
+    with tempfile.TemporaryDirectory() as folder:
+        page = os.path.join(folder, "page.html")
+        with open(page, "w", encoding="utf-8") as file:
+            file.write(html)
+        command = ["chromium", *FLAGS, f"--user-data-dir={folder}/profile", f"file://{page}"]
+        return subprocess.run(command, capture_output=True, text=True, timeout=120, check=True).stdout
+
+
+def try_page(path):
+    with open(path, encoding="utf-8") as file:
+        text = file.read()
+    assert '<body class="live">' in opened(text), "the page's script didn't run under its policy"
+    strange = text.replace("<main>", STRANGER, 1)
+    assert strange != text and "<title>stranger" not in opened(strange), "a stranger's script ran under the policy"
+    clicked = opened(re.sub(POLICY, "", text).replace("</body>", CLICKS))
+    seen = re.search("<title>(.*?)</title>", clicked).group(1)
+    assert seen.startswith("true "), seen
+
+
+for page in sys.argv[1:]:
+    try_page(page)
