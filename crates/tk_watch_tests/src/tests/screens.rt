@@ -1,0 +1,116 @@
+//! Screens, as they are read.
+
+use super::given::{Few, ODD, SEMAPHORE, comes_to, plain};
+use std::alloc::Global;
+use tk_frame::Column;
+use tk_screen::{Canvas, Size};
+use tk_watch::Screen;
+
+const ODD_SCREEN: &str = "now 1.0 s  tasks 2: 1 polling, 0 scheduled, 1 idle, 0 closed  warnings 3
+warning 1.1 self-wakes: 66% of its wakes are its own
+  let what it waits for wake it (main, script:1:1)
+warning 1.1 lost-waker: nobody is left who could wake it
+  keep a waker of it until the wake (main, script:1:1)
+warning 1.2 never-yielded: its first poll has run for 1.0 s
+  move work that blocks to a blocking task (resize, script:2:1)
+   TASK STATE          BUSY     SCHED   POLLS   WAKES SELF NAME                 KIND     LOCATION
+    1.2 polling       1.0 s     50 ns       1       0    - resize               spawn    script:2:1
+    1.1 idle          20 ns    100 ns       2       3  66% main                 spawn    script:1:1
+
+";
+
+// The end of that screen, sorted by polls, and where `ain` stands in the names.
+const BY_POLLS: &str =
+    "    1.1 idle          20 ns    100 ns       2       3  66% main                 spawn    script:1:1
+    1.2 polling       1.0 s     50 ns       1       0    - resize               spawn    script:2:1
+
+";
+
+const WITH_AIN: &str =
+    "   TASK STATE          BUSY     SCHED   POLLS   WAKES SELF NAME                 KIND     LOCATION
+    1.1 idle          20 ns    100 ns       2       3  66% main                 spawn    script:1:1
+
+";
+
+const SEMAPHORE_SCREEN: &str =
+    "now 50 ns  tasks 1: 0 polling, 1 scheduled, 0 idle, 0 closed  warnings 0
+   TASK STATE          BUSY     SCHED   POLLS   WAKES SELF NAME                 KIND     LOCATION
+    1.1 scheduled      0 ns     40 ns       0       0    - worker               spawn    script:1:1
+RESOURCE    READY  PENDING TYPE (KIND) LOCATION
+     1.1        1        0 Semaphore (Sync) script:2:1
+OPERATION STATE      POLLS      BUSY     TASK RESOURCE SOURCE
+      1.1 idle           1      5 ns      1.1      1.1 Semaphore::acquire
+
+";
+
+// The first screen on a terminal of 20 columns and 4 lines.
+const NARROW_SCREEN: &str =
+    "\x1b[H\x1b[Know 1.0 s  tasks 2: \n\x1b[K\x1b[31mwarning 1.1 self-wak\x1b[0m\n\x1b[K  let what it waits \n\x1b[J";
+
+// The same without colors, and lower by a line.
+const DULL_SCREEN: &str = "\x1b[H\x1b[Know 1.0 s  tasks 2: \n\x1b[Kwarning 1.1 self-wak\n\x1b[J";
+
+fn written(alloc: Global, stream: &'static [u8], screen: &Screen<'_>) -> Vec<u8> {
+    let mut reader = stream;
+    let mut writer = Vec::new(alloc);
+    let mut pace = Few {
+        due: 1,
+        waits: 0,
+        follows: 0,
+    };
+    if !comes_to(alloc, &mut reader, &mut writer, screen, &mut pace, "") {
+        writer.clear();
+    }
+    writer
+}
+
+fn shows(alloc: Global, stream: &'static [u8], screen: &Screen<'_>, wanted: &str) -> bool {
+    written(alloc, stream, screen).as_slice() == wanted.as_bytes()
+}
+
+fn ends_with(alloc: Global, stream: &'static [u8], screen: &Screen<'_>, end: &str) -> bool {
+    written(alloc, stream, screen)
+        .as_slice()
+        .ends_with(end.as_bytes())
+}
+
+#[test]
+fn a_screen_is_read_as_text(rt: HostRuntime) {
+    let alloc = rt.alloc();
+    assert!(rt; shows(alloc, ODD, &plain(Column::Busy, b"", false), ODD_SCREEN));
+    assert!(rt;
+        shows(
+            alloc,
+            SEMAPHORE,
+            &plain(Column::Wakes, b"", true),
+            SEMAPHORE_SCREEN
+        )
+    );
+}
+
+#[test]
+fn tasks_are_sorted_and_filtered(rt: HostRuntime) {
+    let alloc = rt.alloc();
+    assert!(rt; ends_with(alloc, ODD, &plain(Column::Polls, b"", false), BY_POLLS));
+    assert!(rt; ends_with(alloc, ODD, &plain(Column::SelfWakes, b"", false), BY_POLLS));
+    assert!(rt; ends_with(alloc, ODD, &plain(Column::Busy, b"ain", false), WITH_AIN));
+}
+
+fn on_terminal(alloc: Global, lines: usize, colors: bool, wanted: &str) -> bool {
+    let screen = Screen {
+        query: plain(Column::Busy, b"", false).query,
+        lints: plain(Column::Busy, b"", false).lints,
+        canvas: Canvas::Terminal {
+            size: Size { columns: 20, lines },
+            colors,
+        },
+    };
+    shows(alloc, ODD, &screen, wanted)
+}
+
+#[test]
+fn a_terminal_is_drawn_over_and_not_left(rt: HostRuntime) {
+    assert!(rt; on_terminal(rt.alloc(), 4, true, NARROW_SCREEN));
+    assert!(rt; on_terminal(rt.alloc(), 3, false, DULL_SCREEN));
+    assert!(rt; on_terminal(rt.alloc(), 0, true, "\x1b[H\x1b[J"));
+}
