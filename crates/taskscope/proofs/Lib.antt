@@ -1,4 +1,5 @@
 pub mod Numbers
+pub mod Outcomes
 pub mod ParseLemmas
 pub mod WordLemmas
 pub mod WordRows

@@ -26,7 +26,7 @@ use Rattle.tk_client.specs.Warnings.{LintsView}
 use Rattle.tk_report.specs.declared.view.View.{View}
 use Rattle.tk_report.specs.declared.view.View.TheVariants.{Report, Lint}
 use Rattle.taskscope.specs.declared.command_line.Request.TheVariants.{Page, Show}
-use Rattle.taskscope.specs.Requests.{asked, asked_in, lints_in, number_of, number_option, program}
+use Rattle.taskscope.specs.Requests.{asked, asked_in, file_argument, lints_in, number_of, number_option, program}
 
 -- ---- lists of kinds
 
@@ -158,13 +158,33 @@ new_limit s v passed = (λ is. absurd (true≢false (sym is)), λ is. (refl, v, 
 sound_help : Sound (with_index 1 (filled help_rule))
 sound_help again values rows good none = absurd (some_kind _ _ (next_none _ _ none))
 
+abbrev file_rule : Rule
+file_rule = with_index 1 (filled file_argument)
+
+file_use : (again : Bool) (values : List Text) (rows : List Row) → use_fault again file_rule values rows ≡ [] → (v : Text) × (values ≡ v ∷ [])
+file_use again [] rows none = absurd (some_kind _ _ none)
+file_use again (v ∷ []) rows none = (v, refl)
+file_use again (v ∷ w ∷ vs) rows none = absurd (some_kind _ _ (sym (two_values (length vs)) ∙ first_none _ _ none))
+
+new_file : (v : Text) → IsGood (new_row (codes "FILE") CommandLine v)
+new_file v = (λ is. absurd (true≢false (sym is)), λ is. absurd (true≢false (sym is)))
+
+sound_file : Sound file_rule
+sound_file again values rows good none =
+    let one = file_use again values rows none in
+    rw one.1 (good_at (codes "FILE") (more_values CommandLine (one.0 ∷ [])) (new_row (codes "FILE") CommandLine one.0 ∷ []) (without (codes "FILE") rows)
+    (good_at (codes "FILE") (λ _. []) [] rows good (λ r g. tt) tt) (good_more CommandLine (one.0 ∷ [])) (new_file one.0, tt))
+
 abbrev rules : List Rule
-rules = number_rule percent_id (codes "50") 100 ∷ number_rule limit_id (codes "1000000000") most ∷ with_index 1 (filled help_rule) ∷ []
+rules = file_rule ∷ number_rule percent_id (codes "50") 100 ∷ number_rule limit_id (codes "1000000000") most ∷ with_index 1 (filled help_rule) ∷ []
 
 sound_rules : AreSound rules
 sound_rules = (
-  sound_number percent_id (codes "50") 100 (new_percent CommandLine),
-  (sound_number limit_id (codes "1000000000") most (new_limit CommandLine), (sound_help, tt)),
+  sound_file,
+  (
+    sound_number percent_id (codes "50") 100 (new_percent CommandLine),
+    (sound_number limit_id (codes "1000000000") most (new_limit CommandLine), (sound_help, tt)),
+  ),
 )
 
 -- ---- the walk keeps rows good
@@ -373,6 +393,13 @@ no_default rows = go (has_row (codes "help") rows)
     go true = refl
     go false = refl
 
+no_default_file : (rows : List Row) → with_default rows file_rule ≡ rows
+no_default_file rows = go (has_row (codes "FILE") rows)
+  where
+    go : (b : Bool) → cond b rows rows ≡ rows
+    go true = refl
+    go false = refl
+
 -- good rows, with one of each number
 HaveNumbers : List Row → Type 0
 HaveNumbers rows = AreGood rows × (has_row percent_id rows ≡ true) × (has_row limit_id rows ≡ true)
@@ -384,7 +411,7 @@ with_defaults rows good =
     let limits = with_default percents (number_rule limit_id (codes "1000000000") most) in
     let first : AreGood percents = default_good percent_id (codes "50") 100 rows good (new_percent DefaultValue (codes "50") refl) in
     let second : AreGood limits = default_good limit_id (codes "1000000000") most percents first (new_limit DefaultValue (codes "1000000000") refl) in
-    rw (no_default limits) (
+    rw (no_default_file rows, no_default limits) (
       second,
       default_keeps limit_id (codes "1000000000") most percent_id percents (default_there percent_id (codes "50") 100 rows refl),
       default_there limit_id (codes "1000000000") most percents refl,

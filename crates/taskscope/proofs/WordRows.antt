@@ -1,33 +1,41 @@
 -- What words of a command line ask for, word by word.
-use Rattle.std.proofs.Common.{◌≡◌, refl, ℕ, List, [], ◌∷◌, codes, true≢false, sym, ap}
+use Rattle.std.proofs.Common.{◌≡◌, refl, ℕ, List, [], ◌∷◌, codes, true≢false, sym, ap, Some}
 use Rattle.clap.specs.Walk.{is_empty}
 use Rattle.clap.specs.declared.error.kind.ErrorKind.TheVariants.{ArgumentConflict, DisplayHelp, InvalidSubcommand, MissingSubcommand, UnknownArgument, ValueValidation}
 use Rattle.clap.proofs.OnLiterals.{clap_on_literals}
 use Rattle.tk_report.specs.declared.view.View.TheVariants.{Report, Lint}
 use Rattle.taskscope.specs.declared.command_line.Request.TheVariants.{Demo, Page, Run, Show}
-use Rattle.taskscope.specs.Requests.{AsksFor, AsksForHelp, IsMistake, plain_lints, refusals}
+use Rattle.taskscope.specs.Requests.{AsksFor, AsksForHelp, AsksForInput, IsMistake, file_of, plain_lints, refusals}
 
 -- the program is called by some name
 module _ (name : List ℕ) where
-  pub run : AsksFor Run (name ∷ codes "run" ∷ [])
+  pub run : AsksForInput Run (name ∷ codes "run" ∷ [])
   unfolding clap_on_literals
-  run = (refl, refl)
+  run = ((refl, refl), refl)
 
-  pub view : AsksFor (Show Report plain_lints) (name ∷ codes "view" ∷ [])
+  pub view : AsksForInput (Show Report plain_lints) (name ∷ codes "view" ∷ [])
   unfolding clap_on_literals
-  view = (refl, refl)
+  view = ((refl, refl), refl)
 
-  pub lint : AsksFor (Show Lint plain_lints) (name ∷ codes "lint" ∷ [])
+  pub lint : AsksForInput (Show Lint plain_lints) (name ∷ codes "lint" ∷ [])
   unfolding clap_on_literals
-  lint = (refl, refl)
+  lint = ((refl, refl), refl)
 
-  pub page : AsksFor (Page plain_lints) (name ∷ codes "page" ∷ [])
+  pub page : AsksForInput (Page plain_lints) (name ∷ codes "page" ∷ [])
   unfolding clap_on_literals
-  page = (refl, refl)
+  page = ((refl, refl), refl)
 
-  pub demo : AsksFor Demo (name ∷ codes "demo" ∷ [])
+  pub demo : AsksForInput Demo (name ∷ codes "demo" ∷ [])
   unfolding clap_on_literals
-  demo = (refl, refl)
+  demo = ((refl, refl), refl)
+
+  a_file : AsksFor (Show Report plain_lints) (name ∷ codes "view" ∷ codes "a.stream" ∷ [])
+  unfolding clap_on_literals
+  a_file = (refl, refl)
+
+  that_file : file_of (name ∷ codes "view" ∷ codes "a.stream" ∷ []) ≡ Some (codes "a.stream")
+  unfolding clap_on_literals
+  that_file = refl
 
   run_and_no_more : AsksFor Run (name ∷ codes "run" ∷ codes "--" ∷ [])
   unfolding clap_on_literals
@@ -46,7 +54,7 @@ module _ (name : List ℕ) where
   unfolding clap_on_literals
   an_option_twice = refl
 
-  a_word_too_many : refusals (name ∷ codes "run" ∷ codes "fast" ∷ []) ≡ UnknownArgument ∷ []
+  a_word_too_many : refusals (name ∷ codes "demo" ∷ codes "fast" ∷ []) ≡ UnknownArgument ∷ []
   unfolding clap_on_literals
   a_word_too_many = refl
 

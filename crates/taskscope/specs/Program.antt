@@ -68,9 +68,13 @@ pub record ShowsDemo (given left old new : Option (List ℕ)) (status : ℕ) : T
   pub shows : Demonstrates outcome old new
   pub unread : left ≡ given
 
--- what is asked for is done: of the input's bytes before and after, of the output's, and the status
+-- what is asked for is done: of the reader's bytes before and after, of the output's, and the status
 abbrev pub Does : Request → Option (List ℕ) → Option (List ℕ) → Option (List ℕ) → Option (List ℕ) → ℕ → Type 0
 Does Run given left old new status = RunsScript given old new status
 Does (Show view lints) given left old new status = ViewsStream view lints given left old new status
 Does (Page lints) given left old new status = PagesStream lints given left old new status
 Does Demo given left old new status = ShowsDemo given left old new status
+
+-- what is asked for is done with the bytes of some reader, of which nothing is known
+abbrev pub DoesOfFile : Request → Option (List ℕ) → Option (List ℕ) → ℕ → Type 0
+DoesOfFile request old new status = (given : Option (List ℕ)) × (left : Option (List ℕ)) × Does request given left old new status

@@ -1,5 +1,5 @@
 -- What words of a command line ask for.
-use Rattle.std.specs.Prelude.{◌≡◌, ◌≢◌, ℕ, Bool, true, false, List, [], ◌∷◌, Option, Some, None, if◌then◌else◌, codes, map, nat_le, option_and_then, String}
+use Rattle.std.specs.Prelude.{◌≡◌, ◌≢◌, ℕ, Bool, true, false, List, [], ◌∷◌, Option, Some, None, if◌then◌else◌, codes, map, nat_le, option_and_then, String, IsSome}
 use Rattle.std.specs.List.{list_all}
 use Rattle.std.specs.Str.{bytes_eq}
 use Rattle.std.specs.Str.Parse.{digits_value, without_leading_plus}
@@ -7,7 +7,7 @@ use Rattle.clap.specs.Simple.{App, new_app, new_rule, new_shape, on_top, subcomm
 use Rattle.clap.specs.Kinds.{Kinds}
 use Rattle.clap.specs.Faults.{fault_of}
 use Rattle.clap.specs.ValueTests.{is_unsigned_in}
-use Rattle.clap.specs.Walk.{Row, Rule, Text, one_of}
+use Rattle.clap.specs.Walk.{Row, Rule, Text, first_of, one_of}
 use Rattle.clap.specs.declared.builder.value_parser.ValueParser.TheVariants as vp
 use Rattle.clap.specs.declared.error.kind.ErrorKind.{ErrorKind}
 use Rattle.clap.specs.declared.error.kind.ErrorKind.TheVariants as kind
@@ -34,9 +34,17 @@ percent_option = number_option (codes "self-wake-percent") (codes "50") 100
 abbrev pub limit_option : Rule
 limit_option = number_option (codes "never-yielded-ns") (codes "1000000000") 18446744073709551615
 
--- a command with the two options of lints
+-- the file that is read in place of standard input
+abbrev pub file_argument : Rule
+file_argument = new_rule (codes "FILE")
+
+-- a command that reads a file or standard input
+abbrev pub reading_command : Text → App
+reading_command name = with_rule (new_app name) file_argument
+
+-- such a command with the two options of lints
 abbrev pub view_command : Text → App
-view_command name = with_rule (with_rule (new_app name) percent_option) limit_option
+view_command name = with_rule (with_rule (reading_command name) percent_option) limit_option
 
 -- a command is required
 abbrev pub requiring : App → App
@@ -45,7 +53,7 @@ requiring = on_top (λ s. record s { subcommand_required = true })
 -- the program as a parse of its words reads it: `run`, `view`, `lint`, `page` and `demo`
 abbrev pub program : App
 program =
-    let runs = with_subcommand (requiring (new_app (codes "taskscope"))) (new_shape (codes "run")) in
+    let runs = with_subcommand (requiring (new_app (codes "taskscope"))) (reading_command (codes "run")).top in
     let views = with_subcommand runs (view_command (codes "view")).top in
     let lints = with_subcommand views (view_command (codes "lint")).top in
     let pages = with_subcommand lints (view_command (codes "page")).top in
@@ -99,6 +107,17 @@ asked_in = option_and_then (λ command. asked_by command.0 command.1)
 abbrev pub asked : List Text → Option Request
 asked words = asked_in (subcommand_of program words)
 
+-- the file of a command's words
+abbrev pub file_at : List Row → Option Text
+file_at = first_of (codes "FILE")
+
+abbrev pub file_in : Option (Text × List Row) → Option Text
+file_in = option_and_then (λ command. file_at command.1)
+
+-- the file that the words name, of whose bytes they speak; where they name none, they speak of standard input's
+abbrev pub file_of : List Text → Option Text
+file_of words = file_in (subcommand_of program words)
+
 -- what the words read
 abbrev pub texts : {Z : Type 0} → List (String Z) → List (List ℕ)
 texts = map (λ w. w.bytes.items)
@@ -110,6 +129,14 @@ refusals = fault_of program
 -- the words ask for this: a parse takes them, and they name it
 abbrev pub AsksFor : Request → List (List ℕ) → Type 0
 AsksFor request words = (refusals words ≡ []) × (asked words ≡ Some request)
+
+-- the words ask for this, of standard input's bytes
+abbrev pub AsksForInput : Request → List (List ℕ) → Type 0
+AsksForInput request words = AsksFor request words × (file_of words ≡ None)
+
+-- the words ask for this, of the bytes of a file that they name
+abbrev pub AsksForFile : Request → List (List ℕ) → Type 0
+AsksForFile request words = AsksFor request words × IsSome (file_of words)
 
 -- the plainest words: the program's name, and one command
 abbrev pub IsPlain : List ℕ → List (List ℕ) → Type 0

@@ -1,5 +1,6 @@
 //! What the words of a command line ask for.
 ghost use Rattle.std.specs.Prelude.{◌≡◌, IfOk, IfErr, Some, false};
+ghost use Rattle.std.specs.Option.{option_map};
 ghost use Rattle.clap.specs.Kinds.{FailsBy};
 ghost use Rattle.clap.specs.Matches.{found_of};
 ghost use Rattle.clap.specs.Simple.{app_of, subcommand_rows_of};
@@ -15,6 +16,12 @@ use clap::{Arg, ArgMatches, Command, Error};
 use std::alloc::Global;
 use tk_app::View;
 use tk_client::Lints;
+
+/// A call of the program: what its words ask for, and of which file's bytes, where these aren't standard input's.
+pub(crate) struct Call<'a> {
+    pub request: Request,
+    pub file: Option<&'a str>,
+}
 
 /// What the words of a command line ask for.
 #[derive(Clone, Copy)]
@@ -41,11 +48,9 @@ const AFTER_HELP: &str =
     "The status is 0 if all was done, 1 after a fault (one line on standard error), 2 after words that ask for
 nothing that the program does, and 3 where `lint` found warnings.";
 
-const RUN_ABOUT: &str =
-    "Runs a script from standard input and writes its stream to standard output";
+const RUN_ABOUT: &str = "Runs a script and writes its stream to standard output";
 
-const RUN_LONG_ABOUT: &str =
-    "Runs a script from standard input and writes its stream to standard output.
+const RUN_LONG_ABOUT: &str = "Runs a script and writes its stream to standard output.
 
 A script has one command a line, its words between single spaces:
   capacity COUNT         holds so many events between two lines, 1 to 65536; once, before other commands
@@ -77,11 +82,10 @@ With a retention a line says which items are gone: each was closed for so long, 
 
 A script has at most 1,048,576 bytes. It stops at its first fault, and the lines before it stay.";
 
-const VIEW_ABOUT: &str =
-    "Reads a stream from standard input and writes the report of its tables to standard output";
+const VIEW_ABOUT: &str = "Reads a stream and writes the report of its tables to standard output";
 
 const VIEW_LONG_ABOUT: &str =
-    "Reads a stream from standard input and writes the report of its tables to standard output.
+    "Reads a stream and writes the report of its tables to standard output.
 
   taskscope run < examples/first.script | taskscope view
 
@@ -90,10 +94,10 @@ The report has a line for each task, resource and async operation, and one for e
 without its line end is ignored. After a fault nothing is written.";
 
 const LINT_ABOUT: &str =
-    "Reads a stream from standard input and writes the warnings about its tasks to standard output";
+    "Reads a stream and writes the warnings about its tasks to standard output";
 
 const LINT_LONG_ABOUT: &str =
-    "Reads a stream from standard input and writes the warnings about its tasks to standard output.
+    "Reads a stream and writes the warnings about its tasks to standard output.
 
   taskscope run < examples/lost-waker.script | taskscope lint
 
@@ -105,11 +109,9 @@ A task has these warnings:
 A last line of the stream without its line end is ignored. After a fault nothing is written. The status is 3
 where there are warnings.";
 
-const PAGE_ABOUT: &str =
-    "Reads a stream from standard input and writes it as one page of HTML to standard output";
+const PAGE_ABOUT: &str = "Reads a stream and writes it as one page of HTML to standard output";
 
-const PAGE_LONG_ABOUT: &str =
-    "Reads a stream from standard input and writes it as one page of HTML to standard output.
+const PAGE_LONG_ABOUT: &str = "Reads a stream and writes it as one page of HTML to standard output.
 
   taskscope run < examples/lost-waker.script | taskscope page > lost-waker.html
 
@@ -137,6 +139,30 @@ const LIMIT: &str = "never-yielded-ns";
 
 const LIMIT_HELP: &str = "Warns where a first poll has run for so many nanoseconds";
 
+const FILE: &str = "FILE";
+
+const FILE_HELP: &str = "Reads this file in place of standard input";
+
+// A command that reads a file or standard input.
+fn reading_command<'a>(
+    alloc: Global,
+    name: &'a str,
+    about: &'a str,
+    long_about: &'a str,
+) -> Result<Command<'a>, Error>
+    ensures ok { IfOk result (λ c. app_of c ≡ spec.reading_command name.entry.now) }
+    ensures local { IfOk result (λ c. (fields_of c).has_globals ≡ false) }
+    ensures err { IfErr result (λ e. kind_of e ≡ ErrorKind.OutOfMemory) }
+{
+    let file = Arg::new(alloc, FILE).help(FILE_HELP);
+    Ok(
+        Command::new(alloc, name)
+            .about(about)
+            .long_about(long_about)
+            .arg(file)?,
+    )
+}
+
 // A command that views a stream, with the options of lints.
 fn view_command<'a>(
     alloc: Global,
@@ -161,9 +187,7 @@ fn view_command<'a>(
         .default_value("1000000000")
         .value_parser(ValueParser::unsigned(0, 18_446_744_073_709_551_615));
     Ok(
-        Command::new(alloc, name)
-            .about(about)
-            .long_about(long_about)
+        reading_command(alloc, name, about, long_about)?
             .arg(percent)?
             .arg(limit)?,
     )
@@ -173,9 +197,7 @@ fn command_line<'a>(alloc: Global) -> Result<Command<'a>, Error>
     ensures ok { IfOk result (λ c. app_of c ≡ program) }
     ensures err { IfErr result (λ e. kind_of e ≡ ErrorKind.OutOfMemory) }
 {
-    let run = Command::new(alloc, "run")
-        .about(RUN_ABOUT)
-        .long_about(RUN_LONG_ABOUT);
+    let run = reading_command(alloc, "run", RUN_ABOUT, RUN_LONG_ABOUT)?;
     let view = view_command(alloc, "view", VIEW_ABOUT, VIEW_LONG_ABOUT)?;
     let lint = view_command(alloc, "lint", LINT_ABOUT, LINT_LONG_ABOUT)?;
     let page = view_command(alloc, "page", PAGE_ABOUT, PAGE_LONG_ABOUT)?;
@@ -249,14 +271,34 @@ fn asked_in(matches: &ArgMatches) -> Option<Request>
     }
 }
 
+fn file_at<'a>(options: &ArgMatches<'a>) -> Option<&'a str>
+    ensures { option_map (λ file. file.now) result ≡ spec.file_at (rows_of (found_of options.now)) }
+{
+    options.get_str(FILE)
+}
+
+fn file_in<'a>(matches: &ArgMatches<'a>) -> Option<&'a str>
+    ensures { option_map (λ file. file.now) result ≡ spec.file_in (subcommand_rows_of matches.now) }
+{
+    match matches.subcommand() {
+        Some((_, options)) => file_at(options),
+        None => None,
+    }
+}
+
 /// What the words ask for, the first of which is the program's name. Else a mistake in them, or the help that they ask for.
-pub(crate) fn request_of(alloc: Global, words: &[String]) -> Result<Request, Error>
-    // A request where a parse takes the words, and else a kind of error by which it refuses them; or want of memory.
+pub(crate) fn call_of<'a>(alloc: Global, words: &'a [String]) -> Result<Call<'a>, Error>
+    // A call where a parse takes the words, and else a kind of error by which it refuses them; or want of memory.
     ensures fails { FailsBy (refusals (texts words.now)) result }
-    ensures asked { IfOk result (λ request. spec.asked (texts words.now) ≡ Some request) }
+    ensures asked { IfOk result (λ call. spec.asked (texts words.now) ≡ Some call.request) }
+    ensures file { IfOk result (λ call. spec.file_of (texts words.now) ≡ option_map (λ file. file.now) call.file) }
 {
     let mut command = command_line(alloc)?;
     let matches = command.try_get_matches_from_mut(words)?;
     // A command is required, and the parse has checked its numbers.
-    Ok(asked_in(&matches).unwrap())
+    let request = asked_in(&matches).unwrap();
+    Ok(Call {
+        request,
+        file: file_in(&matches),
+    })
 }

@@ -1,15 +1,17 @@
 //! A run of the program, from its words to its status.
 ghost use Rattle.std.specs.Prelude.{◌≡◌, ◌≢◌, ◌≤◌, ◌⊎◌, true, [], codes, IsSome};
 ghost use Rattle.clap.specs.Values.{kind_of};
-ghost use Rattle.taskscope.specs.Requests.{AsksFor, AsksForHelp, IsMistake, IsPlain, asked, is_mistake, plain_lints, refusals, texts};
-ghost use Rattle.taskscope.specs.Program.{Does, page_status, status_at, status_of, view_status};
+ghost use Rattle.taskscope.specs.Requests.{AsksForFile, AsksForHelp, AsksForInput, IsMistake, IsPlain, asked, is_mistake, plain_lints, refusals, texts};
+ghost use Rattle.taskscope.specs.Program.{Does, DoesOfFile, page_status, status_at, status_of, view_status};
 
-use crate::command_line::{Request, request_of};
+use crate::command_line::{Call, Request, call_of};
 use clap::Error;
 use clap::error::ErrorKind;
 use std::alloc::{AllocGlobal, Global};
+use std::fs;
 use std::io::{ErrorKind as IoErrorKind, Read, Write};
 use std::random::RandomSource;
+use std::rt::Files;
 use std::sync::Wait;
 use std::thread::Threads;
 use tk_app::{AppFault, Open, View, demo, run_script, view_stream};
@@ -100,6 +102,24 @@ fn fulfil<R: Threads + Wait + Sync + RandomSource + AllocGlobal, I: Read, O: Wri
     }
 }
 
+// Does what is asked for with the bytes of a file.
+fn fulfil_of_file<
+    R: Threads + Wait + Sync + RandomSource + AllocGlobal + Files,
+    O: Write,
+    E: Write,
+>(rt: &R, alloc: Global, request: Request, path: &str, output: &mut O, faults: &mut E) -> u8
+    ensures does { DoesOfFile request (O.contents output.old) (O.contents output.new) result }
+    ensures status { (result ≤ FAULT) ⊎ (result ≡ WARNED) }
+{
+    match fs::open(rt, path) {
+        Ok(mut file) => fulfil(rt, alloc, request, &mut file, output, faults),
+        Err(error) => {
+            let _ = writeln!(faults, "fault: Read {path}: {error}");
+            FAULT
+        }
+    }
+}
+
 // What clap answers when it gives no request: help, a mistake in the words, or want of memory.
 fn answer<O: Write, E: Write>(error: Error, output: &mut O, faults: &mut E) -> u8
     ensures memory { kind_of error ≡ ErrorKind.OutOfMemory → (result ≡ FAULT) × (output.new ≡ output.old) }
@@ -137,21 +157,24 @@ pub(crate) fn refuse_words<E: Write>(kind: IoErrorKind, faults: &mut E) -> u8
 ///
 /// What goes to `faults` is only tested.
 pub(crate) fn run_program<
-    R: Threads + Wait + Sync + RandomSource + AllocGlobal,
+    R: Threads + Wait + Sync + RandomSource + AllocGlobal + Files,
     I: Read,
     O: Write,
     E: Write,
 >(rt: &R, alloc: Global, words: &[String], input: &mut I, output: &mut O, faults: &mut E) -> u8
     // What is asked for is done: a run reads and writes as `run_script` does, a view as `view_stream` does, a page as
     // `view_page` does, and the demo writes as `demo` does. The status is 1 exactly where there was a fault, and 3 exactly where `lint` found warnings.
-    ensures does { (request : Request) → AsksFor request (texts words.now)
+    ensures does { (request : Request) → AsksForInput request (texts words.now)
         → Does request (I.remaining input.old) (I.remaining input.new) (O.contents output.old) (O.contents output.new) result }
-    // A command alone asks for it with the lints of its defaults.
-    ensures run { IsPlain (codes "run") (texts words.now) → AsksFor Request.Run (texts words.now) }
-    ensures view { IsPlain (codes "view") (texts words.now) → AsksFor (Request.Show View.Report plain_lints) (texts words.now) }
-    ensures lint { IsPlain (codes "lint") (texts words.now) → AsksFor (Request.Show View.Lint plain_lints) (texts words.now) }
-    ensures page { IsPlain (codes "page") (texts words.now) → AsksFor (Request.Page plain_lints) (texts words.now) }
-    ensures demo { IsPlain (codes "demo") (texts words.now) → AsksFor Request.Demo (texts words.now) }
+    // With a file the same is done of its bytes, of which nothing is known, and the input is as it was.
+    ensures file { (request : Request) → AsksForFile request (texts words.now)
+        → (input.new ≡ input.old) × DoesOfFile request (O.contents output.old) (O.contents output.new) result }
+    // A command alone asks for it of the input, with the lints of its defaults.
+    ensures run { IsPlain (codes "run") (texts words.now) → AsksForInput Request.Run (texts words.now) }
+    ensures view { IsPlain (codes "view") (texts words.now) → AsksForInput (Request.Show View.Report plain_lints) (texts words.now) }
+    ensures lint { IsPlain (codes "lint") (texts words.now) → AsksForInput (Request.Show View.Lint plain_lints) (texts words.now) }
+    ensures page { IsPlain (codes "page") (texts words.now) → AsksForInput (Request.Page plain_lints) (texts words.now) }
+    ensures demo { IsPlain (codes "demo") (texts words.now) → AsksForInput Request.Demo (texts words.now) }
     // All words that a parse takes ask for a run, a view, a page or the demo.
     ensures asks { refusals (texts words.now) ≡ [] → IsSome (asked (texts words.now)) }
     // Other words leave the input as it is.
@@ -164,8 +187,12 @@ pub(crate) fn run_program<
     ensures usage { result ≡ USAGE → (input.new ≡ input.old) × (output.new ≡ output.old) }
     ensures status { result ≤ WARNED }
 {
-    match request_of(alloc, words) {
-        Ok(request) => fulfil(rt, alloc, request, input, output, faults),
-        Err(error) => answer(error, output, faults),
+    let Call { request, file } = match call_of(alloc, words) {
+        Ok(call) => call,
+        Err(error) => return answer(error, output, faults),
+    };
+    match file {
+        Some(path) => fulfil_of_file(rt, alloc, request, path, output, faults),
+        None => fulfil(rt, alloc, request, input, output, faults),
     }
 }

@@ -1,10 +1,7 @@
 use Rattle.std.proofs.Common.{◌≡◌, ◌||◌, ap, ap₂, ◌∙◌, codes, false, [], ◌∷◌, Option, Some}
-use Rattle.clap.specs.Simple.{app_of, app_of_fields, new_app, new_rule, with_rule}
+use Rattle.clap.specs.Simple.{new_rule, with_rule}
 use Rattle.clap.specs.Walk.{Rule, Text, rule_of}
-use Rattle.clap.specs.declared.builder.command.Command.TheViews.{out-Command as fields_of}
 use Rattle.clap.specs.declared.builder.arg.Arg.{Arg}
-use Rattle.clap.specs.declared.builder.command.Command.{Command}
-use Rattle.clap.specs.declared.builder.command.Command.TheOpen.{Command-F}
 use Rattle.clap.specs.declared.builder.value_parser.ValueParser.{ValueParser}
 use Rattle.clap.specs.declared.builder.value_parser.ValueParser.TheVariants as vp
 use Rattle.taskscope.specs.Requests.{limit_option, percent_option}
@@ -49,8 +46,7 @@ returns-clause-ok c =
     ap (λ (a : Arg). a.global) c.value_parser-limit.ensures.others ∙ (ap (λ (a : Arg). a.global) c.default_value-2.ensures
     ∙ (ap (λ (a : Arg). a.global) c.help-2.ensures ∙ (ap (λ (a : Arg). a.global) c.value_name-2.ensures
     ∙ (ap (λ (a : Arg). a.global) c.long-2.ensures ∙ c.new-2.ensures.optional.1)))) in
-    let named_is : app_of c.long_about.result ≡ new_app c.args.name.now =
-    ap app_of_fields c.long_about.ensures ∙ (ap app_of_fields c.about.ensures ∙ c.new-3.ensures.app) in
+    let named_is = c.in_ok-reading_command.ensures.ok in
     c.in_ok-arg-2.ensures.shape limit_local
     ∙ ap₂ with_rule (c.in_ok-arg.ensures.shape percent_local ∙ ap₂ with_rule named_is percent_is) limit_is
 
@@ -64,6 +60,5 @@ returns-clause-local c =
     ap (λ (a : Arg). a.global) c.value_parser-limit.ensures.others ∙ (ap (λ (a : Arg). a.global) c.default_value-2.ensures
     ∙ (ap (λ (a : Arg). a.global) c.help-2.ensures ∙ (ap (λ (a : Arg). a.global) c.value_name-2.ensures
     ∙ (ap (λ (a : Arg). a.global) c.long-2.ensures ∙ c.new-2.ensures.optional.1)))) in
-    let before : (fields_of c.long_about.result).has_globals ≡ false =
-    ap (λ (f : Command-F Command). f.has_globals) c.long_about.ensures ∙ (ap (λ (f : Command-F Command). f.has_globals) c.about.ensures ∙ c.new-3.ensures.local) in
+    let before = c.in_ok-reading_command.ensures.local in
     c.in_ok-arg-2.ensures.globals ∙ ap₂ (λ a b. a || b) (c.in_ok-arg.ensures.globals ∙ ap₂ (λ a b. a || b) before percent_local) limit_local

@@ -1,62 +1,48 @@
-use Rattle.std.proofs.Common.{◌≡◌, [], ◌∷◌, List, ℕ, Option, Some, None, Err, sym, refl, ap, subst, ◌∙◌, inl, inr}
-use Rattle.std.specs.Io.KnownBytes.{Appends}
-use Rattle.std.proofs.lemmas.List.{append-nil}
+use Rattle.std.proofs.Common.{◌≡◌, [], ◌∷◌, List, ℕ, None, is_some, true≢false, sym, refl, ap, subst, ◌∙◌, inl, inr}
+use Rattle.std.specs.Prelude.{IsSome}
+use Rattle.std.specs.Option.{option_map}
 use Rattle.clap.specs.Values.{kind_of}
-use Rattle.tk_fault.specs.declared.fault.AppFault.TheVariants as faults
-use Rattle.taskscope.specs.Program.{Does}
-use Rattle.taskscope.specs.Requests.{AsksFor, IsPlain, asked, refusals, texts}
+use Rattle.taskscope.specs.Program.{Does, DoesOfFile}
+use Rattle.taskscope.specs.Requests.{AsksForInput, IsPlain, asked, file_of, refusals, texts}
 use Rattle.taskscope.specs.declared.command_line.Request.{Request}
-use Rattle.taskscope.specs.declared.command_line.Request.TheVariants.{Demo, Page, Run, Show}
+use Rattle.taskscope.proofs.Outcomes.{nothing_done}
 use Rattle.taskscope.proofs.ParseLemmas.{taken_words_ask}
 use Rattle.taskscope.proofs.WordLemmas.{memory_alone, mistake_among, some_is}
 use Rattle.taskscope.proofs.WordRows.{demo, lint, page, run, view}
 use Rattle.taskscope.proofs.program.run_program.Goals as goal
 
--- nothing was written
-nothing_more : (known : Option (List ℕ)) → Appends known known []
-nothing_more None = tt
-nothing_more (Some xs) = sym (append-nil xs)
-
--- without memory nothing is read or written, whatever is asked for
-nothing_done : (request : Request) (given known : Option (List ℕ)) (status : ℕ) → status ≡ 1 → Does request given given known known status
-nothing_done Run given known status told = record {
-  outcome = Err faults.Memory;
-  told = told;
-  written = [];
-  runs = refl;
-  appends = nothing_more known;
-}
-nothing_done (Show shown lints) given known status told = record {
-  outcome = Err faults.Memory;
-  told = told;
-  views = tt;
-  unwritten = λ other. refl;
-}
-nothing_done (Page lints) given known status told = record {
-  outcome = Err faults.Memory;
-  told = told;
-  pages = tt;
-  unwritten = λ other. refl;
-}
-nothing_done Demo given known status told = record {
-  outcome = Err faults.Memory;
-  told = told;
-  shows = refl;
-  unread = refl;
-}
-
-plain : (command : List ℕ) (request : Request) → ((name : List ℕ) → AsksFor request (name ∷ command ∷ [])) → (words : List (List ℕ)) → IsPlain command words → AsksFor request words
-plain command request row words is = (ap refusals is.1 ∙ (row is.0).0, ap asked is.1 ∙ (row is.0).1)
+plain : (command : List ℕ) (request : Request) → ((name : List ℕ) → AsksForInput request (name ∷ command ∷ [])) → (words : List (List ℕ)) → IsPlain command words
+    → AsksForInput request words
+plain command request row words is = ((ap refusals is.1 ∙ (row is.0).0.0, ap asked is.1 ∙ (row is.0).0.1), ap file_of is.1 ∙ (row is.0).1)
 
 pub returns-in-Err-clause-does : goal.returns-in-Err-clause-does
 returns-in-Err-clause-does g c = λ request asks.
-    let told = c.answer.ensures.memory (memory_alone (refusals (texts c.args.words.now)) c.in-Err.error asks.0 c.in-Err.ensures.fails) in
+    let told = c.answer.ensures.memory (memory_alone (refusals (texts c.args.words.now)) c.in-Err.error asks.0.0 c.in-Err.ensures.fails) in
     rw told.1 (nothing_done request (g.I.Read.remaining c.args.input.now) (g.O.Write.contents c.args.output.now) c.answer.result told.0)
 
-pub returns-in-Ok-clause-does : goal.returns-in-Ok-clause-does
-returns-in-Ok-clause-does g c = λ request asks.
-    let same : c.in-Ok.request ≡ request = some_is _ _ (sym c.in-Ok.ensures.asked ∙ asks.1) in
+pub returns-in-Err-clause-file : goal.returns-in-Err-clause-file
+returns-in-Err-clause-file g c = λ request asks.
+    let told = c.answer.ensures.memory (memory_alone (refusals (texts c.args.words.now)) c.in-Err.error asks.0.0 c.in-Err.ensures.fails) in
+    (refl, (None, None, rw told.1 (nothing_done request None (g.O.Write.contents c.args.output.now) c.answer.result told.0)))
+
+pub returns-in-None-clause-does : goal.returns-in-None-clause-does
+returns-in-None-clause-does g c = λ request asks.
+    let same : c.in-Ok.call.request ≡ request = some_is _ _ (sym c.in-Ok.ensures.asked ∙ asks.0.1) in
     subst (λ r. Does r (g.I.Read.remaining c.args.input.now) (g.I.Read.remaining c.fulfil.new.input) (g.O.Write.contents c.args.output.now) (g.O.Write.contents c.fulfil.new.output) c.fulfil.result) same c.fulfil.ensures.does
+
+pub returns-in-None-clause-file : goal.returns-in-None-clause-file
+returns-in-None-clause-file g c = λ request asks.
+    let none : file_of (texts c.args.words.now) ≡ None = c.in-Ok.ensures.file ∙ ap (option_map (λ f. f.now)) c.in-None.is in
+    absurd (true≢false (sym (subst IsSome none asks.1)))
+
+pub returns-in-Some-clause-does : goal.returns-in-Some-clause-does
+returns-in-Some-clause-does g c = λ request asks.
+    absurd (true≢false (ap is_some (sym (c.in-Ok.ensures.file ∙ ap (option_map (λ f. f.now)) c.in-Some.is) ∙ asks.1)))
+
+pub returns-in-Some-clause-file : goal.returns-in-Some-clause-file
+returns-in-Some-clause-file g c = λ request asks.
+    let same : c.in-Ok.call.request ≡ request = some_is _ _ (sym c.in-Ok.ensures.asked ∙ asks.0.1) in
+    (refl, subst (λ r. DoesOfFile r (g.O.Write.contents c.args.output.now) (g.O.Write.contents c.fulfil_of_file.new.output) c.fulfil_of_file.result) same c.fulfil_of_file.ensures.does)
 
 pub returns-in-Err-clause-mistake : goal.returns-in-Err-clause-mistake
 returns-in-Err-clause-mistake g c = λ wrong. elim c.in-Err.ensures.fails [
@@ -83,20 +69,35 @@ returns-in-Err-clause-page g c = plain _ _ page (texts c.args.words.now)
 pub returns-in-Err-clause-demo : goal.returns-in-Err-clause-demo
 returns-in-Err-clause-demo g c = plain _ _ demo (texts c.args.words.now)
 
-pub returns-in-Ok-clause-run : goal.returns-in-Ok-clause-run
-returns-in-Ok-clause-run g c = plain _ _ run (texts c.args.words.now)
+pub returns-in-None-clause-run : goal.returns-in-None-clause-run
+returns-in-None-clause-run g c = plain _ _ run (texts c.args.words.now)
 
-pub returns-in-Ok-clause-view : goal.returns-in-Ok-clause-view
-returns-in-Ok-clause-view g c = plain _ _ view (texts c.args.words.now)
+pub returns-in-None-clause-view : goal.returns-in-None-clause-view
+returns-in-None-clause-view g c = plain _ _ view (texts c.args.words.now)
 
-pub returns-in-Ok-clause-lint : goal.returns-in-Ok-clause-lint
-returns-in-Ok-clause-lint g c = plain _ _ lint (texts c.args.words.now)
+pub returns-in-None-clause-lint : goal.returns-in-None-clause-lint
+returns-in-None-clause-lint g c = plain _ _ lint (texts c.args.words.now)
 
-pub returns-in-Ok-clause-page : goal.returns-in-Ok-clause-page
-returns-in-Ok-clause-page g c = plain _ _ page (texts c.args.words.now)
+pub returns-in-None-clause-page : goal.returns-in-None-clause-page
+returns-in-None-clause-page g c = plain _ _ page (texts c.args.words.now)
 
-pub returns-in-Ok-clause-demo : goal.returns-in-Ok-clause-demo
-returns-in-Ok-clause-demo g c = plain _ _ demo (texts c.args.words.now)
+pub returns-in-None-clause-demo : goal.returns-in-None-clause-demo
+returns-in-None-clause-demo g c = plain _ _ demo (texts c.args.words.now)
+
+pub returns-in-Some-clause-run : goal.returns-in-Some-clause-run
+returns-in-Some-clause-run g c = plain _ _ run (texts c.args.words.now)
+
+pub returns-in-Some-clause-view : goal.returns-in-Some-clause-view
+returns-in-Some-clause-view g c = plain _ _ view (texts c.args.words.now)
+
+pub returns-in-Some-clause-lint : goal.returns-in-Some-clause-lint
+returns-in-Some-clause-lint g c = plain _ _ lint (texts c.args.words.now)
+
+pub returns-in-Some-clause-page : goal.returns-in-Some-clause-page
+returns-in-Some-clause-page g c = plain _ _ page (texts c.args.words.now)
+
+pub returns-in-Some-clause-demo : goal.returns-in-Some-clause-demo
+returns-in-Some-clause-demo g c = plain _ _ demo (texts c.args.words.now)
 
 pub returns-in-Err-clause-asks : goal.returns-in-Err-clause-asks
 returns-in-Err-clause-asks g c = taken_words_ask (texts c.args.words.now)

@@ -8,7 +8,7 @@ use Rattle.clap.specs.declared.error.Error.{Error}
 use Rattle.clap.proofs.OnLiterals.{clap_on_literals}
 use Rattle.taskscope.specs.Requests.{asked, asked_in, program, refusals, texts}
 use Rattle.taskscope.proofs.ParseLemmas.{taken_words_ask}
-use Rattle.taskscope.proofs.command_line.request_of.Goals as goal
+use Rattle.taskscope.proofs.command_line.call_of.Goals as goal
 
 -- what `clap` promises of a parse holds of this program's
 is_simple_program : is_simple program ≡ true
@@ -40,8 +40,8 @@ returns-in_err-matches-clause-fails c =
     let p = err_from_is_err_and c.from_residual-in_err-matches.result c.from_residual-in_err-matches.ensures.1 in
     rw (p.1, p.2) (refused_as _ words app_is c.in_err-matches.field-0.0 (c.in_err-matches.ensures.kinds (is_free _ words app_is)))
 
-pub unwrap-requires : goal.unwrap-requires
-unwrap-requires c =
+pub unwrap-request-requires : goal.unwrap-request-requires
+unwrap-request-requires c =
     let words = texts c.args.words.now in
     let app_is : app_of c.in_ok-command.command ≡ program = c.in_ok-command.ensures.ok in
     let none = taken_as _ words app_is (c.in_ok-matches.ensures.kinds (is_free _ words app_is)) in
