@@ -1,6 +1,7 @@
 -- What a page is made of, and what lines of a piece come to.
-use Rattle.std.proofs.Common.{◌≡◌, ℕ, ◌+◌, ◌-◌, ◌≤◌, List, ◌++◌, length, take, drop, Option, Ok, Err, ap, sym, ◌∙◌, append_assoc, take-append-drop, length-take, arith}
-use Rattle.std.specs.Io.KnownBytes.{Appends}
+use Rattle.std.proofs.Common.{◌≡◌, ℕ, ◌+◌, ◌-◌, ◌≤◌, List, ◌++◌, length, take, drop, Option, Ok, Err, refl, ap, sym, ◌∙◌, append_assoc, take-append-drop, length-take, arith}
+use Rattle.std.specs.Io.KnownBytes.{Appends, Consumes}
+use Rattle.std.proofs.KnownBytes.{Consumes-trans}
 use Rattle.std.proofs.Math.Seq.{take-add}
 use Rattle.tk_client.specs.Feeding.{ClientView}
 use Rattle.tk_client.specs.Meaning.{empty_start}
@@ -8,9 +9,14 @@ use Rattle.tk_client.specs.Warnings.{LintsView, warnings_in}
 use Rattle.tk_client.proofs.Pieces.{stops-append}
 use Rattle.tk_fault.specs.declared.fault.AppFault.{AppFault}
 use Rattle.tk_fault.specs.declared.fault.AppFault.TheVariants as faults
-use Rattle.tk_page.specs.Pages.{IsPage, Pages}
-use Rattle.tk_report.specs.Taken.{Takes, TakesAll}
-use Rattle.tk_report.proofs.ViewLemmas.{leads}
+use Rattle.tk_page.specs.Courses.{courses_of}
+use Rattle.tk_page.specs.Kept.{Tells, TellsAll}
+use Rattle.tk_page.specs.Pages.{IsDrawn, Pages}
+use Rattle.tk_page.specs.Shown.{shown_of}
+use Rattle.tk_page.specs.declared.history.History.{History}
+use Rattle.tk_page.proofs.HistoryLemmas.{tell_of}
+use Rattle.tk_report.specs.Taken.{HasTaken, Reading, Takes, TakesAll}
+use Rattle.tk_report.specs.Views.{LeadTo}
 use Rattle.tk_stream.specs.Sent.{IsCut}
 
 -- so many bytes at most
@@ -41,6 +47,21 @@ front_stops bytes rest now faults.Write h = absurd h
 front_stops bytes rest now (faults.Script line name) h = absurd h
 front_stops bytes rest now (faults.Stream lines fault) h = (h.0, h.1, stops-append 268435456 empty_start bytes rest h.0 lines h.1 fault h.2)
 
+-- ---- what was read
+
+-- a client has taken what was read of a reader, and a history tells of its lines
+pub record ReadingTold (given left : Option (List ℕ)) (lines : ℕ) (now : ClientView) (history : History) : Type 0 where
+  pub reading : Reading given left lines now
+  pub told : Tells (shown_of reading.bytes) history
+
+-- a piece more was read, and taken
+pub reads_told : (given left new : Option (List ℕ)) (piece : List ℕ) (lines sum : ℕ) (old now : ClientView) (history : History) (r : Reading given left lines old)
+    → Consumes left new piece → HasTaken (r.bytes ++ piece) sum now → Tells (shown_of (r.bytes ++ piece)) history → ReadingTold given new sum now history
+reads_told given left new piece lines sum old now history r read taken told = record {
+  reading = record { bytes = r.bytes ++ piece; read = Consumes-trans given left new r.bytes piece r.read read; taken = taken };
+  told = told;
+}
+
 -- ---- what is written
 
 -- a stream that isn't taken has no page
@@ -52,28 +73,32 @@ pages_none lints given left old new now faults.Write h = absurd h
 pages_none lints given left old new now (faults.Script line name) h = absurd h
 pages_none lints given left old new now (faults.Stream lines fault) h = h
 
--- the page went out
-pub pages_all : (lints : LintsView) (given left old new : Option (List ℕ)) (client : ClientView) (text : List ℕ) (warnings : ℕ)
-    → TakesAll given left (Ok tt) client → IsPage text → Appends old new text
-    → warnings ≡ length (warnings_in lints client.start.tables) → Pages lints given left (Ok warnings) old new
-pages_all lints given left old new client text warnings h page wrote counted = record {
-  tables = client.start.tables;
-  lead = leads given left client h;
-  text = text;
-  page = page;
-  wrote = wrote;
-  counted = counted;
-}
+module _ (lints : LintsView) (given left old new : Option (List ℕ)) (client : ClientView) (history : History) (text : List ℕ)
+    (told : TellsAll given client history) (drawn : IsDrawn lints (courses_of history) client.start.tables text) where
+  lead : LeadTo given client.start.tables
+  lead = record { bytes = told.bytes; all = told.all; start = client.start; lines = told.lines; come = told.taken.took.came; shows = refl }
 
--- a front of it went out
-pub pages_front : (lints : LintsView) (given left old new : Option (List ℕ)) (client : ClientView) (text front : List ℕ)
-    → TakesAll given left (Ok tt) client → IsPage text → IsCut text front → Appends old new front → Pages lints given left (Err faults.Write) old new
-pages_front lints given left old new client text front h page cut wrote = record {
-  tables = client.start.tables;
-  lead = leads given left client h;
-  text = text;
-  page = page;
-  front = front;
-  cut = cut;
-  wrote = wrote;
-}
+  -- the page went out
+  pub pages_all : (warnings : ℕ) → Appends old new text → warnings ≡ length (warnings_in lints client.start.tables) → Pages lints given left (Ok warnings) old new
+  unfolding lead
+  pages_all warnings wrote counted = record {
+    tables = client.start.tables;
+    lead = lead;
+    text = text;
+    page = record { courses = courses_of history; told = tell_of (shown_of told.bytes) history told.tells; drawn = drawn };
+    wrote = wrote;
+    counted = counted;
+  }
+
+  -- a front of it went out
+  pub pages_front : (front : List ℕ) → IsCut text front → Appends old new front → Pages lints given left (Err faults.Write) old new
+  unfolding lead
+  pages_front front cut wrote = record {
+    tables = client.start.tables;
+    lead = lead;
+    text = text;
+    page = record { courses = courses_of history; told = tell_of (shown_of told.bytes) history told.tells; drawn = drawn };
+    front = front;
+    cut = cut;
+    wrote = wrote;
+  }

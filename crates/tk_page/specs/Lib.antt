@@ -1,4 +1,32 @@
+-- What a course of time keeps of a task at a line
+pub mod Samples
 -- The numbers of a page
 pub mod Figures
+-- What is kept of the lines of a stream
+pub mod Kept
+-- What a page is drawn of besides tables
+pub mod Courses
+-- What is odd about a task
+pub mod Odd
+-- Parts that several sections have
+pub mod Places
+-- The words for what is odd
+pub mod Badges
+-- What is odd, in words
+pub mod Cards
+-- Strips
+pub mod Strips
+-- Which tasks are shown, and in which order
+pub mod Ranks
+-- The table of tasks
+pub mod Rows
+-- Resources and operations
+pub mod Items
+-- The head of a page
+pub mod Heads
+-- The page between its frame
+pub mod Drawn
+-- The tables after each line of a stream
+pub mod Shown
 -- What a page is
 pub mod Pages

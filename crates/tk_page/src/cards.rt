@@ -1,12 +1,18 @@
 //! What is odd, in words with what to do.
+ghost use Rattle.std.specs.Prelude.{◌≡◌, [], OnOk, map, flat_map};
+ghost use Rattle.tk_page.specs.Badges as spec;
+ghost use Rattle.tk_page.specs.Odd.{kinds};
+ghost use Rattle.tk_page.specs.Cards as cards;
+ghost use Rattle.tk_paper.specs.Behind.{Writes};
 
-use crate::figures::{Scale, count, put_share, put_span, share};
-use crate::oddities::{Holder, Oddities, Oddity, at, count_of};
+use crate::figures::{Scale, count, front, share};
+use crate::oddities::{Holder, KINDS, Oddity, Signs};
 use crate::sample::Sample;
 use crate::strips::poll_takes;
+use std::alloc::Global;
 use tk_core::TaskRow;
 use tk_paper::Part::{
-    Class, Close, End, Number, Open, Quote, Start, Text, Value, With, WithNumber,
+    Class, Close, End, Number, Open, Quote, Share, Span, Start, Text, Value, With, WithNumber,
 };
 use tk_paper::{Attr, Paper, Stop, Tag};
 use tk_stream::{Tables, Task};
@@ -24,7 +30,14 @@ struct Words {
     advice: &'static str,
 }
 
-fn words_of(oddity: Oddity) -> Words {
+fn words_of(oddity: Oddity) -> Words
+    ensures class { result.class.now ≡ spec.class_of oddity }
+    ensures icon { result.icon.now ≡ spec.icon_of oddity }
+    ensures one { result.one.now ≡ spec.one_of oddity }
+    ensures many { result.many.now ≡ spec.many_of oddity }
+    ensures badge { result.badge.now ≡ spec.words_of_badge oddity }
+    ensures advice { result.advice.now ≡ spec.advice_of oddity }
+{
     match oddity {
         Oddity::HoldsUp => Words {
             class: "holds",
@@ -70,7 +83,10 @@ fn words_of(oddity: Oddity) -> Words {
 }
 
 // Begins a card, and its head with the sign.
-fn start_card(paper: &mut Paper, words: &Words) -> Result<(), Stop> {
+fn start_card(paper: &mut Paper, oddity: Oddity) -> Result<(), Stop>
+    ensures { OnOk result (Writes paper.old.text paper.new.text (cards.start_card oddity)) }
+{
+    let words = words_of(oddity);
     paper.put(&[
         Class(Tag::Li, words.class),
         Start(Tag::H3),
@@ -84,7 +100,10 @@ fn start_card(paper: &mut Paper, words: &Words) -> Result<(), Stop> {
     ])
 }
 
-fn end_card(paper: &mut Paper, words: &Words) -> Result<(), Stop> {
+fn end_card(paper: &mut Paper, oddity: Oddity) -> Result<(), Stop>
+    ensures { OnOk result (Writes paper.old.text paper.new.text (cards.end_card oddity)) }
+{
+    let words = words_of(oddity);
     paper.put(&[
         Close(Tag::P),
         Class(Tag::P, "do"),
@@ -95,7 +114,9 @@ fn end_card(paper: &mut Paper, words: &Words) -> Result<(), Stop> {
 }
 
 // Puts a task's name, as a link to its row.
-fn put_link(paper: &mut Paper, task: &Task) -> Result<(), Stop> {
+fn put_link(paper: &mut Paper, task: &Task) -> Result<(), Stop>
+    ensures { OnOk result (Writes paper.old.text paper.new.text (cards.link task.now)) }
+{
     paper.put(&[
         Open(Tag::A),
         WithNumber(Attr::Href, task.info.id.value()),
@@ -105,17 +126,31 @@ fn put_link(paper: &mut Paper, task: &Task) -> Result<(), Stop> {
     ])
 }
 
-fn put_held(paper: &mut Paper, scale: Scale, holder: Holder) -> Result<(), Stop> {
+fn put_held(paper: &mut Paper, scale: Scale, holder: Holder) -> Result<(), Stop>
+    ensures { OnOk result (Writes paper.old.text paper.new.text (cards.held scale holder)) }
+{
     let step = holder.step;
-    paper.put(&[Text("Between ")])?;
-    put_span(paper, scale.since(step.from))?;
-    paper.put(&[Text(" and ")])?;
-    put_span(paper, scale.since(step.to))?;
-    paper.put(&[Text(" tasks waited ")])?;
-    put_span(paper, step.sched)?;
-    paper.put(&[Text(" in all, and it ran ")])?;
-    put_share(paper, share(holder.ran, step.to.saturating_sub(step.from)))?;
-    paper.put(&[Text(" of that time.")])
+    let ran = share(holder.ran, step.time());
+    paper.put(&[
+        Text("Between "),
+        Span(scale.since(step.from)),
+        Text(" and "),
+        Span(scale.since(step.to)),
+        Text(" tasks waited "),
+        Span(step.sched),
+        Text(" in all, and it ran "),
+        Share(ran),
+        Text(" of that time."),
+    ])
+}
+
+fn put_held_if(paper: &mut Paper, scale: Scale, holder: Option<Holder>) -> Result<(), Stop>
+    ensures { OnOk result (Writes paper.old.text paper.new.text (cards.held_if scale holder)) }
+{
+    match holder {
+        Some(holder) => put_held(paper, scale, holder),
+        None => paper.put(&[]),
+    }
 }
 
 fn put_holder(
@@ -123,20 +158,26 @@ fn put_holder(
     scale: Scale,
     row: &TaskRow,
     holder: Option<Holder>,
-) -> Result<(), Stop> {
-    if let Some(holder) = holder {
-        put_held(paper, scale, holder)?;
-    }
-    paper.put(&[Text(" A poll of it takes ")])?;
-    put_span(paper, poll_takes(Sample::of(row, scale.now)))?;
-    paper.put(&[Text(" in the mean.")])
+) -> Result<(), Stop>
+    ensures { OnOk result (Writes paper.old.text paper.new.text (cards.holder_facts scale row.now holder)) }
+{
+    let takes = poll_takes(Sample::of(row, scale.now));
+    put_held_if(paper, scale, holder)?;
+    paper.put(&[
+        Text(" A poll of it takes "),
+        Span(takes),
+        Text(" in the mean."),
+    ])?;
+    Ok(())
 }
 
-fn put_lost_waker(paper: &mut Paper, scale: Scale, row: &TaskRow) -> Result<(), Stop> {
+fn put_lost_waker(paper: &mut Paper, scale: Scale, row: &TaskRow) -> Result<(), Stop>
+    ensures { OnOk result (Writes paper.old.text paper.new.text (cards.lost_facts scale row.now)) }
+{
     let since = row.last_ended.unwrap_or(row.created);
-    paper.put(&[Text("It is idle since ")])?;
-    put_span(paper, scale.since(since))?;
     paper.put(&[
+        Text("It is idle since "),
+        Span(scale.since(since)),
         Text(", and no waker of it is left: "),
         Number(row.clones),
         Text(" cloned, "),
@@ -145,28 +186,39 @@ fn put_lost_waker(paper: &mut Paper, scale: Scale, row: &TaskRow) -> Result<(), 
     ])
 }
 
-fn put_never_yielded(paper: &mut Paper, scale: Scale, row: &TaskRow) -> Result<(), Stop> {
+fn put_never_yielded(paper: &mut Paper, scale: Scale, row: &TaskRow) -> Result<(), Stop>
+    ensures { OnOk result (Writes paper.old.text paper.new.text (cards.never_facts scale row.now)) }
+{
     let started = row.last_started.unwrap_or(scale.now);
-    paper.put(&[Text("Its first poll runs for ")])?;
-    put_span(paper, scale.now.saturating_sub(started))?;
-    paper.put(&[Text(" and has not come back.")])
+    paper.put(&[
+        Text("Its first poll runs for "),
+        Span(scale.now.saturating_sub(started)),
+        Text(" and has not come back."),
+    ])
 }
 
-fn put_never_polled(paper: &mut Paper, scale: Scale, row: &TaskRow) -> Result<(), Stop> {
-    paper.put(&[Text("It waits since it was made, for ")])?;
-    put_span(paper, scale.now.saturating_sub(row.created))?;
-    paper.put(&[Text(".")])
+fn put_never_polled(paper: &mut Paper, scale: Scale, row: &TaskRow) -> Result<(), Stop>
+    ensures { OnOk result (Writes paper.old.text paper.new.text (cards.unpolled_facts scale row.now)) }
+{
+    paper.put(&[
+        Text("It waits since it was made, for "),
+        Span(scale.now.saturating_sub(row.created)),
+        Text("."),
+    ])
 }
 
-fn put_self_wakes(paper: &mut Paper, row: &TaskRow) -> Result<(), Stop> {
+fn put_self_wakes(paper: &mut Paper, row: &TaskRow) -> Result<(), Stop>
+    ensures { OnOk result (Writes paper.old.text paper.new.text (cards.self_facts row.now)) }
+{
+    let own = share(row.self_wakes, row.wakes);
     paper.put(&[
         Number(row.self_wakes),
         Text(" of its "),
         Number(row.wakes),
         Text(" wakes were its own, "),
-    ])?;
-    put_share(paper, share(row.self_wakes, row.wakes))?;
-    paper.put(&[Text(".")])
+        Share(own),
+        Text("."),
+    ])
 }
 
 fn put_facts(
@@ -175,7 +227,9 @@ fn put_facts(
     row: &TaskRow,
     oddity: Oddity,
     holder: Option<Holder>,
-) -> Result<(), Stop> {
+) -> Result<(), Stop>
+    ensures { OnOk result (Writes paper.old.text paper.new.text (cards.facts scale holder oddity row.now)) }
+{
     match oddity {
         Oddity::HoldsUp => put_holder(paper, scale, row, holder),
         Oddity::LostWaker => put_lost_waker(paper, scale, row),
@@ -185,6 +239,14 @@ fn put_facts(
     }
 }
 
+// Puts what one task does, after its name.
+fn put_one(paper: &mut Paper, oddity: Oddity) -> Result<(), Stop>
+    ensures { OnOk result (Writes paper.old.text paper.new.text (cards.one_words oddity)) }
+{
+    let words = words_of(oddity);
+    paper.put(&[Text(words.one), Close(Tag::H3), Start(Tag::P)])
+}
+
 // Puts the card of one task.
 fn put_card(
     paper: &mut Paper,
@@ -192,13 +254,15 @@ fn put_card(
     task: &Task,
     oddity: Oddity,
     holder: Option<Holder>,
-) -> Result<(), Stop> {
-    let words = words_of(oddity);
-    start_card(paper, &words)?;
+) -> Result<(), Stop>
+    ensures { OnOk result (Writes paper.old.text paper.new.text (cards.card scale holder oddity task.now)) }
+{
+    start_card(paper, oddity)?;
     put_link(paper, task)?;
-    paper.put(&[Text(words.one), Close(Tag::H3), Start(Tag::P)])?;
+    put_one(paper, oddity)?;
     put_facts(paper, scale, &task.row, oddity, holder)?;
-    end_card(paper, &words)
+    end_card(paper, oddity)?;
+    Ok(())
 }
 
 // How many cards of one kind there are at most: more are one card. How many tasks that one names.
@@ -209,116 +273,133 @@ const NAMES: usize = 12;
 fn put_cards(
     paper: &mut Paper,
     scale: Scale,
-    tables: &Tables,
-    odd: &[Oddities],
+    tasks: &[&Task],
     oddity: Oddity,
     holder: Option<Holder>,
-) -> Result<(), Stop> {
-    for place in 0..tables.task_count() {
-        if at(odd, place).has(oddity) {
-            if let Some(task) = tables.task_at(place) {
-                put_card(paper, scale, task, oddity, holder)?;
-            }
-        }
+) -> Result<(), Stop>
+    ensures { OnOk result (Writes paper.old.text paper.new.text
+        (flat_map (cards.card scale holder oddity) (map (λ t. t.now) tasks.now))) }
+{
+    for task in tasks {
+        put_card(paper, scale, task, oddity, holder)?;
     }
     Ok(())
 }
 
-fn put_name(paper: &mut Paper, task: &Task, named: usize) -> Result<(), Stop> {
-    if named > 0 {
-        paper.put(&[Text(", ")])?;
-    }
-    put_link(paper, task)
+fn put_next_name(paper: &mut Paper, task: &Task) -> Result<(), Stop>
+    ensures { OnOk result (Writes paper.old.text paper.new.text (cards.next_name task.now)) }
+{
+    paper.put(&[Text(", ")])?;
+    put_link(paper, task)?;
+    Ok(())
 }
 
-// Puts the names of the first tasks of which this is odd, and answers how many those are.
-fn put_names(
-    paper: &mut Paper,
-    tables: &Tables,
-    odd: &[Oddities],
-    oddity: Oddity,
-) -> Result<usize, Stop> {
-    let mut named = 0usize;
-    for place in 0..tables.task_count() {
-        if named < NAMES && at(odd, place).has(oddity) {
-            if let Some(task) = tables.task_at(place) {
-                put_name(paper, task, named)?;
-                named = named.saturating_add(1);
-            }
-        }
+fn put_next_names(paper: &mut Paper, tasks: &[&Task]) -> Result<(), Stop>
+    ensures { OnOk result (Writes paper.old.text paper.new.text
+        (flat_map cards.next_name (map (λ t. t.now) tasks.now))) }
+{
+    for task in tasks {
+        put_next_name(paper, task)?;
     }
-    Ok(named)
+    Ok(())
 }
 
-// Puts one card for all tasks of which this is odd.
-fn put_group(
-    paper: &mut Paper,
-    tables: &Tables,
-    odd: &[Oddities],
-    oddity: Oddity,
-    all: usize,
-) -> Result<(), Stop> {
+fn put_names(paper: &mut Paper, tasks: &[&Task]) -> Result<(), Stop>
+    ensures { OnOk result (Writes paper.old.text paper.new.text (cards.names (map (λ t. t.now) tasks.now))) }
+{
+    let [first, rest @ ..] = tasks else {
+        return paper.put(&[]);
+    };
+    put_link(paper, first)?;
+    put_next_names(paper, rest)?;
+    Ok(())
+}
+
+// Puts how many tasks a card doesn't name.
+fn put_unnamed(paper: &mut Paper, all: usize) -> Result<(), Stop>
+    ensures { OnOk result (Writes paper.old.text paper.new.text (cards.unnamed all)) }
+{
+    if all > NAMES {
+        paper.put(&[Text(" and "), Number(count(all - NAMES)), Text(" more")])
+    } else {
+        paper.put(&[])
+    }
+}
+
+fn put_many(paper: &mut Paper, oddity: Oddity, all: usize) -> Result<(), Stop>
+    ensures { OnOk result (Writes paper.old.text paper.new.text (cards.many_words oddity all)) }
+{
     let words = words_of(oddity);
-    start_card(paper, &words)?;
     paper.put(&[
         Number(count(all)),
         Text(words.many),
         Close(Tag::H3),
         Start(Tag::P),
-    ])?;
-    let named = put_names(paper, tables, odd, oddity)?;
-    if all > named {
-        paper.put(&[Text(" and "), Number(count(all - named)), Text(" more")])?;
-    }
-    end_card(paper, &words)
+    ])
+}
+
+// Puts one card for all tasks of which this is odd.
+fn put_group(paper: &mut Paper, tasks: &[&Task], oddity: Oddity) -> Result<(), Stop>
+    ensures { OnOk result (Writes paper.old.text paper.new.text (cards.group oddity (map (λ t. t.now) tasks.now))) }
+{
+    let all = tasks.len();
+    let named = front(tasks, NAMES);
+    start_card(paper, oddity)?;
+    put_many(paper, oddity, all)?;
+    put_names(paper, named)?;
+    put_unnamed(paper, all)?;
+    end_card(paper, oddity)?;
+    Ok(())
 }
 
 fn put_kind(
     paper: &mut Paper,
     scale: Scale,
-    tables: &Tables,
-    odd: &[Oddities],
+    tasks: &[&Task],
     oddity: Oddity,
     holder: Option<Holder>,
-) -> Result<(), Stop> {
-    let all = count_of(odd, oddity);
-    if all > CARDS {
-        put_group(paper, tables, odd, oddity, all)
+) -> Result<(), Stop>
+    ensures { OnOk result (Writes paper.old.text paper.new.text (cards.kind scale holder oddity (map (λ t. t.now) tasks.now))) }
+{
+    if tasks.len() > CARDS {
+        put_group(paper, tasks, oddity)
     } else {
-        put_cards(paper, scale, tables, odd, oddity, holder)
+        put_cards(paper, scale, tasks, oddity, holder)
     }
 }
 
-// The order of the cards.
-const KINDS: [Oddity; 5] = [
-    Oddity::HoldsUp,
-    Oddity::LostWaker,
-    Oddity::NeverYielded,
-    Oddity::NeverPolled,
-    Oddity::SelfWakes,
-];
-
-// How many oddities there are.
-fn count_all(odd: &[Oddities]) -> usize {
-    let mut all = 0usize;
-    for oddity in KINDS {
-        all = all.saturating_add(count_of(odd, oddity));
-    }
-    all
+// Puts the cards of a kind.
+fn put_kind_of(
+    paper: &mut Paper,
+    alloc: Global,
+    scale: Scale,
+    signs: Signs,
+    tables: &Tables,
+    oddity: Oddity,
+    holder: Option<Holder>,
+) -> Result<(), Stop>
+    ensures { OnOk result (Writes paper.old.text paper.new.text (cards.cards_of scale signs holder tables.now.tasks oddity)) }
+{
+    let found = signs.find(alloc, tables, oddity)?;
+    put_kind(paper, scale, found.as_slice(), oddity, holder)?;
+    Ok(())
 }
 
 fn put_all_kinds(
     paper: &mut Paper,
+    alloc: Global,
     scale: Scale,
+    signs: Signs,
     tables: &Tables,
-    odd: &[Oddities],
     holder: Option<Holder>,
-) -> Result<(), Stop> {
-    paper.put(&[Class(Tag::Ul, "odd")])?;
-    for oddity in KINDS {
-        put_kind(paper, scale, tables, odd, oddity, holder)?;
+) -> Result<(), Stop>
+    ensures { OnOk result (Writes paper.old.text paper.new.text
+        (flat_map (cards.cards_of scale signs holder tables.now.tasks) kinds)) }
+{
+    for oddity in &KINDS {
+        put_kind_of(paper, alloc, scale, signs, tables, *oddity, holder)?;
     }
-    paper.put(&[Close(Tag::Ul)])
+    Ok(())
 }
 
 /// Begins a section with its head.
@@ -326,7 +407,9 @@ pub(crate) fn start_section(
     paper: &mut Paper,
     id: &'static str,
     head: &'static str,
-) -> Result<(), Stop> {
+) -> Result<(), Stop>
+    ensures { OnOk result (Writes paper.old.text paper.new.text (spec.section id.now head.now)) }
+{
     paper.put(&[
         Open(Tag::Section),
         With(Attr::AriaLabelledby, id),
@@ -338,40 +421,82 @@ pub(crate) fn start_section(
     ])
 }
 
+fn put_nothing_odd(paper: &mut Paper) -> Result<(), Stop>
+    ensures { OnOk result (Writes paper.old.text paper.new.text cards.nothing_odd) }
+{
+    paper.put(&[
+        Close(Tag::H2),
+        Class(Tag::P, "fine"),
+        Text(
+            "Nothing: no task wakes itself, lost its wakers, never yielded, was never polled, or held up others.",
+        ),
+        Close(Tag::P),
+        Close(Tag::Section),
+    ])
+}
+
+fn put_all_odd(
+    paper: &mut Paper,
+    alloc: Global,
+    scale: Scale,
+    signs: Signs,
+    tables: &Tables,
+    holder: Option<Holder>,
+    all: u64,
+) -> Result<(), Stop>
+    ensures { OnOk result (Writes paper.old.text paper.new.text (cards.all_odd scale signs holder tables.now.tasks all)) }
+{
+    paper.put(&[
+        Class(Tag::Span, "count"),
+        Number(all),
+        Close(Tag::Span),
+        Close(Tag::H2),
+        Class(Tag::Ul, "odd"),
+    ])?;
+    put_all_kinds(paper, alloc, scale, signs, tables, holder)?;
+    paper.put(&[Close(Tag::Ul), Close(Tag::Section)])?;
+    Ok(())
+}
+
+fn put_what_is_odd(
+    paper: &mut Paper,
+    alloc: Global,
+    scale: Scale,
+    signs: Signs,
+    tables: &Tables,
+    holder: Option<Holder>,
+) -> Result<(), Stop>
+    ensures { OnOk result (Writes paper.old.text paper.new.text (cards.what_is_odd scale signs holder tables.now.tasks)) }
+{
+    let all = signs.count_all(tables);
+    if all == 0 {
+        put_nothing_odd(paper)
+    } else {
+        put_all_odd(paper, alloc, scale, signs, tables, holder, all)
+    }
+}
+
 /// Puts what is odd.
 pub(crate) fn put_odd(
     paper: &mut Paper,
+    alloc: Global,
     scale: Scale,
+    signs: Signs,
     tables: &Tables,
-    odd: &[Oddities],
     holder: Option<Holder>,
-) -> Result<(), Stop> {
-    let all = count_all(odd);
+) -> Result<(), Stop>
+    ensures { OnOk result (Writes paper.old.text paper.new.text (cards.odd_section scale signs holder tables.now.tasks)) }
+{
     start_section(paper, "odd", "What is odd ")?;
-    if all == 0 {
-        return paper.put(&[
-            Close(Tag::H2),
-            Class(Tag::P, "fine"),
-            Text(
-                "Nothing: no task wakes itself, lost its wakers, never yielded, was never polled, or held up others.",
-            ),
-            Close(Tag::P),
-            Close(Tag::Section),
-        ]);
-    }
-    paper.put(&[
-        Class(Tag::Span, "count"),
-        Number(count(all)),
-        Close(Tag::Span),
-        Close(Tag::H2),
-    ])?;
-    put_all_kinds(paper, scale, tables, odd, holder)?;
-    paper.put(&[Close(Tag::Section)])
+    put_what_is_odd(paper, alloc, scale, signs, tables, holder)?;
+    Ok(())
 }
 
-fn put_badge(paper: &mut Paper, oddities: Oddities, oddity: Oddity) -> Result<(), Stop> {
-    if !oddities.has(oddity) {
-        return Ok(());
+fn put_badge(paper: &mut Paper, odd: bool, oddity: Oddity) -> Result<(), Stop>
+    ensures { OnOk result (Writes paper.old.text paper.new.text (spec.badge odd oddity)) }
+{
+    if !odd {
+        return paper.put(&[]);
     }
     let words = words_of(oddity);
     paper.put(&[
@@ -386,14 +511,31 @@ fn put_badge(paper: &mut Paper, oddities: Oddities, oddity: Oddity) -> Result<()
     ])
 }
 
-/// Puts what is odd about a task behind its name.
-pub(crate) fn put_badges(paper: &mut Paper, oddities: Oddities) -> Result<(), Stop> {
-    if !oddities.is_any() {
-        return Ok(());
+fn put_each_badge(paper: &mut Paper, signs: Signs, task: &Task) -> Result<(), Stop>
+    ensures { OnOk result (Writes paper.old.text paper.new.text (flat_map (spec.badge_of signs task.now) kinds)) }
+{
+    for oddity in &KINDS {
+        put_badge(paper, signs.has(task, *oddity), *oddity)?;
     }
+    Ok(())
+}
+
+fn put_badge_line(paper: &mut Paper, signs: Signs, task: &Task) -> Result<(), Stop>
+    ensures { OnOk result (Writes paper.old.text paper.new.text (spec.badge_line signs task.now)) }
+{
     paper.put(&[Class(Tag::Div, "badges")])?;
-    for oddity in KINDS {
-        put_badge(paper, oddities, oddity)?;
+    put_each_badge(paper, signs, task)?;
+    paper.put(&[Close(Tag::Div)])?;
+    Ok(())
+}
+
+/// Puts what is odd about a task after its name.
+pub(crate) fn put_badges(paper: &mut Paper, signs: Signs, task: &Task) -> Result<(), Stop>
+    ensures { OnOk result (Writes paper.old.text paper.new.text (spec.badges signs task.now)) }
+{
+    if signs.has_any(task) {
+        put_badge_line(paper, signs, task)
+    } else {
+        paper.put(&[])
     }
-    paper.put(&[Close(Tag::Div)])
 }

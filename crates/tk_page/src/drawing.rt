@@ -1,21 +1,29 @@
 //! The page between its frame: the head, what is odd, the tasks, the resources.
+ghost use Rattle.std.specs.Prelude.{◌≡◌, [], OnOk};
+ghost use Rattle.tk_page.specs.Heads as spec;
+ghost use Rattle.tk_page.specs.Drawn.{DrawsPage, DrawsSections};
+ghost use Rattle.tk_page.specs.Courses.{courses_of};
+ghost use Rattle.tk_paper.specs.Behind.{Writes};
 
 use crate::cards::put_odd;
-use crate::figures::{Scale, count, put_span};
+use crate::figures::{Scale, count};
 use crate::history::History;
-use crate::oddities::{Holder, Oddities, find_holder, list_oddities};
+use crate::oddities::{Holder, Signs, find_holder};
 use crate::resources::put_resources;
 use crate::strips::{steps_of, worst_step};
 use crate::tasks::put_tasks;
 use std::alloc::Global;
-use tk_client::{Lints, Warning};
-use tk_paper::Part::{Class, Close, Number, Start, Text};
+use tk_client::Lints;
+use tk_ids::Dropped;
+use tk_paper::Part::{Class, Close, Number, Span, Start, Text};
 use tk_paper::{Paper, Stop, Tag};
 use tk_stream::Tables;
 
 // The moment at the page's left: the first line's, or that of the earliest creation of a task.
-fn start_of(history: &History, tables: &Tables) -> u64 {
-    let mut start = history.first();
+fn start_of(first: u64, tables: &Tables) -> u64
+    ensures { result ≡ spec.start_of first tables.now.tasks }
+{
+    let mut start = first;
     for place in 0..tables.task_count() {
         if let Some(task) = tables.task_at(place) {
             start = start.min(task.row.created);
@@ -29,7 +37,9 @@ fn put_fact(
     number: u64,
     one: &'static str,
     many: &'static str,
-) -> Result<(), Stop> {
+) -> Result<(), Stop>
+    ensures { OnOk result (Writes paper.old.text paper.new.text (spec.fact number one.now many.now)) }
+{
     paper.put(&[
         Start(Tag::B),
         Number(number),
@@ -38,12 +48,26 @@ fn put_fact(
     ])
 }
 
-fn put_facts(
-    paper: &mut Paper,
-    scale: Scale,
-    history: &History,
-    tables: &Tables,
-) -> Result<(), Stop> {
+// Puts how many tasks have left, where any have.
+fn put_gone(paper: &mut Paper, gone: u64) -> Result<(), Stop>
+    ensures { OnOk result (Writes paper.old.text paper.new.text (spec.gone_fact gone)) }
+{
+    if gone == 0 {
+        return paper.put(&[]);
+    }
+    paper.put(&[Text(" · ")])?;
+    put_fact(
+        paper,
+        gone,
+        " task closed and gone",
+        " tasks closed and gone",
+    )?;
+    Ok(())
+}
+
+fn put_facts(paper: &mut Paper, watched: u64, lines: u64, tables: &Tables) -> Result<(), Stop>
+    ensures { OnOk result (Writes paper.old.text paper.new.text (spec.facts watched lines tables.now)) }
+{
     let (tasks, resources, ops) = (
         tables.task_count(),
         tables.resource_count(),
@@ -52,28 +76,14 @@ fn put_facts(
     put_fact(paper, count(tasks), " task · ", " tasks · ")?;
     put_fact(paper, count(resources), " resource · ", " resources · ")?;
     put_fact(paper, count(ops), " operation · ", " operations · ")?;
-    put_fact(paper, history.lines(), " line over ", " lines over ")?;
-    paper.put(&[Start(Tag::B)])?;
-    put_span(paper, scale.watched())?;
-    paper.put(&[Close(Tag::B)])?;
-    if history.gone() > 0 {
-        paper.put(&[Text(" · ")])?;
-        put_fact(
-            paper,
-            history.gone(),
-            " task closed and gone",
-            " tasks closed and gone",
-        )?;
-    }
+    put_fact(paper, lines, " line over ", " lines over ")?;
+    paper.put(&[Start(Tag::B), Span(watched), Close(Tag::B)])?;
     Ok(())
 }
 
-// Puts how many events were dropped, where any were.
-fn put_missing(paper: &mut Paper, tables: &Tables) -> Result<(), Stop> {
-    let dropped = tables.dropped();
-    if dropped.tasks == 0 && dropped.resources == 0 && dropped.ops == 0 {
-        return Ok(());
-    }
+fn put_dropped(paper: &mut Paper, dropped: Dropped) -> Result<(), Stop>
+    ensures { OnOk result (Writes paper.old.text paper.new.text (spec.dropped_facts dropped)) }
+{
     paper.put(&[
         Class(Tag::P, "missing"),
         Text("Not all is here. Events were dropped: "),
@@ -89,15 +99,30 @@ fn put_missing(paper: &mut Paper, tables: &Tables) -> Result<(), Stop> {
     paper.put(&[
         Text("Publish more often, or hold more events."),
         Close(Tag::P),
-    ])
+    ])?;
+    Ok(())
+}
+
+// Puts how many events were dropped, where any were.
+fn put_missing(paper: &mut Paper, dropped: Dropped) -> Result<(), Stop>
+    ensures { OnOk result (Writes paper.old.text paper.new.text (spec.missing dropped)) }
+{
+    if dropped.tasks == 0 && dropped.resources == 0 && dropped.ops == 0 {
+        paper.put(&[])
+    } else {
+        put_dropped(paper, dropped)
+    }
 }
 
 fn put_header(
     paper: &mut Paper,
-    scale: Scale,
-    history: &History,
+    watched: u64,
+    lines: u64,
+    gone: u64,
     tables: &Tables,
-) -> Result<(), Stop> {
+) -> Result<(), Stop>
+    ensures { OnOk result (Writes paper.old.text paper.new.text (spec.header watched lines gone tables.now)) }
+{
     paper.put(&[
         Start(Tag::Header),
         Start(Tag::H1),
@@ -105,10 +130,12 @@ fn put_header(
         Close(Tag::H1),
         Class(Tag::P, "facts"),
     ])?;
-    put_facts(paper, scale, history, tables)?;
+    put_facts(paper, watched, lines, tables)?;
+    put_gone(paper, gone)?;
     paper.put(&[Close(Tag::P)])?;
-    put_missing(paper, tables)?;
-    paper.put(&[Close(Tag::Header)])
+    put_missing(paper, tables.dropped())?;
+    paper.put(&[Close(Tag::Header)])?;
+    Ok(())
 }
 
 // Which task holds up the others, if one does.
@@ -126,17 +153,35 @@ fn put_sections(
     paper: &mut Paper,
     alloc: Global,
     scale: Scale,
+    signs: Signs,
     history: &History,
     tables: &Tables,
-    odd: &[Oddities],
     holder: Option<Holder>,
-) -> Result<(), Stop> {
-    put_header(paper, scale, history, tables)?;
+) -> Result<(), Stop>
+    ensures { OnOk result (DrawsSections scale signs holder (courses_of history.now) tables.now paper.old.text paper.new.text) }
+{
+    put_header(
+        paper,
+        scale.watched(),
+        history.lines(),
+        history.gone(),
+        tables,
+    )?;
     paper.put(&[Start(Tag::Main)])?;
-    put_odd(paper, scale, tables, odd, holder)?;
-    put_tasks(paper, alloc, scale, history, tables, odd)?;
-    put_resources(paper, tables)?;
-    paper.put(&[Close(Tag::Main)])
+    put_odd(paper, alloc, scale, signs, tables, holder)?;
+    put_tasks(paper, alloc, scale, signs, history, tables)?;
+    put_resources(paper, alloc, tables)?;
+    paper.put(&[Close(Tag::Main)])?;
+    Ok(())
+}
+
+fn id_of(holder: Option<Holder>) -> Option<u64>
+    ensures { result ≡ spec.id_of holder }
+{
+    match holder {
+        Some(holder) => Some(holder.id),
+        None => None,
+    }
 }
 
 /// Puts the page's text between its frame.
@@ -145,14 +190,22 @@ pub(crate) fn put_page(
     alloc: Global,
     history: &History,
     tables: &Tables,
-    warnings: &[Warning],
     lints: &Lints,
-) -> Result<(), Stop> {
+) -> Result<(), Stop>
+    ensures { OnOk result (DrawsPage lints.now (courses_of history.now) tables.now paper.old.text paper.new.text) }
+{
+    let now = tables.now();
     let scale = Scale {
-        start: start_of(history, tables),
-        now: tables.now(),
+        start: start_of(history.first(), tables),
+        now,
     };
     let holder = holder_of(alloc, scale, history, tables)?;
-    let odd = list_oddities(alloc, tables, warnings, lints, holder)?;
-    put_sections(paper, alloc, scale, history, tables, odd.as_slice(), holder)
+    let signs = Signs {
+        now,
+        percent: lints.self_wake_percent(),
+        limit: lints.never_yielded_ns(),
+        holder: id_of(holder),
+    };
+    put_sections(paper, alloc, scale, signs, history, tables, holder)?;
+    Ok(())
 }

@@ -1,18 +1,21 @@
 //! The courses of time of a stream's tasks, thinned while its lines are read.
+ghost use Rattle.std.specs.Prelude.{◌≡◌, ◌≤◌, ◌+◌, ◌^◌, ◌==◌, if◌then◌else◌, ◌++◌, ◌∷◌, [], ℕ, List, length, OnOk, IfSome, IfNone, IfOk, None, false, nat_eq};
+ghost use Rattle.indexmap.specs.IndexMap.{IsUnique, get};
+ghost use Rattle.tk_page.specs.Kept as spec;
+ghost use Rattle.tk_stream.specs.Tables.{TablesView};
 
 use crate::sample::Sample;
 use indexmap::IndexMap;
 use std::alloc::{AllocError, Global};
-use tk_ids::TaskId;
 use tk_paper::Course;
 use tk_stream::Tables;
 
-// The course of a task, and what it had come to at the last line.
+// The course of a task, what it had come to at the last line that it was in, and how many lines there were up to that one.
 #[derive(Drop)]
 struct Track {
-    id: u64,
     course: Course<Sample>,
     last: Sample,
+    lines: u64,
 }
 
 /// The courses of the tasks of tables, and that of what all tasks gained in each line, those that left among them.
@@ -30,17 +33,144 @@ pub(crate) struct History {
     gone: u64,
 }
 
-// Takes what a task has come to, and answers what it gained since the line before.
-fn go_on(track: &mut Track, sample: Sample) -> Result<Sample, AllocError> {
+// Takes what a task has come to after so many lines, and answers what it gained since the line before. A task that was not in that
+// one begins anew.
+fn go_on(alloc: Global, track: &mut Track, lines: u64, sample: Sample) -> Result<Sample, AllocError>
+    ensures { (xs : List Sample) → lines ≤ 2 ^ 62 → length xs ≤ 2 ^ 62 → spec.Follows lines xs track.old
+        → OnOk result (spec.Follows (lines + 1) (xs ++ sample ∷ []) track.new) }
+{
+    if track.lines != lines {
+        track.course = Course::new(alloc);
+        track.last = Sample::none(sample.now);
+    }
     let gain = sample.gain(track.last);
     track.course.push(sample)?;
     track.last = sample;
+    track.lines = lines.saturating_add(1);
     Ok(gain)
+}
+
+// The track of a task that is new after so many lines.
+fn begin(alloc: Global, lines: u64, sample: Sample) -> Result<Track, AllocError>
+    ensures { IfOk result (λ track. lines ≤ 2 ^ 62 → spec.Follows (lines + 1) (sample ∷ []) track) }
+{
+    let mut course = Course::new(alloc);
+    course.push(sample)?;
+    Ok(Track {
+        course,
+        last: sample,
+        lines: lines.saturating_add(1),
+    })
+}
+
+// Where the track of a task stands. Tracks stand in the order of the tables as long as tasks arrive after the others, so mostly no
+// look-up by id is made.
+fn find_track(tasks: &IndexMap<u64, Track>, place: usize, id: u64) -> Option<usize>
+    ensures some { IfSome result (λ i. spec.StandsAt tasks.now.entries i id) }
+    ensures none { IfNone result (get nat_eq tasks.now id ≡ None) }
+{
+    if let Some((key, _)) = tasks.get_index(place) {
+        if *key == id {
+            return Some(place);
+        }
+    }
+    tasks.get_index_of(&id)
+}
+
+// Goes on with the track of a task that stands there.
+fn go_on_at(
+    tasks: &mut IndexMap<u64, Track>,
+    alloc: Global,
+    i: usize,
+    lines: u64,
+    id: u64,
+    sample: Sample,
+) -> Result<Sample, AllocError>
+    requires { spec.StandsAt tasks.old.entries i id }
+    ensures task { (xs : List Sample) → lines ≤ 2 ^ 62 → length xs ≤ 2 ^ 62 → spec.FollowsAt lines xs (get nat_eq tasks.old id)
+        → OnOk result (spec.FollowsAt (lines + 1) (xs ++ sample ∷ []) (get nat_eq tasks.new id)) }
+    ensures others { (other : ℕ) → nat_eq id other ≡ false → OnOk result (get nat_eq tasks.new other ≡ get nat_eq tasks.old other) }
+{
+    match tasks.get_index_mut(i) {
+        Some(track) => go_on(alloc, track, lines, sample),
+        None => Ok(sample),
+    }
+}
+
+// Begins the track of a task that has none.
+fn begin_at(
+    tasks: &mut IndexMap<u64, Track>,
+    alloc: Global,
+    lines: u64,
+    id: u64,
+    sample: Sample,
+) -> Result<Sample, AllocError>
+    requires { get nat_eq tasks.old id ≡ None }
+    ensures task { (xs : List Sample) → lines ≤ 2 ^ 62 → length xs ≤ 2 ^ 62 → spec.FollowsAt lines xs (get nat_eq tasks.old id)
+        → OnOk result (spec.FollowsAt (lines + 1) (xs ++ sample ∷ []) (get nat_eq tasks.new id)) }
+    ensures others { (other : ℕ) → nat_eq id other ≡ false → OnOk result (get nat_eq tasks.new other ≡ get nat_eq tasks.old other) }
+{
+    let track = begin(alloc, lines, sample)?;
+    tasks.insert(id, track)?;
+    Ok(sample)
+}
+
+// Takes what a task at a place has come to after so many lines, and answers what it gained since the line before.
+fn note_task(
+    tasks: &mut IndexMap<u64, Track>,
+    alloc: Global,
+    place: usize,
+    lines: u64,
+    id: u64,
+    sample: Sample,
+) -> Result<Sample, AllocError>
+    ensures task { (xs : List Sample) → lines ≤ 2 ^ 62 → length xs ≤ 2 ^ 62 → spec.FollowsAt lines xs (get nat_eq tasks.old id)
+        → OnOk result (spec.FollowsAt (lines + 1) (xs ++ sample ∷ []) (get nat_eq tasks.new id)) }
+    ensures others { (other : ℕ) → nat_eq id other ≡ false → OnOk result (get nat_eq tasks.new other ≡ get nat_eq tasks.old other) }
+{
+    match find_track(tasks, place, id) {
+        Some(i) => go_on_at(tasks, alloc, i, lines, id, sample),
+        None => begin_at(tasks, alloc, lines, id, sample),
+    }
+}
+
+// Lets the tracks go that no task of the last line is on.
+fn forget(tasks: &mut IndexMap<u64, Track>, lines: u64)
+    requires { IsUnique nat_eq tasks.old }
+    ensures { (id : ℕ) → get nat_eq tasks.new id ≡ spec.kept_at lines (get nat_eq tasks.old id) }
+{
+    tasks.retain(|_id: &u64, track: &mut Track| track.lines == lines);
+}
+
+// Takes what the tasks of tables have come to after so many lines, and answers what all gained.
+fn note_tasks(
+    tasks: &mut IndexMap<u64, Track>,
+    alloc: Global,
+    lines: u64,
+    tables: &Tables,
+    last: Sample,
+) -> Result<Sample, AllocError>
+    ensures { (id : ℕ) (xs : List Sample) → lines ≤ 2 ^ 62 → length xs ≤ 2 ^ 62 → spec.FollowsAt lines xs (get nat_eq tasks.old id)
+        → OnOk result (spec.FollowsAt (lines + 1) (spec.samples_more id tables.now xs) (get nat_eq tasks.new id)) }
+{
+    let now = tables.now();
+    let mut sum = Sample::none(now).with(last);
+    for place in 0..tables.task_count() {
+        if let Some(task) = tables.task_at(place) {
+            let sample = Sample::of(&task.row, now);
+            let id = task.info.id.value();
+            let gain = note_task(tasks, alloc, place, lines, id, sample)?;
+            sum = sum.with(gain);
+        }
+    }
+    Ok(sum)
 }
 
 impl History {
     /// The courses of no lines.
-    pub fn new(alloc: Global) -> History {
+    pub fn new(alloc: Global) -> History
+        ensures { spec.Tells [] result }
+    {
         History {
             alloc,
             tasks: IndexMap::new(alloc),
@@ -52,59 +182,27 @@ impl History {
         }
     }
 
-    // Begins the course of a task.
-    fn begin(&mut self, id: u64, sample: Sample) -> Result<Sample, AllocError> {
-        let mut course = Course::new(self.alloc);
-        course.push(sample)?;
-        self.tasks.insert(
-            id,
-            Track {
-                id,
-                course,
-                last: sample,
-            },
-        )?;
-        Ok(sample)
-    }
-
-    // Takes what a task at a place has come to, and answers what it gained since the line before.
-    //
-    // Courses stand in the order of the tables as long as tasks arrive behind the others, so mostly no look-up by id is made.
-    fn note_task(&mut self, place: usize, id: u64, sample: Sample) -> Result<Sample, AllocError> {
-        if let Some(track) = self.tasks.get_index_mut(place) {
-            if track.id == id {
-                return go_on(track, sample);
-            }
+    // Lets the tracks of tasks go that are no more there, and counts them.
+    fn forget_gone(&mut self, tables: &Tables)
+        ensures lines { self.new.lines ≡ self.old.lines }
+        ensures first { self.new.first ≡ self.old.first }
+        ensures tasks { (id : ℕ) → spec.StaysOr (self.old.lines + 1) (get nat_eq self.old.tasks id) (get nat_eq self.new.tasks id) }
+    {
+        if self.tasks.len() <= tables.task_count() {
+            return;
         }
-        match self.tasks.get_mut(&id) {
-            Some(track) => go_on(track, sample),
-            None => self.begin(id, sample),
-        }
-    }
-
-    // Lets the courses of tasks go that the tables don't have.
-    fn forget(&mut self, tables: &Tables) {
         let before = self.tasks.len() as u64;
-        self.tasks
-            .retain(|id: &u64, _track: &mut Track| has_task(tables, *id));
+        forget(&mut self.tasks, self.lines.saturating_add(1));
         let left = before.saturating_sub(self.tasks.len() as u64);
         self.gone = self.gone.saturating_add(left);
     }
 
-    /// Takes the tables behind a line.
-    pub fn note(&mut self, tables: &Tables) -> Result<(), AllocError> {
-        let now = tables.now();
-        let mut sum = Sample::none(now).with(self.last);
-        for place in 0..tables.task_count() {
-            if let Some(task) = tables.task_at(place) {
-                let sample = Sample::of(&task.row, now);
-                let gain = self.note_task(place, task.info.id.value(), sample)?;
-                sum = sum.with(gain);
-            }
-        }
-        if self.tasks.len() > tables.task_count() {
-            self.forget(tables);
-        }
+    // Ends a line in which all tasks came to this.
+    fn end_line(&mut self, now: u64, sum: Sample) -> Result<(), AllocError>
+        ensures lines { self.old.lines ≤ 2 ^ 62 → OnOk result (self.new.lines ≡ self.old.lines + 1) }
+        ensures first { OnOk result (self.new.first ≡ (if self.old.lines == 0 then now else self.old.first)) }
+        ensures tasks { self.new.tasks ≡ self.old.tasks }
+    {
         self.sums.push(sum)?;
         self.last = sum;
         if self.lines == 0 {
@@ -114,43 +212,58 @@ impl History {
         Ok(())
     }
 
+    /// Takes the tables after a line.
+    pub fn note(&mut self, tables: &Tables) -> Result<(), AllocError>
+        ensures { (shown : List TablesView) → length shown ≤ 2 ^ 62 → spec.Tells shown self.old
+            → OnOk result (spec.Tells (shown ++ tables.now ∷ []) self.new) }
+    {
+        let sum = note_tasks(&mut self.tasks, self.alloc, self.lines, tables, self.last)?;
+        self.forget_gone(tables);
+        self.end_line(tables.now(), sum)
+    }
+
     /// The samples of the task with an id.
-    pub fn of(&self, id: u64) -> &[Sample] {
+    pub fn of(&self, id: u64) -> &[Sample]
+        ensures { result.now ≡ spec.kept_of self.now id }
+    {
         match self.tasks.get(&id) {
-            Some(track) => track.course.kept(),
-            None => &[],
+            Some(track) if track.lines == self.lines => track.course.kept(),
+            _ => &[],
         }
     }
 
     /// The samples of all tasks' sums.
-    pub fn sums(&self) -> &[Sample] {
+    pub fn sums(&self) -> &[Sample]
+        ensures { result.now ≡ self.now.sums.kept }
+    {
         self.sums.kept()
     }
 
     /// The sums of the last line.
-    pub fn last(&self) -> Sample {
+    pub fn last(&self) -> Sample
+        ensures { result ≡ self.now.last }
+    {
         self.last
     }
 
     /// How many lines there were.
-    pub fn lines(&self) -> u64 {
+    pub fn lines(&self) -> u64
+        ensures { result ≡ self.now.lines }
+    {
         self.lines
     }
 
     /// The moment of the first line.
-    pub fn first(&self) -> u64 {
+    pub fn first(&self) -> u64
+        ensures { result ≡ self.now.first }
+    {
         self.first
     }
 
     /// How many tasks have left.
-    pub fn gone(&self) -> u64 {
+    pub fn gone(&self) -> u64
+        ensures { result ≡ self.now.gone }
+    {
         self.gone
-    }
-}
-
-fn has_task(tables: &Tables, id: u64) -> bool {
-    match TaskId::from_value(id) {
-        Ok(id) => tables.task_place(id).is_some(),
-        Err(_) => false,
     }
 }

@@ -1,9 +1,12 @@
 //! What is odd about tasks.
+ghost use Rattle.std.specs.Prelude.{◌≡◌, ◌-◌, nat_le, false, filter, map, IfOk};
+ghost use Rattle.std.specs.Option.{option_map_or};
+ghost use Rattle.tk_client.specs.Warnings as lints;
+ghost use Rattle.tk_page.specs.Odd as spec;
 
 use crate::history::History;
 use crate::sample::{Sample, Step};
 use std::alloc::{AllocError, Global};
-use tk_client::{Lints, Warning, WarningKind};
 use tk_core::TaskRow;
 use tk_ids::TaskKind;
 use tk_stream::{Tables, Task};
@@ -23,98 +26,160 @@ pub(crate) enum Oddity {
     SelfWakes,
 }
 
-impl From<WarningKind> for Oddity {
-    fn from(kind: WarningKind) -> Oddity {
-        match kind {
-            WarningKind::SelfWakes => Oddity::SelfWakes,
-            WarningKind::LostWaker => Oddity::LostWaker,
-            WarningKind::NeverYielded => Oddity::NeverYielded,
-        }
+/// The order of the cards.
+pub(crate) const KINDS: [Oddity; 5] = [
+    Oddity::HoldsUp,
+    Oddity::LostWaker,
+    Oddity::NeverYielded,
+    Oddity::NeverPolled,
+    Oddity::SelfWakes,
+];
+
+fn is_spawn(kind: TaskKind) -> bool
+    ensures { result ≡ lints.is_spawn kind }
+{
+    match kind {
+        TaskKind::Spawn => true,
+        TaskKind::Blocking => false,
     }
 }
 
-/// What is odd about a task.
-#[derive(Clone, Copy, Debug, PartialEq, Eq)]
-pub(crate) struct Oddities {
-    holds_up: bool,
-    lost_waker: bool,
-    never_yielded: bool,
-    never_polled: bool,
-    self_wakes: bool,
+// In 128 bits neither product is too large.
+fn wakes_itself(percent: u64, row: &TaskRow) -> bool
+    ensures { result ≡ lints.wakes_itself percent row.now }
+{
+    let wakes = u128::from(row.wakes);
+    let own = u128::from(row.self_wakes);
+    wakes > 0 && 100 * own > u128::from(percent) * wakes
 }
 
-impl Oddities {
-    /// Nothing.
-    pub fn none() -> Oddities {
-        Oddities {
-            holds_up: false,
-            lost_waker: false,
-            never_yielded: false,
-            never_polled: false,
-            self_wakes: false,
+fn has_lost_waker(row: &TaskRow) -> bool
+    ensures { result ≡ lints.has_lost_waker row.now }
+{
+    row.dropped.is_none() && !row.polling && !row.scheduled && row.clones == row.drops
+}
+
+// Whether a poll that started then, if any did, runs for so long.
+fn has_run(limit: u64, now: u64, started: Option<u64>) -> bool
+    ensures { result ≡ option_map_or (λ moment. nat_le limit (now - moment)) started false }
+{
+    match started {
+        Some(moment) => limit <= now.saturating_sub(moment),
+        None => false,
+    }
+}
+
+fn has_never_yielded(limit: u64, now: u64, row: &TaskRow) -> bool
+    ensures { result ≡ lints.has_never_yielded limit now row.now }
+{
+    row.polling && row.polls == 1 && has_run(limit, now, row.last_started)
+}
+
+// Whether a task has waited for its first poll for so long as a first poll may run.
+fn is_never_polled(limit: u64, now: u64, row: &TaskRow) -> bool
+    ensures { result ≡ spec.is_never_polled limit now row.now }
+{
+    row.scheduled && row.polls == 0 && limit <= now.saturating_sub(row.created)
+}
+
+/// What tasks are looked at for.
+#[derive(Clone, Copy)]
+pub(crate) struct Signs {
+    /// The moment of the tables.
+    pub now: u64,
+    /// How much of the wakes of a task may be its own.
+    pub percent: u64,
+    /// For how long a first poll may run, and be waited for.
+    pub limit: u64,
+    /// The task that holds up the others, if one does.
+    pub holder: Option<u64>,
+}
+
+impl Signs {
+    fn is_holder(self, task: &Task) -> bool
+        ensures { result ≡ spec.is_holder self task.now }
+    {
+        match self.holder {
+            Some(id) => id == task.info.id.value(),
+            None => false,
         }
     }
 
-    /// Whether this is odd about it.
-    pub fn has(self, oddity: Oddity) -> bool {
+    /// Whether this is odd about a task.
+    pub fn has(self, task: &Task, oddity: Oddity) -> bool
+        ensures { result ≡ spec.is_odd self oddity task.now }
+    {
+        let row = &task.row;
+        let spawned = is_spawn(task.info.kind);
         match oddity {
-            Oddity::HoldsUp => self.holds_up,
-            Oddity::LostWaker => self.lost_waker,
-            Oddity::NeverYielded => self.never_yielded,
-            Oddity::NeverPolled => self.never_polled,
-            Oddity::SelfWakes => self.self_wakes,
+            Oddity::HoldsUp => self.is_holder(task),
+            Oddity::LostWaker => spawned && has_lost_waker(row),
+            Oddity::NeverYielded => spawned && has_never_yielded(self.limit, self.now, row),
+            Oddity::NeverPolled => spawned && is_never_polled(self.limit, self.now, row),
+            Oddity::SelfWakes => spawned && wakes_itself(self.percent, row),
         }
     }
 
-    /// Whether anything is odd about it.
-    pub fn is_any(self) -> bool {
-        self.holds_up
-            || self.lost_waker
-            || self.never_yielded
-            || self.never_polled
-            || self.self_wakes
+    /// Whether anything is odd about a task.
+    pub fn has_any(self, task: &Task) -> bool
+        ensures { result ≡ spec.is_odd_at_all self task.now }
+    {
+        self.has(task, Oddity::HoldsUp)
+            || self.has(task, Oddity::LostWaker)
+            || self.has(task, Oddity::NeverYielded)
+            || self.has(task, Oddity::NeverPolled)
+            || self.has(task, Oddity::SelfWakes)
     }
 
-    fn add(&mut self, oddity: Oddity) {
-        match oddity {
-            Oddity::HoldsUp => self.holds_up = true,
-            Oddity::LostWaker => self.lost_waker = true,
-            Oddity::NeverYielded => self.never_yielded = true,
-            Oddity::NeverPolled => self.never_polled = true,
-            Oddity::SelfWakes => self.self_wakes = true,
+    // How many things are odd about a task.
+    fn count(self, task: &Task) -> u64
+        ensures { result ≡ spec.odd_count self task.now }
+    {
+        u64::from(self.has(task, Oddity::HoldsUp))
+            + u64::from(self.has(task, Oddity::LostWaker))
+            + u64::from(self.has(task, Oddity::NeverYielded))
+            + u64::from(self.has(task, Oddity::NeverPolled))
+            + u64::from(self.has(task, Oddity::SelfWakes))
+    }
+
+    /// How many things are odd about all tasks.
+    pub fn count_all(self, tables: &Tables) -> u64
+        ensures { result ≡ spec.all_odd self tables.now.tasks }
+    {
+        let mut all = 0u64;
+        for place in 0..tables.task_count() {
+            if let Some(task) = tables.task_at(place) {
+                all = all.saturating_add(self.count(task));
+            }
         }
+        all
     }
-}
 
-/// What is odd about the task at a place.
-pub(crate) fn at(odd: &[Oddities], place: usize) -> Oddities {
-    match odd.get(place) {
-        Some(oddities) => *oddities,
-        None => Oddities::none(),
-    }
-}
-
-fn add_at(odd: &mut [Oddities], place: usize, oddity: Oddity) {
-    if let Some(oddities) = odd.get_mut(place) {
-        oddities.add(oddity);
-    }
-}
-
-/// About how many tasks this is odd.
-pub(crate) fn count_of(odd: &[Oddities], oddity: Oddity) -> usize {
-    let mut found = 0usize;
-    for oddities in odd {
-        if oddities.has(oddity) {
-            found = found.saturating_add(1);
+    /// The tasks of which this is odd, in table order.
+    pub fn find<'a>(
+        self,
+        alloc: Global,
+        tables: &'a Tables,
+        oddity: Oddity,
+    ) -> Result<Vec<&'a Task>, AllocError>
+        ensures { IfOk result (λ found. map (λ t. t.now) found.items ≡ filter (spec.is_odd self oddity) tables.now.tasks) }
+    {
+        let mut found = Vec::new(alloc);
+        for place in 0..tables.task_count() {
+            if let Some(task) = tables.task_at(place) {
+                if self.has(task, oddity) {
+                    found.push(task)?;
+                }
+            }
         }
+        Ok(found)
     }
-    found
 }
 
 /// The task that holds up the others, in which step, and how long it ran there.
 #[derive(Clone, Copy)]
 pub(crate) struct Holder {
-    pub place: usize,
+    pub id: u64,
     pub step: Step,
     pub ran: u64,
 }
@@ -128,13 +193,6 @@ fn busy_at(samples: &[Sample], last: Sample, moment: u64) -> u64 {
         }
     }
     if last.now <= moment { last.busy } else { busy }
-}
-
-fn is_spawn(kind: TaskKind) -> bool {
-    match kind {
-        TaskKind::Spawn => true,
-        TaskKind::Blocking => false,
-    }
 }
 
 fn ran_in(history: &History, now: u64, task: &Task, step: Step) -> u64 {
@@ -167,57 +225,12 @@ pub(crate) fn find_holder(
             None => 0,
         };
         if ran > most {
-            found = Some(Holder { place, step, ran });
+            found = Some(Holder {
+                id: task.info.id.value(),
+                step,
+                ran,
+            });
         }
     }
     found
-}
-
-// Whether a task has waited for its first poll for so long as a first poll may run.
-fn is_never_polled(row: &TaskRow, now: u64, limit: u64) -> bool {
-    row.scheduled && row.polls == 0 && now.saturating_sub(row.created) >= limit
-}
-
-fn oddities_alone(task: &Task, now: u64, limit: u64) -> Oddities {
-    let mut oddities = Oddities::none();
-    if is_spawn(task.info.kind) && is_never_polled(&task.row, now, limit) {
-        oddities.add(Oddity::NeverPolled);
-    }
-    oddities
-}
-
-// What the rows alone tell that no warning does.
-fn list_rows(alloc: Global, tables: &Tables, limit: u64) -> Result<Vec<Oddities>, AllocError> {
-    let mut odd = Vec::new(alloc);
-    for place in 0..tables.task_count() {
-        odd.push(match tables.task_at(place) {
-            Some(task) => oddities_alone(task, tables.now(), limit),
-            None => Oddities::none(),
-        })?;
-    }
-    Ok(odd)
-}
-
-fn add_warnings(odd: &mut [Oddities], tables: &Tables, warnings: &[Warning]) {
-    for warning in warnings {
-        if let Some(place) = tables.task_place(warning.task) {
-            add_at(odd, place, Oddity::from(warning.kind));
-        }
-    }
-}
-
-/// What is odd about each task, in the order of the tables.
-pub(crate) fn list_oddities(
-    alloc: Global,
-    tables: &Tables,
-    warnings: &[Warning],
-    lints: &Lints,
-    holder: Option<Holder>,
-) -> Result<Vec<Oddities>, AllocError> {
-    let mut odd = list_rows(alloc, tables, lints.never_yielded_ns())?;
-    add_warnings(odd.as_mut_slice(), tables, warnings);
-    if let Some(holder) = holder {
-        add_at(odd.as_mut_slice(), holder.place, Oddity::HoldsUp);
-    }
-    Ok(odd)
 }

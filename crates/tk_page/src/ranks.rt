@@ -1,9 +1,13 @@
 //! Which tasks a page shows, and in which order: odd ones first, then by how long they ran and waited.
+ghost use Rattle.std.specs.Prelude.{◌≡◌, IfOk};
+ghost use Rattle.std.specs.List.Sorted.{IsPermutation};
+ghost use Rattle.tk_page.specs.Ranks as spec;
 
-use crate::oddities::{Oddities, at};
-use crate::sample::Sample;
+use crate::figures::Scale;
+use crate::oddities::Signs;
+use crate::sample::{busy_until, sched_until};
 use std::alloc::{AllocError, Global};
-use tk_stream::Tables;
+use tk_stream::{Tables, Task};
 
 /// Where a task stands: the least comes first.
 #[derive(Clone, Copy, Debug, PartialEq, Eq, PartialOrd, Ord)]
@@ -15,23 +19,47 @@ pub(crate) struct Rank {
     pub place: usize,
 }
 
-/// The tasks of tables in order.
-pub(crate) fn ranks_of(
+fn rank_of(scale: Scale, signs: Signs, task: &Task, place: usize) -> Rank
+    ensures { result ≡ spec.rank_of scale signs place task.now }
+{
+    let busy = busy_until(&task.row, scale.now);
+    let sched = sched_until(&task.row, scale.now);
+    Rank {
+        calm: !signs.has_any(task),
+        below: u64::MAX - busy.saturating_add(sched),
+        place,
+    }
+}
+
+// The ranks of the tasks of tables, in table order.
+fn list_ranks(
     alloc: Global,
+    scale: Scale,
     tables: &Tables,
-    odd: &[Oddities],
-) -> Result<Vec<Rank>, AllocError> {
+    signs: Signs,
+) -> Result<Vec<Rank>, AllocError>
+    ensures { IfOk result (λ ranks. ranks.items ≡ spec.ranks_of scale signs tables.now.tasks) }
+{
     let mut ranks = Vec::new(alloc);
     for place in 0..tables.task_count() {
         if let Some(task) = tables.task_at(place) {
-            let last = Sample::of(&task.row, tables.now());
-            ranks.push(Rank {
-                calm: !at(odd, place).is_any(),
-                below: u64::MAX - last.busy.saturating_add(last.sched),
-                place,
-            })?;
+            ranks.push(rank_of(scale, signs, task, place))?;
         }
     }
+    Ok(ranks)
+}
+
+/// The ranks of the tasks of tables in order.
+pub(crate) fn ranks_of(
+    alloc: Global,
+    scale: Scale,
+    tables: &Tables,
+    signs: Signs,
+) -> Result<Vec<Rank>, AllocError>
+    ensures all { IfOk result (λ ranks. IsPermutation (spec.ranks_of scale signs tables.now.tasks) ranks.items) }
+    ensures sorted { IfOk result (λ ranks. spec.AreInOrder ranks.items) }
+{
+    let mut ranks = list_ranks(alloc, scale, tables, signs)?;
     ranks.as_mut_slice().sort_unstable();
     Ok(ranks)
 }

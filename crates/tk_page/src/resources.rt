@@ -1,10 +1,16 @@
 //! Resources with their attributes, and the operations on them.
+ghost use Rattle.std.specs.Prelude.{◌≡◌, [], OnOk, IfOk, codes, length, map, take, filter, flat_map, slice_get};
+ghost use Rattle.std.specs.Option.{option_map_or};
+ghost use Rattle.tk_page.specs.Items as spec;
+ghost use Rattle.tk_page.specs.Places as places;
+ghost use Rattle.tk_paper.specs.Behind.{Writes};
 
 use crate::cards::start_section;
-use crate::figures::{count, put_count, put_span};
+use crate::figures::{count, front};
+use std::alloc::{AllocError, Global};
 use tk_core::{OpRow, ResourceRow};
-use tk_ids::{AttrInfo, AttrValue, Location};
-use tk_paper::Part::{Class, Close, End, Number, Open, Start, Text, With, WithNumber};
+use tk_ids::{AttrInfo, AttrValue, Name, TaskId};
+use tk_paper::Part::{Class, Close, End, Number, Open, Span, Start, Text, With, WithNumber};
 use tk_paper::{Attr, Paper, Stop, Tag};
 use tk_stream::{Op, Resource, Tables};
 
@@ -13,42 +19,45 @@ const RESOURCES: usize = 50;
 
 const OPS: usize = 20;
 
-/// Puts an id.
-pub(crate) fn put_id(paper: &mut Paper, parts: (u64, u64)) -> Result<(), Stop> {
-    paper.put(&[Number(parts.0), Text("."), Number(parts.1)])
+// Puts which item this one is a part of.
+fn put_whole(paper: &mut Paper, words: &'static str, parts: (u64, u64)) -> Result<(), Stop>
+    ensures { OnOk result (Writes paper.old.text paper.new.text (spec.whole words.now parts)) }
+{
+    paper.put(&[Text(words), Number(parts.0), Text("."), Number(parts.1)])
 }
 
-/// Puts where an item was made.
-pub(crate) fn put_location(paper: &mut Paper, location: &Location) -> Result<(), Stop> {
-    paper.put(&[
-        Text(location.file.as_str()),
-        Text(":"),
-        Number(u64::from(location.line)),
-        Text(":"),
-        Number(u64::from(location.column)),
-    ])
+// An attribute's number below zero has a sign.
+fn sign_of(number: i64) -> &'static str
+    ensures { result.now ≡ spec.sign_of number }
+{
+    if number < 0 { "-" } else { "" }
 }
 
-fn put_value(paper: &mut Paper, value: AttrValue) -> Result<(), Stop> {
+fn put_value(paper: &mut Paper, value: AttrValue) -> Result<(), Stop>
+    ensures { OnOk result (Writes paper.old.text paper.new.text (spec.value_of value)) }
+{
     match value {
         AttrValue::U64(number) => paper.put(&[Number(number)]),
         AttrValue::Bool(true) => paper.put(&[Text("true")]),
         AttrValue::Bool(false) => paper.put(&[Text("false")]),
         AttrValue::I64(number) => {
-            let sign = if number < 0 { "-" } else { "" };
-            paper.put(&[Text(sign), Number(number.unsigned_abs())])
+            paper.put(&[Text(sign_of(number)), Number(number.unsigned_abs())])
         }
     }
 }
 
-fn put_unit(paper: &mut Paper, attr: &AttrInfo) -> Result<(), Stop> {
-    match &attr.unit {
+fn put_unit(paper: &mut Paper, unit: &Option<Name>) -> Result<(), Stop>
+    ensures { OnOk result (Writes paper.old.text paper.new.text (spec.unit unit.now)) }
+{
+    match unit {
         Some(unit) => paper.put(&[Text(" "), Text(unit.as_str())]),
-        None => Ok(()),
+        None => paper.put(&[]),
     }
 }
 
-fn put_attr(paper: &mut Paper, attr: &AttrInfo, value: AttrValue) -> Result<(), Stop> {
+fn put_attr(paper: &mut Paper, attr: &AttrInfo, value: AttrValue) -> Result<(), Stop>
+    ensures { OnOk result (Writes paper.old.text paper.new.text (spec.attr (attr.now, value))) }
+{
     paper.put(&[
         Start(Tag::Div),
         Start(Tag::Dt),
@@ -57,23 +66,44 @@ fn put_attr(paper: &mut Paper, attr: &AttrInfo, value: AttrValue) -> Result<(), 
         Start(Tag::Dd),
     ])?;
     put_value(paper, value)?;
-    put_unit(paper, attr)?;
-    paper.put(&[Close(Tag::Dd), Close(Tag::Div)])
+    put_unit(paper, &attr.unit)?;
+    paper.put(&[Close(Tag::Dd), Close(Tag::Div)])?;
+    Ok(())
 }
 
-fn put_attrs(paper: &mut Paper, attrs: &[AttrInfo], values: &[AttrValue]) -> Result<(), Stop> {
+// An item declares at most six attributes.
+fn put_each_attr(paper: &mut Paper, attrs: &[AttrInfo], values: &[AttrValue]) -> Result<(), Stop>
+    ensures { OnOk result (Writes paper.old.text paper.new.text (spec.each_attr attrs.now values.now)) }
+{
+    let [attr, attrs @ ..] = attrs else {
+        return paper.put(&[]);
+    };
+    let [value, values @ ..] = values else {
+        return paper.put(&[]);
+    };
+    put_attr(paper, attr, *value)?;
+    put_each_attr(paper, attrs, values)?;
+    Ok(())
+}
+
+fn put_attrs(paper: &mut Paper, attrs: &[AttrInfo], values: &[AttrValue]) -> Result<(), Stop>
+    ensures { OnOk result (Writes paper.old.text paper.new.text (spec.attrs attrs.now values.now)) }
+{
     paper.put(&[Start(Tag::Dl)])?;
-    for (attr, value) in attrs.iter().zip(values) {
-        put_attr(paper, attr, *value)?;
-    }
-    paper.put(&[Close(Tag::Dl)])
+    put_each_attr(paper, attrs, values)?;
+    paper.put(&[Close(Tag::Dl)])?;
+    Ok(())
 }
 
-fn resource_state(row: &ResourceRow) -> &'static str {
+fn resource_state(row: &ResourceRow) -> &'static str
+    ensures { result.now ≡ spec.resource_state row.now }
+{
     if row.dropped.is_some() { " closed" } else { "" }
 }
 
-fn op_state(row: &OpRow) -> &'static str {
+fn op_state(row: &OpRow) -> &'static str
+    ensures { result.now ≡ spec.op_state row.now }
+{
     if row.dropped.is_some() {
         "closed"
     } else if row.polling {
@@ -83,7 +113,9 @@ fn op_state(row: &OpRow) -> &'static str {
     }
 }
 
-fn put_column(paper: &mut Paper, name: &'static str, class: &'static str) -> Result<(), Stop> {
+fn put_column(paper: &mut Paper, name: &'static str, class: &'static str) -> Result<(), Stop>
+    ensures { OnOk result (Writes paper.old.text paper.new.text (spec.column name.now class.now)) }
+{
     paper.put(&[
         Open(Tag::Th),
         With(Attr::Scope, "col"),
@@ -94,7 +126,9 @@ fn put_column(paper: &mut Paper, name: &'static str, class: &'static str) -> Res
     ])
 }
 
-fn put_columns(paper: &mut Paper) -> Result<(), Stop> {
+fn put_columns(paper: &mut Paper) -> Result<(), Stop>
+    ensures { OnOk result (Writes paper.old.text paper.new.text (spec.columns)) }
+{
     paper.put(&[Start(Tag::Table), Start(Tag::Thead), Start(Tag::Tr)])?;
     put_column(paper, "operation", "")?;
     put_column(paper, "state", "")?;
@@ -102,100 +136,142 @@ fn put_columns(paper: &mut Paper) -> Result<(), Stop> {
     put_column(paper, "polls", "num")?;
     put_column(paper, "busy", "num")?;
     put_column(paper, "attributes", "")?;
-    paper.put(&[Close(Tag::Tr), Close(Tag::Thead), Start(Tag::Tbody)])
+    paper.put(&[Close(Tag::Tr), Close(Tag::Thead), Start(Tag::Tbody)])?;
+    Ok(())
 }
 
-fn put_polled_by(paper: &mut Paper, tables: &Tables, op: &Op) -> Result<(), Stop> {
-    let Some(id) = op.row.task else {
-        return paper.put(&[Text("–")]);
-    };
+fn put_task_of(paper: &mut Paper, tables: &Tables, id: TaskId) -> Result<(), Stop>
+    ensures { OnOk result (Writes paper.old.text paper.new.text (spec.task_of tables.now.tasks id)) }
+{
+    let (recorder, number) = id.parts();
     match tables.task(id) {
         Some(task) => paper.put(&[Text(task.info.name.as_str())]),
-        None => put_id(paper, id.parts()),
+        None => paper.put(&[Number(recorder), Text("."), Number(number)]),
     }
 }
 
-// Puts what an operation is: its source, its id, and the operation that it is a part of.
-fn put_source(paper: &mut Paper, op: &Op) -> Result<(), Stop> {
+fn put_polled_by(paper: &mut Paper, tables: &Tables, task: Option<TaskId>) -> Result<(), Stop>
+    ensures { OnOk result (Writes paper.old.text paper.new.text (spec.polled_by tables.now.tasks task)) }
+{
+    match task {
+        Some(id) => put_task_of(paper, tables, id),
+        None => paper.put(&[Text("–")]),
+    }
+}
+
+fn put_source(paper: &mut Paper, op: &Op) -> Result<(), Stop>
+    ensures { OnOk result (Writes paper.old.text paper.new.text (spec.source op.now)) }
+{
+    let (recorder, number) = op.info.id.parts();
     paper.put(&[
         Start(Tag::Tr),
         Start(Tag::Td),
         Text(op.info.source.as_str()),
         Text(" "),
         Start(Tag::Small),
-    ])?;
-    put_id(paper, op.info.id.parts())?;
-    if let Some(parent) = op.info.parent {
-        paper.put(&[Text(" part of ")])?;
-        put_id(paper, parent.parts())?;
-    }
-    paper.put(&[Close(Tag::Small), Close(Tag::Td)])
+        Number(recorder),
+        Text("."),
+        Number(number),
+    ])
 }
 
-fn put_op(paper: &mut Paper, tables: &Tables, op: &Op) -> Result<(), Stop> {
-    put_source(paper, op)?;
+fn put_op_parent(paper: &mut Paper, op: &Op) -> Result<(), Stop>
+    ensures { OnOk result (Writes paper.old.text paper.new.text (spec.part_of (codes " part of ") op.now.info.parent)) }
+{
+    match op.info.parent {
+        Some(parent) => put_whole(paper, " part of ", parent.parts()),
+        None => paper.put(&[]),
+    }
+}
+
+fn put_op_state(paper: &mut Paper, row: &OpRow) -> Result<(), Stop>
+    ensures { OnOk result (Writes paper.old.text paper.new.text (spec.op_state_cell row.now)) }
+{
     paper.put(&[
-        Start(Tag::Td),
-        Text(op_state(&op.row)),
+        Close(Tag::Small),
         Close(Tag::Td),
         Start(Tag::Td),
-    ])?;
-    put_polled_by(paper, tables, op)?;
+        Text(op_state(row)),
+        Close(Tag::Td),
+        Start(Tag::Td),
+    ])
+}
+
+fn put_op_numbers(paper: &mut Paper, row: &OpRow) -> Result<(), Stop>
+    ensures { OnOk result (Writes paper.old.text paper.new.text (spec.op_numbers row.now)) }
+{
     paper.put(&[
         Close(Tag::Td),
         Open(Tag::Td),
-        WithNumber(Attr::DataV, op.row.polls),
+        WithNumber(Attr::DataV, row.polls),
         With(Attr::Class, "num"),
         End,
-        Number(op.row.polls),
+        Number(row.polls),
         Close(Tag::Td),
         Class(Tag::Td, "num"),
-    ])?;
-    put_span(paper, op.row.busy)?;
-    paper.put(&[Close(Tag::Td), Start(Tag::Td)])?;
+        Span(row.busy),
+        Close(Tag::Td),
+        Start(Tag::Td),
+    ])
+}
+
+fn put_op(paper: &mut Paper, tables: &Tables, op: &Op) -> Result<(), Stop>
+    ensures { OnOk result (Writes paper.old.text paper.new.text (spec.op tables.now.tasks op.now)) }
+{
+    put_source(paper, op)?;
+    put_op_parent(paper, op)?;
+    put_op_state(paper, &op.row)?;
+    put_polled_by(paper, tables, op.row.task)?;
+    put_op_numbers(paper, &op.row)?;
     put_attrs(
         paper,
         op.info.attrs.as_slice(),
         op.row.attrs.list().as_slice(),
     )?;
-    paper.put(&[Close(Tag::Td), Close(Tag::Tr)])
-}
-
-// Of an operation: it is one of this resource, and open or not.
-fn is_of(op: &Op, resource: &Resource, open: bool) -> bool {
-    op.info.resource == resource.info.id && op.row.dropped.is_none() == open
-}
-
-// Puts the open operations of a resource, or the closed ones, while there is room.
-fn put_some_ops(
-    paper: &mut Paper,
-    tables: &Tables,
-    resource: &Resource,
-    open: bool,
-    room: usize,
-) -> Result<(), Stop> {
-    let mut found = 0usize;
-    for place in 0..tables.op_count() {
-        if let Some(op) = tables.op_at(place) {
-            if found < room && is_of(op, resource, open) {
-                put_op(paper, tables, op)?;
-                found = found.saturating_add(1);
-            }
-        }
-    }
+    paper.put(&[Close(Tag::Td), Close(Tag::Tr)])?;
     Ok(())
 }
 
-fn count_ops(tables: &Tables, resource: &Resource, open: bool) -> usize {
-    let mut found = 0usize;
+// Of an operation: it is one of this resource, and open or not.
+fn is_of(op: &Op, resource: &Resource, is_open: bool) -> bool
+    ensures { result ≡ spec.is_of resource.now is_open op.now }
+{
+    let dropped = op.row.dropped;
+    let is_so = if is_open {
+        dropped.is_none()
+    } else {
+        dropped.is_some()
+    };
+    op.info.resource.value() == resource.info.id.value() && is_so
+}
+
+// The open operations of a resource, or the closed ones, in table order.
+fn find_ops<'a>(
+    alloc: Global,
+    tables: &'a Tables,
+    resource: &Resource,
+    is_open: bool,
+) -> Result<Vec<&'a Op>, AllocError>
+    ensures { IfOk result (λ found. map (λ o. o.now) found.items ≡ filter (spec.is_of resource.now is_open) tables.now.ops) }
+{
+    let mut found = Vec::new(alloc);
     for place in 0..tables.op_count() {
         if let Some(op) = tables.op_at(place) {
-            if is_of(op, resource, open) {
-                found = found.saturating_add(1);
+            if is_of(op, resource, is_open) {
+                found.push(op)?;
             }
         }
     }
-    found
+    Ok(found)
+}
+
+fn put_each_op(paper: &mut Paper, tables: &Tables, ops: &[&Op]) -> Result<(), Stop>
+    ensures { OnOk result (Writes paper.old.text paper.new.text (flat_map (spec.op tables.now.tasks) (map (λ o. o.now) ops.now))) }
+{
+    for op in ops {
+        put_op(paper, tables, op)?;
+    }
+    Ok(())
 }
 
 /// Puts how many items more there are than are shown.
@@ -203,10 +279,12 @@ pub(crate) fn put_more(
     paper: &mut Paper,
     all: usize,
     shown: usize,
-    words: &str,
-) -> Result<(), Stop> {
+    words: &'static str,
+) -> Result<(), Stop>
+    ensures { OnOk result (Writes paper.old.text paper.new.text (places.more all shown words.now)) }
+{
     if all <= shown {
-        return Ok(());
+        return paper.put(&[]);
     }
     paper.put(&[
         Class(Tag::P, "more"),
@@ -217,80 +295,204 @@ pub(crate) fn put_more(
     ])
 }
 
-fn put_ops(paper: &mut Paper, tables: &Tables, resource: &Resource) -> Result<(), Stop> {
-    let live = count_ops(tables, resource, true);
-    let closed = count_ops(tables, resource, false);
-    let all = live.saturating_add(closed);
-    if all == 0 {
-        return Ok(());
+fn op_words(all: usize) -> &'static str
+    ensures { result.now ≡ spec.op_words all }
+{
+    if all == 1 {
+        " operation, "
+    } else {
+        " operations, "
     }
-    paper.put(&[Start(Tag::Details), Start(Tag::Summary)])?;
-    put_count(paper, count(all), " operation, ", " operations, ")?;
-    paper.put(&[Number(count(live)), Text(" open"), Close(Tag::Summary)])?;
-    put_columns(paper)?;
-    put_some_ops(paper, tables, resource, true, OPS)?;
-    put_some_ops(paper, tables, resource, false, OPS.saturating_sub(live))?;
-    paper.put(&[Close(Tag::Tbody), Close(Tag::Table)])?;
-    put_more(paper, all, OPS, " more")?;
-    paper.put(&[Close(Tag::Details)])
 }
 
-// Puts what a resource is: its type, its id and kind, where it was made, and the resource that it is a part of.
-fn put_resource_head(paper: &mut Paper, resource: &Resource) -> Result<(), Stop> {
-    let Resource { info, row } = resource;
+// Puts how many operations there are, and how many of them are open.
+fn put_op_counts(paper: &mut Paper, all: usize, live: usize) -> Result<(), Stop>
+    ensures { OnOk result (Writes paper.old.text paper.new.text (spec.op_counts all live)) }
+{
+    paper.put(&[
+        Start(Tag::Details),
+        Start(Tag::Summary),
+        Number(count(all)),
+        Text(op_words(all)),
+        Number(count(live)),
+        Text(" open"),
+        Close(Tag::Summary),
+    ])
+}
+
+fn put_op_table(
+    paper: &mut Paper,
+    tables: &Tables,
+    live: &[&Op],
+    closed: &[&Op],
+) -> Result<(), Stop>
+    ensures { OnOk result (Writes paper.old.text paper.new.text (spec.op_table tables.now.tasks (map (λ o. o.now) live.now) (map (λ o. o.now) closed.now))) }
+{
+    let number = live.len();
+    let all = number.saturating_add(closed.len());
+    let first = front(live, OPS);
+    let next = front(closed, OPS.saturating_sub(number));
+    put_op_counts(paper, all, number)?;
+    put_columns(paper)?;
+    put_each_op(paper, tables, first)?;
+    put_each_op(paper, tables, next)?;
+    paper.put(&[Close(Tag::Tbody), Close(Tag::Table)])?;
+    put_more(paper, all, OPS, " more")?;
+    paper.put(&[Close(Tag::Details)])?;
+    Ok(())
+}
+
+fn put_ops_of(paper: &mut Paper, tables: &Tables, live: &[&Op], closed: &[&Op]) -> Result<(), Stop>
+    ensures { OnOk result (Writes paper.old.text paper.new.text (spec.ops_of tables.now.tasks (map (λ o. o.now) live.now) (map (λ o. o.now) closed.now))) }
+{
+    if live.is_empty() && closed.is_empty() {
+        paper.put(&[])
+    } else {
+        put_op_table(paper, tables, live, closed)
+    }
+}
+
+fn put_ops(
+    paper: &mut Paper,
+    alloc: Global,
+    tables: &Tables,
+    resource: &Resource,
+) -> Result<(), Stop>
+    ensures { OnOk result (Writes paper.old.text paper.new.text (spec.ops tables.now resource.now)) }
+{
+    let live = find_ops(alloc, tables, resource, true)?;
+    let closed = find_ops(alloc, tables, resource, false)?;
+    put_ops_of(paper, tables, live.as_slice(), closed.as_slice())?;
+    Ok(())
+}
+
+// Puts what a resource is: its type, its id and kind, and where it was made.
+fn put_resource_name(paper: &mut Paper, resource: &Resource) -> Result<(), Stop>
+    ensures { OnOk result (Writes paper.old.text paper.new.text (spec.resource_name resource.now)) }
+{
+    let info = &resource.info;
+    let (recorder, number) = info.id.parts();
     paper.put(&[
         Class(Tag::Article, "res"),
         Start(Tag::H3),
         Text(info.concrete.as_str()),
         Text(" "),
         Start(Tag::Small),
-    ])?;
-    put_id(paper, info.id.parts())?;
-    paper.put(&[
+        Number(recorder),
+        Text("."),
+        Number(number),
         Text(" "),
         Text(info.kind.as_str()),
-        Text(resource_state(row)),
+        Text(resource_state(&resource.row)),
         Text(" · "),
-    ])?;
-    put_location(paper, &info.location)?;
-    if let Some(parent) = info.parent {
-        paper.put(&[Text(" · part of ")])?;
-        put_id(paper, parent.parts())?;
-    }
-    paper.put(&[Close(Tag::Small), Close(Tag::H3)])
+        Text(info.location.file.as_str()),
+        Text(":"),
+        Number(u64::from(info.location.line)),
+        Text(":"),
+        Number(u64::from(info.location.column)),
+    ])
 }
 
-fn put_resource(paper: &mut Paper, tables: &Tables, resource: &Resource) -> Result<(), Stop> {
-    let Resource { info, row } = resource;
-    let (ready, pending) = tables.poll_counts(info.id);
-    put_resource_head(paper, resource)?;
-    put_attrs(paper, info.attrs.as_slice(), row.attrs.list().as_slice())?;
+fn put_resource_parent(paper: &mut Paper, resource: &Resource) -> Result<(), Stop>
+    ensures { OnOk result (Writes paper.old.text paper.new.text (spec.part_of spec.part_words resource.now.info.parent)) }
+{
+    match resource.info.parent {
+        Some(parent) => put_whole(paper, " · part of ", parent.parts()),
+        None => paper.put(&[]),
+    }
+}
+
+// Puts how many poll operations of a resource were ready, and how many pending.
+fn put_polls(paper: &mut Paper, polls: (u64, u64)) -> Result<(), Stop>
+    ensures { OnOk result (Writes paper.old.text paper.new.text (spec.polls polls)) }
+{
     paper.put(&[
         Start(Tag::P),
         Text("poll operations: "),
-        Number(ready),
+        Number(polls.0),
         Text(" ready, "),
-        Number(pending),
+        Number(polls.1),
         Text(" pending"),
         Close(Tag::P),
-    ])?;
-    put_ops(paper, tables, resource)?;
-    paper.put(&[Close(Tag::Article)])
+    ])
+}
+
+fn put_resource(
+    paper: &mut Paper,
+    alloc: Global,
+    tables: &Tables,
+    resource: &Resource,
+) -> Result<(), Stop>
+    ensures { OnOk result (Writes paper.old.text paper.new.text (spec.resource tables.now resource.now)) }
+{
+    put_resource_name(paper, resource)?;
+    put_resource_parent(paper, resource)?;
+    paper.put(&[Close(Tag::Small), Close(Tag::H3)])?;
+    put_attrs(
+        paper,
+        resource.info.attrs.as_slice(),
+        resource.row.attrs.list().as_slice(),
+    )?;
+    put_polls(paper, tables.poll_counts(resource.info.id))?;
+    put_ops(paper, alloc, tables, resource)?;
+    paper.put(&[Close(Tag::Article)])?;
+    Ok(())
+}
+
+fn put_resource_at(
+    paper: &mut Paper,
+    alloc: Global,
+    tables: &Tables,
+    place: usize,
+) -> Result<(), Stop>
+    ensures { OnOk result (Writes paper.old.text paper.new.text
+        (option_map_or (spec.resource tables.now) (slice_get tables.now.resources place) [])) }
+{
+    match tables.resource_at(place) {
+        Some(resource) => put_resource(paper, alloc, tables, resource),
+        None => paper.put(&[]),
+    }
+}
+
+fn put_some_resources(
+    paper: &mut Paper,
+    alloc: Global,
+    tables: &Tables,
+    shown: usize,
+) -> Result<(), Stop>
+    ensures { OnOk result (Writes paper.old.text paper.new.text (flat_map (spec.resource tables.now) (take shown tables.now.resources))) }
+{
+    for place in 0..shown {
+        put_resource_at(paper, alloc, tables, place)?;
+    }
+    Ok(())
+}
+
+fn put_all_resources(
+    paper: &mut Paper,
+    alloc: Global,
+    tables: &Tables,
+    all: usize,
+) -> Result<(), Stop>
+    requires { all ≡ length tables.now.resources }
+    ensures { OnOk result (Writes paper.old.text paper.new.text (spec.all_resources tables.now)) }
+{
+    start_section(paper, "resources", "Resources and their operations")?;
+    paper.put(&[Close(Tag::H2)])?;
+    put_some_resources(paper, alloc, tables, all.min(RESOURCES))?;
+    put_more(paper, all, RESOURCES, " more")?;
+    paper.put(&[Close(Tag::Section)])?;
+    Ok(())
 }
 
 /// Puts the resources.
-pub(crate) fn put_resources(paper: &mut Paper, tables: &Tables) -> Result<(), Stop> {
+pub(crate) fn put_resources(paper: &mut Paper, alloc: Global, tables: &Tables) -> Result<(), Stop>
+    ensures { OnOk result (Writes paper.old.text paper.new.text (spec.resources_section tables.now)) }
+{
     let all = tables.resource_count();
     if all == 0 {
-        return Ok(());
+        paper.put(&[])
+    } else {
+        put_all_resources(paper, alloc, tables, all)
     }
-    start_section(paper, "resources", "Resources and their operations")?;
-    paper.put(&[Close(Tag::H2)])?;
-    for place in 0..all.min(RESOURCES) {
-        if let Some(resource) = tables.resource_at(place) {
-            put_resource(paper, tables, resource)?;
-        }
-    }
-    put_more(paper, all, RESOURCES, " more")?;
-    paper.put(&[Close(Tag::Section)])
 }

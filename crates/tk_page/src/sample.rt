@@ -1,6 +1,6 @@
 //! What a course of time keeps of a task at a line.
 ghost use Rattle.std.specs.Prelude.{◌≡◌};
-ghost use Rattle.tk_page.specs.Figures as spec;
+ghost use Rattle.tk_page.specs.Samples as spec;
 
 use tk_core::TaskRow;
 
@@ -69,7 +69,9 @@ impl Sample {
     }
 
     /// Nothing, at a moment.
-    pub(crate) fn none(now: u64) -> Sample {
+    pub(crate) fn none(now: u64) -> Sample
+        ensures { result ≡ spec.nothing now }
+    {
         Sample {
             now,
             busy: 0,
@@ -81,7 +83,9 @@ impl Sample {
     }
 
     /// The sum of both, at the moment of this one.
-    pub(crate) fn with(self, other: Sample) -> Sample {
+    pub(crate) fn with(self, other: Sample) -> Sample
+        ensures { result ≡ spec.plus self other }
+    {
         Sample {
             now: self.now,
             busy: self.busy.saturating_add(other.busy),
@@ -93,7 +97,9 @@ impl Sample {
     }
 
     /// What came since another, at the moment of this one.
-    pub(crate) fn gain(self, before: Sample) -> Sample {
+    pub(crate) fn gain(self, before: Sample) -> Sample
+        ensures { result ≡ spec.gained self before }
+    {
         Sample {
             now: self.now,
             busy: self.busy.saturating_sub(before.busy),
@@ -105,7 +111,9 @@ impl Sample {
     }
 
     /// What came between both.
-    pub(crate) fn since(self, before: Sample) -> Step {
+    pub(crate) fn since(self, before: Sample) -> Step
+        ensures { result ≡ spec.step_of before self }
+    {
         Step {
             from: before.now,
             to: self.now,
@@ -130,7 +138,9 @@ pub(crate) struct Step {
 
 impl Step {
     /// How long it lasted.
-    pub fn time(&self) -> u64 {
+    pub fn time(&self) -> u64
+        ensures { result ≡ spec.time_of self.now }
+    {
         self.to.saturating_sub(self.from)
     }
 }

@@ -1,13 +1,17 @@
 //! Strips: a course of time, drawn.
-ghost use Rattle.std.specs.Prelude.{◌≡◌};
-ghost use Rattle.tk_page.specs.Figures as spec;
+ghost use Rattle.std.specs.Prelude.{◌≡◌, ◌<◌, [], OnOk, IfOk};
+ghost use Rattle.tk_page.specs.Figures as figures;
+ghost use Rattle.tk_page.specs.Strips as spec;
+ghost use Rattle.tk_paper.specs.Behind.{Writes};
 
-use crate::figures::{Scale, each, mean, put_mean, put_share, put_span, share};
-use crate::oddities::{Oddities, Oddity};
+use crate::figures::{Scale, each, mean, share};
+use crate::oddities::{Oddity, Signs};
 use crate::sample::{Sample, Step};
 use std::alloc::{AllocError, Global};
 use tk_core::TaskRow;
-use tk_paper::Part::{Close, End, Number, Open, Quote, Start, Text, Value, With, WithNumber};
+use tk_paper::Part::{
+    Close, End, Mean, Number, Open, Quote, Share, Span, Start, Text, Value, With, WithNumber,
+};
 use tk_paper::{Attr, Paper, Stop, Tag};
 use tk_stream::Task;
 
@@ -17,7 +21,9 @@ pub(crate) fn steps_of(
     born: u64,
     samples: &[Sample],
     last: Sample,
-) -> Result<Vec<Step>, AllocError> {
+) -> Result<Vec<Step>, AllocError>
+    ensures { IfOk result (λ steps. steps.items ≡ spec.steps_of born samples.now last) }
+{
     let mut steps = Vec::new(alloc);
     let mut before = Sample::none(born);
     for sample in samples {
@@ -40,25 +46,31 @@ const MARKS: u64 = 5;
 const HIGH: u64 = AREA + 1 + MARKS;
 
 // How high the busy share of a step stands: at least 1 where there is any.
-fn busy_height(step: &Step) -> u64 {
-    let high = share(step.busy, step.time()).saturating_mul(AREA) / 1000;
+fn busy_height(step: &Step) -> u64
+    ensures { result ≡ spec.busy_height step.now }
+{
+    let high = share(step.busy, step.time()) * AREA / 1000;
     if step.busy > 0 { high.max(1) } else { 0 }
 }
 
 // How high the waiting share stands above it: at least 1 where it is a fiftieth or more.
-fn wait_height(step: &Step) -> u64 {
+fn wait_height(step: &Step) -> u64
+    ensures { result ≡ spec.wait_height step.now }
+{
     let part = share(step.sched, step.time());
-    let high = part.saturating_mul(AREA) / 1000;
+    let high = part * AREA / 1000;
     let high = if part >= 20 { high.max(1) } else { high };
     high.min(AREA.saturating_sub(busy_height(step)))
 }
 
 // How high a mark stands of so many of at most so many.
-fn mark_height(count: u64, most: u64) -> u64 {
+fn mark_height(count: u64, most: u64) -> u64
+    ensures { result ≡ spec.mark_height count most }
+{
     if count == 0 || most == 0 {
         0
     } else {
-        (share(count, most).saturating_mul(MARKS) / 1000).max(1)
+        (share(count, most) * MARKS / 1000).max(1)
     }
 }
 
@@ -71,7 +83,9 @@ struct Area {
     high: u64,
 }
 
-fn put_box(paper: &mut Paper, area: Area) -> Result<(), Stop> {
+fn put_box(paper: &mut Paper, area: Area) -> Result<(), Stop>
+    ensures { OnOk result (Writes paper.old.text paper.new.text (spec.box area)) }
+{
     let Area {
         x,
         wide,
@@ -79,7 +93,7 @@ fn put_box(paper: &mut Paper, area: Area) -> Result<(), Stop> {
         high,
     } = area;
     if high == 0 || wide == 0 {
-        return Ok(());
+        return paper.put(&[]);
     }
     paper.put(&[
         Text("M"),
@@ -106,7 +120,9 @@ enum Boxes {
 }
 
 // Marks leave a gap between two, where there is room.
-fn mark_of(x: u64, wide: u64, count: u64, most: u64) -> Area {
+fn mark_of(x: u64, wide: u64, count: u64, most: u64) -> Area
+    ensures { result ≡ spec.mark_of x wide count most }
+{
     Area {
         x,
         wide: if wide > 4 { wide - 2 } else { wide },
@@ -115,7 +131,9 @@ fn mark_of(x: u64, wide: u64, count: u64, most: u64) -> Area {
     }
 }
 
-fn box_of(scale: Scale, step: &Step, boxes: Boxes) -> Area {
+fn box_of(scale: Scale, step: &Step, boxes: Boxes) -> Area
+    ensures { result ≡ spec.box_of scale boxes step.now }
+{
     let x = scale.x(step.from);
     let wide = scale.x(step.to).saturating_sub(x);
     match boxes {
@@ -136,21 +154,33 @@ fn box_of(scale: Scale, step: &Step, boxes: Boxes) -> Area {
     }
 }
 
-fn put_path(
-    paper: &mut Paper,
-    scale: Scale,
-    class: &str,
-    steps: &[Step],
-    boxes: Boxes,
-) -> Result<(), Stop> {
-    paper.put(&[Open(Tag::Path), With(Attr::Class, class), Value(Attr::D)])?;
+fn put_boxes(paper: &mut Paper, scale: Scale, steps: &[Step], boxes: Boxes) -> Result<(), Stop>
+    ensures { OnOk result (Writes paper.old.text paper.new.text (spec.boxes scale boxes steps.now)) }
+{
     for step in steps {
         put_box(paper, box_of(scale, step, boxes))?;
     }
-    paper.put(&[Quote, End, Close(Tag::Path)])
+    Ok(())
 }
 
-fn put_rect(paper: &mut Paper, class: &str, x: u64, wide: u64) -> Result<(), Stop> {
+fn put_path(
+    paper: &mut Paper,
+    scale: Scale,
+    class: &'static str,
+    steps: &[Step],
+    boxes: Boxes,
+) -> Result<(), Stop>
+    ensures { OnOk result (Writes paper.old.text paper.new.text (spec.path scale class.now boxes steps.now)) }
+{
+    paper.put(&[Open(Tag::Path), With(Attr::Class, class), Value(Attr::D)])?;
+    put_boxes(paper, scale, steps, boxes)?;
+    paper.put(&[Quote, End, Close(Tag::Path)])?;
+    Ok(())
+}
+
+fn put_rect(paper: &mut Paper, class: &'static str, x: u64, wide: u64) -> Result<(), Stop>
+    ensures { OnOk result (Writes paper.old.text paper.new.text (spec.rect class.now x wide)) }
+{
     paper.put(&[
         Open(Tag::Rect),
         With(Attr::Class, class),
@@ -162,8 +192,11 @@ fn put_rect(paper: &mut Paper, class: &str, x: u64, wide: u64) -> Result<(), Sto
     ])
 }
 
-// Begins a drawing of so many units.
-fn open_drawing(paper: &mut Paper, class: &str, wide: u64, high: u64) -> Result<(), Stop> {
+// Begins a drawing of the time that is shown, so many units high.
+fn open_drawing(paper: &mut Paper, class: &'static str, scale: Scale, high: u64) -> Result<(), Stop>
+    ensures { OnOk result (Writes paper.old.text paper.new.text (spec.drawing class.now (figures.wide_of scale) high)) }
+{
+    let wide = scale.wide();
     paper.put(&[
         Open(Tag::Svg),
         With(Attr::Class, class),
@@ -178,22 +211,29 @@ fn open_drawing(paper: &mut Paper, class: &str, wide: u64, high: u64) -> Result<
 }
 
 // What a strip says to who can't see it.
-fn put_words(paper: &mut Paper, scale: Scale, task: &Task, last: Sample) -> Result<(), Stop> {
+fn put_words(paper: &mut Paper, scale: Scale, task: &Task, last: Sample) -> Result<(), Stop>
+    ensures { OnOk result (Writes paper.old.text paper.new.text (spec.words scale task.now last)) }
+{
+    let watched = scale.watched();
+    let (busy, sched) = (share(last.busy, watched), share(last.sched, watched));
     paper.put(&[
         With(Attr::Role, "img"),
         Value(Attr::AriaLabel),
         Text(task.info.name.as_str()),
         Text(": busy "),
-    ])?;
-    put_share(paper, share(last.busy, scale.watched()))?;
-    paper.put(&[Text(", waiting ")])?;
-    put_share(paper, share(last.sched, scale.watched()))?;
-    paper.put(&[Text(" of ")])?;
-    put_span(paper, scale.watched())?;
-    paper.put(&[Quote, End])
+        Share(busy),
+        Text(", waiting "),
+        Share(sched),
+        Text(" of "),
+        Span(watched),
+        Quote,
+        End,
+    ])
 }
 
-fn most_wakes(steps: &[Step]) -> u64 {
+fn most_wakes(steps: &[Step]) -> u64
+    ensures { result ≡ spec.most_wakes steps.now }
+{
     let mut most = 0;
     for step in steps {
         most = step.wakes.max(most);
@@ -201,29 +241,41 @@ fn most_wakes(steps: &[Step]) -> u64 {
     most
 }
 
-// Puts for how long a task was there, and from when on nobody could wake it.
-fn put_life(
-    paper: &mut Paper,
-    scale: Scale,
-    row: &TaskRow,
-    oddities: Oddities,
-) -> Result<(), Stop> {
+fn put_alive(paper: &mut Paper, scale: Scale, row: &TaskRow) -> Result<(), Stop>
+    ensures { OnOk result (Writes paper.old.text paper.new.text (spec.alive scale row.now)) }
+{
     let born = scale.x(row.created);
     let end = scale.x(row.dropped.unwrap_or(scale.now));
-    put_rect(paper, "alive", born, end.saturating_sub(born).max(1))?;
-    if oddities.has(Oddity::LostWaker) {
-        let since = scale.x(row.last_ended.unwrap_or(row.created));
-        put_rect(paper, "lost", since, scale.wide().saturating_sub(since))?;
-    }
-    Ok(())
+    put_rect(paper, "alive", born, end.saturating_sub(born).max(1))
 }
 
-fn put_paths(paper: &mut Paper, scale: Scale, steps: &[Step]) -> Result<(), Stop> {
+fn put_lost(paper: &mut Paper, scale: Scale, row: &TaskRow) -> Result<(), Stop>
+    ensures { OnOk result (Writes paper.old.text paper.new.text (spec.lost scale row.now)) }
+{
+    let since = scale.x(row.last_ended.unwrap_or(row.created));
+    put_rect(paper, "lost", since, scale.wide().saturating_sub(since))
+}
+
+// Puts from when on nobody could wake a task, if so.
+fn put_lost_if(paper: &mut Paper, scale: Scale, row: &TaskRow, lost: bool) -> Result<(), Stop>
+    ensures { OnOk result (Writes paper.old.text paper.new.text (spec.lost_if scale row.now lost)) }
+{
+    if lost {
+        put_lost(paper, scale, row)
+    } else {
+        paper.put(&[])
+    }
+}
+
+fn put_paths(paper: &mut Paper, scale: Scale, steps: &[Step]) -> Result<(), Stop>
+    ensures { OnOk result (Writes paper.old.text paper.new.text (spec.paths scale steps.now)) }
+{
     let most = most_wakes(steps);
     put_path(paper, scale, "busy", steps, Boxes::Busy)?;
     put_path(paper, scale, "wait", steps, Boxes::Wait)?;
     put_path(paper, scale, "wake", steps, Boxes::Wakes(most))?;
-    put_path(paper, scale, "own", steps, Boxes::Own(most))
+    put_path(paper, scale, "own", steps, Boxes::Own(most))?;
+    Ok(())
 }
 
 fn put_strip_of(
@@ -232,13 +284,17 @@ fn put_strip_of(
     task: &Task,
     last: Sample,
     steps: &[Step],
-    oddities: Oddities,
-) -> Result<(), Stop> {
-    open_drawing(paper, "strip", scale.wide(), HIGH)?;
+    lost: bool,
+) -> Result<(), Stop>
+    ensures { OnOk result (Writes paper.old.text paper.new.text (spec.strip_of scale task.now last steps.now lost)) }
+{
+    open_drawing(paper, "strip", scale, HIGH)?;
     put_words(paper, scale, task, last)?;
-    put_life(paper, scale, &task.row, oddities)?;
+    put_alive(paper, scale, &task.row)?;
+    put_lost_if(paper, scale, &task.row, lost)?;
     put_paths(paper, scale, steps)?;
-    paper.put(&[Close(Tag::Svg)])
+    paper.put(&[Close(Tag::Svg)])?;
+    Ok(())
 }
 
 /// Puts the strip of a task.
@@ -248,15 +304,21 @@ pub(crate) fn put_strip(
     scale: Scale,
     task: &Task,
     samples: &[Sample],
-    oddities: Oddities,
-) -> Result<(), Stop> {
+    signs: Signs,
+) -> Result<(), Stop>
+    ensures { OnOk result (Writes paper.old.text paper.new.text (spec.strip scale signs samples.now task.now)) }
+{
     let last = Sample::of(&task.row, scale.now);
     let steps = steps_of(alloc, task.row.created, samples, last)?;
-    put_strip_of(paper, scale, task, last, steps.as_slice(), oddities)
+    let lost = signs.has(task, Oddity::LostWaker);
+    put_strip_of(paper, scale, task, last, steps.as_slice(), lost)?;
+    Ok(())
 }
 
 // How many tasks waited in the mean of a step, in thousandths.
-fn waited_in(step: &Step) -> u64 {
+fn waited_in(step: &Step) -> u64
+    ensures { result ≡ spec.waited_in step.now }
+{
     mean(step.sched, step.time())
 }
 
@@ -288,7 +350,9 @@ const STANDS_OUT: u64 = 4;
 
 /// The height of the drawing of all tasks. One step that stands out, as the first in which all tasks wait for their first poll, does
 /// not press the others flat.
-pub(crate) fn height_of(steps: &[Step]) -> Height {
+pub(crate) fn height_of(steps: &[Step]) -> Height
+    ensures { result.most ≡ spec.most_waited steps.now }
+{
     let mut most = 0u64;
     let mut next = 0u64;
     for step in steps {
@@ -306,24 +370,42 @@ pub(crate) fn height_of(steps: &[Step]) -> Height {
 // How high the drawing of all tasks is.
 const SUM_HIGH: u64 = 30;
 
-fn put_sum_words(paper: &mut Paper, height: Height) -> Result<(), Stop> {
+fn put_sum_words(paper: &mut Paper, height: Height) -> Result<(), Stop>
+    ensures { OnOk result (Writes paper.old.text paper.new.text (spec.sum_words height)) }
+{
     paper.put(&[
         With(Attr::Role, "img"),
         Value(Attr::AriaLabel),
         Text("How many tasks waited at a time: at most "),
-    ])?;
-    put_mean(paper, height.most)?;
-    paper.put(&[Text(", as the mean of a step"), Quote, End])
+        Mean(height.most),
+        Text(", as the mean of a step"),
+        Quote,
+        End,
+        Open(Tag::Path),
+        With(Attr::Class, "wait"),
+        Value(Attr::D),
+    ])
 }
 
-fn sum_box(scale: Scale, step: &Step, top: u64) -> Area {
+fn sum_box(scale: Scale, step: &Step, top: u64) -> Area
+    ensures { result ≡ spec.sum_box scale top step.now }
+{
     let x = scale.x(step.from);
     Area {
         x,
         wide: scale.x(step.to).saturating_sub(x),
         base: SUM_HIGH,
-        high: share(waited_in(step), top.max(1000)).saturating_mul(SUM_HIGH) / 1000,
+        high: share(waited_in(step), top.max(1000)) * SUM_HIGH / 1000,
     }
+}
+
+fn put_sum_boxes(paper: &mut Paper, scale: Scale, steps: &[Step], top: u64) -> Result<(), Stop>
+    ensures { OnOk result (Writes paper.old.text paper.new.text (spec.sum_boxes scale top steps.now)) }
+{
+    for step in steps {
+        put_box(paper, sum_box(scale, step, top))?;
+    }
+    Ok(())
 }
 
 /// Puts the drawing of how many tasks waited at a time.
@@ -332,25 +414,28 @@ pub(crate) fn put_sum(
     scale: Scale,
     steps: &[Step],
     height: Height,
-) -> Result<(), Stop> {
-    open_drawing(paper, "total", scale.wide(), SUM_HIGH)?;
+) -> Result<(), Stop>
+    ensures { OnOk result (Writes paper.old.text paper.new.text (spec.sum_drawing scale height steps.now)) }
+{
+    open_drawing(paper, "total", scale, SUM_HIGH)?;
     put_sum_words(paper, height)?;
-    paper.put(&[Open(Tag::Path), With(Attr::Class, "wait"), Value(Attr::D)])?;
-    for step in steps {
-        put_box(paper, sum_box(scale, step, height.top))?;
-    }
-    paper.put(&[Quote, End, Close(Tag::Path), Close(Tag::Svg)])
+    put_sum_boxes(paper, scale, steps, height.top)?;
+    paper.put(&[Quote, End, Close(Tag::Path), Close(Tag::Svg)])?;
+    Ok(())
 }
 
 // So many sixths of a time, rounded down.
-fn sixths(time: u64, k: u64) -> u64 {
-    (time / 6)
-        .saturating_mul(k)
-        .saturating_add((time % 6).saturating_mul(k) / 6)
+fn sixths(time: u64, k: u64) -> u64
+    ensures { result ≡ spec.sixths time k }
+{
+    let part = u128::from(time) * u128::from(k) / 6;
+    u64::try_from(part).unwrap_or(u64::MAX)
 }
 
 /// Puts the moments below it.
-pub(crate) fn put_axis(paper: &mut Paper, scale: Scale) -> Result<(), Stop> {
+pub(crate) fn put_axis(paper: &mut Paper, watched: u64) -> Result<(), Stop>
+    ensures { OnOk result (Writes paper.old.text paper.new.text (spec.axis watched)) }
+{
     paper.put(&[
         Open(Tag::Div),
         With(Attr::Class, "axis"),
@@ -359,35 +444,31 @@ pub(crate) fn put_axis(paper: &mut Paper, scale: Scale) -> Result<(), Stop> {
         Start(Tag::Span),
         Text("0"),
         Close(Tag::Span),
-    ])?;
-    for k in 1u64..7 {
-        paper.put(&[Start(Tag::Span)])?;
-        put_span(paper, sixths(scale.watched(), k))?;
-        paper.put(&[Close(Tag::Span)])?;
-    }
-    paper.put(&[Close(Tag::Div)])
-}
-
-/// Puts a bar as long as a share.
-pub(crate) fn put_bar(paper: &mut Paper, class: &str, share: u64) -> Result<(), Stop> {
-    let long = if share > 0 { (share / 10).max(1) } else { 0 };
-    open_drawing(paper, "bar", 100, 10)?;
-    paper.put(&[
-        With(Attr::AriaHidden, "true"),
-        End,
-        Open(Tag::Rect),
-        With(Attr::Class, class),
-        WithNumber(Attr::Width, long),
-        WithNumber(Attr::Height, 10),
-        End,
-        Close(Tag::Rect),
-        Close(Tag::Svg),
+        Start(Tag::Span),
+        Span(sixths(watched, 1)),
+        Close(Tag::Span),
+        Start(Tag::Span),
+        Span(sixths(watched, 2)),
+        Close(Tag::Span),
+        Start(Tag::Span),
+        Span(sixths(watched, 3)),
+        Close(Tag::Span),
+        Start(Tag::Span),
+        Span(sixths(watched, 4)),
+        Close(Tag::Span),
+        Start(Tag::Span),
+        Span(sixths(watched, 5)),
+        Close(Tag::Span),
+        Start(Tag::Span),
+        Span(sixths(watched, 6)),
+        Close(Tag::Span),
+        Close(Tag::Div),
     ])
 }
 
 /// How long a poll of a task takes in the mean.
 pub(crate) fn poll_takes(last: Sample) -> u64
-    ensures { result ≡ spec.each_of last.busy last.polls }
+    ensures { result ≡ figures.each_of last.busy last.polls }
 {
     each(last.busy, last.polls)
 }

@@ -1,20 +1,23 @@
 //! The table of tasks, whose rows are lanes of time.
+ghost use Rattle.std.specs.Prelude.{◌≡◌, [], OnOk, slice_get, flat_map};
+ghost use Rattle.std.specs.Option.{option_map_or};
+ghost use Rattle.tk_page.specs.Rows as spec;
+ghost use Rattle.tk_page.specs.Courses.{courses_of};
+ghost use Rattle.tk_paper.specs.Behind.{Writes};
 
 use crate::cards::{put_badges, start_section};
-use crate::figures::{Scale, put_mean, put_share, put_span, share};
+use crate::figures::{Scale, each, front, share};
 use crate::history::History;
-use crate::oddities::{Oddities, at};
+use crate::oddities::Signs;
 use crate::ranks::{Rank, ranks_of};
-use crate::resources::{put_id, put_location, put_more};
-use crate::sample::{Sample, Step};
-use crate::strips::{
-    Height, height_of, poll_takes, put_axis, put_bar, put_strip, put_sum, steps_of,
-};
+use crate::resources::put_more;
+use crate::sample::{Sample, Step, busy_until, sched_until};
+use crate::strips::{Height, height_of, put_axis, put_strip, put_sum, steps_of};
 use std::alloc::Global;
 use tk_core::TaskRow;
 use tk_ids::TaskKind;
 use tk_paper::Part::{
-    Class, Close, End, Number, Open, Quote, Start, Text, Value, With, WithNumber,
+    Class, Close, End, Mean, Number, Open, Quote, Share, Span, Start, Text, Value, With, WithNumber,
 };
 use tk_paper::{Attr, Paper, Stop, Tag};
 use tk_stream::{Tables, Task};
@@ -22,7 +25,9 @@ use tk_stream::{Tables, Task};
 // How many tasks a page shows.
 const TASKS: usize = 200;
 
-fn put_key(paper: &mut Paper, class: &'static str, words: &'static str) -> Result<(), Stop> {
+fn put_key(paper: &mut Paper, class: &'static str, words: &'static str) -> Result<(), Stop>
+    ensures { OnOk result (Writes paper.old.text paper.new.text (spec.key class.now words.now)) }
+{
     paper.put(&[
         Start(Tag::Span),
         Class(Tag::I, class),
@@ -32,7 +37,9 @@ fn put_key(paper: &mut Paper, class: &'static str, words: &'static str) -> Resul
     ])
 }
 
-fn put_legend(paper: &mut Paper) -> Result<(), Stop> {
+fn put_legend(paper: &mut Paper) -> Result<(), Stop>
+    ensures { OnOk result (Writes paper.old.text paper.new.text spec.legend) }
+{
     paper.put(&[Class(Tag::P, "legend")])?;
     put_key(paper, "k-busy", " busy: a poll runs")?;
     put_key(paper, "k-wait", " waiting: scheduled, and not polled")?;
@@ -40,11 +47,14 @@ fn put_legend(paper: &mut Paper) -> Result<(), Stop> {
     put_key(paper, "k-lost", " idle for good: no waker is left")?;
     put_key(paper, "k-wake", " wakes")?;
     put_key(paper, "k-own", " wakes of its own")?;
-    paper.put(&[Close(Tag::P)])
+    paper.put(&[Close(Tag::P)])?;
+    Ok(())
 }
 
 // What is hidden without a script, which alone can use it.
-fn put_controls(paper: &mut Paper) -> Result<(), Stop> {
+fn put_controls(paper: &mut Paper) -> Result<(), Stop>
+    ensures { OnOk result (Writes paper.old.text paper.new.text spec.controls) }
+{
     paper.put(&[
         Class(Tag::P, "controls"),
         Start(Tag::Label),
@@ -75,7 +85,9 @@ fn put_column(
     class: &'static str,
     hint: &'static str,
     words: &'static str,
-) -> Result<(), Stop> {
+) -> Result<(), Stop>
+    ensures { OnOk result (Writes paper.old.text paper.new.text (spec.column class.now hint.now words.now)) }
+{
     paper.put(&[
         Open(Tag::Th),
         With(Attr::Scope, "col"),
@@ -91,8 +103,9 @@ fn put_column(
     ])
 }
 
-fn put_columns(paper: &mut Paper) -> Result<(), Stop> {
-    let waiting = "how long it was scheduled and not polled, from its last wake on";
+fn put_first_columns(paper: &mut Paper) -> Result<(), Stop>
+    ensures { OnOk result (Writes paper.old.text paper.new.text spec.first_columns) }
+{
     paper.put(&[Start(Tag::Tr)])?;
     put_column(paper, "", "by order of arrival", "task")?;
     put_column(paper, "", "", "state")?;
@@ -103,23 +116,40 @@ fn put_columns(paper: &mut Paper) -> Result<(), Stop> {
         Text("course of time"),
         Close(Tag::Th),
     ])?;
+    Ok(())
+}
+
+fn put_last_columns(paper: &mut Paper) -> Result<(), Stop>
+    ensures { OnOk result (Writes paper.old.text paper.new.text spec.last_columns) }
+{
+    let waiting = "how long it was scheduled and not polled, from its last wake on";
+    let wakers = "wakers that are out: cloned, less dropped";
     put_column(paper, "num", "how long its polls ran", "busy")?;
     put_column(paper, "num", waiting, "waiting")?;
     put_column(paper, "num", "busy time by polls", "a poll takes")?;
     put_column(paper, "num", "", "polls")?;
     put_column(paper, "num", "", "wakes")?;
     put_column(paper, "num", "wakes from within it", "own")?;
-    put_column(
-        paper,
-        "num",
-        "wakers that are out: cloned, less dropped",
-        "wakers",
-    )?;
-    paper.put(&[Close(Tag::Tr)])
+    put_column(paper, "num", wakers, "wakers")?;
+    paper.put(&[Close(Tag::Tr)])?;
+    Ok(())
 }
 
-// Puts how many tasks waited in the worst step, and up to where the drawing goes if that is less.
-fn put_height(paper: &mut Paper, height: Height) -> Result<(), Stop> {
+// Puts up to where the drawing goes, where that is less than how many tasks waited in the worst step.
+fn put_top(paper: &mut Paper, height: Height) -> Result<(), Stop>
+    ensures { OnOk result (Writes paper.old.text paper.new.text (spec.top height)) }
+{
+    if height.top < height.most {
+        paper.put(&[Text("; drawn up to "), Mean(height.top)])
+    } else {
+        paper.put(&[])
+    }
+}
+
+// Puts how many tasks waited in the worst step.
+fn put_height(paper: &mut Paper, height: Height) -> Result<(), Stop>
+    ensures { OnOk result (Writes paper.old.text paper.new.text (spec.height_cell height)) }
+{
     paper.put(&[
         Class(Tag::Tr, "sum"),
         Open(Tag::Td),
@@ -131,22 +161,20 @@ fn put_height(paper: &mut Paper, height: Height) -> Result<(), Stop> {
         Close(Tag::Div),
         Start(Tag::Small),
         Text("at most "),
+        Mean(height.most),
+        Text(", the mean of a step"),
     ])?;
-    put_mean(paper, height.most)?;
-    paper.put(&[Text(", the mean of a step")])?;
-    if height.top < height.most {
-        paper.put(&[Text("; drawn up to ")])?;
-        put_mean(paper, height.top)?;
-    }
-    paper.put(&[Close(Tag::Small), Close(Tag::Td)])
+    put_top(paper, height)?;
+    paper.put(&[Close(Tag::Small), Close(Tag::Td), Start(Tag::Td)])?;
+    Ok(())
 }
 
-fn put_sum_row(paper: &mut Paper, scale: Scale, sums: &[Step]) -> Result<(), Stop> {
-    let height = height_of(sums);
+fn put_sum_row(paper: &mut Paper, scale: Scale, sums: &[Step], height: Height) -> Result<(), Stop>
+    ensures { OnOk result (Writes paper.old.text paper.new.text (spec.sum_row scale height sums.now)) }
+{
     put_height(paper, height)?;
-    paper.put(&[Start(Tag::Td)])?;
     put_sum(paper, scale, sums, height)?;
-    put_axis(paper, scale)?;
+    put_axis(paper, scale.watched())?;
     paper.put(&[
         Close(Tag::Td),
         Open(Tag::Td),
@@ -154,110 +182,194 @@ fn put_sum_row(paper: &mut Paper, scale: Scale, sums: &[Step]) -> Result<(), Sto
         End,
         Close(Tag::Td),
         Close(Tag::Tr),
-    ])
+    ])?;
+    Ok(())
 }
 
-// The class and the word of a task's state.
-fn state_of(row: &TaskRow) -> (&'static str, &'static str) {
+// The class of a task's state.
+fn state_class(row: &TaskRow) -> &'static str
+    ensures { result.now ≡ spec.state_class row.now }
+{
     if row.dropped.is_some() {
-        ("st closed", "closed")
+        "st closed"
     } else if row.polling {
-        ("st running", "running")
+        "st running"
     } else if row.scheduled {
-        ("st waiting", "waiting")
+        "st waiting"
     } else {
-        ("st idle", "idle")
+        "st idle"
     }
 }
 
-// Begins a cell with a number, by which its column is sorted.
-fn start_number(paper: &mut Paper, number: u64) -> Result<(), Stop> {
+// The word for it.
+fn state_word(row: &TaskRow) -> &'static str
+    ensures { result.now ≡ spec.state_word row.now }
+{
+    if row.dropped.is_some() {
+        "closed"
+    } else if row.polling {
+        "running"
+    } else if row.scheduled {
+        "waiting"
+    } else {
+        "idle"
+    }
+}
+
+// How long a bar is: as its share, of 100, and at least 1 where there is any.
+fn bar_length(share: u64) -> u64
+    ensures { result ≡ spec.bar_length share }
+{
+    if share > 0 { (share / 10).max(1) } else { 0 }
+}
+
+// Puts a cell with a time, as its share and a bar as long as that. Its column is sorted by the time.
+fn put_share_cell(paper: &mut Paper, class: &'static str, part: u64, whole: u64) -> Result<(), Stop>
+    ensures { OnOk result (Writes paper.old.text paper.new.text (spec.share_cell class.now part whole)) }
+{
+    let share = share(part, whole);
+    let length = bar_length(share);
+    paper.put(&[
+        Open(Tag::Td),
+        WithNumber(Attr::DataV, part),
+        With(Attr::Class, "num"),
+        End,
+        Open(Tag::Svg),
+        With(Attr::Class, "bar"),
+        Value(Attr::ViewBox),
+        Text("0 0 "),
+        Number(100),
+        Text(" "),
+        Number(10),
+        Quote,
+        With(Attr::Preserve, "none"),
+        With(Attr::AriaHidden, "true"),
+        End,
+        Open(Tag::Rect),
+        With(Attr::Class, class),
+        WithNumber(Attr::Width, length),
+        WithNumber(Attr::Height, 10),
+        End,
+        Close(Tag::Rect),
+        Close(Tag::Svg),
+        Text(" "),
+        Share(share),
+        Close(Tag::Td),
+    ])
+}
+
+// Puts how long a poll takes in the mean, or a dash where there was none.
+fn put_mean_poll(paper: &mut Paper, busy: u64, polls: u64) -> Result<(), Stop>
+    ensures { OnOk result (Writes paper.old.text paper.new.text (spec.mean_cell busy polls)) }
+{
+    let span = each(busy, polls);
+    paper.put(&[
+        Open(Tag::Td),
+        WithNumber(Attr::DataV, span),
+        With(Attr::Class, "num"),
+        End,
+        if polls == 0 { Text("–") } else { Span(span) },
+        Close(Tag::Td),
+    ])
+}
+
+fn put_number(paper: &mut Paper, number: u64) -> Result<(), Stop>
+    ensures { OnOk result (Writes paper.old.text paper.new.text (spec.number_cell number)) }
+{
     paper.put(&[
         Open(Tag::Td),
         WithNumber(Attr::DataV, number),
         With(Attr::Class, "num"),
         End,
+        Number(number),
+        Close(Tag::Td),
     ])
 }
 
-fn put_number(paper: &mut Paper, number: u64) -> Result<(), Stop> {
-    start_number(paper, number)?;
-    paper.put(&[Number(number), Close(Tag::Td)])
-}
-
-fn put_share_cell(paper: &mut Paper, class: &str, part: u64, whole: u64) -> Result<(), Stop> {
-    let share = share(part, whole);
-    start_number(paper, part)?;
-    put_bar(paper, class, share)?;
-    paper.put(&[Text(" ")])?;
-    put_share(paper, share)?;
-    paper.put(&[Close(Tag::Td)])
-}
-
-// How long a poll takes in the mean, or a dash where there was none.
-fn put_mean_poll(paper: &mut Paper, last: Sample) -> Result<(), Stop> {
-    let span = poll_takes(last);
-    start_number(paper, span)?;
-    if last.polls == 0 {
-        paper.put(&[Text("–")])?;
-    } else {
-        put_span(paper, span)?;
-    }
-    paper.put(&[Close(Tag::Td)])
-}
-
-fn put_numbers(paper: &mut Paper, scale: Scale, row: &TaskRow) -> Result<(), Stop> {
-    let last = Sample::of(row, scale.now);
-    put_share_cell(paper, "busy", last.busy, scale.watched())?;
-    put_share_cell(paper, "wait", last.sched, scale.watched())?;
-    put_mean_poll(paper, last)?;
+fn put_counts(paper: &mut Paper, row: &TaskRow) -> Result<(), Stop>
+    ensures { OnOk result (Writes paper.old.text paper.new.text (spec.counts row.now)) }
+{
     put_number(paper, row.polls)?;
     put_number(paper, row.wakes)?;
     put_number(paper, row.self_wakes)?;
-    put_number(paper, row.clones.saturating_sub(row.drops))
+    put_number(paper, row.clones.saturating_sub(row.drops))?;
+    Ok(())
 }
 
-// Puts what a task is: its name, its id, its kind where that isn't the common one, and where it was spawned.
-fn put_name(paper: &mut Paper, task: &Task) -> Result<(), Stop> {
-    paper.put(&[
-        Open(Tag::Th),
-        With(Attr::Scope, "row"),
-        WithNumber(Attr::DataV, task.info.id.value()),
-        End,
-        Class(Tag::Span, "name"),
-        Text(task.info.name.as_str()),
-        Close(Tag::Span),
-        Text(" "),
-        Start(Tag::Small),
-    ])?;
-    put_id(paper, task.info.id.parts())?;
-    paper.put(&[Text(match task.info.kind {
+fn put_numbers(paper: &mut Paper, scale: Scale, row: &TaskRow) -> Result<(), Stop>
+    ensures { OnOk result (Writes paper.old.text paper.new.text (spec.numbers scale row.now)) }
+{
+    let watched = scale.watched();
+    let busy = busy_until(row, scale.now);
+    let sched = sched_until(row, scale.now);
+    put_share_cell(paper, "busy", busy, watched)?;
+    put_share_cell(paper, "wait", sched, watched)?;
+    put_mean_poll(paper, busy, row.polls)?;
+    put_counts(paper, row)?;
+    Ok(())
+}
+
+// A task's kind where it isn't the common one, between two spaces.
+fn kind_word(kind: TaskKind) -> &'static str
+    ensures { result.now ≡ spec.kind_word kind }
+{
+    match kind {
         TaskKind::Spawn => " ",
         TaskKind::Blocking => " blocking ",
-    })])?;
-    put_location(paper, &task.info.location)?;
-    paper.put(&[Close(Tag::Small)])
+    }
 }
 
-fn start_row(paper: &mut Paper, task: &Task, oddities: Oddities) -> Result<(), Stop> {
+// Whether something is odd, as the script reads it.
+fn flag(odd: bool) -> &'static str
+    ensures { result.now ≡ spec.flag odd }
+{
+    if odd { "1" } else { "0" }
+}
+
+// Begins a row, and puts what the task is: its name, its id, its kind, and where it was spawned.
+fn put_name(paper: &mut Paper, task: &Task, odd: bool) -> Result<(), Stop>
+    ensures { OnOk result (Writes paper.old.text paper.new.text (spec.name task.now odd)) }
+{
+    let info = &task.info;
+    let (recorder, number) = info.id.parts();
     paper.put(&[
         Open(Tag::Tr),
         Value(Attr::Id),
         Text("t"),
-        Number(task.info.id.value()),
+        Number(info.id.value()),
         Quote,
-        With(Attr::DataOdd, if oddities.is_any() { "1" } else { "0" }),
+        With(Attr::DataOdd, flag(odd)),
         End,
+        Open(Tag::Th),
+        With(Attr::Scope, "row"),
+        WithNumber(Attr::DataV, info.id.value()),
+        End,
+        Class(Tag::Span, "name"),
+        Text(info.name.as_str()),
+        Close(Tag::Span),
+        Text(" "),
+        Start(Tag::Small),
+        Number(recorder),
+        Text("."),
+        Number(number),
+        Text(kind_word(info.kind)),
+        Text(info.location.file.as_str()),
+        Text(":"),
+        Number(u64::from(info.location.line)),
+        Text(":"),
+        Number(u64::from(info.location.column)),
+        Close(Tag::Small),
     ])
 }
 
-fn put_state(paper: &mut Paper, row: &TaskRow) -> Result<(), Stop> {
-    let (class, state) = state_of(row);
+fn put_state(paper: &mut Paper, row: &TaskRow) -> Result<(), Stop>
+    ensures { OnOk result (Writes paper.old.text paper.new.text (spec.state row.now)) }
+{
     paper.put(&[
         Close(Tag::Th),
         Start(Tag::Td),
-        Class(Tag::Span, class),
-        Text(state),
+        Class(Tag::Span, state_class(row)),
+        Text(state_word(row)),
         Close(Tag::Span),
         Close(Tag::Td),
         Class(Tag::Td, "course"),
@@ -268,87 +380,129 @@ fn put_task(
     paper: &mut Paper,
     alloc: Global,
     scale: Scale,
-    history: &History,
+    signs: Signs,
     task: &Task,
-    oddities: Oddities,
-) -> Result<(), Stop> {
-    start_row(paper, task, oddities)?;
-    put_name(paper, task)?;
-    put_badges(paper, oddities)?;
+    samples: &[Sample],
+) -> Result<(), Stop>
+    ensures { OnOk result (Writes paper.old.text paper.new.text (spec.row_of scale signs samples.now task.now)) }
+{
+    put_name(paper, task, signs.has_any(task))?;
+    put_badges(paper, signs, task)?;
     put_state(paper, &task.row)?;
-    put_strip(
-        paper,
-        alloc,
-        scale,
-        task,
-        history.of(task.info.id.value()),
-        oddities,
-    )?;
+    put_strip(paper, alloc, scale, task, samples, signs)?;
     paper.put(&[Close(Tag::Td)])?;
     put_numbers(paper, scale, &task.row)?;
-    paper.put(&[Close(Tag::Tr)])
+    paper.put(&[Close(Tag::Tr)])?;
+    Ok(())
+}
+
+// Puts the row of the task at a place.
+fn put_row(
+    paper: &mut Paper,
+    alloc: Global,
+    scale: Scale,
+    signs: Signs,
+    history: &History,
+    tables: &Tables,
+    place: usize,
+) -> Result<(), Stop>
+    ensures { OnOk result (Writes paper.old.text paper.new.text
+        (option_map_or (spec.row scale signs (courses_of history.now)) (slice_get tables.now.tasks place) [])) }
+{
+    match tables.task_at(place) {
+        Some(task) => put_task(
+            paper,
+            alloc,
+            scale,
+            signs,
+            task,
+            history.of(task.info.id.value()),
+        ),
+        None => paper.put(&[]),
+    }
 }
 
 fn put_rows(
     paper: &mut Paper,
     alloc: Global,
     scale: Scale,
+    signs: Signs,
     history: &History,
     tables: &Tables,
-    odd: &[Oddities],
     ranks: &[Rank],
-) -> Result<(), Stop> {
-    for i in 0..ranks.len().min(TASKS) {
-        let place = ranks[i].place;
-        if let Some(task) = tables.task_at(place) {
-            put_task(paper, alloc, scale, history, task, at(odd, place))?;
-        }
+) -> Result<(), Stop>
+    ensures { OnOk result (Writes paper.old.text paper.new.text
+        (flat_map (spec.row_at scale signs (courses_of history.now) tables.now.tasks) ranks.now)) }
+{
+    for rank in ranks {
+        put_row(paper, alloc, scale, signs, history, tables, rank.place)?;
     }
     Ok(())
 }
 
-fn put_caption(paper: &mut Paper, scale: Scale) -> Result<(), Stop> {
+fn put_caption(paper: &mut Paper, watched: u64) -> Result<(), Stop>
+    ensures { OnOk result (Writes paper.old.text paper.new.text (spec.caption watched)) }
+{
     paper.put(&[
         Open(Tag::Table),
         With(Attr::Id, "table"),
         End,
         Start(Tag::Caption),
         Text("Each row is a task; its strip is its course of time from 0 to "),
-    ])?;
-    put_span(paper, scale.watched())?;
-    paper.put(&[
+        Span(watched),
         Text(". The head of a column sorts by it."),
         Close(Tag::Caption),
+        Start(Tag::Thead),
     ])
 }
 
 // The head of the table: how many tasks waited at a time, and the columns.
 fn put_table_head(
     paper: &mut Paper,
-    alloc: Global,
     scale: Scale,
-    history: &History,
-) -> Result<(), Stop> {
-    let sums = steps_of(alloc, scale.start, history.sums(), history.last())?;
-    paper.put(&[Start(Tag::Thead)])?;
-    put_sum_row(paper, scale, sums.as_slice())?;
-    put_columns(paper)?;
-    paper.put(&[Close(Tag::Thead), Start(Tag::Tbody)])
+    sums: &[Step],
+    height: Height,
+) -> Result<(), Stop>
+    ensures { OnOk result (Writes paper.old.text paper.new.text (spec.table_head scale height sums.now)) }
+{
+    put_caption(paper, scale.watched())?;
+    put_sum_row(paper, scale, sums, height)?;
+    put_first_columns(paper)?;
+    put_last_columns(paper)?;
+    paper.put(&[Close(Tag::Thead), Start(Tag::Tbody)])?;
+    Ok(())
 }
 
 fn put_table(
     paper: &mut Paper,
     alloc: Global,
     scale: Scale,
+    signs: Signs,
     history: &History,
     tables: &Tables,
-    odd: &[Oddities],
-) -> Result<(), Stop> {
-    let ranks = ranks_of(alloc, tables, odd)?;
-    put_caption(paper, scale)?;
-    put_table_head(paper, alloc, scale, history)?;
-    put_rows(paper, alloc, scale, history, tables, odd, ranks.as_slice())?;
-    paper.put(&[Close(Tag::Tbody), Close(Tag::Table)])
+) -> Result<(), Stop>
+    ensures { OnOk result (spec.WritesTable scale signs (courses_of history.now) tables.now paper.old.text paper.new.text) }
+{
+    let ranks = ranks_of(alloc, scale, tables, signs)?;
+    let shown = front(ranks.as_slice(), TASKS);
+    let sums = steps_of(alloc, scale.start, history.sums(), history.last())?;
+    let list = sums.as_slice();
+    let height = height_of(list);
+    put_table_head(paper, scale, list, height)?;
+    put_rows(paper, alloc, scale, signs, history, tables, shown)?;
+    paper.put(&[Close(Tag::Tbody), Close(Tag::Table), Close(Tag::Div)])?;
+    Ok(())
+}
+
+fn put_tasks_head(paper: &mut Paper) -> Result<(), Stop>
+    ensures { OnOk result (Writes paper.old.text paper.new.text spec.tasks_head) }
+{
+    start_section(paper, "tasks", "Tasks")?;
+    paper.put(&[Close(Tag::H2)])?;
+    put_legend(paper)?;
+    put_controls(paper)?;
+    paper.put(&[Class(Tag::Div, "scroll")])?;
+    Ok(())
 }
 
 /// Puts the tasks.
@@ -356,22 +510,20 @@ pub(crate) fn put_tasks(
     paper: &mut Paper,
     alloc: Global,
     scale: Scale,
+    signs: Signs,
     history: &History,
     tables: &Tables,
-    odd: &[Oddities],
-) -> Result<(), Stop> {
-    start_section(paper, "tasks", "Tasks")?;
-    paper.put(&[Close(Tag::H2)])?;
-    put_legend(paper)?;
-    put_controls(paper)?;
-    paper.put(&[Class(Tag::Div, "scroll")])?;
-    put_table(paper, alloc, scale, history, tables, odd)?;
-    paper.put(&[Close(Tag::Div)])?;
+) -> Result<(), Stop>
+    ensures { OnOk result (spec.WritesTasks scale signs (courses_of history.now) tables.now paper.old.text paper.new.text) }
+{
+    put_tasks_head(paper)?;
+    put_table(paper, alloc, scale, signs, history, tables)?;
     put_more(
         paper,
         tables.task_count(),
         TASKS,
         " tasks more, which ran and waited less",
     )?;
-    paper.put(&[Close(Tag::Section)])
+    paper.put(&[Close(Tag::Section)])?;
+    Ok(())
 }

@@ -1,8 +1,13 @@
 //! The page of a stream, once it was read to its end.
-ghost use Rattle.std.specs.Prelude.{◌≡◌, ◌≤◌, ◌<◌, ◌+◌, ◌^◌, ◌++◌, ℕ, List, length, IfOk, IfErr};
+ghost use Rattle.std.specs.Prelude.{◌≡◌, ◌≤◌, ◌<◌, ◌+◌, ◌^◌, ◌==◌, ◌++◌, [], ℕ, List, length, take, position, IfOk, IfErr, OnOk};
+ghost use Rattle.tk_client.specs.Meaning.{cut};
 ghost use Rattle.tk_report.specs.Taken.{HasTaken, Takes, TakesAll, first, stop_of};
 ghost use Rattle.tk_report.specs.Views.{IsOfWriter};
-ghost use Rattle.tk_page.specs.Pages.{IsPage, Pages};
+ghost use Rattle.tk_stream.specs.Spelling.{line_end};
+ghost use Rattle.tk_page.specs.Courses.{courses_of};
+ghost use Rattle.tk_page.specs.Kept.{Tells, TellsAll};
+ghost use Rattle.tk_page.specs.Pages.{IsDrawn, Pages};
+ghost use Rattle.tk_page.specs.Shown.{shown_of};
 
 use crate::drawing::put_page;
 use crate::frame::{HEAD, TAIL};
@@ -10,7 +15,7 @@ use crate::history::History;
 use memchr::memchr;
 use std::alloc::{AllocError, Global};
 use std::io::{Read, Write};
-use tk_client::{Client, Fault, FeedError, Lints, Warning};
+use tk_client::{Client, Fault, FeedError, Lints};
 use tk_fault::AppFault;
 use tk_paper::{Paper, Stop};
 use tk_stream::{Tables, send};
@@ -21,7 +26,7 @@ const MAX_LINE: usize = 268_435_456;
 // How many bytes are read at a time.
 const PIECE: usize = 65_536;
 
-// Why a stream isn't taken behind so many lines.
+// Why a stream isn't taken after so many lines.
 fn stopped(lines: u64, error: FeedError) -> AppFault
     requires { lines + error.lines < 2 ^ 64 }
     ensures { result ≡ stop_of (lines + error.lines) error.fault }
@@ -36,7 +41,7 @@ fn stopped(lines: u64, error: FeedError) -> AppFault
 }
 
 // Feeds a client that has applied so many lines, and answers how many it has then applied. Of the bytes only the last may be a
-// line end, so the tables behind it are noted.
+// line end, so the tables after it are noted.
 fn feed_one(
     client: &mut Client,
     history: &mut History,
@@ -45,7 +50,10 @@ fn feed_one(
 ) -> Result<u64, AppFault>
     requires few { lines ≤ 2 ^ 62 }
     requires short { length piece.now ≤ 65536 }
+    requires one { length (cut piece.now).0 ≤ 1 }
     ensures takes { (front : List ℕ) → HasTaken front lines client.old → Takes (front ++ piece.now) result client.new }
+    ensures tells { (front : List ℕ) → HasTaken front lines client.old → Tells (shown_of front) history.old
+        → OnOk result (Tells (shown_of (front ++ piece.now)) history.new) }
     ensures few { IfOk result (λ sum. sum ≤ lines + length piece.now) }
 {
     match client.feed(piece) {
@@ -58,13 +66,20 @@ fn feed_one(
     }
 }
 
+fn find_end(bytes: &[u8]) -> Option<usize>
+    ensures { result ≡ position (λ b. b == line_end) bytes.now }
+{
+    memchr(b'\n', bytes)
+}
+
 // How many bytes the first line has, with its end: all of them where none ends.
 fn first_line(bytes: &[u8]) -> usize
     requires { 1 ≤ length bytes.now }
     ensures some { 1 ≤ result }
     ensures within { result ≤ length bytes.now }
+    ensures one { length (cut (take result bytes.now)).0 ≤ 1 }
 {
-    match memchr(b'\n', bytes) {
+    match find_end(bytes) {
         Some(end) => end + 1,
         None => bytes.len(),
     }
@@ -80,6 +95,8 @@ fn feed_lines(
     requires few { lines + 65536 ≤ 2 ^ 62 }
     requires short { length piece.now ≤ 65536 }
     ensures takes { (front : List ℕ) → HasTaken front lines client.old → Takes (front ++ piece.now) result client.new }
+    ensures tells { (front : List ℕ) → HasTaken front lines client.old → Tells (shown_of front) history.old
+        → OnOk result (Tells (shown_of (front ++ piece.now)) history.new) }
     ensures few { IfOk result (λ sum. sum ≤ lines + 65536) }
 {
     let mut sum = lines;
@@ -98,8 +115,10 @@ fn take_stream<R: Read>(
     history: &mut History,
     reader: &mut R,
 ) -> Result<(), AppFault>
-    requires { client.old ≡ first }
-    ensures { TakesAll (R.remaining reader.old) (R.remaining reader.new) result client.new }
+    requires client { client.old ≡ first }
+    requires history { Tells [] history.old }
+    ensures takes { TakesAll (R.remaining reader.old) (R.remaining reader.new) result client.new }
+    ensures tells { OnOk result (TellsAll (R.remaining reader.old) client.new history.new) }
 {
     let mut piece = [0u8; PIECE];
     let mut lines = 0;
@@ -113,7 +132,7 @@ fn take_stream<R: Read>(
     Err(AppFault::Read)
 }
 
-// Three texts, one behind the other.
+// Three texts, one after the other.
 fn behind(alloc: Global, front: &str, inner: &[u8], end: &str) -> Result<Vec<u8>, AllocError>
     ensures { IfOk result (λ text. text.items ≡ (front.now ++ inner.now) ++ end.now) }
 {
@@ -123,18 +142,17 @@ fn behind(alloc: Global, front: &str, inner: &[u8], end: &str) -> Result<Vec<u8>
     Ok(text)
 }
 
-// The page of tables with these warnings.
+// The page of tables and their history.
 fn page_of(
     alloc: Global,
     history: &History,
     tables: &Tables,
-    warnings: &[Warning],
     lints: &Lints,
 ) -> Result<Vec<u8>, Stop>
-    ensures { IfOk result (λ text. IsPage text.items) }
+    ensures { IfOk result (λ text. IsDrawn lints.now (courses_of history.now) tables.now text.items) }
 {
     let mut paper = Paper::new(alloc);
-    put_page(&mut paper, alloc, history, tables, warnings, lints)?;
+    put_page(&mut paper, alloc, history, tables, lints)?;
     let inner = paper.into_bytes()?;
     let text = behind(alloc, HEAD, inner.as_slice(), TAIL)?;
     Ok(text)
@@ -159,7 +177,7 @@ fn view_by<R: Read, W: Write>(
         return Err(AppFault::Memory);
     };
     let warnings = list.as_slice();
-    let Ok(text) = page_of(alloc, &history, client.tables(), warnings, lints) else {
+    let Ok(text) = page_of(alloc, &history, client.tables(), lints) else {
         return Err(AppFault::Memory);
     };
     match send(writer, text.as_slice()) {

@@ -1,5 +1,5 @@
 -- How the parts of a page stand in its text.
-use Rattle.std.specs.Prelude.{ℕ, List, ◌++◌, decimal, flat_map}
+use Rattle.std.specs.Prelude.{ℕ, ◌+◌, ◌-◌, ◌/◌, ◌%◌, ◌^◌, min, nat_lt, nat_le, if◌then◌else◌, List, [], ◌∷◌, ◌++◌, codes, decimal, map, flat_map}
 use Rattle.tk_paper.specs.Escaping.{escaped}
 use Rattle.tk_paper.specs.Marks.{mark_text}
 use Rattle.tk_paper.specs.declared.marks.Attr.{Attr}
@@ -29,20 +29,81 @@ start_of tag = mark_text (marks.Open tag) ++ mark_text marks.End
 abbrev pub class_of : Tag → List ℕ → List ℕ
 class_of tag class = mark_text (marks.Open tag) ++ (attr_of attrs.Class class ++ mark_text marks.End)
 
--- a part as it stands in the page
-abbrev pub part_text : Part → List ℕ
-part_text (parts.Text text) = escaped text.now
-part_text (parts.Number n) = number_of n
-part_text (parts.Open tag) = mark_text (marks.Open tag)
-part_text parts.End = mark_text marks.End
-part_text (parts.Close tag) = mark_text (marks.Close tag)
-part_text (parts.Start tag) = start_of tag
-part_text (parts.Class tag class) = class_of tag class.now
-part_text (parts.With attr value) = attr_of attr value.now
-part_text (parts.WithNumber attr value) = number_attr_of attr value
-part_text (parts.Value attr) = mark_text (marks.Attr attr)
-part_text parts.Quote = mark_text marks.Quote
+-- a number of tenths of a unit: with the digit after the point where it is below this
+abbrev pub tenths_of : ℕ → ℕ → List ℕ → List ℕ
+tenths_of few tenths unit =
+    if nat_lt tenths few then number_of (tenths / 10) ++ (escaped (codes ".") ++ (number_of (tenths % 10) ++ escaped unit)) else number_of (tenths / 10) ++ escaped unit
 
--- parts, one behind the other
-unfoldable pub parts_text : List Part → List ℕ
-parts_text = flat_map part_text
+-- a share in thousandths, in percent: below 10 % with one digit after the point
+abbrev pub share_text : ℕ → List ℕ
+share_text share = tenths_of 100 share (codes " %")
+
+-- a time in nanoseconds, to the nearest of so many
+abbrev pub nearest : ℕ → ℕ → ℕ
+nearest ns unit = min (ns + unit / 2) (2 ^ 64 - 1) / unit
+
+-- a time in nanoseconds, in the greatest unit of which it has one: to the nearest tenth, with the digit after the point below 100
+abbrev pub span_text : ℕ → List ℕ
+span_text ns =
+    if nat_le 1000000000 ns then tenths_of 1000 (nearest ns 100000000) (codes " s") else
+    (if nat_le 1000000 ns then tenths_of 1000 (nearest ns 100000) (codes " ms") else
+    (if nat_le 1000 ns then tenths_of 1000 (nearest ns 100) (32 ∷ 194 ∷ 181 ∷ 115 ∷ []) else number_of ns ++ escaped (codes " ns")))
+
+-- a number of thousandths, rounded down to one digit after the point
+abbrev pub mean_text : ℕ → List ℕ
+mean_text mean = number_of (mean / 1000) ++ (escaped (codes ".") ++ number_of (mean % 1000 / 100))
+
+-- a part of a page: as `Part`, with the bytes of its texts
+pub data Bit : Type 0 where
+  text : List ℕ → Bit
+  number : ℕ → Bit
+  share : ℕ → Bit
+  span : ℕ → Bit
+  mean : ℕ → Bit
+  opens : Tag → Bit
+  ends : Bit
+  close : Tag → Bit
+  start : Tag → Bit
+  class : Tag → List ℕ → Bit
+  having : Attr → List ℕ → Bit
+  having_number : Attr → ℕ → Bit
+  value : Attr → Bit
+  quote : Bit
+
+-- what a part is
+abbrev pub bit_of : Part → Bit
+bit_of (parts.Text t) = text t.now
+bit_of (parts.Number n) = number n
+bit_of (parts.Share n) = share n
+bit_of (parts.Span n) = span n
+bit_of (parts.Mean n) = mean n
+bit_of (parts.Open tag) = opens tag
+bit_of parts.End = ends
+bit_of (parts.Close tag) = close tag
+bit_of (parts.Start tag) = start tag
+bit_of (parts.Class tag c) = class tag c.now
+bit_of (parts.With attr v) = having attr v.now
+bit_of (parts.WithNumber attr v) = having_number attr v
+bit_of (parts.Value attr) = value attr
+bit_of parts.Quote = quote
+
+-- a part as it stands in the page
+abbrev pub bit_text : Bit → List ℕ
+bit_text (text t) = escaped t
+bit_text (number n) = number_of n
+bit_text (share n) = share_text n
+bit_text (span n) = span_text n
+bit_text (mean n) = mean_text n
+bit_text (opens tag) = mark_text (marks.Open tag)
+bit_text ends = mark_text marks.End
+bit_text (close tag) = mark_text (marks.Close tag)
+bit_text (start tag) = start_of tag
+bit_text (class tag c) = class_of tag c
+bit_text (having attr v) = attr_of attr v
+bit_text (having_number attr v) = number_attr_of attr v
+bit_text (value attr) = mark_text (marks.Attr attr)
+bit_text quote = mark_text marks.Quote
+
+-- parts, one after the other
+unfoldable pub text_of : List Bit → List ℕ
+text_of = flat_map bit_text

@@ -1,5 +1,5 @@
 //! The text of a page, which is woven of the page's own markup and of escaped texts alone.
-ghost use Rattle.std.specs.Prelude.{◌≡◌, ◌++◌, OnOk, OnErr, IfOk};
+ghost use Rattle.std.specs.Prelude.{◌≡◌, ◌++◌, OnOk, OnErr, IfOk, map};
 ghost use Rattle.tk_paper.specs.Escaping as spec;
 
 use crate::marks::{Attr, Mark, Place, Tag, behind, mark_text};
@@ -29,6 +29,12 @@ pub enum Part<'a> {
     Text(&'a str),
     /// A number.
     Number(u64),
+    /// A share in thousandths, shown in percent.
+    Share(u64),
+    /// A time in nanoseconds, shown in its unit.
+    Span(u64),
+    /// A number of thousandths, shown with one digit after the point.
+    Mean(u64),
     /// The beginning of an element's first tag.
     Open(Tag),
     /// The end of a first tag.
@@ -66,7 +72,7 @@ impl Model for Paper {
     ghost invariant = { λ p. ∥ Woven p.bytes.items p.place ∥₁ };
 }
 
-// Puts a byte of a text behind others.
+// Puts a byte of a text after others.
 fn push_escaped(bytes: &mut Vec<u8>, byte: u8) -> Result<(), AllocError>
     ensures ok { OnOk result (bytes.new.items ≡ bytes.old.items ++ spec.escaped_byte byte) }
     ensures err { OnErr result (bytes.new.items ≡ bytes.old.items) }
@@ -93,10 +99,10 @@ fn behind_byte(place: Place) -> Option<Place>
 }
 
 impl Paper {
-    ghost use Rattle.tk_paper.specs.Behind.{Puts};
+    ghost use Rattle.tk_paper.specs.Behind.{Puts, Writes};
     ghost use Rattle.tk_paper.specs.Escaping.{Woven, escaped, escaped_byte, no_paper};
     ghost use Rattle.tk_paper.specs.Marks.{mark_text};
-    ghost use Rattle.tk_paper.specs.Parts.{attr_of, class_of, number_attr_of, number_of, part_text, parts_text, start_of};
+    ghost use Rattle.tk_paper.specs.Parts.{attr_of, bit_of, bit_text, class_of, mean_text, number_attr_of, number_of, share_text, span_text, start_of, tenths_of};
 
     /// No text.
     pub fn new(alloc: Global) -> Paper
@@ -183,12 +189,59 @@ impl Paper {
         Ok(())
     }
 
+    // Puts tenths of a unit, with their digit after the point where they are few.
+    fn tenths(&mut self, few: u64, tenths: u64, unit: &str) -> Result<(), Stop>
+        ensures { OnOk result (Puts self.old.text self.new.text (tenths_of few tenths unit.now)) }
+    {
+        self.number(tenths / 10)?;
+        if tenths < few {
+            self.text(".")?;
+            self.number(tenths % 10)?;
+        }
+        self.text(unit)?;
+        Ok(())
+    }
+
+    fn share(&mut self, share: u64) -> Result<(), Stop>
+        ensures { OnOk result (Puts self.old.text self.new.text (share_text share)) }
+    {
+        self.tenths(100, share, " %")
+    }
+
+    fn span(&mut self, ns: u64) -> Result<(), Stop>
+        ensures { OnOk result (Puts self.old.text self.new.text (span_text ns)) }
+    {
+        if ns >= 1_000_000_000 {
+            self.tenths(1000, ns.saturating_add(50_000_000) / 100_000_000, " s")
+        } else if ns >= 1_000_000 {
+            self.tenths(1000, ns.saturating_add(50_000) / 100_000, " ms")
+        } else if ns >= 1_000 {
+            self.tenths(1000, ns.saturating_add(50) / 100, " µs")
+        } else {
+            self.number(ns)?;
+            self.text(" ns")?;
+            Ok(())
+        }
+    }
+
+    fn mean(&mut self, mean: u64) -> Result<(), Stop>
+        ensures { OnOk result (Puts self.old.text self.new.text (mean_text mean)) }
+    {
+        self.number(mean / 1000)?;
+        self.text(".")?;
+        self.number(mean % 1000 / 100)?;
+        Ok(())
+    }
+
     fn part(&mut self, part: &Part) -> Result<(), Stop>
-        ensures { OnOk result (Puts self.old.text self.new.text (part_text part.now)) }
+        ensures { OnOk result (Puts self.old.text self.new.text (bit_text (bit_of part.now))) }
     {
         match *part {
             Part::Text(text) => self.text(text),
             Part::Number(number) => self.number(number),
+            Part::Share(share) => self.share(share),
+            Part::Span(ns) => self.span(ns),
+            Part::Mean(mean) => self.mean(mean),
             Part::Open(tag) => self.mark(Mark::Open(tag)),
             Part::End => self.mark(Mark::End),
             Part::Close(tag) => self.mark(Mark::Close(tag)),
@@ -202,9 +255,8 @@ impl Paper {
     }
 
     /// Puts parts behind the text, one after the other. After an error a front of them stands there.
-    #[tactic(auto, unfolding(crate::specs::Parts::parts_text))]
     pub fn put(&mut self, parts: &[Part]) -> Result<(), Stop>
-        ensures { OnOk result (Puts self.old.text self.new.text (parts_text parts.now)) }
+        ensures { OnOk result (Writes self.old.text self.new.text (map bit_of parts.now)) }
     {
         for part in parts {
             self.part(part)?;

@@ -1,0 +1,14 @@
+use Rattle.tk_paper.proofs.PutLemmas.{then}
+use Rattle.tk_page.proofs.drawing.put_sections.Goals as goal
+
+pub returns : goal.returns
+returns c =
+    let t = c.in_ok-put_tasks.ensures in
+    record {
+      ranks = t.ranks;
+      ranked = t.ranked;
+      height = t.height;
+      most = t.most;
+      wrote = rw (c.watched.ensures, c.lines.ensures, c.gone.ensures) at
+          (then c.in_ok-put_header.ensures (then c.in_ok-put.ensures (then c.in_ok-put_odd.ensures (then t.wrote (then c.in_ok-put_resources.ensures c.in_ok-put-2.ensures)))));
+    }

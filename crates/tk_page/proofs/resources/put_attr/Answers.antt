@@ -1,0 +1,9 @@
+use Rattle.tk_paper.proofs.PutLemmas.{then}
+use Rattle.tk_page.proofs.resources.put_attr.Goals as goal
+
+pub returns : goal.returns
+returns c =
+    rw (c.as_str.ensures.text) at
+    (then c.in_ok-put.ensures
+    (then c.in_ok-put_value.ensures
+    (then c.in_ok-put_unit.ensures c.in_ok-put-2.ensures)))

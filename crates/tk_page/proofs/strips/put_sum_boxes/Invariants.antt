@@ -1,0 +1,9 @@
+use Rattle.std.proofs.Common.{take}
+use Rattle.std.specs.Prelude.{flat_map}
+use Rattle.tk_paper.specs.Behind.{Writes}
+use Rattle.tk_page.specs.Strips.{box, sum_box}
+use Rattle.tk_page.proofs.strips.put_sum_boxes.Given as goal
+
+-- the boxes so far
+abbrev pub invariant-loop-step : goal.invariant-loop-step
+invariant-loop-step l = Writes l.initial.paper.text l.paper.text (flat_map (λ step. box (sum_box l.scale l.top step)) (take l.step-index l.steps))

@@ -1,0 +1,9 @@
+use Rattle.tk_paper.proofs.PutLemmas.{then}
+use Rattle.tk_page.proofs.tasks.put_sum_row.Goals as goal
+
+pub returns : goal.returns
+returns c =
+    rw (c.watched.ensures) at
+    (then c.in_ok-put_height.ensures
+    (then c.in_ok-put_sum.ensures
+    (then c.in_ok-put_axis.ensures c.in_ok-put.ensures)))

@@ -1,0 +1,59 @@
+-- The head of a page.
+use Rattle.std.specs.Prelude.{ℕ, ◌==◌, min, ◌&&◌, Option, Some, None, if◌then◌else◌, List, [], ◌∷◌, ◌++◌, codes, fold, length}
+use Rattle.tk_ids.specs.declared.info.Dropped.{Dropped}
+use Rattle.tk_stream.specs.declared.task.Task.{Task}
+use Rattle.tk_stream.specs.Tables.{TablesView}
+use Rattle.tk_paper.specs.Parts.{Bit, text, number, span, close, start, class}
+use Rattle.tk_paper.specs.declared.marks.Tag.TheVariants as tags
+use Rattle.tk_page.specs.declared.oddities.Holder.{Holder}
+
+-- the moment at the page's left: the first line's, or that of the earliest creation of a task
+abbrev pub start_of : ℕ → List Task → ℕ
+start_of first tasks = fold (λ start t. min start t.row.created) first tasks
+
+-- a number, and what it counts: one of them, or more
+abbrev pub fact : ℕ → List ℕ → List ℕ → List Bit
+fact n one many = start tags.B ∷ number n ∷ close tags.B ∷ text (if n == 1 then one else many) ∷ []
+
+-- words, and a dot in the middle after them
+abbrev pub dotted : List ℕ → List ℕ
+dotted words = words ++ 32 ∷ 194 ∷ 183 ∷ 32 ∷ []
+
+-- how many tasks have left, where any have
+abbrev pub gone_fact : ℕ → List Bit
+gone_fact n =
+    if n == 0 then [] else
+    text (32 ∷ 194 ∷ 183 ∷ 32 ∷ []) ∷ [] ++ fact n (codes " task closed and gone") (codes " tasks closed and gone")
+
+-- how many tasks, resources and operations there are, how many lines there were, and how long the time is that is shown
+abbrev pub facts : ℕ → ℕ → TablesView → List Bit
+facts watched lines tables =
+    fact (length tables.tasks) (dotted (codes " task")) (dotted (codes " tasks"))
+    ++ (fact (length tables.resources) (dotted (codes " resource")) (dotted (codes " resources"))
+    ++ (fact (length tables.ops) (dotted (codes " operation")) (dotted (codes " operations"))
+    ++ (fact lines (codes " line over ") (codes " lines over ")
+    ++ start tags.B ∷ span watched ∷ close tags.B ∷ [])))
+
+-- how many events were dropped
+abbrev pub dropped_facts : Dropped → List Bit
+dropped_facts dropped =
+    class tags.P (codes "missing") ∷ text (codes "Not all is here. Events were dropped: ") ∷ []
+    ++ (fact dropped.tasks (codes " of a task, ") (codes " of tasks, ")
+    ++ (fact dropped.resources (codes " of a resource, ") (codes " of resources, ")
+    ++ (fact dropped.ops (codes " of an operation. ") (codes " of operations. ")
+    ++ text (codes "Publish more often, or hold more events.") ∷ close tags.P ∷ [])))
+
+-- the same where any were
+abbrev pub missing : Dropped → List Bit
+missing dropped = if (dropped.tasks == 0) && ((dropped.resources == 0) && (dropped.ops == 0)) then [] else dropped_facts dropped
+
+-- the head of a page
+abbrev pub header : ℕ → ℕ → ℕ → TablesView → List Bit
+header watched lines gone tables =
+    start tags.Header ∷ start tags.H1 ∷ text (codes "taskscope") ∷ close tags.H1 ∷ class tags.P (codes "facts") ∷ []
+    ++ (facts watched lines tables ++ (gone_fact gone ++ (close tags.P ∷ [] ++ (missing tables.dropped ++ close tags.Header ∷ []))))
+
+-- the task that holds up the others
+abbrev pub id_of : Option Holder → Option ℕ
+id_of None = None
+id_of (Some holder) = Some holder.id

@@ -1,0 +1,37 @@
+-- Which tasks a page shows, and in which order.
+use Rattle.std.specs.Prelude.{ℕ, ◌+◌, ◌-◌, ◌^◌, not, List, [], ◌∷◌}
+use Rattle.std.specs.List.Sorted.{IsSorted}
+use Rattle.std.specs.Ordering.{bool_cmp, nat_cmp, ordering_then}
+use Rattle.std.specs.declared.cmp.Ordering.{Ordering}
+use Rattle.tk_core.specs.Lists.{capped}
+use Rattle.tk_stream.specs.declared.task.Task.{Task}
+use Rattle.tk_page.specs.declared.figures.Scale.{Scale}
+use Rattle.tk_page.specs.declared.oddities.Signs.{Signs}
+use Rattle.tk_page.specs.declared.ranks.Rank.{Rank}
+use Rattle.tk_page.specs.Odd.{is_odd_at_all}
+use Rattle.tk_page.specs.Samples.{busy_until, sched_until}
+
+-- the rank of a task at a place: odd ones come first, then those that ran and waited longer, then those that stand before
+abbrev pub rank_of : Scale → Signs → ℕ → Task → Rank
+rank_of scale signs place t = record {
+  calm = not (is_odd_at_all signs t);
+  below = 2 ^ 64 - 1 - capped (busy_until t.row scale.now + sched_until t.row scale.now);
+  place = place;
+}
+
+-- the ranks of tasks, the first of which stands at a place
+abbrev pub ranks_from : Scale → Signs → ℕ → List Task → List Rank
+ranks_from scale signs place [] = []
+ranks_from scale signs place (t ∷ ts) = rank_of scale signs place t ∷ ranks_from scale signs (place + 1) ts
+
+-- the ranks of the tasks of tables, in table order
+abbrev pub ranks_of : Scale → Signs → List Task → List Rank
+ranks_of scale signs tasks = ranks_from scale signs 0 tasks
+
+-- by whether something is odd, then by how long it ran and waited, then by place
+abbrev pub rank_cmp : Rank → Rank → Ordering
+rank_cmp a b = ordering_then (bool_cmp a.calm b.calm) (ordering_then (nat_cmp a.below b.below) (nat_cmp a.place b.place))
+
+-- none comes before one of a lesser rank
+abbrev pub AreInOrder : List Rank → Type 0
+AreInOrder ranks = IsSorted rank_cmp ranks
