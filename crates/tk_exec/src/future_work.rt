@@ -99,7 +99,7 @@ impl<F: Future> FutureWork<F> {
         self.waker = scope.clone_waker(rt).ok();
     }
 
-    // Behind a pending poll. A wake within it is one of the task by itself.
+    // After a pending poll. A wake within it is one of the task by itself.
     fn wait<R: Wait>(&mut self, rt: &R, scope: &mut PollScope)
         ensures future { self.new.future ≡ self.old.future }
         ensures waits { Waits self.old.waker scope.old self.new.waker scope.new }
