@@ -4,7 +4,8 @@
 # For each of examples/*.script: its stream by `run` with *.script.stdout, what `view` writes of that stream with
 # *.script.report, what `page` writes of it with *.script.html, and what `lint` writes of it with the warning lines of the report; the status of `lint` is 3
 # where there are any. What `demo` writes is compared with examples/demo.report. Then each call of tests/program/calls, which says what the
-# program is given and what it answers: other words, help, faults, and streams that can't be read or written.
+# program is given and what it answers: other words, help, faults, and streams that can't be read or written. And the stream of
+# example_service, of which `view` must tell of three closed tasks.
 #
 # Usage: tests/examples.sh, behind `rt ci` or `rt run` in crates/taskscope.
 #
@@ -70,11 +71,24 @@ try_calls() {
     done < calls
 }
 
+# What differs from run to run is when its polls were.
+try_service() {
+    service=$root/crates/example_service/out/example_service
+    if "$service" stream > "$work/stream" && "$program" view "$work/stream" > "$work/report" &&
+        [ "$(grep -c '^task .* closed .* name connection$' "$work/report")" -eq 3 ]; then
+        passed=$((passed + 1))
+    else
+        failed=$((failed + 1))
+        echo "FAILED: $(basename "$program") view, of the stream of example_service"
+    fi
+}
+
 [ -x "$out/taskscope" ] || echo "the program is not built: $out/taskscope" >&2
 for program in "$out/taskscope" "$out/taskscope.by-rattle"; do
     [ -x "$program" ] || continue
     try_examples
     try_calls
+    try_service
 done
 [ "$passed" -gt 0 ] || failed=$((failed + 1))
 echo "$passed passed, $failed failed"
