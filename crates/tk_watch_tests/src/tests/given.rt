@@ -45,20 +45,6 @@ pub(super) const THIRD_SCREEN: &str =
 
 ";
 
-// Screens with ten rows, as text, by the default lints.
-pub(super) fn plain<'a>(sort: Column, filter: &'a [u8], resources: bool) -> Screen<'a> {
-    Screen {
-        query: Query {
-            sort,
-            rows: 10,
-            filter,
-            resources,
-        },
-        lints: Lints::default(),
-        canvas: Canvas::Plain,
-    }
-}
-
 // A pace by which a screen is due so often, and then never by itself. It counts how often it is waited for.
 #[derive(Drop)]
 pub(super) struct Few {
@@ -95,16 +81,43 @@ fn is_text_of(alloc: Global, fault: AppFault, text: &str) -> bool {
     }
 }
 
-// Whether watching stops at the fault of this text, or where that is empty at none.
+// What a screen is asked for.
+#[derive(Clone, Copy)]
+pub(super) struct Asked {
+    pub sort: Column,
+    pub filter: &'static [u8],
+    pub resources: bool,
+    pub canvas: Canvas,
+}
+
+// Screens as text, sorted by busy time.
+pub(super) const PLAIN: Asked = Asked {
+    sort: Column::Busy,
+    filter: b"",
+    resources: false,
+    canvas: Canvas::Plain,
+};
+
+// Whether watching by ten rows and the default lints stops at the fault of this text, or where that is empty at none.
 pub(super) fn comes_to<R: Read, W: Write>(
     alloc: Global,
     reader: &mut R,
     writer: &mut W,
-    screen: &Screen<'_>,
+    asked: Asked,
     pace: &mut Few,
     fault: &str,
 ) -> bool {
-    match watch_stream(alloc, reader, writer, screen, pace) {
+    let screen = Screen {
+        query: Query {
+            sort: asked.sort,
+            rows: 10,
+            filter: asked.filter,
+            resources: asked.resources,
+        },
+        lints: Lints::default(),
+        canvas: asked.canvas,
+    };
+    match watch_stream(alloc, reader, writer, &screen, pace) {
         Ok(()) => fault.is_empty(),
         Err(stop) => is_text_of(alloc, stop, fault),
     }

@@ -1,10 +1,9 @@
 //! Screens, as they are read.
 
-use super::given::{Few, ODD, SEMAPHORE, comes_to, plain};
+use super::given::{Asked, Few, ODD, PLAIN, SEMAPHORE, comes_to};
 use std::alloc::Global;
 use tk_frame::Column;
 use tk_screen::{Canvas, Size};
-use tk_watch::Screen;
 
 const ODD_SCREEN: &str = "now 1.0 s  tasks 2: 1 polling, 0 scheduled, 1 idle, 0 closed  warnings 3
 warning 1.1 self-wakes: 66% of its wakes are its own
@@ -50,7 +49,7 @@ const NARROW_SCREEN: &str =
 // The same without colors, and lower by a line.
 const DULL_SCREEN: &str = "\x1b[H\x1b[Know 1.0 s  tasks 2: \n\x1b[Kwarning 1.1 self-wak\n\x1b[J";
 
-fn written(alloc: Global, stream: &'static [u8], screen: &Screen<'_>) -> Vec<u8> {
+fn written(alloc: Global, stream: &'static [u8], asked: Asked) -> Vec<u8> {
     let mut reader = stream;
     let mut writer = Vec::new(alloc);
     let mut pace = Few {
@@ -58,54 +57,62 @@ fn written(alloc: Global, stream: &'static [u8], screen: &Screen<'_>) -> Vec<u8>
         waits: 0,
         follows: 0,
     };
-    if !comes_to(alloc, &mut reader, &mut writer, screen, &mut pace, "") {
+    if !comes_to(alloc, &mut reader, &mut writer, asked, &mut pace, "") {
         writer.clear();
     }
     writer
 }
 
-fn shows(alloc: Global, stream: &'static [u8], screen: &Screen<'_>, wanted: &str) -> bool {
-    written(alloc, stream, screen).as_slice() == wanted.as_bytes()
+fn shows(alloc: Global, stream: &'static [u8], asked: Asked, wanted: &str) -> bool {
+    written(alloc, stream, asked).as_slice() == wanted.as_bytes()
 }
 
-fn ends_with(alloc: Global, stream: &'static [u8], screen: &Screen<'_>, end: &str) -> bool {
-    written(alloc, stream, screen)
+fn ends_with(alloc: Global, asked: Asked, end: &str) -> bool {
+    written(alloc, ODD, asked)
         .as_slice()
         .ends_with(end.as_bytes())
 }
 
 #[test]
 fn a_screen_is_read_as_text(rt: HostRuntime) {
-    let alloc = rt.alloc();
-    assert!(rt; shows(alloc, ODD, &plain(Column::Busy, b"", false), ODD_SCREEN));
-    assert!(rt;
-        shows(
-            alloc,
-            SEMAPHORE,
-            &plain(Column::Wakes, b"", true),
-            SEMAPHORE_SCREEN
-        )
-    );
+    let with_resources = Asked {
+        sort: Column::Wakes,
+        filter: b"",
+        resources: true,
+        canvas: Canvas::Plain,
+    };
+    assert!(rt; shows(rt.alloc(), ODD, PLAIN, ODD_SCREEN));
+    assert!(rt; shows(rt.alloc(), SEMAPHORE, with_resources, SEMAPHORE_SCREEN));
 }
 
 #[test]
 fn tasks_are_sorted_and_filtered(rt: HostRuntime) {
-    let alloc = rt.alloc();
-    assert!(rt; ends_with(alloc, ODD, &plain(Column::Polls, b"", false), BY_POLLS));
-    assert!(rt; ends_with(alloc, ODD, &plain(Column::SelfWakes, b"", false), BY_POLLS));
-    assert!(rt; ends_with(alloc, ODD, &plain(Column::Busy, b"ain", false), WITH_AIN));
+    for (sort, filter, end) in [
+        (Column::Polls, b"".as_slice(), BY_POLLS),
+        (Column::SelfWakes, b"main".as_slice(), WITH_AIN),
+        (Column::Busy, b"ain".as_slice(), WITH_AIN),
+    ] {
+        let asked = Asked {
+            sort,
+            filter,
+            resources: false,
+            canvas: Canvas::Plain,
+        };
+        assert!(rt; ends_with(rt.alloc(), asked, end));
+    }
 }
 
 fn on_terminal(alloc: Global, lines: usize, colors: bool, wanted: &str) -> bool {
-    let screen = Screen {
-        query: plain(Column::Busy, b"", false).query,
-        lints: plain(Column::Busy, b"", false).lints,
+    let asked = Asked {
+        sort: Column::Busy,
+        filter: b"",
+        resources: false,
         canvas: Canvas::Terminal {
             size: Size { columns: 20, lines },
             colors,
         },
     };
-    shows(alloc, ODD, &screen, wanted)
+    shows(alloc, ODD, asked, wanted)
 }
 
 #[test]

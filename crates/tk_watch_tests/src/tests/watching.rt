@@ -1,12 +1,11 @@
 //! When screens are drawn.
 
 use super::given::{
-    FIRST, FIRST_SCREEN, Few, SECOND, SECOND_SCREEN, THIRD, THIRD_SCREEN, comes_to, plain,
+    FIRST, FIRST_SCREEN, Few, PLAIN, SECOND, SECOND_SCREEN, THIRD, THIRD_SCREEN, comes_to,
 };
 use std::alloc::Global;
 use std::io;
 use std::io::{Read, Write};
-use tk_frame::Column;
 
 // Gives one of these at each read, and then an end.
 #[derive(Drop)]
@@ -17,7 +16,7 @@ struct Lines {
 
 impl Read for Lines {
     fn read(&mut self, buf: &mut [u8]) -> io::Result<usize> {
-        let Some(line) = self.lines.get(self.next) else {
+        let Some(line) = self.lines.get(self.next).copied() else {
             return Ok(0);
         };
         let Some(to) = buf.get_mut(..line.len()) else {
@@ -46,8 +45,7 @@ fn draws(
         waits: 0,
         follows,
     };
-    let screen = plain(Column::Busy, b"", false);
-    let ends = comes_to(alloc, &mut reader, &mut writer, &screen, &mut pace, fault);
+    let ends = comes_to(alloc, &mut reader, &mut writer, PLAIN, &mut pace, fault);
     ends && pace.waits == waits && is_joined(writer.as_slice(), screens)
 }
 
@@ -147,8 +145,7 @@ fn keeps_front(alloc: Global, room: usize) -> bool {
         waits: 0,
         follows: 0,
     };
-    let screen = plain(Column::Busy, b"", false);
-    comes_to(alloc, &mut reader, &mut writer, &screen, &mut pace, "Write")
+    comes_to(alloc, &mut reader, &mut writer, PLAIN, &mut pace, "Write")
         && writer.got.as_slice() == &FIRST_SCREEN.as_bytes()[..room.min(FIRST_SCREEN.len())]
 }
 
