@@ -1,0 +1,6 @@
+//! Tests of `tk_page` and `tk_paper` through their public calls, in a crate above them: so their own proofs are made once, without
+//! them.
+#![tactic(auto)]
+
+#[cfg(test)]
+mod tests;

@@ -1,0 +1,156 @@
+//! Pages, and what is kept of a list.
+
+use std::alloc::{AllocError, Global};
+use std::io;
+use std::io::Write;
+use tk_client::Lints;
+use tk_page::view_page;
+use tk_paper::Course;
+
+// A task, a resource with an attribute, and an operation. Each text has the five bytes that mean something in a page, after a letter
+// of its own.
+const STRANGE: &[u8] =
+    b"{\"dropped\":[0,0,0],\"new_ops\":[{\"attrs\":[],\"id\":1099511627777,\"parent\":null,\"resource\":1099511627777,\"source\":\"s<b>&\\\"'\"}],\"new_resources\":[{\"attrs\":[[\"n<b>&\\\"'\",\"u<b>&\\\"'\",\"u64\"]],\"id\":1099511627777,\"kind\":\"k<b>&\\\"'\",\"loc\":[\"g<b>&\\\"'\",2,1],\"parent\":null,\"type\":\"r<b>&\\\"'\"}],\"new_tasks\":[{\"id\":1099511627777,\"kind\":\"spawn\",\"loc\":[\"f<b>&\\\"'\",1,1],\"name\":\"t<b>&\\\"'\"}],\"now\":50,\"op_stats\":[{\"attrs\":[],\"busy\":5,\"created\":30,\"dropped\":null,\"first_poll\":40,\"handles\":1,\"id\":1099511627777,\"last_ended\":45,\"last_started\":40,\"polling\":false,\"polls\":1,\"task\":1099511627777}],\"poll_counts\":[[1099511627777,1,0]],\"resource_stats\":[{\"attrs\":[3],\"created\":20,\"dropped\":null,\"handles\":2,\"id\":1099511627777}],\"seq\":1,\"snapshot\":false,\"task_stats\":[{\"busy\":0,\"clones\":0,\"created\":10,\"dropped\":null,\"drops\":0,\"first_poll\":null,\"handles\":1,\"id\":1099511627777,\"last_ended\":null,\"last_started\":null,\"last_wake\":null,\"polling\":false,\"polls\":0,\"sched\":0,\"scheduled\":true,\"self_wakes\":0,\"wakes\":0}],\"v\":1}\n";
+
+// A task that was created at 100 and polled from 150 to 170, at 200.
+const POLLED: &[u8] =
+    b"{\"dropped\":[0,0,0],\"new_ops\":[],\"new_resources\":[],\"new_tasks\":[{\"id\":1099511627777,\"kind\":\"spawn\",\"loc\":[\"script\",1,1],\"name\":\"main\"}],\"now\":200,\"op_stats\":[],\"poll_counts\":[],\"resource_stats\":[],\"seq\":1,\"snapshot\":false,\"task_stats\":[{\"busy\":20,\"clones\":3,\"created\":100,\"dropped\":null,\"drops\":1,\"first_poll\":150,\"handles\":1,\"id\":1099511627777,\"last_ended\":170,\"last_started\":150,\"last_wake\":null,\"polling\":false,\"polls\":1,\"sched\":50,\"scheduled\":false,\"self_wakes\":4,\"wakes\":9}],\"v\":1}\n";
+
+// Its cells: 20 and 50 of the 100 that are shown, 20 a poll, 1 poll, 9 wakes, 4 of its own, and 2 wakers that are out.
+const CELLS: &str =
+    "<td data-v=\"20\" class=\"num\"><svg class=\"bar\" viewBox=\"0 0 100 10\" preserveAspectRatio=\"none\" aria-hidden=\"true\"><rect class=\"busy\" width=\"20\" height=\"10\"></rect></svg> 20 %</td><td data-v=\"50\" class=\"num\"><svg class=\"bar\" viewBox=\"0 0 100 10\" preserveAspectRatio=\"none\" aria-hidden=\"true\"><rect class=\"wait\" width=\"50\" height=\"10\"></rect></svg> 50 %</td><td data-v=\"20\" class=\"num\">20 ns</td><td data-v=\"1\" class=\"num\">1</td><td data-v=\"9\" class=\"num\">9</td><td data-v=\"4\" class=\"num\">4</td><td data-v=\"2\" class=\"num\">2</td></tr>";
+
+// The page of a stream, and how many warnings it has.
+fn page_of(alloc: Global, stream: &[u8]) -> Option<(Vec<u8>, u64)> {
+    let mut reader = stream;
+    let mut page = Vec::new(alloc);
+    match view_page(alloc, &mut reader, &mut page, &Lints::default()) {
+        Ok(warnings) => Some((page, warnings)),
+        Err(_) => None,
+    }
+}
+
+fn has(page: &[u8], text: &str) -> bool {
+    match std::str::from_utf8(page) {
+        Ok(page) => page.contains(text),
+        Err(_) => false,
+    }
+}
+
+// Whether the page of a stream has this text, and not that one.
+fn shows(alloc: Global, stream: &[u8], text: &str, not: &str) -> bool {
+    match page_of(alloc, stream) {
+        Some((page, _)) => has(page.as_slice(), text) && !has(page.as_slice(), not),
+        None => false,
+    }
+}
+
+// Whether a strange text that begins with this letter stands escaped.
+fn is_escaped(alloc: Global, letter: &str) -> Result<bool, AllocError> {
+    let text = format!(in alloc; "{letter}&lt;b&gt;&amp;&quot;&#39;")?;
+    let not = format!(in alloc; "{letter}<b>")?;
+    Ok(shows(alloc, STRANGE, text.as_str(), not.as_str()))
+}
+
+#[test]
+fn each_text_of_a_stranger_stands_escaped(rt: HostRuntime) {
+    for letter in ["t", "f", "r", "k", "g", "n", "u", "s"] {
+        assert!(rt; is_escaped(rt.alloc(), letter) == Ok(true), "{letter}");
+    }
+}
+
+#[test]
+fn a_row_has_the_numbers_of_its_task(rt: HostRuntime) {
+    assert!(rt; shows(rt.alloc(), POLLED, CELLS, "<script>alert"));
+}
+
+#[test]
+fn a_stream_without_lines_has_a_page_without_items(rt: HostRuntime) {
+    let none =
+        "<b>0</b> tasks · <b>0</b> resources · <b>0</b> operations · <b>0</b> lines over <b>0 ns</b></p>";
+    assert!(rt; shows(rt.alloc(), b"", none, "<tr id="));
+    assert!(rt; shows(rt.alloc(), b"", "Nothing: no task", "class=\"count\""));
+}
+
+// Takes so many bytes, and then gives an error.
+#[derive(Drop)]
+struct Narrow {
+    got: Vec<u8>,
+    room: usize,
+}
+
+impl Write for Narrow {
+    fn write(&mut self, buf: &[u8]) -> io::Result<usize> {
+        if self.room == 0 {
+            return Err(io::ErrorKind::BrokenPipe.into());
+        }
+        let n = buf.len().min(self.room);
+        self.got.extend_from_slice(&buf[..n])?;
+        self.room -= n;
+        Ok(n)
+    }
+
+    fn flush(&mut self) -> io::Result<()> {
+        Ok(())
+    }
+}
+
+// Whether a writer that takes so many bytes has got just the front of the page.
+fn keeps_the_front(alloc: Global, page: &[u8], room: usize) -> bool {
+    let mut reader = POLLED;
+    let mut writer = Narrow {
+        got: Vec::new(alloc),
+        room,
+    };
+    let front = &page[..room.min(page.len())];
+    view_page(alloc, &mut reader, &mut writer, &Lints::default()).is_err()
+        && writer.got.as_slice() == front
+}
+
+#[test]
+fn a_writer_that_fails_keeps_the_front_that_it_took(rt: HostRuntime) {
+    let Some((page, warnings)) = page_of(rt.alloc(), POLLED) else {
+        assert!(rt; false);
+        return;
+    };
+    assert!(rt; warnings == 0);
+    for room in [0usize, 1, 1000] {
+        assert!(rt;
+            keeps_the_front(rt.alloc(), page.as_slice(), room),
+            "{room}"
+        );
+    }
+}
+
+// What is kept of the numbers from 0 on.
+fn course_of(alloc: Global, count: u64) -> Result<Course<u64>, AllocError> {
+    let mut course = Course::new(alloc);
+    for k in 0..count {
+        course.push(k)?;
+    }
+    Ok(course)
+}
+
+// Whether each k-th of so many numbers is kept, and so many in all.
+fn keeps(alloc: Global, count: u64, every: u64, many: usize) -> bool {
+    let Ok(course) = course_of(alloc, count) else {
+        return false;
+    };
+    let kept = course.kept();
+    let mut next = 0u64;
+    for number in kept {
+        if *number != next {
+            return false;
+        }
+        next = next.saturating_add(every);
+    }
+    kept.len() == many
+}
+
+#[test]
+fn a_course_keeps_each_kth_number(rt: HostRuntime) {
+    assert!(rt; keeps(rt.alloc(), 0, 1, 0));
+    assert!(rt; keeps(rt.alloc(), 64, 1, 64));
+    assert!(rt; keeps(rt.alloc(), 65, 2, 33));
+    assert!(rt; keeps(rt.alloc(), 1000, 16, 63));
+}
