@@ -30,6 +30,7 @@ pub enum Ran<T: Drop> {
 /// own.
 ///
 /// It keeps the handle that the cells of its tasks ask for, since a future is passed none.
+/// Tasks that are not finished when it stalls, or when it is dropped, make no entry, and count as open for good.
 #[derive(Drop)]
 pub struct Driver<'a, R: Wait, W: Work, C: Clock + Drop> {
     rt: &'a R,

@@ -90,12 +90,26 @@ fn is_refused<R: Wait>(rt: &R, alloc: Global, executor: &mut Executor<YieldTimes
     }
 }
 
+// The error alone, where the task isn't wanted back.
+fn takes_in<R: Wait>(
+    rt: &R,
+    alloc: Global,
+    executor: &mut Executor<YieldTimes>,
+) -> Result<bool, ExecError> {
+    let Some(task) = task(rt, alloc, 1, YieldTimes::new(0)) else {
+        return Ok(false);
+    };
+    executor.spawn(task)?;
+    Ok(true)
+}
+
 #[test]
 fn an_id_is_taken_in_once(rt: HostRuntime) {
     match Executor::new(rt.alloc()) {
         Ok(mut executor) => {
             assert!(rt; spawns(&rt, rt.alloc(), &mut executor, 1, YieldTimes::new(0)));
             assert!(rt; is_refused(&rt, rt.alloc(), &mut executor));
+            assert!(rt; takes_in(&rt, rt.alloc(), &mut executor) == Err(ExecError::Repeated));
             assert!(rt; ExecError::Memory.code() == 1);
         }
         Err(_) => assert!(rt; false, "no executor"),
