@@ -106,6 +106,9 @@ A task has these warnings:
   self-wakes     too many wakes are its own: let what it waits for wake it
   never-yielded  its first poll runs too long: move work that blocks to a blocking task
 
+A waker, a task or a poll that a program lets go without its last call makes no entry, and counts as live: such a
+waker hides a lost-waker, and such a task never closes.
+
 A last line of the stream without its line end is ignored. After a fault nothing is written. The status is 3
 where there are warnings.";
 
@@ -129,7 +132,7 @@ const DEMO_LONG_ABOUT: &str = "Runs three small tasks and writes their report to
 `yield` wakes itself three times and is ready, `lose` drops the only waker that it had, and `hold` keeps its
 own, which nobody calls. They run on an executor over live ledgers, by a clock that tells 1000, 2000 and so on,
 until none is scheduled. An aggregator then reads them, and the report shows what it found.
-README.md has the code. Nothing is read from standard input.";
+crates/tk_app/src/demonstration.rt has the code. Nothing is read from standard input.";
 
 const PERCENT: &str = "self-wake-percent";
 
