@@ -1,4 +1,4 @@
-"""What `rt ci` left in out/, for scripts that go on from there: tests/wrong_bodies.py, and tests/archive.py.
+"""What `rt ci` left in out/, for scripts that go on from there: tests/wrong_bodies.py, tests/archive.py and tests/check.py.
 
 The libraries that it left fit one another alone, and `rt check` and `rt lib` would prove their own first.
 """
@@ -33,16 +33,22 @@ class Crate:
         return [self.prover, "build", *self.words, "--toolchain", self.toolchain, "--backend", "llvm", "-o", to]
 
 
+def rt_command():
+    """The file of `rt` as a module."""
+    loader = importlib.machinery.SourceFileLoader("rt_command", os.path.realpath(shutil.which("rt")))
+    rt = importlib.util.module_from_spec(importlib.util.spec_from_loader("rt_command", loader))
+    loader.exec_module(rt)
+    return rt
+
+
 def crates():
     """The crates by name.
 
-    All that these scripts take of rt's inside they take here: the file of `rt` as a module, its crates_of(), a crate's words(), and
-    where the kit is.
+    All that these scripts take of rt's inside they take in this file: the file of `rt` as a module, its crates_of(), a crate's words(),
+    where the kit is, and the libraries that it has kept.
     """
     try:
-        loader = importlib.machinery.SourceFileLoader("rt_command", os.path.realpath(shutil.which("rt")))
-        rt = importlib.util.module_from_spec(importlib.util.spec_from_loader("rt_command", loader))
-        loader.exec_module(rt)
+        rt = rt_command()
         return {
             crate.name: Crate(
                 [(it.name, it.rlib) for it in crate.below()],
@@ -57,3 +63,21 @@ def crates():
             f"nothing was tried: the inside of this kit's rt is another ({changed}). See in the file of `rt` how checked() calls the"
             " prover for a must-fail edit, and mend crates() in tests/behind_the_gate.py, which alone depends on it."
         )
+
+
+def give_kept(name):
+    """Puts the libraries below a crate into out/ that a run of `rt ci` has kept on this machine, and answers one that none has, if there is one."""
+    rt = rt_command()
+    rt.Crate.allowed = rt.handles_of(ROOT)
+    crates = {crate.name: crate for crate in rt.crates_of(ROOT)}
+    kept = rt.Kept(list(crates.values()))
+    for crate in crates[name].below():
+        key = kept.key(crate)
+        # It drops an entry that it can't give, so the place is made free first.
+        if not os.path.isdir(kept.place(crate, False, key)):
+            return crate.name
+        shutil.rmtree(os.path.join(crate.folder, "out", "rlib"), ignore_errors=True)
+        if not kept.give(crate, False, key):
+            return crate.name
+        kept.is_built(crate)
+    return None
