@@ -5,6 +5,7 @@ The executor is simulated, so that one task waits because another runs. Four tas
 second 12 to 30, `cache-sweep` wakes itself, `mailbox` loses its waker, and the first poll of `report-builder` never ends.
 
 Usage: examples/service.py > examples/service.script. With --check it writes nothing, and its status is 1 where the file differs.
+With --seed N chance falls otherwise, and five lines come a second, which tests use.
 """
 import heapq
 import itertools
@@ -87,7 +88,7 @@ def tasks():
 class Service:
     """A run of the executor, whose events are said in order of time."""
 
-    def __init__(self, seed):
+    def __init__(self, seed, lines_a_second):
         self.chance = random.Random(seed)
         self.said = []
         self.events = []
@@ -105,8 +106,8 @@ class Service:
                 self.at(task.closes * SECOND, self.close, task)
             if task.loses_waker:
                 self.at(task.loses_waker * SECOND, self.lose, task)
-        for second in range(1, END // SECOND + 1):
-            self.at(second * SECOND, self.publish, None)
+        for line in range(1, END // SECOND * lines_a_second + 1):
+            self.at(line * SECOND // lines_a_second, self.publish, None)
 
     def at(self, moment, call, task):
         heapq.heappush(self.events, (int(moment), next(self.numbers), call, task))
@@ -225,7 +226,8 @@ class Service:
 
 
 def main():
-    text = Service(seed=7).run()
+    seed = int(sys.argv[2]) if sys.argv[1:2] == ["--seed"] else None
+    text = (Service(7, 1) if seed is None else Service(seed, 5)).run()
     if "--check" in sys.argv:
         with open(TARGET, encoding="ascii") as file:
             if file.read() != text:

@@ -6,7 +6,8 @@
 #
 # The frame is what frame/make.py writes and the service's script what examples/service.py does. Of the page of each example, which
 # tests/examples.sh compares byte for byte with what the program writes, tests/page/check_page.py reads the text as HTML and compares
-# its numbers with the example's stream; of the service's, tests/page/try_script.py sorts and filters in a browser.
+# its numbers with the example's stream; so it does with pages of services at random, whose closed tasks leave. In a browser
+# tests/page/try_script.py sorts and filters the service's page.
 #
 # The parser is Debian's python3-html5lib. Where it is missing it is installed by apt-get; where it can't be, that is said and the parser
 # skipped, or with CI=true it is a failure. The browser is `chromium`; where it is missing its steps are skipped.
@@ -57,6 +58,17 @@ step "the frame is what its script writes" python3 "$root/crates/tk_page/frame/m
 step "the service's script is what its script writes" python3 "$examples/service.py" --check
 step "the picture has at most 150 kB" is_small "$picture"
 
+# A service in which chance falls as this number says, and whose closed tasks leave: its stream and its page.
+make_service() {
+    program=$root/crates/taskscope/out/taskscope
+    { echo 'retention 3000000000' && python3 "$examples/service.py" --seed "$1"; } > "$work/script" &&
+        "$program" run "$work/script" > "$work/stream" && "$program" page "$work/stream" > "$work/page"
+}
+
+is_page_of_service() {
+    make_service "$1" && /usr/bin/python3 "$root/tests/page/check_page.py" "$work/page" "$work/stream"
+}
+
 # Debian's python has Debian's packages.
 has_parser() {
     /usr/bin/python3 -c 'import html5lib' 2> "$work/said"
@@ -70,6 +82,9 @@ if has_parser || { install_parser && has_parser; }; then
     for script in "$examples"/*.script; do
         step "$(basename "$script" .script), as a parser reads its page" \
             /usr/bin/python3 "$root/tests/page/check_page.py" "$script.html" "$script.stdout"
+    done
+    for seed in 1 2 3 4 5 6 7 8; do
+        step "a service at random, by seed $seed, as a parser reads its page" is_page_of_service "$seed"
     done
 elif [ "$CI" = true ]; then
     failed=$((failed + 1))

@@ -5,7 +5,8 @@ Usage: check_page.py PAGE STREAM [PAGE STREAM ..]
 
 Of each page: the parser reports no error and every element is closed; only known elements are there, one script and one style; no
 attribute runs or loads anything; ids are distinct and each link leads to one; the policy names the sums of just this style and this
-script; each number of each row is that of its task, and there is a card for each warning, or one for more than three of a kind.
+script; the head counts what there is and what has left; each number of each row is that of its task; there is a card for each
+warning, or one for more than three of a kind, and one for the task that holds up the others.
 
 It wants the package python3-html5lib.
 """
@@ -109,6 +110,26 @@ def check_cards(elements, tables):
     assert cards == wanted, (cards, wanted)
 
 
+def check_holder(elements, tables):
+    links = [e.get("href") for card in elements if card.get("class") == "holds" and name_of(card) == "li" for e in card.iter() if e.get("href")]
+    holder = tables.holder()
+    assert links == ([] if holder is None else [f"#t{holder}"]), (links, holder)
+
+
+def count_of(number, one):
+    return f"{number} {one}" if number == 1 else f"{number} {one}s"
+
+
+def check_head(elements, tables):
+    facts = [text_of(e) for e in elements if e.get("class") == "facts"]
+    said = [part.strip() for part in facts[0].split("·")]
+    counted = [count_of(len(tables.tasks), "task"), count_of(len(tables.resources), "resource"), count_of(len(tables.ops), "operation")]
+    assert len(facts) == 1 and said[:3] == counted, said
+    assert said[3].startswith(count_of(tables.lines, "line") + " over "), said
+    gone = [f"{tables.gone} {'task' if tables.gone == 1 else 'tasks'} closed and gone"] if tables.gone else []
+    assert said[4:] == gone, said
+
+
 def check_polls(elements, tables):
     said = [text_of(e) for e in elements if name_of(e) == "p" and text_of(e).startswith("poll operations: ")]
     counts = [tables.counts.get(number, (0, 0)) for number in tables.resources]
@@ -128,6 +149,8 @@ def check(page, stream):
     check_closed(text)
     check_rows(elements, tables)
     check_cards(elements, tables)
+    check_holder(elements, tables)
+    check_head(elements, tables)
     check_polls(elements, tables)
 
 
