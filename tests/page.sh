@@ -17,25 +17,7 @@
 root=$(CDPATH= cd -P -- "$(dirname -- "$0")/.." && pwd) || exit 2
 examples=$root/examples
 picture=$root/docs/page.png
-work=$(mktemp -d) || exit 2
-trap 'rm -rf "$work"' EXIT
-trap 'exit 2' HUP INT TERM
-passed=0
-failed=0
-
-# Runs the command behind the name of a step. What it says is shown where it fails.
-step() {
-    name=$1
-    shift
-    if "$@" > "$work/said" 2>&1; then
-        passed=$((passed + 1))
-        echo "ok: $name"
-    else
-        failed=$((failed + 1))
-        echo "FAILED: $name"
-        tail -n 20 "$work/said"
-    fi
-}
+. "$root/tests/steps.sh"
 
 # A screenshot of a page. The browser's profile is thrown away, since it fills the disk.
 shoot() {
@@ -101,5 +83,4 @@ else
     echo "skipped: the browser, since chromium is missing"
 fi
 
-echo "$passed passed, $failed failed"
-[ "$failed" -eq 0 ]
+finish

@@ -21,34 +21,9 @@
 # Its last line is `N passed, M failed`, and its status 1 where M isn't 0.
 
 root=$(CDPATH= cd -P -- "$(dirname -- "$0")/.." && pwd) || exit 2
-work=$(mktemp -d) || exit 2
-trap 'rm -rf "$work"' EXIT
-trap 'exit 2' HUP INT TERM
+. "$root/tests/steps.sh"
 target=x86_64-unknown-linux-gnu
 kept=$root/rust/taskscope/prebuilt/$target
-passed=0
-failed=0
-
-# Runs the command behind the name of a step. What it says is shown where it fails.
-step() {
-    name=$1
-    shift
-    if "$@" > "$work/said" 2>&1; then
-        passed=$((passed + 1))
-        echo "ok: $name"
-    else
-        failed=$((failed + 1))
-        echo "FAILED: $name"
-        tail -n 60 "$work/said"
-        return 1
-    fi
-}
-
-finish() {
-    echo "$passed passed, $failed failed"
-    [ "$failed" -eq 0 ]
-    exit
-}
 
 build_archive() {
     if [ -n "$TASKSCOPE_ARCHIVE" ]; then
