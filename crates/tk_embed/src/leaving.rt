@@ -26,7 +26,7 @@ fn is_due(closed: Option<u64>, moment: u64, retention: u64) -> bool
     ensures { result ≡ retentions.is_due retention moment closed }
 {
     match closed {
-        Some(at) => at <= moment && moment - at >= retention,
+        Some(at) => moment.saturating_sub(at) >= retention,
         None => false,
     }
 }

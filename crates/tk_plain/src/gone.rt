@@ -39,9 +39,9 @@ impl Numbered for TaskId {
 // Whether what was closed then, if it was, leaves at a moment.
 fn is_due(closed: Option<u64>, retention: u64, now: u64) -> bool {
     match closed {
-        Some(at) => match at.checked_add(retention) {
-            Some(end) => end <= now,
-            None => false,
+        Some(at) => match now.checked_sub(at) {
+            Some(ago) => ago >= retention,
+            None => retention == 0,
         },
         None => false,
     }

@@ -1,5 +1,5 @@
 -- Which items leave at a moment, and the line that says so.
-use Rattle.std.specs.Prelude.{ℕ, ◌+◌, List, map, filter, Bool, false, not, nat_le, Option, Some}
+use Rattle.std.specs.Prelude.{ℕ, ◌-◌, List, map, filter, Bool, false, not, nat_le, Option, Some}
 use Rattle.std.specs.Option.{option_map_or}
 use Rattle.tk_stream.specs.declared.op.Op.{Op}
 use Rattle.tk_stream.specs.declared.resource.Resource.{Resource}
@@ -20,9 +20,9 @@ resource_closed r = r.row.dropped
 abbrev pub op_closed : Op → Option ℕ
 op_closed o = o.row.dropped
 
--- what was closed, if at all, at this moment is due where that is at least `retention` nanoseconds ago
+-- what was closed, if at all, at this moment is due where that is at least `retention` nanoseconds ago; a close that is still to come is 0 ago
 abbrev pub is_due : ℕ → ℕ → Option ℕ → Bool
-is_due retention now closed = option_map_or (λ at. nat_le (at + retention) now) closed false
+is_due retention now closed = option_map_or (λ at. nat_le retention (now - at)) closed false
 
 -- the ids of the items that are due, in their order
 abbrev pub due_ids : {Item : Type 0} → (Item → ℕ) → (Item → Option ℕ) → ℕ → ℕ → List Item → List ℕ

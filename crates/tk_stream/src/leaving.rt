@@ -61,7 +61,7 @@ fn is_due(closed: Option<u64>, now: u64, retention: u64) -> bool
     ensures { result ≡ retentions.is_due retention now closed }
 {
     match closed {
-        Some(at) => at <= now && now - at >= retention,
+        Some(at) => now.saturating_sub(at) >= retention,
         None => false,
     }
 }
