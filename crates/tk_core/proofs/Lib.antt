@@ -1,1 +1,2 @@
 mod AttrParts
+mod TimesParts

@@ -19,3 +19,5 @@ pub mod ResourceLaws
 pub mod OpSteps
 pub mod OpReadBack
 pub mod OpLaws
+pub mod TimesSteps
+pub mod TimesLaws

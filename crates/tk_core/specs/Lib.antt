@@ -15,6 +15,9 @@ pub mod Resource
 pub mod ResourceMeaning
 pub mod Op
 pub mod OpMeaning
+-- Histograms of times
+pub mod Times
+pub mod TimesMeaning
 -- The numbers of refusals
 pub mod Codes
 -- Inner: the layout of rows in words, and laws with their proofs. No public clause above this crate cites these
@@ -24,4 +27,5 @@ pub mod AttrValues
 pub mod AttrWords
 pub mod ResourceWords
 pub mod OpWords
+pub mod TimesWords
 pub mod Laws

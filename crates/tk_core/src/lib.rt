@@ -6,6 +6,7 @@
 //! - [`TaskRow`], [`TaskCall`]: a task's statistics, and the calls on it.
 //! - [`ResourceRow`], [`ResourceCall`]: a resource's.
 //! - [`OpRow`], [`OpCall`]: an async operation's.
+//! - [`TimesRow`], [`TimesCall`]: a histogram of times.
 //! - [`AttrValues`], [`AttrList`], [`AttrOp`]: the values of an item's attributes, and their changes.
 //! - [`Reply`], [`Refusal`], [`WakeReply`]: what a call is answered.
 //! - [`Entry`]: an entry of a history: caller, call and reply.
@@ -24,6 +25,7 @@ mod reply;
 mod resource;
 mod sequential;
 mod task;
+mod times;
 
 pub use attr_values::{AttrList, AttrValues};
 pub use attrs::AttrOp;
@@ -34,3 +36,4 @@ pub use reply::{Refusal, Reply, WakeReply};
 pub use resource::{ResourceCall, ResourceRow};
 pub use sequential::Sequential;
 pub use task::{TaskCall, TaskRow};
+pub use times::{TimesCall, TimesRow};
