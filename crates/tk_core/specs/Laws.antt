@@ -9,6 +9,7 @@ pub mod TaskSteps
 pub mod WordsReadBack
 pub mod TaskReadBack
 pub mod TaskLaws
+pub mod Interleaved
 pub mod AttributeSteps
 pub mod Refusals
 pub mod Signed
