@@ -23,6 +23,15 @@ const NONE_1: &str =
 const NONE_2: &str =
     r#"{"dropped":[0,0,0],"gone_ops":[],"gone_resources":[],"gone_tasks":[1099511627777],"new_ops":[],"new_resources":[],"new_tasks":[],"now":5,"op_stats":[],"poll_counts":[],"resource_stats":[],"seq":2,"snapshot":false,"task_stats":[],"v":2}"#;
 
+// A close that is still to come is 0 ago, which is enough where items stay for no time.
+const AHEAD: &[u8] = b"retention 0\ntask 1 spawn a\nclose 1 10\npublish 5\npublish 6\n";
+
+const AHEAD_1: &str =
+    r#"{"dropped":[0,0,0],"gone_ops":[],"gone_resources":[],"gone_tasks":[],"new_ops":[],"new_resources":[],"new_tasks":[{"id":1099511627777,"kind":"spawn","loc":["script",2,1],"name":"a"}],"now":5,"op_stats":[],"poll_counts":[],"resource_stats":[],"seq":1,"snapshot":false,"task_stats":[{"busy":0,"clones":0,"created":1,"dropped":10,"drops":0,"first_poll":null,"handles":1,"id":1099511627777,"last_ended":null,"last_started":null,"last_wake":null,"polling":false,"polls":0,"sched":0,"scheduled":false,"self_wakes":0,"wakes":0}],"v":2}"#;
+
+const AHEAD_2: &str =
+    r#"{"dropped":[0,0,0],"gone_ops":[],"gone_resources":[],"gone_tasks":[1099511627777],"new_ops":[],"new_resources":[],"new_tasks":[],"now":6,"op_stats":[],"poll_counts":[],"resource_stats":[],"seq":2,"snapshot":false,"task_stats":[],"v":2}"#;
+
 // One of each kind leaves, and its poll counts stay. A snapshot removes nothing.
 const EACH: &[u8] =
     b"retention 3\nresource 1 k t\nop 1 1 s\ntask 1 spawn a\npollop 1 1 1 p ready\nopclose 1 2\nrclose 1 2\nclose 1 2\npublish 4\nsnapshot 9\npublish 9\nsnapshot 9\n";
@@ -57,9 +66,10 @@ const BAD: [&[u8]; 6] = [
 ];
 
 #[rattlefmt::skip]
-const WRITTEN: [(&str, &[u8], &[&str]); 3] = [
+const WRITTEN: [(&str, &[u8], &[&str]); 4] = [
     ("ten nanoseconds", TEN,  &[TEN_1, TEN_2, TEN_3]),
     ("none",            NONE, &[NONE_1, NONE_2]),
+    ("a close to come", AHEAD, &[AHEAD_1, AHEAD_2]),
     ("one of each",     EACH, &[EACH_1, EACH_2, EACH_3, EACH_4]),
 ];
 
