@@ -22,3 +22,4 @@ pub mod OpReadBack
 pub mod OpLaws
 pub mod TimesSteps
 pub mod TimesLaws
+pub mod PercentileLaws

@@ -18,6 +18,7 @@ pub mod OpMeaning
 -- Histograms of times
 pub mod Times
 pub mod TimesMeaning
+pub mod Percentiles
 -- The numbers of refusals
 pub mod Codes
 -- Inner: the layout of rows in words, and laws with their proofs. No public clause above this crate cites these

@@ -4,6 +4,7 @@
 //! in the bucket of the greatest bound that it has reached. Of times above the last bound the longest tells.
 
 mod call;
+mod percentile;
 mod row;
 mod sequential;
 mod step;
