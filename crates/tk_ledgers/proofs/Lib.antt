@@ -13,3 +13,4 @@ pub mod ResourceSumLemmas
 pub mod OpLemmas
 pub mod OpPollLemmas
 pub mod OpSumLemmas
+pub mod TimesLemmas

@@ -6,3 +6,4 @@ pub mod Tasks
 pub mod Resources
 pub mod Ops
 pub mod Scopes
+pub mod Times

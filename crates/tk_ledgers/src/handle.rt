@@ -165,6 +165,21 @@ impl<O: Sequential<Reply = Reply<O>>, K: Role<O::Call>> Handle<O, K> {
         (found, token)
     }
 
+    /// Makes a call that is done, and isn't the caller's last.
+    #[inline(always)]
+    pub fn done<R: Wait>(&mut self, rt: &R, call: O::Call)
+        requires may { role_may O.meaning K.role call ≡ true }
+        requires goes_on { O.meaning.is_last call ≡ false }
+        requires form { Gives O.meaning IsDone call }
+        ensures own { self.new.ledger ≡ self.old.ledger }
+        ensures entry { Calls O.meaning self.old.view call Done self.new.view }
+        ensures role { HasRole O.meaning K.role self.old.view }
+    {
+        let Reply::Done = self.call(rt, call) else {
+            unreachable!()
+        };
+    }
+
     /// Makes a call that is done, and no more after it.
     #[inline(always)]
     pub fn last_done<R: Wait>(self, rt: &R, call: O::Call) -> Token<O>

@@ -8,6 +8,7 @@
 //! - [`Origin`]: whence a wake comes: from within a poll, or from outside.
 //! - [`ResourceOwner`], [`ResourceUser`], [`ResourceInspector`], [`ResourceReceipt`]: the same of a resource.
 //! - [`OpOwner`], [`OpInspector`], [`OpReceipt`]: the same of an async operation.
+//! - [`TimesOwner`], [`TimesInspector`], [`TimesReceipt`]: the same of a histogram of times.
 //!
 //! A handle holds a share of its ledger and a token of it. What contracts see of it is its `Sight`
 //! (`specs/Handles.antt`): the id of its item, its ledger, and what is known by its token. A call is one entry of
@@ -21,7 +22,9 @@ mod op;
 mod resource;
 mod role;
 mod task;
+mod times;
 
 pub use op::{OpInspector, OpOwner, OpReceipt};
 pub use resource::{ResourceInspector, ResourceOwner, ResourceReceipt, ResourceUser};
 pub use task::{Origin, PollScope, TaskInspector, TaskOwner, TaskReceipt, WakerHandle};
+pub use times::{TimesInspector, TimesOwner, TimesReceipt};

@@ -1,6 +1,6 @@
 //! As whom a handle makes calls. No value of these types is made.
 
-use tk_core::{OpCall, ResourceCall, TaskCall};
+use tk_core::{OpCall, ResourceCall, TaskCall, TimesCall};
 
 /// A role: the owner's, or that of a caller whose number was answered to a given call.
 pub trait Role<C> {
@@ -48,6 +48,13 @@ impl Role<ResourceCall> for Enlisted {
 impl Role<OpCall> for Enlisted {
     ghost use Rattle.tk_ledgers.specs.Handles.{made_by};
     ghost use Rattle.tk_core.specs.declared.op.call.OpCall.TheVariants.{Enlist};
+
+    ghost role = { made_by Enlist };
+}
+
+impl Role<TimesCall> for Enlisted {
+    ghost use Rattle.tk_ledgers.specs.Handles.{made_by};
+    ghost use Rattle.tk_core.specs.declared.times.call.TimesCall.TheVariants.{Enlist};
 
     ghost role = { made_by Enlist };
 }
