@@ -61,6 +61,15 @@ impl RecordError {
     }
 }
 
+/// The error alone, of what was to be recorded and was handed back: it is dropped. So `?` takes it where this is the error.
+impl<T: Drop> From<(RecordError, T)> for RecordError {
+    ghost from_gives = { λ back e. e ≡ back.0 };
+
+    fn from(back: (RecordError, T)) -> RecordError {
+        back.0
+    }
+}
+
 /// Why the taker is not finished by a call. `Finished` is tried first.
 #[derive(Clone, Copy, Debug, PartialEq, Eq, Error)]
 pub enum FinishError {
@@ -81,5 +90,14 @@ impl FinishError {
             FinishError::Missing => 1,
             FinishError::Finished => 2,
         }
+    }
+}
+
+/// The error alone, of the recorders that were handed back: they are dropped, and no later call finishes the taker.
+impl<T: Drop> From<(FinishError, T)> for FinishError {
+    ghost from_gives = { λ back e. e ≡ back.0 };
+
+    fn from(back: (FinishError, T)) -> FinishError {
+        back.0
     }
 }

@@ -14,6 +14,9 @@
 //! (`specs/Handles.antt`): the id of its item, its ledger, and what is known by its token. A call is one entry of
 //! the ledger's history (`Calls` of `tk_cell`). A call that makes a handle takes a share of the ledger first; where
 //! that is refused, it answers `Memory` and does nothing.
+//!
+//! A handle that is dropped makes no entry, since a `drop` is handed no runtime: an item stays live, and a waker counted, until
+//! its last call. Close owners, wake by wakers or release them, and finish scopes.
 #![tactic(auto)]
 
 mod handle;

@@ -126,7 +126,7 @@ pub(super) fn op(alloc: Global) -> Option<OpSpec> {
 }
 
 // The first task of a recorder polls the operation of recorder 1 whose number is one above this.
-fn poll(alloc: Global, recorder: u64, above: u64) -> Option<PollOp> {
+pub(super) fn poll(alloc: Global, recorder: u64, above: u64) -> Option<PollOp> {
     let resource = ResourceId::from_value(FIRST).ok()?;
     let task = TaskId::from_value(recorder.saturating_mul(APART).saturating_add(1)).ok()?;
     let op = AsyncOpId::from_value(FIRST.saturating_add(above)).ok()?;

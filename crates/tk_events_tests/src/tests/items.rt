@@ -2,7 +2,7 @@
 ghost use Rattle.std.specs.Prelude.{◌≡◌};
 
 use super::given::{
-    FIRST, alone, limits, offer_poll, on_first, op, refusal, resource, take, takes_any, task,
+    FIRST, alone, limits, offer_poll, on_first, op, poll, refusal, resource, take, takes_any, task,
 };
 use std::alloc::Global;
 use std::sync::Wait;
@@ -86,6 +86,19 @@ fn refused_task<R: Wait>(
     Some(why)
 }
 
+// Offers a poll where what comes back with an error is of no use.
+fn offers_poll<R: Wait>(
+    rt: &R,
+    alloc: Global,
+    recorder: &mut Recorder,
+) -> Result<Recorded, RecordError> {
+    let Some(op) = poll(alloc, recorder.number(), 0) else {
+        return Err(RecordError::Memory);
+    };
+    let recorded = recorder.poll_op(rt, op)?;
+    Ok(recorded)
+}
+
 /// What the next event is to be.
 #[derive(Clone, Copy)]
 enum Wanted<'a> {
@@ -117,6 +130,7 @@ fn offers_two_and_no_third<R: Wait>(rt: &R, alloc: Global, recorder: &mut Record
     offer_task(rt, alloc, recorder, b"a", FIRST) == Some(Recorded::Kept)
         && offer_poll(rt, alloc, recorder, 0) == Some(Recorded::Kept)
         && refused_task(rt, alloc, recorder, b"b") == Some(RecordError::OffersSpent)
+        && offers_poll(rt, alloc, recorder) == Err(RecordError::OffersSpent)
 }
 
 fn takes_two<R: Wait>(rt: &R, taker: &mut Taker) -> bool {

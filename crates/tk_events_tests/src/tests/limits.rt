@@ -75,10 +75,19 @@ fn are_numbered() -> bool {
         && FinishError::Finished.code() == 2
 }
 
+// Whether an error that came back with something is the error alone.
+fn are_alone() -> bool {
+    RecordError::from((RecordError::OffersSpent, 7)) == RecordError::OffersSpent
+        && RecordError::from((RecordError::Memory, 7)) == RecordError::Memory
+        && FinishError::from((FinishError::Missing, 7)) == FinishError::Missing
+        && FinishError::from((FinishError::Finished, 7)) == FinishError::Finished
+}
+
 #[test]
 fn numbers_and_names_errors(rt: HostRuntime) {
     let alloc = rt.alloc();
     assert!(rt; are_numbered());
+    assert!(rt; are_alone());
     let opening = [
         (OpenError::BadLimit, "a limit is out of range"),
         (OpenError::Memory, "out of memory"),

@@ -25,6 +25,9 @@ use tk_ids::{AsyncOpId, AttrValue, TaskId};
 /// The owner of an operation: who polls it and closes it. Its caller is number 0 of the ledger.
 ///
 /// It keeps whether a poll is open, so that [`OpOwner::is_polling`] makes no call.
+///
+/// One that is dropped makes no entry: its operation stays live for good, and in the poll that is open, if one is. Its last
+/// call is [`OpOwner::close`], after the end of the poll.
 #[derive(Drop)]
 pub struct OpOwner {
     id: AsyncOpId,

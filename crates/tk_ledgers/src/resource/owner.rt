@@ -19,6 +19,8 @@ use tk_core::{Refusal, ResourceCall, ResourceRow};
 use tk_ids::{AttrValue, ResourceId};
 
 /// The owner of a resource: who hands out its users and closes it. Its caller is number 0 of the ledger.
+///
+/// One that is dropped makes no entry: its resource stays live for good. Its last call is [`ResourceOwner::close`].
 #[derive(Drop)]
 pub struct ResourceOwner {
     id: ResourceId,

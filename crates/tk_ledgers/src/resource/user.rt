@@ -17,6 +17,10 @@ use tk_core::{AttrOp, Refusal, ResourceCall, ResourceRow};
 use tk_ids::{AttrValue, ResourceId};
 
 /// Who uses a resource: changes its attributes, and reads it.
+///
+/// One that is dropped makes no entry, and what it has changed stays: a permit that it took is still taken. Give back what it
+/// holds, by [`ResourceUser::add`], [`ResourceUser::sub`] or [`ResourceUser::set`], before it goes. [`ResourceUser::retire`]
+/// keeps its receipt.
 #[derive(Drop)]
 pub struct ResourceUser {
     id: ResourceId,

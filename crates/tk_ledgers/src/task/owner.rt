@@ -24,6 +24,9 @@ use tk_ids::TaskId;
 /// The owner of a task: who polls it and closes it. Its caller is number 0 of the ledger.
 ///
 /// It keeps whether a poll is open, so that [`TaskOwner::is_polling`] makes no call.
+///
+/// One that is dropped makes no entry: its task stays live for good, and in the poll that is open, if one is. Its last call is
+/// [`TaskOwner::close`], after the end of the poll.
 #[derive(Drop)]
 pub struct TaskOwner {
     id: TaskId,
@@ -200,7 +203,7 @@ impl TaskOwner {
         Ok(TaskInspector::new(self.id, handle))
     }
 
-    /// Wakes the task.
+    /// Wakes the task. It is a self-wake exactly where the origin names the task.
     #[tactic(auto, using(crate::proofs::TaskLemmas::reference_wakes))]
     pub fn wake_by_ref<R: Wait>(&mut self, rt: &R, moment: u64, origin: Origin<'_>) -> WakeReply
         ensures id { self.new.id ≡ self.old.id }
@@ -210,5 +213,15 @@ impl TaskOwner {
     {
         let from_self = origin.names(self.id);
         self.handle.wake(rt, TaskCall::WakeRef(moment, from_self))
+    }
+
+    /// Wakes the task, as [`TaskOwner::wake_by_ref`] does with the origin [`Origin::outside`]: never a self-wake.
+    pub fn wake_by_ref_from_outside<R: Wait>(&mut self, rt: &R, moment: u64) -> WakeReply
+        ensures id { self.new.id ≡ self.old.id }
+        ensures ledger { self.new.token.ledger ≡ self.old.token.ledger }
+        ensures caller { self.old.token.view.caller ≡ 0 }
+        ensures entry { Calls task_meaning self.old.token.view (WakeRef moment false) (Woken result) self.new.token.view }
+    {
+        self.wake_by_ref(rt, moment, Origin::outside())
     }
 }

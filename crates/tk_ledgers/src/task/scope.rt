@@ -15,6 +15,9 @@ use tk_core::{Refusal, WakeReply};
 
 /// The time of one poll of a task: from [`TaskOwner::scope`], while a poll is open, to [`PollScope::finish`]. It holds
 /// the owner, so that the poll can't end before, and what is called on it are entries of the owner.
+///
+/// One that is dropped takes its owner with it and makes no entry: the task stays live for good, in a poll without an end.
+/// [`PollScope::finish`] gives the owner back.
 #[derive(Drop)]
 pub struct PollScope {
     owner: TaskOwner,

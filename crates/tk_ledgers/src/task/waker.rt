@@ -1,5 +1,5 @@
 //! Those who wake a task.
-ghost use Rattle.std.specs.Prelude.{◌≡◌, IfOk, IfErr};
+ghost use Rattle.std.specs.Prelude.{◌≡◌, false, IfOk, IfErr};
 ghost use Rattle.tk_core.specs.declared.task.call.TaskCall.TheVariants.{CloneWaker, WakeVal, WakeRef, Release};
 ghost use Rattle.tk_core.specs.declared.reply.Reply.TheVariants.{Done, Woken};
 ghost use Rattle.tk_core.specs.TaskMeaning.{task_meaning};
@@ -16,6 +16,10 @@ use tk_core::{Refusal, TaskCall, TaskRow, WakeReply};
 use tk_ids::TaskId;
 
 /// Who wakes a task: by reference any number of times, and then once by value, or it is released.
+///
+/// One that is dropped without such a last call makes no entry: it counts as live for good, and a task that nobody can wake
+/// any more doesn't show as one. Its last call is [`WakerHandle::wake`], [`WakerHandle::wake_from_outside`] or
+/// [`WakerHandle::release`].
 #[derive(Drop)]
 pub struct WakerHandle {
     id: TaskId,
@@ -66,7 +70,7 @@ impl WakerHandle {
         Ok(WakerHandle::new(self.id, handle))
     }
 
-    /// Wakes the task, and uses the waker up: one wake and one drop.
+    /// Wakes the task, and uses the waker up: one wake and one drop. It is a self-wake exactly where the origin names the task.
     #[tactic(auto, using(crate::proofs::TaskLemmas::value_wakes))]
     pub fn wake<R: Wait>(self, rt: &R, moment: u64, origin: Origin<'_>) -> (WakeReply, TaskReceipt)
         ensures id { result.1.id ≡ self.id }
@@ -80,7 +84,16 @@ impl WakerHandle {
         (found, TaskReceipt::new(id, token))
     }
 
-    /// Wakes the task.
+    /// Wakes the task, and uses the waker up, as [`WakerHandle::wake`] does with the origin [`Origin::outside`]: never a self-wake.
+    pub fn wake_from_outside<R: Wait>(self, rt: &R, moment: u64) -> (WakeReply, TaskReceipt)
+        ensures id { result.1.id ≡ self.id }
+        ensures ledger { result.1.token.ledger ≡ self.token.ledger }
+        ensures entry { Calls task_meaning self.token.view (WakeVal moment false) (Woken result.0) result.1.token.view }
+    {
+        self.wake(rt, moment, Origin::outside())
+    }
+
+    /// Wakes the task. It is a self-wake exactly where the origin names the task.
     #[tactic(auto, using(crate::proofs::TaskLemmas::reference_wakes))]
     pub fn wake_by_ref<R: Wait>(&mut self, rt: &R, moment: u64, origin: Origin<'_>) -> WakeReply
         ensures id { self.new.id ≡ self.old.id }
@@ -89,6 +102,15 @@ impl WakerHandle {
     {
         let from_self = origin.names(self.id);
         self.handle.wake(rt, TaskCall::WakeRef(moment, from_self))
+    }
+
+    /// Wakes the task, as [`WakerHandle::wake_by_ref`] does with the origin [`Origin::outside`]: never a self-wake.
+    pub fn wake_by_ref_from_outside<R: Wait>(&mut self, rt: &R, moment: u64) -> WakeReply
+        ensures id { self.new.id ≡ self.old.id }
+        ensures ledger { self.new.token.ledger ≡ self.old.token.ledger }
+        ensures entry { Calls task_meaning self.old.token.view (WakeRef moment false) (Woken result) self.new.token.view }
+    {
+        self.wake_by_ref(rt, moment, Origin::outside())
     }
 
     /// Drops the waker without a wake.

@@ -123,3 +123,32 @@ fn releases(rt: HostRuntime) {
         None => assert!(rt; false, "no polled task"),
     }
 }
+
+fn wakes_from_outside<R: Wait>(rt: &R, mut waker: WakerHandle) -> bool {
+    let found = waker.wake_by_ref_from_outside(rt, 300);
+    let (again, _receipt) = waker.wake_from_outside(rt, 310);
+    found == WakeReply::Scheduled && again == WakeReply::Already
+}
+
+fn counts_no_self_wake<R: Wait>(rt: &R, owner: &mut TaskOwner) -> bool {
+    let row = owner.read(rt);
+    row.wakes == 3 && row.self_wakes == 0 && row.drops == 1 && row.last_wake == Some(320)
+}
+
+fn is_woken_from_outside<R: Wait>(rt: &R, owner: &mut TaskOwner) -> bool {
+    let woken = match owner.clone_waker(rt) {
+        Ok(waker) => wakes_from_outside(rt, waker),
+        Err(_) => false,
+    };
+    woken
+        && owner.wake_by_ref_from_outside(rt, 320) == WakeReply::Already
+        && counts_no_self_wake(rt, owner)
+}
+
+#[test]
+fn wakes_from_outside_are_no_self_wakes(rt: HostRuntime) {
+    match polled_once(&rt, rt.alloc()) {
+        Some(mut owner) => assert!(rt; is_woken_from_outside(&rt, &mut owner)),
+        None => assert!(rt; false, "no polled task"),
+    }
+}
