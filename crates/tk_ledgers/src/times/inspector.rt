@@ -1,17 +1,17 @@
 //! Those who read a histogram of times.
-ghost use Rattle.std.specs.Prelude.{◌≡◌, IfOk, IfErr};
-ghost use Rattle.tk_core.specs.declared.times.call.TimesCall.TheVariants.{Enlist, Read};
+ghost use Rattle.std.specs.Prelude.{◌≡◌};
+ghost use Rattle.tk_core.specs.declared.times.call.TimesCall.TheVariants.{Read};
 ghost use Rattle.tk_core.specs.declared.reply.Reply.TheVariants.{Shown};
 ghost use Rattle.tk_core.specs.TimesMeaning.{times_meaning};
 ghost use Rattle.tk_cell.specs.Calls.{Calls, Joins};
-ghost use Rattle.tk_ledgers.specs.Handles.{sight, Drew, NotDrawn};
+ghost use Rattle.tk_ledgers.specs.Handles.{sight};
 
 use crate::handle::Handle;
 use crate::role::Enlisted;
 use crate::times::TimesReceipt;
 use std::marker::Model;
 use std::sync::Wait;
-use tk_core::{Refusal, TimesCall, TimesRow};
+use tk_core::{TimesCall, TimesRow};
 use tk_ids::TaskId;
 
 /// Who reads a histogram of times.
