@@ -9,4 +9,5 @@ mod rising;
 mod scopes;
 mod signed;
 mod threads;
+mod times;
 mod wakes;

@@ -9,5 +9,6 @@ mod plain_resources;
 mod plain_tasks;
 mod polls;
 mod random;
+mod times;
 mod wakes;
 mod words;
