@@ -23,7 +23,7 @@ use Rattle.tk_cell.proofs.HistoryLemmas.{own_mine, own_other, maker_last, may_mo
 use Rattle.tk_cell.proofs.PartLemmas.{made_more, made_prefix, part_more, unmade_unheld, live_runs, held_once, held_here}
 
 -- a number stands in the list of the number that is drawn where it is that one
-list_times : (n : ℕ) (o : Option ℕ) → ((o ≡ Some n) × (times n (list_of o) ≡ 1)) ⊎ (times n (list_of o) ≡ 0)
+pub list_times : (n : ℕ) (o : Option ℕ) → ((o ≡ Some n) × (times n (list_of o) ≡ 1)) ⊎ (times n (list_of o) ≡ 0)
 list_times n None = inr refl
 list_times n (Some k) = ⊎_elim (λ (e : k ≡ n). inl (ap Some e, subst (λ (j : ℕ). times n (j ∷ []) ≡ 1) (sym e) (times_itself n))) (λ (ne : k ≢ n). inr (times_other k n ne)) (dec_eq k n)
 

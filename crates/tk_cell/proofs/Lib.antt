@@ -6,3 +6,6 @@ pub mod CallLemmas
 pub mod SplitLemmas
 pub mod JoinLemmas
 pub mod RoleLemmas
+pub mod HearLemmas
+pub mod OursLemmas
+pub mod BesideLemmas

@@ -8,9 +8,9 @@ use Rattle.tk_core.specs.Meaning.{Meaning}
 use Rattle.tk_core.specs.Legal.{maker}
 use Rattle.tk_cell.specs.declared.view.View.{View}
 use Rattle.tk_cell.specs.declared.part.Part.{Part}
-use Rattle.tk_cell.specs.declared.part.Part.TheVariants.{Unopened, One, Two, Spent}
+use Rattle.tk_cell.specs.declared.part.Part.TheVariants.{Unopened, One, Two, Told, Hearing, Spent}
 use Rattle.tk_cell.specs.Views.{times, Holds}
-use Rattle.tk_cell.specs.Parts.{zeros, holds, IsMade, Fits, IsPart, Runs, Kept}
+use Rattle.tk_cell.specs.Parts.{zeros, holds, IsMade, Fits, Knows, IsPart, Runs, Kept}
 use Rattle.tk_cell.proofs.ListLemmas.{prefix_more, total_one, total_two}
 use Rattle.tk_cell.proofs.HistoryLemmas.{own_other, maker_more}
 
@@ -32,11 +32,16 @@ module _ {O C R : Type 0} (m : Meaning O C R) where
       itself = f.itself;
     }
 
+    knows_more : (v : View O C R) (e : Entry C R) → Knows m opening h v → Knows m opening (h ++ e ∷ []) v
+    knows_more v e k = record { opened = k.opened; begins = prefix_more v.seen h (e ∷ []) k.begins }
+
     -- and so does a part
     pub part_more : (p : Part O C R) (e : Entry C R) → ((n : ℕ) → 0 < holds n p → e.caller ≢ n) → IsPart m opening h p → IsPart m opening (h ++ e ∷ []) p
     part_more Unopened e apart part = part
     part_more (One v) e apart part = fits_more v e apart part
     part_more (Two v w) e apart part = (fits_more v e (λ n some_held. apart n (omega (arith, some_held))) part.0, fits_more w e (λ n some_held. apart n (omega (arith, some_held))) part.1)
+    part_more (Told v) e apart part = knows_more v e part
+    part_more (Hearing v w) e apart part = (fits_more v e apart part.0, knows_more w e part.1)
     part_more Spent e apart part = part
 
     -- a part holds no number that is not made
@@ -53,6 +58,12 @@ module _ {O C R : Type 0} (m : Meaning O C R) where
         go zero zero is it = refl
         go (suc a) b is it = absurd (unmade (made_prefix n v.seen h part.0.begins (part.0.made n (omega (arith, is)))))
         go zero (suc b) is it = absurd (unmade (made_prefix n w.seen h part.1.begins (part.1.made n (omega (arith, it)))))
+    unmade_unheld (Told v) n unmade part = refl
+    unmade_unheld (Hearing v w) n unmade part = go (times n v.held) refl
+      where
+        go : (a : ℕ) → times n v.held ≡ a → a ≡ 0
+        go zero is = refl
+        go (suc a) is = absurd (unmade (made_prefix n v.seen h part.0.begins (part.0.made n (omega (arith, is)))))
     unmade_unheld Spent n unmade part = refl
 
   -- a part that is not `Unopened` stands where the cell is open

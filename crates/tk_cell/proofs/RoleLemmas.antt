@@ -1,5 +1,5 @@
 -- What follows from a call or a join, for whoever holds the token: what it may call next, and what it may split off.
-use Rattle.std.proofs.Common.{◌≡◌, ◌≢◌, ℕ, ◌+◌, ◌||◌, Bool, true, false, List, [], ◌∷◌, ◌++◌, Option, Some, refl, ap, sym, ◌∙◌, subst, arith, append_assoc, ⊎_elim}
+use Rattle.std.proofs.Common.{◌≡◌, ◌≢◌, ℕ, ◌+◌, ◌⊎◌, ◌||◌, Bool, true, false, List, [], ◌∷◌, ◌++◌, Option, Some, refl, ap, sym, ◌∙◌, subst, arith, append_assoc, ⊎_elim}
 use Rattle.std.specs.List.{list_any}
 use Rattle.std.specs.Option.{option_map_or}
 use Rattle.std.proofs.lemmas.List.Folds.{list_any-append}
@@ -12,10 +12,10 @@ use Rattle.tk_core.specs.Legal.{own, maker, may_call, has_ended, IsLegal}
 use Rattle.tk_cell.specs.declared.view.View.{View}
 use Rattle.atomic_table.specs.Seated.{TableId}
 use Rattle.tk_cell.specs.Views.{times, list_of, Holds, opened, after_split, split_off, Known, known}
-use Rattle.tk_cell.specs.Calls.{entry, Calls, Joins}
+use Rattle.tk_cell.specs.Calls.{entry, Calls, Joins, Meets}
 use Rattle.tk_cell.specs.Roles.{IsOwner, IsMadeBy}
 use Rattle.tk_cell.proofs.ListLemmas.{not_nil, times-append, times_itself, prefix_self}
-use Rattle.tk_cell.proofs.HistoryLemmas.{maker_more, maker_last, ended_same, new_number, prefix_is_legal}
+use Rattle.tk_cell.proofs.HistoryLemmas.{may_more, maker_more, maker_last, ended_same, new_number, prefix_is_legal}
 
 module _ {O C R : Type 0} (m : Meaning O C R) where
   maker_in : (n : ℕ) (seen h : List (Entry C R)) (made : C) → IsPrefix seen h → maker m n seen ≡ Some made → maker m n h ≡ Some made
@@ -114,3 +114,54 @@ module _ {O C R : Type 0} (m : Meaning O C R) where
       by = subst (λ (n : ℕ). maker m n w.seen ≡ Some made) (sym k.same_caller) (maker_in v.caller v.seen w.seen made join_begins o.by);
       going = join_going o.going;
     }
+
+  -- a view of the same caller that has seen more, of that caller no entry more
+  module _ (v w : View O C R) (same : w.caller ≡ v.caller) (begins : IsPrefix v.seen w.seen) (mine : own v.caller w.seen ≡ own v.caller v.seen) where
+    pub later_going : has_ended m v.seen v.caller ≡ false → has_ended m w.seen w.caller ≡ false
+    later_going going = subst (λ (n : ℕ). has_ended m w.seen n ≡ false) (sym same) (ended_same m v.caller w.seen v.seen mine ∙ going)
+
+    pub later_may : (call : C) → may_call m v.seen v.caller call ≡ true → may_call m w.seen w.caller call ≡ true
+    later_may call may = subst (λ (n : ℕ). may_call m w.seen n call ≡ true) (sym same)
+        (subst (λ (l : List (Entry C R)). may_call m l v.caller call ≡ true) begins.1 (may_more m v.caller v.seen begins.0 call may))
+
+    pub later_owner : IsOwner m v → IsOwner m w
+    later_owner o = record { caller = same ∙ o.caller; going = later_going o.going }
+
+    pub later_made : (made : C) → IsMadeBy m made v → IsMadeBy m made w
+    later_made made o = record {
+      other = subst (λ (n : ℕ). n ≢ 0) (sym same) o.other;
+      by = subst (λ (n : ℕ). maker m n w.seen ≡ Some made) (sym same) (maker_in v.caller v.seen w.seen made begins o.by);
+      going = later_going o.going;
+    }
+
+  -- the longer of two histories begins with each
+  pub longer_first : (a b l : List (Entry C R)) → (IsPrefix a b × (l ≡ b)) ⊎ (IsPrefix b a × (l ≡ a)) → IsPrefix a l
+  longer_first a b l longer = ⊎_elim (λ (t : IsPrefix a b × (l ≡ b)). subst (λ (x : List (Entry C R)). IsPrefix a x) (sym t.1) t.0)
+      (λ (t : IsPrefix b a × (l ≡ a)). subst (λ (x : List (Entry C R)). IsPrefix a x) (sym t.1) (prefix_self a)) longer
+
+  pub longer_second : (a b l : List (Entry C R)) → (IsPrefix a b × (l ≡ b)) ⊎ (IsPrefix b a × (l ≡ a)) → IsPrefix b l
+  longer_second a b l longer = ⊎_elim (λ (t : IsPrefix a b × (l ≡ b)). subst (λ (x : List (Entry C R)). IsPrefix b x) (sym t.1) (prefix_self b))
+      (λ (t : IsPrefix b a × (l ≡ a)). subst (λ (x : List (Entry C R)). IsPrefix b x) (sym t.1) t.0) longer
+
+  -- what the second of two that met may call, and whether it goes on
+  module _ (v q w u : View O C R) (k : Meets m v q w u) where
+    pub second_caller : u.caller ≡ q.caller
+    second_caller = ap (λ (x : View O C R). x.caller) k.second_is
+
+    pub second_begins : IsPrefix q.seen u.seen
+    second_begins = subst (λ (l : List (Entry C R)). IsPrefix q.seen l) (sym (ap (λ (x : View O C R). x.seen) k.second_is)) (longer_second v.seen q.seen w.seen k.longer)
+
+    pub second_mine : own q.caller u.seen ≡ own q.caller q.seen
+    second_mine = ap (λ (l : List (Entry C R)). own q.caller l) (ap (λ (x : View O C R). x.seen) k.second_is) ∙ k.second q.caller k.other_holds_itself
+
+    pub second_may : (call : C) → may_call m q.seen q.caller call ≡ true → may_call m u.seen u.caller call ≡ true
+    second_may call may = later_may q u second_caller second_begins second_mine call may
+
+    pub first_caller : w.caller ≡ v.caller
+    first_caller = ap (λ (x : View O C R). x.caller) k.first_is
+
+    pub first_begins : IsPrefix v.seen w.seen
+    first_begins = longer_first v.seen q.seen w.seen k.longer
+
+    pub first_mine : own v.caller w.seen ≡ own v.caller v.seen
+    first_mine = k.first v.caller k.holds_itself

@@ -16,7 +16,7 @@ use Rattle.tk_cell.proofs.PartLemmas.{live_runs, held_once}
 
 module _ {O C R : Type 0} (m : Meaning O C R) where
   -- the rule stays where each of the two halves fits, and they hold together what the part held
-  fork_runs : (x : List ℕ) (parts : List (Part O C R)) (pass : ℕ) (p left right : Part O C R) (r : Runs m x parts) → get_elem? parts pass ≡ some p → IsPart m r.opening r.history left → IsPart m r.opening r.history right
+  pub fork_runs : (x : List ℕ) (parts : List (Part O C R)) (pass : ℕ) (p left right : Part O C R) (r : Runs m x parts) → get_elem? parts pass ≡ some p → IsPart m r.opening r.history left → IsPart m r.opening r.history right
       → ((k : ℕ) → holds k left + holds k right ≡ holds k p) → Runs m x (set parts pass left ++ right ∷ [])
   fork_runs x parts pass p left right r at left_fits right_fits sums = record {
     opening = r.opening;

@@ -10,8 +10,8 @@ use Rattle.tk_core.specs.History.{calls_of}
 use Rattle.tk_core.specs.Legal.{own, maker, IsLegal}
 use Rattle.tk_cell.specs.declared.view.View.{View}
 use Rattle.tk_cell.specs.declared.part.Part.{Part}
-use Rattle.tk_cell.specs.declared.part.Part.TheVariants.{Unopened, One, Two, Spent}
-use Rattle.tk_cell.specs.Views.{times, Holds, after_split, split_off}
+use Rattle.tk_cell.specs.declared.part.Part.TheVariants.{Unopened, One, Two, Told, Hearing, Spent}
+use Rattle.tk_cell.specs.Views.{times, Holds, after_split, split_off, as_caller, unheld}
 
 -- a number of each element, added up
 abbrev pub total : {V : Type 0} → (V → ℕ) → List V → ℕ
@@ -32,6 +32,8 @@ module _ {O C R : Type 0} where
   view_of Unopened = nothing
   view_of (One v) = v
   view_of (Two v w) = v
+  view_of (Told v) = v
+  view_of (Hearing v w) = v
   view_of Spent = nothing
 
   -- the view of the token that it took in
@@ -39,6 +41,8 @@ module _ {O C R : Type 0} where
   other_of Unopened = nothing
   other_of (One v) = nothing
   other_of (Two v w) = w
+  other_of (Told v) = nothing
+  other_of (Hearing v w) = w
   other_of Spent = nothing
 
   -- how often a part holds a number
@@ -46,11 +50,21 @@ module _ {O C R : Type 0} where
   holds n Unopened = 0
   holds n (One v) = times n v.held
   holds n (Two v w) = times n v.held + times n w.held
+  holds n (Told v) = 0
+  holds n (Hearing v w) = times n v.held
   holds n Spent = 0
 
   -- the part is that of a token between two calls
   abbrev pub IsOne : Part O C R → Type 0
   IsOne p = p ≡ One (view_of p)
+
+  -- the part is what a token told
+  abbrev pub IsTold : Part O C R → Type 0
+  IsTold p = p ≡ Told (view_of p)
+
+  -- the part is two tokens that meet
+  abbrev pub IsTwo : Part O C R → Type 0
+  IsTwo p = p ≡ Two (view_of p) (other_of p)
 
   -- what a split leaves, of the number that is picked
   abbrev pub left_of : Option ℕ → Part O C R → Part O C R
@@ -65,6 +79,26 @@ module _ {O C R : Type 0} where
   -- a token that took in another one
   abbrev pub taken_in : Part O C R → Part O C R → Part O C R
   taken_in p q = Two (view_of p) (view_of q)
+
+  -- what a token tells: what it has seen, and none of its numbers
+  abbrev pub told_of : Part O C R → Part O C R
+  told_of p = Told (unheld (view_of p))
+
+  -- a token that hears what was told
+  abbrev pub hearing : Part O C R → Part O C R → Part O C R
+  hearing p q = Hearing (view_of p) (view_of q)
+
+  -- the token goes on as the caller that is picked
+  abbrev pub gone_on : Option ℕ → Part O C R → Part O C R
+  gone_on None p = p
+  gone_on (Some n) p = One (as_caller n (view_of p))
+
+  -- the first and the second of two that met
+  abbrev pub first_of : Part O C R → Part O C R
+  first_of p = One (view_of p)
+
+  abbrev pub second_of : Part O C R → Part O C R
+  second_of p = One (other_of p)
 
 -- a token between two calls: it makes the calls of the caller that it says
 pub record IsSettled {O C R : Type 0} (caller : ℕ) (p : Part O C R) : Type 0 where
@@ -84,11 +118,18 @@ module _ {O C R : Type 0} (m : Meaning O C R) where
     pub whole : (n : ℕ) → Holds v n → own n h ≡ own n v.seen
     pub itself : Holds v v.caller
 
+  -- what was seen begins the history
+  pub record Knows (opening : O) (h : List (Entry C R)) (v : View O C R) : Type 0 where
+    pub opened : v.opening ≡ Some opening
+    pub begins : IsPrefix v.seen h
+
   -- each view of a part fits the history
   abbrev pub IsPart : O → List (Entry C R) → Part O C R → Type 0
   IsPart opening h Unopened = ⊥
   IsPart opening h (One v) = Fits opening h v
   IsPart opening h (Two v w) = Fits opening h v × Fits opening h w
+  IsPart opening h (Told v) = Knows opening h v
+  IsPart opening h (Hearing v w) = Fits opening h v × Knows opening h w
   IsPart opening h Spent = Unit {0}
 
   -- there is one legal history, whose row the words are, each part fits it, and no number is held twice

@@ -7,8 +7,8 @@ use Rattle.tk_cell.specs.declared.view.View.{View}
 use Rattle.tk_cell.specs.declared.part.Part.{Part}
 use Rattle.tk_cell.specs.declared.part.Part.TheVariants.{One}
 use Rattle.tk_cell.specs.Views.{opened}
-use Rattle.tk_cell.specs.Calls.{Calls, Joins}
-use Rattle.tk_cell.specs.Parts.{view_of, other_of, IsOne}
+use Rattle.tk_cell.specs.Calls.{Calls, Joins, Hears, Meets}
+use Rattle.tk_cell.specs.Parts.{view_of, other_of, IsOne, IsTwo}
 
 module _ {O C R : Type 0} where
   -- the swap that sets the opening row
@@ -52,6 +52,14 @@ module _ {O C R : Type 0} (m : Meaning O C R) where
   -- the load after a token was taken in: the two views become one
   abbrev pub SettlesAt : Part O C R → List ℕ → List ℕ → Part O C R → Type 0
   SettlesAt p x y q = GoesOn p q × Joins m (view_of p) (other_of p) (view_of q)
+
+  -- the load after what was told was taken in
+  abbrev pub HearsAt : Part O C R → List ℕ → List ℕ → Part O C R → Type 0
+  HearsAt p x y q = GoesOn p q × Hears m (view_of p) (other_of p) (view_of q)
+
+  -- the load at which two tokens meet
+  abbrev pub MeetsAt : Part O C R → List ℕ → List ℕ → Part O C R → Type 0
+  MeetsAt p x y q = IsTwo q × Meets m (view_of p) (other_of p) (view_of q) (other_of q)
 
   -- from any history with the words x, the call leads to the words y
   abbrev pub LeadsTo : C → List ℕ → List ℕ → Type 0

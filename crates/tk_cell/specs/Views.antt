@@ -38,6 +38,14 @@ module _ {O C R : Type 0} where
   abbrev pub split_off : ℕ → View O C R → View O C R
   split_off n v = record v { caller = n; held = n ∷ [] }
 
+  -- the view goes on as another caller whose number it holds
+  abbrev pub as_caller : ℕ → View O C R → View O C R
+  as_caller n v = record v { caller = n }
+
+  -- what a view has seen, without its numbers
+  abbrev pub unheld : View O C R → View O C R
+  unheld v = record v { held = [] }
+
 -- what contracts see of a token
 pub record Known (O C R : Type 0) : Type 0 where
   -- the ledger that it is of

@@ -13,5 +13,5 @@ mod token;
 mod view;
 
 pub use shared::Shared;
-pub use token::Token;
+pub use token::{Seen, Token};
 pub use view::View;

@@ -13,6 +13,10 @@ pub enum Part<O, C, R> {
     One(View<O, C, R>),
     /// A token that took in another one, with the second view, before the load by which it learns which of the two has seen more.
     Two(View<O, C, R>, View<O, C, R>),
+    /// What a token had seen when it told of it: no number is held, and no call made by it.
+    Told(View<O, C, R>),
+    /// A token that hears what was told, with the second view, before the load by which it learns which of the two has seen more.
+    Hearing(View<O, C, R>, View<O, C, R>),
     /// A token that was handed on, or taken in.
     Spent,
 }

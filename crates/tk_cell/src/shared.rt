@@ -3,20 +3,24 @@
 //! A call looks at the words, makes the next row of them, and exchanges them where they are still the same:
 //! then the exchange is its entry. Where the row stays as it is, the look was its entry. Where another call
 //! came between, it tries again.
-ghost use Rattle.std.specs.Prelude.{◌≡◌, ◌≢◌, ◌<◌, [], true, false, nat_eq, if◌then◌else◌, Some, IfOk, IfSome, IfNone, MatchBool, MatchResult};
+ghost use Rattle.std.specs.Prelude.{◌≡◌, ◌≢◌, ◌<◌, ◌++◌, ◌∷◌, [], true, false, nat_eq, if◌then◌else◌, Some, IfOk, IfSome, IfNone, MatchBool, MatchResult};
 ghost use lib.Pointwise.{pointwise};
 ghost use Rattle.std.specs.Arc.{arc_value};
 ghost use Rattle.crossbeam_utils.specs.Register.{Forks, Merges, Turns};
 ghost use Rattle.crossbeam_utils.specs.Seq.{IsSamePass, cell_view};
 ghost use Rattle.tk_core.specs.Legal.{may_call, has_ended, own};
-ghost use Rattle.tk_cell.specs.Views.{opened, known, Holds, after_split, split_off};
-ghost use Rattle.tk_cell.specs.Calls.{Calls, Joins};
+ghost use Rattle.tk_cell.specs.Views.{opened, known, Holds, after_split, split_off, as_caller, unheld};
+ghost use Rattle.tk_cell.specs.Calls.{Calls, Joins, Hears, Meets, entry};
+ghost use Rattle.tk_cell.specs.Ours.{ours, CallsBeside};
 ghost use Rattle.tk_cell.specs.Parts.{view_of, IsOne, Kept};
 ghost use Rattle.tk_cell.specs.Steps.{Plays, LooksFor, LeadsTo};
 
 use crate::part::{Part, Rule};
-use crate::steps::{Both, Exchanges, Looks, OffSplit, Opens, Pick, Settling, Whole};
-use crate::token::Token;
+use crate::steps::{
+    Both, Exchanges, GoesOnAs, Heard, Looks, Met, OffSplit, Opens, Parting, Pick, Settling,
+    TakesTold, Tells, Whole,
+};
+use crate::token::{Seen, Token};
 use atomic_table::{Join, Split};
 use crossbeam_utils::atomic::seq_cell::{Pass, RuledSeqCell};
 use crossbeam_utils::rule::Outcome;
@@ -178,7 +182,7 @@ impl<O: Sequential> Shared<O> {
         ensures kept { token.new ≡ known token.old.ledger (after_split number token.old.view) }
         ensures given { result ≡ known token.old.ledger (split_off number token.old.view) }
     {
-        self.split_picked::<Brand>(token, number)
+        self.part(token, number)
     }
 
     fn split_picked<K: Pick<u64>>(&self, token: &mut Token<O>, number: u64) -> Token<O>
@@ -220,6 +224,128 @@ impl<O: Sequential> Shared<O> {
         let theirs = self.hand_over(other);
         self.join_as::<Both>(&mut token.pass, theirs);
         self.load_as::<Settling<O>, R>(rt, &mut token.pass);
+    }
+
+    /// The token goes on as another caller whose number it holds. No entry is made.
+    ///
+    /// The token has to be of this ledger.
+    #[inline(always)]
+    pub fn go_on_as(&self, token: &mut Token<O>, number: u64)
+        requires own { token.old.ledger ≡ self.now }
+        requires held { Holds token.old.view number }
+        ensures { token.new ≡ known token.old.ledger (as_caller number token.old.view) }
+    {
+        self.go_on_picked::<Brand>(token, number)
+    }
+
+    #[inline(always)]
+    fn go_on_picked<K: Pick<u64>>(&self, token: &mut Token<O>, number: u64)
+        requires picked { K.picked ≡ Some number }
+        requires own { token.old.ledger ≡ self.now }
+        requires held { Holds token.old.view number }
+        ensures { token.new ≡ known token.old.ledger (as_caller number token.old.view) }
+    {
+        let _ = self.split_as::<GoesOnAs<K>>(&mut token.pass);
+        token.caller = number;
+    }
+
+    /// What the token has seen, for others to hear. No entry is made, and no number goes with it.
+    ///
+    /// The token has to be of this ledger.
+    #[inline(always)]
+    pub fn tell(&self, token: &mut Token<O>) -> Seen<O>
+        requires own { token.old.ledger ≡ self.now }
+        ensures kept { token.new ≡ token.old }
+        ensures told { result ≡ known token.old.ledger (unheld token.old.view) }
+    {
+        let pass = self.split_as::<Tells>(&mut token.pass);
+        Seen { pass }
+    }
+
+    /// The token has now seen what was told, too, and goes on as before. No entry is made.
+    ///
+    /// Both have to be of this ledger.
+    pub fn hear<R: Wait>(&self, rt: &R, token: &mut Token<O>, seen: Seen<O>)
+        requires own { token.old.ledger ≡ self.now }
+        requires other { seen.ledger ≡ self.now }
+        ensures own { token.new.ledger ≡ token.old.ledger }
+        ensures heard { Hears O.meaning token.old.view seen.view token.new.view }
+    {
+        self.join_as::<TakesTold>(&mut token.pass, seen.pass);
+        self.load_as::<Heard<O>, R>(rt, &mut token.pass);
+    }
+
+    /// Both tokens have then seen the same: all that either had seen. No entry is made.
+    ///
+    /// Both have to be of this ledger.
+    pub fn meet<R: Wait>(&self, rt: &R, token: &mut Token<O>, other: &mut Token<O>)
+        requires own { token.old.ledger ≡ self.now }
+        requires other { other.old.ledger ≡ self.now }
+        ensures own { token.new.ledger ≡ token.old.ledger }
+        ensures other { other.new.ledger ≡ other.old.ledger }
+        ensures met { Meets O.meaning token.old.view other.old.view token.new.view other.new.view }
+    {
+        let theirs = self.split_as::<Whole>(&mut other.pass);
+        self.join_as::<Both>(&mut token.pass, theirs);
+        self.load_as::<Met<O>, R>(rt, &mut token.pass);
+        other.pass = self.split_as::<Parting>(&mut token.pass);
+    }
+
+    /// The call of `other`, beside `token`: both have seen the same before it and after it.
+    ///
+    /// Both have to be of this ledger, and the call has to be one that `other` may make.
+    pub fn call_beside<R: Wait>(
+        &self,
+        rt: &R,
+        token: &mut Token<O>,
+        other: &mut Token<O>,
+        call: O::Call,
+    ) -> O::Reply
+        requires own { token.old.ledger ≡ self.now }
+        requires other { other.old.ledger ≡ self.now }
+        requires role { may_call O.meaning other.old.view.seen other.old.view.caller call ≡ true }
+        requires going { has_ended O.meaning other.old.view.seen other.old.view.caller ≡ false }
+        ensures own { token.new.ledger ≡ token.old.ledger }
+        ensures other { other.new.ledger ≡ other.old.ledger }
+        ensures beside { CallsBeside O.meaning token.old.view other.old.view call result token.new.view other.new.view }
+    {
+        self.meet(rt, token, other);
+        let reply = self.call(rt, other, call);
+        self.meet(rt, token, other);
+        reply
+    }
+
+    /// As [`Shared::split`], of a number that may have called already.
+    pub fn part(&self, token: &mut Token<O>, number: u64) -> Token<O>
+        requires own { token.old.ledger ≡ self.now }
+        requires held { Holds token.old.view number }
+        requires other { number ≢ token.old.view.caller }
+        ensures kept { token.new ≡ known token.old.ledger (after_split number token.old.view) }
+        ensures given { result ≡ known token.old.ledger (split_off number token.old.view) }
+    {
+        self.split_picked::<Brand>(token, number)
+    }
+
+    /// Makes the call as the caller of a number that the token holds. The entries of the numbers that it holds are then
+    /// those from before, and this one.
+    #[inline(always)]
+    pub fn call_as<R: Wait>(
+        &self,
+        rt: &R,
+        token: &mut Token<O>,
+        number: u64,
+        call: O::Call,
+    ) -> O::Reply
+        requires own { token.old.ledger ≡ self.now }
+        requires held { Holds token.old.view number }
+        requires role { may_call O.meaning token.old.view.seen number call ≡ true }
+        requires going { has_ended O.meaning token.old.view.seen number ≡ false }
+        ensures own { token.new.ledger ≡ token.old.ledger }
+        ensures entry { Calls O.meaning (as_caller number token.old.view) call result token.new.view }
+        ensures order { ours token.new.view ≡ ours token.old.view ++ entry number call result ∷ [] }
+    {
+        self.go_on_as(token, number);
+        self.call(rt, token, call)
     }
 
     // A pass with the token's view that has taken no step yet: only such a one can be joined.

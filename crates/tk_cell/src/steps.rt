@@ -103,3 +103,73 @@ impl<O, C, R> Join<Part<O, C, R>> for Both {
 
     ghost spent = { Spent };
 }
+
+/// The load after what was told was taken in.
+pub(crate) struct Heard<O> {
+    object: PhantomData<O>,
+}
+
+impl<O: Sequential> Outcome<[u64; 16], Part<O, O::Call, O::Reply>> for Heard<O> {
+    ghost use Rattle.tk_cell.specs.Steps.{HearsAt};
+
+    ghost then = { HearsAt O.meaning };
+}
+
+/// The load at which two tokens meet.
+pub(crate) struct Met<O> {
+    object: PhantomData<O>,
+}
+
+impl<O: Sequential> Outcome<[u64; 16], Part<O, O::Call, O::Reply>> for Met<O> {
+    ghost use Rattle.tk_cell.specs.Steps.{MeetsAt};
+
+    ghost then = { MeetsAt O.meaning };
+}
+
+/// Tells what a token has seen.
+pub(crate) struct Tells;
+
+impl<O, C, R> Split<Part<O, C, R>> for Tells {
+    ghost use Rattle.tk_cell.specs.Parts.{told_of};
+
+    ghost left = { λ p. p };
+
+    ghost right = { told_of };
+}
+
+/// Goes on as the caller that is picked.
+pub(crate) struct GoesOnAs<K> {
+    pick: PhantomData<K>,
+}
+
+impl<O, C, R, K: Pick<u64>> Split<Part<O, C, R>> for GoesOnAs<K> {
+    ghost use Rattle.tk_cell.specs.Parts.{gone_on};
+    ghost use Rattle.tk_cell.specs.declared.part.Part.TheVariants.{Spent};
+
+    ghost left = { gone_on K.picked };
+
+    ghost right = { λ p. Spent };
+}
+
+/// Parts two tokens that met.
+pub(crate) struct Parting;
+
+impl<O, C, R> Split<Part<O, C, R>> for Parting {
+    ghost use Rattle.tk_cell.specs.Parts.{first_of, second_of};
+
+    ghost left = { first_of };
+
+    ghost right = { second_of };
+}
+
+/// Takes in what was told.
+pub(crate) struct TakesTold;
+
+impl<O, C, R> Join<Part<O, C, R>> for TakesTold {
+    ghost use Rattle.tk_cell.specs.Parts.{hearing};
+    ghost use Rattle.tk_cell.specs.declared.part.Part.TheVariants.{Spent};
+
+    ghost both = { hearing };
+
+    ghost spent = { Spent };
+}

@@ -33,3 +33,22 @@ impl<O: Sequential> Token<O> {
         self.caller
     }
 }
+
+/// What a token had seen when it told of it. No call is made by it. Contracts see its ledger, and the view without numbers.
+#[derive(Drop)]
+pub struct Seen<O: Sequential> {
+    pub(crate) pass: Pass<[u64; 16], Part<O, O::Call, O::Reply>>,
+}
+
+impl<O: Sequential> Model for Seen<O> {
+    ghost use Rattle.std.specs.Prelude.{◌≡◌, []};
+    ghost use Rattle.crossbeam_utils.specs.Seq.{cell_view};
+    ghost use Rattle.tk_cell.specs.Views.{Known, known};
+    ghost use Rattle.tk_cell.specs.Parts.{view_of, IsTold};
+
+    ghost Value = { Known O O.Call O.Reply };
+
+    ghost view = { λ t. known t.pass.table_id (view_of (cell_view t.pass)) };
+
+    ghost invariant = { λ t. IsTold (cell_view t.pass) × (t.pass.me.1 ≡ []) };
+}

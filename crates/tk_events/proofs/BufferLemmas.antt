@@ -15,7 +15,7 @@ use Rattle.tk_events.specs.declared.buffer.view.Role.TheVariants.{Takes, Records
 use Rattle.tk_events.specs.declared.buffer.view.Returned.{Returned}
 use Rattle.tk_events.specs.declared.buffer.view.View.{View}
 use Rattle.tk_events.specs.Offers.{offer_of, offers_of, by, Rises}
-use Rattle.tk_events.specs.Buffer.{first, spent, keeps, notes, takes, limits, makes, newborn, returned, takes_in, numbers_known, numbers_of, holds, IsKnown, IsRecorder, IsTaker, IsPart, IsNamed, Kept, IsContentFor, IsBalanced}
+use Rattle.tk_events.specs.Buffer.{first, spent, keeps, notes, takes, limits, makes, newborn, returned, takes_in, gives_back, lent, given_back, numbers_known, numbers_of, holds, IsKnown, IsRecorder, IsTaker, IsPart, IsNamed, Kept, IsContentFor, IsBalanced}
 use Rattle.tk_cell.specs.Views.{times}
 use Rattle.tk_cell.specs.Parts.{total}
 use Rattle.tk_cell.proofs.ListLemmas.{dec_eq, times-append, times_itself, times_other, total_set, total_snoc, total_one, total_two, total_none}
@@ -386,6 +386,75 @@ module _ (pass : ℕ) (v : View) (role : v.role ≡ Takes) (room : v.made < v.re
     named = λ i d lt. let h = k.named i d lt in (h.0, omega (arith, h.1));
     rises = k.rises;
   }
+
+-- The taker gives the one recorder back that it took in.
+lent_few : (n recorders : ℕ) (l : List Returned) → holds n (lent recorders l) ≤ times n (numbers_known l)
+lent_few n recorders [] = omega arith
+lent_few n recorders (r ∷ []) = omega arith
+lent_few n recorders (r ∷ (s ∷ l)) = omega arith
+
+module _ (pass : ℕ) (v : View) (role : v.role ≡ Takes) (items : List Item) (views : List View) (k : Kept items views) (at : get_elem? views pass ≡ some v) where
+  abbrev g_all : List Offer
+  g_all = k.taken ++ offers_of items
+
+  g_mine : IsTaker k.recorders k.made k.taken g_all v
+  g_mine = (k.parts pass v at).taker role
+
+  g_mine_now : IsPart k.recorders k.made k.taken g_all (gives_back v)
+  g_mine_now = record {
+    recorder = λ is. absurd (cc (role));
+    taker = λ is. record { same = g_mine.same; made' = g_mine.made'; taken' = g_mine.taken'; known = λ i d lt. absurd (omega (arith, lt)) };
+  }
+
+  g_lent : (l : List Returned) → All (IsKnown k.made g_all) l → IsPart k.recorders k.made k.taken g_all (lent v.recorders l)
+  g_lent [] each = record { recorder = λ is. absurd (cc); taker = λ is. absurd (cc) }
+  g_lent (r ∷ []) each = let h = each 0 r (omega arith) in record {
+    recorder = λ is. record { same = g_mine.same; low = h.low; high = h.high; kept = h.kept };
+    taker = λ is. absurd (cc);
+  }
+  g_lent (r ∷ (s ∷ l)) each = record { recorder = λ is. absurd (cc); taker = λ is. absurd (cc) }
+
+  g_once : (n : ℕ) → total (holds n) (set views pass (gives_back v) ++ given_back v ∷ []) ≤ 1
+  g_once n =
+      let t = total_set (holds n) views pass v (gives_back v) at in
+      let s = total_snoc (holds n) (set views pass (gives_back v)) (given_back v) in
+      let a = holds_taker n v role in
+      let b = holds_taker n (gives_back v) role in
+      let c = times-append n (0 ∷ []) (numbers_known v.known) in
+      let f = lent_few n v.recorders v.known in
+      let o = k.once n in
+      omega (arith, t, s, a, b, c, f, o)
+
+  g_kept : Kept items (set views pass (gives_back v) ++ given_back v ∷ [])
+  g_kept = record {
+    recorders = k.recorders;
+    made = k.made;
+    taken = k.taken;
+    room = k.room;
+    parts = each_snoc (λ (u : View). IsPart k.recorders k.made k.taken g_all u) views pass (gives_back v) (given_back v) g_mine_now (g_lent v.known g_mine.known) (λ j u ne e. k.parts j u e);
+    once = g_once;
+    named = k.named;
+    rises = k.rises;
+  }
+
+-- A recorder lends its pass.
+lends : (pass : ℕ) (v : View) (items : List Item) (views : List View) (k : Kept items views) → get_elem? views pass ≡ some v → Kept items (set views pass spent ++ v ∷ [])
+lends pass v items views k at = record {
+  recorders = k.recorders;
+  made = k.made;
+  taken = k.taken;
+  room = k.room;
+  parts = each_snoc (λ (u : View). IsPart k.recorders k.made k.taken (k.taken ++ offers_of items) u) views pass spent v (spent_part k.recorders k.made k.taken (k.taken ++ offers_of items)) (k.parts pass v at) (λ j u ne e. k.parts j u e);
+  once = λ n. let t = total_set (holds n) views pass v spent at in let s = total_snoc (holds n) (set views pass spent) v in let o = k.once n in omega (arith, t, s, o);
+  named = k.named;
+  rises = k.rises;
+}
+
+pub forks_lend : (pass : ℕ) (v : View) → Forks Kept pass v spent v
+forks_lend pass v items views k at = lends pass v items views k at
+
+pub forks_give_back : (pass : ℕ) (v : View) → v.role ≡ Takes → Forks Kept pass v (gives_back v) (given_back v)
+forks_give_back pass v role items views k at = g_kept pass v role items views k at
 
 pub forks_make : (pass : ℕ) (v : View) → v.role ≡ Takes → v.made < v.recorders → Forks Kept pass v (makes v) (newborn v)
 forks_make pass v role room items views k at = m_kept pass v role room items views k at

@@ -53,6 +53,18 @@ returned v = record { number = v.number; kept = v.kept; refused = v.refused }
 abbrev pub takes_in : View → View → View
 takes_in v w = record v { known = v.known ++ returned w ∷ [] }
 
+-- the taker gives back what it took in
+abbrev pub gives_back : View → View
+gives_back v = record v { known = [] }
+
+-- the view of the one recorder that was taken in, as it was
+abbrev pub lent : ℕ → List Returned → View
+lent recorders (r ∷ []) = record { role = Records; recorders = recorders; number = r.number; kept = r.kept; refused = r.refused; made = 0; taken = []; known = [] }
+lent recorders _ = spent
+
+abbrev pub given_back : View → View
+given_back v = lent v.recorders v.known
+
 abbrev pub numbers_known : List Returned → List ℕ
 numbers_known known = map (λ r. r.number) known
 

@@ -52,7 +52,7 @@ pub enum Recorded {
 pub struct Recorder {
     buffer: Arc<Buffer>,
     counts: Arc<Counts>,
-    pass: Pass<Item, View>,
+    pub(crate) pass: Pass<Item, View>,
     seat: Seat<u8, Count>,
     ids: IdBlock,
     made: u64,

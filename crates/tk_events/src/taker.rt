@@ -1,24 +1,25 @@
 //! The taker, which takes events and at the end what the recorders had offered.
-ghost use Rattle.std.specs.Prelude.{◌≡◌, ◌<◌, ◌≤◌, ℕ, List, [], ◌∷◌, true, false, All, length, Some, OnOk, IfErr, IfSome, IfNone};
+ghost use Rattle.std.specs.Prelude.{◌≡◌, ◌<◌, ◌≤◌, ℕ, List, [], ◌∷◌, ◌++◌, true, false, All, length, Some, OnOk, IfErr, IfSome, IfNone};
 ghost use Rattle.std.specs.Arc.{arc_value};
 ghost use Rattle.crossbeam_queue.specs.Fifo.{Held};
 ghost use Rattle.crossbeam_queue.specs.Passes.{view, IsSamePass, IsPassOf, ruled_capacity};
 ghost use Rattle.tk_events.specs.declared.buffer.view.Role.TheVariants.{Takes};
 ghost use Rattle.tk_events.specs.declared.error.FinishError.TheVariants.{Missing, Finished};
 ghost use Rattle.tk_events.specs.declared.item.Offer.{Offer};
-ghost use Rattle.tk_events.specs.Offers.{shown, offers_of, Rises};
+ghost use Rattle.tk_events.specs.Offers.{shown, offers_of, by, Rises};
 ghost use Rattle.tk_events.specs.Items.{Agrees};
 ghost use Rattle.tk_events.specs.Buffer.{first, limits as limited, IsNamed};
 ghost use Rattle.tk_events.specs.Handles.{new_taking, with_taken, offers_of_all, finished_with, IsWhole, HasOwnIds, IsSettled, AreLeft, AllTaken, place, AreExact};
 ghost use Rattle.tk_events.specs.Parts.{making, knowing, IsReading, totals_of};
 
 use crate::buffer::view::View;
-use crate::buffer::{Buffer, pop, settle, take_in as take_in_offers};
+use crate::buffer::{Buffer, pop, pop_lent, settle, take_in as take_in_offers};
 use crate::counts::view::View as Count;
 use crate::counts::{Counts, take_in as take_in_counts, total};
 use crate::error::FinishError;
 use crate::event::Event;
 use crate::item::Item;
+use crate::recorder::Recorder;
 use crate::retired::RetiredRecorder;
 use atomic_table::Seat;
 use crossbeam_queue::Pass;
@@ -133,6 +134,23 @@ impl Taker {
         ensures settled { self.new.finished ≡ true → IsSettled self.new }
     {
         let item = pop(rt, &self.buffer, &mut self.pass)?;
+        Some(item.into_event())
+    }
+
+    /// As [`Taker::take`], beside a recorder of the console, which stays as it is. What was taken of it, and then what is left, is
+    /// what it has kept; and where the buffer was empty, all of that was taken.
+    pub fn take_beside<R: Wait>(&mut self, rt: &R, recorder: &mut Recorder) -> Option<Event>
+        requires console { recorder.old.console ≡ self.old.console }
+        requires recorders { recorder.old.recorders ≡ self.old.recorders }
+        requires unfinished { self.old.finished ≡ false }
+        ensures same { recorder.new ≡ recorder.old }
+        ensures some { IfSome result (λ event. (recorder number : ℕ) × (self.new ≡ with_taken self.old (record { recorder = recorder; number = number; event = shown event }))) }
+        ensures agrees { IfSome result (λ event. Agrees event) }
+        ensures none { IfNone result (self.new ≡ self.old) }
+        ensures front { (left : List Offer) × (by recorder.old.number (self.new.taken ++ left) ≡ recorder.old.kept) }
+        ensures all_taken { IfNone result (by recorder.old.number self.old.taken ≡ recorder.old.kept) }
+    {
+        let item = pop_lent(rt, &self.buffer, &mut self.pass, &mut recorder.pass)?;
         Some(item.into_event())
     }
 

@@ -14,3 +14,4 @@ pub mod OpLemmas
 pub mod OpPollLemmas
 pub mod OpSumLemmas
 pub mod TimesLemmas
+pub mod BesideLemmas

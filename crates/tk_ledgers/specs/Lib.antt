@@ -7,3 +7,4 @@ pub mod Resources
 pub mod Ops
 pub mod Scopes
 pub mod Times
+pub mod Beside

@@ -4,6 +4,12 @@ ghost use Rattle.tk_core.specs.Legal.{IsLegal};
 ghost use Rattle.tk_core.specs.Task.{IsOpening};
 ghost use Rattle.tk_core.specs.TaskMeaning.{task_meaning};
 ghost use Rattle.tk_cell.specs.Views.{IsDistinct};
+ghost use Rattle.tk_core.specs.OpMeaning.{op_meaning};
+ghost use Rattle.tk_core.specs.ResourceMeaning.{resource_meaning};
+ghost use Rattle.tk_core.specs.declared.op.call.OpCall.TheVariants as op_calls;
+ghost use Rattle.tk_core.specs.declared.resource.call.ResourceCall.TheVariants as resource_calls;
+ghost use Rattle.tk_core.specs.declared.task.call.TaskCall.TheVariants as task_calls;
+ghost use Rattle.tk_ledgers.specs.Beside.{ShowsTheirCalls};
 ghost use Rattle.tk_ledgers.specs.Tasks.{TaskEntries};
 ghost use Rattle.tk_ledgers.specs.Wakers.{ClonesLessDropsAreLive, wakers};
 
@@ -16,4 +22,12 @@ pub fn clones_less_drops_are_live_wakers()
         → IsDistinct (wakers h) }
     ensures live { (opening : TaskRow) (h : TaskEntries) → IsOpening opening → IsLegal task_meaning opening h
         → ClonesLessDropsAreLive h }
+{}
+
+/// What an inspector reads beside the hand that holds the other callers of its item is the row after that hand's calls, in their
+/// order, and after no others.
+pub fn a_reading_beside_shows_the_calls()
+    ensures tasks { ShowsTheirCalls task_meaning task_calls.Read }
+    ensures resources { ShowsTheirCalls resource_meaning resource_calls.Read }
+    ensures ops { ShowsTheirCalls op_meaning op_calls.Read }
 {}

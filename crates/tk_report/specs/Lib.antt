@@ -5,3 +5,4 @@ pub mod Views
 -- Inner: no public clause cites these
 pub mod Behind
 pub mod Taken
+pub mod Uninterrupted

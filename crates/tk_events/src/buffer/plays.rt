@@ -99,3 +99,25 @@ impl Join<View> for TakeIn {
 
     ghost spent = { spent };
 }
+
+/// The taker gives the one recorder back that it took in.
+pub(crate) struct GiveBack;
+
+impl Split<View> for GiveBack {
+    ghost use Rattle.tk_events.specs.Buffer.{gives_back, given_back};
+
+    ghost left = { gives_back };
+
+    ghost right = { given_back };
+}
+
+/// A recorder lends its pass.
+pub(crate) struct Lend;
+
+impl Split<View> for Lend {
+    ghost use Rattle.tk_events.specs.Buffer.{spent};
+
+    ghost left = { λ v. spent };
+
+    ghost right = { λ v. v };
+}
