@@ -1,19 +1,18 @@
 -- A call beside another token: its reply is that after the calls of both, and of no others.
-use Rattle.std.proofs.Common.{◌≡◌, ◌≢◌, ℕ, zero, suc, ◌+◌, ◌<◌, ◌≤◌, ◌==◌, Bool, true, false, not, List, [], ◌∷◌, ◌++◌, length, Some, refl, ap, sym, ◌∙◌, subst, arith, append_assoc, length-append, inl, inr, ◌⊎◌, ⊎_elim}
-use Rattle.std.proofs.lemmas.List.{append-nil}
+use Rattle.std.proofs.Common.{◌≡◌, ◌≢◌, ℕ, zero, suc, ◌+◌, ◌<◌, ◌==◌, List, [], ◌∷◌, ◌++◌, length, refl, ap, sym, ◌∙◌, subst, arith, append_assoc, length-append, inl, inr, ◌⊎◌, ⊎_elim}
 use Rattle.std.proofs.lemmas.List.Elements.{filter-append}
 use mathlib.Core.List.{IsPrefix}
 use Rattle.tk_core.specs.declared.history.Entry.{Entry}
 use Rattle.tk_core.specs.Meaning.{Meaning}
 use Rattle.tk_core.specs.History.{calls_of}
-use Rattle.tk_core.specs.Legal.{own, maker, IsLegal}
+use Rattle.tk_core.specs.Legal.{own, IsLegal}
 use Rattle.tk_cell.specs.declared.view.View.{View}
 use Rattle.tk_cell.specs.Views.{times, Holds}
-use Rattle.tk_cell.specs.Calls.{entry, Calls, Joins, Meets}
+use Rattle.tk_cell.specs.Calls.{entry, Joins, Meets}
 use Rattle.tk_cell.specs.Ours.{Interleaves, of_held, ours, HoldsAll, HoldsItsOwn, CallsBeside, HoldTheirOwn, IsAfterTheirs, BesideIsWhole}
 use Rattle.tk_cell.proofs.ListLemmas.{dec_eq, times-append}
 use Rattle.tk_cell.proofs.HistoryLemmas.{may_made}
-use Rattle.tk_cell.proofs.OursLemmas.{head_some, more_none, between_none, joins_interleave, its_own_are_all, calls_in_order, meeting_adds_nothing, first_begins}
+use Rattle.tk_cell.proofs.OursLemmas.{head_some, more_none, between_none, joins_interleave, its_own_are_all, calls_in_order, meeting_adds_nothing}
 
 module _ {O C R : Type 0} (m : Meaning O C R) where
   -- two tokens that met as one

@@ -1,5 +1,5 @@
 -- A token tells what it has seen, another one hears it, two tokens meet, and a token goes on as another caller that it holds.
-use Rattle.std.proofs.Common.{◌≡◌, ◌≢◌, ℕ, ◌+◌, ◌<◌, ◌≤◌, List, [], ◌∷◌, ◌++◌, length, set, Some, refl, ap, sym, ◌∙◌, subst, arith, inl, inr, ◌⊎◌, ⊎_elim}
+use Rattle.std.proofs.Common.{◌≡◌, ◌≢◌, ℕ, ◌<◌, ◌≤◌, List, length, set, Some, refl, ap, sym, ◌∙◌, subst, arith, inl, inr, ◌⊎◌, ⊎_elim}
 use Rattle.std.proofs.lemmas.Bool.{cases_lt}
 use mathlib.Core.Option.{some}
 use mathlib.Core.List.{IsPrefix}
@@ -9,11 +9,10 @@ use Rattle.atomic_table.proofs.Lists.{at_set}
 use Rattle.atomic_table.specs.Seated.{TableId}
 use Rattle.tk_core.specs.declared.history.Entry.{Entry}
 use Rattle.tk_core.specs.Meaning.{Meaning}
-use Rattle.tk_core.specs.Legal.{own}
 use Rattle.tk_cell.specs.declared.view.View.{View}
 use Rattle.tk_cell.specs.declared.part.Part.{Part}
-use Rattle.tk_cell.specs.declared.part.Part.TheVariants.{Unopened, One, Two, Told, Hearing, Spent}
-use Rattle.tk_cell.specs.Views.{times, Holds, Known, known, as_caller, unheld}
+use Rattle.tk_cell.specs.declared.part.Part.TheVariants.{One, Two, Told, Hearing, Spent}
+use Rattle.tk_cell.specs.Views.{Holds, Known, known, as_caller, unheld}
 use Rattle.tk_cell.specs.Parts.{view_of, other_of, holds, IsOne, IsTold, IsTwo, taken_in, told_of, hearing, gone_on, first_of, second_of, Fits, Knows, IsPart, Runs, Kept}
 use Rattle.tk_cell.specs.Steps.{HearsAt, MeetsAt}
 use Rattle.tk_cell.proofs.ListLemmas.{prefix_self, prefix_shorter, total_set, times-append}

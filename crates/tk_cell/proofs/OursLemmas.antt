@@ -1,5 +1,5 @@
 -- The entries of the callers that a token holds, in order.
-use Rattle.std.proofs.Common.{◌≡◌, ◌≢◌, ℕ, zero, suc, ◌+◌, ◌<◌, ◌≤◌, ◌==◌, Bool, true, false, not, List, [], ◌∷◌, ◌++◌, length, filter, eqb, cond, Option, Some, None, refl, ap, sym, ◌∙◌, subst, arith, append_assoc, length-append, inl, inr, ◌⊎◌, ⊎_elim, true≢false}
+use Rattle.std.proofs.Common.{◌≡◌, ◌≢◌, ℕ, zero, suc, ◌+◌, ◌<◌, ◌==◌, Bool, true, false, not, List, [], ◌∷◌, ◌++◌, length, filter, cond, Option, Some, None, refl, ap, sym, ◌∙◌, subst, arith, append_assoc, length-append, inl, inr, ◌⊎◌, ⊎_elim, true≢false}
 use Rattle.std.specs.List.{find}
 use Rattle.std.specs.Option.{option_map}
 use Rattle.std.proofs.lemmas.List.{append-nil, nil_from_length}
@@ -11,7 +11,7 @@ use Rattle.tk_core.specs.Meaning.{Meaning}
 use Rattle.tk_core.specs.Legal.{own, answers, maker, IsLegal}
 use Rattle.tk_cell.specs.declared.view.View.{View}
 use Rattle.tk_cell.specs.Views.{times, list_of, Holds}
-use Rattle.tk_cell.specs.Calls.{entry, Calls, Joins, Hears, Meets}
+use Rattle.tk_cell.specs.Calls.{entry, Calls}
 use Rattle.tk_cell.specs.Ours.{Interleaves, is_held, of_held, ours, HoldsAll, CallsInOrder, HearingAddsNothing, MeetingAddsNothing, JoinsInterleave, HoldsItsOwn, AllAreOurs, ItsOwnAreAll, IsAlone}
 use Rattle.tk_cell.proofs.ListLemmas.{dec_eq, prefix_self, times-append}
 use Rattle.tk_cell.proofs.HistoryLemmas.{own_mine, own_other, maker_more, may_made, some_answers}

@@ -1,4 +1,4 @@
-use Rattle.std.proofs.Common.{◌≡◌, ◌++◌, ◌∷◌, [], ap, subst, sym}
+use Rattle.std.proofs.Common.{ap, subst}
 use Rattle.tk_cell.specs.Views.{as_caller, Known}
 use Rattle.tk_cell.specs.Calls.{Calls}
 use Rattle.tk_cell.proofs.OursLemmas.{calls_in_order}
