@@ -108,7 +108,7 @@ takes_stays old (events.Op info handle) new p = by_case (op_with info.id old.tab
     stays q = record { told = ap (λ x. x.told) q; last = ap (λ x. x.last) q; broken = ap (λ x. x.broken) q; now = ap (λ x. x.tables.now) q; retention = ap (λ x. x.retention) q }
 takes_stays old (events.Poll op) new p = record { told = ap (λ x. x.told) p; last = ap (λ x. x.last) p; broken = ap (λ x. x.broken) p; now = ap (λ x. x.tables.now) p; retention = ap (λ x. x.retention) p }
 
-then_same : (a b c : Aggregating) → IsSameStream a b → IsSameStream b c → IsSameStream a c
+pub then_same : (a b c : Aggregating) → IsSameStream a b → IsSameStream b c → IsSameStream a c
 then_same a b c p q = record { told = q.told ∙ p.told; last = q.last ∙ p.last; broken = q.broken ∙ p.broken; now = q.now ∙ p.now; retention = q.retention ∙ p.retention }
 
 takes_all_stays : (old : Aggregating) (es : List Event) (new : Aggregating) → TakesAllIn old es new → IsSameStream old new
@@ -206,7 +206,7 @@ infos_left tables gone = λ i. record {
 }
 
 -- one that is not told of is followed as before, whatever was told of it
-same_follows : (a b : Aggregating) (t : Taking) → b.held ≡ a.held → b.retention ≡ a.retention → infos_of b.tables ≡ infos_of a.tables → FollowsTaker a t → FollowsTaker b t
+pub same_follows : (a b : Aggregating) (t : Taking) → b.held ≡ a.held → b.retention ≡ a.retention → infos_of b.tables ≡ infos_of a.tables → FollowsTaker a t → FollowsTaker b t
 same_follows a b t held retention infos f = record {
   steps = f.steps;
   events = f.events ∙ ap (λ h. events_taken f.steps ++ map shown (held_events h)) (sym held);

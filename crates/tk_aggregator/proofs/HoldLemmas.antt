@@ -175,15 +175,18 @@ module _ (t : Taking) (s : IsSettled t) (all : AllTaken t) where
   holds_kept steps is infos after None whole = subst (λ (x : Infos). HoldAllKept x t.known) (sym (whole refl ∙ ap (λ (es : List Shown). absorb no_infos es) is)) holds_all
   holds_kept steps is infos after (Some retention) whole = subst (λ (x : Infos). HoldSomeKept x t.known) (sym after) (holds_some steps is)
 
--- an aggregator that follows a finished taker holds what was kept once it found the buffer empty: all of it, where nothing leaves
-pub collects_kept : (a : Aggregating) (t : Taking) (limit count : ℕ) (b : Aggregating) (u : Taking) → Collects a t limit count b u → FollowsTaker a t → t.finished ≡ true → count < limit → HoldKept b.retention (infos_of b.tables) u.known
-collects_kept a t limit count b u k f finished below =
+-- who follows a finished taker, of which a collect had found the buffer empty, and holds no event, has what was kept: all of it, where nothing leaves
+pub follows_kept : (a : Aggregating) (t : Taking) (limit count : ℕ) (b : Aggregating) (u : Taking) → Collects a t limit count b u → t.finished ≡ true → count < limit
+    → (c : Aggregating) → FollowsTaker c u → c.held ≡ None → HoldKept c.retention (infos_of c.tables) u.known
+follows_kept a t limit count b u k finished below c at none =
     let empty = k.all below in
     let done : k.taker.finished ≡ true = ap (λ (x : Taking). x.finished) k.gathers.taker ∙ finished in
-    let at = collects_follows a t limit count b u k f in
-    let none : b.held ≡ None = k.none_held (omega (arith, below)) in
     let events : events_of u ≡ events_taken at.steps = at.events ∙ (ap (λ (h : Option _). events_taken at.steps ++ map shown (held_events h)) none ∙ append-nil (events_taken at.steps)) in
     let same : events_of u ≡ events_of k.taker = ap events_of k.totals.same in
     let known : u.known ≡ k.taker.known = ap (λ (x : Taking). x.known) k.totals.same in
-    subst (λ (rs : List Returned). HoldKept b.retention (infos_of b.tables) rs) (sym known)
-    (holds_kept k.taker (empty.settled done) empty.all at.steps (sym events ∙ same) (infos_of b.tables) at.infos b.retention at.whole)
+    subst (λ (rs : List Returned). HoldKept c.retention (infos_of c.tables) rs) (sym known)
+    (holds_kept k.taker (empty.settled done) empty.all at.steps (sym events ∙ same) (infos_of c.tables) at.infos c.retention at.whole)
+
+-- so has an aggregator that followed it before that collect
+pub collects_kept : (a : Aggregating) (t : Taking) (limit count : ℕ) (b : Aggregating) (u : Taking) → Collects a t limit count b u → FollowsTaker a t → t.finished ≡ true → count < limit → HoldKept b.retention (infos_of b.tables) u.known
+collects_kept a t limit count b u k f finished below = follows_kept a t limit count b u k finished below b (collects_follows a t limit count b u k f) (k.none_held (omega (arith, below)))

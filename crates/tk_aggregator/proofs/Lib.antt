@@ -15,3 +15,4 @@ pub mod AllKeptLemmas
 pub mod SomeKeptLemmas
 pub mod PollTotalLemmas
 pub mod HoldLemmas
+pub mod PublishLemmas

@@ -5,3 +5,4 @@ pub mod Finished
 pub mod Aggregates
 pub mod StreamErrors
 pub mod Standing
+pub mod Publishing

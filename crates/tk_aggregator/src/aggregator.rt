@@ -20,6 +20,7 @@ ghost use Rattle.tk_events.specs.Items.{Agrees};
 ghost use Rattle.tk_aggregator.specs.Absorbing.{infos_of};
 ghost use Rattle.tk_aggregator.specs.Finished.{HoldKept};
 ghost use Rattle.tk_aggregator.specs.Aggregates.{new_aggregating, IsSound, IsLaterOf, IsSameStream, Refreshes, ReadsTasks, ReadsResources, ReadsOps, TakesIn, Collects, RunsOut, TookMore, FollowsTaker, GathersUpTo, Comes, TellsTotals, WasEmpty, dropped_in, without, line_at, sending_at, having_told, after_line, MayGoOn, IsDue, Refuses};
+ghost use Rattle.tk_aggregator.specs.Publishing.{Publishes, StopsBefore};
 ghost use Rattle.tk_aggregator.specs.Standing.{leaving_at};
 ghost use Rattle.tk_events.specs.Handles.{Taking};
 ghost use Rattle.tk_stream.specs.Lines.{none_gone};
@@ -31,6 +32,7 @@ ghost use Rattle.tk_aggregator.specs.declared.stream_error.StreamError.TheVarian
 use crate::ledgered::{
     put_op, put_poll, put_resource, put_task, read_ops, read_resources, read_tasks,
 };
+use crate::published::Published;
 use crate::removal::remove;
 use crate::stream_error::StreamError;
 use std::alloc::{AllocError, Global};
@@ -516,6 +518,41 @@ impl Aggregator {
         }
         let number = self.send_line(now, writer, false)?;
         Ok(number)
+    }
+
+    /// Takes events in as [`Aggregator::collect`] does, up to `limit`, then reads each ledger as [`Aggregator::refresh`] does, and
+    /// then writes the next line as [`Aggregator::publish`] does, at the moment `now`: always in this order, so that each new item
+    /// is read before its line, and the line has all that was taken in. Fewer events than the limit were taken in only where the
+    /// buffer was empty at a moment of the call.
+    ///
+    /// The first of these that applies:
+    /// - `Memory` of `collect`: an event found none and is held, and those before it stand in the tables. No ledger was read, and
+    ///   nothing was written.
+    /// - a refusal of `publish`: the events stand in the tables, and each ledger was read. What else stays, `publish` says.
+    pub fn collect_and_publish<R: Wait, W: Write>(
+        &mut self,
+        rt: &R,
+        taker: &mut Taker,
+        limit: u64,
+        now: u64,
+        writer: &mut W,
+    ) -> Result<Published, StreamError>
+        ensures ok { IfOk result (λ done. Publishes self.old taker.old limit now done self.new taker.new (W.contents writer.old) (W.contents writer.new)) }
+        ensures err { IfErr result (λ e. StopsBefore e self.old taker.old limit now self.new taker.new (W.contents writer.old) (W.contents writer.new)) }
+        ensures took { TookMore taker.old taker.new }
+        ensures follows { FollowsTaker self.old taker.old → FollowsTaker self.new taker.new }
+        ensures kept { IfOk result (λ done. FollowsTaker self.old taker.old → taker.old.finished ≡ true → done.events < limit
+            → HoldKept self.new.retention (infos_of self.new.tables) taker.new.known) }
+    {
+        let events = match self.collect(rt, taker, limit) {
+            Ok(events) => events,
+            Err(why) => return Err(why),
+        };
+        self.refresh(rt);
+        match self.publish(now, writer) {
+            Ok(number) => Ok(Published { events, number }),
+            Err(why) => Err(why),
+        }
     }
 
     /// Writes the next line as one that tells of the tables as a whole, and a line end, and answers its number. Behind a line

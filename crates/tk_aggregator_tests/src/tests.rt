@@ -19,6 +19,7 @@ fn tells_what_was_recorded(rt: HostRuntime) {
     assert!(rt; tasks::tells_of_no_items(alloc));
     assert!(rt; tasks::tells_of_a_poll_and_all(&rt, alloc));
     assert!(rt; tasks::tells_of_a_dropped_task(&rt, alloc));
+    assert!(rt; tasks::tells_in_one_call(&rt, alloc));
     assert!(rt; items::tells_of_each_kind(&rt, alloc));
 }
 

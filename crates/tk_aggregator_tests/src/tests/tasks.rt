@@ -3,10 +3,10 @@
 use super::given::{
     collects, limits, make_task, makes_task, on_console, on_new, refresh_and_publish, take_in_task,
 };
-use super::texts::{DROPPED, EMPTY_TWICE, POLLED};
+use super::texts::{DROPPED, EMPTY_TWICE, MAIN, POLLED, UNCHANGED};
 use std::alloc::Global;
 use std::sync::Wait;
-use tk_aggregator::Aggregator;
+use tk_aggregator::{Aggregator, Published, StreamError};
 use tk_events::{Recorder, Taker};
 use tk_ledgers::TaskOwner;
 
@@ -120,5 +120,72 @@ fn tells_of_dropped<R: Wait>(rt: &R, alloc: Global, taker: &mut Taker) -> bool {
 pub(super) fn tells_of_a_dropped_task<R: Wait>(rt: &R, alloc: Global) -> bool {
     on_console(alloc, limits(1, 2, 9), |recorders, taker| {
         makes_three(rt, alloc, recorders) && tells_of_dropped(rt, alloc, taker)
+    })
+}
+
+// What one call at this moment answers that takes events in, reads the ledgers and publishes, and what it writes.
+fn answers<R: Wait>(
+    rt: &R,
+    alloc: Global,
+    aggregator: &mut Aggregator,
+    taker: &mut Taker,
+    now: u64,
+    answer: Result<Published, StreamError>,
+    text: &str,
+) -> bool {
+    let mut written = Vec::new(alloc);
+    aggregator.collect_and_publish(rt, taker, 9, now, &mut written) == answer
+        && written.as_slice() == text.as_bytes()
+}
+
+// The line of a new task, none where the clock ran backwards, and one of no change.
+fn goes_on_in_one_call<R: Wait>(
+    rt: &R,
+    alloc: Global,
+    aggregator: &mut Aggregator,
+    taker: &mut Taker,
+) -> bool {
+    let first = Ok(Published {
+        events: 1,
+        number: 1,
+    });
+    let second = Ok(Published {
+        events: 0,
+        number: 2,
+    });
+    answers(rt, alloc, aggregator, taker, 200, first, MAIN)
+        && answers(
+            rt,
+            alloc,
+            aggregator,
+            taker,
+            199,
+            Err(StreamError::Clock),
+            "",
+        )
+        && answers(rt, alloc, aggregator, taker, 300, second, UNCHANGED)
+}
+
+fn records_and_tells<R: Wait>(
+    rt: &R,
+    alloc: Global,
+    aggregator: &mut Aggregator,
+    recorders: &mut Vec<Recorder>,
+    taker: &mut Taker,
+) -> bool {
+    match recorders.get_mut(0) {
+        Some(recorder) => {
+            makes_task(rt, alloc, recorder, b"main", 100)
+                && goes_on_in_one_call(rt, alloc, aggregator, taker)
+        }
+        None => false,
+    }
+}
+
+pub(super) fn tells_in_one_call<R: Wait>(rt: &R, alloc: Global) -> bool {
+    on_console(alloc, limits(1, 4, 9), |recorders, taker| {
+        on_new(alloc, 0, |aggregator| {
+            records_and_tells(rt, alloc, aggregator, recorders, taker)
+        })
     })
 }
