@@ -1,11 +1,11 @@
 //! Scripts: the examples of the repository, and one that uses each command.
 
-// `examples/first.script`, with a snapshot behind it.
+// As `examples/first.script`, but that no task is closed, and with a snapshot after it.
 pub(super) fn first() -> &'static [u8] {
     b"# One task starves another: `heartbeat` may be polled from 1000 on, and waits until `resize_image` is through with its long poll.\ntask 1000 spawn resize_image\ntask 1000 spawn heartbeat\nstart 1 2000\n# While the long poll runs: `resize_image` is `polling`, `heartbeat` is `scheduled` and was polled 0 times.\npublish 500000\nend 1 902000\nstart 2 903000\nend 2 904000\n# `heartbeat` waited from 1000 to 903000, so its `sched` is 902000, and ran for 1000, its `busy`.\npublish 1000000\nsnapshot 9000000000000\n"
 }
 
-// `examples/long-poll.script`, with a snapshot behind it.
+// As `examples/long-poll.script`, but that no task is closed, and with a snapshot after it.
 pub(super) fn long_poll() -> &'static [u8] {
     b"# A poll that does not yield: `resize_image` started at 1000000 and is still `polling` five seconds later.\ntask 900000 spawn resize_image\nstart 1 1000000\n# `busy` is 0, since it counts polls that have ended.\npublish 2000000\n# Nothing was called since, so this line has no statistics: the poll goes on, and `now` is 5000000000 above `last_started`.\npublish 5001000000\nend 1 6001000000\n# Now `busy` is 6000000000.\npublish 6002000000\nsnapshot 9000000000000\n"
 }
@@ -20,7 +20,7 @@ pub(super) fn wakes_itself() -> &'static [u8] {
     b"# A task that keeps itself busy: `spinner` wakes itself in each of its polls, so it is `scheduled` again before each poll ends.\ntask 0 spawn spinner\ntask 0 spawn timer\nstart 1 1000\nselfwake 1 1500\nend 1 2000\n# `timer` waits for its waker, which something outside the tasks holds.\nstart 2 2000\nclone 2\nend 2 2100\npublish 3000\nstart 1 3000\nselfwake 1 3500\nend 1 4000\nstart 1 4000\nselfwake 1 4500\n# In the middle of a third poll: all 3 wakes of `spinner` are its own (`self_wakes`). `timer` did nothing, so the line leaves it out.\npublish 5000\nend 1 5000\n# The timer fires. The wake uses its waker up: `clones` 1, `drops` 1.\nwake 1 6000\npublish 7000\n# For a client that comes late: one line that tells of all.\nsnapshot 7000\nsnapshot 9000000000000\n"
 }
 
-// `examples/semaphore.script`, with a snapshot behind it.
+// As `examples/semaphore.script`, but that one task stays open, and with a snapshot after it.
 pub(super) fn semaphore() -> &'static [u8] {
     b"# A semaphore with 2 permits, and two tasks that take them. `closed` is an attribute too.\ntask 10 spawn reader\ntask 10 spawn writer\nresource 20 Sync Semaphore permits=2 closed=false\nop 30 1 Semaphore::acquire wants=1\nop 30 1 Semaphore::acquire wants=2\n# `reader` polls its operation: a permit is free, so the poll is ready at once.\noptask 1 1\nstart 1 40\nopstart 1 40\nrsub 1 0 1\npollop 1 1 1 poll_acquire ready\nopend 1 45\nopclose 1 45\nend 1 50\n# `writer` wants two permits and gets none yet. It leaves a waker with the semaphore.\noptask 2 2\nstart 2 60\nopstart 2 60\npollop 1 2 2 poll_acquire pending\nclone 2\nopend 2 64\nend 2 65\n# One of two poll operations was ready: `poll_counts` is [resource, 1, 1].\npublish 100\n# `reader` gives its permit back, and that wakes `writer`.\nradd 1 0 1\nwake 1 110\nclose 1 115\nstart 2 120\nopstart 2 120\nrsub 1 0 2\npollop 1 2 2 poll_acquire ready\nopend 2 122\nopclose 2 122\nend 2 130\n# The semaphore is closed: its owner is gone, and `closed` was set before.\nrset 1 1 true\nrclose 1 140\npublish 200\nsnapshot 9000000000000\n"
 }
