@@ -90,4 +90,5 @@ def main():
             measure(folder, *stream)
 
 
-main()
+if __name__ == "__main__":
+    main()

@@ -1,11 +1,14 @@
 -- What was done where nothing could be.
 use Rattle.std.proofs.Common.{◌≡◌, [], List, ℕ, Option, Some, None, Err, sym, refl}
+use Rattle.std.specs.Borrow.{Bor}
 use Rattle.std.specs.Io.KnownBytes.{Appends}
 use Rattle.std.proofs.lemmas.List.{append-nil}
 use Rattle.tk_fault.specs.declared.fault.AppFault.TheVariants as faults
-use Rattle.taskscope.specs.Program.{Does}
+use Rattle.tk_screen.specs.declared.canvas.Canvas.{Canvas}
+use Rattle.tk_watch.proofs.WatchLemmas.{none_drawn}
+use Rattle.taskscope.specs.Program.{Does, filter_text, screen_by}
 use Rattle.taskscope.specs.declared.command_line.Request.{Request}
-use Rattle.taskscope.specs.declared.command_line.Request.TheVariants.{Demo, Page, Run, Show}
+use Rattle.taskscope.specs.declared.command_line.Request.TheVariants.{Demo, Page, Run, Show, Watch}
 
 -- nothing was written
 nothing_more : (known : Option (List ℕ)) → Appends known known []
@@ -13,27 +16,37 @@ nothing_more None = tt
 nothing_more (Some xs) = sym (append-nil xs)
 
 -- without memory nothing is read or written, whatever is asked for
-pub nothing_done : (request : Request) (given known : Option (List ℕ)) (status : ℕ) → status ≡ 1 → Does request given given known known status
-nothing_done Run given known status told = record {
+pub nothing_done : (terminal : Canvas) (filter : Option (List ℕ)) (request : Request) (given known : Option (List ℕ)) (status : ℕ) → status ≡ 1
+    → Does terminal filter request given given known known status
+nothing_done terminal filter Run given known status told = record {
   outcome = Err faults.Memory;
   told = told;
   written = [];
   runs = refl;
   appends = nothing_more known;
 }
-nothing_done (Show shown lints) given known status told = record {
+nothing_done terminal filter (Show shown lints) given known status told = record {
   outcome = Err faults.Memory;
   told = told;
   views = tt;
   unwritten = λ other. refl;
 }
-nothing_done (Page lints) given known status told = record {
+nothing_done terminal filter (Page lints) given known status told = record {
   outcome = Err faults.Memory;
   told = told;
   pages = tt;
   unwritten = λ other. refl;
 }
-nothing_done Demo given known status told = record {
+nothing_done terminal filter (Watch options) given known status told =
+    let part : Bor (List ℕ) = record { ref_ptr = (0, 0); now = filter_text filter } in
+    record {
+      outcome = Err faults.Memory;
+      told = told;
+      part = part;
+      is_text = refl;
+      watches = none_drawn (screen_by options part terminal) given known;
+    }
+nothing_done terminal filter Demo given known status told = record {
   outcome = Err faults.Memory;
   told = told;
   shows = refl;

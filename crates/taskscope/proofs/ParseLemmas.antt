@@ -1,5 +1,5 @@
 -- Where a parse takes words, they ask for something: whatever the parse has held of an option's number passed its parser.
-use Rattle.std.proofs.Common.{◌≡◌, ◌^◌, refl, sym, subst, ap, ap₂, ◌∙◌, ℕ, zero, suc, Bool, true, false, cond, List, [], ◌∷◌, ◌++◌, length, codes, Option, Some, None, is_some, true≢false, arith, ◌&&◌, ◌||◌, inl, inr, ◌⊎◌, nat_le, nat_lt}
+use Rattle.std.proofs.Common.{◌≡◌, ◌^◌, refl, sym, subst, ap, ap₂, ◌∙◌, ℕ, zero, suc, Bool, true, false, cond, List, [], ◌∷◌, ◌++◌, length, codes, Option, Some, None, is_some, true≢false, arith, ◌&&◌, ◌||◌, inl, inr, ◌⊎◌, nat_le, nat_lt, not}
 use Rattle.std.specs.Prelude.{option_and_then, slice_get, IsSome}
 use Rattle.std.specs.List.{find, fold}
 use Rattle.std.specs.Option.{option_map, option_map_or}
@@ -9,7 +9,7 @@ use Rattle.std.proofs.lemmas.Bool.{ne_eqb}
 use Rattle.clap.specs.Faults.{bundle_fault, bundle_step_fault, check_fault, defaults_fault, entered_fault, fault_of, flag_word_fault, flags_fault, level_fault, long_fault, option_fault, other_fault, positional_fault, react_fault, repeat_fault, settle_fault, short_fault, step_fault, stray_fault, turn_fault, use_fault, values_fault, walk_fault, word_fault}
 use Rattle.clap.specs.Kinds.{Kinds, or_else, range_kinds, value_kinds}
 use Rattle.clap.specs.Lexer.{long_of, short_of}
-use Rattle.clap.specs.Simple.{App, Shape, argument_words, built, entered, filled, help_rule, names_of, with_index}
+use Rattle.clap.specs.Simple.{App, Shape, argument_words, built, entered, filled, help_rule, names_of, subcommand_of, with_index}
 use Rattle.clap.specs.Values.{read_as}
 use Rattle.clap.specs.ValueTests.{is_numeral, is_unsigned_in}
 use Rattle.clap.specs.Walk.{Held, Names, Outcome, Row, Rule, Step, Text, Waiting, Walk, after_flag, after_step, arg_by_id, arg_by_index, arg_by_long, arg_by_short, at_row, attached_value, bundle, bundle_met, bundle_step, done, finished, flag_met, has_row, idle, is_pending, long_met, long_or_other, more_values, next, nothing_held, option, option_met, option_word, plain, plain_word, positional, pushed, reacted, refused, rows_after, settled, settled_rows, short_met, short_or_plain, subcommand, subcommand_met, subcommand_or_other, takes_several, takes_values, to_positional, trailing, used, used_by_id, value, waits, walk, walk_from, walked, walked_from, with_default, without, word_met, row_text, one_of}
@@ -17,7 +17,7 @@ use Rattle.clap.specs.declared.builder.value_parser.Reading.{Reading}
 use Rattle.clap.specs.declared.builder.value_parser.Reading.TheVariants as reading
 use Rattle.clap.specs.declared.builder.value_parser.ValueParser.TheVariants as vp
 use Rattle.clap.specs.declared.error.kind.ErrorKind.{ErrorKind}
-use Rattle.clap.specs.declared.error.kind.ErrorKind.TheVariants.{TooManyValues, ValueValidation, WrongNumberOfValues}
+use Rattle.clap.specs.declared.error.kind.ErrorKind.TheVariants.{InvalidValue, TooManyValues, ValueValidation, WrongNumberOfValues}
 use Rattle.clap.specs.declared.parser.matches.ValueSource.{ValueSource}
 use Rattle.clap.specs.declared.parser.matches.ValueSource.TheVariants.{CommandLine, DefaultValue}
 use Rattle.clap.proofs.ValueTestLemmas.{Accepts-accepts, accepts-Accepts}
@@ -25,8 +25,9 @@ use Rattle.clap.proofs.WalkLemmas.{both}
 use Rattle.tk_client.specs.Warnings.{LintsView}
 use Rattle.tk_report.specs.declared.view.View.{View}
 use Rattle.tk_report.specs.declared.view.View.TheVariants.{Report, Lint}
-use Rattle.taskscope.specs.declared.command_line.Request.TheVariants.{Page, Show}
-use Rattle.taskscope.specs.Requests.{asked, asked_in, file_argument, lints_in, number_of, number_option, program}
+use Rattle.tk_frame.specs.declared.query.Column.{Column}
+use Rattle.taskscope.specs.declared.command_line.Request.TheVariants.{Page, Show, Watch}
+use Rattle.taskscope.specs.Requests.{asked, asked_in, column_at, column_fault, file_argument, lints_in, names_no_column, number_of, number_option, program, refusals, watch_by}
 
 -- ---- lists of kinds
 
@@ -462,12 +463,18 @@ page_asks_of : (lints : Option LintsView) → IsSome lints → IsSome (option_an
 page_asks_of None some = absurd (true≢false (sym some))
 page_asks_of (Some l) some = refl
 
+-- a column that is one
+watch_asks_of : (options : List Row) (column : Option Column) → not (is_some column) ≡ false
+    → IsSome (option_and_then (λ sort. Some (Watch (watch_by sort options))) column)
+watch_asks_of options None wrong = absurd (true≢false wrong)
+watch_asks_of options (Some sort) right = refl
+
 abbrev there : App
 there = built program
 
 -- one of the commands
 abbrev IsCommand : Text → Type 0
-IsCommand name = (name ≡ codes "run") ⊎ ((name ≡ codes "view") ⊎ ((name ≡ codes "lint") ⊎ ((name ≡ codes "page") ⊎ (name ≡ codes "demo"))))
+IsCommand name = (name ≡ codes "run") ⊎ ((name ≡ codes "view") ⊎ ((name ≡ codes "lint") ⊎ ((name ≡ codes "page") ⊎ ((name ≡ codes "watch") ⊎ (name ≡ codes "demo")))))
 
 abbrev MeetsCommand : Option Text → Type 0
 MeetsCommand None = Unit {0}
@@ -483,24 +490,25 @@ EntersCommand (trailing position) = Unit {0}
 EntersCommand (subcommand name) = IsCommand name
 EntersCommand value = Unit {0}
 
-abbrev met : Bool → Bool → Bool → Bool → Bool → Bool → Option (Text × List Text)
-met a b c d e f = cond a (Some (codes "run", [])) (cond b (Some (codes "view", [])) (cond c (Some (codes "lint", [])) (cond d (Some (codes "page", [])) (cond e (Some (codes "demo", [])) (cond f (Some (codes "help", [])) None)))))
+abbrev met : Bool → Bool → Bool → Bool → Bool → Bool → Bool → Option (Text × List Text)
+met a b c d e f g = cond a (Some (codes "run", [])) (cond b (Some (codes "view", [])) (cond c (Some (codes "lint", [])) (cond d (Some (codes "page", [])) (cond e (Some (codes "watch", [])) (cond f (Some (codes "demo", [])) (cond g (Some (codes "help", [])) None))))))
 
 -- `help` is answered, so that no parse enters it
 meets_command : (waiting : Waiting) (word : Text) (h : Held) → other_fault there.top (subcommand_met (names_of there) waiting word) word h ≡ []
     → MeetsCommand (subcommand_met (names_of there) waiting word)
 meets_command (option id) word h none = tt
 meets_command positional word h none = tt
-meets_command idle word h none = go (bytes_eq (codes "run") word || false) (bytes_eq (codes "view") word || false) (bytes_eq (codes "lint") word || false) (bytes_eq (codes "page") word || false) (bytes_eq (codes "demo") word || false) (bytes_eq (codes "help") word || false) none
+meets_command idle word h none = go (bytes_eq (codes "run") word || false) (bytes_eq (codes "view") word || false) (bytes_eq (codes "lint") word || false) (bytes_eq (codes "page") word || false) (bytes_eq (codes "watch") word || false) (bytes_eq (codes "demo") word || false) (bytes_eq (codes "help") word || false) none
   where
-    go : (a b c d e f : Bool) → other_fault there.top (option_map (λ s. s.0) (met a b c d e f)) word h ≡ [] → MeetsCommand (option_map (λ s. s.0) (met a b c d e f))
-    go true b c d e f none = inl refl
-    go false true c d e f none = inr (inl refl)
-    go false false true d e f none = inr (inr (inl refl))
-    go false false false true e f none = inr (inr (inr (inl refl)))
-    go false false false false true f none = inr (inr (inr (inr refl)))
-    go false false false false false true none = absurd (some_kind _ _ none)
-    go false false false false false false none = tt
+    go : (a b c d e f g : Bool) → other_fault there.top (option_map (λ s. s.0) (met a b c d e f g)) word h ≡ [] → MeetsCommand (option_map (λ s. s.0) (met a b c d e f g))
+    go true b c d e f g none = inl refl
+    go false true c d e f g none = inr (inl refl)
+    go false false true d e f g none = inr (inr (inl refl))
+    go false false false true e f g none = inr (inr (inr (inl refl)))
+    go false false false false true f g none = inr (inr (inr (inr (inl refl))))
+    go false false false false false true g none = inr (inr (inr (inr (inr refl))))
+    go false false false false false false true none = absurd (some_kind _ _ none)
+    go false false false false false false false none = tt
 
 module _ (c : List Rule) where
   plain_enters : (waiting : Waiting) (word : Text) (h : Held) → EntersCommand (plain_word c waiting word h).1
@@ -585,36 +593,50 @@ numbers_there s words is none =
     let held = settled_good s.rules s.args_override_self sound end walks (first_none _ _ after) in
     subst (λ c. HaveNumbers (fold with_default (settled s.rules end).rows c)) (sym is) (with_defaults (settled s.rules end).rows held)
 
+-- where the words behind a command are taken, and its column is one, it asks for something
 abbrev TakenAsks : Text → List Text → Type 0
-TakenAsks name words = entered_fault there (Some (name, words)) ≡ [] → IsSome (asked_in (entered there (Some (name, words))))
+TakenAsks name words = entered_fault there (Some (name, words)) ≡ [] → names_no_column (entered there (Some (name, words))) ≡ false
+    → IsSome (asked_in (entered there (Some (name, words))))
 
 run_asks : (words : List Text) → TakenAsks (codes "run") words
-run_asks words none = refl
+run_asks words none named = refl
 
 show_asks : (words : List Text) → TakenAsks (codes "view") words
-show_asks words none = view_asks Report _ (lints_there _ (numbers_there _ words refl none))
+show_asks words none named = view_asks Report _ (lints_there _ (numbers_there _ words refl none))
 
 lint_asks : (words : List Text) → TakenAsks (codes "lint") words
-lint_asks words none = view_asks Lint _ (lints_there _ (numbers_there _ words refl none))
+lint_asks words none named = view_asks Lint _ (lints_there _ (numbers_there _ words refl none))
 
 page_asks : (words : List Text) → TakenAsks (codes "page") words
-page_asks words none = page_asks_of _ (lints_there _ (numbers_there _ words refl none))
+page_asks words none named = page_asks_of _ (lints_there _ (numbers_there _ words refl none))
+
+-- the options behind a command
+abbrev options_in : Option (Text × List Row) → List Row
+options_in None = []
+options_in (Some command) = command.1
+
+watch_named : (options : List Row) → names_no_column (Some (codes "watch", options)) ≡ false → IsSome (asked_in (Some (codes "watch", options)))
+watch_named options named = watch_asks_of options (column_at options) named
+
+watch_asks : (words : List Text) → TakenAsks (codes "watch") words
+watch_asks words none named = watch_named (options_in (entered there (Some (codes "watch", words)))) named
 
 demo_asks : (words : List Text) → TakenAsks (codes "demo") words
-demo_asks words none = refl
+demo_asks words none named = refl
 
 stop_asks : (stop : Option (Text × List Text)) (rows : List Row) → StopsAtCommand stop → entered_fault there stop ≡ []
-    → check_fault there.top rows (is_some (entered there stop)) ≡ [] → IsSome (asked_in (entered there stop))
-stop_asks None rows at none checked = absurd (some_kind _ _ checked)
-stop_asks (Some (name, words)) rows (inl is) none checked = subst (λ n. TakenAsks n words) (sym is) (run_asks words) none
-stop_asks (Some (name, words)) rows (inr (inl is)) none checked = subst (λ n. TakenAsks n words) (sym is) (show_asks words) none
-stop_asks (Some (name, words)) rows (inr (inr (inl is))) none checked = subst (λ n. TakenAsks n words) (sym is) (lint_asks words) none
-stop_asks (Some (name, words)) rows (inr (inr (inr (inl is)))) none checked = subst (λ n. TakenAsks n words) (sym is) (page_asks words) none
-stop_asks (Some (name, words)) rows (inr (inr (inr (inr is)))) none checked = subst (λ n. TakenAsks n words) (sym is) (demo_asks words) none
+    → check_fault there.top rows (is_some (entered there stop)) ≡ [] → names_no_column (entered there stop) ≡ false → IsSome (asked_in (entered there stop))
+stop_asks None rows at none checked named = absurd (some_kind _ _ checked)
+stop_asks (Some (name, words)) rows (inl is) none checked named = subst (λ n. TakenAsks n words) (sym is) (run_asks words) none named
+stop_asks (Some (name, words)) rows (inr (inl is)) none checked named = subst (λ n. TakenAsks n words) (sym is) (show_asks words) none named
+stop_asks (Some (name, words)) rows (inr (inr (inl is))) none checked named = subst (λ n. TakenAsks n words) (sym is) (lint_asks words) none named
+stop_asks (Some (name, words)) rows (inr (inr (inr (inl is)))) none checked named = subst (λ n. TakenAsks n words) (sym is) (page_asks words) none named
+stop_asks (Some (name, words)) rows (inr (inr (inr (inr (inl is))))) none checked named = subst (λ n. TakenAsks n words) (sym is) (watch_asks words) none named
+stop_asks (Some (name, words)) rows (inr (inr (inr (inr (inr is))))) none checked named = subst (λ n. TakenAsks n words) (sym is) (demo_asks words) none named
 
--- words that a parse takes ask for something
-pub taken_words_ask : (words : List Text) → fault_of program words ≡ [] → IsSome (asked words)
-taken_words_ask words none =
+-- words that a parse takes, and whose column is one, ask for something
+parsed_words_ask : (words : List Text) → fault_of program words ≡ [] → names_no_column (subcommand_of program words) ≡ false → IsSome (asked words)
+parsed_words_ask words none named =
     let given = argument_words program words in
     let end = walk there.top.rules (names_of there) nothing_held given in
     let stops = walk_stops (walk_from nothing_held) given tt (first_none _ _ none) in
@@ -622,4 +644,15 @@ taken_words_ask words none =
     let settles = next_none (entered_fault there end.stopped) _ inside in
     let defaults = next_none (settle_fault there.top.rules there.top.args_override_self end.held) _ settles in
     let checks = next_none (defaults_fault (settled there.top.rules end.held).rows there.top.rules) _ defaults in
-    stop_asks end.stopped (finished there.top.rules end.held) stops (first_none _ _ inside) checks
+    stop_asks end.stopped (finished there.top.rules end.held) stops (first_none _ _ inside) checks named
+
+named_if : (b : Bool) → cond b (InvalidValue ∷ []) [] ≡ [] → b ≡ false
+named_if false none = refl
+named_if true none = absurd (some_kind _ _ none)
+
+-- words that are taken ask for something
+pub taken_words_ask : (words : List Text) → refusals words ≡ [] → IsSome (asked words)
+taken_words_ask words none =
+    let command = subcommand_of program words in
+    parsed_words_ask words (first_none (fault_of program words) (column_fault command) none)
+    (named_if (names_no_column command) (next_none (fault_of program words) (column_fault command) none))

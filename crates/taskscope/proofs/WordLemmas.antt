@@ -1,13 +1,15 @@
 -- What the words ask for, by what a parse finds in them.
-use Rattle.std.proofs.Common.{◌≡◌, true, ap, ◌∙◌, [], ◌∷◌, Some, subst, unwrap_or, inl, inr}
+use Rattle.std.proofs.Common.{◌≡◌, Bool, cond, true, false, ap, ap₂, sym, ◌∙◌, ◌⊎◌, [], ◌∷◌, List, ℕ, Some, subst, unwrap_or, inl, inr}
 use Rattle.std.specs.List.{list_all}
-use Rattle.clap.specs.Kinds.{HasKind, IsAmong, Kinds}
+use Rattle.clap.specs.Faults.{fault_of}
+use Rattle.clap.specs.Kinds.{HasKind, IsAmong, Kinds, or_else}
+use Rattle.clap.specs.Simple.{subcommand_of}
 use Rattle.clap.specs.Values.{kind_of}
 use Rattle.clap.specs.declared.error.Error.{Error}
 use Rattle.clap.specs.declared.error.kind.ErrorKind.{ErrorKind}
-use Rattle.clap.specs.declared.error.kind.ErrorKind.TheVariants.{OutOfMemory}
+use Rattle.clap.specs.declared.error.kind.ErrorKind.TheVariants.{InvalidValue, OutOfMemory}
 use Rattle.clap.proofs.WalkLemmas.{both}
-use Rattle.taskscope.specs.Requests.{is_mistake}
+use Rattle.taskscope.specs.Requests.{is_mistake, names_no_column, program, refusals}
 
 pub some_is : {A : Type 0} (x y : A) → Some x ≡ Some y → x ≡ y
 some_is x y e = ap (λ o. unwrap_or o x) e
@@ -23,3 +25,24 @@ pub mistake_among : (k : ErrorKind) (kinds : Kinds) → list_all is_mistake kind
 mistake_among k [] all none = absurd none
 mistake_among k (x ∷ xs) all (inl here) = ap is_mistake here ∙ (both (is_mistake x) (list_all is_mistake xs) all).0
 mistake_among k (x ∷ xs) all (inr later) = mistake_among k xs (both (is_mistake x) (list_all is_mistake xs) all).1 later
+
+-- ---- what a parse refuses, and a column that is none
+
+first_has : (a b : Kinds) (e : Error) → HasKind a e → HasKind (or_else a b) e
+first_has [] b e (inl memory) = inl memory
+first_has [] b e (inr among) = absurd among
+first_has (k ∷ ks) b e has = has
+
+pub parse_refuses : (words : List (List ℕ)) (e : Error) → HasKind (fault_of program words) e → HasKind (refusals words) e
+parse_refuses words e = first_has (fault_of program words) _ e
+
+refusals_where : (words : List (List ℕ)) (b : Bool) → fault_of program words ≡ [] → names_no_column (subcommand_of program words) ≡ b
+    → refusals words ≡ cond b (InvalidValue ∷ []) []
+refusals_where words b none named = ap₂ or_else none (ap (λ x. cond x (InvalidValue ∷ []) []) named)
+
+pub none_refuses : (words : List (List ℕ)) → fault_of program words ≡ [] → names_no_column (subcommand_of program words) ≡ false → refusals words ≡ []
+none_refuses words = refusals_where words false
+
+pub column_refuses : (words : List (List ℕ)) (e : Error) → fault_of program words ≡ [] → names_no_column (subcommand_of program words) ≡ true
+    → (kind_of e ≡ OutOfMemory) ⊎ (kind_of e ≡ InvalidValue) → HasKind (refusals words) e
+column_refuses words e none named kind = subst (λ ks. HasKind ks e) (sym (refusals_where words true none named)) (elim kind [ inl memory ↦ inl memory | inr value ↦ inr (inl value) ])

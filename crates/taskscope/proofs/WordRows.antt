@@ -1,11 +1,12 @@
 -- What words of a command line ask for, word by word.
-use Rattle.std.proofs.Common.{◌≡◌, refl, ℕ, List, [], ◌∷◌, codes, true≢false, sym, ap, Some}
+use Rattle.std.proofs.Common.{◌≡◌, refl, ℕ, List, [], ◌∷◌, codes, true, true≢false, sym, ap, Some}
 use Rattle.clap.specs.Walk.{is_empty}
-use Rattle.clap.specs.declared.error.kind.ErrorKind.TheVariants.{ArgumentConflict, DisplayHelp, InvalidSubcommand, MissingSubcommand, UnknownArgument, ValueValidation}
+use Rattle.clap.specs.declared.error.kind.ErrorKind.TheVariants.{ArgumentConflict, DisplayHelp, InvalidSubcommand, InvalidValue, MissingSubcommand, UnknownArgument, ValueValidation}
 use Rattle.clap.proofs.OnLiterals.{clap_on_literals}
 use Rattle.tk_report.specs.declared.view.View.TheVariants.{Report, Lint}
-use Rattle.taskscope.specs.declared.command_line.Request.TheVariants.{Demo, Page, Run, Show}
-use Rattle.taskscope.specs.Requests.{AsksFor, AsksForHelp, AsksForInput, IsMistake, file_of, plain_lints, refusals}
+use Rattle.taskscope.specs.declared.command_line.Request.TheVariants.{Demo, Page, Run, Show, Watch}
+use Rattle.tk_frame.specs.declared.query.Column.TheVariants.{Sched}
+use Rattle.taskscope.specs.Requests.{AsksFor, AsksForHelp, AsksForInput, IsMistake, file_of, filter_of, plain_lints, plain_watch, refusals}
 
 -- the program is called by some name
 module _ (name : List ℕ) where
@@ -24,6 +25,10 @@ module _ (name : List ℕ) where
   pub page : AsksForInput (Page plain_lints) (name ∷ codes "page" ∷ [])
   unfolding clap_on_literals
   page = ((refl, refl), refl)
+
+  pub watch : AsksForInput (Watch plain_watch) (name ∷ codes "watch" ∷ [])
+  unfolding clap_on_literals
+  watch = ((refl, refl), refl)
 
   pub demo : AsksForInput Demo (name ∷ codes "demo" ∷ [])
   unfolding clap_on_literals
@@ -45,6 +50,19 @@ module _ (name : List ℕ) where
       (name ∷ codes "lint" ∷ codes "--self-wake-percent" ∷ codes "100" ∷ codes "--never-yielded-ns=0" ∷ [])
   unfolding clap_on_literals
   all_wakes = (refl, refl)
+
+  the_longest_waits : AsksFor (Watch (record plain_watch { sort = Sched; rows = 5; plain = true; resources = true }))
+      (name ∷ codes "watch" ∷ codes "--sort=sched" ∷ codes "--rows=5" ∷ codes "--plain" ∷ codes "--resources" ∷ [])
+  unfolding clap_on_literals
+  the_longest_waits = (refl, refl)
+
+  some_tasks : filter_of (name ∷ codes "watch" ∷ codes "--filter" ∷ codes "api" ∷ []) ≡ Some (codes "api")
+  unfolding clap_on_literals
+  some_tasks = refl
+
+  no_such_column : refusals (name ∷ codes "watch" ∷ codes "--sort" ∷ codes "name" ∷ []) ≡ InvalidValue ∷ []
+  unfolding clap_on_literals
+  no_such_column = refl
 
   a_percentage_too_large : refusals (name ∷ codes "view" ∷ codes "--self-wake-percent=101" ∷ []) ≡ ValueValidation ∷ []
   unfolding clap_on_literals

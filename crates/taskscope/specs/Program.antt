@@ -1,5 +1,6 @@
 -- What a run of the program does with a script, with a stream, and for the demo.
-use Rattle.std.specs.Prelude.{◌≡◌, ◌==◌, ℕ, Bool, true, List, Option, Result, Ok, Err, IfErr, if◌then◌else◌}
+use Rattle.std.specs.Prelude.{◌≡◌, ◌==◌, ℕ, Bool, true, List, [], Option, Result, Ok, Err, IfErr, if◌then◌else◌, unwrap_or}
+use Rattle.std.specs.Borrow.{Bor}
 use Rattle.std.specs.Io.KnownBytes.{Appends}
 use Rattle.tk_client.specs.Warnings.{LintsView}
 use Rattle.tk_app.specs.Demo.{Demonstrates}
@@ -7,10 +8,15 @@ use Rattle.tk_live.specs.Script.{ReadsAndRuns}
 use Rattle.tk_page.specs.Pages.{Pages}
 use Rattle.tk_report.specs.Views.{IsOfWriter, Views}
 use Rattle.tk_fault.specs.declared.fault.AppFault.{AppFault}
+use Rattle.tk_screen.specs.declared.canvas.Canvas.{Canvas}
+use Rattle.tk_screen.specs.declared.canvas.Canvas.TheVariants.{Plain}
+use Rattle.tk_watch.specs.Watches.{Watches}
+use Rattle.tk_watch.specs.declared.drawing.Screen.{Screen}
 use Rattle.tk_report.specs.declared.view.View.{View}
 use Rattle.tk_report.specs.declared.view.View.TheVariants.{Report, Lint}
 use Rattle.taskscope.specs.declared.command_line.Request.{Request}
-use Rattle.taskscope.specs.declared.command_line.Request.TheVariants.{Demo, Page, Run, Show}
+use Rattle.taskscope.specs.declared.command_line.Request.TheVariants.{Demo, Page, Run, Show, Watch}
+use Rattle.taskscope.specs.declared.command_line.WatchOptions.{WatchOptions}
 
 -- the status that tells an outcome: 0 without a fault, 1 with one
 abbrev pub status_of : Result (Unit {0}) AppFault → ℕ
@@ -61,6 +67,27 @@ pub record PagesStream (lints : LintsView) (given left old new : Option (List �
   -- only a writer's fault comes once something was written
   pub unwritten : IfErr outcome (λ fault. (IsOfWriter fault → ⊥) → new ≡ old)
 
+-- what a watch's screens show, of the tasks in whose name a text stands. They are drawn on the terminal, unless text is asked for
+abbrev pub screen_by : WatchOptions → Bor (List ℕ) → Canvas → Screen
+screen_by options part terminal = record {
+  query = record {
+    sort = options.sort;
+    rows = options.rows;
+    filter = part;
+    resources = options.resources;
+  };
+  lints = options.lints;
+  canvas = if options.plain then Plain else terminal;
+}
+
+-- a stream is read and drawn as screens while it comes, and the status tells the outcome. The text of the filter is this one
+pub record WatchesStream (options : WatchOptions) (text : List ℕ) (terminal : Canvas) (given left old new : Option (List ℕ)) (status : ℕ) : Type 0 where
+  pub outcome : Result (Unit {0}) AppFault
+  pub told : status ≡ status_of outcome
+  pub part : Bor (List ℕ)
+  pub is_text : part.now ≡ text
+  pub watches : Watches (screen_by options part terminal) given left outcome old new
+
 -- the demo is shown, nothing is read, and the status tells the outcome
 pub record ShowsDemo (given left old new : Option (List ℕ)) (status : ℕ) : Type 0 where
   pub outcome : Result (Unit {0}) AppFault
@@ -68,13 +95,20 @@ pub record ShowsDemo (given left old new : Option (List ℕ)) (status : ℕ) : T
   pub shows : Demonstrates outcome old new
   pub unread : left ≡ given
 
--- what is asked for is done: of the reader's bytes before and after, of the output's, and the status
-abbrev pub Does : Request → Option (List ℕ) → Option (List ℕ) → Option (List ℕ) → Option (List ℕ) → ℕ → Type 0
-Does Run given left old new status = RunsScript given old new status
-Does (Show view lints) given left old new status = ViewsStream view lints given left old new status
-Does (Page lints) given left old new status = PagesStream lints given left old new status
-Does Demo given left old new status = ShowsDemo given left old new status
+-- every name has the text of a filter that is not there
+abbrev pub filter_text : Option (List ℕ) → List ℕ
+filter_text filter = unwrap_or filter []
+
+-- what is asked for is done, with this filter and terminal for a watch: of the reader's bytes before and after, of the output's, and
+-- the status
+abbrev pub Does : Canvas → Option (List ℕ) → Request → Option (List ℕ) → Option (List ℕ) → Option (List ℕ) → Option (List ℕ) → ℕ → Type 0
+Does terminal filter Run given left old new status = RunsScript given old new status
+Does terminal filter (Show view lints) given left old new status = ViewsStream view lints given left old new status
+Does terminal filter (Page lints) given left old new status = PagesStream lints given left old new status
+Does terminal filter (Watch options) given left old new status = WatchesStream options (filter_text filter) terminal given left old new status
+Does terminal filter Demo given left old new status = ShowsDemo given left old new status
 
 -- what is asked for is done with the bytes of some reader, of which nothing is known
-abbrev pub DoesOfFile : Request → Option (List ℕ) → Option (List ℕ) → ℕ → Type 0
-DoesOfFile request old new status = (given : Option (List ℕ)) × (left : Option (List ℕ)) × Does request given left old new status
+abbrev pub DoesOfFile : Canvas → Option (List ℕ) → Request → Option (List ℕ) → Option (List ℕ) → ℕ → Type 0
+DoesOfFile terminal filter request old new status =
+    (given : Option (List ℕ)) × (left : Option (List ℕ)) × Does terminal filter request given left old new status

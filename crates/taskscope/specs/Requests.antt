@@ -1,21 +1,26 @@
 -- What words of a command line ask for.
-use Rattle.std.specs.Prelude.{◌≡◌, ◌≢◌, ℕ, Bool, true, false, List, [], ◌∷◌, Option, Some, None, if◌then◌else◌, codes, map, nat_le, option_and_then, String, IsSome}
+use Rattle.std.specs.Prelude.{◌≡◌, ◌≢◌, ◌&&◌, ℕ, Bool, true, false, not, List, [], ◌∷◌, Option, Some, None, if◌then◌else◌, codes, map, nat_le, option_and_then, is_some, unwrap_or, String, IsSome}
 use Rattle.std.specs.List.{list_all}
+use Rattle.std.specs.Option.{option_map_or}
 use Rattle.std.specs.Str.{bytes_eq}
 use Rattle.std.specs.Str.Parse.{digits_value, without_leading_plus}
 use Rattle.clap.specs.Simple.{App, new_app, new_rule, new_shape, on_top, subcommand_of, with_rule, with_subcommand}
-use Rattle.clap.specs.Kinds.{Kinds}
+use Rattle.clap.specs.Kinds.{Kinds, or_else}
 use Rattle.clap.specs.Faults.{fault_of}
 use Rattle.clap.specs.ValueTests.{is_unsigned_in}
 use Rattle.clap.specs.Walk.{Row, Rule, Text, first_of, one_of}
+use Rattle.clap.specs.declared.builder.action.ArgAction.TheVariants.{SetTrue}
 use Rattle.clap.specs.declared.builder.value_parser.ValueParser.TheVariants as vp
 use Rattle.clap.specs.declared.error.kind.ErrorKind.{ErrorKind}
 use Rattle.clap.specs.declared.error.kind.ErrorKind.TheVariants as kind
 use Rattle.tk_client.specs.Warnings.{LintsView}
 use Rattle.tk_report.specs.declared.view.View.{View}
 use Rattle.tk_report.specs.declared.view.View.TheVariants.{Report, Lint}
+use Rattle.tk_frame.specs.declared.query.Column.{Column}
+use Rattle.tk_frame.specs.declared.query.Column.TheVariants.{Busy, Sched, Polls, Wakes, SelfWakes}
 use Rattle.taskscope.specs.declared.command_line.Request.{Request}
-use Rattle.taskscope.specs.declared.command_line.Request.TheVariants.{Demo, Page, Run, Show}
+use Rattle.taskscope.specs.declared.command_line.Request.TheVariants.{Demo, Page, Run, Show, Watch}
+use Rattle.taskscope.specs.declared.command_line.WatchOptions.{WatchOptions}
 
 -- ---- the words that there are
 
@@ -34,6 +39,14 @@ percent_option = number_option (codes "self-wake-percent") (codes "50") 100
 abbrev pub limit_option : Rule
 limit_option = number_option (codes "never-yielded-ns") (codes "1000000000") 18446744073709551615
 
+-- an option `--name TEXT`
+abbrev pub text_option : Text → Rule
+text_option name = record (new_rule name) { long = Some name; value_names = 1 }
+
+-- an option `--name`
+abbrev pub flag_option : Text → Rule
+flag_option name = record (new_rule name) { long = Some name; action = Some SetTrue }
+
 -- the file that is read in place of standard input
 abbrev pub file_argument : Rule
 file_argument = new_rule (codes "FILE")
@@ -46,18 +59,41 @@ reading_command name = with_rule (new_app name) file_argument
 abbrev pub view_command : Text → App
 view_command name = with_rule (with_rule (reading_command name) percent_option) limit_option
 
+-- the command that watches a stream, with the options of what its screens show
+abbrev pub shows_command : App
+shows_command =
+    let sorted = with_rule (view_command (codes "watch")) (text_option (codes "sort")) in
+    let few = with_rule sorted (number_option (codes "rows") (codes "20") 1000000) in
+    let filtered = with_rule few (text_option (codes "filter")) in
+    with_rule filtered (flag_option (codes "resources"))
+
+-- and with those of when they are drawn
+abbrev pub watch_command : App
+watch_command =
+    let slow = with_rule shows_command (number_option (codes "every") (codes "100") 3600000) in
+    let followed = with_rule slow (flag_option (codes "follow")) in
+    with_rule followed (flag_option (codes "plain"))
+
 -- a command is required
 abbrev pub requiring : App → App
 requiring = on_top (λ s. record s { subcommand_required = true })
 
--- the program as a parse of its words reads it: `run`, `view`, `lint`, `page` and `demo`
+abbrev pub bare : App
+bare = requiring (new_app (codes "taskscope"))
+
+-- `run`, `view` and `lint`
+abbrev pub first_words : App
+first_words =
+    let runs = with_subcommand bare (reading_command (codes "run")).top in
+    let views = with_subcommand runs (view_command (codes "view")).top in
+    with_subcommand views (view_command (codes "lint")).top
+
+-- the program as a parse of its words reads it: these, `page`, `watch` and `demo`
 abbrev pub program : App
 program =
-    let runs = with_subcommand (requiring (new_app (codes "taskscope"))) (reading_command (codes "run")).top in
-    let views = with_subcommand runs (view_command (codes "view")).top in
-    let lints = with_subcommand views (view_command (codes "lint")).top in
-    let pages = with_subcommand lints (view_command (codes "page")).top in
-    with_subcommand pages (new_shape (codes "demo"))
+    let pages = with_subcommand first_words (view_command (codes "page")).top in
+    let watches = with_subcommand pages watch_command.top in
+    with_subcommand watches (new_shape (codes "demo"))
 
 -- ---- what they ask for
 
@@ -90,6 +126,55 @@ view_with view options = option_and_then (λ lints. Some (Show view lints)) (lin
 abbrev pub page_with : List Row → Option Request
 page_with options = option_and_then (λ lints. Some (Page lints)) (lints_in options)
 
+-- the text of an option
+abbrev pub text_at : Text → List Row → Option Text
+text_at name = first_of name
+
+-- an option is there
+abbrev pub flag_at : Text → List Row → Bool
+flag_at name options = option_map_or (λ text. bytes_eq text (codes "true")) (text_at name options) false
+
+-- the number of an option, or another where it has none
+abbrev pub number_or : ℕ → Text → List Row → ℕ
+number_or other name options = unwrap_or (number_at name options) other
+
+-- the lints where no option is given
+abbrev pub plain_lints : LintsView
+plain_lints = record { self_wake_percent = 50; never_yielded_ns = 1000000000 }
+
+abbrev pub lints_or_plain : List Row → LintsView
+lints_or_plain options = unwrap_or (lints_in options) plain_lints
+
+-- the column of a name
+abbrev pub column_named : Text → Option Column
+column_named name =
+    if bytes_eq name (codes "busy") then Some Busy
+    else if bytes_eq name (codes "sched") then Some Sched
+    else if bytes_eq name (codes "polls") then Some Polls
+    else if bytes_eq name (codes "wakes") then Some Wakes
+    else if bytes_eq name (codes "self-wakes") then Some SelfWakes
+    else None
+
+-- by which column tasks are sorted: by busy time where none is named
+abbrev pub column_at : List Row → Option Column
+column_at options = option_map_or column_named (text_at (codes "sort") options) (Some Busy)
+
+-- what screens show and when they are drawn, by their column and these options
+abbrev pub watch_by : Column → List Row → WatchOptions
+watch_by sort options = record {
+  sort = sort;
+  rows = number_or 20 (codes "rows") options;
+  resources = flag_at (codes "resources") options;
+  plain = flag_at (codes "plain") options;
+  every = number_or 100 (codes "every") options;
+  follow = flag_at (codes "follow") options;
+  lints = lints_or_plain options;
+}
+
+-- a watch with these options
+abbrev pub watch_with : List Row → Option Request
+watch_with options = option_and_then (λ sort. Some (Watch (watch_by sort options))) (column_at options)
+
 -- what a command asks for, by its name and its options
 abbrev pub asked_by : Text → List Row → Option Request
 asked_by name options =
@@ -97,6 +182,7 @@ asked_by name options =
     else if bytes_eq name (codes "view") then view_with Report options
     else if bytes_eq name (codes "lint") then view_with Lint options
     else if bytes_eq name (codes "page") then page_with options
+    else if bytes_eq name (codes "watch") then watch_with options
     else if bytes_eq name (codes "demo") then Some Demo
     else None
 
@@ -109,7 +195,7 @@ asked words = asked_in (subcommand_of program words)
 
 -- the file of a command's words
 abbrev pub file_at : List Row → Option Text
-file_at = first_of (codes "FILE")
+file_at = text_at (codes "FILE")
 
 abbrev pub file_in : Option (Text × List Row) → Option Text
 file_in = option_and_then (λ command. file_at command.1)
@@ -118,15 +204,30 @@ file_in = option_and_then (λ command. file_at command.1)
 abbrev pub file_of : List Text → Option Text
 file_of words = file_in (subcommand_of program words)
 
+-- what stands in the name of each task that a watch shows, where the words say it
+abbrev pub filter_in : Option (Text × List Row) → Option Text
+filter_in = option_and_then (λ command. text_at (codes "filter") command.1)
+
+abbrev pub filter_of : List Text → Option Text
+filter_of words = filter_in (subcommand_of program words)
+
 -- what the words read
 abbrev pub texts : {Z : Type 0} → List (String Z) → List (List ℕ)
 texts = map (λ w. w.bytes.items)
 
--- the kinds of error by which a parse may refuse the words. There are none where the words ask for something, and only there
-abbrev pub refusals : List (List ℕ) → Kinds
-refusals = fault_of program
+-- a watch whose column is none
+abbrev pub names_no_column : Option (Text × List Row) → Bool
+names_no_column command = option_map_or (λ c. bytes_eq c.0 (codes "watch") && not (is_some (column_at c.1))) command false
 
--- the words ask for this: a parse takes them, and they name it
+abbrev pub column_fault : Option (Text × List Row) → Kinds
+column_fault command = if names_no_column command then kind.InvalidValue ∷ [] else []
+
+-- the kinds of error by which the words may be refused: those of a parse, or else that their column is none. There are none where
+-- the words ask for something, and only there
+abbrev pub refusals : List (List ℕ) → Kinds
+refusals words = or_else (fault_of program words) (column_fault (subcommand_of program words))
+
+-- the words ask for this: they are taken, and they name it
 abbrev pub AsksFor : Request → List (List ℕ) → Type 0
 AsksFor request words = (refusals words ≡ []) × (asked words ≡ Some request)
 
@@ -142,9 +243,17 @@ AsksForFile request words = AsksFor request words × IsSome (file_of words)
 abbrev pub IsPlain : List ℕ → List (List ℕ) → Type 0
 IsPlain command words = (name : List ℕ) × (words ≡ name ∷ command ∷ [])
 
--- the lints where no option is given
-abbrev pub plain_lints : LintsView
-plain_lints = record { self_wake_percent = 50; never_yielded_ns = 1000000000 }
+-- what a watch is asked for where no option is given
+abbrev pub plain_watch : WatchOptions
+plain_watch = record {
+  sort = Busy;
+  rows = 20;
+  resources = false;
+  plain = false;
+  every = 100;
+  follow = false;
+  lints = plain_lints;
+}
 
 -- the words ask for help, and make no mistake
 abbrev pub AsksForHelp : List (List ℕ) → Type 0

@@ -1,26 +1,30 @@
 //! What the words of a command line ask for.
-ghost use Rattle.std.specs.Prelude.{◌≡◌, IfOk, IfErr, Some, false};
+ghost use Rattle.std.specs.Prelude.{◌≡◌, ◌⊎◌, IfOk, IfErr, Some, false};
 ghost use Rattle.std.specs.Option.{option_map};
 ghost use Rattle.clap.specs.Kinds.{FailsBy};
 ghost use Rattle.clap.specs.Matches.{found_of};
-ghost use Rattle.clap.specs.Simple.{app_of, subcommand_rows_of};
+ghost use Rattle.clap.specs.Simple.{app_of, subcommand_of, subcommand_rows_of};
 ghost use Rattle.clap.specs.Values.{kind_of};
-ghost use Rattle.clap.specs.Walk.{rows_of};
+ghost use Rattle.clap.specs.Walk.{rows_of, rule_of};
 ghost use Rattle.clap.specs.declared.builder.command.Command.TheViews.{out-Command as fields_of};
 ghost use Rattle.taskscope.specs.Requests as spec;
 ghost use Rattle.taskscope.specs.Requests.{program, refusals, texts};
 
 use clap::builder::ValueParser;
 use clap::error::ErrorKind;
-use clap::{Arg, ArgMatches, Command, Error};
-use std::alloc::Global;
+use clap::{Arg, ArgAction, ArgMatches, Command, Error};
+use std::alloc::{AllocError, Global};
 use tk_app::View;
 use tk_client::Lints;
+use tk_frame::Column;
 
-/// A call of the program: what its words ask for, and of which file's bytes, where these aren't standard input's.
+/// A call of the program: what its words ask for, and the texts that they give.
 pub(crate) struct Call<'a> {
     pub request: Request,
+    /// The file whose bytes are meant, where these aren't standard input's.
     pub file: Option<&'a str>,
+    /// What stands in the name of each task that is watched, where not all are.
+    pub filter: Option<&'a str>,
 }
 
 /// What the words of a command line ask for.
@@ -32,8 +36,29 @@ pub(crate) enum Request {
     Show { view: View, lints: Lints },
     /// To draw a stream as one page, with warnings by these lints.
     Page { lints: Lints },
+    /// To draw a stream's tables as a screen while it comes.
+    Watch(WatchOptions),
     /// To show three tasks of this project's own works.
     Demo,
+}
+
+/// What the screens of a watch show, and when they are drawn.
+#[derive(Clone, Copy)]
+pub(crate) struct WatchOptions {
+    /// By which column tasks are sorted.
+    pub sort: Column,
+    /// How many tasks are shown at most, and of resources and async operations as many.
+    pub rows: u64,
+    /// Whether resources and async operations are shown too.
+    pub resources: bool,
+    /// Whether screens are text, also on a terminal.
+    pub plain: bool,
+    /// How many milliseconds lie between two screens at least.
+    pub every: u64,
+    /// Whether more may come once the stream has ended.
+    pub follow: bool,
+    /// From when on a task is warned of.
+    pub lints: Lints,
 }
 
 const ABOUT: &str = "Shows what the tasks of an async program did, as tokio-console would";
@@ -125,6 +150,29 @@ operations come last. At most 200 tasks are drawn, the odd ones first.
 
 A last line of the stream without its line end is ignored. After a fault nothing is written.";
 
+const WATCH_ABOUT: &str = "Reads a stream and draws its tables as a screen while it comes";
+
+const WATCH_LONG_ABOUT: &str = "Reads a stream and draws its tables as a screen while it comes.
+
+  service | taskscope watch
+
+A screen tells how many tasks are in each state, what is odd and what to do about it (`taskscope lint --help`
+explains the warnings), and shows the open tasks of most in a column, with where each was spawned.
+docs/FORMATS.md explains the lines.
+
+On a terminal a screen is drawn over the one before, and cut to the terminal's size: COLUMNS and LINES, which
+`./taskscope` sets, or else 80 by 24. It has colors unless NO_COLOR is set. Elsewhere, or where TERM is `dumb`,
+screens are text, one after the other.
+
+Tasks can be sorted by these columns:
+  busy        how long their polls ran
+  sched       how long they waited, scheduled
+  polls       how many polls of them started
+  wakes       how often they were woken
+  self-wakes  how often they woke themselves
+
+A last line of the stream without its line end is ignored. At a fault the screen of what stood before it is drawn.";
+
 const DEMO_ABOUT: &str = "Runs three small tasks and writes their report to standard output";
 
 const DEMO_LONG_ABOUT: &str = "Runs three small tasks and writes their report to standard output.
@@ -141,6 +189,34 @@ const PERCENT_HELP: &str = "Warns where more of a hundred wakes are a task's own
 const LIMIT: &str = "never-yielded-ns";
 
 const LIMIT_HELP: &str = "Warns where a first poll has run for so many nanoseconds";
+
+const SORT: &str = "sort";
+
+const SORT_HELP: &str = "Shows the tasks of most in this column first, else in `busy`";
+
+const ROWS: &str = "rows";
+
+const ROWS_HELP: &str = "Shows so many tasks at most";
+
+const FILTER: &str = "filter";
+
+const FILTER_HELP: &str = "Shows only tasks in whose name this stands";
+
+const RESOURCES: &str = "resources";
+
+const RESOURCES_HELP: &str = "Shows resources and async operations too";
+
+const EVERY: &str = "every";
+
+const EVERY_HELP: &str = "Draws no two screens within so many milliseconds";
+
+const FOLLOW: &str = "follow";
+
+const FOLLOW_HELP: &str = "Goes on at the end of the stream, as a file grows";
+
+const PLAIN: &str = "plain";
+
+const PLAIN_HELP: &str = "Writes screens as text, one after the other, also on a terminal";
 
 const FILE: &str = "FILE";
 
@@ -166,6 +242,47 @@ fn reading_command<'a>(
     )
 }
 
+// An option of a number, up to some greatest one.
+fn number_arg<'a>(
+    alloc: Global,
+    name: &'a str,
+    told: &'a str,
+    default: &'a str,
+    most: u64,
+) -> Arg<'a>
+    ensures rule { rule_of result ≡ spec.number_option name.entry.now default.entry.now most }
+    ensures local { result.global ≡ false }
+{
+    Arg::new(alloc, name)
+        .long(name)
+        .value_name("N")
+        .help(told)
+        .default_value(default)
+        .value_parser(ValueParser::unsigned(0, most))
+}
+
+// An option of a text.
+fn text_arg<'a>(alloc: Global, name: &'a str, value: &'a str, told: &'a str) -> Arg<'a>
+    ensures rule { rule_of result ≡ spec.text_option name.entry.now }
+    ensures local { result.global ≡ false }
+{
+    Arg::new(alloc, name)
+        .long(name)
+        .value_name(value)
+        .help(told)
+}
+
+// An option that is there or not.
+fn flag_arg<'a>(alloc: Global, name: &'a str, told: &'a str) -> Arg<'a>
+    ensures rule { rule_of result ≡ spec.flag_option name.entry.now }
+    ensures local { result.global ≡ false }
+{
+    Arg::new(alloc, name)
+        .long(name)
+        .help(told)
+        .action(ArgAction::SetTrue)
+}
+
 // A command that views a stream, with the options of lints.
 fn view_command<'a>(
     alloc: Global,
@@ -177,18 +294,14 @@ fn view_command<'a>(
     ensures local { IfOk result (λ c. (fields_of c).has_globals ≡ false) }
     ensures err { IfErr result (λ e. kind_of e ≡ ErrorKind.OutOfMemory) }
 {
-    let percent = Arg::new(alloc, PERCENT)
-        .long(PERCENT)
-        .value_name("N")
-        .help(PERCENT_HELP)
-        .default_value("50")
-        .value_parser(ValueParser::unsigned(0, 100));
-    let limit = Arg::new(alloc, LIMIT)
-        .long(LIMIT)
-        .value_name("N")
-        .help(LIMIT_HELP)
-        .default_value("1000000000")
-        .value_parser(ValueParser::unsigned(0, 18_446_744_073_709_551_615));
+    let percent = number_arg(alloc, PERCENT, PERCENT_HELP, "50", 100);
+    let limit = number_arg(
+        alloc,
+        LIMIT,
+        LIMIT_HELP,
+        "1000000000",
+        18_446_744_073_709_551_615,
+    );
     Ok(
         reading_command(alloc, name, about, long_about)?
             .arg(percent)?
@@ -196,17 +309,42 @@ fn view_command<'a>(
     )
 }
 
-fn command_line<'a>(alloc: Global) -> Result<Command<'a>, Error>
-    ensures ok { IfOk result (λ c. app_of c ≡ program) }
+// What a screen shows.
+fn shows_command<'a>(alloc: Global) -> Result<Command<'a>, Error>
+    ensures ok { IfOk result (λ c. app_of c ≡ spec.shows_command) }
+    ensures local { IfOk result (λ c. (fields_of c).has_globals ≡ false) }
     ensures err { IfErr result (λ e. kind_of e ≡ ErrorKind.OutOfMemory) }
 {
-    let run = reading_command(alloc, "run", RUN_ABOUT, RUN_LONG_ABOUT)?;
-    let view = view_command(alloc, "view", VIEW_ABOUT, VIEW_LONG_ABOUT)?;
-    let lint = view_command(alloc, "lint", LINT_ABOUT, LINT_LONG_ABOUT)?;
-    let page = view_command(alloc, "page", PAGE_ABOUT, PAGE_LONG_ABOUT)?;
-    let demo = Command::new(alloc, "demo")
-        .about(DEMO_ABOUT)
-        .long_about(DEMO_LONG_ABOUT);
+    let sort = text_arg(alloc, SORT, "COLUMN", SORT_HELP);
+    let rows = number_arg(alloc, ROWS, ROWS_HELP, "20", 1_000_000);
+    let filter = text_arg(alloc, FILTER, "TEXT", FILTER_HELP);
+    let resources = flag_arg(alloc, RESOURCES, RESOURCES_HELP);
+    Ok(
+        view_command(alloc, "watch", WATCH_ABOUT, WATCH_LONG_ABOUT)?
+            .arg(sort)?
+            .arg(rows)?
+            .arg(filter)?
+            .arg(resources)?,
+    )
+}
+
+// What a screen shows, and when it is drawn.
+fn watch_command<'a>(alloc: Global) -> Result<Command<'a>, Error>
+    ensures ok { IfOk result (λ c. app_of c ≡ spec.watch_command) }
+    ensures local { IfOk result (λ c. (fields_of c).has_globals ≡ false) }
+    ensures err { IfErr result (λ e. kind_of e ≡ ErrorKind.OutOfMemory) }
+{
+    let every = number_arg(alloc, EVERY, EVERY_HELP, "100", 3_600_000);
+    let follow = flag_arg(alloc, FOLLOW, FOLLOW_HELP);
+    let plain = flag_arg(alloc, PLAIN, PLAIN_HELP);
+    Ok(shows_command(alloc)?.arg(every)?.arg(follow)?.arg(plain)?)
+}
+
+// The program without its words.
+fn top_command<'a>(alloc: Global) -> Result<Command<'a>, Error>
+    ensures ok { IfOk result (λ c. app_of c ≡ spec.bare) }
+    ensures err { IfErr result (λ e. kind_of e ≡ ErrorKind.OutOfMemory) }
+{
     Ok(
         Command::new(alloc, "taskscope")
             // Else the usage calls the program by the path that it was started by.
@@ -214,11 +352,39 @@ fn command_line<'a>(alloc: Global) -> Result<Command<'a>, Error>
             .about(ABOUT)
             .long_about(LONG_ABOUT)
             .after_help(AFTER_HELP)
-            .subcommand_required(true)
+            .subcommand_required(true),
+    )
+}
+
+// The program with the words that stand first in its help.
+fn first_words<'a>(alloc: Global) -> Result<Command<'a>, Error>
+    ensures ok { IfOk result (λ c. app_of c ≡ spec.first_words) }
+    ensures err { IfErr result (λ e. kind_of e ≡ ErrorKind.OutOfMemory) }
+{
+    let run = reading_command(alloc, "run", RUN_ABOUT, RUN_LONG_ABOUT)?;
+    let view = view_command(alloc, "view", VIEW_ABOUT, VIEW_LONG_ABOUT)?;
+    let lint = view_command(alloc, "lint", LINT_ABOUT, LINT_LONG_ABOUT)?;
+    Ok(
+        top_command(alloc)?
             .subcommand(run)?
             .subcommand(view)?
-            .subcommand(lint)?
+            .subcommand(lint)?,
+    )
+}
+
+fn command_line<'a>(alloc: Global) -> Result<Command<'a>, Error>
+    ensures ok { IfOk result (λ c. app_of c ≡ program) }
+    ensures err { IfErr result (λ e. kind_of e ≡ ErrorKind.OutOfMemory) }
+{
+    let page = view_command(alloc, "page", PAGE_ABOUT, PAGE_LONG_ABOUT)?;
+    let watch = watch_command(alloc)?;
+    let demo = Command::new(alloc, "demo")
+        .about(DEMO_ABOUT)
+        .long_about(DEMO_LONG_ABOUT);
+    Ok(
+        first_words(alloc)?
             .subcommand(page)?
+            .subcommand(watch)?
             .subcommand(demo)?,
     )
 }
@@ -251,6 +417,84 @@ fn page_with(options: &ArgMatches) -> Option<Request>
     Some(Request::Page { lints })
 }
 
+fn text_at<'a>(options: &ArgMatches<'a>, name: &str) -> Option<&'a str>
+    ensures { option_map (λ text. text.now) result ≡ spec.text_at name.now (rows_of (found_of options.now)) }
+{
+    options.get_str(name)
+}
+
+// `get_flag` promises nothing of a text that is neither `true` nor `false`.
+fn flag_at(options: &ArgMatches, name: &str) -> bool
+    ensures { result ≡ spec.flag_at name.now (rows_of (found_of options.now)) }
+{
+    match text_at(options, name) {
+        Some(text) => text == "true",
+        None => false,
+    }
+}
+
+fn number_or(options: &ArgMatches, name: &str, other: u64) -> u64
+    ensures { result ≡ spec.number_or other name.now (rows_of (found_of options.now)) }
+{
+    match number_at(options, name) {
+        Some(number) => number,
+        None => other,
+    }
+}
+
+fn lints_or_plain(options: &ArgMatches) -> Lints
+    ensures { result ≡ spec.lints_or_plain (rows_of (found_of options.now)) }
+{
+    match lints_in(options) {
+        Some(lints) => lints,
+        None => Lints::default(),
+    }
+}
+
+fn column_named(word: &str) -> Option<Column>
+    ensures { result ≡ spec.column_named word.now }
+{
+    match word {
+        "busy" => Some(Column::Busy),
+        "sched" => Some(Column::Sched),
+        "polls" => Some(Column::Polls),
+        "wakes" => Some(Column::Wakes),
+        "self-wakes" => Some(Column::SelfWakes),
+        _ => None,
+    }
+}
+
+// By which column tasks are sorted: by busy time where none is named, and by none where there is no such column.
+fn column_at(options: &ArgMatches) -> Option<Column>
+    ensures { result ≡ spec.column_at (rows_of (found_of options.now)) }
+{
+    match text_at(options, SORT) {
+        Some(word) => column_named(word),
+        None => Some(Column::Busy),
+    }
+}
+
+fn watch_by(sort: Column, options: &ArgMatches) -> WatchOptions
+    ensures { result ≡ spec.watch_by sort (rows_of (found_of options.now)) }
+{
+    WatchOptions {
+        sort,
+        rows: number_or(options, ROWS, 20),
+        resources: flag_at(options, RESOURCES),
+        plain: flag_at(options, PLAIN),
+        every: number_or(options, EVERY, 100),
+        follow: flag_at(options, FOLLOW),
+        lints: lints_or_plain(options),
+    }
+}
+
+fn watch_with(options: &ArgMatches) -> Option<Request>
+    ensures { result ≡ spec.watch_with (rows_of (found_of options.now)) }
+{
+    let sort = column_at(options)?;
+    Some(Request::Watch(watch_by(sort, options)))
+}
+
 // What a command asks for, by its name and its options.
 fn asked_by(name: &str, options: &ArgMatches) -> Option<Request>
     ensures { result ≡ spec.asked_by name.now (rows_of (found_of options.now)) }
@@ -260,6 +504,7 @@ fn asked_by(name: &str, options: &ArgMatches) -> Option<Request>
         "view" => view_with(View::Report, options),
         "lint" => view_with(View::Lint, options),
         "page" => page_with(options),
+        "watch" => watch_with(options),
         "demo" => Some(Request::Demo),
         _ => None,
     }
@@ -277,7 +522,7 @@ fn asked_in(matches: &ArgMatches) -> Option<Request>
 fn file_at<'a>(options: &ArgMatches<'a>) -> Option<&'a str>
     ensures { option_map (λ file. file.now) result ≡ spec.file_at (rows_of (found_of options.now)) }
 {
-    options.get_str(FILE)
+    text_at(options, FILE)
 }
 
 fn file_in<'a>(matches: &ArgMatches<'a>) -> Option<&'a str>
@@ -289,19 +534,79 @@ fn file_in<'a>(matches: &ArgMatches<'a>) -> Option<&'a str>
     }
 }
 
-/// What the words ask for, the first of which is the program's name. Else a mistake in them, or the help that they ask for.
-pub(crate) fn call_of<'a>(alloc: Global, words: &'a [String]) -> Result<Call<'a>, Error>
-    // A call where a parse takes the words, and else a kind of error by which it refuses them; or want of memory.
+fn filter_in<'a>(matches: &ArgMatches<'a>) -> Option<&'a str>
+    ensures { option_map (λ filter. filter.now) result ≡ spec.filter_in (subcommand_rows_of matches.now) }
+{
+    match matches.subcommand() {
+        Some((_, options)) => text_at(options, FILTER),
+        None => None,
+    }
+}
+
+// Whether there is no column as a watch names it.
+fn names_no_column(matches: &ArgMatches) -> bool
+    ensures { result ≡ spec.names_no_column (subcommand_rows_of matches.now) }
+{
+    match matches.subcommand() {
+        Some((name, options)) => name == "watch" && column_at(options).is_none(),
+        None => false,
+    }
+}
+
+fn column_mistake<'a>(
+    alloc: Global,
+    command: &mut Command<'a>,
+    matches: &ArgMatches<'a>,
+) -> Result<Error, AllocError>
+    ensures { IfOk result (λ e. kind_of e ≡ ErrorKind.InvalidValue) }
+{
+    let word = match matches.subcommand() {
+        Some((_, options)) => options.get_str(SORT).unwrap_or(""),
+        None => "",
+    };
+    let message = format!(in alloc;
+        "invalid value '{word}' for '--sort <COLUMN>'\n  [possible values: busy, sched, polls, wakes, self-wakes]"
+    )?;
+    command.error(ErrorKind::InvalidValue, message.as_str())
+}
+
+// The mistake in a name that is no column's.
+fn no_column<'a>(alloc: Global, command: &mut Command<'a>, matches: &ArgMatches<'a>) -> Error
+    ensures { (kind_of result ≡ ErrorKind.OutOfMemory) ⊎ (kind_of result ≡ ErrorKind.InvalidValue) }
+{
+    match column_mistake(alloc, command, matches) {
+        Ok(error) => error,
+        Err(error) => error.into(),
+    }
+}
+
+// What a parse finds in words that are taken.
+fn matches_of<'a>(alloc: Global, words: &'a [String]) -> Result<ArgMatches<'a>, Error>
     ensures fails { FailsBy (refusals (texts words.now)) result }
-    ensures asked { IfOk result (λ call. spec.asked (texts words.now) ≡ Some call.request) }
-    ensures file { IfOk result (λ call. spec.file_of (texts words.now) ≡ option_map (λ file. file.now) call.file) }
+    ensures found { IfOk result (λ m. subcommand_rows_of m ≡ subcommand_of program (texts words.now)) }
 {
     let mut command = command_line(alloc)?;
     let matches = command.try_get_matches_from_mut(words)?;
+    if names_no_column(&matches) {
+        return Err(no_column(alloc, &mut command, &matches));
+    }
+    Ok(matches)
+}
+
+/// What the words ask for, the first of which is the program's name. Else a mistake in them, or the help that they ask for.
+pub(crate) fn call_of<'a>(alloc: Global, words: &'a [String]) -> Result<Call<'a>, Error>
+    // A call where a parse takes the words and their column is one, and else a kind of error by which they are refused; or want of memory.
+    ensures fails { FailsBy (refusals (texts words.now)) result }
+    ensures asked { IfOk result (λ call. spec.asked (texts words.now) ≡ Some call.request) }
+    ensures file { IfOk result (λ call. spec.file_of (texts words.now) ≡ option_map (λ file. file.now) call.file) }
+    ensures filter { IfOk result (λ call. spec.filter_of (texts words.now) ≡ option_map (λ filter. filter.now) call.filter) }
+{
+    let matches = matches_of(alloc, words)?;
     // A command is required, and the parse has checked its numbers.
     let request = asked_in(&matches).unwrap();
     Ok(Call {
         request,
         file: file_in(&matches),
+        filter: filter_in(&matches),
     })
 }

@@ -2,29 +2,39 @@
 #![tactic(auto)]
 
 mod command_line;
+mod outputs;
 mod program;
+mod terminal;
 
+use outputs::{Faults, Output};
 use program::{refuse_words, run_program};
+use std::cell::Cell;
 use std::env::Env;
+use std::io::IsTerminal;
 use std::process::ExitCode;
 use std::{env, io};
+use terminal::terminal_of;
 
 fn words<R: Env + AllocGlobal>(rt: &R) -> io::Result<Vec<String>> {
     Ok(env::args(rt)?.collect(rt.alloc())?)
 }
 
 fn main(rt: HostRuntime) -> ExitCode {
-    let faults = rt.stderr();
+    let is_left = Cell::new(false);
+    let errors = rt.stderr();
+    let mut output = Output::new(io::writer(&rt), &is_left);
+    let mut faults = Faults::new(io::writer(&errors), &is_left);
     let status = match words(&rt) {
         Ok(words) => run_program(
             &rt,
             rt.alloc(),
             words.as_slice(),
+            terminal_of(&rt, rt.stdout().is_terminal()),
             &mut rt.reader(),
-            &mut io::writer(&rt),
-            &mut io::writer(&faults),
+            &mut output,
+            &mut faults,
         ),
-        Err(error) => refuse_words(error.kind(), &mut io::writer(&faults)),
+        Err(error) => refuse_words(error.kind(), &mut faults),
     };
     ExitCode::from(status)
 }

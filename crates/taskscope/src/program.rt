@@ -1,10 +1,11 @@
 //! A run of the program, from its words to its status.
 ghost use Rattle.std.specs.Prelude.{◌≡◌, ◌≢◌, ◌≤◌, ◌⊎◌, true, [], codes, IsSome};
+ghost use Rattle.std.specs.Option.{option_map};
 ghost use Rattle.clap.specs.Values.{kind_of};
-ghost use Rattle.taskscope.specs.Requests.{AsksForFile, AsksForHelp, AsksForInput, IsMistake, IsPlain, asked, is_mistake, plain_lints, refusals, texts};
-ghost use Rattle.taskscope.specs.Program.{Does, DoesOfFile, page_status, status_at, status_of, view_status};
+ghost use Rattle.taskscope.specs.Requests.{AsksForFile, AsksForHelp, AsksForInput, IsMistake, IsPlain, asked, filter_of, is_mistake, plain_lints, plain_watch, refusals, texts};
+ghost use Rattle.taskscope.specs.Program.{Does, DoesOfFile, WatchesStream, filter_text, page_status, screen_by, status_at, status_of, view_status};
 
-use crate::command_line::{Call, Request, call_of};
+use crate::command_line::{Call, Request, WatchOptions, call_of};
 use clap::Error;
 use clap::error::ErrorKind;
 use std::alloc::{AllocGlobal, Global};
@@ -14,8 +15,12 @@ use std::random::RandomSource;
 use std::rt::Files;
 use std::sync::Wait;
 use std::thread::Threads;
+use std::time::Clock;
 use tk_app::{AppFault, Open, View, demo, run_script, view_stream};
+use tk_frame::Query;
 use tk_page::view_page;
+use tk_screen::Canvas;
+use tk_watch::{Every, Screen, watch_stream};
 
 /// All was done, which may be to show help.
 const DONE: u8 = 0;
@@ -76,16 +81,78 @@ fn tell_page<E: Write>(outcome: Result<u64, AppFault>, faults: &mut E) -> u8
     }
 }
 
-// Does what is asked for, and answers the status.
-fn fulfil<R: Threads + Wait + Sync + RandomSource + AllocGlobal, I: Read, O: Write, E: Write>(
+// Every name has the text of a filter that is not there.
+fn filter_text<'a>(filter: Option<&'a str>) -> &'a str
+    ensures { result.now ≡ filter_text (option_map (λ f. f.now) filter.entry) }
+{
+    match filter {
+        Some(text) => text,
+        None => "",
+    }
+}
+
+// What a watch's screens show, and on what they are drawn.
+fn screen_of<'a>(options: &WatchOptions, filter: &'a str, terminal: Canvas) -> Screen<'a>
+    ensures shows { result ≡ screen_by options.now result.query.filter terminal }
+    ensures filter { result.query.filter.now ≡ filter.entry.now }
+{
+    Screen {
+        query: Query {
+            sort: options.sort,
+            rows: options.rows as usize,
+            filter: filter.as_bytes(),
+            resources: options.resources,
+        },
+        lints: options.lints,
+        canvas: if options.plain {
+            Canvas::Plain
+        } else {
+            terminal
+        },
+    }
+}
+
+// Watches a stream, and answers the status.
+fn watch<R: Clock, I: Read, O: Write, E: Write>(
     rt: &R,
     alloc: Global,
-    request: Request,
+    options: &WatchOptions,
+    filter: &str,
+    terminal: Canvas,
     input: &mut I,
     output: &mut O,
     faults: &mut E,
 ) -> u8
-    ensures does { Does request (I.remaining input.old) (I.remaining input.new) (O.contents output.old) (O.contents output.new) result }
+    ensures does { WatchesStream options.now filter.now terminal
+        (I.remaining input.old) (I.remaining input.new) (O.contents output.old) (O.contents output.new) result }
+    ensures status { result ≤ FAULT }
+{
+    let screen = screen_of(options, filter, terminal);
+    let mut pace = Every::new(rt, options.every, options.follow);
+    tell_outcome(
+        watch_stream(alloc, input, output, &screen, &mut pace),
+        faults,
+    )
+}
+
+// Does what is asked for, with this filter and terminal for a watch, and answers the status.
+fn fulfil<
+    R: Threads + Wait + Sync + RandomSource + AllocGlobal + Clock,
+    I: Read,
+    O: Write,
+    E: Write,
+>(
+    rt: &R,
+    alloc: Global,
+    request: Request,
+    filter: Option<&str>,
+    terminal: Canvas,
+    input: &mut I,
+    output: &mut O,
+    faults: &mut E,
+) -> u8
+    ensures does { Does terminal (option_map (λ f. f.now) filter.entry) request
+        (I.remaining input.old) (I.remaining input.new) (O.contents output.old) (O.contents output.new) result }
     ensures status { (result ≤ FAULT) ⊎ (result ≡ WARNED) }
 {
     match request {
@@ -98,21 +165,36 @@ fn fulfil<R: Threads + Wait + Sync + RandomSource + AllocGlobal, I: Read, O: Wri
             )
         }
         Request::Page { lints } => tell_page(view_page(alloc, input, output, &lints), faults),
+        Request::Watch(options) => {
+            let text = filter_text(filter);
+            watch(rt, alloc, &options, text, terminal, input, output, faults)
+        }
         Request::Demo => tell_outcome(demo(rt, alloc, output), faults),
     }
 }
 
 // Does what is asked for with the bytes of a file.
 fn fulfil_of_file<
-    R: Threads + Wait + Sync + RandomSource + AllocGlobal + Files,
+    R: Threads + Wait + Sync + RandomSource + AllocGlobal + Clock + Files,
     O: Write,
     E: Write,
->(rt: &R, alloc: Global, request: Request, path: &str, output: &mut O, faults: &mut E) -> u8
-    ensures does { DoesOfFile request (O.contents output.old) (O.contents output.new) result }
+>(
+    rt: &R,
+    alloc: Global,
+    request: Request,
+    filter: Option<&str>,
+    terminal: Canvas,
+    path: &str,
+    output: &mut O,
+    faults: &mut E,
+) -> u8
+    ensures does { DoesOfFile terminal (option_map (λ f. f.now) filter.entry) request (O.contents output.old) (O.contents output.new) result }
     ensures status { (result ≤ FAULT) ⊎ (result ≡ WARNED) }
 {
     match fs::open(rt, path) {
-        Ok(mut file) => fulfil(rt, alloc, request, &mut file, output, faults),
+        Ok(mut file) => fulfil(
+            rt, alloc, request, filter, terminal, &mut file, output, faults,
+        ),
         Err(error) => {
             let _ = writeln!(faults, "fault: Read {path}: {error}");
             FAULT
@@ -153,29 +235,41 @@ pub(crate) fn refuse_words<E: Write>(kind: IoErrorKind, faults: &mut E) -> u8
     USAGE
 }
 
-/// Does what the words ask for, the first of which is the program's name, and answers the status.
+/// Does what the words ask for, the first of which is the program's name, and answers the status. Screens are drawn on this terminal.
 ///
 /// What goes to `faults` is only tested.
 pub(crate) fn run_program<
-    R: Threads + Wait + Sync + RandomSource + AllocGlobal + Files,
+    R: Threads + Wait + Sync + RandomSource + AllocGlobal + Clock + Files,
     I: Read,
     O: Write,
     E: Write,
->(rt: &R, alloc: Global, words: &[String], input: &mut I, output: &mut O, faults: &mut E) -> u8
+>(
+    rt: &R,
+    alloc: Global,
+    words: &[String],
+    terminal: Canvas,
+    input: &mut I,
+    output: &mut O,
+    faults: &mut E,
+) -> u8
     // What is asked for is done: a run reads and writes as `run_script` does, a view as `view_stream` does, a page as
-    // `view_page` does, and the demo writes as `demo` does. The status is 1 exactly where there was a fault, and 3 exactly where `lint` found warnings.
+    // `view_page` does, a watch as `watch_stream` does, and the demo writes as `demo` does. The status is 1 exactly where there was a
+    // fault, and 3 exactly where `lint` found warnings.
     ensures does { (request : Request) → AsksForInput request (texts words.now)
-        → Does request (I.remaining input.old) (I.remaining input.new) (O.contents output.old) (O.contents output.new) result }
+        → Does terminal (filter_of (texts words.now)) request
+        (I.remaining input.old) (I.remaining input.new) (O.contents output.old) (O.contents output.new) result }
     // With a file the same is done of its bytes, of which nothing is known, and the input is as it was.
     ensures file { (request : Request) → AsksForFile request (texts words.now)
-        → (input.new ≡ input.old) × DoesOfFile request (O.contents output.old) (O.contents output.new) result }
+        → (input.new ≡ input.old)
+        × DoesOfFile terminal (filter_of (texts words.now)) request (O.contents output.old) (O.contents output.new) result }
     // A command alone asks for it of the input, with the lints of its defaults.
     ensures run { IsPlain (codes "run") (texts words.now) → AsksForInput Request.Run (texts words.now) }
     ensures view { IsPlain (codes "view") (texts words.now) → AsksForInput (Request.Show View.Report plain_lints) (texts words.now) }
     ensures lint { IsPlain (codes "lint") (texts words.now) → AsksForInput (Request.Show View.Lint plain_lints) (texts words.now) }
     ensures page { IsPlain (codes "page") (texts words.now) → AsksForInput (Request.Page plain_lints) (texts words.now) }
+    ensures watch { IsPlain (codes "watch") (texts words.now) → AsksForInput (Request.Watch plain_watch) (texts words.now) }
     ensures demo { IsPlain (codes "demo") (texts words.now) → AsksForInput Request.Demo (texts words.now) }
-    // All words that a parse takes ask for a run, a view, a page or the demo.
+    // All words that are taken ask for a run, a view, a page, a watch or the demo.
     ensures asks { refusals (texts words.now) ≡ [] → IsSome (asked (texts words.now)) }
     // Other words leave the input as it is.
     ensures unread { refusals (texts words.now) ≢ [] → input.new ≡ input.old }
@@ -187,12 +281,16 @@ pub(crate) fn run_program<
     ensures usage { result ≡ USAGE → (input.new ≡ input.old) × (output.new ≡ output.old) }
     ensures status { result ≤ WARNED }
 {
-    let Call { request, file } = match call_of(alloc, words) {
+    let Call {
+        request,
+        file,
+        filter,
+    } = match call_of(alloc, words) {
         Ok(call) => call,
         Err(error) => return answer(error, output, faults),
     };
     match file {
-        Some(path) => fulfil_of_file(rt, alloc, request, path, output, faults),
-        None => fulfil(rt, alloc, request, input, output, faults),
+        Some(path) => fulfil_of_file(rt, alloc, request, filter, terminal, path, output, faults),
+        None => fulfil(rt, alloc, request, filter, terminal, input, output, faults),
     }
 }

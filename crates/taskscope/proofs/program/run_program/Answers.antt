@@ -1,14 +1,14 @@
-use Rattle.std.proofs.Common.{◌≡◌, [], ◌∷◌, List, ℕ, None, is_some, true≢false, sym, refl, ap, subst, ◌∙◌, inl, inr}
+use Rattle.std.proofs.Common.{◌≡◌, [], ◌∷◌, List, ℕ, Option, None, is_some, true≢false, sym, refl, ap, subst, ◌∙◌, inl, inr}
 use Rattle.std.specs.Prelude.{IsSome}
 use Rattle.std.specs.Option.{option_map}
 use Rattle.clap.specs.Values.{kind_of}
 use Rattle.taskscope.specs.Program.{Does, DoesOfFile}
-use Rattle.taskscope.specs.Requests.{AsksForInput, IsPlain, asked, file_of, refusals, texts}
+use Rattle.taskscope.specs.Requests.{AsksForInput, IsPlain, asked, file_of, filter_of, refusals, texts}
 use Rattle.taskscope.specs.declared.command_line.Request.{Request}
 use Rattle.taskscope.proofs.Outcomes.{nothing_done}
 use Rattle.taskscope.proofs.ParseLemmas.{taken_words_ask}
 use Rattle.taskscope.proofs.WordLemmas.{memory_alone, mistake_among, some_is}
-use Rattle.taskscope.proofs.WordRows.{demo, lint, page, run, view}
+use Rattle.taskscope.proofs.WordRows.{demo, lint, page, run, view, watch}
 use Rattle.taskscope.proofs.program.run_program.Goals as goal
 
 plain : (command : List ℕ) (request : Request) → ((name : List ℕ) → AsksForInput request (name ∷ command ∷ [])) → (words : List (List ℕ)) → IsPlain command words
@@ -18,17 +18,19 @@ plain command request row words is = ((ap refusals is.1 ∙ (row is.0).0.0, ap a
 pub returns-in-Err-clause-does : goal.returns-in-Err-clause-does
 returns-in-Err-clause-does g c = λ request asks.
     let told = c.answer.ensures.memory (memory_alone (refusals (texts c.args.words.now)) c.in-Err.error asks.0.0 c.in-Err.ensures.fails) in
-    rw told.1 (nothing_done request (g.I.Read.remaining c.args.input.now) (g.O.Write.contents c.args.output.now) c.answer.result told.0)
+    rw told.1 (nothing_done c.args.terminal (filter_of (texts c.args.words.now)) request (g.I.Read.remaining c.args.input.now) (g.O.Write.contents c.args.output.now) c.answer.result told.0)
 
 pub returns-in-Err-clause-file : goal.returns-in-Err-clause-file
 returns-in-Err-clause-file g c = λ request asks.
     let told = c.answer.ensures.memory (memory_alone (refusals (texts c.args.words.now)) c.in-Err.error asks.0.0 c.in-Err.ensures.fails) in
-    (refl, (None, None, rw told.1 (nothing_done request None (g.O.Write.contents c.args.output.now) c.answer.result told.0)))
+    (refl, (None, None, rw told.1 (nothing_done c.args.terminal (filter_of (texts c.args.words.now)) request None (g.O.Write.contents c.args.output.now) c.answer.result told.0)))
 
 pub returns-in-None-clause-does : goal.returns-in-None-clause-does
 returns-in-None-clause-does g c = λ request asks.
     let same : c.in-Ok.call.request ≡ request = some_is _ _ (sym c.in-Ok.ensures.asked ∙ asks.0.1) in
-    subst (λ r. Does r (g.I.Read.remaining c.args.input.now) (g.I.Read.remaining c.fulfil.new.input) (g.O.Write.contents c.args.output.now) (g.O.Write.contents c.fulfil.new.output) c.fulfil.result) same c.fulfil.ensures.does
+    let filter = option_map (λ f. f.now) c.in-Ok.call.filter in
+    let done = λ (text : Option (List ℕ)) (r : Request). Does c.args.terminal text r (g.I.Read.remaining c.args.input.now) (g.I.Read.remaining c.fulfil.new.input) (g.O.Write.contents c.args.output.now) (g.O.Write.contents c.fulfil.new.output) c.fulfil.result in
+    subst (λ text. done text request) (sym c.in-Ok.ensures.filter) (subst (done filter) same c.fulfil.ensures.does)
 
 pub returns-in-None-clause-file : goal.returns-in-None-clause-file
 returns-in-None-clause-file g c = λ request asks.
@@ -42,7 +44,9 @@ returns-in-Some-clause-does g c = λ request asks.
 pub returns-in-Some-clause-file : goal.returns-in-Some-clause-file
 returns-in-Some-clause-file g c = λ request asks.
     let same : c.in-Ok.call.request ≡ request = some_is _ _ (sym c.in-Ok.ensures.asked ∙ asks.0.1) in
-    (refl, subst (λ r. DoesOfFile r (g.O.Write.contents c.args.output.now) (g.O.Write.contents c.fulfil_of_file.new.output) c.fulfil_of_file.result) same c.fulfil_of_file.ensures.does)
+    let filter = option_map (λ f. f.now) c.in-Ok.call.filter in
+    let done = λ (text : Option (List ℕ)) (r : Request). DoesOfFile c.args.terminal text r (g.O.Write.contents c.args.output.now) (g.O.Write.contents c.fulfil_of_file.new.output) c.fulfil_of_file.result in
+    (refl, subst (λ text. done text request) (sym c.in-Ok.ensures.filter) (subst (done filter) same c.fulfil_of_file.ensures.does))
 
 pub returns-in-Err-clause-mistake : goal.returns-in-Err-clause-mistake
 returns-in-Err-clause-mistake g c = λ wrong. elim c.in-Err.ensures.fails [
@@ -66,6 +70,9 @@ returns-in-Err-clause-lint g c = plain _ _ lint (texts c.args.words.now)
 pub returns-in-Err-clause-page : goal.returns-in-Err-clause-page
 returns-in-Err-clause-page g c = plain _ _ page (texts c.args.words.now)
 
+pub returns-in-Err-clause-watch : goal.returns-in-Err-clause-watch
+returns-in-Err-clause-watch g c = plain _ _ watch (texts c.args.words.now)
+
 pub returns-in-Err-clause-demo : goal.returns-in-Err-clause-demo
 returns-in-Err-clause-demo g c = plain _ _ demo (texts c.args.words.now)
 
@@ -81,6 +88,9 @@ returns-in-None-clause-lint g c = plain _ _ lint (texts c.args.words.now)
 pub returns-in-None-clause-page : goal.returns-in-None-clause-page
 returns-in-None-clause-page g c = plain _ _ page (texts c.args.words.now)
 
+pub returns-in-None-clause-watch : goal.returns-in-None-clause-watch
+returns-in-None-clause-watch g c = plain _ _ watch (texts c.args.words.now)
+
 pub returns-in-None-clause-demo : goal.returns-in-None-clause-demo
 returns-in-None-clause-demo g c = plain _ _ demo (texts c.args.words.now)
 
@@ -95,6 +105,9 @@ returns-in-Some-clause-lint g c = plain _ _ lint (texts c.args.words.now)
 
 pub returns-in-Some-clause-page : goal.returns-in-Some-clause-page
 returns-in-Some-clause-page g c = plain _ _ page (texts c.args.words.now)
+
+pub returns-in-Some-clause-watch : goal.returns-in-Some-clause-watch
+returns-in-Some-clause-watch g c = plain _ _ watch (texts c.args.words.now)
 
 pub returns-in-Some-clause-demo : goal.returns-in-Some-clause-demo
 returns-in-Some-clause-demo g c = plain _ _ demo (texts c.args.words.now)
