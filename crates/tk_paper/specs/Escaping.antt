@@ -48,11 +48,11 @@ pub data Woven : List ℕ → Place → Type 0 where
 abbrev pub is_plain : ℕ → Bool
 is_plain b = not (b == 60) && (not (b == 62) && (not (b == 34) && not (b == 39)))
 
--- a page's text so far, and where it goes on
+-- a page's text so far, and where it goes on: nowhere from a piece on that had no place
 pub record PaperView : Type 0 where
   pub text : List ℕ
-  pub place : Place
+  pub place : Option Place
 
 -- no text
 abbrev pub no_paper : PaperView
-no_paper = record { text = []; place = places.Text }
+no_paper = record { text = []; place = Some places.Text }

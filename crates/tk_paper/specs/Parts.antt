@@ -1,10 +1,12 @@
 -- How the parts of a page stand in its text.
-use Rattle.std.specs.Prelude.{ℕ, ◌+◌, ◌-◌, ◌/◌, ◌%◌, ◌^◌, min, nat_lt, nat_le, if◌then◌else◌, List, [], ◌∷◌, ◌++◌, codes, decimal, map, flat_map}
-use Rattle.tk_paper.specs.Escaping.{escaped}
-use Rattle.tk_paper.specs.Marks.{mark_text}
+use Rattle.std.specs.Prelude.{ℕ, ◌+◌, ◌-◌, ◌/◌, ◌%◌, ◌^◌, min, nat_lt, nat_le, if◌then◌else◌, Option, Some, None, List, [], ◌∷◌, ◌++◌, codes, decimal, map, flat_map}
+use Rattle.tk_paper.specs.Escaping.{behind_byte, escaped}
+use Rattle.tk_paper.specs.Marks.{behind, mark_text}
 use Rattle.tk_paper.specs.declared.marks.Attr.{Attr}
 use Rattle.tk_paper.specs.declared.marks.Attr.TheVariants as attrs
+use Rattle.tk_paper.specs.declared.marks.Mark.{Mark}
 use Rattle.tk_paper.specs.declared.marks.Mark.TheVariants as marks
+use Rattle.tk_paper.specs.declared.marks.Place.{Place}
 use Rattle.tk_paper.specs.declared.marks.Tag.{Tag}
 use Rattle.tk_paper.specs.declared.paper.Part.{Part}
 use Rattle.tk_paper.specs.declared.paper.Part.TheVariants as parts
@@ -107,3 +109,47 @@ bit_text quote = mark_text marks.Quote
 -- parts, one after the other
 unfoldable pub text_of : List Bit → List ℕ
 text_of = flat_map bit_text
+
+-- where a page's text goes on behind a piece of markup: nowhere where it went on nowhere, or where the piece has no place
+abbrev pub behind_mark : Mark → Option Place → Option Place
+behind_mark mark None = None
+behind_mark mark (Some place) = behind place mark
+
+-- behind a text, which has no place within a tag, even where it has no bytes
+abbrev pub behind_text : Option Place → Option Place
+behind_text None = None
+behind_text (Some place) = behind_byte place
+
+-- behind an attribute with its value
+abbrev pub behind_attr : Attr → Option Place → Option Place
+behind_attr attr place = behind_mark marks.Quote (behind_text (behind_mark (marks.Attr attr) place))
+
+-- behind a first tag without attributes
+abbrev pub behind_start : Tag → Option Place → Option Place
+behind_start tag place = behind_mark marks.End (behind_mark (marks.Open tag) place)
+
+-- behind a first tag with a class
+abbrev pub behind_class : Tag → Option Place → Option Place
+behind_class tag place = behind_mark marks.End (behind_attr attrs.Class (behind_mark (marks.Open tag) place))
+
+-- behind a part
+abbrev pub behind_bit : Bit → Option Place → Option Place
+behind_bit (text t) place = behind_text place
+behind_bit (number n) place = behind_text place
+behind_bit (share n) place = behind_text place
+behind_bit (span n) place = behind_text place
+behind_bit (mean n) place = behind_text place
+behind_bit (opens tag) place = behind_mark (marks.Open tag) place
+behind_bit ends place = behind_mark marks.End place
+behind_bit (close tag) place = behind_mark (marks.Close tag) place
+behind_bit (start tag) place = behind_start tag place
+behind_bit (class tag c) place = behind_class tag place
+behind_bit (having attr v) place = behind_attr attr place
+behind_bit (having_number attr v) place = behind_attr attr place
+behind_bit (value attr) place = behind_mark (marks.Attr attr) place
+behind_bit quote place = behind_mark marks.Quote place
+
+-- behind parts, one after the other
+unfoldable pub behind_all : List Bit → Option Place → Option Place
+behind_all [] place = place
+behind_all (b ∷ bs) place = behind_all bs (behind_bit b place)

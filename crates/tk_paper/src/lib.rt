@@ -11,4 +11,4 @@ mod paper;
 
 pub use course::{Course, SAMPLES};
 pub use marks::{Attr, Mark, Place, Tag};
-pub use paper::{Paper, Part, Stop};
+pub use paper::{Paper, Part};

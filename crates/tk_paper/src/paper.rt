@@ -1,26 +1,12 @@
 //! The text of a page, which is woven of the page's own markup and of escaped texts alone.
-ghost use Rattle.std.specs.Prelude.{◌≡◌, ◌++◌, OnOk, OnErr, IfOk, map};
+ghost use Rattle.std.specs.Prelude.{◌≡◌, ◌++◌, Some, OnOk, OnErr, map};
 ghost use Rattle.tk_paper.specs.Escaping as spec;
+ghost use Rattle.tk_paper.specs.Parts as places;
 
 use crate::marks::{Attr, Mark, Place, Tag, behind, mark_text};
 use itoa::Buffer;
 use std::alloc::{AllocError, Global};
 use std::marker::Model;
-
-/// Why a page is not written.
-#[derive(Clone, Copy, Debug, PartialEq, Eq)]
-pub enum Stop {
-    /// There was no memory for it.
-    Memory,
-    /// A piece has no place where it would stand. No call of this repository makes it so.
-    Misplaced,
-}
-
-impl From<AllocError> for Stop {
-    fn from(_: AllocError) -> Stop {
-        Stop::Memory
-    }
-}
 
 /// A part of a page. A text may be anyone's: it stands escaped.
 #[derive(Clone, Copy)]
@@ -55,21 +41,22 @@ pub enum Part<'a> {
     Quote,
 }
 
-/// The text of a page so far. A contract sees it, and where it goes on.
+/// The text of a page so far. A contract sees it, and where it goes on: nowhere once a part was put that had no place.
 #[derive(Drop)]
 pub struct Paper {
     bytes: Vec<u8>,
-    place: Place,
+    place: Option<Place>,
 }
 
 impl Model for Paper {
+    ghost use Rattle.std.specs.Prelude.{IfSome};
     ghost use Rattle.tk_paper.specs.Escaping.{PaperView, Woven};
 
     ghost Value = { PaperView };
 
     ghost view = { λ p. record { text = p.bytes.items; place = p.place } };
 
-    ghost invariant = { λ p. ∥ Woven p.bytes.items p.place ∥₁ };
+    ghost invariant = { λ p. IfSome p.place (λ place. ∥ Woven p.bytes.items place ∥₁) };
 }
 
 // Puts a byte of a text after others.
@@ -98,11 +85,25 @@ fn behind_byte(place: Place) -> Option<Place>
     }
 }
 
+// Where a page's text goes on behind a piece of markup.
+fn behind_mark(mark: Mark, place: Option<Place>) -> Option<Place>
+    ensures { result ≡ places.behind_mark mark place }
+{
+    behind(place?, mark)
+}
+
+// Where it goes on behind a text, which has no place within a tag.
+fn behind_text(place: Option<Place>) -> Option<Place>
+    ensures { result ≡ places.behind_text place }
+{
+    behind_byte(place?)
+}
+
 impl Paper {
     ghost use Rattle.tk_paper.specs.Behind.{Puts, Writes};
     ghost use Rattle.tk_paper.specs.Escaping.{Woven, escaped, escaped_byte, no_paper};
     ghost use Rattle.tk_paper.specs.Marks.{mark_text};
-    ghost use Rattle.tk_paper.specs.Parts.{attr_of, bit_of, bit_text, class_of, mean_text, number_attr_of, number_of, share_text, span_text, start_of, tenths_of};
+    ghost use Rattle.tk_paper.specs.Parts.{attr_of, behind_attr, behind_bit, behind_class, behind_mark, behind_start, behind_text, bit_of, bit_text, class_of, mean_text, number_attr_of, number_of, share_text, span_text, start_of, tenths_of};
 
     /// No text.
     pub fn new(alloc: Global) -> Paper
@@ -110,35 +111,30 @@ impl Paper {
     {
         Paper {
             bytes: Vec::new(alloc),
-            place: Place::Text,
+            place: Some(Place::Text),
         }
     }
 
-    fn mark(&mut self, mark: Mark) -> Result<(), Stop>
-        ensures { OnOk result (Puts self.old.text self.new.text (mark_text mark)) }
+    fn mark(&mut self, mark: Mark) -> Result<(), AllocError>
+        ensures { OnOk result (Puts self.old self.new (mark_text mark) (behind_mark mark)) }
     {
-        let Some(next) = behind(self.place, mark) else {
-            return Err(Stop::Misplaced);
-        };
         self.bytes.extend_from_slice(mark_text(mark).as_bytes())?;
-        self.place = next;
+        self.place = behind_mark(mark, self.place);
         Ok(())
     }
 
-    fn byte(&mut self, byte: u8) -> Result<(), Stop>
-        ensures { OnOk result (Puts self.old.text self.new.text (escaped_byte byte)) }
+    fn byte(&mut self, byte: u8) -> Result<(), AllocError>
+        ensures { OnOk result (Puts self.old self.new (escaped_byte byte) behind_text) }
     {
-        let Some(next) = behind_byte(self.place) else {
-            return Err(Stop::Misplaced);
-        };
         push_escaped(&mut self.bytes, byte)?;
-        self.place = next;
+        self.place = behind_text(self.place);
         Ok(())
     }
 
-    fn text(&mut self, text: &str) -> Result<(), Stop>
-        ensures { OnOk result (Puts self.old.text self.new.text (escaped text.now)) }
+    fn text(&mut self, text: &str) -> Result<(), AllocError>
+        ensures { OnOk result (Puts self.old self.new (escaped text.now) behind_text) }
     {
+        self.place = behind_text(self.place);
         let bytes = text.as_bytes();
         for byte in bytes {
             self.byte(*byte)?;
@@ -146,16 +142,16 @@ impl Paper {
         Ok(())
     }
 
-    fn number(&mut self, number: u64) -> Result<(), Stop>
-        ensures { OnOk result (Puts self.old.text self.new.text (number_of number)) }
+    fn number(&mut self, number: u64) -> Result<(), AllocError>
+        ensures { OnOk result (Puts self.old self.new (number_of number) behind_text) }
     {
         let mut buffer = Buffer::new();
         self.text(buffer.format(number))?;
         Ok(())
     }
 
-    fn attr(&mut self, attr: Attr, value: &str) -> Result<(), Stop>
-        ensures { OnOk result (Puts self.old.text self.new.text (attr_of attr value.now)) }
+    fn attr(&mut self, attr: Attr, value: &str) -> Result<(), AllocError>
+        ensures { OnOk result (Puts self.old self.new (attr_of attr value.now) (behind_attr attr)) }
     {
         self.mark(Mark::Attr(attr))?;
         self.text(value)?;
@@ -163,8 +159,8 @@ impl Paper {
         Ok(())
     }
 
-    fn number_attr(&mut self, attr: Attr, value: u64) -> Result<(), Stop>
-        ensures { OnOk result (Puts self.old.text self.new.text (number_attr_of attr value)) }
+    fn number_attr(&mut self, attr: Attr, value: u64) -> Result<(), AllocError>
+        ensures { OnOk result (Puts self.old self.new (number_attr_of attr value) (behind_attr attr)) }
     {
         self.mark(Mark::Attr(attr))?;
         self.number(value)?;
@@ -172,16 +168,16 @@ impl Paper {
         Ok(())
     }
 
-    fn start(&mut self, tag: Tag) -> Result<(), Stop>
-        ensures { OnOk result (Puts self.old.text self.new.text (start_of tag)) }
+    fn start(&mut self, tag: Tag) -> Result<(), AllocError>
+        ensures { OnOk result (Puts self.old self.new (start_of tag) (behind_start tag)) }
     {
         self.mark(Mark::Open(tag))?;
         self.mark(Mark::End)?;
         Ok(())
     }
 
-    fn class(&mut self, tag: Tag, class: &str) -> Result<(), Stop>
-        ensures { OnOk result (Puts self.old.text self.new.text (class_of tag class.now)) }
+    fn class(&mut self, tag: Tag, class: &str) -> Result<(), AllocError>
+        ensures { OnOk result (Puts self.old self.new (class_of tag class.now) (behind_class tag)) }
     {
         self.mark(Mark::Open(tag))?;
         self.attr(Attr::Class, class)?;
@@ -190,8 +186,8 @@ impl Paper {
     }
 
     // Puts tenths of a unit, with their digit after the point where they are few.
-    fn tenths(&mut self, few: u64, tenths: u64, unit: &str) -> Result<(), Stop>
-        ensures { OnOk result (Puts self.old.text self.new.text (tenths_of few tenths unit.now)) }
+    fn tenths(&mut self, few: u64, tenths: u64, unit: &str) -> Result<(), AllocError>
+        ensures { OnOk result (Puts self.old self.new (tenths_of few tenths unit.now) behind_text) }
     {
         self.number(tenths / 10)?;
         if tenths < few {
@@ -202,14 +198,14 @@ impl Paper {
         Ok(())
     }
 
-    fn share(&mut self, share: u64) -> Result<(), Stop>
-        ensures { OnOk result (Puts self.old.text self.new.text (share_text share)) }
+    fn share(&mut self, share: u64) -> Result<(), AllocError>
+        ensures { OnOk result (Puts self.old self.new (share_text share) behind_text) }
     {
         self.tenths(100, share, " %")
     }
 
-    fn span(&mut self, ns: u64) -> Result<(), Stop>
-        ensures { OnOk result (Puts self.old.text self.new.text (span_text ns)) }
+    fn span(&mut self, ns: u64) -> Result<(), AllocError>
+        ensures { OnOk result (Puts self.old self.new (span_text ns) behind_text) }
     {
         if ns >= 1_000_000_000 {
             self.tenths(1000, ns.saturating_add(50_000_000) / 100_000_000, " s")
@@ -224,8 +220,8 @@ impl Paper {
         }
     }
 
-    fn mean(&mut self, mean: u64) -> Result<(), Stop>
-        ensures { OnOk result (Puts self.old.text self.new.text (mean_text mean)) }
+    fn mean(&mut self, mean: u64) -> Result<(), AllocError>
+        ensures { OnOk result (Puts self.old self.new (mean_text mean) behind_text) }
     {
         self.number(mean / 1000)?;
         self.text(".")?;
@@ -233,8 +229,8 @@ impl Paper {
         Ok(())
     }
 
-    fn part(&mut self, part: &Part) -> Result<(), Stop>
-        ensures { OnOk result (Puts self.old.text self.new.text (bit_text (bit_of part.now))) }
+    fn part(&mut self, part: &Part) -> Result<(), AllocError>
+        ensures { OnOk result (Puts self.old self.new (bit_text (bit_of part.now)) (behind_bit (bit_of part.now))) }
     {
         match *part {
             Part::Text(text) => self.text(text),
@@ -255,8 +251,8 @@ impl Paper {
     }
 
     /// Puts parts behind the text, one after the other. After an error a front of them stands there.
-    pub fn put(&mut self, parts: &[Part]) -> Result<(), Stop>
-        ensures { OnOk result (Writes self.old.text self.new.text (map bit_of parts.now)) }
+    pub fn put(&mut self, parts: &[Part]) -> Result<(), AllocError>
+        ensures { OnOk result (Writes self.old self.new (map bit_of parts.now)) }
     {
         for part in parts {
             self.part(part)?;
@@ -264,16 +260,13 @@ impl Paper {
         Ok(())
     }
 
-    /// The text, where it ends between tags.
-    pub fn into_bytes(self) -> Result<Vec<u8>, Stop>
-        ensures text { IfOk result (λ bytes. bytes.items ≡ self.text) }
-        ensures woven { IfOk result (λ bytes. ∥ Woven bytes.items Place.Text ∥₁) }
+    /// The text, which goes on between tags.
+    pub fn into_bytes(self) -> Vec<u8>
+        requires { self.place ≡ Some Place.Text }
+        ensures text { result.items ≡ self.text }
+        ensures woven { ∥ Woven result.items Place.Text ∥₁ }
     {
-        let Paper { bytes, place } = self;
-        if place == Place::Text {
-            Ok(bytes)
-        } else {
-            Err(Stop::Misplaced)
-        }
+        let Paper { bytes, place: _ } = self;
+        bytes
     }
 }
