@@ -1,2 +1,3 @@
-pub mod PutLemmas
+pub mod LeavingLemmas
 pub mod SeriesLemmas
+pub mod StreamLemmas

@@ -113,3 +113,28 @@ module _ {A V : Type 0} (plus : V → V → V) (e : A → List ℕ × V) (before
   -- past the last place
   pub items_all : (i n : ℕ) → n ≡ length xs → n ≤ i → so_far i ≡ series_of plus (before ++ map e xs)
   items_all i n is past = ap (λ ys. series_of plus (before ++ map e ys)) (take_all i xs (subst (λ m. m ≤ i) is past))
+
+-- the same of those items alone that pass a test
+module _ {A V : Type 0} (plus : V → V → V) (e : A → List ℕ × V) (test : A → Bool) (before : List (List ℕ × V)) (xs : List A) where
+  abbrev pub passed_so_far : ℕ → List (List ℕ × V)
+  passed_so_far i = series_of plus (before ++ map e (filter test (take i xs)))
+
+  -- an item that is there goes in where it is not one of those that stay
+  pub passed_more : (i : ℕ) → passed_so_far (i + 1)
+      ≡ option_map_or (λ x. cond (test x) (with_value plus (e x).0 (e x).1 (passed_so_far i)) (passed_so_far i)) (slice_get xs i) (passed_so_far i)
+  passed_more i = rw add-one (ap (λ ys. series_of plus (before ++ map e (filter test ys))) (taken_more xs i) ∙ by (slice_get xs i))
+    where
+      one_more : (x : A) (b : Bool) → series_of plus (before ++ map e (filter test (take i xs) ++ cond b (x ∷ []) []))
+          ≡ cond b (with_value plus (e x).0 (e x).1 (passed_so_far i)) (passed_so_far i)
+      one_more x true =
+          ap (λ ys. series_of plus (before ++ ys)) (map-append e (filter test (take i xs)) (x ∷ []))
+          ∙ ap (series_of plus) (sym (append_assoc before (map e (filter test (take i xs))) (e x ∷ [])))
+          ∙ series_of-more plus (e x).0 (e x).1 (before ++ map e (filter test (take i xs)))
+      one_more x false = ap (λ ys. series_of plus (before ++ map e ys)) (append-nil (filter test (take i xs)))
+      by : (o : Option A) → series_of plus (before ++ map e (filter test (take i xs ++ option_map_or (λ (x : A). x ∷ []) o [])))
+          ≡ option_map_or (λ x. cond (test x) (with_value plus (e x).0 (e x).1 (passed_so_far i)) (passed_so_far i)) o (passed_so_far i)
+      by None = ap (λ ys. series_of plus (before ++ map e (filter test ys))) (append-nil (take i xs))
+      by (Some x) = ap (λ ys. series_of plus (before ++ map e ys)) (filter-append test (take i xs) (x ∷ [])) ∙ one_more x (test x)
+
+  pub passed_all : (i n : ℕ) → n ≡ length xs → n ≤ i → passed_so_far i ≡ series_of plus (before ++ map e (filter test xs))
+  passed_all i n is past = ap (λ ys. series_of plus (before ++ map e (filter test ys))) (take_all i xs (subst (λ m. m ≤ i) is past))

@@ -1,3 +1,5 @@
+-- The families of a stream
+pub mod Families
 -- Families of samples, as they are written
 pub mod Samples
 -- What the same labels add up to
@@ -6,5 +8,9 @@ pub mod Series
 pub mod Sums
 -- The text of a stream's numbers
 pub mod Metrics
+-- What has left the tables of a stream
+pub mod Leaving
+-- What the numbers of a stream are, and what writing them came to
+pub mod Streams
 -- Inner: no public clause cites these
-pub mod Behind
+pub mod Following

@@ -7,10 +7,10 @@ use Rattle.tk_client.specs.declared.warning.WarningKind.{WarningKind}
 use Rattle.tk_client.specs.declared.warning.WarningKind.TheVariants.{SelfWakes, LostWaker, NeverYielded}
 use Rattle.tk_client.specs.Warnings.{LintsView, warnings_in}
 use Rattle.tk_metrics.specs.declared.by.By.{By}
-use Rattle.tk_metrics.specs.declared.families.TheConstants.{TASK_POLLS, TASK_BUSY, TASK_SCHEDULED, TASK_WAKES, TASK_SELF_WAKES, TASK_WAKER_CLONES, TASK_WAKER_DROPS, TASKS, POLL_OPS, WARNINGS, DROPPED, LINES}
 use Rattle.tk_metrics.specs.declared.family.Family.{Family}
-use Rattle.tk_metrics.specs.declared.sums.Count.{Count}
-use Rattle.tk_metrics.specs.declared.sums.Count.TheVariants.{Polls, Busy, Scheduled, Wakes, SelfWakes as OwnWakes, WakerClones, WakerDrops}
+use Rattle.tk_metrics.specs.declared.family.Family.TheVariants as families
+use Rattle.tk_metrics.specs.declared.family.Count.{Count}
+use Rattle.tk_metrics.specs.declared.family.Count.TheVariants.{Polls, Busy, Scheduled, Wakes, SelfWakes as OwnWakes, WakerClones, WakerDrops}
 use Rattle.tk_metrics.specs.declared.sums.PollOps.{PollOps}
 use Rattle.tk_metrics.specs.declared.sums.Sums.{Sums}
 use Rattle.tk_metrics.specs.Samples.{family, head_of, label, sample, with_label}
@@ -18,7 +18,7 @@ use Rattle.tk_metrics.specs.Series.{series_of}
 use Rattle.tk_metrics.specs.Sums.{both_ops, plus, resource_entry, task_entry}
 
 -- what has left the tables: tasks by their name and kind, and resources by their type, each with what it had come to
-pub record Left : Type 0 where
+pub record Gone : Type 0 where
   pub tasks : List (List ℕ × Sums)
   pub resources : List (List ℕ × PollOps)
 
@@ -35,12 +35,12 @@ count_of WakerClones s = s.clones
 count_of WakerDrops s = s.drops
 
 -- a family of such counts
-abbrev pub count_family : Family → Count → List (List ℕ × Sums) → List ℕ
-count_family f count tasks = family f (λ s. sample f (s.0, count_of count s.1)) tasks
+abbrev pub count_family : Count → List (List ℕ × Sums) → List ℕ
+count_family count tasks = family (families.Task count) (λ s. sample (families.Task count) (s.0, count_of count s.1)) tasks
 
 -- how many tasks of some labels are in a state
 abbrev pub state_sample : List ℕ → List ℕ → ℕ → List ℕ
-state_sample labels state n = sample TASKS (with_label labels (codes "state") state, n)
+state_sample labels state n = sample families.Tasks (with_label labels (codes "state") state, n)
 
 -- how many are in each state
 abbrev pub state_samples : List ℕ × Sums → List ℕ
@@ -53,20 +53,20 @@ state_samples s =
 -- the families of tasks
 abbrev pub task_families : List (List ℕ × Sums) → List ℕ
 task_families tasks =
-    count_family TASK_POLLS Polls tasks
-    ++ (count_family TASK_BUSY Busy tasks
-    ++ (count_family TASK_SCHEDULED Scheduled tasks
-    ++ (count_family TASK_WAKES Wakes tasks
-    ++ (count_family TASK_SELF_WAKES OwnWakes tasks
-    ++ (count_family TASK_WAKER_CLONES WakerClones tasks
-    ++ (count_family TASK_WAKER_DROPS WakerDrops tasks
-    ++ family TASKS state_samples tasks))))))
+    count_family Polls tasks
+    ++ (count_family Busy tasks
+    ++ (count_family Scheduled tasks
+    ++ (count_family Wakes tasks
+    ++ (count_family OwnWakes tasks
+    ++ (count_family WakerClones tasks
+    ++ (count_family WakerDrops tasks
+    ++ family families.Tasks state_samples tasks))))))
 
 -- ---- resources
 
 -- how many poll operations of some labels gave this answer
 abbrev pub answer_sample : List ℕ → List ℕ → ℕ → List ℕ
-answer_sample labels answer n = sample POLL_OPS (with_label labels (codes "readiness") answer, n)
+answer_sample labels answer n = sample families.PollOps (with_label labels (codes "readiness") answer, n)
 
 abbrev pub answer_samples : List ℕ × PollOps → List ℕ
 answer_samples s = answer_sample s.0 (codes "ready") s.1.ready ++ answer_sample s.0 (codes "pending") s.1.pending
@@ -90,20 +90,20 @@ warnings_of_kind kind warnings = length (filter (λ w. is_kind kind w.kind) warn
 
 abbrev pub warning_family : List Warning → List ℕ
 warning_family warnings =
-    head_of WARNINGS
-    ++ (kind_sample WARNINGS (codes "self-wakes") (warnings_of_kind SelfWakes warnings)
-    ++ (kind_sample WARNINGS (codes "lost-waker") (warnings_of_kind LostWaker warnings)
-    ++ kind_sample WARNINGS (codes "never-yielded") (warnings_of_kind NeverYielded warnings)))
+    head_of families.Warnings
+    ++ (kind_sample families.Warnings (codes "self-wakes") (warnings_of_kind SelfWakes warnings)
+    ++ (kind_sample families.Warnings (codes "lost-waker") (warnings_of_kind LostWaker warnings)
+    ++ kind_sample families.Warnings (codes "never-yielded") (warnings_of_kind NeverYielded warnings)))
 
 abbrev pub dropped_family : Dropped → List ℕ
 dropped_family dropped =
-    head_of DROPPED
-    ++ (kind_sample DROPPED (codes "task") dropped.tasks
-    ++ (kind_sample DROPPED (codes "resource") dropped.resources
-    ++ kind_sample DROPPED (codes "op") dropped.ops))
+    head_of families.Dropped
+    ++ (kind_sample families.Dropped (codes "task") dropped.tasks
+    ++ (kind_sample families.Dropped (codes "resource") dropped.resources
+    ++ kind_sample families.Dropped (codes "op") dropped.ops))
 
 abbrev pub line_family : ℕ → List ℕ
-line_family lines = head_of LINES ++ sample LINES ([], lines)
+line_family lines = head_of families.Lines ++ sample families.Lines ([], lines)
 
 -- ---- the text
 
@@ -111,23 +111,23 @@ line_family lines = head_of LINES ++ sample LINES ([], lines)
 abbrev pub text_of : List (List ℕ × Sums) → List (List ℕ × PollOps) → List Warning → Dropped → ℕ → List ℕ
 text_of tasks resources warnings dropped lines =
     task_families tasks
-    ++ (family POLL_OPS answer_samples resources
+    ++ (family families.PollOps answer_samples resources
     ++ (warning_family warnings
     ++ (dropped_family dropped
     ++ (line_family lines ++ codes "# EOF\n"))))
 
 -- the series of tasks: those that have left, and those of the tables
-abbrev pub task_series : By → TablesView → Left → List (List ℕ × Sums)
-task_series by tables left = series_of plus (left.tasks ++ map (task_entry by) tables.tasks)
+abbrev pub task_series : By → TablesView → Gone → List (List ℕ × Sums)
+task_series by tables gone = series_of plus (gone.tasks ++ map (task_entry by) tables.tasks)
 
 -- the series of resources
-abbrev pub resource_series : TablesView → Left → List (List ℕ × PollOps)
-resource_series tables left = series_of both_ops (left.resources ++ map (resource_entry tables.counts) tables.resources)
+abbrev pub resource_series : TablesView → Gone → List (List ℕ × PollOps)
+resource_series tables gone = series_of both_ops (gone.resources ++ map (resource_entry tables.counts) tables.resources)
 
 -- the numbers of tables with these warnings
-abbrev pub metrics_with : By → TablesView → List Warning → Left → ℕ → List ℕ
-metrics_with by tables warnings left lines = text_of (task_series by tables left) (resource_series tables left) warnings tables.dropped lines
+abbrev pub metrics_with : By → TablesView → List Warning → Gone → ℕ → List ℕ
+metrics_with by tables warnings gone lines = text_of (task_series by tables gone) (resource_series tables gone) warnings tables.dropped lines
 
 -- the numbers of tables, of what has left them, and of so many lines
-abbrev pub metrics_text : By → LintsView → TablesView → Left → ℕ → List ℕ
-metrics_text by lints tables left lines = metrics_with by tables (warnings_in lints tables) left lines
+abbrev pub metrics_text : By → LintsView → TablesView → Gone → ℕ → List ℕ
+metrics_text by lints tables gone lines = metrics_with by tables (warnings_in lints tables) gone lines

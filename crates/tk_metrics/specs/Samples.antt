@@ -3,6 +3,7 @@ use Rattle.std.specs.Prelude.{ℕ, ◌+◌, ◌/◌, ◌%◌, ◌==◌, List, []
 use Rattle.tk_metrics.specs.declared.family.Family.{Family}
 use Rattle.tk_metrics.specs.declared.family.FamilyKind.{FamilyKind}
 use Rattle.tk_metrics.specs.declared.family.FamilyKind.TheVariants.{Counter, Gauge}
+use Rattle.tk_metrics.specs.Families.{base_of, help_of, is_in_seconds, kind_of}
 
 -- ---- labels
 
@@ -55,19 +56,19 @@ suffix Gauge = []
 
 -- the name of a family's samples
 abbrev pub name_of : Family → List ℕ
-name_of f = f.base.now ++ suffix f.kind
+name_of f = base_of f ++ suffix (kind_of f)
 
 -- its unit, where it has one
 abbrev pub unit_line : Family → List ℕ
-unit_line f = if f.in_seconds then codes "# UNIT " ++ f.base.now ++ codes " seconds\n" else []
+unit_line f = if is_in_seconds f then codes "# UNIT " ++ base_of f ++ codes " seconds\n" else []
 
 -- its type
 abbrev pub type_line : Family → List ℕ
-type_line f = codes "# TYPE " ++ name_of f ++ codes " " ++ kind_word f.kind ++ codes "\n"
+type_line f = codes "# TYPE " ++ name_of f ++ codes " " ++ kind_word (kind_of f) ++ codes "\n"
 
 -- what it counts
 abbrev pub help_line : Family → List ℕ
-help_line f = codes "# HELP " ++ name_of f ++ codes " " ++ f.help.now ++ codes "\n"
+help_line f = codes "# HELP " ++ name_of f ++ codes " " ++ help_of f ++ codes "\n"
 
 -- what is said of a family before its samples
 abbrev pub head_of : Family → List ℕ
@@ -75,7 +76,7 @@ head_of f = type_line f ++ (unit_line f ++ help_line f)
 
 -- a value of a family, which is of nanoseconds where it is in seconds
 abbrev pub value_of : Family → ℕ → List ℕ
-value_of f n = if f.in_seconds then seconds n else decimal n
+value_of f n = if is_in_seconds f then seconds n else decimal n
 
 -- a sample: its family's name, its labels and its value
 abbrev pub sample : Family → List ℕ × ℕ → List ℕ

@@ -3,8 +3,7 @@ use Rattle.std.specs.Prelude.{ℕ, ◌+◌, Bool, ◌&&◌, not, is_some, List, 
 use Rattle.tk_core.specs.Lists.{capped}
 use Rattle.tk_core.specs.declared.task.row.TaskRow.{TaskRow}
 use Rattle.tk_ids.specs.Ids.{id_text}
-use Rattle.tk_ids.specs.declared.spec.TaskKind.{TaskKind}
-use Rattle.tk_ids.specs.declared.spec.TaskKind.TheVariants.{Spawn, Blocking}
+use Rattle.tk_report.specs.Report.{kind_word}
 use Rattle.tk_stream.specs.Tables.{PollCounts, counts_of}
 use Rattle.tk_stream.specs.declared.resource.Resource.{Resource}
 use Rattle.tk_stream.specs.declared.task.Task.{Task}
@@ -60,11 +59,6 @@ plus a b = record {
   polling = capped (a.polling + b.polling);
   closed = capped (a.closed + b.closed);
 }
-
--- the kind of a task
-abbrev pub kind_word : TaskKind → List ℕ
-kind_word Spawn = codes "spawn"
-kind_word Blocking = codes "blocking"
 
 -- a task's name and kind
 abbrev pub own_labels : Task → List ℕ

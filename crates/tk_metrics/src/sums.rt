@@ -1,13 +1,15 @@
 //! What is added up of tasks, and of resources.
 ghost use Rattle.std.specs.Prelude.{◌≡◌, ◌++◌, ℕ, List, IfOk, OnOk, map, slice_get};
 ghost use Rattle.std.specs.Option.{option_map_or};
-ghost use Rattle.tk_metrics.specs.Behind.{Puts};
+ghost use Rattle.tk_report.specs.Behind.{Puts};
 ghost use Rattle.tk_metrics.specs.Series.{series_of, with_value};
 ghost use Rattle.tk_metrics.specs.Sums as spec;
+ghost use Rattle.tk_report.specs.Report as report;
 ghost use Rattle.tk_metrics.specs.declared.sums.PollOps.{PollOps as PollOpsView};
 ghost use Rattle.tk_metrics.specs.declared.sums.Sums.{Sums as SumsView};
 
 use crate::by::By;
+use crate::family::Count;
 use crate::series::{Added, Series};
 use crate::text::{put, put_label};
 use std::alloc::{AllocError, Global};
@@ -32,18 +34,6 @@ pub struct Sums {
     pub scheduled: u64,
     pub polling: u64,
     pub closed: u64,
-}
-
-/// One of the counts of tasks.
-#[derive(Clone, Copy, Debug, PartialEq, Eq)]
-pub enum Count {
-    Polls,
-    Busy,
-    Scheduled,
-    Wakes,
-    SelfWakes,
-    WakerClones,
-    WakerDrops,
 }
 
 /// How many poll operations of resources were ready, and how many pending.
@@ -148,7 +138,7 @@ fn sums_of(row: &TaskRow) -> Sums
 }
 
 fn kind_word(kind: TaskKind) -> &'static str
-    ensures { result.now ≡ spec.kind_word kind }
+    ensures { result.now ≡ report.kind_word kind }
 {
     match kind {
         TaskKind::Spawn => "spawn",

@@ -1,6 +1,6 @@
 //! The text of families, each piece put after what is written.
 ghost use Rattle.std.specs.Prelude.{◌≡◌, ◌<◌, ◌++◌, ◌∷◌, [], OnOk, decimal};
-ghost use Rattle.tk_metrics.specs.Behind.{Puts};
+ghost use Rattle.tk_report.specs.Behind.{Puts};
 ghost use Rattle.tk_metrics.specs.Samples as spec;
 
 use crate::family::{Family, FamilyKind};
@@ -116,57 +116,57 @@ fn suffix(kind: FamilyKind) -> &'static str
     }
 }
 
-fn put_name(out: &mut Vec<u8>, family: &Family) -> Result<(), AllocError>
-    ensures { OnOk result (Puts out.old.items out.new.items (spec.name_of family.now)) }
+fn put_name(out: &mut Vec<u8>, family: Family) -> Result<(), AllocError>
+    ensures { OnOk result (Puts out.old.items out.new.items (spec.name_of family)) }
 {
-    put(out, family.base)?;
-    put(out, suffix(family.kind))
+    put(out, family.base())?;
+    put(out, suffix(family.kind()))
 }
 
-fn put_unit_line(out: &mut Vec<u8>, family: &Family) -> Result<(), AllocError>
-    ensures { OnOk result (Puts out.old.items out.new.items (spec.unit_line family.now)) }
+fn put_unit_line(out: &mut Vec<u8>, family: Family) -> Result<(), AllocError>
+    ensures { OnOk result (Puts out.old.items out.new.items (spec.unit_line family)) }
 {
-    if !family.in_seconds {
+    if !family.is_in_seconds() {
         return Ok(());
     }
     put(out, "# UNIT ")?;
-    put(out, family.base)?;
+    put(out, family.base())?;
     put(out, " seconds\n")
 }
 
-fn put_type_line(out: &mut Vec<u8>, family: &Family) -> Result<(), AllocError>
-    ensures { OnOk result (Puts out.old.items out.new.items (spec.type_line family.now)) }
+fn put_type_line(out: &mut Vec<u8>, family: Family) -> Result<(), AllocError>
+    ensures { OnOk result (Puts out.old.items out.new.items (spec.type_line family)) }
 {
     put(out, "# TYPE ")?;
     put_name(out, family)?;
     put(out, " ")?;
-    put(out, kind_word(family.kind))?;
+    put(out, kind_word(family.kind()))?;
     put(out, "\n")
 }
 
-fn put_help_line(out: &mut Vec<u8>, family: &Family) -> Result<(), AllocError>
-    ensures { OnOk result (Puts out.old.items out.new.items (spec.help_line family.now)) }
+fn put_help_line(out: &mut Vec<u8>, family: Family) -> Result<(), AllocError>
+    ensures { OnOk result (Puts out.old.items out.new.items (spec.help_line family)) }
 {
     put(out, "# HELP ")?;
     put_name(out, family)?;
     put(out, " ")?;
-    put(out, family.help)?;
+    put(out, family.help())?;
     put(out, "\n")
 }
 
 /// Puts what is said of a family before its samples.
-pub(crate) fn put_head(out: &mut Vec<u8>, family: &Family) -> Result<(), AllocError>
-    ensures { OnOk result (Puts out.old.items out.new.items (spec.head_of family.now)) }
+pub(crate) fn put_head(out: &mut Vec<u8>, family: Family) -> Result<(), AllocError>
+    ensures { OnOk result (Puts out.old.items out.new.items (spec.head_of family)) }
 {
     put_type_line(out, family)?;
     put_unit_line(out, family)?;
     put_help_line(out, family)
 }
 
-fn put_value(out: &mut Vec<u8>, family: &Family, value: u64) -> Result<(), AllocError>
-    ensures { OnOk result (Puts out.old.items out.new.items (spec.value_of family.now value)) }
+fn put_value(out: &mut Vec<u8>, family: Family, value: u64) -> Result<(), AllocError>
+    ensures { OnOk result (Puts out.old.items out.new.items (spec.value_of family value)) }
 {
-    if family.in_seconds {
+    if family.is_in_seconds() {
         put_seconds(out, value)
     } else {
         put_number(out, value)
@@ -176,11 +176,11 @@ fn put_value(out: &mut Vec<u8>, family: &Family, value: u64) -> Result<(), Alloc
 /// Puts a sample of a family.
 pub(crate) fn put_sample(
     out: &mut Vec<u8>,
-    family: &Family,
+    family: Family,
     labels: &[u8],
     value: u64,
 ) -> Result<(), AllocError>
-    ensures { OnOk result (Puts out.old.items out.new.items (spec.sample family.now (labels.now, value))) }
+    ensures { OnOk result (Puts out.old.items out.new.items (spec.sample family (labels.now, value))) }
 {
     put_name(out, family)?;
     put_braced(out, labels)?;

@@ -1,17 +1,13 @@
 //! The text of numbers, family by family.
 ghost use Rattle.std.specs.Prelude.{◌≡◌, ◌++◌, ℕ, List, OnOk, IfOk, IfErr, length, map, slice_get, [], codes};
 ghost use Rattle.std.specs.Option.{option_map_or};
-ghost use Rattle.tk_metrics.specs.Behind.{Puts};
+ghost use Rattle.tk_report.specs.Behind.{Puts};
 ghost use Rattle.tk_metrics.specs.Metrics as spec;
 ghost use Rattle.tk_metrics.specs.Samples.{family as family_text, sample, with_label};
 
-use crate::families::{
-    DROPPED, LINES, POLL_OPS, TASK_BUSY, TASK_POLLS, TASK_SCHEDULED, TASK_SELF_WAKES,
-    TASK_WAKER_CLONES, TASK_WAKER_DROPS, TASK_WAKES, TASKS, WARNINGS,
-};
-use crate::family::Family;
+use crate::family::{Count, Family};
 use crate::series::Series;
-use crate::sums::{Count, PollOps, Sums};
+use crate::sums::{PollOps, Sums};
 use crate::text::{put, put_bytes, put_head, put_label, put_sample};
 use std::alloc::{AllocError, Global};
 use tk_client::{Warning, WarningKind};
@@ -21,31 +17,25 @@ use tk_ids::Dropped;
 
 fn put_count_at(
     out: &mut Vec<u8>,
-    family: &Family,
     count: Count,
     tasks: &Series<Sums>,
     place: usize,
 ) -> Result<(), AllocError>
     ensures { OnOk result (Puts out.old.items out.new.items
-        (option_map_or (λ s. sample family.now (s.0, spec.count_of count s.1)) (slice_get tasks.now place) [])) }
+        (option_map_or (λ s. sample (Family.Task count) (s.0, spec.count_of count s.1)) (slice_get tasks.now place) [])) }
 {
     match tasks.at(place) {
-        Some((labels, sums)) => put_sample(out, family, labels, sums.count(count)),
+        Some((labels, sums)) => put_sample(out, Family::Task(count), labels, sums.count(count)),
         None => Ok(()),
     }
 }
 
-fn put_counts(
-    out: &mut Vec<u8>,
-    family: &Family,
-    count: Count,
-    tasks: &Series<Sums>,
-) -> Result<(), AllocError>
-    ensures { OnOk result (Puts out.old.items out.new.items (spec.count_family family.now count tasks.now)) }
+fn put_counts(out: &mut Vec<u8>, count: Count, tasks: &Series<Sums>) -> Result<(), AllocError>
+    ensures { OnOk result (Puts out.old.items out.new.items (spec.count_family count tasks.now)) }
 {
-    put_head(out, family)?;
+    put_head(out, Family::Task(count))?;
     for place in 0..tasks.len() {
-        put_count_at(out, family, count, tasks, place)?;
+        put_count_at(out, count, tasks, place)?;
     }
     Ok(())
 }
@@ -54,14 +44,14 @@ fn put_counts(
 fn put_with_label(
     out: &mut Vec<u8>,
     alloc: Global,
-    family: &Family,
+    family: Family,
     labels: &[u8],
     key: &str,
     word: &str,
     value: u64,
 ) -> Result<(), AllocError>
     ensures { OnOk result (Puts out.old.items out.new.items
-        (sample family.now (with_label labels.now key.now word.now, value))) }
+        (sample family (with_label labels.now key.now word.now, value))) }
 {
     let mut all = Vec::new(alloc);
     put_bytes(&mut all, labels)?;
@@ -79,7 +69,7 @@ fn put_state(
 ) -> Result<(), AllocError>
     ensures { OnOk result (Puts out.old.items out.new.items (spec.state_sample labels.now state.now count)) }
 {
-    put_with_label(out, alloc, &TASKS, labels, "state", state, count)
+    put_with_label(out, alloc, Family::Tasks, labels, "state", state, count)
 }
 
 fn put_states(
@@ -93,7 +83,8 @@ fn put_states(
     put_state(out, alloc, labels, "idle", sums.idle)?;
     put_state(out, alloc, labels, "scheduled", sums.scheduled)?;
     put_state(out, alloc, labels, "polling", sums.polling)?;
-    put_state(out, alloc, labels, "closed", sums.closed)
+    put_state(out, alloc, labels, "closed", sums.closed)?;
+    Ok(())
 }
 
 fn put_states_at(
@@ -116,9 +107,9 @@ fn put_all_states(
     alloc: Global,
     tasks: &Series<Sums>,
 ) -> Result<(), AllocError>
-    ensures { OnOk result (Puts out.old.items out.new.items (family_text TASKS spec.state_samples tasks.now)) }
+    ensures { OnOk result (Puts out.old.items out.new.items (family_text Family.Tasks spec.state_samples tasks.now)) }
 {
-    put_head(out, &TASKS)?;
+    put_head(out, Family::Tasks)?;
     for place in 0..tasks.len() {
         put_states_at(out, alloc, tasks, place)?;
     }
@@ -128,14 +119,15 @@ fn put_all_states(
 fn put_tasks(out: &mut Vec<u8>, alloc: Global, tasks: &Series<Sums>) -> Result<(), AllocError>
     ensures { OnOk result (Puts out.old.items out.new.items (spec.task_families tasks.now)) }
 {
-    put_counts(out, &TASK_POLLS, Count::Polls, tasks)?;
-    put_counts(out, &TASK_BUSY, Count::Busy, tasks)?;
-    put_counts(out, &TASK_SCHEDULED, Count::Scheduled, tasks)?;
-    put_counts(out, &TASK_WAKES, Count::Wakes, tasks)?;
-    put_counts(out, &TASK_SELF_WAKES, Count::SelfWakes, tasks)?;
-    put_counts(out, &TASK_WAKER_CLONES, Count::WakerClones, tasks)?;
-    put_counts(out, &TASK_WAKER_DROPS, Count::WakerDrops, tasks)?;
-    put_all_states(out, alloc, tasks)
+    put_counts(out, Count::Polls, tasks)?;
+    put_counts(out, Count::Busy, tasks)?;
+    put_counts(out, Count::Scheduled, tasks)?;
+    put_counts(out, Count::Wakes, tasks)?;
+    put_counts(out, Count::SelfWakes, tasks)?;
+    put_counts(out, Count::WakerClones, tasks)?;
+    put_counts(out, Count::WakerDrops, tasks)?;
+    put_all_states(out, alloc, tasks)?;
+    Ok(())
 }
 
 // ---- resources
@@ -149,7 +141,20 @@ fn put_answer(
 ) -> Result<(), AllocError>
     ensures { OnOk result (Puts out.old.items out.new.items (spec.answer_sample labels.now answer.now count)) }
 {
-    put_with_label(out, alloc, &POLL_OPS, labels, "readiness", answer, count)
+    put_with_label(out, alloc, Family::PollOps, labels, "readiness", answer, count)
+}
+
+fn put_answers(
+    out: &mut Vec<u8>,
+    alloc: Global,
+    labels: &[u8],
+    ops: PollOps,
+) -> Result<(), AllocError>
+    ensures { OnOk result (Puts out.old.items out.new.items (spec.answer_samples (labels.now, ops))) }
+{
+    put_answer(out, alloc, labels, "ready", ops.ready)?;
+    put_answer(out, alloc, labels, "pending", ops.pending)?;
+    Ok(())
 }
 
 fn put_answers_at(
@@ -162,10 +167,7 @@ fn put_answers_at(
         (option_map_or spec.answer_samples (slice_get resources.now place) [])) }
 {
     match resources.at(place) {
-        Some((labels, ops)) => {
-            put_answer(out, alloc, labels, "ready", ops.ready)?;
-            put_answer(out, alloc, labels, "pending", ops.pending)
-        }
+        Some((labels, ops)) => put_answers(out, alloc, labels, ops),
         None => Ok(()),
     }
 }
@@ -175,9 +177,9 @@ fn put_resources(
     alloc: Global,
     resources: &Series<PollOps>,
 ) -> Result<(), AllocError>
-    ensures { OnOk result (Puts out.old.items out.new.items (family_text POLL_OPS spec.answer_samples resources.now)) }
+    ensures { OnOk result (Puts out.old.items out.new.items (family_text Family.PollOps spec.answer_samples resources.now)) }
 {
-    put_head(out, &POLL_OPS)?;
+    put_head(out, Family::PollOps)?;
     for place in 0..resources.len() {
         put_answers_at(out, alloc, resources, place)?;
     }
@@ -189,11 +191,11 @@ fn put_resources(
 fn put_kind(
     out: &mut Vec<u8>,
     alloc: Global,
-    family: &Family,
+    family: Family,
     kind: &str,
     count: u64,
 ) -> Result<(), AllocError>
-    ensures { OnOk result (Puts out.old.items out.new.items (spec.kind_sample family.now kind.now count)) }
+    ensures { OnOk result (Puts out.old.items out.new.items (spec.kind_sample family kind.now count)) }
 {
     let mut labels = Vec::new(alloc);
     put_label(&mut labels, "kind", kind.as_bytes())?;
@@ -233,26 +235,27 @@ fn put_warnings(
     let own = warnings_of_kind(WarningKind::SelfWakes, warnings);
     let lost = warnings_of_kind(WarningKind::LostWaker, warnings);
     let long = warnings_of_kind(WarningKind::NeverYielded, warnings);
-    put_head(out, &WARNINGS)?;
-    put_kind(out, alloc, &WARNINGS, "self-wakes", own)?;
-    put_kind(out, alloc, &WARNINGS, "lost-waker", lost)?;
-    put_kind(out, alloc, &WARNINGS, "never-yielded", long)
+    put_head(out, Family::Warnings)?;
+    put_kind(out, alloc, Family::Warnings, "self-wakes", own)?;
+    put_kind(out, alloc, Family::Warnings, "lost-waker", lost)?;
+    put_kind(out, alloc, Family::Warnings, "never-yielded", long)?;
+    Ok(())
 }
 
 fn put_dropped(out: &mut Vec<u8>, alloc: Global, dropped: Dropped) -> Result<(), AllocError>
     ensures { OnOk result (Puts out.old.items out.new.items (spec.dropped_family dropped)) }
 {
-    put_head(out, &DROPPED)?;
-    put_kind(out, alloc, &DROPPED, "task", dropped.tasks)?;
-    put_kind(out, alloc, &DROPPED, "resource", dropped.resources)?;
-    put_kind(out, alloc, &DROPPED, "op", dropped.ops)
+    put_head(out, Family::Dropped)?;
+    put_kind(out, alloc, Family::Dropped, "task", dropped.tasks)?;
+    put_kind(out, alloc, Family::Dropped, "resource", dropped.resources)?;
+    put_kind(out, alloc, Family::Dropped, "op", dropped.ops)
 }
 
 fn put_lines(out: &mut Vec<u8>, lines: u64) -> Result<(), AllocError>
     ensures { OnOk result (Puts out.old.items out.new.items (spec.line_family lines)) }
 {
-    put_head(out, &LINES)?;
-    put_sample(out, &LINES, b"", lines)
+    put_head(out, Family::Lines)?;
+    put_sample(out, Family::Lines, b"", lines)
 }
 
 /// Puts the text of all families, and its end.
@@ -273,5 +276,6 @@ pub(crate) fn put_text(
     put_warnings(out, alloc, warnings)?;
     put_dropped(out, alloc, dropped)?;
     put_lines(out, lines)?;
-    put(out, "# EOF\n")
+    put(out, "# EOF\n")?;
+    Ok(())
 }
