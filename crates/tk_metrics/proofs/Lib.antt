@@ -1,0 +1,3 @@
+pub mod LeavingLemmas
+pub mod SeriesLemmas
+pub mod StreamLemmas

@@ -1,0 +1,58 @@
+-- The families of a stream: what they are called, how they run, and what is said of them.
+use Rattle.std.specs.Prelude.{ℕ, List, codes, Bool, true, false}
+use Rattle.tk_metrics.specs.declared.family.Count.{Count}
+use Rattle.tk_metrics.specs.declared.family.Count.TheVariants.{Polls, Busy, Scheduled, Wakes, SelfWakes, WakerClones, WakerDrops}
+use Rattle.tk_metrics.specs.declared.family.Family.{Family}
+use Rattle.tk_metrics.specs.declared.family.Family.TheVariants.{Task, Tasks, PollOps, Warnings, Dropped, Lines}
+use Rattle.tk_metrics.specs.declared.family.FamilyKind.{FamilyKind}
+use Rattle.tk_metrics.specs.declared.family.FamilyKind.TheVariants.{Counter, Gauge}
+
+-- a family's name, without the end that its kind gives it
+abbrev pub base_of : Family → List ℕ
+base_of (Task Polls) = codes "taskscope_task_polls"
+base_of (Task Busy) = codes "taskscope_task_busy_seconds"
+base_of (Task Scheduled) = codes "taskscope_task_scheduled_seconds"
+base_of (Task Wakes) = codes "taskscope_task_wakes"
+base_of (Task SelfWakes) = codes "taskscope_task_self_wakes"
+base_of (Task WakerClones) = codes "taskscope_task_waker_clones"
+base_of (Task WakerDrops) = codes "taskscope_task_waker_drops"
+base_of Tasks = codes "taskscope_tasks"
+base_of PollOps = codes "taskscope_resource_poll_ops"
+base_of Warnings = codes "taskscope_warnings"
+base_of Dropped = codes "taskscope_dropped_events"
+base_of Lines = codes "taskscope_stream_lines"
+
+-- what it counts
+abbrev pub help_of : Family → List ℕ
+help_of (Task Polls) = codes "Polls of tasks that have started."
+help_of (Task Busy) = codes "How long polls of tasks ran that have ended."
+help_of (Task Scheduled) = codes "How long tasks were scheduled until polls of them started."
+help_of (Task Wakes) = codes "Wakes of tasks."
+help_of (Task SelfWakes) = codes "Wakes of tasks that came from within the task."
+help_of (Task WakerClones) = codes "Clones of wakers of tasks."
+help_of (Task WakerDrops) = codes "Drops of wakers of tasks."
+help_of Tasks = codes "Tasks by the state that they are in."
+help_of PollOps = codes "Poll operations of resources by what they answered."
+help_of Warnings = codes "Warnings about tasks."
+help_of Dropped = codes "Events that the event buffer had no room for."
+help_of Lines = codes "Lines of the stream."
+
+-- counters only rise
+abbrev pub kind_of : Family → FamilyKind
+kind_of Tasks = Gauge
+kind_of Warnings = Gauge
+kind_of (Task count) = Counter
+kind_of PollOps = Counter
+kind_of Dropped = Counter
+kind_of Lines = Counter
+
+-- the counts that are times, in nanoseconds
+abbrev pub is_time : Count → Bool
+is_time Busy = true
+is_time Scheduled = true
+is_time other = false
+
+-- whether a family's values are times, which are written in seconds
+abbrev pub is_in_seconds : Family → Bool
+is_in_seconds (Task count) = is_time count
+is_in_seconds other = false

@@ -1,0 +1,40 @@
+-- How what leaves the tables of a stream is followed. Inner: no public clause cites this.
+use Rattle.std.specs.Prelude.{◌≡◌, ℕ, List, [], ◌∷◌, length, Option}
+use Rattle.tk_client.specs.Feeding.{ClientView}
+use Rattle.tk_page.specs.Shown.{shown_of}
+use Rattle.tk_report.specs.Taken.{HasTaken}
+use Rattle.tk_report.specs.Views.{AreAll}
+use Rattle.tk_stream.specs.Tables.{TablesView, empty_tables}
+use Rattle.tk_metrics.specs.declared.by.By.{By}
+use Rattle.tk_metrics.specs.declared.by.By.TheVariants.{Name, Id}
+use Rattle.tk_metrics.specs.declared.leavers.Leavers.{Leavers}
+use Rattle.tk_metrics.specs.Leaving.{Holds, gone_in}
+
+-- the last of tables, of which there are some before
+abbrev pub last_shown : TablesView → List TablesView → TablesView
+last_shown old [] = old
+last_shown old (new ∷ shown) = last_shown new shown
+
+-- the tables that the next ones are compared with: none, where nothing that has left is shown
+abbrev pub compared : By → List TablesView → TablesView
+compared Name shown = last_shown empty_tables shown
+compared Id shown = empty_tables
+
+-- what has left the tables after each line is held, and the last tables are
+pub record Notes (by : By) (shown : List TablesView) (l : Leavers) : Type 0 where
+  pub by : l.by ≡ by
+  pub held : Holds (gone_in by shown) l.left
+  pub before : l.before ≡ compared by shown
+
+-- the tables after each line are followed
+pub record Follows (by : By) (shown : List TablesView) (l : Leavers) : Type 0 where
+  pub notes : Notes by shown l
+  pub lines : l.lines ≡ length shown
+
+-- a client has taken all bytes of a reader, and their lines were followed
+pub record FollowsAll (by : By) (given : Option (List ℕ)) (now : ClientView) (l : Leavers) : Type 0 where
+  pub bytes : List ℕ
+  pub lines : ℕ
+  pub all : AreAll given bytes
+  pub taken : HasTaken bytes lines now
+  pub follows : Follows by (shown_of bytes) l

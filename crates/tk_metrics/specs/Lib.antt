@@ -1,0 +1,16 @@
+-- The families of a stream
+pub mod Families
+-- Families of samples, as they are written
+pub mod Samples
+-- What the same labels add up to
+pub mod Series
+-- What is added up of tasks, and of resources
+pub mod Sums
+-- The text of a stream's numbers
+pub mod Metrics
+-- What has left the tables of a stream
+pub mod Leaving
+-- What the numbers of a stream are, and what writing them came to
+pub mod Streams
+-- Inner: no public clause cites these
+pub mod Following

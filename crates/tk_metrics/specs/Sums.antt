@@ -1,0 +1,100 @@
+-- What is added up of tasks, and of resources.
+use Rattle.std.specs.Prelude.{ℕ, ◌+◌, Bool, ◌&&◌, not, is_some, List, codes, [], ◌++◌, ◌∷◌, if◌then◌else◌}
+use Rattle.tk_core.specs.Lists.{capped}
+use Rattle.tk_core.specs.declared.task.row.TaskRow.{TaskRow}
+use Rattle.tk_ids.specs.Ids.{id_text}
+use Rattle.tk_report.specs.Report.{kind_word}
+use Rattle.tk_stream.specs.Tables.{PollCounts, counts_of}
+use Rattle.tk_stream.specs.declared.resource.Resource.{Resource}
+use Rattle.tk_stream.specs.declared.task.Task.{Task}
+use Rattle.tk_metrics.specs.Samples.{label, with_label}
+use Rattle.tk_metrics.specs.declared.by.By.{By}
+use Rattle.tk_metrics.specs.declared.by.By.TheVariants.{Name, Id}
+use Rattle.tk_metrics.specs.declared.sums.PollOps.{PollOps}
+use Rattle.tk_metrics.specs.declared.sums.Sums.{Sums}
+
+-- ---- tasks
+
+-- 1 where it is so
+abbrev pub one_if : Bool → ℕ
+one_if b = if b then 1 else 0
+
+-- what a task that has left had come to
+abbrev pub sums_left : TaskRow → Sums
+sums_left x = record {
+  polls = x.polls;
+  busy = x.busy;
+  sched = x.sched;
+  wakes = x.wakes;
+  own = x.self_wakes;
+  clones = x.clones;
+  drops = x.drops;
+  idle = 0;
+  scheduled = 0;
+  polling = 0;
+  closed = 0;
+}
+
+-- what a task has come to, and its state: the first that holds of closed, being polled and scheduled; else it is idle
+abbrev pub sums_of : TaskRow → Sums
+sums_of x = record (sums_left x) {
+  idle = one_if (not (is_some x.dropped) && (not x.polling && not x.scheduled));
+  scheduled = one_if (not (is_some x.dropped) && (not x.polling && x.scheduled));
+  polling = one_if (not (is_some x.dropped) && x.polling);
+  closed = one_if (is_some x.dropped);
+}
+
+-- the sums of both. A sum that passes 2^64 - 1 stays there
+abbrev pub plus : Sums → Sums → Sums
+plus a b = record {
+  polls = capped (a.polls + b.polls);
+  busy = capped (a.busy + b.busy);
+  sched = capped (a.sched + b.sched);
+  wakes = capped (a.wakes + b.wakes);
+  own = capped (a.own + b.own);
+  clones = capped (a.clones + b.clones);
+  drops = capped (a.drops + b.drops);
+  idle = capped (a.idle + b.idle);
+  scheduled = capped (a.scheduled + b.scheduled);
+  polling = capped (a.polling + b.polling);
+  closed = capped (a.closed + b.closed);
+}
+
+-- a task's name and kind
+abbrev pub own_labels : Task → List ℕ
+own_labels t = with_label (label (codes "name") t.info.name) (codes "kind") (kind_word t.info.kind)
+
+-- its id before them, where each task is shown by itself
+abbrev pub id_label : By → Task → List ℕ
+id_label Name t = []
+id_label Id t = label (codes "id") (id_text t.info.id) ++ 44 ∷ []
+
+-- a task's labels
+abbrev pub task_labels : By → Task → List ℕ
+task_labels by t = id_label by t ++ own_labels t
+
+-- a task, with what it has come to
+abbrev pub task_entry : By → Task → List ℕ × Sums
+task_entry by t = (task_labels by t, sums_of t.row)
+
+-- a task that has left
+abbrev pub left_task : Task → List ℕ × Sums
+left_task t = (own_labels t, sums_left t.row)
+
+-- ---- resources
+
+-- the sums of both
+abbrev pub both_ops : PollOps → PollOps → PollOps
+both_ops a b = record { ready = capped (a.ready + b.ready); pending = capped (a.pending + b.pending) }
+
+-- how many of a resource's poll operations were ready, and how many pending
+abbrev pub poll_ops : List PollCounts → Resource → PollOps
+poll_ops counts r = record { ready = (counts_of r.info.id counts).0; pending = (counts_of r.info.id counts).1 }
+
+-- a resource's label
+abbrev pub type_label : Resource → List ℕ
+type_label r = label (codes "type") r.info.concrete
+
+-- a resource, with its poll operations
+abbrev pub resource_entry : List PollCounts → Resource → List ℕ × PollOps
+resource_entry counts r = (type_label r, poll_ops counts r)

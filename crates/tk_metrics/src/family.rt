@@ -1,0 +1,107 @@
+//! Families of samples: what they are called, how they run, and what is said of them.
+
+/// How the values of a family run.
+#[derive(Clone, Copy, Debug, PartialEq, Eq)]
+pub enum FamilyKind {
+    /// They only rise. The names of its samples end in `_total`.
+    Counter,
+    /// They rise and fall.
+    Gauge,
+}
+
+/// One of the counts of tasks.
+#[derive(Clone, Copy, Debug, PartialEq, Eq)]
+pub enum Count {
+    Polls,
+    Busy,
+    Scheduled,
+    Wakes,
+    SelfWakes,
+    WakerClones,
+    WakerDrops,
+}
+
+/// What the samples of one name are of.
+#[derive(Clone, Copy, Debug, PartialEq, Eq)]
+pub enum Family {
+    /// A count of tasks.
+    Task(Count),
+    /// How many tasks are in which state.
+    Tasks,
+    /// Poll operations of resources.
+    PollOps,
+    /// Warnings about tasks.
+    Warnings,
+    /// Events that the event buffer had no room for.
+    Dropped,
+    /// Lines of the stream.
+    Lines,
+}
+
+impl Family {
+    ghost use Rattle.std.specs.Prelude.{◌≡◌};
+    ghost use Rattle.tk_metrics.specs.Families.{base_of, help_of, is_in_seconds, kind_of};
+
+    /// Its name, without the end that its kind gives it.
+    pub(crate) fn base(self) -> &'static str
+        ensures { result.now ≡ base_of self }
+    {
+        match self {
+            Family::Task(Count::Polls) => "taskscope_task_polls",
+            Family::Task(Count::Busy) => "taskscope_task_busy_seconds",
+            Family::Task(Count::Scheduled) => "taskscope_task_scheduled_seconds",
+            Family::Task(Count::Wakes) => "taskscope_task_wakes",
+            Family::Task(Count::SelfWakes) => "taskscope_task_self_wakes",
+            Family::Task(Count::WakerClones) => "taskscope_task_waker_clones",
+            Family::Task(Count::WakerDrops) => "taskscope_task_waker_drops",
+            Family::Tasks => "taskscope_tasks",
+            Family::PollOps => "taskscope_resource_poll_ops",
+            Family::Warnings => "taskscope_warnings",
+            Family::Dropped => "taskscope_dropped_events",
+            Family::Lines => "taskscope_stream_lines",
+        }
+    }
+
+    /// What it counts.
+    pub(crate) fn help(self) -> &'static str
+        ensures { result.now ≡ help_of self }
+    {
+        match self {
+            Family::Task(Count::Polls) => "Polls of tasks that have started.",
+            Family::Task(Count::Busy) => "How long polls of tasks ran that have ended.",
+            Family::Task(Count::Scheduled) => {
+                "How long tasks were scheduled until polls of them started."
+            }
+            Family::Task(Count::Wakes) => "Wakes of tasks.",
+            Family::Task(Count::SelfWakes) => "Wakes of tasks that came from within the task.",
+            Family::Task(Count::WakerClones) => "Clones of wakers of tasks.",
+            Family::Task(Count::WakerDrops) => "Drops of wakers of tasks.",
+            Family::Tasks => "Tasks by the state that they are in.",
+            Family::PollOps => "Poll operations of resources by what they answered.",
+            Family::Warnings => "Warnings about tasks.",
+            Family::Dropped => "Events that the event buffer had no room for.",
+            Family::Lines => "Lines of the stream.",
+        }
+    }
+
+    pub(crate) fn kind(self) -> FamilyKind
+        ensures { result ≡ kind_of self }
+    {
+        match self {
+            Family::Tasks | Family::Warnings => FamilyKind::Gauge,
+            Family::Task(_) | Family::PollOps | Family::Dropped | Family::Lines => {
+                FamilyKind::Counter
+            }
+        }
+    }
+
+    /// Whether its values are times, which are written in seconds.
+    pub(crate) fn is_in_seconds(self) -> bool
+        ensures { result ≡ is_in_seconds self }
+    {
+        match self {
+            Family::Task(Count::Busy | Count::Scheduled) => true,
+            _ => false,
+        }
+    }
+}

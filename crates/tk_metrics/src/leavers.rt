@@ -1,0 +1,75 @@
+//! What leaves the tables of a stream, line by line.
+use crate::by::By;
+use crate::left::Left;
+use std::alloc::{AllocError, Global};
+use tk_stream::Tables;
+
+/// What has left so far, how many lines there were, and the tables after the last one.
+#[derive(Drop)]
+pub(crate) struct Leavers {
+    by: By,
+    lines: u64,
+    left: Left,
+    before: Tables,
+}
+
+impl Leavers {
+    ghost use Rattle.std.specs.Prelude.{◌≡◌, ◌≤◌, ◌^◌, ◌++◌, ◌∷◌, [], List, OnOk, IfOk, length};
+    ghost use Rattle.tk_stream.specs.Tables.{TablesView};
+    ghost use Rattle.tk_metrics.specs.Following.{Follows, Notes};
+    ghost use Rattle.tk_metrics.specs.declared.by.By.{By as Told};
+
+    /// Before the first line.
+    pub fn new(alloc: Global, by: By) -> Result<Leavers, AllocError>
+        ensures { IfOk result (Follows by []) }
+    {
+        let before = Tables::new(alloc)?;
+        Ok(Leavers {
+            by,
+            lines: 0,
+            left: Left::none(alloc),
+            before,
+        })
+    }
+
+    // Takes what the tables after a line have no more.
+    fn note_left(&mut self, alloc: Global, tables: &Tables) -> Result<(), AllocError>
+        ensures notes { (by : Told) (shown : List TablesView) → Notes by shown self.old
+            → OnOk result (Notes by (shown ++ tables.now ∷ []) self.new) }
+        ensures lines { self.new.lines ≡ self.old.lines }
+    {
+        match self.by {
+            By::Id => Ok(()),
+            By::Name => {
+                self.left.take(alloc, &self.before, tables)?;
+                self.before = tables.copy()?;
+                Ok(())
+            }
+        }
+    }
+
+    /// Takes the tables after a line.
+    pub fn note(&mut self, alloc: Global, tables: &Tables) -> Result<(), AllocError>
+        ensures { (by : Told) (shown : List TablesView) → length shown ≤ 2 ^ 62 → Follows by shown self.old
+            → OnOk result (Follows by (shown ++ tables.now ∷ []) self.new) }
+    {
+        self.note_left(alloc, tables)?;
+        self.lines = self.lines.saturating_add(1);
+        Ok(())
+    }
+
+    /// How many lines there were.
+    pub fn lines(&self) -> u64
+        ensures { result ≡ self.now.lines }
+    {
+        self.lines
+    }
+
+    /// What has left.
+    pub fn into_left(self) -> Left
+        ensures { result ≡ self.left }
+    {
+        let Leavers { left, .. } = self;
+        left
+    }
+}

@@ -1,0 +1,23 @@
+//! The numbers of a stream as the text that Prometheus reads: families of samples, in the form of OpenMetrics.
+//!
+//! - [`metrics_stream`]: reads a stream to its end, and writes its numbers.
+//! - [`metrics`]: the numbers of tables, and of what has left them ([`Left`]).
+//! - [`By`]: whether tasks are added up by their names, or shown each by itself.
+#![tactic(auto)]
+
+mod by;
+mod family;
+mod leavers;
+mod left;
+mod metrics;
+mod series;
+mod stream;
+mod sums;
+mod text;
+mod writing;
+
+pub use by::By;
+pub use left::Left;
+pub use metrics::metrics as metrics_of;
+pub use stream::metrics_stream;
+pub use tk_fault::AppFault;

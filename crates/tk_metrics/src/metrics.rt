@@ -1,0 +1,69 @@
+//! The text of a stream's numbers.
+ghost use Rattle.std.specs.Prelude.{◌≡◌, IfOk, IfErr};
+ghost use Rattle.tk_metrics.specs.Leaving.{Holds};
+ghost use Rattle.tk_metrics.specs.Metrics as spec;
+
+use crate::by::By;
+use crate::left::Left;
+use crate::sums::{add_resources, add_tasks};
+use crate::writing::put_text;
+use std::alloc::{AllocError, Global};
+use tk_client::{Lints, Warning, warnings_in};
+use tk_fault::AppFault;
+use tk_stream::Tables;
+
+/// The numbers of tables with these warnings.
+pub(crate) fn metrics_with(
+    alloc: Global,
+    by: By,
+    tables: &Tables,
+    warnings: &[Warning],
+    left: Left,
+    lines: u64,
+) -> Result<Vec<u8>, AllocError>
+    ensures { (gone : spec.Gone) → Holds gone left
+        → IfOk result (λ text. text.items ≡ spec.metrics_with by tables.now warnings.now gone lines) }
+{
+    let Left {
+        mut tasks,
+        mut resources,
+    } = left;
+    add_tasks(&mut tasks, alloc, by, tables)?;
+    add_resources(&mut resources, alloc, tables)?;
+    let mut text = Vec::new(alloc);
+    put_text(
+        &mut text,
+        alloc,
+        &tasks,
+        &resources,
+        warnings,
+        tables.dropped(),
+        lines,
+    )?;
+    Ok(text)
+}
+
+/// The numbers of a stream as the text that Prometheus reads: of its tables, of what has left them, and of how many lines it has.
+/// `docs/FORMATS.md` has the families.
+///
+/// Its one error is `Memory`.
+pub fn metrics(
+    alloc: Global,
+    by: By,
+    lints: &Lints,
+    tables: &Tables,
+    left: Left,
+    lines: u64,
+) -> Result<Vec<u8>, AppFault>
+    ensures ok { (gone : spec.Gone) → Holds gone left
+        → IfOk result (λ text. text.items ≡ spec.metrics_text by lints.now tables.now gone lines) }
+    ensures memory { IfErr result (λ fault. fault ≡ AppFault.Memory) }
+{
+    let Ok(warnings) = warnings_in(alloc, tables, lints) else {
+        return Err(AppFault::Memory);
+    };
+    match metrics_with(alloc, by, tables, warnings.as_slice(), left, lines) {
+        Ok(text) => Ok(text),
+        Err(_) => Err(AppFault::Memory),
+    }
+}
