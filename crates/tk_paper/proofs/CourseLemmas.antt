@@ -30,6 +30,7 @@ module _ {A : Type 0} (xs kept : List A) (every skip : ℕ) (x : A) where
   pub skips : (less : ℕ) → suc less ≡ skip → KeepsEach xs kept every skip → KeepsEach (xs ++ x ∷ []) kept every less
   skips less is c = record {
     few = c.few;
+    many = c.many;
     each = λ d i h. c.each d i h ∙ sym (get_or_append_left xs (x ∷ []) d (i * every) (within i (length kept) every (length xs) skip h c.come c.short));
     come = let l = length-append xs (x ∷ []) in omega (arith, l, is, c.come);
     short = omega (arith, is, c.short);
@@ -45,6 +46,7 @@ module _ {A : Type 0} (xs kept now : List A) (every : ℕ) where
       → KeepsEach xs kept every 0 → KeepsEach xs now (2 * every) 0
   thins full half moved some c = record {
     few = omega (arith, half);
+    many = λ more. omega (arith, half);
     each = λ d i h. moved d i (omega (arith, h, half)) ∙ c.each d (2 * i) (omega (arith, h, half, full)) ∙ ap (λ n. get_or xs n d) (twice i every);
     come = let e : length xs + 0 ≡ 64 * every = c.come ∙ ap (λ n. n * every) full in rw half (omega (arith, e));
     short = omega (arith, some);
@@ -77,6 +79,7 @@ module _ {A : Type 0} (xs kept : List A) (every : ℕ) (x : A) where
   pub keeps : length kept ≤ 63 → 1 ≤ every → KeepsEach xs kept every 0 → (less : ℕ) → less ≡ every - 1 → KeepsEach (xs ++ x ∷ []) (kept ++ x ∷ []) every less
   keeps room some c less is = record {
     few = let l = length-append kept (x ∷ []) in omega (arith, l, room);
+    many = λ more. let l = length-append kept (x ∷ []) in let enough = c.many more in omega (arith, l, enough);
     each = λ d i h. each_of c some d i (last_or_before i (length kept) (subst (λ n. i < n) (length-append kept (x ∷ [])) h));
     come = let a = length-append xs (x ∷ []) in let b = length-append kept (x ∷ []) in
         rw b (let e = next-add (length kept) every in omega (arith, a, e, is, some, c.come));
