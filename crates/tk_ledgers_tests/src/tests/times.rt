@@ -1,4 +1,5 @@
 //! A histogram's owner, and who reads what it adds.
+ghost use Rattle.std.specs.Prelude.{◌≡◌};
 
 use super::given::FIRST;
 use std::alloc::Global;
@@ -34,7 +35,9 @@ fn an_inspector_reads_what_was_added(rt: HostRuntime) {
     }
 }
 
-fn learns<R: Wait>(rt: &R, owner: TimesOwner, inspector: &mut TimesInspector) -> bool {
+fn learns<R: Wait>(rt: &R, owner: TimesOwner, inspector: &mut TimesInspector) -> bool
+    requires { owner.token.ledger ≡ inspector.old.token.ledger }
+{
     inspector.learn(rt, owner.retire());
     reads(rt, inspector, 1, 7)
 }
