@@ -94,9 +94,25 @@ follows_file() {
 
 step "a file that grows" follows_file
 
+# Starts a watch, with these words, of a pipe that stays open as file 3: for both ends, so that opening it waits for nobody.
+hold_pipe() {
+    rm -f "$work/held" && mkfifo "$work/held"
+    "$program" watch "$@" "$work/held" > "$work/frames" &
+    reader=$!
+    exec 3<> "$work/held"
+}
+
+# It must end well then.
+let_go() {
+    exec 3>&-
+    wait "$reader"
+}
+
 draws_trailing_line() {
-    { head -n 1 "$stream"; sleep 0.05; sed -n 2p "$stream"; sleep 5; } | "$program" watch --every 700 > "$work/frames" &
-    await has_screen_of 2
+    hold_pipe --every 700
+    head -n 1 "$stream" >&3 && sleep 0.05 && sed -n 2p "$stream" >&3 && await has_screen_of 2
+    set -- $?
+    let_go && return "$1"
 }
 
 step "a line that comes right after a screen, though nothing follows it" draws_trailing_line
@@ -110,16 +126,11 @@ stops_at_fault() {
 step "a stream with a fault: the screen of what stood before it, and the fault" stops_at_fault
 
 goes_on_after_stop() {
-    mkfifo "$work/held"
-    "$program" watch --plain "$work/held" > "$work/frames" &
-    reader=$!
-    # Opened for both, so that it never waits for the other end.
-    exec 3<> "$work/held"
+    hold_pipe
     head -n 2 "$stream" >&3 && await has_screen_of 2 && kill -STOP "$reader" && sleep 0.1 && kill -CONT "$reader" && sed -n 3p "$stream" >&3 &&
         await has_screen_of 3
     set -- $?
-    exec 3>&-
-    wait "$reader" && return "$1"
+    let_go && return "$1"
 }
 
 step "a reader that is stopped for a while" goes_on_after_stop
