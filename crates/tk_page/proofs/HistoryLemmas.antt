@@ -1,10 +1,10 @@
 -- The courses of tasks, line by line.
-use Rattle.std.proofs.Common.{◌≡◌, ℕ, zero, suc, ◌+◌, ◌^◌, ◌<◌, ◌≤◌, List, [], ◌∷◌, ◌++◌, length, take, map, slice_get, Bool, true, false, cond, nat_eq, Option, Some, None, is_some, refl, ap, sym, ◌∙◌, append-nil, length-append, add-one, get_or, OnOk, Result, Ok, Err, arith, subst}
-use Rattle.std.specs.Prelude.{flat_map, reverse, take_while, position, IfSome}
+use Rattle.std.proofs.Common.{◌≡◌, ℕ, zero, suc, ◌+◌, ◌-◌, ◌^◌, ◌<◌, ◌≤◌, ◌⊎◌, inl, inr, List, [], ◌∷◌, ◌++◌, length, take, map, slice_get, Bool, true, false, cond, not, nat_eq, Option, Some, None, is_some, refl, ap, sym, ◌∙◌, append-nil, length-append, add-one, get_or, OnOk, Result, Ok, Err, arith, subst}
+use Rattle.std.specs.Prelude.{count_by, flat_map, fold, reverse, take_while, position, unwrap_or, IfSome}
 use Rattle.std.specs.Map.{keys_of, lookup, values_of}
 use Rattle.std.proofs.lemmas.List.Quantifiers.{position-Some}
 use Rattle.std.proofs.lemmas.Map.Entries.{option_filter}
-use Rattle.std.specs.List.{AllByRecursion, IsDistinct, prefix_len}
+use Rattle.std.specs.List.{AllByRecursion, IsDistinct, last_or, prefix_len}
 use Rattle.std.specs.Cmp.{nat_eq_equiv}
 use Rattle.std.specs.Option.{option_map_or, option_or}
 use Rattle.std.proofs.lemmas.Grind.{flat_map-append}
@@ -13,13 +13,19 @@ use Rattle.std.proofs.lemmas.List.Sums.{take_while-cons}
 use Rattle.std.proofs.Math.Dec.{eqb-suc-zero}
 use borrow.Author.Tests.{eqb-true}
 use Rattle.std.proofs.lemmas.Bool.{eqb-false}
+use Rattle.std.proofs.lemmas.List.Sums.{sum_by_push}
+use Rattle.std.proofs.lemmas.Map.Made.{is_some-lookup, length-from_same_keys}
+use Rattle.std.specs.Set.{is_member}
 use Rattle.indexmap.specs.IndexMap.{get}
-use Rattle.tk_stream.specs.Tables.{TablesView, task_id, task_with}
+use Rattle.tk_core.specs.Lists.{capped}
+use Rattle.tk_stream.specs.Tables.{TablesView, empty_tables, task_id, task_with}
 use Rattle.tk_stream.specs.declared.task.Task.{Task}
 use Rattle.tk_paper.specs.Courses.{CourseView, IsCourse}
 use Rattle.tk_page.specs.Courses.{AreKept, TellOf, courses_of}
-use Rattle.tk_page.specs.Kept.{FollowsAt, StandsAt, Tells, first_of, has_task, kept_at, run_of, sample_in, samples_more, samples_of}
-use Rattle.tk_page.specs.Samples.{sample_of}
+use Rattle.tk_page.specs.Kept.{FollowsAt, StandsAt, Tells, come_to, first_of, gain_of, gone_from, gone_of, has_task, is_fresh, kept_at, last_of, latest, left_in, run_of, sample_in, samples_more, samples_of, total_more, total_of, totals_from, totals_of}
+use Rattle.tk_page.specs.Samples.{gained, nothing, plus, sample_of}
+use Rattle.tk_page.proofs.Counting.{count-alike, count-map, leavers, no_other, some_has}
+use Rattle.tk_page.proofs.LoopLemmas.{fold_next, take_next}
 use Rattle.tk_page.specs.declared.history.History.{History}
 use Rattle.tk_page.specs.declared.history.Track.{Track}
 use Rattle.tk_page.specs.declared.sample.Sample.{Sample}
@@ -69,36 +75,200 @@ follows_none lines xs None h = refl
 follows_none lines xs (Some track) h = record {
   within = omega (arith, h.within);
   fresh = λ is. absurd (omega (arith, is, h.within));
+  last = λ is. absurd (omega (arith, is, h.within));
   stale = λ less. refl;
 }
 
+-- ---- the last of a list
+
+pub last_push : {A : Type 0} (o : Option A) (xs : List A) (x : A) → last_or o (xs ++ x ∷ []) ≡ Some x
+last_push o [] x = refl
+last_push o (y ∷ ys) x = last_push (Some y) ys x
+
+-- the last of a list after an item is that of the list, or the item
+last_behind : {A : Type 0} (a d : A) (xs : List A) → unwrap_or (last_or (Some a) xs) d ≡ unwrap_or (last_or None xs) a
+last_behind a d [] = refl
+last_behind a d (x ∷ xs) = last_behind x d xs ∙ sym (last_behind x a xs)
+
+-- a list is empty, or has a last item
+snoc_of : {A : Type 0} (xs : List A) → (xs ≡ []) ⊎ ((ys : List A) × (y : A) × (xs ≡ ys ++ y ∷ []))
+snoc_of [] = inl refl
+snoc_of {A} (x ∷ xs) = by (snoc_of xs)
+  where
+    by : (xs ≡ []) ⊎ ((ys : List A) × (y : A) × (xs ≡ ys ++ y ∷ [])) → (x ∷ xs ≡ []) ⊎ ((ys : List A) × (y : A) × (x ∷ xs ≡ ys ++ y ∷ []))
+    by (inl e) = inr ([], x, ap (λ zs. x ∷ zs) e)
+    by (inr h) = inr (x ∷ h.0, h.1, ap (λ zs. x ∷ zs) h.2)
+
+-- ---- what all tasks gained
+
+-- all that a task has come to it has gained since nothing
+pub gained_first : (s : Sample) (n : ℕ) → s ≡ gained s (nothing n)
+gained_first s n =
+    let busy : s.busy ≡ s.busy - 0 = omega arith in
+    let sched : s.sched ≡ s.sched - 0 = omega arith in
+    let polls : s.polls ≡ s.polls - 0 = omega arith in
+    let wakes : s.wakes ≡ s.wakes - 0 = omega arith in
+    let own : s.own ≡ s.own - 0 = omega arith in
+    λ i. record { now = s.now; busy = busy i; sched = sched i; polls = polls i; wakes = wakes i; own = own i }
+
+-- a task had come to the last of its samples in the last tables
+pub latest_is : (id : ℕ) (shown : List TablesView) → latest (samples_of id shown) ≡ come_to id (last_of shown)
+latest_is id shown = by (snoc_of shown)
+  where
+    more : (tables : TablesView) (xs : List Sample) (o : Option Task)
+        → latest (cond (is_some o) (xs ++ option_map_or (λ t. sample_of t.row tables.now ∷ []) o []) []) ≡ option_map_or (λ t. sample_of t.row tables.now) o (nothing 0)
+    more tables xs None = refl
+    more tables xs (Some t) = ap (λ o. unwrap_or o (nothing 0)) (last_push None xs (sample_of t.row tables.now))
+
+    by : (shown ≡ []) ⊎ ((ys : List TablesView) × (y : TablesView) × (shown ≡ ys ++ y ∷ [])) → latest (samples_of id shown) ≡ come_to id (last_of shown)
+    by (inl e) = subst (λ ts. latest (samples_of id ts) ≡ come_to id (last_of ts)) (sym e) refl
+    by (inr h) =
+        subst (λ ts. latest (samples_of id ts) ≡ come_to id (last_of ts)) (sym h.2)
+        (ap latest (samples_snoc id h.0 h.1) ∙ more h.1 (samples_of id h.0) (task_with id h.1.tasks)
+        ∙ sym (ap (λ o. come_to id (unwrap_or o empty_tables)) (last_push None h.0 h.1)))
+
+totals_push : (total : Sample) (before : TablesView) (shown : List TablesView) (tables : TablesView)
+    → totals_from total before (shown ++ tables ∷ [])
+    ≡ totals_from total before shown ++ total_more (unwrap_or (last_or None (totals_from total before shown)) total) (unwrap_or (last_or None shown) before) tables ∷ []
+unfolding totals_from
+totals_push total before [] tables = refl
+totals_push total before (x ∷ xs) tables =
+    let now = total_more total before x in
+    ap (λ ts. now ∷ ts) (totals_push now x xs tables)
+    ∙ ap (λ s. now ∷ (totals_from now x xs ++ total_more s (unwrap_or (last_or None xs) x) tables ∷ [])) (sym (last_behind now total (totals_from now x xs)))
+    ∙ ap (λ b. now ∷ (totals_from now x xs ++ total_more (unwrap_or (last_or (Some now) (totals_from now x xs)) total) b tables ∷ [])) (sym (last_behind x before xs))
+
+-- one line more
+pub totals_snoc : (shown : List TablesView) (tables : TablesView) → totals_of (shown ++ tables ∷ []) ≡ totals_of shown ++ total_more (total_of shown) (last_of shown) tables ∷ []
+unfolding totals_of
+totals_snoc shown tables = totals_push (nothing 0) empty_tables shown tables
+
+total_snoc : (shown : List TablesView) (tables : TablesView) → total_of (shown ++ tables ∷ []) ≡ total_more (total_of shown) (last_of shown) tables
+total_snoc shown tables =
+    ap latest (totals_snoc shown tables) ∙ ap (λ o. unwrap_or o (nothing 0)) (last_push None (totals_of shown) (total_more (total_of shown) (last_of shown) tables))
+
+length-totals_from : (total : Sample) (before : TablesView) (shown : List TablesView) → length (totals_from total before shown) ≡ length shown
+unfolding totals_from
+length-totals_from total before [] = refl
+length-totals_from total before (x ∷ xs) = ap suc (length-totals_from (total_more total before x) x xs)
+
+pub length-totals_of : (shown : List TablesView) → length (totals_of shown) ≡ length shown
+unfolding totals_of
+length-totals_of shown = length-totals_from (nothing 0) empty_tables shown
+
+-- ---- how many left
+
+gone_push : (before : TablesView) (shown : List TablesView) (tables : TablesView)
+    → gone_from before (shown ++ tables ∷ []) ≡ gone_from before shown + left_in (unwrap_or (last_or None shown) before) tables
+unfolding gone_from
+gone_push before [] tables = omega arith
+gone_push before (x ∷ xs) tables =
+    let rest = gone_push x xs tables in
+    let same = ap (λ b. left_in b tables) (last_behind x before xs) in
+    omega (arith, rest, same)
+
+gone_snoc : (shown : List TablesView) (tables : TablesView) → gone_of (shown ++ tables ∷ []) ≡ gone_of shown + left_in (last_of shown) tables
+unfolding gone_of
+gone_snoc shown tables = gone_push empty_tables shown tables
+
+has_is : (id : ℕ) (tables : TablesView) → has_task id tables ≡ is_member nat_eq (map task_id tables.tasks) id
+has_is id tables = some_has task_id id tables.tasks
+
+count_lacking : (before : TablesView) (tasks : List Task)
+    → count_by (λ t. not (has_task (task_id t) before)) tasks ≡ count_by (λ x. not (is_member nat_eq (map task_id before.tasks) x)) (map task_id tasks)
+count_lacking before tasks =
+    count-alike (λ (t : Task). not (has_task (task_id t) before)) (λ (t : Task). not (is_member nat_eq (map task_id before.tasks) (task_id t))) (λ t. ap not (has_is (task_id t) before)) tasks
+    ∙ count-map (λ x. not (is_member nat_eq (map task_id before.tasks) x)) task_id tasks
+
+length_ids : (tasks : List Task) → length (map task_id tasks) ≡ length tasks
+length_ids [] = refl
+length_ids (t ∷ ts) = ap suc (length_ids ts)
+
+-- those that were there with those that came, less those that are there, have left
+left_told : (before tables : TablesView) (n : ℕ) → IsDistinct nat_eq (map task_id before.tasks) → IsDistinct nat_eq (map task_id tables.tasks)
+    → n ≡ length before.tasks + count_by (λ t. not (has_task (task_id t) before)) tables.tasks → n - length tables.tasks ≡ left_in before tables
+left_told before tables n d e is =
+    let came = count_lacking before tables.tasks in
+    let old = length_ids before.tasks in
+    let new = length_ids tables.tasks in
+    let left = leavers (map task_id before.tasks) (map task_id tables.tasks) n d e (omega (arith, came, old, is)) in
+    let gone = count_lacking tables before.tasks in
+    omega (arith, left, gone, new)
+
+-- ---- a line more
+
+-- a history after the tasks of one more line were noted, and those that left were forgotten
+pub record Noting (shown : List TablesView) (tables : TablesView) (sum : Sample) (old mid : History) : Type 0 where
+  pub lines : mid.lines ≡ old.lines
+  pub first : mid.first ≡ old.first
+  pub sums : mid.sums ≡ old.sums
+  pub tracks : (id : ℕ) → FollowsAt (length shown + 1) (samples_more id tables (samples_of id shown)) (get nat_eq mid.tasks id)
+  pub there : (id : ℕ) → is_some (get nat_eq mid.tasks id) ≡ has_task id tables
+  pub count : length mid.tasks.entries ≡ length tables.tasks
+  pub distinct : IsDistinct nat_eq (map task_id tables.tasks)
+  pub noted : ℕ
+  pub came : noted ≡ length old.tasks.entries + count_by (λ t. not (is_some (get nat_eq old.tasks (task_id t)))) tables.tasks
+  pub gone : mid.gone ≡ capped (old.gone + (noted - length mid.tasks.entries))
+  pub is : sum ≡ total_more old.last (last_of shown) tables
+
+gone_told : (shown : List TablesView) (tables : TablesView) (sum : Sample) (old mid : History) → Tells shown old → Noting shown tables sum old mid
+    → mid.gone ≡ capped (gone_of (shown ++ tables ∷ []))
+gone_told shown tables sum old mid h n =
+    let lacking =
+    count-alike (λ (t : Task). not (is_some (get nat_eq old.tasks (task_id t)))) (λ (t : Task). not (has_task (task_id t) (last_of shown))) (λ t. ap not (h.there (task_id t))) tables.tasks in
+    let left = left_told (last_of shown) tables n.noted h.distinct n.distinct (omega (arith, n.came, h.count, lacking)) in
+    let more = gone_snoc shown tables in
+    omega (arith, n.gone, n.count, left, more, h.gone)
+
 -- after a line more the history tells of it
-pub tells_more : (shown : List TablesView) (tables : TablesView) (old new : History) → Tells shown old → new.lines ≡ old.lines + 1
-    → new.first ≡ cond (nat_eq old.lines 0) tables.now old.first
-    → ((id : ℕ) → FollowsAt (length shown + 1) (samples_more id tables (samples_of id shown)) (get nat_eq new.tasks id)) → Tells (shown ++ tables ∷ []) new
-tells_more shown tables old new h lines first tracks =
-    let n : length (shown ++ tables ∷ []) ≡ length shown + 1 = length-append shown (tables ∷ []) in
+tells_more : (shown : List TablesView) (tables : TablesView) (sum : Sample) (old mid new : History) → Tells shown old → Noting shown tables sum old mid
+    → new.lines ≡ mid.lines + 1 → new.first ≡ cond (nat_eq mid.lines 0) tables.now mid.first → new.tasks ≡ mid.tasks
+    → IsCourse (totals_of shown ++ sum ∷ []) new.sums → new.last ≡ sum → new.gone ≡ mid.gone → Tells (shown ++ tables ∷ []) new
+tells_more shown tables sum old mid new h n lines first tasks sums last gone =
+    let count : length (shown ++ tables ∷ []) ≡ length shown + 1 = length-append shown (tables ∷ []) in
+    let end : last_of (shown ++ tables ∷ []) ≡ tables = ap (λ o. unwrap_or o empty_tables) (last_push None shown tables) in
+    let is : sum ≡ total_more (total_of shown) (last_of shown) tables = n.is ∙ ap (λ s. total_more s (last_of shown) tables) h.last in
     record {
-      lines = lines ∙ ap (λ k. k + 1) h.lines ∙ sym n;
-      first = first ∙ ap (λ k. cond (nat_eq k 0) tables.now old.first) h.lines ∙ ap (λ m. cond (nat_eq (length shown) 0) tables.now m) h.first ∙ by shown;
-      tracks = λ id. subst (λ k. FollowsAt k (samples_of id (shown ++ tables ∷ [])) (get nat_eq new.tasks id)) (sym n)
-          (subst (λ xs. FollowsAt (length shown + 1) xs (get nat_eq new.tasks id)) (sym (samples_snoc id shown tables)) (tracks id));
+      lines = lines ∙ ap (λ k. k + 1) (n.lines ∙ h.lines) ∙ sym count;
+      first = first ∙ ap (λ k. cond (nat_eq k 0) tables.now mid.first) (n.lines ∙ h.lines) ∙ ap (λ m. cond (nat_eq (length shown) 0) tables.now m) (n.first ∙ h.first) ∙ by shown;
+      tracks = λ id. subst (λ m. FollowsAt (length (shown ++ tables ∷ [])) (samples_of id (shown ++ tables ∷ [])) (get nat_eq m id)) (sym tasks)
+          (subst (λ k. FollowsAt k (samples_of id (shown ++ tables ∷ [])) (get nat_eq mid.tasks id)) (sym count)
+          (subst (λ xs. FollowsAt (length shown + 1) xs (get nat_eq mid.tasks id)) (sym (samples_snoc id shown tables)) (n.tracks id)));
+      there = λ id. ap (λ m. is_some (get nat_eq m id)) tasks ∙ n.there id ∙ ap (has_task id) (sym end);
+      count = ap (λ m. length m.entries) tasks ∙ n.count ∙ ap (λ (t : TablesView). length t.tasks) (sym end);
+      distinct = subst (λ (t : TablesView). IsDistinct nat_eq (map task_id t.tasks)) (sym end) n.distinct;
+      gone = gone ∙ gone_told shown tables sum old mid h n;
+      sums = subst (λ xs. IsCourse xs new.sums) (sym (totals_snoc shown tables)) (subst (λ s. IsCourse (totals_of shown ++ s ∷ []) new.sums) is sums);
+      last = last ∙ is ∙ sym (total_snoc shown tables);
     }
   where
     by : (xs : List TablesView) → cond (nat_eq (length xs) 0) tables.now (first_of xs) ≡ first_of (xs ++ tables ∷ [])
     by [] = refl
     by (x ∷ xs) = ap (λ b. cond b tables.now x.now) (eqb-suc-zero (length xs))
 
+-- before the first line
+pub tells_none : (history : History) → history.tasks.entries ≡ [] → history.lines ≡ 0 → history.first ≡ 0 → history.gone ≡ 0 → IsCourse [] history.sums
+    → history.last ≡ nothing 0 → Tells [] history
+unfolding IsDistinct gone_of gone_from totals_of totals_from
+tells_none history none lines first gone sums last = record {
+  lines = lines;
+  first = first;
+  tracks = λ id. subst (λ es. FollowsAt 0 [] (lookup (nat_eq id) es)) (sym none) refl;
+  there = λ id. ap (λ es. is_some (lookup (nat_eq id) es)) none;
+  count = ap length none;
+  distinct = tt;
+  gone = gone;
+  sums = sums;
+  last = last;
+}
+
 -- a line ended
-pub line_ended : {E : Type 0} (r : Result (Unit {0}) E) (shown : List TablesView) (tables : TablesView) (old mid new : History) → Tells shown old
-    → mid.lines ≡ old.lines → mid.first ≡ old.first → OnOk r (new.lines ≡ mid.lines + 1) → OnOk r (new.first ≡ cond (nat_eq mid.lines 0) tables.now mid.first)
-    → new.tasks ≡ mid.tasks → ((id : ℕ) → FollowsAt (length shown + 1) (samples_more id tables (samples_of id shown)) (get nat_eq mid.tasks id))
+pub line_ended : {E : Type 0} (r : Result (Unit {0}) E) (shown : List TablesView) (tables : TablesView) (sum : Sample) (old mid new : History) → Tells shown old
+    → Noting shown tables sum old mid → OnOk r (new.lines ≡ mid.lines + 1) → OnOk r (new.first ≡ cond (nat_eq mid.lines 0) tables.now mid.first)
+    → new.tasks ≡ mid.tasks → OnOk r (IsCourse (totals_of shown ++ sum ∷ []) new.sums) → OnOk r (new.last ≡ sum) → new.gone ≡ mid.gone
     → OnOk r (Tells (shown ++ tables ∷ []) new)
-line_ended (Err e) shown tables old mid new h same_lines same_first lines first tasks tracks = tt
-line_ended (Ok x) shown tables old mid new h same_lines same_first lines first tasks tracks =
-    tells_more shown tables old new h (lines ∙ ap (λ k. k + 1) same_lines)
-    (first ∙ ap (λ k. cond (nat_eq k 0) tables.now mid.first) same_lines ∙ ap (λ m. cond (nat_eq old.lines 0) tables.now m) same_first)
-    (λ id. subst (λ m. FollowsAt (length shown + 1) (samples_more id tables (samples_of id shown)) (get nat_eq m id)) (sym tasks) (tracks id))
+line_ended (Err e) shown tables sum old mid new h n lines first tasks sums last gone = tt
+line_ended (Ok x) shown tables sum old mid new h n lines first tasks sums last gone = tells_more shown tables sum old mid new h n lines first tasks sums last gone
 
 -- ---- what the page is told
 
@@ -127,6 +297,9 @@ tell_of shown history h = record {
   lines = h.lines;
   first = h.first;
   kept = λ id. are_kept (length shown) history.lines (samples_of id shown) (get nat_eq history.tasks id) h.lines (h.tracks id);
+  sums = record { course = history.sums; is = h.sums; shows = refl };
+  last = h.last;
+  gone = h.gone;
 }
 
 -- ---- tasks of tables
@@ -274,3 +447,110 @@ stays n m xs (Some track) is h = by (nat_eq track.lines n) refl
         let apart : track.lines ≡ n → ⊥ = eqb-false track.lines n e in
         let apart_m : track.lines ≡ m → ⊥ = λ f. apart (f ∙ sym is) in
         h.stale (omega (arith, h.within, apart_m))
+
+-- ---- which tracks are of the last line
+
+-- a track that follows a task is of the last line exactly where the task has samples
+pub fresh_is : (lines : ℕ) (xs : List Sample) (o : Option Track) → FollowsAt lines xs o → is_fresh lines o ≡ is_some (last_or None xs)
+fresh_is lines xs None is = ap (λ ys. is_some (last_or None ys)) (sym is)
+fresh_is lines xs (Some track) h = by (nat_eq track.lines lines) refl
+  where
+    by : (b : Bool) → nat_eq track.lines lines ≡ b → nat_eq track.lines lines ≡ is_some (last_or None xs)
+    by true e = e ∙ ap is_some (sym (h.last (eqb-true track.lines lines e)))
+    by false e =
+        let apart : track.lines ≡ lines → ⊥ = eqb-false track.lines lines e in
+        e ∙ ap (λ ys. is_some (last_or None ys)) (sym (h.stale (omega (arith, h.within, apart))))
+
+-- after a line its tasks have samples, and no others
+pub some_more : (id : ℕ) (tables : TablesView) (xs : List Sample) → is_some (last_or None (samples_more id tables xs)) ≡ has_task id tables
+some_more id tables xs = by (task_with id tables.tasks)
+  where
+    by : (o : Option Task) → is_some (last_or None (cond (is_some o) (xs ++ option_map_or (λ t. sample_of t.row tables.now ∷ []) o []) [])) ≡ is_some o
+    by None = refl
+    by (Some t) = ap is_some (last_push None xs (sample_of t.row tables.now))
+
+-- a track that stays is of the last line
+pub kept_is : (lines : ℕ) (o : Option Track) → is_some (kept_at lines o) ≡ is_fresh lines o
+kept_is lines None = refl
+kept_is lines (Some track) = by (nat_eq track.lines lines)
+  where
+    by : (b : Bool) → is_some (cond b (Some track) None) ≡ b
+    by true = refl
+    by false = refl
+
+fresh_some : (lines : ℕ) (o : Option Track) → is_fresh lines o ≡ true → is_some o ≡ true
+fresh_some lines None h = h
+fresh_some lines (Some track) h = refl
+
+key_is : (id : ℕ) (es : List (ℕ × Track)) → is_some (lookup (nat_eq id) es) ≡ is_member nat_eq (keys_of es) id
+key_is id es = is_some-lookup (nat_eq id) es
+
+length_keys : (es : List (ℕ × Track)) → length (keys_of es) ≡ length es
+length_keys [] = refl
+length_keys (e ∷ es) = ap suc (length_keys es)
+
+-- where there are no more tracks than tasks, of each of which one is of the last line, there is no other track
+pub none_gone : (lines : ℕ) (es : List (ℕ × Track)) (tables : TablesView) → IsDistinct nat_eq (map task_id tables.tasks) → length es ≤ length tables.tasks
+    → ((id : ℕ) → is_fresh lines (lookup (nat_eq id) es) ≡ has_task id tables) → (id : ℕ) → is_some (lookup (nat_eq id) es) ≡ has_task id tables
+none_gone lines es tables d few fresh id =
+    key_is id es
+    ∙ no_other (map task_id tables.tasks) (keys_of es) d
+    (λ q h. sym (key_is q es) ∙ fresh_some lines (lookup (nat_eq q) es) (fresh q ∙ has_is q tables ∙ h))
+    (omega (arith, length_keys es, length_ids tables.tasks, few)) id
+    ∙ sym (has_is id tables)
+
+-- as many tracks as tasks, where each task has one and there is no other
+pub as_many : (es : List (ℕ × Track)) (tables : TablesView) → IsDistinct nat_eq (keys_of es) → IsDistinct nat_eq (map task_id tables.tasks)
+    → ((id : ℕ) → is_some (lookup (nat_eq id) es) ≡ has_task id tables) → length es ≡ length tables.tasks
+as_many es tables d e there =
+    sym (length_keys es) ∙ length-from_same_keys nat_eq_equiv (keys_of es) (map task_id tables.tasks) d e (λ q. sym (key_is q es) ∙ there q ∙ has_is q tables)
+    ∙ length_ids tables.tasks
+
+-- ---- the rest of a line's loop
+
+-- the track of a task that was not noted is as it was
+abbrev pub Untouched : List Task → (ℕ → Option Track) → (ℕ → Option Track) → ℕ → Type 0
+Untouched tasks old cur place = (id : ℕ) → task_with id (take place tasks) ≡ None → cur id ≡ old id
+
+pub untouched_more : (tasks : List Task) (old cur new : ℕ → Option Track) (place : ℕ) (t : Task) (k : ℕ) → Some t ≡ slice_get tasks place → k ≡ task_id t
+    → ((other : ℕ) → nat_eq k other ≡ false → new other ≡ cur other) → Untouched tasks old cur place → Untouched tasks old new (place + 1)
+untouched_more tasks old cur new place t k at is others h id none =
+    by (task_with id (take place tasks)) (nat_eq id (task_id t)) refl refl (sym (task_next id tasks place t (sym at)) ∙ none)
+  where
+    by : (o : Option Task) (b : Bool) → task_with id (take place tasks) ≡ o → nat_eq id (task_id t) ≡ b
+        → option_or (task_with id (take place tasks)) (cond (nat_eq id (task_id t)) (Some t) None) ≡ None → new id ≡ old id
+    by (Some u) b e f g = let clash : Some u ≡ None = sym (ap (λ o. option_or o (cond (nat_eq id (task_id t)) (Some t) None)) e) ∙ g in absurd (cc)
+    by None true e f g =
+        let clash : Some t ≡ None = sym (ap (λ o. option_or o (cond (nat_eq id (task_id t)) (Some t) None)) e ∙ ap (λ c. cond c (Some t) None) f) ∙ g in absurd (cc)
+    by None false e f g = others id (ap (λ m. nat_eq m id) is ∙ nat_eq_equiv.symm (task_id t) id ∙ f) ∙ h id e
+
+-- the track of the next task is as it was
+pub next_untouched : (tasks : List Task) (old cur : ℕ → Option Track) (place : ℕ) (t : Task) → IsDistinct nat_eq (map task_id tasks) → Some t ≡ slice_get tasks place
+    → Untouched tasks old cur place → cur (task_id t) ≡ old (task_id t)
+next_untouched tasks old cur place t d at h = h (task_id t) (not_before tasks place t d (sym at))
+
+-- one task more that came, or was there
+pub count_more : (tasks : List Task) (old cur : ℕ → Option Track) (place : ℕ) (t : Task) (k before now new : ℕ) → Some t ≡ slice_get tasks place → k ≡ task_id t
+    → cur (task_id t) ≡ old (task_id t) → now ≡ before + count_by (λ u. not (is_some (old (task_id u)))) (take place tasks)
+    → new ≡ now + cond (is_some (cur k)) 0 1 → new ≡ before + count_by (λ u. not (is_some (old (task_id u)))) (take (place + 1) tasks)
+count_more tasks old cur place t k before now new at is same h more =
+    let lacks = λ (u : Task). not (is_some (old (task_id u))) in
+    let next : count_by lacks (take (place + 1) tasks) ≡ count_by lacks (take place tasks) + cond (lacks t) 1 0 =
+    ap (count_by lacks) (take_next tasks place t (sym at)) ∙ sum_by_push (λ u. cond (lacks u) 1 0) (take place tasks) t in
+    let one : cond (is_some (cur k)) 0 1 ≡ cond (lacks t) 1 0 = ap (λ o. cond (is_some o) 0 1) (ap cur is ∙ same) ∙ by (is_some (old (task_id t))) in
+    omega (arith, h, more, next, one)
+  where
+    by : (b : Bool) → ◌≡◌ {A = ℕ} (cond b 0 1) (cond (not b) 1 0)
+    by true = refl
+    by false = refl
+
+-- what one task more gained
+pub sum_more : (shown : List TablesView) (tables : TablesView) (start sum gain new s : Sample) (place : ℕ) (t : Task) (k : ℕ) → Some t ≡ slice_get tables.tasks place → k ≡ task_id t
+    → s ≡ sample_of t.row tables.now → sum ≡ fold (λ r u. plus r (gain_of (last_of shown) tables u)) start (take place tables.tasks)
+    → gain ≡ gained s (latest (samples_of k shown)) → new ≡ plus sum gain
+    → new ≡ fold (λ r u. plus r (gain_of (last_of shown) tables u)) start (take (place + 1) tables.tasks)
+sum_more shown tables start sum gain new s place t k at is is_s h g more =
+    let gained_is : gain ≡ gain_of (last_of shown) tables t =
+    g ∙ ap (λ u. gained u (latest (samples_of k shown))) is_s ∙ ap (λ m. gained (sample_of t.row tables.now) m) (latest_is k shown ∙ ap (λ m. come_to m (last_of shown)) is) in
+    more ∙ ap (λ r. plus r gain) h ∙ ap (λ m. plus (fold (λ r u. plus r (gain_of (last_of shown) tables u)) start (take place tables.tasks)) m) gained_is
+    ∙ sym (fold_next (λ r u. plus r (gain_of (last_of shown) tables u)) start tables.tasks place t at)

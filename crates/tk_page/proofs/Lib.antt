@@ -4,3 +4,8 @@ pub mod HistoryLemmas
 pub mod LoopLemmas
 pub mod RankLemmas
 pub mod DrawLemmas
+pub mod Counting
+pub mod Leading
+pub mod PlaceLemmas
+pub mod Most
+pub mod HolderLemmas

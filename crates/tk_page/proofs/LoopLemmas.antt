@@ -10,6 +10,7 @@ use Rattle.std.proofs.lemmas.Bool.{cases_lt}
 use Rattle.std.proofs.Math.Dec.{eqb-suc-zero}
 use Rattle.tk_core.specs.Lists.{capped}
 use Rattle.tk_paper.specs.Behind.{Writes}
+use Rattle.tk_paper.specs.Escaping.{PaperView}
 use Rattle.tk_paper.specs.Parts.{Bit}
 use Rattle.tk_paper.proofs.PutLemmas.{then}
 
@@ -31,14 +32,14 @@ item_at (y ∷ ys) zero x h e = ap Some (sym e)
 item_at (y ∷ ys) (suc i) x h e = item_at ys i x (omega (arith, h)) e
 
 -- the parts of one item more were put
-pub next_part : {A : Type 0} (f : A → List Bit) {a b c : List ℕ} (xs : List A) (i : ℕ) (x : A) → slice_get xs i ≡ Some x
+pub next_part : {A : Type 0} (f : A → List Bit) {a b c : PaperView} (xs : List A) (i : ℕ) (x : A) → slice_get xs i ≡ Some x
     → Writes a b (flat_map f (take i xs)) → Writes b c (f x) → Writes a c (flat_map f (take (i + 1) xs))
 next_part f {a} {b} {c} xs i x at g h =
     subst (Writes a c)
     (sym (ap (flat_map f) (take_next xs i x at) ∙ flat_map-append f (take i xs) (x ∷ []) ∙ ap (λ ys. flat_map f (take i xs) ++ ys) (append-nil (f x)))) (then g h)
 
 -- those of all items
-pub all_parts : {A : Type 0} (f : A → List Bit) {a b : List ℕ} (xs : List A) (i : ℕ) → length xs ≤ i → Writes a b (flat_map f (take i xs)) → Writes a b (flat_map f xs)
+pub all_parts : {A : Type 0} (f : A → List Bit) {a b : PaperView} (xs : List A) (i : ℕ) → length xs ≤ i → Writes a b (flat_map f (take i xs)) → Writes a b (flat_map f xs)
 all_parts f {a} {b} xs i all h = subst (λ ys. Writes a b (flat_map f ys)) (take_all i xs all) h
 
 -- past the end there is none
@@ -60,7 +61,8 @@ not_zero (suc n) h = eqb-suc-zero n
 
 -- ---- what loops gather
 
-filter_next : {A : Type 0} (p : A → Bool) (xs : List A) (i : ℕ) (x : A) → slice_get xs i ≡ Some x → filter p (take (i + 1) xs) ≡ filter p (take i xs) ++ cond (p x) (x ∷ []) []
+-- those that pass, with one item more
+pub filter_next : {A : Type 0} (p : A → Bool) (xs : List A) (i : ℕ) (x : A) → slice_get xs i ≡ Some x → filter p (take (i + 1) xs) ≡ filter p (take i xs) ++ cond (p x) (x ∷ []) []
 filter_next p xs i x at = ap (filter p) (take_next xs i x at) ∙ filter-append p (take i xs) (x ∷ [])
 
 -- an item more that passes
@@ -90,12 +92,12 @@ pub fold_next : {A B : Type 0} (f : B → A → B) (b : B) (xs : List A) (i : �
 fold_next f b xs i x at = ap (fold f b) (take_next xs i x (sym at)) ∙ fold-append f b (take i xs) (x ∷ [])
 
 -- the parts of an item more, which a loop reads by its place
-pub next_of : {A : Type 0} (f : A → List Bit) {a b c : List ℕ} (xs : List A) (i : ℕ) (d : A) → i < length xs
+pub next_of : {A : Type 0} (f : A → List Bit) {a b c : PaperView} (xs : List A) (i : ℕ) (d : A) → i < length xs
     → Writes a b (flat_map f (take i xs)) → Writes b c (f (get_or xs i d)) → Writes a c (flat_map f (take (i + 1) xs))
 next_of f xs i d h g k = next_part f xs i (get_or xs i d) (get_at xs i d h) g k
 
 -- those of items behind references
-pub all_mapped : {R A : Type 0} (now : R → A) (f : A → List Bit) {a b : List ℕ} (xs : List R) (i : ℕ) → length xs ≤ i
+pub all_mapped : {R A : Type 0} (now : R → A) (f : A → List Bit) {a b : PaperView} (xs : List R) (i : ℕ) → length xs ≤ i
     → Writes a b (flat_map (λ r. f (now r)) (take i xs)) → Writes a b (flat_map f (map now xs))
 all_mapped now f {a} {b} xs i all h = subst (Writes a b) (sym (flat_map-map f now xs)) (all_parts (λ r. f (now r)) xs i all h)
 

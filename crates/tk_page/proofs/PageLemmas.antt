@@ -1,5 +1,5 @@
 -- What a page is made of, and what lines of a piece come to.
-use Rattle.std.proofs.Common.{◌≡◌, ℕ, ◌+◌, ◌-◌, ◌≤◌, List, ◌++◌, length, take, drop, Option, Ok, Err, refl, ap, sym, ◌∙◌, append_assoc, take-append-drop, length-take, arith}
+use Rattle.std.proofs.Common.{◌≡◌, ℕ, ◌+◌, ◌-◌, ◌≤◌, List, ◌++◌, length, take, drop, Option, Some, Ok, Err, refl, ap, sym, ◌∙◌, append_assoc, take-append-drop, length-take, arith, subst}
 use Rattle.std.specs.Io.KnownBytes.{Appends, Consumes}
 use Rattle.std.proofs.KnownBytes.{Consumes-trans}
 use Rattle.std.proofs.Math.Seq.{take-add}
@@ -9,12 +9,19 @@ use Rattle.tk_client.specs.Warnings.{LintsView, warnings_in}
 use Rattle.tk_client.proofs.Pieces.{stops-append}
 use Rattle.tk_fault.specs.declared.fault.AppFault.{AppFault}
 use Rattle.tk_fault.specs.declared.fault.AppFault.TheVariants as faults
-use Rattle.tk_page.specs.Courses.{courses_of}
+use Rattle.tk_paper.specs.Escaping.{PaperView, no_paper}
+use Rattle.tk_paper.specs.Parts.{behind_all}
+use Rattle.tk_paper.specs.declared.marks.Place.TheVariants as places
+use Rattle.tk_stream.specs.Tables.{TablesView}
+use Rattle.tk_page.specs.Courses.{Courses, courses_of}
+use Rattle.tk_page.specs.Drawn.{DrawsPage, scale_of, sections, signs_of}
+use Rattle.tk_page.specs.Holders.{holder_of}
 use Rattle.tk_page.specs.Kept.{Tells, TellsAll}
 use Rattle.tk_page.specs.Pages.{IsDrawn, Pages}
 use Rattle.tk_page.specs.Shown.{shown_of}
 use Rattle.tk_page.specs.declared.history.History.{History}
 use Rattle.tk_page.proofs.HistoryLemmas.{tell_of}
+use Rattle.tk_page.proofs.PlaceLemmas.{sections_to}
 use Rattle.tk_report.specs.Taken.{HasTaken, Reading, Takes, TakesAll}
 use Rattle.tk_report.specs.Views.{LeadTo}
 use Rattle.tk_stream.specs.Sent.{IsCut}
@@ -46,6 +53,27 @@ front_stops bytes rest now faults.Read h = absurd h
 front_stops bytes rest now faults.Write h = absurd h
 front_stops bytes rest now (faults.Script line name) h = absurd h
 front_stops bytes rest now (faults.Stream lines fault) h = (h.0, h.1, stops-append 268435456 empty_start bytes rest h.0 lines h.1 fault h.2)
+
+-- ---- where a page ends
+
+-- a page that began with no text ends between tags
+pub ends_between : (lints : LintsView) (courses : Courses) (tables : TablesView) (old new : PaperView) → old ≡ no_paper → DrawsPage lints courses tables old new
+    → new.place ≡ Some places.Text
+ends_between lints courses tables old new is d =
+    let s = d.sections in
+    let scale = scale_of courses tables in
+    let holder = holder_of courses tables in
+    let signs = signs_of lints tables holder in
+    s.wrote.place ∙ ap (λ (p : PaperView). behind_all (sections scale signs holder courses tables s.ranks s.height) p.place) is
+    ∙ sections_to scale signs holder courses tables s.ranks s.height
+
+-- the same, of a page whose text is known
+pub drawn_from : (lints : LintsView) (courses : Courses) (tables : TablesView) (old new : PaperView) (inner : List ℕ) → old ≡ no_paper → inner ≡ new.text
+    → DrawsPage lints courses tables old new → DrawsPage lints courses tables no_paper (record { text = inner; place = Some places.Text })
+drawn_from lints courses tables old new inner is text d =
+    let place = ends_between lints courses tables old new is d in
+    let same : new ≡ record { text = inner; place = Some places.Text } = λ i. record { text = sym text i; place = place i } in
+    subst (λ p. DrawsPage lints courses tables p (record { text = inner; place = Some places.Text })) is (subst (DrawsPage lints courses tables old) same d)
 
 -- ---- what was read
 

@@ -1,8 +1,9 @@
 -- The page between its frame, as one list of parts.
-use Rattle.std.specs.Prelude.{◌≡◌, ℕ, Option, List, [], ◌∷◌, ◌++◌}
+use Rattle.std.specs.Prelude.{◌≡◌, Option, List, [], ◌∷◌, ◌++◌}
 use Rattle.tk_client.specs.Warnings.{LintsView}
 use Rattle.tk_stream.specs.Tables.{TablesView}
 use Rattle.tk_paper.specs.Behind.{Writes}
+use Rattle.tk_paper.specs.Escaping.{PaperView}
 use Rattle.tk_paper.specs.Parts.{Bit, close, start}
 use Rattle.tk_paper.specs.declared.marks.Tag.TheVariants as tags
 use Rattle.tk_page.specs.declared.figures.Scale.{Scale}
@@ -14,6 +15,7 @@ use Rattle.tk_page.specs.Courses.{Courses}
 use Rattle.tk_page.specs.Cards.{odd_section}
 use Rattle.tk_page.specs.Figures.{watched}
 use Rattle.tk_page.specs.Heads.{header, id_of, start_of}
+use Rattle.tk_page.specs.Holders.{holder_of}
 use Rattle.tk_page.specs.Items.{resources_section}
 use Rattle.tk_page.specs.Rows.{AreRanks, tasks_section}
 use Rattle.tk_page.specs.Strips.{most_waited, steps_of}
@@ -26,7 +28,7 @@ sections scale signs holder courses tables ranks height =
     ++ (tasks_section scale signs courses tables.tasks ranks height ++ (resources_section tables ++ close tags.Main ∷ []))))
 
 -- the sections were put
-pub record DrawsSections (scale : Scale) (signs : Signs) (holder : Option Holder) (courses : Courses) (tables : TablesView) (old new : List ℕ) : Type 0 where
+pub record DrawsSections (scale : Scale) (signs : Signs) (holder : Option Holder) (courses : Courses) (tables : TablesView) (old new : PaperView) : Type 0 where
   pub ranks : List Rank
   pub ranked : AreRanks scale signs tables.tasks ranks
   pub height : Height
@@ -42,7 +44,6 @@ abbrev pub signs_of : LintsView → TablesView → Option Holder → Signs
 signs_of lints tables holder =
     record { now = tables.now; percent = lints.self_wake_percent; limit = lints.never_yielded_ns; holder = id_of holder }
 
--- the page of tables and their courses was put. Which task holds up the others is left open
-pub record DrawsPage (lints : LintsView) (courses : Courses) (tables : TablesView) (old new : List ℕ) : Type 0 where
-  pub holder : Option Holder
-  pub sections : DrawsSections (scale_of courses tables) (signs_of lints tables holder) holder courses tables old new
+-- the page of tables and their courses was put
+pub record DrawsPage (lints : LintsView) (courses : Courses) (tables : TablesView) (old new : PaperView) : Type 0 where
+  pub sections : DrawsSections (scale_of courses tables) (signs_of lints tables (holder_of courses tables)) (holder_of courses tables) courses tables old new

@@ -24,6 +24,8 @@ pub mod Rows
 pub mod Items
 -- The head of a page
 pub mod Heads
+-- Which task holds up the others
+pub mod Holders
 -- The page between its frame
 pub mod Drawn
 -- The tables after each line of a stream

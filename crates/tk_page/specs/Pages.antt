@@ -1,5 +1,5 @@
 -- What the page of a stream is, and what writing it came to.
-use Rattle.std.specs.Prelude.{◌≡◌, ℕ, List, [], ◌++◌, length, Option, Result, Ok, Err}
+use Rattle.std.specs.Prelude.{◌≡◌, ℕ, List, ◌++◌, length, Option, Some, Result, Ok, Err}
 use Rattle.std.specs.Io.KnownBytes.{Appends}
 use Rattle.tk_client.specs.Warnings.{LintsView, warnings_in}
 use Rattle.tk_fault.specs.declared.fault.AppFault.{AppFault}
@@ -8,7 +8,7 @@ use Rattle.tk_page.specs.declared.frame.TheConstants.{HEAD, TAIL}
 use Rattle.tk_page.specs.Courses.{Courses, TellOf}
 use Rattle.tk_page.specs.Drawn.{DrawsPage}
 use Rattle.tk_page.specs.Shown.{shown_of}
-use Rattle.tk_paper.specs.Escaping.{Woven}
+use Rattle.tk_paper.specs.Escaping.{Woven, no_paper}
 use Rattle.tk_paper.specs.declared.marks.Place.TheVariants as places
 use Rattle.tk_report.specs.Views.{HaveFault, LeadTo}
 use Rattle.tk_stream.specs.Sent.{IsCut}
@@ -18,7 +18,7 @@ use Rattle.tk_stream.specs.Tables.{TablesView}
 -- escaped byte of a text, each where it may stand
 pub record IsDrawn (lints : LintsView) (courses : Courses) (tables : TablesView) (text : List ℕ) : Type 0 where
   pub inner : List ℕ
-  pub drawn : DrawsPage lints courses tables [] inner
+  pub drawn : DrawsPage lints courses tables no_paper (record { text = inner; place = Some places.Text })
   pub woven : ∥ Woven inner places.Text ∥₁
   pub framed : text ≡ (HEAD.now ++ inner) ++ TAIL.now
 

@@ -8,6 +8,7 @@ use Rattle.tk_ids.specs.declared.spec.TaskKind.TheVariants.{Spawn, Blocking}
 use Rattle.tk_stream.specs.declared.task.Task.{Task}
 use Rattle.tk_stream.specs.Tables.{TablesView}
 use Rattle.tk_paper.specs.Behind.{Writes}
+use Rattle.tk_paper.specs.Escaping.{PaperView}
 use Rattle.tk_paper.specs.Parts.{Bit, text, number, share, span, mean, opens, ends, close, start, class, having, having_number, value, quote}
 use Rattle.tk_paper.specs.declared.marks.Attr.TheVariants as attrs
 use Rattle.tk_paper.specs.declared.marks.Tag.TheVariants as tags
@@ -206,7 +207,7 @@ table scale signs courses tasks ranks height =
     ++ (flat_map (row_at scale signs courses tasks) (take 200 ranks) ++ close tags.Tbody ∷ close tags.Table ∷ close tags.Div ∷ [])
 
 -- the table was put. Up to where the drawing of all tasks goes is left open
-pub record WritesTable (scale : Scale) (signs : Signs) (courses : Courses) (tables : TablesView) (old new : List ℕ) : Type 0 where
+pub record WritesTable (scale : Scale) (signs : Signs) (courses : Courses) (tables : TablesView) (old new : PaperView) : Type 0 where
   pub ranks : List Rank
   pub ranked : AreRanks scale signs tables.tasks ranks
   pub height : Height
@@ -224,7 +225,7 @@ tasks_section scale signs courses tasks ranks height =
     ++ (more (length tasks) 200 (codes " tasks more, which ran and waited less") ++ close tags.Section ∷ []))
 
 -- that section was put
-pub record WritesTasks (scale : Scale) (signs : Signs) (courses : Courses) (tables : TablesView) (old new : List ℕ) : Type 0 where
+pub record WritesTasks (scale : Scale) (signs : Signs) (courses : Courses) (tables : TablesView) (old new : PaperView) : Type 0 where
   pub ranks : List Rank
   pub ranked : AreRanks scale signs tables.tasks ranks
   pub height : Height

@@ -9,12 +9,12 @@ use crate::figures::{Scale, count, front, share};
 use crate::oddities::{Holder, KINDS, Oddity, Signs};
 use crate::sample::Sample;
 use crate::strips::poll_takes;
-use std::alloc::Global;
+use std::alloc::{AllocError, Global};
 use tk_core::TaskRow;
 use tk_paper::Part::{
     Class, Close, End, Number, Open, Quote, Share, Span, Start, Text, Value, With, WithNumber,
 };
-use tk_paper::{Attr, Paper, Stop, Tag};
+use tk_paper::{Attr, Paper, Tag};
 use tk_stream::{Tables, Task};
 
 // The words for an oddity.
@@ -83,8 +83,8 @@ fn words_of(oddity: Oddity) -> Words
 }
 
 // Begins a card, and its head with the sign.
-fn start_card(paper: &mut Paper, oddity: Oddity) -> Result<(), Stop>
-    ensures { OnOk result (Writes paper.old.text paper.new.text (cards.start_card oddity)) }
+fn start_card(paper: &mut Paper, oddity: Oddity) -> Result<(), AllocError>
+    ensures { OnOk result (Writes paper.old paper.new (cards.start_card oddity)) }
 {
     let words = words_of(oddity);
     paper.put(&[
@@ -100,8 +100,8 @@ fn start_card(paper: &mut Paper, oddity: Oddity) -> Result<(), Stop>
     ])
 }
 
-fn end_card(paper: &mut Paper, oddity: Oddity) -> Result<(), Stop>
-    ensures { OnOk result (Writes paper.old.text paper.new.text (cards.end_card oddity)) }
+fn end_card(paper: &mut Paper, oddity: Oddity) -> Result<(), AllocError>
+    ensures { OnOk result (Writes paper.old paper.new (cards.end_card oddity)) }
 {
     let words = words_of(oddity);
     paper.put(&[
@@ -114,8 +114,8 @@ fn end_card(paper: &mut Paper, oddity: Oddity) -> Result<(), Stop>
 }
 
 // Puts a task's name, as a link to its row.
-fn put_link(paper: &mut Paper, task: &Task) -> Result<(), Stop>
-    ensures { OnOk result (Writes paper.old.text paper.new.text (cards.link task.now)) }
+fn put_link(paper: &mut Paper, task: &Task) -> Result<(), AllocError>
+    ensures { OnOk result (Writes paper.old paper.new (cards.link task.now)) }
 {
     paper.put(&[
         Open(Tag::A),
@@ -126,8 +126,8 @@ fn put_link(paper: &mut Paper, task: &Task) -> Result<(), Stop>
     ])
 }
 
-fn put_held(paper: &mut Paper, scale: Scale, holder: Holder) -> Result<(), Stop>
-    ensures { OnOk result (Writes paper.old.text paper.new.text (cards.held scale holder)) }
+fn put_held(paper: &mut Paper, scale: Scale, holder: Holder) -> Result<(), AllocError>
+    ensures { OnOk result (Writes paper.old paper.new (cards.held scale holder)) }
 {
     let step = holder.step;
     let ran = share(holder.ran, step.time());
@@ -144,8 +144,8 @@ fn put_held(paper: &mut Paper, scale: Scale, holder: Holder) -> Result<(), Stop>
     ])
 }
 
-fn put_held_if(paper: &mut Paper, scale: Scale, holder: Option<Holder>) -> Result<(), Stop>
-    ensures { OnOk result (Writes paper.old.text paper.new.text (cards.held_if scale holder)) }
+fn put_held_if(paper: &mut Paper, scale: Scale, holder: Option<Holder>) -> Result<(), AllocError>
+    ensures { OnOk result (Writes paper.old paper.new (cards.held_if scale holder)) }
 {
     match holder {
         Some(holder) => put_held(paper, scale, holder),
@@ -158,8 +158,8 @@ fn put_holder(
     scale: Scale,
     row: &TaskRow,
     holder: Option<Holder>,
-) -> Result<(), Stop>
-    ensures { OnOk result (Writes paper.old.text paper.new.text (cards.holder_facts scale row.now holder)) }
+) -> Result<(), AllocError>
+    ensures { OnOk result (Writes paper.old paper.new (cards.holder_facts scale row.now holder)) }
 {
     let takes = poll_takes(Sample::of(row, scale.now));
     put_held_if(paper, scale, holder)?;
@@ -171,8 +171,8 @@ fn put_holder(
     Ok(())
 }
 
-fn put_lost_waker(paper: &mut Paper, scale: Scale, row: &TaskRow) -> Result<(), Stop>
-    ensures { OnOk result (Writes paper.old.text paper.new.text (cards.lost_facts scale row.now)) }
+fn put_lost_waker(paper: &mut Paper, scale: Scale, row: &TaskRow) -> Result<(), AllocError>
+    ensures { OnOk result (Writes paper.old paper.new (cards.lost_facts scale row.now)) }
 {
     let since = row.last_ended.unwrap_or(row.created);
     paper.put(&[
@@ -186,8 +186,8 @@ fn put_lost_waker(paper: &mut Paper, scale: Scale, row: &TaskRow) -> Result<(), 
     ])
 }
 
-fn put_never_yielded(paper: &mut Paper, scale: Scale, row: &TaskRow) -> Result<(), Stop>
-    ensures { OnOk result (Writes paper.old.text paper.new.text (cards.never_facts scale row.now)) }
+fn put_never_yielded(paper: &mut Paper, scale: Scale, row: &TaskRow) -> Result<(), AllocError>
+    ensures { OnOk result (Writes paper.old paper.new (cards.never_facts scale row.now)) }
 {
     let started = row.last_started.unwrap_or(scale.now);
     paper.put(&[
@@ -197,8 +197,8 @@ fn put_never_yielded(paper: &mut Paper, scale: Scale, row: &TaskRow) -> Result<(
     ])
 }
 
-fn put_never_polled(paper: &mut Paper, scale: Scale, row: &TaskRow) -> Result<(), Stop>
-    ensures { OnOk result (Writes paper.old.text paper.new.text (cards.unpolled_facts scale row.now)) }
+fn put_never_polled(paper: &mut Paper, scale: Scale, row: &TaskRow) -> Result<(), AllocError>
+    ensures { OnOk result (Writes paper.old paper.new (cards.unpolled_facts scale row.now)) }
 {
     paper.put(&[
         Text("It waits since it was made, for "),
@@ -207,8 +207,8 @@ fn put_never_polled(paper: &mut Paper, scale: Scale, row: &TaskRow) -> Result<()
     ])
 }
 
-fn put_self_wakes(paper: &mut Paper, row: &TaskRow) -> Result<(), Stop>
-    ensures { OnOk result (Writes paper.old.text paper.new.text (cards.self_facts row.now)) }
+fn put_self_wakes(paper: &mut Paper, row: &TaskRow) -> Result<(), AllocError>
+    ensures { OnOk result (Writes paper.old paper.new (cards.self_facts row.now)) }
 {
     let own = share(row.self_wakes, row.wakes);
     paper.put(&[
@@ -227,8 +227,8 @@ fn put_facts(
     row: &TaskRow,
     oddity: Oddity,
     holder: Option<Holder>,
-) -> Result<(), Stop>
-    ensures { OnOk result (Writes paper.old.text paper.new.text (cards.facts scale holder oddity row.now)) }
+) -> Result<(), AllocError>
+    ensures { OnOk result (Writes paper.old paper.new (cards.facts scale holder oddity row.now)) }
 {
     match oddity {
         Oddity::HoldsUp => put_holder(paper, scale, row, holder),
@@ -240,8 +240,8 @@ fn put_facts(
 }
 
 // Puts what one task does, after its name.
-fn put_one(paper: &mut Paper, oddity: Oddity) -> Result<(), Stop>
-    ensures { OnOk result (Writes paper.old.text paper.new.text (cards.one_words oddity)) }
+fn put_one(paper: &mut Paper, oddity: Oddity) -> Result<(), AllocError>
+    ensures { OnOk result (Writes paper.old paper.new (cards.one_words oddity)) }
 {
     let words = words_of(oddity);
     paper.put(&[Text(words.one), Close(Tag::H3), Start(Tag::P)])
@@ -254,8 +254,8 @@ fn put_card(
     task: &Task,
     oddity: Oddity,
     holder: Option<Holder>,
-) -> Result<(), Stop>
-    ensures { OnOk result (Writes paper.old.text paper.new.text (cards.card scale holder oddity task.now)) }
+) -> Result<(), AllocError>
+    ensures { OnOk result (Writes paper.old paper.new (cards.card scale holder oddity task.now)) }
 {
     start_card(paper, oddity)?;
     put_link(paper, task)?;
@@ -276,8 +276,8 @@ fn put_cards(
     tasks: &[&Task],
     oddity: Oddity,
     holder: Option<Holder>,
-) -> Result<(), Stop>
-    ensures { OnOk result (Writes paper.old.text paper.new.text
+) -> Result<(), AllocError>
+    ensures { OnOk result (Writes paper.old paper.new
         (flat_map (cards.card scale holder oddity) (map (λ t. t.now) tasks.now))) }
 {
     for task in tasks {
@@ -286,16 +286,16 @@ fn put_cards(
     Ok(())
 }
 
-fn put_next_name(paper: &mut Paper, task: &Task) -> Result<(), Stop>
-    ensures { OnOk result (Writes paper.old.text paper.new.text (cards.next_name task.now)) }
+fn put_next_name(paper: &mut Paper, task: &Task) -> Result<(), AllocError>
+    ensures { OnOk result (Writes paper.old paper.new (cards.next_name task.now)) }
 {
     paper.put(&[Text(", ")])?;
     put_link(paper, task)?;
     Ok(())
 }
 
-fn put_next_names(paper: &mut Paper, tasks: &[&Task]) -> Result<(), Stop>
-    ensures { OnOk result (Writes paper.old.text paper.new.text
+fn put_next_names(paper: &mut Paper, tasks: &[&Task]) -> Result<(), AllocError>
+    ensures { OnOk result (Writes paper.old paper.new
         (flat_map cards.next_name (map (λ t. t.now) tasks.now))) }
 {
     for task in tasks {
@@ -304,8 +304,8 @@ fn put_next_names(paper: &mut Paper, tasks: &[&Task]) -> Result<(), Stop>
     Ok(())
 }
 
-fn put_names(paper: &mut Paper, tasks: &[&Task]) -> Result<(), Stop>
-    ensures { OnOk result (Writes paper.old.text paper.new.text (cards.names (map (λ t. t.now) tasks.now))) }
+fn put_names(paper: &mut Paper, tasks: &[&Task]) -> Result<(), AllocError>
+    ensures { OnOk result (Writes paper.old paper.new (cards.names (map (λ t. t.now) tasks.now))) }
 {
     let [first, rest @ ..] = tasks else {
         return paper.put(&[]);
@@ -316,8 +316,8 @@ fn put_names(paper: &mut Paper, tasks: &[&Task]) -> Result<(), Stop>
 }
 
 // Puts how many tasks a card doesn't name.
-fn put_unnamed(paper: &mut Paper, all: usize) -> Result<(), Stop>
-    ensures { OnOk result (Writes paper.old.text paper.new.text (cards.unnamed all)) }
+fn put_unnamed(paper: &mut Paper, all: usize) -> Result<(), AllocError>
+    ensures { OnOk result (Writes paper.old paper.new (cards.unnamed all)) }
 {
     if all > NAMES {
         paper.put(&[Text(" and "), Number(count(all - NAMES)), Text(" more")])
@@ -326,8 +326,8 @@ fn put_unnamed(paper: &mut Paper, all: usize) -> Result<(), Stop>
     }
 }
 
-fn put_many(paper: &mut Paper, oddity: Oddity, all: usize) -> Result<(), Stop>
-    ensures { OnOk result (Writes paper.old.text paper.new.text (cards.many_words oddity all)) }
+fn put_many(paper: &mut Paper, oddity: Oddity, all: usize) -> Result<(), AllocError>
+    ensures { OnOk result (Writes paper.old paper.new (cards.many_words oddity all)) }
 {
     let words = words_of(oddity);
     paper.put(&[
@@ -339,8 +339,8 @@ fn put_many(paper: &mut Paper, oddity: Oddity, all: usize) -> Result<(), Stop>
 }
 
 // Puts one card for all tasks of which this is odd.
-fn put_group(paper: &mut Paper, tasks: &[&Task], oddity: Oddity) -> Result<(), Stop>
-    ensures { OnOk result (Writes paper.old.text paper.new.text (cards.group oddity (map (λ t. t.now) tasks.now))) }
+fn put_group(paper: &mut Paper, tasks: &[&Task], oddity: Oddity) -> Result<(), AllocError>
+    ensures { OnOk result (Writes paper.old paper.new (cards.group oddity (map (λ t. t.now) tasks.now))) }
 {
     let all = tasks.len();
     let named = front(tasks, NAMES);
@@ -358,8 +358,8 @@ fn put_kind(
     tasks: &[&Task],
     oddity: Oddity,
     holder: Option<Holder>,
-) -> Result<(), Stop>
-    ensures { OnOk result (Writes paper.old.text paper.new.text (cards.kind scale holder oddity (map (λ t. t.now) tasks.now))) }
+) -> Result<(), AllocError>
+    ensures { OnOk result (Writes paper.old paper.new (cards.kind scale holder oddity (map (λ t. t.now) tasks.now))) }
 {
     if tasks.len() > CARDS {
         put_group(paper, tasks, oddity)
@@ -377,8 +377,8 @@ fn put_kind_of(
     tables: &Tables,
     oddity: Oddity,
     holder: Option<Holder>,
-) -> Result<(), Stop>
-    ensures { OnOk result (Writes paper.old.text paper.new.text (cards.cards_of scale signs holder tables.now.tasks oddity)) }
+) -> Result<(), AllocError>
+    ensures { OnOk result (Writes paper.old paper.new (cards.cards_of scale signs holder tables.now.tasks oddity)) }
 {
     let found = signs.find(alloc, tables, oddity)?;
     put_kind(paper, scale, found.as_slice(), oddity, holder)?;
@@ -392,8 +392,8 @@ fn put_all_kinds(
     signs: Signs,
     tables: &Tables,
     holder: Option<Holder>,
-) -> Result<(), Stop>
-    ensures { OnOk result (Writes paper.old.text paper.new.text
+) -> Result<(), AllocError>
+    ensures { OnOk result (Writes paper.old paper.new
         (flat_map (cards.cards_of scale signs holder tables.now.tasks) kinds)) }
 {
     for oddity in &KINDS {
@@ -407,8 +407,8 @@ pub(crate) fn start_section(
     paper: &mut Paper,
     id: &'static str,
     head: &'static str,
-) -> Result<(), Stop>
-    ensures { OnOk result (Writes paper.old.text paper.new.text (spec.section id.now head.now)) }
+) -> Result<(), AllocError>
+    ensures { OnOk result (Writes paper.old paper.new (spec.section id.now head.now)) }
 {
     paper.put(&[
         Open(Tag::Section),
@@ -421,8 +421,8 @@ pub(crate) fn start_section(
     ])
 }
 
-fn put_nothing_odd(paper: &mut Paper) -> Result<(), Stop>
-    ensures { OnOk result (Writes paper.old.text paper.new.text cards.nothing_odd) }
+fn put_nothing_odd(paper: &mut Paper) -> Result<(), AllocError>
+    ensures { OnOk result (Writes paper.old paper.new cards.nothing_odd) }
 {
     paper.put(&[
         Close(Tag::H2),
@@ -443,8 +443,8 @@ fn put_all_odd(
     tables: &Tables,
     holder: Option<Holder>,
     all: u64,
-) -> Result<(), Stop>
-    ensures { OnOk result (Writes paper.old.text paper.new.text (cards.all_odd scale signs holder tables.now.tasks all)) }
+) -> Result<(), AllocError>
+    ensures { OnOk result (Writes paper.old paper.new (cards.all_odd scale signs holder tables.now.tasks all)) }
 {
     paper.put(&[
         Class(Tag::Span, "count"),
@@ -465,8 +465,8 @@ fn put_what_is_odd(
     signs: Signs,
     tables: &Tables,
     holder: Option<Holder>,
-) -> Result<(), Stop>
-    ensures { OnOk result (Writes paper.old.text paper.new.text (cards.what_is_odd scale signs holder tables.now.tasks)) }
+) -> Result<(), AllocError>
+    ensures { OnOk result (Writes paper.old paper.new (cards.what_is_odd scale signs holder tables.now.tasks)) }
 {
     let all = signs.count_all(tables);
     if all == 0 {
@@ -484,16 +484,16 @@ pub(crate) fn put_odd(
     signs: Signs,
     tables: &Tables,
     holder: Option<Holder>,
-) -> Result<(), Stop>
-    ensures { OnOk result (Writes paper.old.text paper.new.text (cards.odd_section scale signs holder tables.now.tasks)) }
+) -> Result<(), AllocError>
+    ensures { OnOk result (Writes paper.old paper.new (cards.odd_section scale signs holder tables.now.tasks)) }
 {
     start_section(paper, "odd", "What is odd ")?;
     put_what_is_odd(paper, alloc, scale, signs, tables, holder)?;
     Ok(())
 }
 
-fn put_badge(paper: &mut Paper, odd: bool, oddity: Oddity) -> Result<(), Stop>
-    ensures { OnOk result (Writes paper.old.text paper.new.text (spec.badge odd oddity)) }
+fn put_badge(paper: &mut Paper, odd: bool, oddity: Oddity) -> Result<(), AllocError>
+    ensures { OnOk result (Writes paper.old paper.new (spec.badge odd oddity)) }
 {
     if !odd {
         return paper.put(&[]);
@@ -511,8 +511,8 @@ fn put_badge(paper: &mut Paper, odd: bool, oddity: Oddity) -> Result<(), Stop>
     ])
 }
 
-fn put_each_badge(paper: &mut Paper, signs: Signs, task: &Task) -> Result<(), Stop>
-    ensures { OnOk result (Writes paper.old.text paper.new.text (flat_map (spec.badge_of signs task.now) kinds)) }
+fn put_each_badge(paper: &mut Paper, signs: Signs, task: &Task) -> Result<(), AllocError>
+    ensures { OnOk result (Writes paper.old paper.new (flat_map (spec.badge_of signs task.now) kinds)) }
 {
     for oddity in &KINDS {
         put_badge(paper, signs.has(task, *oddity), *oddity)?;
@@ -520,8 +520,8 @@ fn put_each_badge(paper: &mut Paper, signs: Signs, task: &Task) -> Result<(), St
     Ok(())
 }
 
-fn put_badge_line(paper: &mut Paper, signs: Signs, task: &Task) -> Result<(), Stop>
-    ensures { OnOk result (Writes paper.old.text paper.new.text (spec.badge_line signs task.now)) }
+fn put_badge_line(paper: &mut Paper, signs: Signs, task: &Task) -> Result<(), AllocError>
+    ensures { OnOk result (Writes paper.old paper.new (spec.badge_line signs task.now)) }
 {
     paper.put(&[Class(Tag::Div, "badges")])?;
     put_each_badge(paper, signs, task)?;
@@ -530,8 +530,8 @@ fn put_badge_line(paper: &mut Paper, signs: Signs, task: &Task) -> Result<(), St
 }
 
 /// Puts what is odd about a task after its name.
-pub(crate) fn put_badges(paper: &mut Paper, signs: Signs, task: &Task) -> Result<(), Stop>
-    ensures { OnOk result (Writes paper.old.text paper.new.text (spec.badges signs task.now)) }
+pub(crate) fn put_badges(paper: &mut Paper, signs: Signs, task: &Task) -> Result<(), AllocError>
+    ensures { OnOk result (Writes paper.old paper.new (spec.badges signs task.now)) }
 {
     if signs.has_any(task) {
         put_badge_line(paper, signs, task)

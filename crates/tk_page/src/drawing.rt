@@ -1,6 +1,7 @@
 //! The page between its frame: the head, what is odd, the tasks, the resources.
-ghost use Rattle.std.specs.Prelude.{◌≡◌, [], OnOk};
+ghost use Rattle.std.specs.Prelude.{◌≡◌, [], OnOk, IfOk};
 ghost use Rattle.tk_page.specs.Heads as spec;
+ghost use Rattle.tk_page.specs.Holders as holders;
 ghost use Rattle.tk_page.specs.Drawn.{DrawsPage, DrawsSections};
 ghost use Rattle.tk_page.specs.Courses.{courses_of};
 ghost use Rattle.tk_paper.specs.Behind.{Writes};
@@ -12,11 +13,11 @@ use crate::oddities::{Holder, Signs, find_holder};
 use crate::resources::put_resources;
 use crate::strips::{steps_of, worst_step};
 use crate::tasks::put_tasks;
-use std::alloc::Global;
+use std::alloc::{AllocError, Global};
 use tk_client::Lints;
 use tk_ids::Dropped;
 use tk_paper::Part::{Class, Close, Number, Span, Start, Text};
-use tk_paper::{Paper, Stop, Tag};
+use tk_paper::{Paper, Tag};
 use tk_stream::Tables;
 
 // The moment at the page's left: the first line's, or that of the earliest creation of a task.
@@ -37,8 +38,8 @@ fn put_fact(
     number: u64,
     one: &'static str,
     many: &'static str,
-) -> Result<(), Stop>
-    ensures { OnOk result (Writes paper.old.text paper.new.text (spec.fact number one.now many.now)) }
+) -> Result<(), AllocError>
+    ensures { OnOk result (Writes paper.old paper.new (spec.fact number one.now many.now)) }
 {
     paper.put(&[
         Start(Tag::B),
@@ -49,8 +50,8 @@ fn put_fact(
 }
 
 // Puts how many tasks have left, where any have.
-fn put_gone(paper: &mut Paper, gone: u64) -> Result<(), Stop>
-    ensures { OnOk result (Writes paper.old.text paper.new.text (spec.gone_fact gone)) }
+fn put_gone(paper: &mut Paper, gone: u64) -> Result<(), AllocError>
+    ensures { OnOk result (Writes paper.old paper.new (spec.gone_fact gone)) }
 {
     if gone == 0 {
         return paper.put(&[]);
@@ -65,8 +66,8 @@ fn put_gone(paper: &mut Paper, gone: u64) -> Result<(), Stop>
     Ok(())
 }
 
-fn put_facts(paper: &mut Paper, watched: u64, lines: u64, tables: &Tables) -> Result<(), Stop>
-    ensures { OnOk result (Writes paper.old.text paper.new.text (spec.facts watched lines tables.now)) }
+fn put_facts(paper: &mut Paper, watched: u64, lines: u64, tables: &Tables) -> Result<(), AllocError>
+    ensures { OnOk result (Writes paper.old paper.new (spec.facts watched lines tables.now)) }
 {
     let (tasks, resources, ops) = (
         tables.task_count(),
@@ -81,8 +82,8 @@ fn put_facts(paper: &mut Paper, watched: u64, lines: u64, tables: &Tables) -> Re
     Ok(())
 }
 
-fn put_dropped(paper: &mut Paper, dropped: Dropped) -> Result<(), Stop>
-    ensures { OnOk result (Writes paper.old.text paper.new.text (spec.dropped_facts dropped)) }
+fn put_dropped(paper: &mut Paper, dropped: Dropped) -> Result<(), AllocError>
+    ensures { OnOk result (Writes paper.old paper.new (spec.dropped_facts dropped)) }
 {
     paper.put(&[
         Class(Tag::P, "missing"),
@@ -104,8 +105,8 @@ fn put_dropped(paper: &mut Paper, dropped: Dropped) -> Result<(), Stop>
 }
 
 // Puts how many events were dropped, where any were.
-fn put_missing(paper: &mut Paper, dropped: Dropped) -> Result<(), Stop>
-    ensures { OnOk result (Writes paper.old.text paper.new.text (spec.missing dropped)) }
+fn put_missing(paper: &mut Paper, dropped: Dropped) -> Result<(), AllocError>
+    ensures { OnOk result (Writes paper.old paper.new (spec.missing dropped)) }
 {
     if dropped.tasks == 0 && dropped.resources == 0 && dropped.ops == 0 {
         paper.put(&[])
@@ -120,8 +121,8 @@ fn put_header(
     lines: u64,
     gone: u64,
     tables: &Tables,
-) -> Result<(), Stop>
-    ensures { OnOk result (Writes paper.old.text paper.new.text (spec.header watched lines gone tables.now)) }
+) -> Result<(), AllocError>
+    ensures { OnOk result (Writes paper.old paper.new (spec.header watched lines gone tables.now)) }
 {
     paper.put(&[
         Start(Tag::Header),
@@ -144,9 +145,15 @@ fn holder_of(
     scale: Scale,
     history: &History,
     tables: &Tables,
-) -> Result<Option<Holder>, Stop> {
+) -> Result<Option<Holder>, AllocError>
+    requires { scale.start ≡ spec.start_of history.now.first tables.now.tasks }
+    ensures { IfOk result (λ holder. holder ≡ holders.holder_of (courses_of history.now) tables.now) }
+{
     let sums = steps_of(alloc, scale.start, history.sums(), history.last())?;
-    Ok(find_holder(history, tables, worst_step(sums.as_slice())))
+    match worst_step(sums.as_slice()) {
+        Some(step) => Ok(find_holder(history, tables, step)),
+        None => Ok(None),
+    }
 }
 
 fn put_sections(
@@ -157,8 +164,8 @@ fn put_sections(
     history: &History,
     tables: &Tables,
     holder: Option<Holder>,
-) -> Result<(), Stop>
-    ensures { OnOk result (DrawsSections scale signs holder (courses_of history.now) tables.now paper.old.text paper.new.text) }
+) -> Result<(), AllocError>
+    ensures { OnOk result (DrawsSections scale signs holder (courses_of history.now) tables.now paper.old paper.new) }
 {
     put_header(
         paper,
@@ -191,8 +198,8 @@ pub(crate) fn put_page(
     history: &History,
     tables: &Tables,
     lints: &Lints,
-) -> Result<(), Stop>
-    ensures { OnOk result (DrawsPage lints.now (courses_of history.now) tables.now paper.old.text paper.new.text) }
+) -> Result<(), AllocError>
+    ensures { OnOk result (DrawsPage lints.now (courses_of history.now) tables.now paper.old paper.new) }
 {
     let now = tables.now();
     let scale = Scale {

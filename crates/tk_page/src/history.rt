@@ -1,8 +1,12 @@
 //! The courses of time of a stream's tasks, thinned while its lines are read.
-ghost use Rattle.std.specs.Prelude.{◌≡◌, ◌≤◌, ◌+◌, ◌^◌, ◌==◌, if◌then◌else◌, ◌++◌, ◌∷◌, [], ℕ, List, length, OnOk, IfSome, IfNone, IfOk, None, false, nat_eq};
+ghost use Rattle.std.specs.Prelude.{◌≡◌, ◌≤◌, ◌+◌, ◌-◌, ◌^◌, ◌==◌, if◌then◌else◌, ◌++◌, ◌∷◌, [], ℕ, List, length, map, count_by, OnOk, IfSome, IfNone, IfOk, None, false, not, is_some, nat_eq};
+ghost use Rattle.std.specs.List.{IsDistinct};
 ghost use Rattle.indexmap.specs.IndexMap.{IsUnique, get};
+ghost use Rattle.tk_core.specs.Lists.{capped};
 ghost use Rattle.tk_page.specs.Kept as spec;
-ghost use Rattle.tk_stream.specs.Tables.{TablesView};
+ghost use Rattle.tk_page.specs.Samples.{gained};
+ghost use Rattle.tk_paper.specs.Courses.{IsCourse};
+ghost use Rattle.tk_stream.specs.Tables.{TablesView, task_id};
 
 use crate::sample::Sample;
 use indexmap::IndexMap;
@@ -36,8 +40,9 @@ pub(crate) struct History {
 // Takes what a task has come to after so many lines, and answers what it gained since the line before. A task that was not in that
 // one begins anew.
 fn go_on(alloc: Global, track: &mut Track, lines: u64, sample: Sample) -> Result<Sample, AllocError>
-    ensures { (xs : List Sample) → lines ≤ 2 ^ 62 → length xs ≤ 2 ^ 62 → spec.Follows lines xs track.old
+    ensures track { (xs : List Sample) → lines ≤ 2 ^ 62 → length xs ≤ 2 ^ 62 → spec.Follows lines xs track.old
         → OnOk result (spec.Follows (lines + 1) (xs ++ sample ∷ []) track.new) }
+    ensures gain { (xs : List Sample) → spec.Follows lines xs track.old → IfOk result (λ gain. gain ≡ gained sample (spec.latest xs)) }
 {
     if track.lines != lines {
         track.course = Course::new(alloc);
@@ -89,6 +94,8 @@ fn go_on_at(
     requires { spec.StandsAt tasks.old.entries i id }
     ensures task { (xs : List Sample) → lines ≤ 2 ^ 62 → length xs ≤ 2 ^ 62 → spec.FollowsAt lines xs (get nat_eq tasks.old id)
         → OnOk result (spec.FollowsAt (lines + 1) (xs ++ sample ∷ []) (get nat_eq tasks.new id)) }
+    ensures gain { (xs : List Sample) → spec.FollowsAt lines xs (get nat_eq tasks.old id) → IfOk result (λ gain. gain ≡ gained sample (spec.latest xs)) }
+    ensures count { OnOk result (length tasks.new.entries ≡ length tasks.old.entries) }
     ensures others { (other : ℕ) → nat_eq id other ≡ false → OnOk result (get nat_eq tasks.new other ≡ get nat_eq tasks.old other) }
 {
     match tasks.get_index_mut(i) {
@@ -108,6 +115,8 @@ fn begin_at(
     requires { get nat_eq tasks.old id ≡ None }
     ensures task { (xs : List Sample) → lines ≤ 2 ^ 62 → length xs ≤ 2 ^ 62 → spec.FollowsAt lines xs (get nat_eq tasks.old id)
         → OnOk result (spec.FollowsAt (lines + 1) (xs ++ sample ∷ []) (get nat_eq tasks.new id)) }
+    ensures gain { (xs : List Sample) → spec.FollowsAt lines xs (get nat_eq tasks.old id) → IfOk result (λ gain. gain ≡ gained sample (spec.latest xs)) }
+    ensures count { OnOk result (length tasks.new.entries ≡ length tasks.old.entries + 1) }
     ensures others { (other : ℕ) → nat_eq id other ≡ false → OnOk result (get nat_eq tasks.new other ≡ get nat_eq tasks.old other) }
 {
     let track = begin(alloc, lines, sample)?;
@@ -126,6 +135,9 @@ fn note_task(
 ) -> Result<Sample, AllocError>
     ensures task { (xs : List Sample) → lines ≤ 2 ^ 62 → length xs ≤ 2 ^ 62 → spec.FollowsAt lines xs (get nat_eq tasks.old id)
         → OnOk result (spec.FollowsAt (lines + 1) (xs ++ sample ∷ []) (get nat_eq tasks.new id)) }
+    ensures gain { (xs : List Sample) → spec.FollowsAt lines xs (get nat_eq tasks.old id) → IfOk result (λ gain. gain ≡ gained sample (spec.latest xs)) }
+    ensures count { OnOk result (length tasks.new.entries
+        ≡ length tasks.old.entries + (if is_some (get nat_eq tasks.old id) then 0 else 1)) }
     ensures others { (other : ℕ) → nat_eq id other ≡ false → OnOk result (get nat_eq tasks.new other ≡ get nat_eq tasks.old other) }
 {
     match find_track(tasks, place, id) {
@@ -150,8 +162,13 @@ fn note_tasks(
     tables: &Tables,
     last: Sample,
 ) -> Result<Sample, AllocError>
-    ensures { (id : ℕ) (xs : List Sample) → lines ≤ 2 ^ 62 → length xs ≤ 2 ^ 62 → spec.FollowsAt lines xs (get nat_eq tasks.old id)
+    ensures tracks { (id : ℕ) (xs : List Sample) → lines ≤ 2 ^ 62 → length xs ≤ 2 ^ 62 → spec.FollowsAt lines xs (get nat_eq tasks.old id)
         → OnOk result (spec.FollowsAt (lines + 1) (spec.samples_more id tables.now xs) (get nat_eq tasks.new id)) }
+    ensures sum { (shown : List TablesView) → ((id : ℕ) → spec.FollowsAt lines (spec.samples_of id shown) (get nat_eq tasks.old id))
+        → IfOk result (λ sum. sum ≡ spec.total_more last (spec.last_of shown) tables.now) }
+    ensures count { OnOk result (length tasks.new.entries
+        ≡ length tasks.old.entries + count_by (λ t. not (is_some (get nat_eq tasks.old (task_id t)))) tables.now.tasks) }
+    ensures distinct { IsDistinct nat_eq (map task_id tables.now.tasks) }
 {
     let now = tables.now();
     let mut sum = Sample::none(now).with(last);
@@ -186,15 +203,26 @@ impl History {
     fn forget_gone(&mut self, tables: &Tables)
         ensures lines { self.new.lines ≡ self.old.lines }
         ensures first { self.new.first ≡ self.old.first }
+        ensures sums { self.new.sums ≡ self.old.sums }
+        ensures last { self.new.last ≡ self.old.last }
         ensures tasks { (id : ℕ) → spec.StaysOr (self.old.lines + 1) (get nat_eq self.old.tasks id) (get nat_eq self.new.tasks id) }
+        ensures there { self.old.lines ≤ 2 ^ 62
+            → ((id : ℕ) → spec.is_fresh (self.old.lines + 1) (get nat_eq self.old.tasks id) ≡ spec.has_task id tables.now)
+            → (id : ℕ) → is_some (get nat_eq self.new.tasks id) ≡ spec.has_task id tables.now }
+        ensures count { self.old.lines ≤ 2 ^ 62
+            → ((id : ℕ) → spec.is_fresh (self.old.lines + 1) (get nat_eq self.old.tasks id) ≡ spec.has_task id tables.now)
+            → length self.new.tasks.entries ≡ length tables.now.tasks }
+        ensures gone { self.new.gone
+            ≡ capped (self.old.gone + (length self.old.tasks.entries - length self.new.tasks.entries)) }
     {
+        let gone = self.gone;
         if self.tasks.len() <= tables.task_count() {
             return;
         }
         let before = self.tasks.len() as u64;
         forget(&mut self.tasks, self.lines.saturating_add(1));
         let left = before.saturating_sub(self.tasks.len() as u64);
-        self.gone = self.gone.saturating_add(left);
+        self.gone = gone.saturating_add(left);
     }
 
     // Ends a line in which all tasks came to this.
@@ -202,6 +230,10 @@ impl History {
         ensures lines { self.old.lines ≤ 2 ^ 62 → OnOk result (self.new.lines ≡ self.old.lines + 1) }
         ensures first { OnOk result (self.new.first ≡ (if self.old.lines == 0 then now else self.old.first)) }
         ensures tasks { self.new.tasks ≡ self.old.tasks }
+        ensures sums { (xs : List Sample) → length xs ≤ 2 ^ 62 → IsCourse xs self.old.sums
+            → OnOk result (IsCourse (xs ++ sum ∷ []) self.new.sums) }
+        ensures last { OnOk result (self.new.last ≡ sum) }
+        ensures gone { self.new.gone ≡ self.old.gone }
     {
         self.sums.push(sum)?;
         self.last = sum;

@@ -1,8 +1,11 @@
 //! What is odd about tasks.
-ghost use Rattle.std.specs.Prelude.{◌≡◌, ◌-◌, nat_le, false, filter, map, IfOk};
+ghost use Rattle.std.specs.Prelude.{◌≡◌, ◌-◌, nat_le, false, filter, map, [], ◌∷◌, ◌++◌, IfOk};
 ghost use Rattle.std.specs.Option.{option_map_or};
 ghost use Rattle.tk_client.specs.Warnings as lints;
+ghost use Rattle.tk_page.specs.Courses.{courses_of};
+ghost use Rattle.tk_page.specs.Holders as holders;
 ghost use Rattle.tk_page.specs.Odd as spec;
+ghost use Rattle.tk_page.specs.Samples.{sample_of};
 
 use crate::history::History;
 use crate::sample::{Sample, Step};
@@ -185,7 +188,9 @@ pub(crate) struct Holder {
 }
 
 // How long the polls of a task had run at a moment, as far as its samples tell.
-fn busy_at(samples: &[Sample], last: Sample, moment: u64) -> u64 {
+fn busy_at(samples: &[Sample], last: Sample, moment: u64) -> u64
+    ensures { result ≡ holders.busy_at (samples.now ++ last ∷ []) moment }
+{
     let mut busy = 0;
     for sample in samples {
         if sample.now <= moment {
@@ -195,41 +200,33 @@ fn busy_at(samples: &[Sample], last: Sample, moment: u64) -> u64 {
     if last.now <= moment { last.busy } else { busy }
 }
 
-fn ran_in(history: &History, now: u64, task: &Task, step: Step) -> u64 {
+// How long it ran in a step.
+fn ran_in(history: &History, now: u64, task: &Task, step: Step) -> u64
+    ensures { result ≡ holders.ran_by ((courses_of history.now).kept task.now.info.id ++ sample_of task.now.row now ∷ []) step }
+{
     let samples = history.of(task.info.id.value());
     let last = Sample::of(&task.row, now);
     busy_at(samples, last, step.to).saturating_sub(busy_at(samples, last, step.from))
 }
 
-/// Which task ran longest in the step in which most tasks waited, where in the mean at least one did.
-pub(crate) fn find_holder(
-    history: &History,
-    tables: &Tables,
-    worst: Option<(Step, u64)>,
-) -> Option<Holder> {
-    let (step, waited) = worst?;
-    if waited < 1000 {
-        return None;
-    }
+/// Which spawned task ran longest in a step, if one ran.
+pub(crate) fn find_holder(history: &History, tables: &Tables, step: Step) -> Option<Holder>
+    ensures { result ≡ holders.holder_in (courses_of history.now) tables.now step }
+{
+    let now = tables.now();
     let mut found: Option<Holder> = None;
+    let mut most = 0u64;
     for place in 0..tables.task_count() {
-        let Some(task) = tables.task_at(place) else {
-            continue;
-        };
-        if !is_spawn(task.info.kind) {
-            continue;
-        }
-        let ran = ran_in(history, tables.now(), task, step);
-        let most = match found {
-            Some(found) => found.ran,
-            None => 0,
-        };
-        if ran > most {
-            found = Some(Holder {
-                id: task.info.id.value(),
-                step,
-                ran,
-            });
+        if let Some(task) = tables.task_at(place) {
+            let ran = ran_in(history, now, task, step);
+            if is_spawn(task.info.kind) && ran > most {
+                most = ran;
+                found = Some(Holder {
+                    id: task.info.id.value(),
+                    step,
+                    ran,
+                });
+            }
         }
     }
     found

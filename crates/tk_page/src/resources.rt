@@ -11,7 +11,7 @@ use std::alloc::{AllocError, Global};
 use tk_core::{OpRow, ResourceRow};
 use tk_ids::{AttrInfo, AttrValue, Name, TaskId};
 use tk_paper::Part::{Class, Close, End, Number, Open, Span, Start, Text, With, WithNumber};
-use tk_paper::{Attr, Paper, Stop, Tag};
+use tk_paper::{Attr, Paper, Tag};
 use tk_stream::{Op, Resource, Tables};
 
 // How many resources are shown, and how many operations of each.
@@ -20,8 +20,8 @@ const RESOURCES: usize = 50;
 const OPS: usize = 20;
 
 // Puts which item this one is a part of.
-fn put_whole(paper: &mut Paper, words: &'static str, parts: (u64, u64)) -> Result<(), Stop>
-    ensures { OnOk result (Writes paper.old.text paper.new.text (spec.whole words.now parts)) }
+fn put_whole(paper: &mut Paper, words: &'static str, parts: (u64, u64)) -> Result<(), AllocError>
+    ensures { OnOk result (Writes paper.old paper.new (spec.whole words.now parts)) }
 {
     paper.put(&[Text(words), Number(parts.0), Text("."), Number(parts.1)])
 }
@@ -33,8 +33,8 @@ fn sign_of(number: i64) -> &'static str
     if number < 0 { "-" } else { "" }
 }
 
-fn put_value(paper: &mut Paper, value: AttrValue) -> Result<(), Stop>
-    ensures { OnOk result (Writes paper.old.text paper.new.text (spec.value_of value)) }
+fn put_value(paper: &mut Paper, value: AttrValue) -> Result<(), AllocError>
+    ensures { OnOk result (Writes paper.old paper.new (spec.value_of value)) }
 {
     match value {
         AttrValue::U64(number) => paper.put(&[Number(number)]),
@@ -46,8 +46,8 @@ fn put_value(paper: &mut Paper, value: AttrValue) -> Result<(), Stop>
     }
 }
 
-fn put_unit(paper: &mut Paper, unit: &Option<Name>) -> Result<(), Stop>
-    ensures { OnOk result (Writes paper.old.text paper.new.text (spec.unit unit.now)) }
+fn put_unit(paper: &mut Paper, unit: &Option<Name>) -> Result<(), AllocError>
+    ensures { OnOk result (Writes paper.old paper.new (spec.unit unit.now)) }
 {
     match unit {
         Some(unit) => paper.put(&[Text(" "), Text(unit.as_str())]),
@@ -55,8 +55,8 @@ fn put_unit(paper: &mut Paper, unit: &Option<Name>) -> Result<(), Stop>
     }
 }
 
-fn put_attr(paper: &mut Paper, attr: &AttrInfo, value: AttrValue) -> Result<(), Stop>
-    ensures { OnOk result (Writes paper.old.text paper.new.text (spec.attr (attr.now, value))) }
+fn put_attr(paper: &mut Paper, attr: &AttrInfo, value: AttrValue) -> Result<(), AllocError>
+    ensures { OnOk result (Writes paper.old paper.new (spec.attr (attr.now, value))) }
 {
     paper.put(&[
         Start(Tag::Div),
@@ -72,8 +72,12 @@ fn put_attr(paper: &mut Paper, attr: &AttrInfo, value: AttrValue) -> Result<(), 
 }
 
 // An item declares at most six attributes.
-fn put_each_attr(paper: &mut Paper, attrs: &[AttrInfo], values: &[AttrValue]) -> Result<(), Stop>
-    ensures { OnOk result (Writes paper.old.text paper.new.text (spec.each_attr attrs.now values.now)) }
+fn put_each_attr(
+    paper: &mut Paper,
+    attrs: &[AttrInfo],
+    values: &[AttrValue],
+) -> Result<(), AllocError>
+    ensures { OnOk result (Writes paper.old paper.new (spec.each_attr attrs.now values.now)) }
 {
     let [attr, attrs @ ..] = attrs else {
         return paper.put(&[]);
@@ -86,8 +90,8 @@ fn put_each_attr(paper: &mut Paper, attrs: &[AttrInfo], values: &[AttrValue]) ->
     Ok(())
 }
 
-fn put_attrs(paper: &mut Paper, attrs: &[AttrInfo], values: &[AttrValue]) -> Result<(), Stop>
-    ensures { OnOk result (Writes paper.old.text paper.new.text (spec.attrs attrs.now values.now)) }
+fn put_attrs(paper: &mut Paper, attrs: &[AttrInfo], values: &[AttrValue]) -> Result<(), AllocError>
+    ensures { OnOk result (Writes paper.old paper.new (spec.attrs attrs.now values.now)) }
 {
     paper.put(&[Start(Tag::Dl)])?;
     put_each_attr(paper, attrs, values)?;
@@ -113,8 +117,8 @@ fn op_state(row: &OpRow) -> &'static str
     }
 }
 
-fn put_column(paper: &mut Paper, name: &'static str, class: &'static str) -> Result<(), Stop>
-    ensures { OnOk result (Writes paper.old.text paper.new.text (spec.column name.now class.now)) }
+fn put_column(paper: &mut Paper, name: &'static str, class: &'static str) -> Result<(), AllocError>
+    ensures { OnOk result (Writes paper.old paper.new (spec.column name.now class.now)) }
 {
     paper.put(&[
         Open(Tag::Th),
@@ -126,8 +130,8 @@ fn put_column(paper: &mut Paper, name: &'static str, class: &'static str) -> Res
     ])
 }
 
-fn put_columns(paper: &mut Paper) -> Result<(), Stop>
-    ensures { OnOk result (Writes paper.old.text paper.new.text (spec.columns)) }
+fn put_columns(paper: &mut Paper) -> Result<(), AllocError>
+    ensures { OnOk result (Writes paper.old paper.new (spec.columns)) }
 {
     paper.put(&[Start(Tag::Table), Start(Tag::Thead), Start(Tag::Tr)])?;
     put_column(paper, "operation", "")?;
@@ -140,8 +144,8 @@ fn put_columns(paper: &mut Paper) -> Result<(), Stop>
     Ok(())
 }
 
-fn put_task_of(paper: &mut Paper, tables: &Tables, id: TaskId) -> Result<(), Stop>
-    ensures { OnOk result (Writes paper.old.text paper.new.text (spec.task_of tables.now.tasks id)) }
+fn put_task_of(paper: &mut Paper, tables: &Tables, id: TaskId) -> Result<(), AllocError>
+    ensures { OnOk result (Writes paper.old paper.new (spec.task_of tables.now.tasks id)) }
 {
     let (recorder, number) = id.parts();
     match tables.task(id) {
@@ -150,8 +154,8 @@ fn put_task_of(paper: &mut Paper, tables: &Tables, id: TaskId) -> Result<(), Sto
     }
 }
 
-fn put_polled_by(paper: &mut Paper, tables: &Tables, task: Option<TaskId>) -> Result<(), Stop>
-    ensures { OnOk result (Writes paper.old.text paper.new.text (spec.polled_by tables.now.tasks task)) }
+fn put_polled_by(paper: &mut Paper, tables: &Tables, task: Option<TaskId>) -> Result<(), AllocError>
+    ensures { OnOk result (Writes paper.old paper.new (spec.polled_by tables.now.tasks task)) }
 {
     match task {
         Some(id) => put_task_of(paper, tables, id),
@@ -159,8 +163,8 @@ fn put_polled_by(paper: &mut Paper, tables: &Tables, task: Option<TaskId>) -> Re
     }
 }
 
-fn put_source(paper: &mut Paper, op: &Op) -> Result<(), Stop>
-    ensures { OnOk result (Writes paper.old.text paper.new.text (spec.source op.now)) }
+fn put_source(paper: &mut Paper, op: &Op) -> Result<(), AllocError>
+    ensures { OnOk result (Writes paper.old paper.new (spec.source op.now)) }
 {
     let (recorder, number) = op.info.id.parts();
     paper.put(&[
@@ -175,8 +179,8 @@ fn put_source(paper: &mut Paper, op: &Op) -> Result<(), Stop>
     ])
 }
 
-fn put_op_parent(paper: &mut Paper, op: &Op) -> Result<(), Stop>
-    ensures { OnOk result (Writes paper.old.text paper.new.text (spec.part_of (codes " part of ") op.now.info.parent)) }
+fn put_op_parent(paper: &mut Paper, op: &Op) -> Result<(), AllocError>
+    ensures { OnOk result (Writes paper.old paper.new (spec.part_of (codes " part of ") op.now.info.parent)) }
 {
     match op.info.parent {
         Some(parent) => put_whole(paper, " part of ", parent.parts()),
@@ -184,8 +188,8 @@ fn put_op_parent(paper: &mut Paper, op: &Op) -> Result<(), Stop>
     }
 }
 
-fn put_op_state(paper: &mut Paper, row: &OpRow) -> Result<(), Stop>
-    ensures { OnOk result (Writes paper.old.text paper.new.text (spec.op_state_cell row.now)) }
+fn put_op_state(paper: &mut Paper, row: &OpRow) -> Result<(), AllocError>
+    ensures { OnOk result (Writes paper.old paper.new (spec.op_state_cell row.now)) }
 {
     paper.put(&[
         Close(Tag::Small),
@@ -197,8 +201,8 @@ fn put_op_state(paper: &mut Paper, row: &OpRow) -> Result<(), Stop>
     ])
 }
 
-fn put_op_numbers(paper: &mut Paper, row: &OpRow) -> Result<(), Stop>
-    ensures { OnOk result (Writes paper.old.text paper.new.text (spec.op_numbers row.now)) }
+fn put_op_numbers(paper: &mut Paper, row: &OpRow) -> Result<(), AllocError>
+    ensures { OnOk result (Writes paper.old paper.new (spec.op_numbers row.now)) }
 {
     paper.put(&[
         Close(Tag::Td),
@@ -215,8 +219,8 @@ fn put_op_numbers(paper: &mut Paper, row: &OpRow) -> Result<(), Stop>
     ])
 }
 
-fn put_op(paper: &mut Paper, tables: &Tables, op: &Op) -> Result<(), Stop>
-    ensures { OnOk result (Writes paper.old.text paper.new.text (spec.op tables.now.tasks op.now)) }
+fn put_op(paper: &mut Paper, tables: &Tables, op: &Op) -> Result<(), AllocError>
+    ensures { OnOk result (Writes paper.old paper.new (spec.op tables.now.tasks op.now)) }
 {
     put_source(paper, op)?;
     put_op_parent(paper, op)?;
@@ -265,8 +269,8 @@ fn find_ops<'a>(
     Ok(found)
 }
 
-fn put_each_op(paper: &mut Paper, tables: &Tables, ops: &[&Op]) -> Result<(), Stop>
-    ensures { OnOk result (Writes paper.old.text paper.new.text (flat_map (spec.op tables.now.tasks) (map (λ o. o.now) ops.now))) }
+fn put_each_op(paper: &mut Paper, tables: &Tables, ops: &[&Op]) -> Result<(), AllocError>
+    ensures { OnOk result (Writes paper.old paper.new (flat_map (spec.op tables.now.tasks) (map (λ o. o.now) ops.now))) }
 {
     for op in ops {
         put_op(paper, tables, op)?;
@@ -280,8 +284,8 @@ pub(crate) fn put_more(
     all: usize,
     shown: usize,
     words: &'static str,
-) -> Result<(), Stop>
-    ensures { OnOk result (Writes paper.old.text paper.new.text (places.more all shown words.now)) }
+) -> Result<(), AllocError>
+    ensures { OnOk result (Writes paper.old paper.new (places.more all shown words.now)) }
 {
     if all <= shown {
         return paper.put(&[]);
@@ -306,8 +310,8 @@ fn op_words(all: usize) -> &'static str
 }
 
 // Puts how many operations there are, and how many of them are open.
-fn put_op_counts(paper: &mut Paper, all: usize, live: usize) -> Result<(), Stop>
-    ensures { OnOk result (Writes paper.old.text paper.new.text (spec.op_counts all live)) }
+fn put_op_counts(paper: &mut Paper, all: usize, live: usize) -> Result<(), AllocError>
+    ensures { OnOk result (Writes paper.old paper.new (spec.op_counts all live)) }
 {
     paper.put(&[
         Start(Tag::Details),
@@ -325,8 +329,8 @@ fn put_op_table(
     tables: &Tables,
     live: &[&Op],
     closed: &[&Op],
-) -> Result<(), Stop>
-    ensures { OnOk result (Writes paper.old.text paper.new.text (spec.op_table tables.now.tasks (map (λ o. o.now) live.now) (map (λ o. o.now) closed.now))) }
+) -> Result<(), AllocError>
+    ensures { OnOk result (Writes paper.old paper.new (spec.op_table tables.now.tasks (map (λ o. o.now) live.now) (map (λ o. o.now) closed.now))) }
 {
     let number = live.len();
     let all = number.saturating_add(closed.len());
@@ -342,8 +346,13 @@ fn put_op_table(
     Ok(())
 }
 
-fn put_ops_of(paper: &mut Paper, tables: &Tables, live: &[&Op], closed: &[&Op]) -> Result<(), Stop>
-    ensures { OnOk result (Writes paper.old.text paper.new.text (spec.ops_of tables.now.tasks (map (λ o. o.now) live.now) (map (λ o. o.now) closed.now))) }
+fn put_ops_of(
+    paper: &mut Paper,
+    tables: &Tables,
+    live: &[&Op],
+    closed: &[&Op],
+) -> Result<(), AllocError>
+    ensures { OnOk result (Writes paper.old paper.new (spec.ops_of tables.now.tasks (map (λ o. o.now) live.now) (map (λ o. o.now) closed.now))) }
 {
     if live.is_empty() && closed.is_empty() {
         paper.put(&[])
@@ -357,8 +366,8 @@ fn put_ops(
     alloc: Global,
     tables: &Tables,
     resource: &Resource,
-) -> Result<(), Stop>
-    ensures { OnOk result (Writes paper.old.text paper.new.text (spec.ops tables.now resource.now)) }
+) -> Result<(), AllocError>
+    ensures { OnOk result (Writes paper.old paper.new (spec.ops tables.now resource.now)) }
 {
     let live = find_ops(alloc, tables, resource, true)?;
     let closed = find_ops(alloc, tables, resource, false)?;
@@ -367,8 +376,8 @@ fn put_ops(
 }
 
 // Puts what a resource is: its type, its id and kind, and where it was made.
-fn put_resource_name(paper: &mut Paper, resource: &Resource) -> Result<(), Stop>
-    ensures { OnOk result (Writes paper.old.text paper.new.text (spec.resource_name resource.now)) }
+fn put_resource_name(paper: &mut Paper, resource: &Resource) -> Result<(), AllocError>
+    ensures { OnOk result (Writes paper.old paper.new (spec.resource_name resource.now)) }
 {
     let info = &resource.info;
     let (recorder, number) = info.id.parts();
@@ -393,8 +402,8 @@ fn put_resource_name(paper: &mut Paper, resource: &Resource) -> Result<(), Stop>
     ])
 }
 
-fn put_resource_parent(paper: &mut Paper, resource: &Resource) -> Result<(), Stop>
-    ensures { OnOk result (Writes paper.old.text paper.new.text (spec.part_of spec.part_words resource.now.info.parent)) }
+fn put_resource_parent(paper: &mut Paper, resource: &Resource) -> Result<(), AllocError>
+    ensures { OnOk result (Writes paper.old paper.new (spec.part_of spec.part_words resource.now.info.parent)) }
 {
     match resource.info.parent {
         Some(parent) => put_whole(paper, " · part of ", parent.parts()),
@@ -403,8 +412,8 @@ fn put_resource_parent(paper: &mut Paper, resource: &Resource) -> Result<(), Sto
 }
 
 // Puts how many poll operations of a resource were ready, and how many pending.
-fn put_polls(paper: &mut Paper, polls: (u64, u64)) -> Result<(), Stop>
-    ensures { OnOk result (Writes paper.old.text paper.new.text (spec.polls polls)) }
+fn put_polls(paper: &mut Paper, polls: (u64, u64)) -> Result<(), AllocError>
+    ensures { OnOk result (Writes paper.old paper.new (spec.polls polls)) }
 {
     paper.put(&[
         Start(Tag::P),
@@ -422,8 +431,8 @@ fn put_resource(
     alloc: Global,
     tables: &Tables,
     resource: &Resource,
-) -> Result<(), Stop>
-    ensures { OnOk result (Writes paper.old.text paper.new.text (spec.resource tables.now resource.now)) }
+) -> Result<(), AllocError>
+    ensures { OnOk result (Writes paper.old paper.new (spec.resource tables.now resource.now)) }
 {
     put_resource_name(paper, resource)?;
     put_resource_parent(paper, resource)?;
@@ -444,8 +453,8 @@ fn put_resource_at(
     alloc: Global,
     tables: &Tables,
     place: usize,
-) -> Result<(), Stop>
-    ensures { OnOk result (Writes paper.old.text paper.new.text
+) -> Result<(), AllocError>
+    ensures { OnOk result (Writes paper.old paper.new
         (option_map_or (spec.resource tables.now) (slice_get tables.now.resources place) [])) }
 {
     match tables.resource_at(place) {
@@ -459,8 +468,8 @@ fn put_some_resources(
     alloc: Global,
     tables: &Tables,
     shown: usize,
-) -> Result<(), Stop>
-    ensures { OnOk result (Writes paper.old.text paper.new.text (flat_map (spec.resource tables.now) (take shown tables.now.resources))) }
+) -> Result<(), AllocError>
+    ensures { OnOk result (Writes paper.old paper.new (flat_map (spec.resource tables.now) (take shown tables.now.resources))) }
 {
     for place in 0..shown {
         put_resource_at(paper, alloc, tables, place)?;
@@ -473,9 +482,9 @@ fn put_all_resources(
     alloc: Global,
     tables: &Tables,
     all: usize,
-) -> Result<(), Stop>
+) -> Result<(), AllocError>
     requires { all ≡ length tables.now.resources }
-    ensures { OnOk result (Writes paper.old.text paper.new.text (spec.all_resources tables.now)) }
+    ensures { OnOk result (Writes paper.old paper.new (spec.all_resources tables.now)) }
 {
     start_section(paper, "resources", "Resources and their operations")?;
     paper.put(&[Close(Tag::H2)])?;
@@ -486,8 +495,12 @@ fn put_all_resources(
 }
 
 /// Puts the resources.
-pub(crate) fn put_resources(paper: &mut Paper, alloc: Global, tables: &Tables) -> Result<(), Stop>
-    ensures { OnOk result (Writes paper.old.text paper.new.text (spec.resources_section tables.now)) }
+pub(crate) fn put_resources(
+    paper: &mut Paper,
+    alloc: Global,
+    tables: &Tables,
+) -> Result<(), AllocError>
+    ensures { OnOk result (Writes paper.old paper.new (spec.resources_section tables.now)) }
 {
     let all = tables.resource_count();
     if all == 0 {

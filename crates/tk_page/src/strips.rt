@@ -1,6 +1,7 @@
 //! Strips: a course of time, drawn.
 ghost use Rattle.std.specs.Prelude.{◌≡◌, ◌<◌, [], OnOk, IfOk};
 ghost use Rattle.tk_page.specs.Figures as figures;
+ghost use Rattle.tk_page.specs.Holders as holders;
 ghost use Rattle.tk_page.specs.Strips as spec;
 ghost use Rattle.tk_paper.specs.Behind.{Writes};
 
@@ -12,7 +13,7 @@ use tk_core::TaskRow;
 use tk_paper::Part::{
     Close, End, Mean, Number, Open, Quote, Share, Span, Start, Text, Value, With, WithNumber,
 };
-use tk_paper::{Attr, Paper, Stop, Tag};
+use tk_paper::{Attr, Paper, Tag};
 use tk_stream::Task;
 
 /// The steps between samples, from nothing at a moment to what is there now.
@@ -83,8 +84,8 @@ struct Area {
     high: u64,
 }
 
-fn put_box(paper: &mut Paper, area: Area) -> Result<(), Stop>
-    ensures { OnOk result (Writes paper.old.text paper.new.text (spec.box area)) }
+fn put_box(paper: &mut Paper, area: Area) -> Result<(), AllocError>
+    ensures { OnOk result (Writes paper.old paper.new (spec.box area)) }
 {
     let Area {
         x,
@@ -154,8 +155,13 @@ fn box_of(scale: Scale, step: &Step, boxes: Boxes) -> Area
     }
 }
 
-fn put_boxes(paper: &mut Paper, scale: Scale, steps: &[Step], boxes: Boxes) -> Result<(), Stop>
-    ensures { OnOk result (Writes paper.old.text paper.new.text (spec.boxes scale boxes steps.now)) }
+fn put_boxes(
+    paper: &mut Paper,
+    scale: Scale,
+    steps: &[Step],
+    boxes: Boxes,
+) -> Result<(), AllocError>
+    ensures { OnOk result (Writes paper.old paper.new (spec.boxes scale boxes steps.now)) }
 {
     for step in steps {
         put_box(paper, box_of(scale, step, boxes))?;
@@ -169,8 +175,8 @@ fn put_path(
     class: &'static str,
     steps: &[Step],
     boxes: Boxes,
-) -> Result<(), Stop>
-    ensures { OnOk result (Writes paper.old.text paper.new.text (spec.path scale class.now boxes steps.now)) }
+) -> Result<(), AllocError>
+    ensures { OnOk result (Writes paper.old paper.new (spec.path scale class.now boxes steps.now)) }
 {
     paper.put(&[Open(Tag::Path), With(Attr::Class, class), Value(Attr::D)])?;
     put_boxes(paper, scale, steps, boxes)?;
@@ -178,8 +184,8 @@ fn put_path(
     Ok(())
 }
 
-fn put_rect(paper: &mut Paper, class: &'static str, x: u64, wide: u64) -> Result<(), Stop>
-    ensures { OnOk result (Writes paper.old.text paper.new.text (spec.rect class.now x wide)) }
+fn put_rect(paper: &mut Paper, class: &'static str, x: u64, wide: u64) -> Result<(), AllocError>
+    ensures { OnOk result (Writes paper.old paper.new (spec.rect class.now x wide)) }
 {
     paper.put(&[
         Open(Tag::Rect),
@@ -193,8 +199,13 @@ fn put_rect(paper: &mut Paper, class: &'static str, x: u64, wide: u64) -> Result
 }
 
 // Begins a drawing of the time that is shown, so many units high.
-fn open_drawing(paper: &mut Paper, class: &'static str, scale: Scale, high: u64) -> Result<(), Stop>
-    ensures { OnOk result (Writes paper.old.text paper.new.text (spec.drawing class.now (figures.wide_of scale) high)) }
+fn open_drawing(
+    paper: &mut Paper,
+    class: &'static str,
+    scale: Scale,
+    high: u64,
+) -> Result<(), AllocError>
+    ensures { OnOk result (Writes paper.old paper.new (spec.drawing class.now (figures.wide_of scale) high)) }
 {
     let wide = scale.wide();
     paper.put(&[
@@ -211,8 +222,8 @@ fn open_drawing(paper: &mut Paper, class: &'static str, scale: Scale, high: u64)
 }
 
 // What a strip says to who can't see it.
-fn put_words(paper: &mut Paper, scale: Scale, task: &Task, last: Sample) -> Result<(), Stop>
-    ensures { OnOk result (Writes paper.old.text paper.new.text (spec.words scale task.now last)) }
+fn put_words(paper: &mut Paper, scale: Scale, task: &Task, last: Sample) -> Result<(), AllocError>
+    ensures { OnOk result (Writes paper.old paper.new (spec.words scale task.now last)) }
 {
     let watched = scale.watched();
     let (busy, sched) = (share(last.busy, watched), share(last.sched, watched));
@@ -241,24 +252,24 @@ fn most_wakes(steps: &[Step]) -> u64
     most
 }
 
-fn put_alive(paper: &mut Paper, scale: Scale, row: &TaskRow) -> Result<(), Stop>
-    ensures { OnOk result (Writes paper.old.text paper.new.text (spec.alive scale row.now)) }
+fn put_alive(paper: &mut Paper, scale: Scale, row: &TaskRow) -> Result<(), AllocError>
+    ensures { OnOk result (Writes paper.old paper.new (spec.alive scale row.now)) }
 {
     let born = scale.x(row.created);
     let end = scale.x(row.dropped.unwrap_or(scale.now));
     put_rect(paper, "alive", born, end.saturating_sub(born).max(1))
 }
 
-fn put_lost(paper: &mut Paper, scale: Scale, row: &TaskRow) -> Result<(), Stop>
-    ensures { OnOk result (Writes paper.old.text paper.new.text (spec.lost scale row.now)) }
+fn put_lost(paper: &mut Paper, scale: Scale, row: &TaskRow) -> Result<(), AllocError>
+    ensures { OnOk result (Writes paper.old paper.new (spec.lost scale row.now)) }
 {
     let since = scale.x(row.last_ended.unwrap_or(row.created));
     put_rect(paper, "lost", since, scale.wide().saturating_sub(since))
 }
 
 // Puts from when on nobody could wake a task, if so.
-fn put_lost_if(paper: &mut Paper, scale: Scale, row: &TaskRow, lost: bool) -> Result<(), Stop>
-    ensures { OnOk result (Writes paper.old.text paper.new.text (spec.lost_if scale row.now lost)) }
+fn put_lost_if(paper: &mut Paper, scale: Scale, row: &TaskRow, lost: bool) -> Result<(), AllocError>
+    ensures { OnOk result (Writes paper.old paper.new (spec.lost_if scale row.now lost)) }
 {
     if lost {
         put_lost(paper, scale, row)
@@ -267,8 +278,8 @@ fn put_lost_if(paper: &mut Paper, scale: Scale, row: &TaskRow, lost: bool) -> Re
     }
 }
 
-fn put_paths(paper: &mut Paper, scale: Scale, steps: &[Step]) -> Result<(), Stop>
-    ensures { OnOk result (Writes paper.old.text paper.new.text (spec.paths scale steps.now)) }
+fn put_paths(paper: &mut Paper, scale: Scale, steps: &[Step]) -> Result<(), AllocError>
+    ensures { OnOk result (Writes paper.old paper.new (spec.paths scale steps.now)) }
 {
     let most = most_wakes(steps);
     put_path(paper, scale, "busy", steps, Boxes::Busy)?;
@@ -285,8 +296,8 @@ fn put_strip_of(
     last: Sample,
     steps: &[Step],
     lost: bool,
-) -> Result<(), Stop>
-    ensures { OnOk result (Writes paper.old.text paper.new.text (spec.strip_of scale task.now last steps.now lost)) }
+) -> Result<(), AllocError>
+    ensures { OnOk result (Writes paper.old paper.new (spec.strip_of scale task.now last steps.now lost)) }
 {
     open_drawing(paper, "strip", scale, HIGH)?;
     put_words(paper, scale, task, last)?;
@@ -305,8 +316,8 @@ pub(crate) fn put_strip(
     task: &Task,
     samples: &[Sample],
     signs: Signs,
-) -> Result<(), Stop>
-    ensures { OnOk result (Writes paper.old.text paper.new.text (spec.strip scale signs samples.now task.now)) }
+) -> Result<(), AllocError>
+    ensures { OnOk result (Writes paper.old paper.new (spec.strip scale signs samples.now task.now)) }
 {
     let last = Sample::of(&task.row, scale.now);
     let steps = steps_of(alloc, task.row.created, samples, last)?;
@@ -322,17 +333,18 @@ fn waited_in(step: &Step) -> u64
     mean(step.sched, step.time())
 }
 
-/// The step in which most tasks waited, and how many, in thousandths.
-pub(crate) fn worst_step(steps: &[Step]) -> Option<(Step, u64)> {
-    let mut worst: Option<(Step, u64)> = None;
+/// The step in which most tasks waited, where in the mean at least one did.
+pub(crate) fn worst_step(steps: &[Step]) -> Option<Step>
+    ensures { result ≡ holders.worst_of steps.now }
+{
+    let mut worst: Option<Step> = None;
+    // In thousandths.
+    let mut most = 999u64;
     for step in steps {
         let waited = waited_in(step);
-        let most = match worst {
-            Some((_, most)) => most,
-            None => 0,
-        };
         if waited > most {
-            worst = Some((*step, waited));
+            most = waited;
+            worst = Some(*step);
         }
     }
     worst
@@ -370,8 +382,8 @@ pub(crate) fn height_of(steps: &[Step]) -> Height
 // How high the drawing of all tasks is.
 const SUM_HIGH: u64 = 30;
 
-fn put_sum_words(paper: &mut Paper, height: Height) -> Result<(), Stop>
-    ensures { OnOk result (Writes paper.old.text paper.new.text (spec.sum_words height)) }
+fn put_sum_words(paper: &mut Paper, height: Height) -> Result<(), AllocError>
+    ensures { OnOk result (Writes paper.old paper.new (spec.sum_words height)) }
 {
     paper.put(&[
         With(Attr::Role, "img"),
@@ -399,8 +411,13 @@ fn sum_box(scale: Scale, step: &Step, top: u64) -> Area
     }
 }
 
-fn put_sum_boxes(paper: &mut Paper, scale: Scale, steps: &[Step], top: u64) -> Result<(), Stop>
-    ensures { OnOk result (Writes paper.old.text paper.new.text (spec.sum_boxes scale top steps.now)) }
+fn put_sum_boxes(
+    paper: &mut Paper,
+    scale: Scale,
+    steps: &[Step],
+    top: u64,
+) -> Result<(), AllocError>
+    ensures { OnOk result (Writes paper.old paper.new (spec.sum_boxes scale top steps.now)) }
 {
     for step in steps {
         put_box(paper, sum_box(scale, step, top))?;
@@ -414,8 +431,8 @@ pub(crate) fn put_sum(
     scale: Scale,
     steps: &[Step],
     height: Height,
-) -> Result<(), Stop>
-    ensures { OnOk result (Writes paper.old.text paper.new.text (spec.sum_drawing scale height steps.now)) }
+) -> Result<(), AllocError>
+    ensures { OnOk result (Writes paper.old paper.new (spec.sum_drawing scale height steps.now)) }
 {
     open_drawing(paper, "total", scale, SUM_HIGH)?;
     put_sum_words(paper, height)?;
@@ -433,8 +450,8 @@ fn sixths(time: u64, k: u64) -> u64
 }
 
 /// Puts the moments below it.
-pub(crate) fn put_axis(paper: &mut Paper, watched: u64) -> Result<(), Stop>
-    ensures { OnOk result (Writes paper.old.text paper.new.text (spec.axis watched)) }
+pub(crate) fn put_axis(paper: &mut Paper, watched: u64) -> Result<(), AllocError>
+    ensures { OnOk result (Writes paper.old paper.new (spec.axis watched)) }
 {
     paper.put(&[
         Open(Tag::Div),

@@ -13,20 +13,20 @@ use crate::ranks::{Rank, ranks_of};
 use crate::resources::put_more;
 use crate::sample::{Sample, Step, busy_until, sched_until};
 use crate::strips::{Height, height_of, put_axis, put_strip, put_sum, steps_of};
-use std::alloc::Global;
+use std::alloc::{AllocError, Global};
 use tk_core::TaskRow;
 use tk_ids::TaskKind;
 use tk_paper::Part::{
     Class, Close, End, Mean, Number, Open, Quote, Share, Span, Start, Text, Value, With, WithNumber,
 };
-use tk_paper::{Attr, Paper, Stop, Tag};
+use tk_paper::{Attr, Paper, Tag};
 use tk_stream::{Tables, Task};
 
 // How many tasks a page shows.
 const TASKS: usize = 200;
 
-fn put_key(paper: &mut Paper, class: &'static str, words: &'static str) -> Result<(), Stop>
-    ensures { OnOk result (Writes paper.old.text paper.new.text (spec.key class.now words.now)) }
+fn put_key(paper: &mut Paper, class: &'static str, words: &'static str) -> Result<(), AllocError>
+    ensures { OnOk result (Writes paper.old paper.new (spec.key class.now words.now)) }
 {
     paper.put(&[
         Start(Tag::Span),
@@ -37,8 +37,8 @@ fn put_key(paper: &mut Paper, class: &'static str, words: &'static str) -> Resul
     ])
 }
 
-fn put_legend(paper: &mut Paper) -> Result<(), Stop>
-    ensures { OnOk result (Writes paper.old.text paper.new.text spec.legend) }
+fn put_legend(paper: &mut Paper) -> Result<(), AllocError>
+    ensures { OnOk result (Writes paper.old paper.new spec.legend) }
 {
     paper.put(&[Class(Tag::P, "legend")])?;
     put_key(paper, "k-busy", " busy: a poll runs")?;
@@ -52,8 +52,8 @@ fn put_legend(paper: &mut Paper) -> Result<(), Stop>
 }
 
 // What is hidden without a script, which alone can use it.
-fn put_controls(paper: &mut Paper) -> Result<(), Stop>
-    ensures { OnOk result (Writes paper.old.text paper.new.text spec.controls) }
+fn put_controls(paper: &mut Paper) -> Result<(), AllocError>
+    ensures { OnOk result (Writes paper.old paper.new spec.controls) }
 {
     paper.put(&[
         Class(Tag::P, "controls"),
@@ -85,8 +85,8 @@ fn put_column(
     class: &'static str,
     hint: &'static str,
     words: &'static str,
-) -> Result<(), Stop>
-    ensures { OnOk result (Writes paper.old.text paper.new.text (spec.column class.now hint.now words.now)) }
+) -> Result<(), AllocError>
+    ensures { OnOk result (Writes paper.old paper.new (spec.column class.now hint.now words.now)) }
 {
     paper.put(&[
         Open(Tag::Th),
@@ -103,8 +103,8 @@ fn put_column(
     ])
 }
 
-fn put_first_columns(paper: &mut Paper) -> Result<(), Stop>
-    ensures { OnOk result (Writes paper.old.text paper.new.text spec.first_columns) }
+fn put_first_columns(paper: &mut Paper) -> Result<(), AllocError>
+    ensures { OnOk result (Writes paper.old paper.new spec.first_columns) }
 {
     paper.put(&[Start(Tag::Tr)])?;
     put_column(paper, "", "by order of arrival", "task")?;
@@ -119,8 +119,8 @@ fn put_first_columns(paper: &mut Paper) -> Result<(), Stop>
     Ok(())
 }
 
-fn put_last_columns(paper: &mut Paper) -> Result<(), Stop>
-    ensures { OnOk result (Writes paper.old.text paper.new.text spec.last_columns) }
+fn put_last_columns(paper: &mut Paper) -> Result<(), AllocError>
+    ensures { OnOk result (Writes paper.old paper.new spec.last_columns) }
 {
     let waiting = "how long it was scheduled and not polled, from its last wake on";
     let wakers = "wakers that are out: cloned, less dropped";
@@ -136,8 +136,8 @@ fn put_last_columns(paper: &mut Paper) -> Result<(), Stop>
 }
 
 // Puts up to where the drawing goes, where that is less than how many tasks waited in the worst step.
-fn put_top(paper: &mut Paper, height: Height) -> Result<(), Stop>
-    ensures { OnOk result (Writes paper.old.text paper.new.text (spec.top height)) }
+fn put_top(paper: &mut Paper, height: Height) -> Result<(), AllocError>
+    ensures { OnOk result (Writes paper.old paper.new (spec.top height)) }
 {
     if height.top < height.most {
         paper.put(&[Text("; drawn up to "), Mean(height.top)])
@@ -147,8 +147,8 @@ fn put_top(paper: &mut Paper, height: Height) -> Result<(), Stop>
 }
 
 // Puts how many tasks waited in the worst step.
-fn put_height(paper: &mut Paper, height: Height) -> Result<(), Stop>
-    ensures { OnOk result (Writes paper.old.text paper.new.text (spec.height_cell height)) }
+fn put_height(paper: &mut Paper, height: Height) -> Result<(), AllocError>
+    ensures { OnOk result (Writes paper.old paper.new (spec.height_cell height)) }
 {
     paper.put(&[
         Class(Tag::Tr, "sum"),
@@ -169,8 +169,13 @@ fn put_height(paper: &mut Paper, height: Height) -> Result<(), Stop>
     Ok(())
 }
 
-fn put_sum_row(paper: &mut Paper, scale: Scale, sums: &[Step], height: Height) -> Result<(), Stop>
-    ensures { OnOk result (Writes paper.old.text paper.new.text (spec.sum_row scale height sums.now)) }
+fn put_sum_row(
+    paper: &mut Paper,
+    scale: Scale,
+    sums: &[Step],
+    height: Height,
+) -> Result<(), AllocError>
+    ensures { OnOk result (Writes paper.old paper.new (spec.sum_row scale height sums.now)) }
 {
     put_height(paper, height)?;
     put_sum(paper, scale, sums, height)?;
@@ -224,8 +229,13 @@ fn bar_length(share: u64) -> u64
 }
 
 // Puts a cell with a time, as its share and a bar as long as that. Its column is sorted by the time.
-fn put_share_cell(paper: &mut Paper, class: &'static str, part: u64, whole: u64) -> Result<(), Stop>
-    ensures { OnOk result (Writes paper.old.text paper.new.text (spec.share_cell class.now part whole)) }
+fn put_share_cell(
+    paper: &mut Paper,
+    class: &'static str,
+    part: u64,
+    whole: u64,
+) -> Result<(), AllocError>
+    ensures { OnOk result (Writes paper.old paper.new (spec.share_cell class.now part whole)) }
 {
     let share = share(part, whole);
     let length = bar_length(share);
@@ -259,8 +269,8 @@ fn put_share_cell(paper: &mut Paper, class: &'static str, part: u64, whole: u64)
 }
 
 // Puts how long a poll takes in the mean, or a dash where there was none.
-fn put_mean_poll(paper: &mut Paper, busy: u64, polls: u64) -> Result<(), Stop>
-    ensures { OnOk result (Writes paper.old.text paper.new.text (spec.mean_cell busy polls)) }
+fn put_mean_poll(paper: &mut Paper, busy: u64, polls: u64) -> Result<(), AllocError>
+    ensures { OnOk result (Writes paper.old paper.new (spec.mean_cell busy polls)) }
 {
     let span = each(busy, polls);
     paper.put(&[
@@ -273,8 +283,8 @@ fn put_mean_poll(paper: &mut Paper, busy: u64, polls: u64) -> Result<(), Stop>
     ])
 }
 
-fn put_number(paper: &mut Paper, number: u64) -> Result<(), Stop>
-    ensures { OnOk result (Writes paper.old.text paper.new.text (spec.number_cell number)) }
+fn put_number(paper: &mut Paper, number: u64) -> Result<(), AllocError>
+    ensures { OnOk result (Writes paper.old paper.new (spec.number_cell number)) }
 {
     paper.put(&[
         Open(Tag::Td),
@@ -286,8 +296,8 @@ fn put_number(paper: &mut Paper, number: u64) -> Result<(), Stop>
     ])
 }
 
-fn put_counts(paper: &mut Paper, row: &TaskRow) -> Result<(), Stop>
-    ensures { OnOk result (Writes paper.old.text paper.new.text (spec.counts row.now)) }
+fn put_counts(paper: &mut Paper, row: &TaskRow) -> Result<(), AllocError>
+    ensures { OnOk result (Writes paper.old paper.new (spec.counts row.now)) }
 {
     put_number(paper, row.polls)?;
     put_number(paper, row.wakes)?;
@@ -296,8 +306,8 @@ fn put_counts(paper: &mut Paper, row: &TaskRow) -> Result<(), Stop>
     Ok(())
 }
 
-fn put_numbers(paper: &mut Paper, scale: Scale, row: &TaskRow) -> Result<(), Stop>
-    ensures { OnOk result (Writes paper.old.text paper.new.text (spec.numbers scale row.now)) }
+fn put_numbers(paper: &mut Paper, scale: Scale, row: &TaskRow) -> Result<(), AllocError>
+    ensures { OnOk result (Writes paper.old paper.new (spec.numbers scale row.now)) }
 {
     let watched = scale.watched();
     let busy = busy_until(row, scale.now);
@@ -327,8 +337,8 @@ fn flag(odd: bool) -> &'static str
 }
 
 // Begins a row, and puts what the task is: its name, its id, its kind, and where it was spawned.
-fn put_name(paper: &mut Paper, task: &Task, odd: bool) -> Result<(), Stop>
-    ensures { OnOk result (Writes paper.old.text paper.new.text (spec.name task.now odd)) }
+fn put_name(paper: &mut Paper, task: &Task, odd: bool) -> Result<(), AllocError>
+    ensures { OnOk result (Writes paper.old paper.new (spec.name task.now odd)) }
 {
     let info = &task.info;
     let (recorder, number) = info.id.parts();
@@ -362,8 +372,8 @@ fn put_name(paper: &mut Paper, task: &Task, odd: bool) -> Result<(), Stop>
     ])
 }
 
-fn put_state(paper: &mut Paper, row: &TaskRow) -> Result<(), Stop>
-    ensures { OnOk result (Writes paper.old.text paper.new.text (spec.state row.now)) }
+fn put_state(paper: &mut Paper, row: &TaskRow) -> Result<(), AllocError>
+    ensures { OnOk result (Writes paper.old paper.new (spec.state row.now)) }
 {
     paper.put(&[
         Close(Tag::Th),
@@ -383,8 +393,8 @@ fn put_task(
     signs: Signs,
     task: &Task,
     samples: &[Sample],
-) -> Result<(), Stop>
-    ensures { OnOk result (Writes paper.old.text paper.new.text (spec.row_of scale signs samples.now task.now)) }
+) -> Result<(), AllocError>
+    ensures { OnOk result (Writes paper.old paper.new (spec.row_of scale signs samples.now task.now)) }
 {
     put_name(paper, task, signs.has_any(task))?;
     put_badges(paper, signs, task)?;
@@ -405,8 +415,8 @@ fn put_row(
     history: &History,
     tables: &Tables,
     place: usize,
-) -> Result<(), Stop>
-    ensures { OnOk result (Writes paper.old.text paper.new.text
+) -> Result<(), AllocError>
+    ensures { OnOk result (Writes paper.old paper.new
         (option_map_or (spec.row scale signs (courses_of history.now)) (slice_get tables.now.tasks place) [])) }
 {
     match tables.task_at(place) {
@@ -430,8 +440,8 @@ fn put_rows(
     history: &History,
     tables: &Tables,
     ranks: &[Rank],
-) -> Result<(), Stop>
-    ensures { OnOk result (Writes paper.old.text paper.new.text
+) -> Result<(), AllocError>
+    ensures { OnOk result (Writes paper.old paper.new
         (flat_map (spec.row_at scale signs (courses_of history.now) tables.now.tasks) ranks.now)) }
 {
     for rank in ranks {
@@ -440,8 +450,8 @@ fn put_rows(
     Ok(())
 }
 
-fn put_caption(paper: &mut Paper, watched: u64) -> Result<(), Stop>
-    ensures { OnOk result (Writes paper.old.text paper.new.text (spec.caption watched)) }
+fn put_caption(paper: &mut Paper, watched: u64) -> Result<(), AllocError>
+    ensures { OnOk result (Writes paper.old paper.new (spec.caption watched)) }
 {
     paper.put(&[
         Open(Tag::Table),
@@ -462,8 +472,8 @@ fn put_table_head(
     scale: Scale,
     sums: &[Step],
     height: Height,
-) -> Result<(), Stop>
-    ensures { OnOk result (Writes paper.old.text paper.new.text (spec.table_head scale height sums.now)) }
+) -> Result<(), AllocError>
+    ensures { OnOk result (Writes paper.old paper.new (spec.table_head scale height sums.now)) }
 {
     put_caption(paper, scale.watched())?;
     put_sum_row(paper, scale, sums, height)?;
@@ -480,8 +490,8 @@ fn put_table(
     signs: Signs,
     history: &History,
     tables: &Tables,
-) -> Result<(), Stop>
-    ensures { OnOk result (spec.WritesTable scale signs (courses_of history.now) tables.now paper.old.text paper.new.text) }
+) -> Result<(), AllocError>
+    ensures { OnOk result (spec.WritesTable scale signs (courses_of history.now) tables.now paper.old paper.new) }
 {
     let ranks = ranks_of(alloc, scale, tables, signs)?;
     let shown = front(ranks.as_slice(), TASKS);
@@ -494,8 +504,8 @@ fn put_table(
     Ok(())
 }
 
-fn put_tasks_head(paper: &mut Paper) -> Result<(), Stop>
-    ensures { OnOk result (Writes paper.old.text paper.new.text spec.tasks_head) }
+fn put_tasks_head(paper: &mut Paper) -> Result<(), AllocError>
+    ensures { OnOk result (Writes paper.old paper.new spec.tasks_head) }
 {
     start_section(paper, "tasks", "Tasks")?;
     paper.put(&[Close(Tag::H2)])?;
@@ -513,8 +523,8 @@ pub(crate) fn put_tasks(
     signs: Signs,
     history: &History,
     tables: &Tables,
-) -> Result<(), Stop>
-    ensures { OnOk result (spec.WritesTasks scale signs (courses_of history.now) tables.now paper.old.text paper.new.text) }
+) -> Result<(), AllocError>
+    ensures { OnOk result (spec.WritesTasks scale signs (courses_of history.now) tables.now paper.old paper.new) }
 {
     put_tasks_head(paper)?;
     put_table(paper, alloc, scale, signs, history, tables)?;

@@ -17,7 +17,7 @@ use std::alloc::{AllocError, Global};
 use std::io::{Read, Write};
 use tk_client::{Client, Fault, FeedError, Lints};
 use tk_fault::AppFault;
-use tk_paper::{Paper, Stop};
+use tk_paper::Paper;
 use tk_stream::{Tables, send};
 
 // How many bytes a line of a stream has at most. No script gives a longer one.
@@ -148,12 +148,12 @@ fn page_of(
     history: &History,
     tables: &Tables,
     lints: &Lints,
-) -> Result<Vec<u8>, Stop>
+) -> Result<Vec<u8>, AllocError>
     ensures { IfOk result (λ text. IsDrawn lints.now (courses_of history.now) tables.now text.items) }
 {
     let mut paper = Paper::new(alloc);
     put_page(&mut paper, alloc, history, tables, lints)?;
-    let inner = paper.into_bytes()?;
+    let inner = paper.into_bytes();
     let text = behind(alloc, HEAD, inner.as_slice(), TAIL)?;
     Ok(text)
 }

@@ -7,7 +7,7 @@ use Rattle.tk_page.proofs.LoopLemmas.{next_of}
 use Rattle.tk_page.proofs.cards.put_all_kinds.Goals as goal
 
 pub loop-oddity-init : goal.loop-oddity-init
-loop-oddity-init c = nothing c.args.paper.now.text
+loop-oddity-init c = nothing c.args.paper.now
 
 pub loop-oddity-preserved : goal.loop-oddity-preserved
 loop-oddity-preserved c =

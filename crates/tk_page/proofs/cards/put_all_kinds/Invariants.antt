@@ -7,4 +7,4 @@ use Rattle.tk_page.proofs.cards.put_all_kinds.Given as goal
 
 -- the kinds so far
 abbrev pub invariant-loop-oddity : goal.invariant-loop-oddity
-invariant-loop-oddity l = Writes l.initial.paper.text l.paper.text (flat_map (cards_of l.scale l.signs l.holder l.tables.tasks) (take l.oddity-index kinds))
+invariant-loop-oddity l = Writes l.initial.paper l.paper (flat_map (cards_of l.scale l.signs l.holder l.tables.tasks) (take l.oddity-index kinds))

@@ -6,4 +6,4 @@ use Rattle.tk_page.proofs.cards.put_cards.Given as goal
 
 -- the cards so far
 abbrev pub invariant-loop-task : goal.invariant-loop-task
-invariant-loop-task l = Writes l.initial.paper.text l.paper.text (flat_map (λ t. card l.scale l.holder l.oddity t.now) (take l.task-index l.tasks))
+invariant-loop-task l = Writes l.initial.paper l.paper (flat_map (λ t. card l.scale l.holder l.oddity t.now) (take l.task-index l.tasks))

@@ -9,9 +9,9 @@ use Rattle.tk_page.proofs.LoopLemmas.{next_of}
 use Rattle.tk_page.proofs.cards.put_each_badge.Goals as goal
 
 pub loop-oddity-init : goal.loop-oddity-init
-loop-oddity-init c = nothing c.args.paper.now.text
+loop-oddity-init c = nothing c.args.paper.now
 
 pub loop-oddity-preserved : goal.loop-oddity-preserved
 loop-oddity-preserved c =
     next_of (badge_of c.args.signs c.args.task.now) kinds c.loop-oddity.oddity-index HoldsUp (omega arith) c.loop-oddity.invariant
-    (subst (λ odd. Writes c.loop-oddity.paper.text c.put_badge.new.paper.text (badge odd (get_or kinds c.loop-oddity.oddity-index HoldsUp))) c.has.ensures c.in_ok-put_badge.ensures)
+    (subst (λ odd. Writes c.loop-oddity.paper c.put_badge.new.paper (badge odd (get_or kinds c.loop-oddity.oddity-index HoldsUp))) c.has.ensures c.in_ok-put_badge.ensures)

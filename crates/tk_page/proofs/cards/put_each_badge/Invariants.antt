@@ -7,4 +7,4 @@ use Rattle.tk_page.proofs.cards.put_each_badge.Given as goal
 
 -- the badges so far
 abbrev pub invariant-loop-oddity : goal.invariant-loop-oddity
-invariant-loop-oddity l = Writes l.initial.paper.text l.paper.text (flat_map (badge_of l.signs l.task) (take l.oddity-index kinds))
+invariant-loop-oddity l = Writes l.initial.paper l.paper (flat_map (badge_of l.signs l.task) (take l.oddity-index kinds))

@@ -5,7 +5,7 @@ use Rattle.tk_page.proofs.LoopLemmas.{all_mapped, item_at, next_part}
 use Rattle.tk_page.proofs.cards.put_next_names.Goals as goal
 
 pub loop-task-init : goal.loop-task-init
-loop-task-init c = nothing c.args.paper.now.text
+loop-task-init c = nothing c.args.paper.now
 
 pub loop-task-preserved : goal.loop-task-preserved
 loop-task-preserved c =

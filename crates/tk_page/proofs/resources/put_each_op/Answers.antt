@@ -5,7 +5,7 @@ use Rattle.tk_page.proofs.LoopLemmas.{all_mapped, item_at, next_part}
 use Rattle.tk_page.proofs.resources.put_each_op.Goals as goal
 
 pub loop-op-init : goal.loop-op-init
-loop-op-init c = nothing c.args.paper.now.text
+loop-op-init c = nothing c.args.paper.now
 
 pub loop-op-preserved : goal.loop-op-preserved
 loop-op-preserved c =

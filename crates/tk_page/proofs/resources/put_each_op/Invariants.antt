@@ -6,4 +6,4 @@ use Rattle.tk_page.proofs.resources.put_each_op.Given as goal
 
 -- the rows so far
 abbrev pub invariant-loop-op : goal.invariant-loop-op
-invariant-loop-op l = Writes l.initial.paper.text l.paper.text (flat_map (λ o. spec.op l.tables.tasks o.now) (take l.op-index l.ops))
+invariant-loop-op l = Writes l.initial.paper l.paper (flat_map (λ o. spec.op l.tables.tasks o.now) (take l.op-index l.ops))

@@ -3,7 +3,7 @@ use Rattle.tk_paper.proofs.PutLemmas.{next_put, nothing}
 use Rattle.tk_page.proofs.resources.put_some_resources.Goals as goal
 
 pub loop-place-init : goal.loop-place-init
-loop-place-init c = nothing c.args.paper.now.text
+loop-place-init c = nothing c.args.paper.now
 
 pub loop-place-preserved : goal.loop-place-preserved
 loop-place-preserved c =

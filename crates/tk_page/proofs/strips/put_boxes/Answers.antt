@@ -7,10 +7,10 @@ use Rattle.tk_page.proofs.LoopLemmas.{next_of}
 use Rattle.tk_page.proofs.strips.put_boxes.Goals as goal
 
 pub loop-step-init : goal.loop-step-init
-loop-step-init c = nothing c.args.paper.now.text
+loop-step-init c = nothing c.args.paper.now
 
 pub loop-step-preserved : goal.loop-step-preserved
 loop-step-preserved c =
     let zero : Step = record { from = 0; to = 0; busy = 0; sched = 0; wakes = 0; own = 0 } in
     next_of (λ step. box (box_of c.args.scale c.args.boxes step)) c.args.steps.now c.loop-step.step-index zero (omega arith) c.loop-step.invariant
-    (subst (λ area. Writes c.loop-step.paper.text c.put_box.new.paper.text (box area)) c.box_of.ensures c.in_ok-put_box.ensures)
+    (subst (λ area. Writes c.loop-step.paper c.put_box.new.paper (box area)) c.box_of.ensures c.in_ok-put_box.ensures)

@@ -6,4 +6,4 @@ use Rattle.tk_page.proofs.strips.put_boxes.Given as goal
 
 -- the boxes so far
 abbrev pub invariant-loop-step : goal.invariant-loop-step
-invariant-loop-step l = Writes l.initial.paper.text l.paper.text (flat_map (λ step. box (box_of l.scale l.boxes step)) (take l.step-index l.steps))
+invariant-loop-step l = Writes l.initial.paper l.paper (flat_map (λ step. box (box_of l.scale l.boxes step)) (take l.step-index l.steps))

@@ -9,8 +9,8 @@ pub returns : goal.returns
 returns c =
     let scale = c.args.scale in
     let t = c.args.task.now in
-    let old = c.args.paper.now.text in
-    let new = c.put_strip_of.new.paper.text in
+    let old = c.args.paper.now in
+    let new = c.put_strip_of.new.paper in
     subst (λ last. Writes old new (strip_of scale t last (steps_of t.row.created c.args.samples.now last) (is_odd c.args.signs LostWaker t))) c.of-last.ensures
     (subst (λ steps. Writes old new (strip_of scale t c.of-last.result steps (is_odd c.args.signs LostWaker t))) (c.as_slice.ensures.value ∙ c.in_ok-steps.ensures)
     (subst (λ lost. Writes old new (strip_of scale t c.of-last.result c.as_slice.result.now lost)) c.has-lost.ensures c.in_ok-put_strip_of.ensures))

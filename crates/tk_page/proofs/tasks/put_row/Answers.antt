@@ -9,8 +9,8 @@ use Rattle.tk_page.proofs.tasks.put_row.Goals as goal
 pub returns-in-Some : goal.returns-in-Some
 returns-in-Some c =
     let history = c.args.history.now in
-    let old = c.args.paper.now.text in
-    let new = c.put_task.new.paper.text in
+    let old = c.args.paper.now in
+    let new = c.put_task.new.paper in
     let h = subst (λ xs. OnOk c.put_task.result (Writes old new (row_of c.args.scale c.args.signs xs c.in-Some.task.now)))
     (c.of.ensures ∙ ap (kept_of history) c.value.ensures.value) c.put_task.ensures in
     subst (λ o. OnOk c.put_task.result (Writes old new (option_map_or (row c.args.scale c.args.signs (courses_of history)) o []))) c.in-Some.ensures h

@@ -8,7 +8,7 @@ use Rattle.tk_page.proofs.LoopLemmas.{next_of}
 use Rattle.tk_page.proofs.tasks.put_rows.Goals as goal
 
 pub loop-rank-init : goal.loop-rank-init
-loop-rank-init c = nothing c.args.paper.now.text
+loop-rank-init c = nothing c.args.paper.now
 
 pub loop-rank-preserved : goal.loop-rank-preserved
 loop-rank-preserved c =
