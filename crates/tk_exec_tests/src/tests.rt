@@ -1,11 +1,12 @@
 //! Works polled to their ends, executors turn by turn, drivers to their answers, a poll that is read through, futures,
-//! the machine's clock, and the errors.
+//! a work that records in its polls, the machine's clock, and the errors.
 
 mod clocks;
 mod drives;
 mod errors;
 mod future_works;
 mod given;
+mod permits;
 mod turns;
 mod waits;
 mod works;

@@ -277,7 +277,7 @@ no_course = record { kept = []; every = 1; skip = 0 }
 
 kept_none : IsCourse [] no_course
 unfolding no_course
-kept_none = record { few = omega arith; each = λ d i h. absurd (omega (arith, h)); come = refl; short = omega arith }
+kept_none = record { few = omega arith; many = λ more. absurd (omega (arith, more)); each = λ d i h. absurd (omega (arith, h)); come = refl; short = omega arith }
 
 none_kept : (xs kept : List Sample) → xs ≡ [] → kept ≡ [] → AreKept xs kept
 unfolding no_course
