@@ -1,9 +1,8 @@
 //! What has left the tables of a stream.
-ghost use Rattle.std.specs.Prelude.{◌≡◌, ◌++◌, ℕ, List, [], OnOk, map, is_some, not, slice_get, if◌then◌else◌};
+ghost use Rattle.std.specs.Prelude.{◌≡◌, ◌++◌, ℕ, List, OnOk, map, is_some, not, slice_get, if◌then◌else◌};
 ghost use Rattle.std.specs.Option.{option_map_or};
 ghost use Rattle.tk_stream.specs.Tables.{resource_with, task_with};
 ghost use Rattle.tk_metrics.specs.Leaving as spec;
-ghost use Rattle.tk_metrics.specs.Metrics.{Gone};
 ghost use Rattle.tk_metrics.specs.Series.{series_of, with_value};
 ghost use Rattle.tk_metrics.specs.Sums as sums;
 ghost use Rattle.tk_metrics.specs.declared.sums.PollOps.{PollOps as PollOpsView};

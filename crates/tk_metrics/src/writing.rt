@@ -1,5 +1,5 @@
 //! The text of numbers, family by family.
-ghost use Rattle.std.specs.Prelude.{◌≡◌, ◌++◌, ℕ, List, OnOk, IfOk, IfErr, length, map, slice_get, [], codes};
+ghost use Rattle.std.specs.Prelude.{◌≡◌, OnOk, slice_get, []};
 ghost use Rattle.std.specs.Option.{option_map_or};
 ghost use Rattle.tk_report.specs.Behind.{Puts};
 ghost use Rattle.tk_metrics.specs.Metrics as spec;
