@@ -1,11 +1,10 @@
 -- What leaves with one line more.
-use Rattle.std.proofs.Common.{◌≡◌, ℕ, List, [], ◌∷◌, ◌++◌, map, refl, ap, sym, subst, ◌∙◌, append_assoc, append-nil}
+use Rattle.std.proofs.Common.{◌≡◌, List, [], ◌∷◌, ◌++◌, map, refl, ap, sym, subst, ◌∙◌, append_assoc, append-nil}
 use Rattle.tk_stream.specs.Tables.{TablesView, empty_tables}
 use Rattle.tk_metrics.specs.declared.by.By.{By}
 use Rattle.tk_metrics.specs.declared.by.By.TheVariants.{Name, Id}
 use Rattle.tk_metrics.specs.declared.leavers.Leavers.{Leavers}
-use Rattle.tk_metrics.specs.declared.left.Left.{Left}
-use Rattle.tk_metrics.specs.Following.{Notes, compared, last_shown}
+use Rattle.tk_metrics.specs.Following.{Notes, last_shown}
 use Rattle.tk_metrics.specs.Leaving.{Holds, gone_in, resources_between, resources_since, tasks_between, tasks_since}
 use Rattle.tk_metrics.specs.Metrics.{Gone}
 use Rattle.tk_metrics.specs.Sums.{left_task, resource_entry}
@@ -41,15 +40,15 @@ taken_between gone old new = record {
 pub noted_by_name : (by : By) (shown : List TablesView) (t : TablesView) (old new : Leavers) → Notes by shown old → old.by ≡ Name → new.by ≡ old.by
     → ((gone : Gone) → Holds gone old.left → Holds (taken_between gone old.before t) new.left) → new.before ≡ t → Notes by (shown ++ t ∷ []) new
 noted_by_name Name shown t old new h named kept takes before = record {
-  by = kept ∙ h.by;
+  told = kept ∙ h.told;
   held = subst (λ gone. Holds gone new.left)
       (λ i. record { tasks = sym (tasks_more empty_tables shown t) i; resources = sym (resources_more empty_tables shown t) i })
       (subst (λ b. Holds (taken_between (gone_in Name shown) b t) new.left) h.before (takes (gone_in Name shown) h.held));
   before = before ∙ sym (last_more empty_tables shown t);
 }
-noted_by_name Id shown t old new h named kept takes before = absurd (let is : Id ≡ Name = sym h.by ∙ named in cc)
+noted_by_name Id shown t old new h named kept takes before = absurd (let is : Id ≡ Name = sym h.told ∙ named in cc)
 
 -- by id they are not
 pub noted_by_id : (by : By) (shown : List TablesView) (t : TablesView) (old : Leavers) → Notes by shown old → old.by ≡ Id → Notes by (shown ++ t ∷ []) old
-noted_by_id Id shown t old h named = record { by = h.by; held = h.held; before = h.before }
-noted_by_id Name shown t old h named = absurd (let is : Name ≡ Id = sym h.by ∙ named in cc)
+noted_by_id Id shown t old h named = record { told = h.told; held = h.held; before = h.before }
+noted_by_id Name shown t old h named = absurd (let is : Name ≡ Id = sym h.told ∙ named in cc)

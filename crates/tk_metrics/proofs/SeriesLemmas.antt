@@ -1,8 +1,7 @@
 -- A value more in series.
-use Rattle.std.proofs.Common.{◌≡◌, ℕ, zero, suc, List, [], ◌∷◌, ◌++◌, map, filter, Bool, true, false, cond, ◌||◌, nat_eq, Option, Some, None, ◌+◌, ◌≤◌, length, take, slice_get, refl, ap, ap₂, sym, subst, ◌∙◌, true≢false, append-nil, append_assoc, add-one}
+use Rattle.std.proofs.Common.{◌≡◌, ℕ, zero, suc, List, [], ◌∷◌, ◌++◌, map, filter, Bool, true, false, cond, ◌||◌, Option, Some, None, ◌+◌, ◌≤◌, length, take, slice_get, refl, ap, ap₂, sym, subst, ◌∙◌, true≢false, append-nil, append_assoc, add-one}
 use Rattle.std.specs.Prelude.{fold}
 use Rattle.std.specs.Cmp.Lexicographic.{nat_list_eq_equiv}
-use Rattle.std.specs.List.{list_any}
 use Rattle.std.specs.Map.{lookup}
 use Rattle.std.specs.Str.{bytes_eq}
 use Rattle.std.proofs.Common.{Vec, Global}
@@ -131,6 +130,7 @@ module _ {A V : Type 0} (plus : V → V → V) (e : A → List ℕ × V) (test :
           ∙ ap (series_of plus) (sym (append_assoc before (map e (filter test (take i xs))) (e x ∷ [])))
           ∙ series_of-more plus (e x).0 (e x).1 (before ++ map e (filter test (take i xs)))
       one_more x false = ap (λ ys. series_of plus (before ++ map e ys)) (append-nil (filter test (take i xs)))
+
       by : (o : Option A) → series_of plus (before ++ map e (filter test (take i xs ++ option_map_or (λ (x : A). x ∷ []) o [])))
           ≡ option_map_or (λ x. cond (test x) (with_value plus (e x).0 (e x).1 (passed_so_far i)) (passed_so_far i)) o (passed_so_far i)
       by None = ap (λ ys. series_of plus (before ++ map e (filter test ys))) (append-nil (take i xs))

@@ -22,7 +22,7 @@ compared Id shown = empty_tables
 
 -- what has left the tables after each line is held, and the last tables are
 pub record Notes (by : By) (shown : List TablesView) (l : Leavers) : Type 0 where
-  pub by : l.by ≡ by
+  pub told : l.by ≡ by
   pub held : Holds (gone_in by shown) l.left
   pub before : l.before ≡ compared by shown
 

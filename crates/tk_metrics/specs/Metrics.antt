@@ -1,5 +1,5 @@
 -- The text of a stream's numbers: a function of its tables, of what has left them, and of how many lines it has.
-use Rattle.std.specs.Prelude.{ℕ, List, [], ◌∷◌, ◌++◌, map, filter, length, codes, Bool, true, false}
+use Rattle.std.specs.Prelude.{ℕ, List, [], ◌++◌, map, filter, length, codes, Bool, true, false}
 use Rattle.tk_ids.specs.declared.info.Dropped.{Dropped}
 use Rattle.tk_stream.specs.Tables.{TablesView}
 use Rattle.tk_client.specs.declared.warning.Warning.{Warning}

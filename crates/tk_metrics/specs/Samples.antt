@@ -1,5 +1,5 @@
 -- Families of samples, as they are written.
-use Rattle.std.specs.Prelude.{ℕ, ◌+◌, ◌/◌, ◌%◌, ◌==◌, List, [], ◌∷◌, ◌++◌, codes, decimal, flat_map, Bool, if◌then◌else◌}
+use Rattle.std.specs.Prelude.{ℕ, ◌+◌, ◌/◌, ◌%◌, ◌==◌, List, [], ◌∷◌, ◌++◌, codes, decimal, flat_map, if◌then◌else◌}
 use Rattle.tk_metrics.specs.declared.family.Family.{Family}
 use Rattle.tk_metrics.specs.declared.family.FamilyKind.{FamilyKind}
 use Rattle.tk_metrics.specs.declared.family.FamilyKind.TheVariants.{Counter, Gauge}

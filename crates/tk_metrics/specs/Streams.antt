@@ -1,5 +1,5 @@
 -- What the numbers of a stream are, and what writing them came to.
-use Rattle.std.specs.Prelude.{◌≡◌, ℕ, List, length, Option, Result, Ok, Err}
+use Rattle.std.specs.Prelude.{ℕ, List, length, Option, Result, Ok, Err}
 use Rattle.std.specs.Io.KnownBytes.{Appends}
 use Rattle.tk_client.specs.Warnings.{LintsView}
 use Rattle.tk_fault.specs.declared.fault.AppFault.{AppFault}

@@ -1,9 +1,8 @@
 //! What has left the tables of a stream.
-ghost use Rattle.std.specs.Prelude.{◌≡◌, ◌++◌, ℕ, List, [], OnOk, map, is_some, not, slice_get, if◌then◌else◌};
+ghost use Rattle.std.specs.Prelude.{◌≡◌, ◌++◌, ℕ, List, OnOk, map, is_some, not, slice_get, if◌then◌else◌};
 ghost use Rattle.std.specs.Option.{option_map_or};
 ghost use Rattle.tk_stream.specs.Tables.{resource_with, task_with};
 ghost use Rattle.tk_metrics.specs.Leaving as spec;
-ghost use Rattle.tk_metrics.specs.Metrics.{Gone};
 ghost use Rattle.tk_metrics.specs.Series.{series_of, with_value};
 ghost use Rattle.tk_metrics.specs.Sums as sums;
 ghost use Rattle.tk_metrics.specs.declared.sums.PollOps.{PollOps as PollOpsView};
@@ -30,7 +29,7 @@ fn add_task_at(
 ) -> Result<(), AllocError>
     ensures { OnOk result (tasks.new ≡ option_map_or
         (λ t. if not (is_some (task_with t.info.id new.now.tasks))
-            then with_value sums.plus (sums.own_labels t) (sums.sums_left t.row) tasks.old else tasks.old)
+        then with_value sums.plus (sums.own_labels t) (sums.sums_left t.row) tasks.old else tasks.old)
         (slice_get old.now.tasks place) tasks.old) }
 {
     match old.task_at(place) {
@@ -69,7 +68,7 @@ fn add_resource_at(
 ) -> Result<(), AllocError>
     ensures { OnOk result (resources.new ≡ option_map_or
         (λ r. if not (is_some (resource_with r.info.id new.now.resources))
-            then with_value sums.both_ops (sums.type_label r) (sums.poll_ops old.now.counts r) resources.old else resources.old)
+        then with_value sums.both_ops (sums.type_label r) (sums.poll_ops old.now.counts r) resources.old else resources.old)
         (slice_get old.now.resources place) resources.old) }
 {
     match old.resource_at(place) {
@@ -119,8 +118,8 @@ impl Left {
     pub fn take(&mut self, alloc: Global, old: &Tables, new: &Tables) -> Result<(), AllocError>
         ensures { (gone : Gone) → spec.Holds gone self.old
             → OnOk result (spec.Holds (record {
-                tasks = gone.tasks ++ map sums.left_task (spec.tasks_between old.now new.now);
-                resources = gone.resources ++ map (sums.resource_entry old.now.counts) (spec.resources_between old.now new.now)
+              tasks = gone.tasks ++ map sums.left_task (spec.tasks_between old.now new.now);
+              resources = gone.resources ++ map (sums.resource_entry old.now.counts) (spec.resources_between old.now new.now);
             }) self.new) }
     {
         add_tasks(&mut self.tasks, alloc, old, new)?;

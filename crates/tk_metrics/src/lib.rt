@@ -9,7 +9,7 @@ mod by;
 mod family;
 mod leavers;
 mod left;
-mod metrics;
+mod numbers;
 mod series;
 mod stream;
 mod sums;
@@ -18,6 +18,6 @@ mod writing;
 
 pub use by::By;
 pub use left::Left;
-pub use metrics::metrics as metrics_of;
+pub use numbers::metrics;
 pub use stream::metrics_stream;
 pub use tk_fault::AppFault;

@@ -1,5 +1,5 @@
 //! Series of numbers, each with its labels.
-ghost use Rattle.std.specs.Prelude.{◌≡◌, ◌++◌, ◌∷◌, [], ℕ, List, OnOk, length, slice_get, option_map};
+ghost use Rattle.std.specs.Prelude.{◌≡◌, [], OnOk, length, slice_get, option_map};
 ghost use Rattle.tk_metrics.specs.Series as spec;
 
 use indexmap::IndexMap;

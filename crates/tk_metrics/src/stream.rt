@@ -11,7 +11,7 @@ ghost use Rattle.tk_metrics.specs.declared.by.By.{By as Told};
 
 use crate::by::By;
 use crate::leavers::Leavers;
-use crate::metrics::metrics_with;
+use crate::numbers::metrics_with;
 use memchr::memchr;
 use std::alloc::Global;
 use std::io::{Read, Write};

@@ -154,12 +154,7 @@ fn put_own_labels(out: &mut Vec<u8>, task: &Task) -> Result<(), AllocError>
     put_label(out, "kind", kind_word(task.info.kind).as_bytes())
 }
 
-fn put_id_label(
-    out: &mut Vec<u8>,
-    alloc: Global,
-    by: By,
-    task: &Task,
-) -> Result<(), AllocError>
+fn put_id_label(out: &mut Vec<u8>, alloc: Global, by: By, task: &Task) -> Result<(), AllocError>
     ensures { OnOk result (Puts out.old.items out.new.items (spec.id_label by task.now)) }
 {
     match by {

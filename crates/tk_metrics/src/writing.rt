@@ -1,5 +1,5 @@
 //! The text of numbers, family by family.
-ghost use Rattle.std.specs.Prelude.{◌≡◌, ◌++◌, ℕ, List, OnOk, IfOk, IfErr, length, map, slice_get, [], codes};
+ghost use Rattle.std.specs.Prelude.{◌≡◌, OnOk, slice_get, []};
 ghost use Rattle.std.specs.Option.{option_map_or};
 ghost use Rattle.tk_report.specs.Behind.{Puts};
 ghost use Rattle.tk_metrics.specs.Metrics as spec;
@@ -72,12 +72,7 @@ fn put_state(
     put_with_label(out, alloc, Family::Tasks, labels, "state", state, count)
 }
 
-fn put_states(
-    out: &mut Vec<u8>,
-    alloc: Global,
-    labels: &[u8],
-    sums: Sums,
-) -> Result<(), AllocError>
+fn put_states(out: &mut Vec<u8>, alloc: Global, labels: &[u8], sums: Sums) -> Result<(), AllocError>
     ensures { OnOk result (Puts out.old.items out.new.items (spec.state_samples (labels.now, sums))) }
 {
     put_state(out, alloc, labels, "idle", sums.idle)?;
@@ -102,11 +97,7 @@ fn put_states_at(
     }
 }
 
-fn put_all_states(
-    out: &mut Vec<u8>,
-    alloc: Global,
-    tasks: &Series<Sums>,
-) -> Result<(), AllocError>
+fn put_all_states(out: &mut Vec<u8>, alloc: Global, tasks: &Series<Sums>) -> Result<(), AllocError>
     ensures { OnOk result (Puts out.old.items out.new.items (family_text Family.Tasks spec.state_samples tasks.now)) }
 {
     put_head(out, Family::Tasks)?;
@@ -141,7 +132,15 @@ fn put_answer(
 ) -> Result<(), AllocError>
     ensures { OnOk result (Puts out.old.items out.new.items (spec.answer_sample labels.now answer.now count)) }
 {
-    put_with_label(out, alloc, Family::PollOps, labels, "readiness", answer, count)
+    put_with_label(
+        out,
+        alloc,
+        Family::PollOps,
+        labels,
+        "readiness",
+        answer,
+        count,
+    )
 }
 
 fn put_answers(
@@ -225,11 +224,7 @@ fn warnings_of_kind(kind: WarningKind, warnings: &[Warning]) -> u64
     count
 }
 
-fn put_warnings(
-    out: &mut Vec<u8>,
-    alloc: Global,
-    warnings: &[Warning],
-) -> Result<(), AllocError>
+fn put_warnings(out: &mut Vec<u8>, alloc: Global, warnings: &[Warning]) -> Result<(), AllocError>
     ensures { OnOk result (Puts out.old.items out.new.items (spec.warning_family warnings.now)) }
 {
     let own = warnings_of_kind(WarningKind::SelfWakes, warnings);

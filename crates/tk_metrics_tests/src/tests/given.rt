@@ -1,0 +1,283 @@
+//! Streams, and the numbers that `tests/metrics/plain_metrics.py` reckons of them.
+
+// That of examples/lost-waker.script.
+pub(super) const LOST: &[u8] =
+    b"{\"dropped\":[0,0,0],\"new_ops\":[],\"new_resources\":[],\"new_tasks\":[{\"id\":1099511627777,\"kind\":\"spawn\",\"loc\":[\"script\",2,1],\"name\":\"fetch\"},{\"id\":1099511627778,\"kind\":\"blocking\",\"loc\":[\"script\",3,1],\"name\":\"resolve\"}],\"now\":1000,\"op_stats\":[],\"poll_counts\":[],\"resource_stats\":[],\"seq\":1,\"snapshot\":false,\"task_stats\":[{\"busy\":100,\"clones\":2,\"created\":100,\"dropped\":null,\"drops\":0,\"first_poll\":200,\"handles\":3,\"id\":1099511627777,\"last_ended\":300,\"last_started\":200,\"last_wake\":null,\"polling\":false,\"polls\":1,\"sched\":100,\"scheduled\":false,\"self_wakes\":0,\"wakes\":0},{\"busy\":0,\"clones\":0,\"created\":100,\"dropped\":null,\"drops\":0,\"first_poll\":300,\"handles\":1,\"id\":1099511627778,\"last_ended\":null,\"last_started\":300,\"last_wake\":null,\"polling\":true,\"polls\":1,\"sched\":200,\"scheduled\":false,\"self_wakes\":0,\"wakes\":0}],\"v\":1}\n{\"dropped\":[0,0,0],\"new_ops\":[],\"new_resources\":[],\"new_tasks\":[],\"now\":3000,\"op_stats\":[],\"poll_counts\":[],\"resource_stats\":[],\"seq\":2,\"snapshot\":false,\"task_stats\":[{\"busy\":200,\"clones\":2,\"created\":100,\"dropped\":null,\"drops\":2,\"first_poll\":200,\"handles\":3,\"id\":1099511627777,\"last_ended\":2200,\"last_started\":2100,\"last_wake\":2000,\"polling\":false,\"polls\":2,\"sched\":200,\"scheduled\":false,\"self_wakes\":0,\"wakes\":1},{\"busy\":2200,\"clones\":0,\"created\":100,\"dropped\":2500,\"drops\":0,\"first_poll\":300,\"handles\":1,\"id\":1099511627778,\"last_ended\":2500,\"last_started\":300,\"last_wake\":null,\"polling\":false,\"polls\":1,\"sched\":200,\"scheduled\":false,\"self_wakes\":0,\"wakes\":0}],\"v\":1}\n";
+
+pub(super) const LOST_NUMBERS: &str = "# TYPE taskscope_task_polls_total counter
+# HELP taskscope_task_polls_total Polls of tasks that have started.
+taskscope_task_polls_total{name=\"fetch\",kind=\"spawn\"} 2
+taskscope_task_polls_total{name=\"resolve\",kind=\"blocking\"} 1
+# TYPE taskscope_task_busy_seconds_total counter
+# UNIT taskscope_task_busy_seconds seconds
+# HELP taskscope_task_busy_seconds_total How long polls of tasks ran that have ended.
+taskscope_task_busy_seconds_total{name=\"fetch\",kind=\"spawn\"} 0.000000200
+taskscope_task_busy_seconds_total{name=\"resolve\",kind=\"blocking\"} 0.000002200
+# TYPE taskscope_task_scheduled_seconds_total counter
+# UNIT taskscope_task_scheduled_seconds seconds
+# HELP taskscope_task_scheduled_seconds_total How long tasks were scheduled until polls of them started.
+taskscope_task_scheduled_seconds_total{name=\"fetch\",kind=\"spawn\"} 0.000000200
+taskscope_task_scheduled_seconds_total{name=\"resolve\",kind=\"blocking\"} 0.000000200
+# TYPE taskscope_task_wakes_total counter
+# HELP taskscope_task_wakes_total Wakes of tasks.
+taskscope_task_wakes_total{name=\"fetch\",kind=\"spawn\"} 1
+taskscope_task_wakes_total{name=\"resolve\",kind=\"blocking\"} 0
+# TYPE taskscope_task_self_wakes_total counter
+# HELP taskscope_task_self_wakes_total Wakes of tasks that came from within the task.
+taskscope_task_self_wakes_total{name=\"fetch\",kind=\"spawn\"} 0
+taskscope_task_self_wakes_total{name=\"resolve\",kind=\"blocking\"} 0
+# TYPE taskscope_task_waker_clones_total counter
+# HELP taskscope_task_waker_clones_total Clones of wakers of tasks.
+taskscope_task_waker_clones_total{name=\"fetch\",kind=\"spawn\"} 2
+taskscope_task_waker_clones_total{name=\"resolve\",kind=\"blocking\"} 0
+# TYPE taskscope_task_waker_drops_total counter
+# HELP taskscope_task_waker_drops_total Drops of wakers of tasks.
+taskscope_task_waker_drops_total{name=\"fetch\",kind=\"spawn\"} 2
+taskscope_task_waker_drops_total{name=\"resolve\",kind=\"blocking\"} 0
+# TYPE taskscope_tasks gauge
+# HELP taskscope_tasks Tasks by the state that they are in.
+taskscope_tasks{name=\"fetch\",kind=\"spawn\",state=\"idle\"} 1
+taskscope_tasks{name=\"fetch\",kind=\"spawn\",state=\"scheduled\"} 0
+taskscope_tasks{name=\"fetch\",kind=\"spawn\",state=\"polling\"} 0
+taskscope_tasks{name=\"fetch\",kind=\"spawn\",state=\"closed\"} 0
+taskscope_tasks{name=\"resolve\",kind=\"blocking\",state=\"idle\"} 0
+taskscope_tasks{name=\"resolve\",kind=\"blocking\",state=\"scheduled\"} 0
+taskscope_tasks{name=\"resolve\",kind=\"blocking\",state=\"polling\"} 0
+taskscope_tasks{name=\"resolve\",kind=\"blocking\",state=\"closed\"} 1
+# TYPE taskscope_resource_poll_ops_total counter
+# HELP taskscope_resource_poll_ops_total Poll operations of resources by what they answered.
+# TYPE taskscope_warnings gauge
+# HELP taskscope_warnings Warnings about tasks.
+taskscope_warnings{kind=\"self-wakes\"} 0
+taskscope_warnings{kind=\"lost-waker\"} 1
+taskscope_warnings{kind=\"never-yielded\"} 0
+# TYPE taskscope_dropped_events_total counter
+# HELP taskscope_dropped_events_total Events that the event buffer had no room for.
+taskscope_dropped_events_total{kind=\"task\"} 0
+taskscope_dropped_events_total{kind=\"resource\"} 0
+taskscope_dropped_events_total{kind=\"op\"} 0
+# TYPE taskscope_stream_lines_total counter
+# HELP taskscope_stream_lines_total Lines of the stream.
+taskscope_stream_lines_total 2
+# EOF
+";
+
+pub(super) const LOST_BY_ID: &str = "# TYPE taskscope_task_polls_total counter
+# HELP taskscope_task_polls_total Polls of tasks that have started.
+taskscope_task_polls_total{id=\"1.1\",name=\"fetch\",kind=\"spawn\"} 2
+taskscope_task_polls_total{id=\"1.2\",name=\"resolve\",kind=\"blocking\"} 1
+# TYPE taskscope_task_busy_seconds_total counter
+# UNIT taskscope_task_busy_seconds seconds
+# HELP taskscope_task_busy_seconds_total How long polls of tasks ran that have ended.
+taskscope_task_busy_seconds_total{id=\"1.1\",name=\"fetch\",kind=\"spawn\"} 0.000000200
+taskscope_task_busy_seconds_total{id=\"1.2\",name=\"resolve\",kind=\"blocking\"} 0.000002200
+# TYPE taskscope_task_scheduled_seconds_total counter
+# UNIT taskscope_task_scheduled_seconds seconds
+# HELP taskscope_task_scheduled_seconds_total How long tasks were scheduled until polls of them started.
+taskscope_task_scheduled_seconds_total{id=\"1.1\",name=\"fetch\",kind=\"spawn\"} 0.000000200
+taskscope_task_scheduled_seconds_total{id=\"1.2\",name=\"resolve\",kind=\"blocking\"} 0.000000200
+# TYPE taskscope_task_wakes_total counter
+# HELP taskscope_task_wakes_total Wakes of tasks.
+taskscope_task_wakes_total{id=\"1.1\",name=\"fetch\",kind=\"spawn\"} 1
+taskscope_task_wakes_total{id=\"1.2\",name=\"resolve\",kind=\"blocking\"} 0
+# TYPE taskscope_task_self_wakes_total counter
+# HELP taskscope_task_self_wakes_total Wakes of tasks that came from within the task.
+taskscope_task_self_wakes_total{id=\"1.1\",name=\"fetch\",kind=\"spawn\"} 0
+taskscope_task_self_wakes_total{id=\"1.2\",name=\"resolve\",kind=\"blocking\"} 0
+# TYPE taskscope_task_waker_clones_total counter
+# HELP taskscope_task_waker_clones_total Clones of wakers of tasks.
+taskscope_task_waker_clones_total{id=\"1.1\",name=\"fetch\",kind=\"spawn\"} 2
+taskscope_task_waker_clones_total{id=\"1.2\",name=\"resolve\",kind=\"blocking\"} 0
+# TYPE taskscope_task_waker_drops_total counter
+# HELP taskscope_task_waker_drops_total Drops of wakers of tasks.
+taskscope_task_waker_drops_total{id=\"1.1\",name=\"fetch\",kind=\"spawn\"} 2
+taskscope_task_waker_drops_total{id=\"1.2\",name=\"resolve\",kind=\"blocking\"} 0
+# TYPE taskscope_tasks gauge
+# HELP taskscope_tasks Tasks by the state that they are in.
+taskscope_tasks{id=\"1.1\",name=\"fetch\",kind=\"spawn\",state=\"idle\"} 1
+taskscope_tasks{id=\"1.1\",name=\"fetch\",kind=\"spawn\",state=\"scheduled\"} 0
+taskscope_tasks{id=\"1.1\",name=\"fetch\",kind=\"spawn\",state=\"polling\"} 0
+taskscope_tasks{id=\"1.1\",name=\"fetch\",kind=\"spawn\",state=\"closed\"} 0
+taskscope_tasks{id=\"1.2\",name=\"resolve\",kind=\"blocking\",state=\"idle\"} 0
+taskscope_tasks{id=\"1.2\",name=\"resolve\",kind=\"blocking\",state=\"scheduled\"} 0
+taskscope_tasks{id=\"1.2\",name=\"resolve\",kind=\"blocking\",state=\"polling\"} 0
+taskscope_tasks{id=\"1.2\",name=\"resolve\",kind=\"blocking\",state=\"closed\"} 1
+# TYPE taskscope_resource_poll_ops_total counter
+# HELP taskscope_resource_poll_ops_total Poll operations of resources by what they answered.
+# TYPE taskscope_warnings gauge
+# HELP taskscope_warnings Warnings about tasks.
+taskscope_warnings{kind=\"self-wakes\"} 0
+taskscope_warnings{kind=\"lost-waker\"} 1
+taskscope_warnings{kind=\"never-yielded\"} 0
+# TYPE taskscope_dropped_events_total counter
+# HELP taskscope_dropped_events_total Events that the event buffer had no room for.
+taskscope_dropped_events_total{kind=\"task\"} 0
+taskscope_dropped_events_total{kind=\"resource\"} 0
+taskscope_dropped_events_total{kind=\"op\"} 0
+# TYPE taskscope_stream_lines_total counter
+# HELP taskscope_stream_lines_total Lines of the stream.
+taskscope_stream_lines_total 2
+# EOF
+";
+
+// That of examples/retention.script, in which a connection leaves.
+pub(super) const LEAVING: &[u8] =
+    b"{\"dropped\":[0,0,0],\"gone_ops\":[],\"gone_resources\":[],\"gone_tasks\":[],\"new_ops\":[],\"new_resources\":[],\"new_tasks\":[{\"id\":1099511627777,\"kind\":\"spawn\",\"loc\":[\"script\",3,1],\"name\":\"accept\"},{\"id\":1099511627778,\"kind\":\"spawn\",\"loc\":[\"script\",4,1],\"name\":\"connection\"}],\"now\":500,\"op_stats\":[],\"poll_counts\":[],\"resource_stats\":[],\"seq\":1,\"snapshot\":false,\"task_stats\":[{\"busy\":0,\"clones\":0,\"created\":0,\"dropped\":null,\"drops\":0,\"first_poll\":null,\"handles\":1,\"id\":1099511627777,\"last_ended\":null,\"last_started\":null,\"last_wake\":null,\"polling\":false,\"polls\":0,\"sched\":0,\"scheduled\":true,\"self_wakes\":0,\"wakes\":0},{\"busy\":30,\"clones\":0,\"created\":100,\"dropped\":200,\"drops\":0,\"first_poll\":150,\"handles\":1,\"id\":1099511627778,\"last_ended\":180,\"last_started\":150,\"last_wake\":null,\"polling\":false,\"polls\":1,\"sched\":50,\"scheduled\":false,\"self_wakes\":0,\"wakes\":0}],\"v\":2}\n{\"dropped\":[0,0,0],\"gone_ops\":[],\"gone_resources\":[],\"gone_tasks\":[],\"new_ops\":[],\"new_resources\":[],\"new_tasks\":[],\"now\":1199,\"op_stats\":[],\"poll_counts\":[],\"resource_stats\":[],\"seq\":2,\"snapshot\":false,\"task_stats\":[],\"v\":2}\n{\"dropped\":[0,0,0],\"gone_ops\":[],\"gone_resources\":[],\"gone_tasks\":[1099511627778],\"new_ops\":[],\"new_resources\":[],\"new_tasks\":[],\"now\":1200,\"op_stats\":[],\"poll_counts\":[],\"resource_stats\":[],\"seq\":3,\"snapshot\":false,\"task_stats\":[],\"v\":2}\n{\"dropped\":[0,0,0],\"gone_ops\":[],\"gone_resources\":[],\"gone_tasks\":[],\"new_ops\":[],\"new_resources\":[],\"new_tasks\":[{\"id\":1099511627777,\"kind\":\"spawn\",\"loc\":[\"script\",3,1],\"name\":\"accept\"}],\"now\":1300,\"op_stats\":[],\"poll_counts\":[],\"resource_stats\":[],\"seq\":4,\"snapshot\":true,\"task_stats\":[{\"busy\":0,\"clones\":0,\"created\":0,\"dropped\":null,\"drops\":0,\"first_poll\":null,\"handles\":1,\"id\":1099511627777,\"last_ended\":null,\"last_started\":null,\"last_wake\":null,\"polling\":false,\"polls\":0,\"sched\":0,\"scheduled\":true,\"self_wakes\":0,\"wakes\":0}],\"v\":2}\n";
+
+pub(super) const LEAVING_NUMBERS: &str = "# TYPE taskscope_task_polls_total counter
+# HELP taskscope_task_polls_total Polls of tasks that have started.
+taskscope_task_polls_total{name=\"connection\",kind=\"spawn\"} 1
+taskscope_task_polls_total{name=\"accept\",kind=\"spawn\"} 0
+# TYPE taskscope_task_busy_seconds_total counter
+# UNIT taskscope_task_busy_seconds seconds
+# HELP taskscope_task_busy_seconds_total How long polls of tasks ran that have ended.
+taskscope_task_busy_seconds_total{name=\"connection\",kind=\"spawn\"} 0.000000030
+taskscope_task_busy_seconds_total{name=\"accept\",kind=\"spawn\"} 0.000000000
+# TYPE taskscope_task_scheduled_seconds_total counter
+# UNIT taskscope_task_scheduled_seconds seconds
+# HELP taskscope_task_scheduled_seconds_total How long tasks were scheduled until polls of them started.
+taskscope_task_scheduled_seconds_total{name=\"connection\",kind=\"spawn\"} 0.000000050
+taskscope_task_scheduled_seconds_total{name=\"accept\",kind=\"spawn\"} 0.000000000
+# TYPE taskscope_task_wakes_total counter
+# HELP taskscope_task_wakes_total Wakes of tasks.
+taskscope_task_wakes_total{name=\"connection\",kind=\"spawn\"} 0
+taskscope_task_wakes_total{name=\"accept\",kind=\"spawn\"} 0
+# TYPE taskscope_task_self_wakes_total counter
+# HELP taskscope_task_self_wakes_total Wakes of tasks that came from within the task.
+taskscope_task_self_wakes_total{name=\"connection\",kind=\"spawn\"} 0
+taskscope_task_self_wakes_total{name=\"accept\",kind=\"spawn\"} 0
+# TYPE taskscope_task_waker_clones_total counter
+# HELP taskscope_task_waker_clones_total Clones of wakers of tasks.
+taskscope_task_waker_clones_total{name=\"connection\",kind=\"spawn\"} 0
+taskscope_task_waker_clones_total{name=\"accept\",kind=\"spawn\"} 0
+# TYPE taskscope_task_waker_drops_total counter
+# HELP taskscope_task_waker_drops_total Drops of wakers of tasks.
+taskscope_task_waker_drops_total{name=\"connection\",kind=\"spawn\"} 0
+taskscope_task_waker_drops_total{name=\"accept\",kind=\"spawn\"} 0
+# TYPE taskscope_tasks gauge
+# HELP taskscope_tasks Tasks by the state that they are in.
+taskscope_tasks{name=\"connection\",kind=\"spawn\",state=\"idle\"} 0
+taskscope_tasks{name=\"connection\",kind=\"spawn\",state=\"scheduled\"} 0
+taskscope_tasks{name=\"connection\",kind=\"spawn\",state=\"polling\"} 0
+taskscope_tasks{name=\"connection\",kind=\"spawn\",state=\"closed\"} 0
+taskscope_tasks{name=\"accept\",kind=\"spawn\",state=\"idle\"} 0
+taskscope_tasks{name=\"accept\",kind=\"spawn\",state=\"scheduled\"} 1
+taskscope_tasks{name=\"accept\",kind=\"spawn\",state=\"polling\"} 0
+taskscope_tasks{name=\"accept\",kind=\"spawn\",state=\"closed\"} 0
+# TYPE taskscope_resource_poll_ops_total counter
+# HELP taskscope_resource_poll_ops_total Poll operations of resources by what they answered.
+# TYPE taskscope_warnings gauge
+# HELP taskscope_warnings Warnings about tasks.
+taskscope_warnings{kind=\"self-wakes\"} 0
+taskscope_warnings{kind=\"lost-waker\"} 0
+taskscope_warnings{kind=\"never-yielded\"} 0
+# TYPE taskscope_dropped_events_total counter
+# HELP taskscope_dropped_events_total Events that the event buffer had no room for.
+taskscope_dropped_events_total{kind=\"task\"} 0
+taskscope_dropped_events_total{kind=\"resource\"} 0
+taskscope_dropped_events_total{kind=\"op\"} 0
+# TYPE taskscope_stream_lines_total counter
+# HELP taskscope_stream_lines_total Lines of the stream.
+taskscope_stream_lines_total 4
+# EOF
+";
+
+pub(super) const LEAVING_BY_ID: &str = "# TYPE taskscope_task_polls_total counter
+# HELP taskscope_task_polls_total Polls of tasks that have started.
+taskscope_task_polls_total{id=\"1.1\",name=\"accept\",kind=\"spawn\"} 0
+# TYPE taskscope_task_busy_seconds_total counter
+# UNIT taskscope_task_busy_seconds seconds
+# HELP taskscope_task_busy_seconds_total How long polls of tasks ran that have ended.
+taskscope_task_busy_seconds_total{id=\"1.1\",name=\"accept\",kind=\"spawn\"} 0.000000000
+# TYPE taskscope_task_scheduled_seconds_total counter
+# UNIT taskscope_task_scheduled_seconds seconds
+# HELP taskscope_task_scheduled_seconds_total How long tasks were scheduled until polls of them started.
+taskscope_task_scheduled_seconds_total{id=\"1.1\",name=\"accept\",kind=\"spawn\"} 0.000000000
+# TYPE taskscope_task_wakes_total counter
+# HELP taskscope_task_wakes_total Wakes of tasks.
+taskscope_task_wakes_total{id=\"1.1\",name=\"accept\",kind=\"spawn\"} 0
+# TYPE taskscope_task_self_wakes_total counter
+# HELP taskscope_task_self_wakes_total Wakes of tasks that came from within the task.
+taskscope_task_self_wakes_total{id=\"1.1\",name=\"accept\",kind=\"spawn\"} 0
+# TYPE taskscope_task_waker_clones_total counter
+# HELP taskscope_task_waker_clones_total Clones of wakers of tasks.
+taskscope_task_waker_clones_total{id=\"1.1\",name=\"accept\",kind=\"spawn\"} 0
+# TYPE taskscope_task_waker_drops_total counter
+# HELP taskscope_task_waker_drops_total Drops of wakers of tasks.
+taskscope_task_waker_drops_total{id=\"1.1\",name=\"accept\",kind=\"spawn\"} 0
+# TYPE taskscope_tasks gauge
+# HELP taskscope_tasks Tasks by the state that they are in.
+taskscope_tasks{id=\"1.1\",name=\"accept\",kind=\"spawn\",state=\"idle\"} 0
+taskscope_tasks{id=\"1.1\",name=\"accept\",kind=\"spawn\",state=\"scheduled\"} 1
+taskscope_tasks{id=\"1.1\",name=\"accept\",kind=\"spawn\",state=\"polling\"} 0
+taskscope_tasks{id=\"1.1\",name=\"accept\",kind=\"spawn\",state=\"closed\"} 0
+# TYPE taskscope_resource_poll_ops_total counter
+# HELP taskscope_resource_poll_ops_total Poll operations of resources by what they answered.
+# TYPE taskscope_warnings gauge
+# HELP taskscope_warnings Warnings about tasks.
+taskscope_warnings{kind=\"self-wakes\"} 0
+taskscope_warnings{kind=\"lost-waker\"} 0
+taskscope_warnings{kind=\"never-yielded\"} 0
+# TYPE taskscope_dropped_events_total counter
+# HELP taskscope_dropped_events_total Events that the event buffer had no room for.
+taskscope_dropped_events_total{kind=\"task\"} 0
+taskscope_dropped_events_total{kind=\"resource\"} 0
+taskscope_dropped_events_total{kind=\"op\"} 0
+# TYPE taskscope_stream_lines_total counter
+# HELP taskscope_stream_lines_total Lines of the stream.
+taskscope_stream_lines_total 4
+# EOF
+";
+
+// Two tasks of a name that has to be escaped, whose sums are too great, and two resources of a type, in one line.
+pub(super) const FULL: &[u8] =
+    b"{\"dropped\":[1,2,3],\"new_ops\":[],\"new_resources\":[{\"attrs\":[],\"id\":1099511627777,\"kind\":\"Sync\",\"loc\":[\"script\",1,1],\"parent\":null,\"type\":\"S\"},{\"attrs\":[],\"id\":1099511627778,\"kind\":\"Sync\",\"loc\":[\"script\",1,1],\"parent\":null,\"type\":\"S\"}],\"new_tasks\":[{\"id\":1099511627777,\"kind\":\"spawn\",\"loc\":[\"script\",1,1],\"name\":\"a\\\\b\\\"c\"},{\"id\":1099511627778,\"kind\":\"spawn\",\"loc\":[\"script\",1,1],\"name\":\"a\\\\b\\\"c\"}],\"now\":50,\"op_stats\":[],\"poll_counts\":[[1099511627777,1,2],[1099511627778,3,4]],\"resource_stats\":[{\"attrs\":[],\"created\":20,\"dropped\":null,\"handles\":2,\"id\":1099511627777},{\"attrs\":[],\"created\":20,\"dropped\":null,\"handles\":2,\"id\":1099511627778}],\"seq\":1,\"snapshot\":false,\"task_stats\":[{\"busy\":18446744073709551615,\"clones\":0,\"created\":10,\"dropped\":null,\"drops\":0,\"first_poll\":null,\"handles\":1,\"id\":1099511627777,\"last_ended\":null,\"last_started\":null,\"last_wake\":null,\"polling\":false,\"polls\":0,\"sched\":1000000001,\"scheduled\":true,\"self_wakes\":0,\"wakes\":0},{\"busy\":18446744073709551615,\"clones\":0,\"created\":10,\"dropped\":null,\"drops\":0,\"first_poll\":10,\"handles\":1,\"id\":1099511627778,\"last_ended\":null,\"last_started\":10,\"last_wake\":null,\"polling\":true,\"polls\":1,\"sched\":999999999,\"scheduled\":false,\"self_wakes\":0,\"wakes\":0}],\"v\":1}\n";
+
+pub(super) const FULL_NUMBERS: &str = "# TYPE taskscope_task_polls_total counter
+# HELP taskscope_task_polls_total Polls of tasks that have started.
+taskscope_task_polls_total{name=\"a\\\\b\\\"c\",kind=\"spawn\"} 1
+# TYPE taskscope_task_busy_seconds_total counter
+# UNIT taskscope_task_busy_seconds seconds
+# HELP taskscope_task_busy_seconds_total How long polls of tasks ran that have ended.
+taskscope_task_busy_seconds_total{name=\"a\\\\b\\\"c\",kind=\"spawn\"} 18446744073.709551615
+# TYPE taskscope_task_scheduled_seconds_total counter
+# UNIT taskscope_task_scheduled_seconds seconds
+# HELP taskscope_task_scheduled_seconds_total How long tasks were scheduled until polls of them started.
+taskscope_task_scheduled_seconds_total{name=\"a\\\\b\\\"c\",kind=\"spawn\"} 2.000000000
+# TYPE taskscope_task_wakes_total counter
+# HELP taskscope_task_wakes_total Wakes of tasks.
+taskscope_task_wakes_total{name=\"a\\\\b\\\"c\",kind=\"spawn\"} 0
+# TYPE taskscope_task_self_wakes_total counter
+# HELP taskscope_task_self_wakes_total Wakes of tasks that came from within the task.
+taskscope_task_self_wakes_total{name=\"a\\\\b\\\"c\",kind=\"spawn\"} 0
+# TYPE taskscope_task_waker_clones_total counter
+# HELP taskscope_task_waker_clones_total Clones of wakers of tasks.
+taskscope_task_waker_clones_total{name=\"a\\\\b\\\"c\",kind=\"spawn\"} 0
+# TYPE taskscope_task_waker_drops_total counter
+# HELP taskscope_task_waker_drops_total Drops of wakers of tasks.
+taskscope_task_waker_drops_total{name=\"a\\\\b\\\"c\",kind=\"spawn\"} 0
+# TYPE taskscope_tasks gauge
+# HELP taskscope_tasks Tasks by the state that they are in.
+taskscope_tasks{name=\"a\\\\b\\\"c\",kind=\"spawn\",state=\"idle\"} 0
+taskscope_tasks{name=\"a\\\\b\\\"c\",kind=\"spawn\",state=\"scheduled\"} 1
+taskscope_tasks{name=\"a\\\\b\\\"c\",kind=\"spawn\",state=\"polling\"} 1
+taskscope_tasks{name=\"a\\\\b\\\"c\",kind=\"spawn\",state=\"closed\"} 0
+# TYPE taskscope_resource_poll_ops_total counter
+# HELP taskscope_resource_poll_ops_total Poll operations of resources by what they answered.
+taskscope_resource_poll_ops_total{type=\"S\",readiness=\"ready\"} 4
+taskscope_resource_poll_ops_total{type=\"S\",readiness=\"pending\"} 6
+# TYPE taskscope_warnings gauge
+# HELP taskscope_warnings Warnings about tasks.
+taskscope_warnings{kind=\"self-wakes\"} 0
+taskscope_warnings{kind=\"lost-waker\"} 0
+taskscope_warnings{kind=\"never-yielded\"} 0
+# TYPE taskscope_dropped_events_total counter
+# HELP taskscope_dropped_events_total Events that the event buffer had no room for.
+taskscope_dropped_events_total{kind=\"task\"} 1
+taskscope_dropped_events_total{kind=\"resource\"} 2
+taskscope_dropped_events_total{kind=\"op\"} 3
+# TYPE taskscope_stream_lines_total counter
+# HELP taskscope_stream_lines_total Lines of the stream.
+taskscope_stream_lines_total 1
+# EOF
+";

@@ -1,0 +1,133 @@
+#!/bin/sh
+# Looks at the numbers that `taskscope metrics` writes, as Prometheus does.
+#
+# Usage: tests/metrics.sh            behind `rt ci`, or `rt run` in crates/taskscope.
+#
+# Of each example's stream, and of services at random, whose closed tasks leave, the numbers are those that
+# tests/metrics/plain_metrics.py reckons, byte for byte, and promtool finds no fault in them. A node exporter on the loopback reads
+# them from a file, a Prometheus scrapes it, and what it answers to a query is what the report says. promtool checks docs/alerts.yml.
+#
+# promtool and Prometheus are Debian's prometheus, the node exporter its prometheus-node-exporter. Where they are missing their steps are
+# skipped; with CI=true they are installed by apt-get, and where it doesn't give them, that is a failure.
+#
+# Its last line is `N passed, M failed`, and its status 1 where M isn't 0.
+
+root=$(CDPATH= cd -P -- "$(dirname -- "$0")/.." && pwd) || exit 2
+examples=$root/examples
+program=${TASKSCOPE:-$root/crates/taskscope/out/taskscope}
+. "$root/tests/steps.sh"
+trap 'stop_servers; rm -rf "$work"' EXIT
+
+plain() {
+    python3 "$root/tests/metrics/plain_metrics.py" "$@"
+}
+
+are_numbers_of() {
+    "$program" metrics "$1" > "$work/numbers" && plain "$1" > "$work/plain" && cmp "$work/numbers" "$work/plain"
+}
+
+# A service in which chance falls as this number says, and whose closed tasks leave.
+are_numbers_of_service() {
+    { echo 'retention 3000000000' && python3 "$examples/service.py" --seed "$1"; } > "$work/script" &&
+        "$program" run "$work/script" > "$work/service" && are_numbers_of "$work/service"
+}
+
+# No count falls from one line to the next, though tasks leave.
+never_fall() {
+    { echo 'retention 3000000000' && python3 "$examples/service.py" --seed 1; } > "$work/script" &&
+        "$program" run "$work/script" > "$work/service" || return 1
+    : > "$work/before"
+    for lines in 20 40 60 80 100 120 140 160 180 200; do
+        head -n "$lines" "$work/service" > "$work/front" && "$program" metrics "$work/front" | grep '^taskscope[a-z_]*_total' > "$work/after" &&
+            python3 "$root/tests/metrics/never_fall.py" "$work/before" "$work/after" && mv "$work/after" "$work/before" || return 1
+    done
+}
+
+# ---- Prometheus
+
+has_prometheus() {
+    command -v promtool > /dev/null && command -v prometheus > /dev/null && command -v prometheus-node-exporter > /dev/null
+}
+
+install_prometheus() {
+    [ "$CI" = true ] && [ "$(id -u)" -eq 0 ] &&
+        { apt-get update -qq && apt-get install -y -qq --no-install-recommends prometheus prometheus-node-exporter; } > "$work/said" 2>&1
+}
+
+servers=
+stop_servers() {
+    for server in $servers; do
+        kill "$server" && wait "$server"
+    done 2> /dev/null
+    servers=
+}
+
+free_port() {
+    python3 -c 'import socket; s = socket.socket(); s.bind(("127.0.0.1", 0)); print(s.getsockname()[1])'
+}
+
+start_servers() {
+    exporter=$(free_port) && prometheus=$(free_port) && mkdir "$work/collected" "$work/data" || return 1
+    cat > "$work/prometheus.yml" << END
+global: { scrape_interval: 1s }
+rule_files: [$root/docs/alerts.yml]
+scrape_configs:
+  - job_name: node
+    static_configs: [{ targets: ["127.0.0.1:$exporter"] }]
+END
+    prometheus-node-exporter --collector.disable-defaults --collector.textfile --collector.textfile.directory="$work/collected" \
+        --web.listen-address="127.0.0.1:$exporter" > "$work/exporter.said" 2>&1 &
+    servers=$!
+    prometheus --config.file="$work/prometheus.yml" --storage.tsdb.path="$work/data" --web.listen-address="127.0.0.1:$prometheus" \
+        > "$work/prometheus.said" 2>&1 &
+    servers="$servers $!"
+}
+
+# What Prometheus answers to a query, once it has scraped; it is asked for up to 40 seconds.
+answer_of() {
+    python3 "$root/tests/metrics/ask.py" "http://127.0.0.1:$prometheus" "$1"
+}
+
+# A query of what is collected of the service's stream answers with the report's number.
+answers_with() {
+    answer=$(answer_of "$1") && echo "$1: $answer, and the report says $2" && [ "$answer" = "$2" ]
+}
+
+sum_in_report() {
+    "$program" view "$stream" | awk -v key="$1" '$1 == "task" { for (i = 1; i < NF; i++) if ($i == key) { sum += $(i + 1); break } } END { printf "%d\n", sum }'
+}
+
+try_prometheus() {
+    stream=$examples/service.script.stdout
+    "$program" metrics "$stream" > "$work/tasks.new" && start_servers && mv "$work/tasks.new" "$work/collected/tasks.prom" || return 1
+    answers_with 'sum(taskscope_task_polls_total)' "$(sum_in_report polls)" &&
+        answers_with 'sum(taskscope_task_wakes_total)' "$(sum_in_report wakes)" &&
+        answers_with 'sum(taskscope_tasks)' "$("$program" view "$stream" | grep -c '^task ')" &&
+        answers_with 'sum(taskscope_warnings)' "$("$program" view "$stream" | grep -c '^warn ')" &&
+        answers_with 'count(taskscope_task_polls_total)' "$("$program" view "$stream" | awk '$1 == "task" { print $NF, $3 }' | sort -u | wc -l)"
+}
+
+for script in "$examples"/*.script; do
+    step "$(basename "$script" .script), its numbers" are_numbers_of "$script.stdout"
+done
+for seed in 1 2 3 4; do
+    step "a service at random, by seed $seed, its numbers" are_numbers_of_service "$seed"
+done
+step "no count falls while tasks leave" never_fall
+
+if has_prometheus || { install_prometheus && has_prometheus; }; then
+    for script in "$examples"/*.script; do
+        "$program" metrics "$script.stdout" > "$work/numbers"
+        step "$(basename "$script" .script), as promtool reads its numbers" promtool check metrics < "$work/numbers"
+    done
+    step "the alerts, as promtool reads them" promtool check rules "$root/docs/alerts.yml"
+    step "a Prometheus that scrapes a node exporter answers with the report's numbers" try_prometheus
+elif [ "$CI" = true ]; then
+    failed=$((failed + 1))
+    echo "FAILED: prometheus and prometheus-node-exporter are missing, and apt-get does not give them"
+    tail -n 5 "$work/said"
+else
+    echo "skipped: Prometheus, since prometheus and prometheus-node-exporter are missing"
+fi
+
+finish

@@ -1,0 +1,144 @@
+#!/usr/bin/env python3
+"""The numbers of a stream, reckoned plainly: the text that `taskscope metrics` writes of it.
+
+Usage: plain_metrics.py STREAM [--by name|id]
+"""
+import argparse
+import json
+from collections import Counter
+
+MOST = 2**64 - 1
+STATES = ("idle", "scheduled", "polling", "closed")
+COUNTS = (
+    ("taskscope_task_polls_total", "polls", None, "Polls of tasks that have started."),
+    ("taskscope_task_busy_seconds_total", "busy", "seconds", "How long polls of tasks ran that have ended."),
+    ("taskscope_task_scheduled_seconds_total", "sched", "seconds", "How long tasks were scheduled until polls of them started."),
+    ("taskscope_task_wakes_total", "wakes", None, "Wakes of tasks."),
+    ("taskscope_task_self_wakes_total", "self_wakes", None, "Wakes of tasks that came from within the task."),
+    ("taskscope_task_waker_clones_total", "clones", None, "Clones of wakers of tasks."),
+    ("taskscope_task_waker_drops_total", "drops", None, "Drops of wakers of tasks."),
+)
+
+
+class Stream:
+    """Tables that the lines of a stream lead to, and what has left them."""
+
+    def __init__(self):
+        self.tasks, self.resources, self.ops, self.polls = {}, {}, {}, {}
+        self.left_tasks, self.left_resources = [], []
+        self.dropped, self.now, self.lines = (0, 0, 0), 0, 0
+
+    def take(self, line):
+        before = (dict(self.tasks), dict(self.resources), dict(self.polls))
+        if line["snapshot"]:
+            self.tasks, self.resources, self.ops, self.polls = {}, {}, {}, {}
+        for kind in ("tasks", "resources", "ops"):
+            items = getattr(self, kind)
+            for id in line.get("gone_" + kind, ()):
+                items.pop(id, None)
+            items.update((info["id"], (info, None)) for info in line["new_" + kind])
+            for row in line[{"tasks": "task", "resources": "resource", "ops": "op"}[kind] + "_stats"]:
+                items[row["id"]] = (items[row["id"]][0], row)
+        self.polls.update((id, (ready, pending)) for id, ready, pending in line["poll_counts"])
+        self.dropped, self.now = line["dropped"], line["now"]
+        self.lines += 1
+        tasks, resources, polls = before
+        self.left_tasks += [item for id, item in tasks.items() if id not in self.tasks]
+        self.left_resources += [(info, polls.get(id, (0, 0))) for id, (info, _) in resources.items() if id not in self.resources]
+
+
+def state_of(row):
+    if row["dropped"] is not None:
+        return "closed"
+    return "polling" if row["polling"] else "scheduled" if row["scheduled"] else "idle"
+
+
+def label(key, value):
+    return key + '="' + value.replace("\\", "\\\\").replace('"', '\\"').replace("\n", "\\n") + '"'
+
+
+def labels_of(info, by):
+    own = label("name", info["name"]) + "," + label("kind", info["kind"])
+    number = info["id"]
+    return label("id", f"{number >> 40}.{number & (2**40 - 1)}") + "," + own if by == "id" else own
+
+
+def seconds(nanos):
+    return f"{nanos // 10**9}.{nanos % 10**9:09}"
+
+
+def head(name, kind, unit, text):
+    base = name.removesuffix("_total") if kind == "counter" else name
+    yield f"# TYPE {name} {kind}"
+    if unit:
+        yield f"# UNIT {base} {unit}"
+    yield f"# HELP {name} {text}"
+
+
+def summed(pairs):
+    sums = {}
+    for labels, number in pairs:
+        sums[labels] = min(sums.get(labels, 0) + number, MOST)
+    return sums
+
+
+def warnings_of(stream):
+    for info, row in stream.tasks.values():
+        if info["kind"] != "spawn":
+            continue
+        if row["wakes"] and 100 * row["self_wakes"] > 50 * row["wakes"]:
+            yield "self-wakes"
+        if state_of(row) == "idle" and row["clones"] == row["drops"]:
+            yield "lost-waker"
+        if row["polling"] and row["polls"] == 1 and stream.now - row["last_started"] >= 10**9:
+            yield "never-yielded"
+
+
+def lines_of(stream, by):
+    left = stream.left_tasks if by == "name" else []
+    tasks = [*left, *stream.tasks.values()]
+    for name, key, unit, text in COUNTS:
+        yield from head(name, "counter", unit, text)
+        for labels, number in summed((labels_of(info, by), row[key]) for info, row in tasks).items():
+            yield f"{name}{{{labels}}} {seconds(number) if unit else number}"
+    yield from head("taskscope_tasks", "gauge", None, "Tasks by the state that they are in.")
+    states = Counter((labels_of(info, by), state_of(row)) for info, row in stream.tasks.values())
+    for labels in dict.fromkeys(labels_of(info, by) for info, _ in tasks):
+        for state in STATES:
+            yield f'taskscope_tasks{{{labels},state="{state}"}} {states[labels, state]}'
+    name = "taskscope_resource_poll_ops_total"
+    yield from head(name, "counter", None, "Poll operations of resources by what they answered.")
+    resources = stream.left_resources if by == "name" else []
+    resources = [*resources, *((info, stream.polls.get(id, (0, 0))) for id, (info, _) in stream.resources.items())]
+    ready = summed((label("type", info["type"]), polls[0]) for info, polls in resources)
+    pending = summed((label("type", info["type"]), polls[1]) for info, polls in resources)
+    for labels in ready:
+        yield f'{name}{{{labels},readiness="ready"}} {ready[labels]}'
+        yield f'{name}{{{labels},readiness="pending"}} {pending[labels]}'
+    yield from head("taskscope_warnings", "gauge", None, "Warnings about tasks.")
+    warnings = Counter(warnings_of(stream))
+    for kind in ("self-wakes", "lost-waker", "never-yielded"):
+        yield f'taskscope_warnings{{kind="{kind}"}} {warnings[kind]}'
+    yield from head("taskscope_dropped_events_total", "counter", None, "Events that the event buffer had no room for.")
+    for kind, number in zip(("task", "resource", "op"), stream.dropped):
+        yield f'taskscope_dropped_events_total{{kind="{kind}"}} {number}'
+    yield from head("taskscope_stream_lines_total", "counter", None, "Lines of the stream.")
+    yield f"taskscope_stream_lines_total {stream.lines}"
+    yield "# EOF"
+
+
+def main():
+    words = argparse.ArgumentParser(description=__doc__.splitlines()[0])
+    words.add_argument("stream")
+    words.add_argument("--by", choices=("name", "id"), default="name")
+    words = words.parse_args()
+    stream = Stream()
+    with open(words.stream, encoding="ascii") as lines:
+        for line in lines:
+            if line.endswith("\n"):
+                stream.take(json.loads(line))
+    for line in lines_of(stream, words.by):
+        print(line)
+
+
+main()
