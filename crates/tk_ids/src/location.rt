@@ -1,6 +1,5 @@
 //! A place in a source file.
-ghost use Rattle.std.specs.Prelude.{◌≡◌, true};
-ghost use Rattle.tk_ids.specs.Names.{is_name};
+ghost use Rattle.std.specs.Prelude.{◌≡◌};
 
 use crate::name::Name;
 use std::alloc::AllocError;
@@ -13,22 +12,6 @@ pub struct Location {
     pub line: u32,
     /// The column, counted from 1.
     pub column: u32,
-}
-
-impl Location {
-    /// The place in this file, whose name is a text of the program: it is lent, as by [`Name::from_static`].
-    pub fn from_static(file: &'static str, line: u32, column: u32) -> Location
-        requires { is_name file.now ≡ true }
-        ensures file { result.file ≡ file.now }
-        ensures line { result.line ≡ line }
-        ensures column { result.column ≡ column }
-    {
-        Location {
-            file: Name::from_static(file),
-            line,
-            column,
-        }
-    }
 }
 
 impl Clone for Location {

@@ -7,27 +7,24 @@ ghost use Rattle.tk_ids.specs.Names as spec;
 
 use crate::error::IdError;
 use std::alloc::{AllocError, Global};
-use std::borrow::CowStr;
 use std::fmt;
 use std::marker::Model;
 
-/// A name: 1 to 1,024 bytes of printable ASCII, each 0x20 to 0x7E. It keeps its text, or is lent one that the program has
-/// itself ([`Name::from_static`]); two names are equal by their bytes alone.
+/// A name: 1 to 1,024 bytes of printable ASCII, each 0x20 to 0x7E.
 #[derive(Debug, Drop)]
 pub struct Name {
-    text: CowStr<'static, Global>,
+    text: String,
 }
 
 impl Model for Name {
-    ghost use Rattle.std.specs.Prelude.{◌≡◌, List, ℕ, true};
-    ghost use Rattle.std.specs.Cow.{cow_str_bytes};
+    ghost use Rattle.std.specs.Prelude.{◌≡◌, List, ℕ, true, string_bytes};
     ghost use Rattle.tk_ids.specs.Names.{is_name};
 
     ghost Value = { List ℕ };
 
-    ghost view = { λ n. cow_str_bytes n.text };
+    ghost view = { λ n. string_bytes n.text };
 
-    ghost invariant = { λ n. is_name (cow_str_bytes n.text) ≡ true };
+    ghost invariant = { λ n. is_name (string_bytes n.text) ≡ true };
 }
 
 /// Whether bytes are a name.
@@ -68,20 +65,7 @@ impl Name {
         // Printable bytes are ASCII, and so they are text.
         let text = unsafe { str::from_utf8_unchecked(bytes) };
         let text = String::from_str(alloc, text)?;
-        Ok(Name {
-            text: CowStr::Owned(text),
-        })
-    }
-
-    /// The name with this text of the program, which is lent and not copied: neither this nor a copy of the name asks for
-    /// memory. Of a literal the check sees that it is a name.
-    pub fn from_static(text: &'static str) -> Name
-        requires { spec.is_name text.now ≡ true }
-        ensures { result ≡ text.now }
-    {
-        Name {
-            text: CowStr::Borrowed(text),
-        }
+        Ok(Name { text })
     }
 
     /// The name's bytes.
@@ -89,7 +73,7 @@ impl Name {
         ensures bytes { result.now ≡ self.now }
         ensures name { spec.is_name result.now ≡ true }
     {
-        self.as_str().as_bytes()
+        self.text.as_bytes()
     }
 
     /// The name as text.

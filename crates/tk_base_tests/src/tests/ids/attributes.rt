@@ -63,60 +63,32 @@ fn infos_of(alloc: Global, names: &[&str]) -> Result<Vec<AttrInfo>, Fail> {
     Ok(list)
 }
 
-// One by one, since no rule of the borrow checker covers two slices of structs that hold a reference, as names do.
-fn are_same_specs(these: &[AttrSpec], those: &[AttrSpec]) -> bool {
-    if these.len() != those.len() {
-        return false;
-    }
-    for i in 0..these.len() {
-        if these[i] != those[i] {
-            return false;
-        }
-    }
-    true
-}
-
-fn are_same_infos(these: &[AttrInfo], those: &[AttrInfo]) -> bool {
-    if these.len() != those.len() {
-        return false;
-    }
-    for i in 0..these.len() {
-        if these[i] != those[i] {
-            return false;
-        }
-    }
-    true
-}
-
 // Whether a list of specs is kept, and given out again.
 fn are_specs_kept(list: Vec<AttrSpec>, wanted: &[AttrSpec]) -> Result<bool, Fail> {
     let attrs = Attrs::new(list)?;
-    let is_shown = are_same_specs(attrs.as_slice(), wanted);
-    let list = attrs.into_vec();
-    Ok(is_shown && are_same_specs(list.as_slice(), wanted))
+    let is_shown = attrs.as_slice() == wanted;
+    Ok(is_shown && attrs.into_vec().as_slice() == wanted)
 }
 
 // Whether a list of infos is kept, and given out again.
 fn are_infos_kept(list: Vec<AttrInfo>, wanted: &[AttrInfo]) -> Result<bool, Fail> {
     let infos = AttrInfos::new(list)?;
-    let is_shown = are_same_infos(infos.as_slice(), wanted);
-    let list = infos.into_vec();
-    Ok(is_shown && are_same_infos(list.as_slice(), wanted))
+    let is_shown = infos.as_slice() == wanted;
+    Ok(is_shown && infos.into_vec().as_slice() == wanted)
 }
 
 // Whether a clone of infos has the same list.
 fn are_infos_cloned(list: Vec<AttrInfo>) -> Result<bool, Fail> {
     let infos = AttrInfos::new(list)?;
     let clone = infos.clone()?;
-    Ok(are_same_infos(clone.as_slice(), infos.as_slice()))
+    Ok(clone.as_slice() == infos.as_slice())
 }
 
 // Whether a list of specs is refused, and handed back.
 fn are_specs_refused(list: Vec<AttrSpec>, wanted: &[AttrSpec]) -> bool {
     match Attrs::new(list) {
         Ok(_) => false,
-        Err((error, list)) => error == IdError::BadAttributes
-            && are_same_specs(list.as_slice(), wanted),
+        Err((error, list)) => error == IdError::BadAttributes && list.as_slice() == wanted,
     }
 }
 
@@ -124,8 +96,7 @@ fn are_specs_refused(list: Vec<AttrSpec>, wanted: &[AttrSpec]) -> bool {
 fn are_infos_refused(list: Vec<AttrInfo>, wanted: &[AttrInfo]) -> bool {
     match AttrInfos::new(list) {
         Ok(_) => false,
-        Err((error, list)) => error == IdError::BadAttributes
-            && are_same_infos(list.as_slice(), wanted),
+        Err((error, list)) => error == IdError::BadAttributes && list.as_slice() == wanted,
     }
 }
 

@@ -101,7 +101,7 @@ fn is_task_cloned(info: &TaskInfo) -> Result<bool, Fail> {
 
 fn is_resource_copied(info: &ResourceInfo) -> Result<bool, Fail> {
     let copy = info.copy()?;
-    Ok(copy == *info && copy.attrs == info.attrs)
+    Ok(copy == *info && copy.attrs.as_slice() == info.attrs.as_slice())
 }
 
 fn is_resource_cloned(info: &ResourceInfo) -> Result<bool, Fail> {
@@ -111,7 +111,7 @@ fn is_resource_cloned(info: &ResourceInfo) -> Result<bool, Fail> {
 
 fn is_op_copied(info: &OpInfo) -> Result<bool, Fail> {
     let copy = info.copy()?;
-    Ok(copy == *info && copy.attrs == info.attrs)
+    Ok(copy == *info && copy.attrs.as_slice() == info.attrs.as_slice())
 }
 
 fn is_op_cloned(info: &OpInfo) -> Result<bool, Fail> {

@@ -3,7 +3,7 @@
 use crate::tests::printed::is_printed;
 use std::alloc::Global;
 use std::test::Fail;
-use tk_ids::{IdError, Location, Name};
+use tk_ids::{IdError, Name};
 
 const LONGEST: [u8; 1024] = [b'n'; 1024];
 
@@ -80,31 +80,5 @@ fn copies_have_the_bytes(rt: HostRuntime) -> Result<(), Fail> {
     let alloc: Global = rt.alloc();
     let name = Name::new(alloc, b"accept")?;
     assert!(rt; is_copied(alloc, &name));
-    Ok(())
-}
-
-// A text of the program gives the name that a copy of its bytes gives, as do its copies.
-#[test]
-fn lends_a_text_of_the_program(rt: HostRuntime) -> Result<(), Fail> {
-    let alloc: Global = rt.alloc();
-    let lent = Name::from_static("net::accept");
-    assert!(rt; has_bytes(Name::new(alloc, b"net::accept"), &lent));
-    assert!(rt; has_bytes(lent.copy(), &lent));
-    assert!(rt; has_bytes(lent.clone(), &lent));
-    assert!(rt; is_printed(alloc, &lent, "net::accept"));
-    Ok(())
-}
-
-#[test]
-fn lends_the_file_of_a_place(rt: HostRuntime) -> Result<(), Fail> {
-    let alloc: Global = rt.alloc();
-    let lent = Location::from_static("serve.rt", 7, 3);
-    let kept = Location {
-        file: Name::new(alloc, b"serve.rt")?,
-        line: 7,
-        column: 3,
-    };
-    assert!(rt; lent == kept);
-    assert!(rt; lent.clone()? == kept);
     Ok(())
 }
