@@ -1,5 +1,5 @@
 -- What a work does that takes a permit of a resource in a poll, and what it records of that.
-use Rattle.std.specs.Prelude.{◌≡◌, Bool, true, false, codes, ◌⊎◌}
+use Rattle.std.specs.Prelude.{◌≡◌, Bool, true, false, ◌⊎◌}
 use Rattle.futures.specs.declared.task.Poll.{Poll}
 use Rattle.futures.specs.declared.task.Poll.TheVariants.{Ready, Pending}
 use Rattle.tk_core.specs.declared.attrs.AttrOp.TheVariants.{Add, Sub}
@@ -43,7 +43,7 @@ OffersPoll old op new =
 
 -- a try as a poll of the operation, which is ready where a permit was taken
 abbrev pub try_of : TakePermit → Bool → PollOp
-try_of work taken = record { resource = work.user.id; name = codes "poll_acquire"; task = work.task; op = work.op; ready = taken }
+try_of work taken = record { resource = work.user.id; name = work.name; task = work.task; op = work.op; ready = taken }
 
 -- the resource, the operation and the task stay
 pub record Stays (old new : TakePermit) : Type 0 where
@@ -51,12 +51,22 @@ pub record Stays (old new : TakePermit) : Type 0 where
   pub ledger : new.user.token.ledger ≡ old.user.token.ledger
   pub op : new.op ≡ old.op
   pub task : new.task ≡ old.task
+  pub name : new.name ≡ old.name
 
--- one try to take a permit, which is told as one poll of the operation
+-- the try is told, and all else stays. Where there was no memory for its name nobody is told
+pub record TellsTry (old : TakePermit) (taken : Bool) (new : TakePermit) : Type 0 where
+  pub user : new.user ≡ old.user
+  pub op : new.op ≡ old.op
+  pub task : new.task ≡ old.task
+  pub name : new.name ≡ old.name
+  pub holds : new.holds ≡ old.holds
+  pub told : OffersPoll old.recorder (try_of old taken) new.recorder ⊎ (new.recorder ≡ old.recorder)
+
+-- one try to take a permit, which is told as one poll of the operation, but where there was no memory for its name
 pub record Tries (old : TakePermit) (new : TakePermit) : Type 0 where
   pub stays : Stays old new
   pub taken : TakesOne new.holds old.user new.user
-  pub recorded : OffersPoll old.recorder (try_of old new.holds) new.recorder
+  pub recorded : OffersPoll old.recorder (try_of old new.holds) new.recorder ⊎ (new.recorder ≡ old.recorder)
 
 -- the permit is given back, which is told nobody
 pub record GivesBack (old new : TakePermit) : Type 0 where

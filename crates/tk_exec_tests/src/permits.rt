@@ -1,6 +1,6 @@
 //! A work that records from within its polls, to copy.
-ghost use Rattle.std.specs.Prelude.{◌≡◌, false};
-ghost use Rattle.tk_exec_tests.specs.Permits.{Tries, GivesBack, OffersPoll};
+ghost use Rattle.std.specs.Prelude.{◌≡◌, false, IfSome};
+ghost use Rattle.tk_exec_tests.specs.Permits.{Tries, GivesBack, OffersPoll, TellsTry, try_of};
 
 use futures::task::Poll;
 use std::sync::Wait;
@@ -13,7 +13,7 @@ use tk_ledgers::{PollScope, ResourceUser};
 const PERMITS: u64 = 0;
 
 /// Takes a permit of a resource, keeps it until its next poll, gives it back then and is ready. Where none is left it tries again in
-/// its next poll. It tells each try as a poll of an operation.
+/// its next poll. It tells each try as a poll of an operation, but where there is no memory for a name.
 ///
 /// What a work records from within its polls it records by a recorder that it was handed when it was made, which is its own: no two
 /// share one, and a console has at most 64. By the same recorder it could make tasks, resources and operations.
@@ -23,6 +23,7 @@ pub struct TakePermit {
     op: AsyncOpId,
     task: TaskId,
     recorder: Recorder,
+    name: Name,
     holds: bool,
 }
 
@@ -34,12 +35,19 @@ fn offer<R: Wait>(rt: &R, recorder: &mut Recorder, op: PollOp)
 }
 
 impl TakePermit {
-    /// One that holds no permit: of this resource, in this operation of this task.
-    pub fn new(user: ResourceUser, op: AsyncOpId, task: TaskId, recorder: Recorder) -> TakePermit
+    /// One that holds no permit: of this resource, in this operation of this task. Its tries are told by this name.
+    pub fn new(
+        user: ResourceUser,
+        op: AsyncOpId,
+        task: TaskId,
+        recorder: Recorder,
+        name: Name,
+    ) -> TakePermit
         ensures user { result.user ≡ user }
         ensures op { result.op ≡ op }
         ensures task { result.task ≡ task }
         ensures recorder { result.recorder ≡ recorder }
+        ensures name { result.name ≡ name }
         ensures holds { result.holds ≡ false }
     {
         TakePermit {
@@ -47,6 +55,7 @@ impl TakePermit {
             op,
             task,
             recorder,
+            name,
             holds: false,
         }
     }
@@ -56,15 +65,30 @@ impl TakePermit {
         ensures { Tries self.old self.new }
     {
         let taken = self.user.sub(rt, PERMITS, AttrValue::U64(1)).is_ok();
-        let op = PollOp {
+        self.tell(rt, taken);
+        self.holds = taken;
+    }
+
+    // A try as a poll of the operation, where there is memory for its name.
+    fn try_of(&self, taken: bool) -> Option<PollOp>
+        ensures { IfSome result (λ op. op ≡ try_of self.now taken) }
+    {
+        let name = self.name.copy().ok()?;
+        Some(PollOp {
             resource: self.user.resource(),
-            name: Name::from_static("poll_acquire"),
+            name,
             task: self.task,
             op: self.op,
             ready: taken,
-        };
-        offer(rt, &mut self.recorder, op);
-        self.holds = taken;
+        })
+    }
+
+    fn tell<R: Wait>(&mut self, rt: &R, taken: bool)
+        ensures { TellsTry self.old taken self.new }
+    {
+        if let Some(op) = self.try_of(taken) {
+            offer(rt, &mut self.recorder, op);
+        }
     }
 
     // Gives the permit back.

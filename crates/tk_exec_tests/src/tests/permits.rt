@@ -25,7 +25,7 @@ fn limits() -> Limits {
 fn one_permit(alloc: Global) -> Option<Attrs> {
     let mut attrs = Vec::new(alloc);
     let permits = AttrSpec {
-        name: Name::from_static("permits"),
+        name: Name::new(alloc, b"permits").ok()?,
         unit: None,
         first: AttrValue::U64(1),
     };
@@ -33,12 +33,21 @@ fn one_permit(alloc: Global) -> Option<Attrs> {
     Attrs::new(attrs).ok()
 }
 
+fn place(alloc: Global) -> Option<Location> {
+    let file = Name::new(alloc, b"permits.rt").ok()?;
+    Some(Location {
+        file,
+        line: 1,
+        column: 1,
+    })
+}
+
 fn pool<R: Wait>(rt: &R, alloc: Global, mut recorder: Recorder) -> Option<ResourceOwner> {
     let spec = ResourceSpec {
         parent: None,
-        concrete: Name::from_static("Semaphore"),
-        kind: Name::from_static("Sync"),
-        location: Location::from_static("permits.rt", 1, 1),
+        concrete: Name::new(alloc, b"Semaphore").ok()?,
+        kind: Name::new(alloc, b"Sync").ok()?,
+        location: place(alloc)?,
         attrs: one_permit(alloc)?,
     };
     let (owner, _) = recorder.resource(rt, alloc, spec, 0).ok()?;
@@ -55,7 +64,8 @@ fn taking<R: Wait>(
 ) -> Option<Instrumented<TakePermit>> {
     let user = pool.user(rt).ok()?;
     let op = AsyncOpId::from_value(OPERATION).ok()?;
-    let work = TakePermit::new(user, op, id(n)?, recorder);
+    let name = Name::new(alloc, b"poll_acquire").ok()?;
+    let work = TakePermit::new(user, op, id(n)?, recorder, name);
     task(rt, alloc, n, work)
 }
 
