@@ -116,7 +116,9 @@ const VIEW_LONG_ABOUT: &str =
 
 The report has a line for each task, resource and async operation, and one for each warning:
 `taskscope lint --help` says what they mean. docs/FORMATS.md explains the lines. A last line of the stream
-without its line end is ignored. After a fault nothing is written.";
+without its line end is ignored. After a fault nothing is written.
+
+The report is written at the end of the stream: `taskscope watch` shows a stream while it comes.";
 
 const LINT_ABOUT: &str =
     "Reads a stream and writes the warnings about its tasks to standard output";
