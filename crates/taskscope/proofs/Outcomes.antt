@@ -8,7 +8,7 @@ use Rattle.tk_screen.specs.declared.canvas.Canvas.{Canvas}
 use Rattle.tk_watch.proofs.WatchLemmas.{none_drawn}
 use Rattle.taskscope.specs.Program.{Does, filter_text, screen_by}
 use Rattle.taskscope.specs.declared.command_line.Request.{Request}
-use Rattle.taskscope.specs.declared.command_line.Request.TheVariants.{Demo, Page, Run, Show, Watch}
+use Rattle.taskscope.specs.declared.command_line.Request.TheVariants.{Demo, Metrics, Page, Run, Show, Watch}
 
 -- nothing was written
 nothing_more : (known : Option (List ℕ)) → Appends known known []
@@ -46,6 +46,12 @@ nothing_done terminal filter (Watch options) given known status told =
       is_text = refl;
       watches = none_drawn (screen_by options part terminal) given known;
     }
+nothing_done terminal filter (Metrics lints) given known status told = record {
+  outcome = Err faults.Memory;
+  told = told;
+  measures = tt;
+  unwritten = λ other. refl;
+}
 nothing_done terminal filter Demo given known status told = record {
   outcome = Err faults.Memory;
   told = told;

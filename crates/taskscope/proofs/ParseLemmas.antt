@@ -26,7 +26,7 @@ use Rattle.tk_client.specs.Warnings.{LintsView}
 use Rattle.tk_report.specs.declared.view.View.{View}
 use Rattle.tk_report.specs.declared.view.View.TheVariants.{Report, Lint}
 use Rattle.tk_frame.specs.declared.query.Column.{Column}
-use Rattle.taskscope.specs.declared.command_line.Request.TheVariants.{Page, Show, Watch}
+use Rattle.taskscope.specs.declared.command_line.Request.TheVariants.{Metrics, Page, Show, Watch}
 use Rattle.taskscope.specs.Requests.{asked, asked_in, column_at, column_fault, file_argument, lints_in, names_no_column, number_of, number_option, program, refusals, watch_by}
 
 -- ---- lists of kinds
@@ -469,12 +469,16 @@ watch_asks_of : (options : List Row) (column : Option Column) → not (is_some c
 watch_asks_of options None wrong = absurd (true≢false wrong)
 watch_asks_of options (Some sort) right = refl
 
+metrics_asks_of : (lints : Option LintsView) → IsSome lints → IsSome (option_and_then (λ l. Some (Metrics l)) lints)
+metrics_asks_of None some = absurd (true≢false (sym some))
+metrics_asks_of (Some l) some = refl
+
 abbrev there : App
 there = built program
 
 -- one of the commands
 abbrev IsCommand : Text → Type 0
-IsCommand name = (name ≡ codes "run") ⊎ ((name ≡ codes "view") ⊎ ((name ≡ codes "lint") ⊎ ((name ≡ codes "page") ⊎ ((name ≡ codes "watch") ⊎ (name ≡ codes "demo")))))
+IsCommand name = (name ≡ codes "run") ⊎ ((name ≡ codes "view") ⊎ ((name ≡ codes "lint") ⊎ ((name ≡ codes "page") ⊎ ((name ≡ codes "watch") ⊎ ((name ≡ codes "metrics") ⊎ (name ≡ codes "demo"))))))
 
 abbrev MeetsCommand : Option Text → Type 0
 MeetsCommand None = Unit {0}
@@ -490,25 +494,26 @@ EntersCommand (trailing position) = Unit {0}
 EntersCommand (subcommand name) = IsCommand name
 EntersCommand value = Unit {0}
 
-abbrev met : Bool → Bool → Bool → Bool → Bool → Bool → Bool → Option (Text × List Text)
-met a b c d e f g = cond a (Some (codes "run", [])) (cond b (Some (codes "view", [])) (cond c (Some (codes "lint", [])) (cond d (Some (codes "page", [])) (cond e (Some (codes "watch", [])) (cond f (Some (codes "demo", [])) (cond g (Some (codes "help", [])) None))))))
+abbrev met : Bool → Bool → Bool → Bool → Bool → Bool → Bool → Bool → Option (Text × List Text)
+met a b c d e f g i = cond a (Some (codes "run", [])) (cond b (Some (codes "view", [])) (cond c (Some (codes "lint", [])) (cond d (Some (codes "page", [])) (cond e (Some (codes "watch", [])) (cond f (Some (codes "metrics", [])) (cond g (Some (codes "demo", [])) (cond i (Some (codes "help", [])) None)))))))
 
 -- `help` is answered, so that no parse enters it
 meets_command : (waiting : Waiting) (word : Text) (h : Held) → other_fault there.top (subcommand_met (names_of there) waiting word) word h ≡ []
     → MeetsCommand (subcommand_met (names_of there) waiting word)
 meets_command (option id) word h none = tt
 meets_command positional word h none = tt
-meets_command idle word h none = go (bytes_eq (codes "run") word || false) (bytes_eq (codes "view") word || false) (bytes_eq (codes "lint") word || false) (bytes_eq (codes "page") word || false) (bytes_eq (codes "watch") word || false) (bytes_eq (codes "demo") word || false) (bytes_eq (codes "help") word || false) none
+meets_command idle word h none = go (bytes_eq (codes "run") word || false) (bytes_eq (codes "view") word || false) (bytes_eq (codes "lint") word || false) (bytes_eq (codes "page") word || false) (bytes_eq (codes "watch") word || false) (bytes_eq (codes "metrics") word || false) (bytes_eq (codes "demo") word || false) (bytes_eq (codes "help") word || false) none
   where
-    go : (a b c d e f g : Bool) → other_fault there.top (option_map (λ s. s.0) (met a b c d e f g)) word h ≡ [] → MeetsCommand (option_map (λ s. s.0) (met a b c d e f g))
-    go true b c d e f g none = inl refl
-    go false true c d e f g none = inr (inl refl)
-    go false false true d e f g none = inr (inr (inl refl))
-    go false false false true e f g none = inr (inr (inr (inl refl)))
-    go false false false false true f g none = inr (inr (inr (inr (inl refl))))
-    go false false false false false true g none = inr (inr (inr (inr (inr refl))))
-    go false false false false false false true none = absurd (some_kind _ _ none)
-    go false false false false false false false none = tt
+    go : (a b c d e f g i : Bool) → other_fault there.top (option_map (λ s. s.0) (met a b c d e f g i)) word h ≡ [] → MeetsCommand (option_map (λ s. s.0) (met a b c d e f g i))
+    go true b c d e f g i none = inl refl
+    go false true c d e f g i none = inr (inl refl)
+    go false false true d e f g i none = inr (inr (inl refl))
+    go false false false true e f g i none = inr (inr (inr (inl refl)))
+    go false false false false true f g i none = inr (inr (inr (inr (inl refl))))
+    go false false false false false true g i none = inr (inr (inr (inr (inr (inl refl)))))
+    go false false false false false false true i none = inr (inr (inr (inr (inr (inr refl)))))
+    go false false false false false false false true none = absurd (some_kind _ _ none)
+    go false false false false false false false false none = tt
 
 module _ (c : List Rule) where
   plain_enters : (waiting : Waiting) (word : Text) (h : Held) → EntersCommand (plain_word c waiting word h).1
@@ -621,6 +626,9 @@ watch_named options named = watch_asks_of options (column_at options) named
 watch_asks : (words : List Text) → TakenAsks (codes "watch") words
 watch_asks words none named = watch_named (options_in (entered there (Some (codes "watch", words)))) named
 
+metrics_asks : (words : List Text) → TakenAsks (codes "metrics") words
+metrics_asks words none named = metrics_asks_of _ (lints_there _ (numbers_there _ words refl none))
+
 demo_asks : (words : List Text) → TakenAsks (codes "demo") words
 demo_asks words none named = refl
 
@@ -632,7 +640,8 @@ stop_asks (Some (name, words)) rows (inr (inl is)) none checked named = subst (�
 stop_asks (Some (name, words)) rows (inr (inr (inl is))) none checked named = subst (λ n. TakenAsks n words) (sym is) (lint_asks words) none named
 stop_asks (Some (name, words)) rows (inr (inr (inr (inl is)))) none checked named = subst (λ n. TakenAsks n words) (sym is) (page_asks words) none named
 stop_asks (Some (name, words)) rows (inr (inr (inr (inr (inl is))))) none checked named = subst (λ n. TakenAsks n words) (sym is) (watch_asks words) none named
-stop_asks (Some (name, words)) rows (inr (inr (inr (inr (inr is))))) none checked named = subst (λ n. TakenAsks n words) (sym is) (demo_asks words) none named
+stop_asks (Some (name, words)) rows (inr (inr (inr (inr (inr (inl is)))))) none checked named = subst (λ n. TakenAsks n words) (sym is) (metrics_asks words) none named
+stop_asks (Some (name, words)) rows (inr (inr (inr (inr (inr (inr is)))))) none checked named = subst (λ n. TakenAsks n words) (sym is) (demo_asks words) none named
 
 -- words that a parse takes, and whose column is one, ask for something
 parsed_words_ask : (words : List Text) → fault_of program words ≡ [] → names_no_column (subcommand_of program words) ≡ false → IsSome (asked words)

@@ -4,7 +4,7 @@ use Rattle.clap.specs.Walk.{is_empty}
 use Rattle.clap.specs.declared.error.kind.ErrorKind.TheVariants.{ArgumentConflict, DisplayHelp, InvalidSubcommand, InvalidValue, MissingSubcommand, UnknownArgument, ValueValidation}
 use Rattle.clap.proofs.OnLiterals.{clap_on_literals}
 use Rattle.tk_report.specs.declared.view.View.TheVariants.{Report, Lint}
-use Rattle.taskscope.specs.declared.command_line.Request.TheVariants.{Demo, Page, Run, Show, Watch}
+use Rattle.taskscope.specs.declared.command_line.Request.TheVariants.{Demo, Metrics, Page, Run, Show, Watch}
 use Rattle.tk_frame.specs.declared.query.Column.TheVariants.{Sched}
 use Rattle.taskscope.specs.Requests.{AsksFor, AsksForHelp, AsksForInput, IsMistake, file_of, filter_of, plain_lints, plain_watch, refusals}
 
@@ -29,6 +29,10 @@ module _ (name : List ℕ) where
   pub watch : AsksForInput (Watch plain_watch) (name ∷ codes "watch" ∷ [])
   unfolding clap_on_literals
   watch = ((refl, refl), refl)
+
+  pub metrics : AsksForInput (Metrics plain_lints) (name ∷ codes "metrics" ∷ [])
+  unfolding clap_on_literals
+  metrics = ((refl, refl), refl)
 
   pub demo : AsksForInput Demo (name ∷ codes "demo" ∷ [])
   unfolding clap_on_literals

@@ -5,6 +5,8 @@ use Rattle.std.specs.Io.KnownBytes.{Appends}
 use Rattle.tk_client.specs.Warnings.{LintsView}
 use Rattle.tk_app.specs.Demo.{Demonstrates}
 use Rattle.tk_live.specs.Script.{ReadsAndRuns}
+use Rattle.tk_metrics.specs.Streams.{Measures}
+use Rattle.tk_metrics.specs.declared.by.By.TheVariants.{Name}
 use Rattle.tk_page.specs.Pages.{Pages}
 use Rattle.tk_report.specs.Views.{IsOfWriter, Views}
 use Rattle.tk_fault.specs.declared.fault.AppFault.{AppFault}
@@ -15,7 +17,7 @@ use Rattle.tk_watch.specs.declared.drawing.Screen.{Screen}
 use Rattle.tk_report.specs.declared.view.View.{View}
 use Rattle.tk_report.specs.declared.view.View.TheVariants.{Report, Lint}
 use Rattle.taskscope.specs.declared.command_line.Request.{Request}
-use Rattle.taskscope.specs.declared.command_line.Request.TheVariants.{Demo, Page, Run, Show, Watch}
+use Rattle.taskscope.specs.declared.command_line.Request.TheVariants.{Demo, Metrics, Page, Run, Show, Watch}
 use Rattle.taskscope.specs.declared.command_line.WatchOptions.{WatchOptions}
 
 -- the status that tells an outcome: 0 without a fault, 1 with one
@@ -88,6 +90,14 @@ pub record WatchesStream (options : WatchOptions) (text : List ℕ) (terminal : 
   pub is_text : part.now ≡ text
   pub watches : Watches (screen_by options part terminal) given left outcome old new
 
+-- a stream is read and its numbers are written, with tasks by their names, and the status tells the outcome
+pub record MeasuresStream (lints : LintsView) (given left old new : Option (List ℕ)) (status : ℕ) : Type 0 where
+  pub outcome : Result (Unit {0}) AppFault
+  pub told : status ≡ status_of outcome
+  pub measures : Measures Name lints given left outcome old new
+  -- only a writer's fault comes once something was written
+  pub unwritten : IfErr outcome (λ fault. (IsOfWriter fault → ⊥) → new ≡ old)
+
 -- the demo is shown, nothing is read, and the status tells the outcome
 pub record ShowsDemo (given left old new : Option (List ℕ)) (status : ℕ) : Type 0 where
   pub outcome : Result (Unit {0}) AppFault
@@ -106,6 +116,7 @@ Does terminal filter Run given left old new status = RunsScript given old new st
 Does terminal filter (Show view lints) given left old new status = ViewsStream view lints given left old new status
 Does terminal filter (Page lints) given left old new status = PagesStream lints given left old new status
 Does terminal filter (Watch options) given left old new status = WatchesStream options (filter_text filter) terminal given left old new status
+Does terminal filter (Metrics lints) given left old new status = MeasuresStream lints given left old new status
 Does terminal filter Demo given left old new status = ShowsDemo given left old new status
 
 -- what is asked for is done with the bytes of some reader, of which nothing is known

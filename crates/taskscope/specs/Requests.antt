@@ -19,7 +19,7 @@ use Rattle.tk_report.specs.declared.view.View.TheVariants.{Report, Lint}
 use Rattle.tk_frame.specs.declared.query.Column.{Column}
 use Rattle.tk_frame.specs.declared.query.Column.TheVariants.{Busy, Sched, Polls, Wakes, SelfWakes}
 use Rattle.taskscope.specs.declared.command_line.Request.{Request}
-use Rattle.taskscope.specs.declared.command_line.Request.TheVariants.{Demo, Page, Run, Show, Watch}
+use Rattle.taskscope.specs.declared.command_line.Request.TheVariants.{Demo, Metrics, Page, Run, Show, Watch}
 use Rattle.taskscope.specs.declared.command_line.WatchOptions.{WatchOptions}
 
 -- ---- the words that there are
@@ -88,12 +88,13 @@ first_words =
     let views = with_subcommand runs (view_command (codes "view")).top in
     with_subcommand views (view_command (codes "lint")).top
 
--- the program as a parse of its words reads it: these, `page`, `watch` and `demo`
+-- the program as a parse of its words reads it: these, `page`, `watch`, `metrics` and `demo`
 abbrev pub program : App
 program =
     let pages = with_subcommand first_words (view_command (codes "page")).top in
     let watches = with_subcommand pages watch_command.top in
-    with_subcommand watches (new_shape (codes "demo"))
+    let metrics = with_subcommand watches (view_command (codes "metrics")).top in
+    with_subcommand metrics (new_shape (codes "demo"))
 
 -- ---- what they ask for
 
@@ -175,6 +176,10 @@ watch_by sort options = record {
 abbrev pub watch_with : List Row → Option Request
 watch_with options = option_and_then (λ sort. Some (Watch (watch_by sort options))) (column_at options)
 
+-- numbers with these options
+abbrev pub metrics_with : List Row → Option Request
+metrics_with options = option_and_then (λ lints. Some (Metrics lints)) (lints_in options)
+
 -- what a command asks for, by its name and its options
 abbrev pub asked_by : Text → List Row → Option Request
 asked_by name options =
@@ -183,6 +188,7 @@ asked_by name options =
     else if bytes_eq name (codes "lint") then view_with Lint options
     else if bytes_eq name (codes "page") then page_with options
     else if bytes_eq name (codes "watch") then watch_with options
+    else if bytes_eq name (codes "metrics") then metrics_with options
     else if bytes_eq name (codes "demo") then Some Demo
     else None
 

@@ -38,6 +38,8 @@ pub(crate) enum Request {
     Page { lints: Lints },
     /// To draw a stream's tables as a screen while it comes.
     Watch(WatchOptions),
+    /// To write a stream's numbers, with warnings by these lints.
+    Metrics { lints: Lints },
     /// To show three tasks of this project's own works.
     Demo,
 }
@@ -174,6 +176,20 @@ Tasks can be sorted by these columns:
   self-wakes  how often they woke themselves
 
 A last line of the stream without its line end is ignored. At a fault the screen of what stood before it is drawn.";
+
+const METRICS_ABOUT: &str =
+    "Reads a stream and writes its numbers to standard output, as Prometheus reads them";
+
+const METRICS_LONG_ABOUT: &str =
+    "Reads a stream and writes its numbers to standard output, as Prometheus reads them.
+
+  taskscope run < examples/lost-waker.script | taskscope metrics > /var/lib/prometheus/node-exporter/tasks.prom
+
+Counts and times of tasks are sums over those of one name and kind. With tasks that left the stream, each sum
+keeps what they had come to. `taskscope lint --help` explains the warnings, docs/FORMATS.md the families, and
+docs/alerts.yml has alerts to copy.
+
+A last line of the stream without its line end is ignored. After a fault nothing is written.";
 
 const DEMO_ABOUT: &str = "Runs three small tasks and writes their report to standard output";
 
@@ -380,6 +396,7 @@ fn command_line<'a>(alloc: Global) -> Result<Command<'a>, Error>
 {
     let page = view_command(alloc, "page", PAGE_ABOUT, PAGE_LONG_ABOUT)?;
     let watch = watch_command(alloc)?;
+    let metrics = view_command(alloc, "metrics", METRICS_ABOUT, METRICS_LONG_ABOUT)?;
     let demo = Command::new(alloc, "demo")
         .about(DEMO_ABOUT)
         .long_about(DEMO_LONG_ABOUT);
@@ -387,6 +404,7 @@ fn command_line<'a>(alloc: Global) -> Result<Command<'a>, Error>
         first_words(alloc)?
             .subcommand(page)?
             .subcommand(watch)?
+            .subcommand(metrics)?
             .subcommand(demo)?,
     )
 }
@@ -497,6 +515,13 @@ fn watch_with(options: &ArgMatches) -> Option<Request>
     Some(Request::Watch(watch_by(sort, options)))
 }
 
+fn metrics_with(options: &ArgMatches) -> Option<Request>
+    ensures { result ≡ spec.metrics_with (rows_of (found_of options.now)) }
+{
+    let lints = lints_in(options)?;
+    Some(Request::Metrics { lints })
+}
+
 // What a command asks for, by its name and its options.
 fn asked_by(name: &str, options: &ArgMatches) -> Option<Request>
     ensures { result ≡ spec.asked_by name.now (rows_of (found_of options.now)) }
@@ -507,6 +532,7 @@ fn asked_by(name: &str, options: &ArgMatches) -> Option<Request>
         "lint" => view_with(View::Lint, options),
         "page" => page_with(options),
         "watch" => watch_with(options),
+        "metrics" => metrics_with(options),
         "demo" => Some(Request::Demo),
         _ => None,
     }

@@ -18,6 +18,7 @@ use std::thread::Threads;
 use std::time::Clock;
 use tk_app::{AppFault, Open, View, demo, run_script, view_stream};
 use tk_frame::Query;
+use tk_metrics::{By, metrics_stream};
 use tk_page::view_page;
 use tk_screen::Canvas;
 use tk_watch::{Every, Screen, watch_stream};
@@ -169,6 +170,10 @@ fn fulfil<
             let text = filter_text(filter);
             watch(rt, alloc, &options, text, terminal, input, output, faults)
         }
+        Request::Metrics { lints } => tell_outcome(
+            metrics_stream(alloc, input, output, By::Name, &lints),
+            faults,
+        ),
         Request::Demo => tell_outcome(demo(rt, alloc, output), faults),
     }
 }
@@ -253,8 +258,8 @@ pub(crate) fn run_program<
     faults: &mut E,
 ) -> u8
     // What is asked for is done: a run reads and writes as `run_script` does, a view as `view_stream` does, a page as
-    // `view_page` does, a watch as `watch_stream` does, and the demo writes as `demo` does. The status is 1 exactly where there was a
-    // fault, and 3 exactly where `lint` found warnings.
+    // `view_page` does, a watch as `watch_stream` does, numbers as `metrics_stream` does by name, and the demo writes as `demo` does. The status is
+    // 1 exactly where there was a fault, and 3 exactly where `lint` found warnings.
     ensures does { (request : Request) → AsksForInput request (texts words.now)
         → Does terminal (filter_of (texts words.now)) request
         (I.remaining input.old) (I.remaining input.new) (O.contents output.old) (O.contents output.new) result }
@@ -268,8 +273,9 @@ pub(crate) fn run_program<
     ensures lint { IsPlain (codes "lint") (texts words.now) → AsksForInput (Request.Show View.Lint plain_lints) (texts words.now) }
     ensures page { IsPlain (codes "page") (texts words.now) → AsksForInput (Request.Page plain_lints) (texts words.now) }
     ensures watch { IsPlain (codes "watch") (texts words.now) → AsksForInput (Request.Watch plain_watch) (texts words.now) }
+    ensures metrics { IsPlain (codes "metrics") (texts words.now) → AsksForInput (Request.Metrics plain_lints) (texts words.now) }
     ensures demo { IsPlain (codes "demo") (texts words.now) → AsksForInput Request.Demo (texts words.now) }
-    // All words that are taken ask for a run, a view, a page, a watch or the demo.
+    // All words that are taken ask for a run, a view, a page, a watch, numbers or the demo.
     ensures asks { refusals (texts words.now) ≡ [] → IsSome (asked (texts words.now)) }
     // Other words leave the input as it is.
     ensures unread { refusals (texts words.now) ≢ [] → input.new ≡ input.old }

@@ -8,9 +8,9 @@ use given::{
 use std::alloc::Global;
 use std::io;
 use std::io::Write;
-use tk_client::Lints;
+use tk_client::{Client, Lints};
 use tk_fault::AppFault;
-use tk_metrics::{By, metrics_stream};
+use tk_metrics::{By, Left, metrics, metrics_stream};
 
 // Whether a stream's numbers are this text.
 fn has_numbers(alloc: Global, stream: &[u8], by: By, text: &str) -> bool {
@@ -35,6 +35,26 @@ fn what_has_left_stays_in_the_sums_of_its_name(rt: HostRuntime) {
 #[test]
 fn names_stand_escaped_and_sums_stay_at_the_greatest_number(rt: HostRuntime) {
     assert!(rt; has_numbers(rt.alloc(), FULL, By::Name, FULL_NUMBERS));
+}
+
+// Whether the numbers of a client's tables are this text, where nothing has left and there were so many lines.
+fn tables_have_numbers(alloc: Global, client: &Client, lines: u64, text: &str) -> bool {
+    let lints = Lints::default();
+    let left = Left::none(alloc);
+    match metrics(alloc, By::Name, &lints, client.tables(), left, lines) {
+        Ok(numbers) => numbers.as_slice() == text.as_bytes(),
+        Err(_) => false,
+    }
+}
+
+#[test]
+fn tables_have_the_numbers_of_their_stream(rt: HostRuntime) {
+    let Ok(mut client) = Client::new(rt.alloc(), 100_000) else {
+        assert!(rt; false);
+        return;
+    };
+    assert!(rt; client.feed(LOST) == Ok(2));
+    assert!(rt; tables_have_numbers(rt.alloc(), &client, 2, LOST_NUMBERS));
 }
 
 // Takes so many bytes, and then gives an error.

@@ -8,7 +8,7 @@ use Rattle.taskscope.specs.declared.command_line.Request.{Request}
 use Rattle.taskscope.proofs.Outcomes.{nothing_done}
 use Rattle.taskscope.proofs.ParseLemmas.{taken_words_ask}
 use Rattle.taskscope.proofs.WordLemmas.{memory_alone, mistake_among, some_is}
-use Rattle.taskscope.proofs.WordRows.{demo, lint, page, run, view, watch}
+use Rattle.taskscope.proofs.WordRows.{demo, lint, metrics, page, run, view, watch}
 use Rattle.taskscope.proofs.program.run_program.Goals as goal
 
 plain : (command : List ℕ) (request : Request) → ((name : List ℕ) → AsksForInput request (name ∷ command ∷ [])) → (words : List (List ℕ)) → IsPlain command words
@@ -73,6 +73,9 @@ returns-in-Err-clause-page g c = plain _ _ page (texts c.args.words.now)
 pub returns-in-Err-clause-watch : goal.returns-in-Err-clause-watch
 returns-in-Err-clause-watch g c = plain _ _ watch (texts c.args.words.now)
 
+pub returns-in-Err-clause-metrics : goal.returns-in-Err-clause-metrics
+returns-in-Err-clause-metrics g c = plain _ _ metrics (texts c.args.words.now)
+
 pub returns-in-Err-clause-demo : goal.returns-in-Err-clause-demo
 returns-in-Err-clause-demo g c = plain _ _ demo (texts c.args.words.now)
 
@@ -91,6 +94,9 @@ returns-in-None-clause-page g c = plain _ _ page (texts c.args.words.now)
 pub returns-in-None-clause-watch : goal.returns-in-None-clause-watch
 returns-in-None-clause-watch g c = plain _ _ watch (texts c.args.words.now)
 
+pub returns-in-None-clause-metrics : goal.returns-in-None-clause-metrics
+returns-in-None-clause-metrics g c = plain _ _ metrics (texts c.args.words.now)
+
 pub returns-in-None-clause-demo : goal.returns-in-None-clause-demo
 returns-in-None-clause-demo g c = plain _ _ demo (texts c.args.words.now)
 
@@ -108,6 +114,9 @@ returns-in-Some-clause-page g c = plain _ _ page (texts c.args.words.now)
 
 pub returns-in-Some-clause-watch : goal.returns-in-Some-clause-watch
 returns-in-Some-clause-watch g c = plain _ _ watch (texts c.args.words.now)
+
+pub returns-in-Some-clause-metrics : goal.returns-in-Some-clause-metrics
+returns-in-Some-clause-metrics g c = plain _ _ metrics (texts c.args.words.now)
 
 pub returns-in-Some-clause-demo : goal.returns-in-Some-clause-demo
 returns-in-Some-clause-demo g c = plain _ _ demo (texts c.args.words.now)
