@@ -33,9 +33,9 @@ feed() {
     done < "$1"
 }
 
-# Tries a command until it succeeds, for some seconds.
+# Tries a command until it succeeds, for half a minute.
 await() {
-    for _ in 1 2 3 4 5 6 7 8 9 10 11 12 13 14 15 16 17 18 19 20 21 22 23 24 25 26 27 28 29 30; do
+    for _ in $(seq 150); do
         "$@" && return
         sleep 0.2
     done
