@@ -4,7 +4,8 @@
 # Usage: tests/metrics.sh            behind `rt ci`, or `rt run` in crates/taskscope.
 #
 # Of each example's stream, and of services at random, whose closed tasks leave, the numbers are those that
-# tests/metrics/plain_metrics.py reckons, byte for byte, and promtool finds no fault in them. A node exporter on the loopback reads
+# tests/metrics/plain_metrics.py reckons, byte for byte, on the output and in a file that is kept while a stream comes, and promtool finds
+# no fault in them. A node exporter on the loopback reads
 # them from a file, a Prometheus scrapes it, and what it answers to a query is what the report says. promtool checks docs/alerts.yml.
 #
 # promtool and Prometheus are Debian's prometheus, the node exporter its prometheus-node-exporter. Where they are missing their steps are
@@ -23,7 +24,80 @@ plain() {
 }
 
 are_numbers_of() {
-    "$program" metrics "$1" > "$work/numbers" && plain "$1" > "$work/plain" && cmp "$work/numbers" "$work/plain"
+    for by in name id; do
+        "$program" metrics --by "$by" "$1" > "$work/numbers" && plain --by "$by" "$1" > "$work/plain" && cmp "$work/numbers" "$work/plain" || return 1
+    done
+}
+
+# A file has the numbers of the whole stream, nothing is written beside, and no half is left.
+are_kept() {
+    rm -rf "$work/kept" && mkdir "$work/kept" && "$program" metrics --to "$work/kept/tasks.prom" "$1" > "$work/beside" &&
+        plain "$1" > "$work/plain" && cmp "$work/kept/tasks.prom" "$work/plain" && [ ! -s "$work/beside" ] && [ "$(ls "$work/kept")" = tasks.prom ]
+}
+
+# Waits until a file has the numbers of so many lines of a stream, for up to 10 seconds.
+has_lines() {
+    head -n "$2" "$1" > "$work/front" && plain "$work/front" > "$work/wanted" || return 1
+    for try in $(seq 100); do
+        cmp -s "$3" "$work/wanted" && return 0
+        sleep 0.1
+    done
+    diff "$3" "$work/wanted"
+    return 1
+}
+
+# While a stream comes its numbers are kept up to it, and no more often than is asked for; a reader that looks all the time finds them whole.
+kept_while_it_comes() {
+    stream=$examples/service.script.stdout
+    rm -rf "$work/kept" && mkdir "$work/kept" && mkfifo "$work/kept/pipe" || return 1
+    "$program" metrics --to "$work/kept/tasks.prom" --every 0 < "$work/kept/pipe" &
+    reader=$!
+    exec 4> "$work/kept/pipe"
+    head -n 1 "$stream" >&4 && has_lines "$stream" 1 "$work/kept/tasks.prom" &&
+        sed -n 2p "$stream" >&4 && has_lines "$stream" 2 "$work/kept/tasks.prom"
+    came=$?
+    for line in $(seq 3 60); do
+        sed -n "${line}p" "$stream" >&4
+        [ "$(tail -n 1 "$work/kept/tasks.prom")" = '# EOF' ] || came=1
+    done
+    exec 4>&-
+    wait "$reader" && [ "$came" -eq 0 ] && has_lines "$stream" 60 "$work/kept/tasks.prom"
+}
+
+# Numbers are put at once, and then only at the end of a stream that has come before it is time again.
+kept_no_more_often() {
+    stream=$examples/service.script.stdout
+    rm -rf "$work/kept" && mkdir "$work/kept" && mkfifo "$work/kept/pipe" || return 1
+    "$program" metrics --to "$work/kept/tasks.prom" --every 600 < "$work/kept/pipe" &
+    reader=$!
+    exec 4> "$work/kept/pipe"
+    head -n 1 "$stream" >&4 && has_lines "$stream" 1 "$work/kept/tasks.prom" && sed -n 2,5p "$stream" >&4 && sleep 0.5 &&
+        has_lines "$stream" 1 "$work/kept/tasks.prom"
+    came=$?
+    exec 4>&-
+    wait "$reader" && [ "$came" -eq 0 ] && has_lines "$stream" 5 "$work/kept/tasks.prom"
+}
+
+# A file that grows is followed.
+kept_of_a_file_that_grows() {
+    stream=$examples/service.script.stdout
+    rm -rf "$work/kept" && mkdir "$work/kept" && head -n 1 "$stream" > "$work/kept/stream" || return 1
+    "$program" metrics --to "$work/kept/tasks.prom" --every 0 --follow "$work/kept/stream" &
+    reader=$!
+    has_lines "$stream" 1 "$work/kept/tasks.prom" && sed -n 2,4p "$stream" >> "$work/kept/stream" && has_lines "$stream" 4 "$work/kept/tasks.prom"
+    came=$?
+    kill "$reader" && wait "$reader" 2> /dev/null
+    [ "$came" -eq 0 ]
+}
+
+# At a fault of the stream the file has the lines before it, and where no file can be written the old one stays.
+kept_at_faults() {
+    stream=$examples/service.script.stdout
+    rm -rf "$work/kept" && mkdir "$work/kept" && { head -n 3 "$stream" && echo '{}'; } > "$work/kept/stream" || return 1
+    "$program" metrics --to "$work/kept/tasks.prom" "$work/kept/stream" 2> "$work/faults"
+    [ $? -eq 1 ] && has_lines "$stream" 3 "$work/kept/tasks.prom" && cat "$work/faults" && [ "$(cat "$work/faults")" = 'fault: stream after 3 lines: BadShape' ] || return 1
+    "$program" metrics --to "$work/no/such/folder" "$stream" 2> "$work/faults"
+    [ $? -eq 1 ] && cat "$work/faults" && [ "$(cat "$work/faults")" = 'fault: Write' ]
 }
 
 # A service in which chance falls as this number says, and whose closed tasks leave.
@@ -99,7 +173,7 @@ sum_in_report() {
 
 try_prometheus() {
     stream=$examples/service.script.stdout
-    "$program" metrics "$stream" > "$work/tasks.new" && start_servers && mv "$work/tasks.new" "$work/collected/tasks.prom" || return 1
+    start_servers && "$program" metrics --to "$work/collected/tasks.prom" "$stream" || return 1
     answers_with 'sum(taskscope_task_polls_total)' "$(sum_in_report polls)" &&
         answers_with 'sum(taskscope_task_wakes_total)' "$(sum_in_report wakes)" &&
         answers_with 'sum(taskscope_tasks)' "$("$program" view "$stream" | grep -c '^task ')" &&
@@ -114,6 +188,13 @@ for seed in 1 2 3 4; do
     step "a service at random, by seed $seed, its numbers" are_numbers_of_service "$seed"
 done
 step "no count falls while tasks leave" never_fall
+for script in "$examples"/*.script; do
+    step "$(basename "$script" .script), its numbers in a file" are_kept "$script.stdout"
+done
+step "numbers are kept while a stream comes" kept_while_it_comes
+step "and no more often than is asked for" kept_no_more_often
+step "also of a file that grows" kept_of_a_file_that_grows
+step "at a fault there are the numbers before it" kept_at_faults
 
 if has_prometheus || { install_prometheus && has_prometheus; }; then
     for script in "$examples"/*.script; do

@@ -5,8 +5,11 @@ use Rattle.std.specs.Io.KnownBytes.{Appends}
 use Rattle.std.proofs.lemmas.List.{append-nil}
 use Rattle.tk_fault.specs.declared.fault.AppFault.TheVariants as faults
 use Rattle.tk_screen.specs.declared.canvas.Canvas.{Canvas}
+use Rattle.tk_metrics.specs.Places.{Texts}
+use Rattle.tk_metrics.proofs.KeepLemmas.{none_put}
 use Rattle.tk_watch.proofs.WatchLemmas.{none_drawn}
-use Rattle.taskscope.specs.Program.{Does, filter_text, screen_by}
+use Rattle.taskscope.specs.Program.{Does, MeasuresTo, filter_text, screen_by}
+use Rattle.taskscope.specs.declared.command_line.MetricsOptions.{MetricsOptions}
 use Rattle.taskscope.specs.declared.command_line.Request.{Request}
 use Rattle.taskscope.specs.declared.command_line.Request.TheVariants.{Demo, Metrics, Page, Run, Show, Watch}
 
@@ -15,29 +18,46 @@ nothing_more : (known : Option (List ℕ)) → Appends known known []
 nothing_more None = tt
 nothing_more (Some xs) = sym (append-nil xs)
 
+none_measured : (to : Option (List ℕ)) (options : MetricsOptions) (given known : Option (List ℕ)) (texts : Option Texts) (status : ℕ) → status ≡ 1
+    → MeasuresTo to options given given known known texts texts status
+none_measured None options given known texts status told = record {
+  outcome = Err faults.Memory;
+  told = told;
+  measures = tt;
+  unwritten = λ other. refl;
+}
+none_measured (Some path) options given known texts status told = (
+  record {
+    outcome = Err faults.Memory;
+    told = told;
+    keeps = none_put path options.by options.lints given texts;
+  },
+  refl,
+)
+
 -- without memory nothing is read or written, whatever is asked for
-pub nothing_done : (terminal : Canvas) (filter : Option (List ℕ)) (request : Request) (given known : Option (List ℕ)) (status : ℕ) → status ≡ 1
-    → Does terminal filter request given given known known status
-nothing_done terminal filter Run given known status told = record {
+pub nothing_done : (terminal : Canvas) (filter to : Option (List ℕ)) (request : Request) (given known : Option (List ℕ)) (texts : Option Texts) (status : ℕ) → status ≡ 1
+    → Does terminal filter to request given given known known texts texts status
+nothing_done terminal filter to Run given known texts status told = record {
   outcome = Err faults.Memory;
   told = told;
   written = [];
   runs = refl;
   appends = nothing_more known;
 }
-nothing_done terminal filter (Show shown lints) given known status told = record {
+nothing_done terminal filter to (Show shown lints) given known texts status told = record {
   outcome = Err faults.Memory;
   told = told;
   views = tt;
   unwritten = λ other. refl;
 }
-nothing_done terminal filter (Page lints) given known status told = record {
+nothing_done terminal filter to (Page lints) given known texts status told = record {
   outcome = Err faults.Memory;
   told = told;
   pages = tt;
   unwritten = λ other. refl;
 }
-nothing_done terminal filter (Watch options) given known status told =
+nothing_done terminal filter to (Watch options) given known texts status told =
     let part : Bor (List ℕ) = record { ref_ptr = (0, 0); now = filter_text filter } in
     record {
       outcome = Err faults.Memory;
@@ -46,13 +66,8 @@ nothing_done terminal filter (Watch options) given known status told =
       is_text = refl;
       watches = none_drawn (screen_by options part terminal) given known;
     }
-nothing_done terminal filter (Metrics lints) given known status told = record {
-  outcome = Err faults.Memory;
-  told = told;
-  measures = tt;
-  unwritten = λ other. refl;
-}
-nothing_done terminal filter Demo given known status told = record {
+nothing_done terminal filter to (Metrics options) given known texts status told = none_measured to options given known texts status told
+nothing_done terminal filter to Demo given known texts status told = record {
   outcome = Err faults.Memory;
   told = told;
   shows = refl;

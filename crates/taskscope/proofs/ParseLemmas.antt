@@ -27,7 +27,8 @@ use Rattle.tk_report.specs.declared.view.View.{View}
 use Rattle.tk_report.specs.declared.view.View.TheVariants.{Report, Lint}
 use Rattle.tk_frame.specs.declared.query.Column.{Column}
 use Rattle.taskscope.specs.declared.command_line.Request.TheVariants.{Metrics, Page, Show, Watch}
-use Rattle.taskscope.specs.Requests.{asked, asked_in, column_at, column_fault, file_argument, lints_in, names_no_column, number_of, number_option, program, refusals, watch_by}
+use Rattle.tk_metrics.specs.declared.by.By.{By}
+use Rattle.taskscope.specs.Requests.{asked, asked_in, by_at, column_at, name_fault, file_argument, lints_in, metrics_by, names_nothing, number_of, number_option, program, refusals, watch_by}
 
 -- ---- lists of kinds
 
@@ -469,9 +470,11 @@ watch_asks_of : (options : List Row) (column : Option Column) → not (is_some c
 watch_asks_of options None wrong = absurd (true≢false wrong)
 watch_asks_of options (Some sort) right = refl
 
-metrics_asks_of : (lints : Option LintsView) → IsSome lints → IsSome (option_and_then (λ l. Some (Metrics l)) lints)
-metrics_asks_of None some = absurd (true≢false (sym some))
-metrics_asks_of (Some l) some = refl
+-- something that tasks are told apart by
+metrics_asks_of : (options : List Row) (by : Option By) → not (is_some by) ≡ false
+    → IsSome (option_and_then (λ b. Some (Metrics (metrics_by b options))) by)
+metrics_asks_of options None wrong = absurd (true≢false wrong)
+metrics_asks_of options (Some by) right = refl
 
 abbrev there : App
 there = built program
@@ -598,9 +601,9 @@ numbers_there s words is none =
     let held = settled_good s.rules s.args_override_self sound end walks (first_none _ _ after) in
     subst (λ c. HaveNumbers (fold with_default (settled s.rules end).rows c)) (sym is) (with_defaults (settled s.rules end).rows held)
 
--- where the words behind a command are taken, and its column is one, it asks for something
+-- where the words behind a command are taken, and its options name what there is, it asks for something
 abbrev TakenAsks : Text → List Text → Type 0
-TakenAsks name words = entered_fault there (Some (name, words)) ≡ [] → names_no_column (entered there (Some (name, words))) ≡ false
+TakenAsks name words = entered_fault there (Some (name, words)) ≡ [] → names_nothing (entered there (Some (name, words))) ≡ false
     → IsSome (asked_in (entered there (Some (name, words))))
 
 run_asks : (words : List Text) → TakenAsks (codes "run") words
@@ -620,20 +623,23 @@ abbrev options_in : Option (Text × List Row) → List Row
 options_in None = []
 options_in (Some command) = command.1
 
-watch_named : (options : List Row) → names_no_column (Some (codes "watch", options)) ≡ false → IsSome (asked_in (Some (codes "watch", options)))
+watch_named : (options : List Row) → names_nothing (Some (codes "watch", options)) ≡ false → IsSome (asked_in (Some (codes "watch", options)))
 watch_named options named = watch_asks_of options (column_at options) named
 
 watch_asks : (words : List Text) → TakenAsks (codes "watch") words
 watch_asks words none named = watch_named (options_in (entered there (Some (codes "watch", words)))) named
 
+metrics_named : (options : List Row) → names_nothing (Some (codes "metrics", options)) ≡ false → IsSome (asked_in (Some (codes "metrics", options)))
+metrics_named options named = metrics_asks_of options (by_at options) named
+
 metrics_asks : (words : List Text) → TakenAsks (codes "metrics") words
-metrics_asks words none named = metrics_asks_of _ (lints_there _ (numbers_there _ words refl none))
+metrics_asks words none named = metrics_named (options_in (entered there (Some (codes "metrics", words)))) named
 
 demo_asks : (words : List Text) → TakenAsks (codes "demo") words
 demo_asks words none named = refl
 
 stop_asks : (stop : Option (Text × List Text)) (rows : List Row) → StopsAtCommand stop → entered_fault there stop ≡ []
-    → check_fault there.top rows (is_some (entered there stop)) ≡ [] → names_no_column (entered there stop) ≡ false → IsSome (asked_in (entered there stop))
+    → check_fault there.top rows (is_some (entered there stop)) ≡ [] → names_nothing (entered there stop) ≡ false → IsSome (asked_in (entered there stop))
 stop_asks None rows at none checked named = absurd (some_kind _ _ checked)
 stop_asks (Some (name, words)) rows (inl is) none checked named = subst (λ n. TakenAsks n words) (sym is) (run_asks words) none named
 stop_asks (Some (name, words)) rows (inr (inl is)) none checked named = subst (λ n. TakenAsks n words) (sym is) (show_asks words) none named
@@ -643,8 +649,8 @@ stop_asks (Some (name, words)) rows (inr (inr (inr (inr (inl is))))) none checke
 stop_asks (Some (name, words)) rows (inr (inr (inr (inr (inr (inl is)))))) none checked named = subst (λ n. TakenAsks n words) (sym is) (metrics_asks words) none named
 stop_asks (Some (name, words)) rows (inr (inr (inr (inr (inr (inr is)))))) none checked named = subst (λ n. TakenAsks n words) (sym is) (demo_asks words) none named
 
--- words that a parse takes, and whose column is one, ask for something
-parsed_words_ask : (words : List Text) → fault_of program words ≡ [] → names_no_column (subcommand_of program words) ≡ false → IsSome (asked words)
+-- words that a parse takes, and whose options name what there is, ask for something
+parsed_words_ask : (words : List Text) → fault_of program words ≡ [] → names_nothing (subcommand_of program words) ≡ false → IsSome (asked words)
 parsed_words_ask words none named =
     let given = argument_words program words in
     let end = walk there.top.rules (names_of there) nothing_held given in
@@ -663,5 +669,5 @@ named_if true none = absurd (some_kind _ _ none)
 pub taken_words_ask : (words : List Text) → refusals words ≡ [] → IsSome (asked words)
 taken_words_ask words none =
     let command = subcommand_of program words in
-    parsed_words_ask words (first_none (fault_of program words) (column_fault command) none)
-    (named_if (names_no_column command) (next_none (fault_of program words) (column_fault command) none))
+    parsed_words_ask words (first_none (fault_of program words) (name_fault command) none)
+    (named_if (names_nothing command) (next_none (fault_of program words) (name_fault command) none))

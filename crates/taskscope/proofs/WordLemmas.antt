@@ -9,7 +9,7 @@ use Rattle.clap.specs.declared.error.Error.{Error}
 use Rattle.clap.specs.declared.error.kind.ErrorKind.{ErrorKind}
 use Rattle.clap.specs.declared.error.kind.ErrorKind.TheVariants.{InvalidValue, OutOfMemory}
 use Rattle.clap.proofs.WalkLemmas.{both}
-use Rattle.taskscope.specs.Requests.{is_mistake, names_no_column, program, refusals}
+use Rattle.taskscope.specs.Requests.{is_mistake, names_nothing, program, refusals}
 
 pub some_is : {A : Type 0} (x y : A) → Some x ≡ Some y → x ≡ y
 some_is x y e = ap (λ o. unwrap_or o x) e
@@ -26,7 +26,7 @@ mistake_among k [] all none = absurd none
 mistake_among k (x ∷ xs) all (inl here) = ap is_mistake here ∙ (both (is_mistake x) (list_all is_mistake xs) all).0
 mistake_among k (x ∷ xs) all (inr later) = mistake_among k xs (both (is_mistake x) (list_all is_mistake xs) all).1 later
 
--- ---- what a parse refuses, and a column that is none
+-- ---- what a parse refuses, and a name of nothing that there is
 
 first_has : (a b : Kinds) (e : Error) → HasKind a e → HasKind (or_else a b) e
 first_has [] b e (inl memory) = inl memory
@@ -36,13 +36,13 @@ first_has (k ∷ ks) b e has = has
 pub parse_refuses : (words : List (List ℕ)) (e : Error) → HasKind (fault_of program words) e → HasKind (refusals words) e
 parse_refuses words e = first_has (fault_of program words) _ e
 
-refusals_where : (words : List (List ℕ)) (b : Bool) → fault_of program words ≡ [] → names_no_column (subcommand_of program words) ≡ b
+refusals_where : (words : List (List ℕ)) (b : Bool) → fault_of program words ≡ [] → names_nothing (subcommand_of program words) ≡ b
     → refusals words ≡ cond b (InvalidValue ∷ []) []
 refusals_where words b none named = ap₂ or_else none (ap (λ x. cond x (InvalidValue ∷ []) []) named)
 
-pub none_refuses : (words : List (List ℕ)) → fault_of program words ≡ [] → names_no_column (subcommand_of program words) ≡ false → refusals words ≡ []
+pub none_refuses : (words : List (List ℕ)) → fault_of program words ≡ [] → names_nothing (subcommand_of program words) ≡ false → refusals words ≡ []
 none_refuses words = refusals_where words false
 
-pub column_refuses : (words : List (List ℕ)) (e : Error) → fault_of program words ≡ [] → names_no_column (subcommand_of program words) ≡ true
+pub name_refuses : (words : List (List ℕ)) (e : Error) → fault_of program words ≡ [] → names_nothing (subcommand_of program words) ≡ true
     → (kind_of e ≡ OutOfMemory) ⊎ (kind_of e ≡ InvalidValue) → HasKind (refusals words) e
-column_refuses words e none named kind = subst (λ ks. HasKind ks e) (sym (refusals_where words true none named)) (elim kind [ inl memory ↦ inl memory | inr value ↦ inr (inl value) ])
+name_refuses words e none named kind = subst (λ ks. HasKind ks e) (sym (refusals_where words true none named)) (elim kind [ inl memory ↦ inl memory | inr value ↦ inr (inl value) ])

@@ -6,7 +6,8 @@ use Rattle.clap.proofs.OnLiterals.{clap_on_literals}
 use Rattle.tk_report.specs.declared.view.View.TheVariants.{Report, Lint}
 use Rattle.taskscope.specs.declared.command_line.Request.TheVariants.{Demo, Metrics, Page, Run, Show, Watch}
 use Rattle.tk_frame.specs.declared.query.Column.TheVariants.{Sched}
-use Rattle.taskscope.specs.Requests.{AsksFor, AsksForHelp, AsksForInput, IsMistake, file_of, filter_of, plain_lints, plain_watch, refusals}
+use Rattle.tk_metrics.specs.declared.by.By.TheVariants.{Id}
+use Rattle.taskscope.specs.Requests.{AsksFor, AsksForHelp, AsksForInput, IsMistake, file_of, filter_of, plain_lints, plain_metrics, plain_watch, refusals, to_of}
 
 -- the program is called by some name
 module _ (name : List ℕ) where
@@ -30,7 +31,7 @@ module _ (name : List ℕ) where
   unfolding clap_on_literals
   watch = ((refl, refl), refl)
 
-  pub metrics : AsksForInput (Metrics plain_lints) (name ∷ codes "metrics" ∷ [])
+  pub metrics : AsksForInput (Metrics plain_metrics) (name ∷ codes "metrics" ∷ [])
   unfolding clap_on_literals
   metrics = ((refl, refl), refl)
 
@@ -67,6 +68,19 @@ module _ (name : List ℕ) where
   no_such_column : refusals (name ∷ codes "watch" ∷ codes "--sort" ∷ codes "name" ∷ []) ≡ InvalidValue ∷ []
   unfolding clap_on_literals
   no_such_column = refl
+
+  each_task_twice_a_minute : AsksFor (Metrics (record plain_metrics { by = Id; every = 30; follow = true }))
+      (name ∷ codes "metrics" ∷ codes "--by=id" ∷ codes "--to" ∷ codes "tasks.prom" ∷ codes "--every=30" ∷ codes "--follow" ∷ [])
+  unfolding clap_on_literals
+  each_task_twice_a_minute = (refl, refl)
+
+  that_place : to_of (name ∷ codes "metrics" ∷ codes "--to" ∷ codes "tasks.prom" ∷ []) ≡ Some (codes "tasks.prom")
+  unfolding clap_on_literals
+  that_place = refl
+
+  no_such_key : refusals (name ∷ codes "metrics" ∷ codes "--by" ∷ codes "kind" ∷ []) ≡ InvalidValue ∷ []
+  unfolding clap_on_literals
+  no_such_key = refl
 
   a_percentage_too_large : refusals (name ∷ codes "view" ∷ codes "--self-wake-percent=101" ∷ []) ≡ ValueValidation ∷ []
   unfolding clap_on_literals

@@ -1,12 +1,13 @@
 -- What a run of the program does with a script, with a stream, and for the demo.
-use Rattle.std.specs.Prelude.{◌≡◌, ◌==◌, ℕ, Bool, true, List, [], Option, Result, Ok, Err, IfErr, if◌then◌else◌, unwrap_or}
+use Rattle.std.specs.Prelude.{◌≡◌, ◌==◌, ℕ, Bool, true, List, [], Option, Some, None, Result, Ok, Err, IfErr, if◌then◌else◌, unwrap_or}
 use Rattle.std.specs.Borrow.{Bor}
 use Rattle.std.specs.Io.KnownBytes.{Appends}
 use Rattle.tk_client.specs.Warnings.{LintsView}
 use Rattle.tk_app.specs.Demo.{Demonstrates}
 use Rattle.tk_live.specs.Script.{ReadsAndRuns}
+use Rattle.tk_metrics.specs.Keeping.{Keeps}
+use Rattle.tk_metrics.specs.Places.{Texts}
 use Rattle.tk_metrics.specs.Streams.{Measures}
-use Rattle.tk_metrics.specs.declared.by.By.TheVariants.{Name}
 use Rattle.tk_page.specs.Pages.{Pages}
 use Rattle.tk_report.specs.Views.{IsOfWriter, Views}
 use Rattle.tk_fault.specs.declared.fault.AppFault.{AppFault}
@@ -18,6 +19,7 @@ use Rattle.tk_report.specs.declared.view.View.{View}
 use Rattle.tk_report.specs.declared.view.View.TheVariants.{Report, Lint}
 use Rattle.taskscope.specs.declared.command_line.Request.{Request}
 use Rattle.taskscope.specs.declared.command_line.Request.TheVariants.{Demo, Metrics, Page, Run, Show, Watch}
+use Rattle.taskscope.specs.declared.command_line.MetricsOptions.{MetricsOptions}
 use Rattle.taskscope.specs.declared.command_line.WatchOptions.{WatchOptions}
 
 -- the status that tells an outcome: 0 without a fault, 1 with one
@@ -90,13 +92,25 @@ pub record WatchesStream (options : WatchOptions) (text : List ℕ) (terminal : 
   pub is_text : part.now ≡ text
   pub watches : Watches (screen_by options part terminal) given left outcome old new
 
--- a stream is read and its numbers are written, with tasks by their names, and the status tells the outcome
-pub record MeasuresStream (lints : LintsView) (given left old new : Option (List ℕ)) (status : ℕ) : Type 0 where
+-- a stream is read and its numbers are written, and the status tells the outcome
+pub record MeasuresStream (options : MetricsOptions) (given left old new : Option (List ℕ)) (status : ℕ) : Type 0 where
   pub outcome : Result (Unit {0}) AppFault
   pub told : status ≡ status_of outcome
-  pub measures : Measures Name lints given left outcome old new
+  pub measures : Measures options.by options.lints given left outcome old new
   -- only a writer's fault comes once something was written
   pub unwritten : IfErr outcome (λ fault. (IsOfWriter fault → ⊥) → new ≡ old)
+
+-- a stream is read, its numbers are kept under a path while it comes, and the status tells the outcome: of the texts of a place
+-- before and after
+pub record KeepsStream (options : MetricsOptions) (path : List ℕ) (given left : Option (List ℕ)) (before after : Option Texts) (status : ℕ) : Type 0 where
+  pub outcome : Result (Unit {0}) AppFault
+  pub told : status ≡ status_of outcome
+  pub keeps : Keeps path options.by options.lints given left outcome before after
+
+-- numbers are written, or kept under a path where one is given, and then nothing is written
+abbrev pub MeasuresTo : Option (List ℕ) → MetricsOptions → Option (List ℕ) → Option (List ℕ) → Option (List ℕ) → Option (List ℕ) → Option Texts → Option Texts → ℕ → Type 0
+MeasuresTo None options given left old new before after status = MeasuresStream options given left old new status
+MeasuresTo (Some path) options given left old new before after status = KeepsStream options path given left before after status × (new ≡ old)
 
 -- the demo is shown, nothing is read, and the status tells the outcome
 pub record ShowsDemo (given left old new : Option (List ℕ)) (status : ℕ) : Type 0 where
@@ -109,17 +123,17 @@ pub record ShowsDemo (given left old new : Option (List ℕ)) (status : ℕ) : T
 abbrev pub filter_text : Option (List ℕ) → List ℕ
 filter_text filter = unwrap_or filter []
 
--- what is asked for is done, with this filter and terminal for a watch: of the reader's bytes before and after, of the output's, and
--- the status
-abbrev pub Does : Canvas → Option (List ℕ) → Request → Option (List ℕ) → Option (List ℕ) → Option (List ℕ) → Option (List ℕ) → ℕ → Type 0
-Does terminal filter Run given left old new status = RunsScript given old new status
-Does terminal filter (Show view lints) given left old new status = ViewsStream view lints given left old new status
-Does terminal filter (Page lints) given left old new status = PagesStream lints given left old new status
-Does terminal filter (Watch options) given left old new status = WatchesStream options (filter_text filter) terminal given left old new status
-Does terminal filter (Metrics lints) given left old new status = MeasuresStream lints given left old new status
-Does terminal filter Demo given left old new status = ShowsDemo given left old new status
+-- what is asked for is done, with this filter and terminal for a watch, and this path for numbers: of the reader's bytes before and
+-- after, of the output's, of a place's texts, and the status
+abbrev pub Does : Canvas → Option (List ℕ) → Option (List ℕ) → Request → Option (List ℕ) → Option (List ℕ) → Option (List ℕ) → Option (List ℕ) → Option Texts → Option Texts → ℕ → Type 0
+Does terminal filter to Run given left old new before after status = RunsScript given old new status
+Does terminal filter to (Show view lints) given left old new before after status = ViewsStream view lints given left old new status
+Does terminal filter to (Page lints) given left old new before after status = PagesStream lints given left old new status
+Does terminal filter to (Watch options) given left old new before after status = WatchesStream options (filter_text filter) terminal given left old new status
+Does terminal filter to (Metrics options) given left old new before after status = MeasuresTo to options given left old new before after status
+Does terminal filter to Demo given left old new before after status = ShowsDemo given left old new status
 
 -- what is asked for is done with the bytes of some reader, of which nothing is known
-abbrev pub DoesOfFile : Canvas → Option (List ℕ) → Request → Option (List ℕ) → Option (List ℕ) → ℕ → Type 0
-DoesOfFile terminal filter request old new status =
-    (given : Option (List ℕ)) × (left : Option (List ℕ)) × Does terminal filter request given left old new status
+abbrev pub DoesOfFile : Canvas → Option (List ℕ) → Option (List ℕ) → Request → Option (List ℕ) → Option (List ℕ) → Option Texts → Option Texts → ℕ → Type 0
+DoesOfFile terminal filter to request old new before after status =
+    (given : Option (List ℕ)) × (left : Option (List ℕ)) × Does terminal filter to request given left old new before after status

@@ -18,8 +18,11 @@ use Rattle.tk_report.specs.declared.view.View.{View}
 use Rattle.tk_report.specs.declared.view.View.TheVariants.{Report, Lint}
 use Rattle.tk_frame.specs.declared.query.Column.{Column}
 use Rattle.tk_frame.specs.declared.query.Column.TheVariants.{Busy, Sched, Polls, Wakes, SelfWakes}
+use Rattle.tk_metrics.specs.declared.by.By.{By}
+use Rattle.tk_metrics.specs.declared.by.By.TheVariants.{Name, Id}
 use Rattle.taskscope.specs.declared.command_line.Request.{Request}
 use Rattle.taskscope.specs.declared.command_line.Request.TheVariants.{Demo, Metrics, Page, Run, Show, Watch}
+use Rattle.taskscope.specs.declared.command_line.MetricsOptions.{MetricsOptions}
 use Rattle.taskscope.specs.declared.command_line.WatchOptions.{WatchOptions}
 
 -- ---- the words that there are
@@ -74,6 +77,14 @@ watch_command =
     let followed = with_rule slow (flag_option (codes "follow")) in
     with_rule followed (flag_option (codes "plain"))
 
+-- the command that writes numbers, or keeps them in a file
+abbrev pub metrics_command : App
+metrics_command =
+    let told_apart = with_rule (view_command (codes "metrics")) (text_option (codes "by")) in
+    let kept = with_rule told_apart (text_option (codes "to")) in
+    let slow = with_rule kept (number_option (codes "every") (codes "10") 86400) in
+    with_rule slow (flag_option (codes "follow"))
+
 -- a command is required
 abbrev pub requiring : App → App
 requiring = on_top (λ s. record s { subcommand_required = true })
@@ -93,7 +104,7 @@ abbrev pub program : App
 program =
     let pages = with_subcommand first_words (view_command (codes "page")).top in
     let watches = with_subcommand pages watch_command.top in
-    let metrics = with_subcommand watches (view_command (codes "metrics")).top in
+    let metrics = with_subcommand watches metrics_command.top in
     with_subcommand metrics (new_shape (codes "demo"))
 
 -- ---- what they ask for
@@ -176,9 +187,29 @@ watch_by sort options = record {
 abbrev pub watch_with : List Row → Option Request
 watch_with options = option_and_then (λ sort. Some (Watch (watch_by sort options))) (column_at options)
 
+-- what tasks are told apart by, of this name
+abbrev pub by_named : Text → Option By
+by_named name =
+    if bytes_eq name (codes "name") then Some Name
+    else if bytes_eq name (codes "id") then Some Id
+    else None
+
+-- what tasks are told apart by: their names where nothing is said
+abbrev pub by_at : List Row → Option By
+by_at options = option_map_or by_named (text_at (codes "by") options) (Some Name)
+
+-- what numbers are written and when they are put in a file, by what tasks are told apart by and these options
+abbrev pub metrics_by : By → List Row → MetricsOptions
+metrics_by by options = record {
+  by = by;
+  every = number_or 10 (codes "every") options;
+  follow = flag_at (codes "follow") options;
+  lints = lints_or_plain options;
+}
+
 -- numbers with these options
 abbrev pub metrics_with : List Row → Option Request
-metrics_with options = option_and_then (λ lints. Some (Metrics lints)) (lints_in options)
+metrics_with options = option_and_then (λ by. Some (Metrics (metrics_by by options))) (by_at options)
 
 -- what a command asks for, by its name and its options
 abbrev pub asked_by : Text → List Row → Option Request
@@ -217,21 +248,29 @@ filter_in = option_and_then (λ command. text_at (codes "filter") command.1)
 abbrev pub filter_of : List Text → Option Text
 filter_of words = filter_in (subcommand_of program words)
 
+-- the file that numbers are kept in, where the words name one
+abbrev pub to_in : Option (Text × List Row) → Option Text
+to_in = option_and_then (λ command. text_at (codes "to") command.1)
+
+abbrev pub to_of : List Text → Option Text
+to_of words = to_in (subcommand_of program words)
+
 -- what the words read
 abbrev pub texts : {Z : Type 0} → List (String Z) → List (List ℕ)
 texts = map (λ w. w.bytes.items)
 
--- a watch whose column is none
-abbrev pub names_no_column : Option (Text × List Row) → Bool
-names_no_column command = option_map_or (λ c. bytes_eq c.0 (codes "watch") && not (is_some (column_at c.1))) command false
+-- an option names nothing that there is: no column of a watch, or nothing that tasks are told apart by
+abbrev pub names_nothing : Option (Text × List Row) → Bool
+names_nothing command = option_map_or
+    (λ c. if bytes_eq c.0 (codes "watch") then not (is_some (column_at c.1)) else (bytes_eq c.0 (codes "metrics") && not (is_some (by_at c.1)))) command false
 
-abbrev pub column_fault : Option (Text × List Row) → Kinds
-column_fault command = if names_no_column command then kind.InvalidValue ∷ [] else []
+abbrev pub name_fault : Option (Text × List Row) → Kinds
+name_fault command = if names_nothing command then kind.InvalidValue ∷ [] else []
 
--- the kinds of error by which the words may be refused: those of a parse, or else that their column is none. There are none where
--- the words ask for something, and only there
+-- the kinds of error by which the words may be refused: those of a parse, or else that an option names nothing that there is. There are
+-- none where the words ask for something, and only there
 abbrev pub refusals : List (List ℕ) → Kinds
-refusals words = or_else (fault_of program words) (column_fault (subcommand_of program words))
+refusals words = or_else (fault_of program words) (name_fault (subcommand_of program words))
 
 -- the words ask for this: they are taken, and they name it
 abbrev pub AsksFor : Request → List (List ℕ) → Type 0
@@ -260,6 +299,10 @@ plain_watch = record {
   follow = false;
   lints = plain_lints;
 }
+
+-- which numbers are asked for where no option is given
+abbrev pub plain_metrics : MetricsOptions
+plain_metrics = record { by = Name; every = 10; follow = false; lints = plain_lints }
 
 -- the words ask for help, and make no mistake
 abbrev pub AsksForHelp : List (List ℕ) → Type 0

@@ -17,6 +17,7 @@ use std::alloc::{AllocError, Global};
 use tk_app::View;
 use tk_client::Lints;
 use tk_frame::Column;
+use tk_metrics::By;
 
 /// A call of the program: what its words ask for, and the texts that they give.
 pub(crate) struct Call<'a> {
@@ -25,6 +26,8 @@ pub(crate) struct Call<'a> {
     pub file: Option<&'a str>,
     /// What stands in the name of each task that is watched, where not all are.
     pub filter: Option<&'a str>,
+    /// The file that numbers are kept in, where they aren't written to standard output.
+    pub to: Option<&'a str>,
 }
 
 /// What the words of a command line ask for.
@@ -38,8 +41,8 @@ pub(crate) enum Request {
     Page { lints: Lints },
     /// To draw a stream's tables as a screen while it comes.
     Watch(WatchOptions),
-    /// To write a stream's numbers, with warnings by these lints.
-    Metrics { lints: Lints },
+    /// To write a stream's numbers, or to keep them in a file.
+    Metrics(MetricsOptions),
     /// To show three tasks of this project's own works.
     Demo,
 }
@@ -56,6 +59,19 @@ pub(crate) struct WatchOptions {
     /// Whether screens are text, also on a terminal.
     pub plain: bool,
     /// How many milliseconds lie between two screens at least.
+    pub every: u64,
+    /// Whether more may come once the stream has ended.
+    pub follow: bool,
+    /// From when on a task is warned of.
+    pub lints: Lints,
+}
+
+/// Which numbers of a stream are written, and when they are put in a file anew.
+#[derive(Clone, Copy)]
+pub(crate) struct MetricsOptions {
+    /// What tasks are told apart by.
+    pub by: By,
+    /// How many seconds lie between two texts of a file at least.
     pub every: u64,
     /// Whether more may come once the stream has ended.
     pub follow: bool,
@@ -186,10 +202,17 @@ const METRICS_LONG_ABOUT: &str =
   taskscope run < examples/lost-waker.script | taskscope metrics > /var/lib/prometheus/node-exporter/tasks.prom
 
 Counts and times of tasks are sums over those of one name and kind. With tasks that left the stream, each sum
-keeps what they had come to. `taskscope lint --help` explains the warnings, docs/FORMATS.md the families, and
-docs/alerts.yml has alerts to copy.
+keeps what they had come to. With `--by id` each task has numbers of its own, as long as it hasn't left.
+`taskscope lint --help` explains the warnings, docs/FORMATS.md the families, and docs/alerts.yml has alerts to copy.
 
-A last line of the stream without its line end is ignored. After a fault nothing is written.";
+With `--to` the numbers are kept in a file while the stream comes, and nothing is written to standard output. The
+file is written anew once lines came, and at the end of the stream in any case: beside the old one, with `.new`
+after its name, which then takes its place. So who reads it never finds half of it.
+
+  service | taskscope metrics --to /var/lib/prometheus/node-exporter/tasks.prom
+
+A last line of the stream without its line end is ignored. After a fault nothing is written to standard output, and
+a file has the numbers of the lines before it.";
 
 const DEMO_ABOUT: &str = "Runs three small tasks and writes their report to standard output";
 
@@ -235,6 +258,19 @@ const FOLLOW_HELP: &str = "Goes on at the end of the stream, as a file grows";
 const PLAIN: &str = "plain";
 
 const PLAIN_HELP: &str = "Writes screens as text, one after the other, also on a terminal";
+
+const BY: &str = "by";
+
+const BY_HELP: &str = "Adds up tasks by `name`, as where nothing is said, or shows each by `id`";
+
+const TO: &str = "to";
+
+const TO_HELP: &str = "Keeps the numbers in this file, and writes none to standard output";
+
+const EVERY_SECONDS_HELP: &str = "Writes that file anew at most once in so many seconds";
+
+const FOLLOW_INTO_HELP: &str =
+    "Goes on at the end of the stream, as a file grows, where numbers are kept in a file";
 
 const FILE: &str = "FILE";
 
@@ -358,6 +394,25 @@ fn watch_command<'a>(alloc: Global) -> Result<Command<'a>, Error>
     Ok(shows_command(alloc)?.arg(every)?.arg(follow)?.arg(plain)?)
 }
 
+// The numbers of a stream, and the file that they are kept in.
+fn metrics_command<'a>(alloc: Global) -> Result<Command<'a>, Error>
+    ensures ok { IfOk result (λ c. app_of c ≡ spec.metrics_command) }
+    ensures local { IfOk result (λ c. (fields_of c).has_globals ≡ false) }
+    ensures err { IfErr result (λ e. kind_of e ≡ ErrorKind.OutOfMemory) }
+{
+    let by = text_arg(alloc, BY, "KEY", BY_HELP);
+    let to = text_arg(alloc, TO, "PATH", TO_HELP);
+    let every = number_arg(alloc, EVERY, EVERY_SECONDS_HELP, "10", 86_400);
+    let follow = flag_arg(alloc, FOLLOW, FOLLOW_INTO_HELP);
+    Ok(
+        view_command(alloc, "metrics", METRICS_ABOUT, METRICS_LONG_ABOUT)?
+            .arg(by)?
+            .arg(to)?
+            .arg(every)?
+            .arg(follow)?,
+    )
+}
+
 // The program without its words.
 fn top_command<'a>(alloc: Global) -> Result<Command<'a>, Error>
     ensures ok { IfOk result (λ c. app_of c ≡ spec.bare) }
@@ -396,7 +451,7 @@ fn command_line<'a>(alloc: Global) -> Result<Command<'a>, Error>
 {
     let page = view_command(alloc, "page", PAGE_ABOUT, PAGE_LONG_ABOUT)?;
     let watch = watch_command(alloc)?;
-    let metrics = view_command(alloc, "metrics", METRICS_ABOUT, METRICS_LONG_ABOUT)?;
+    let metrics = metrics_command(alloc)?;
     let demo = Command::new(alloc, "demo")
         .about(DEMO_ABOUT)
         .long_about(DEMO_LONG_ABOUT);
@@ -515,11 +570,42 @@ fn watch_with(options: &ArgMatches) -> Option<Request>
     Some(Request::Watch(watch_by(sort, options)))
 }
 
+fn by_named(word: &str) -> Option<By>
+    ensures { result ≡ spec.by_named word.now }
+{
+    match word {
+        "name" => Some(By::Name),
+        "id" => Some(By::Id),
+        _ => None,
+    }
+}
+
+// What tasks are told apart by: their names where nothing is said, and nothing where there is no such key.
+fn by_at(options: &ArgMatches) -> Option<By>
+    ensures { result ≡ spec.by_at (rows_of (found_of options.now)) }
+{
+    match text_at(options, BY) {
+        Some(word) => by_named(word),
+        None => Some(By::Name),
+    }
+}
+
+fn metrics_by(by: By, options: &ArgMatches) -> MetricsOptions
+    ensures { result ≡ spec.metrics_by by (rows_of (found_of options.now)) }
+{
+    MetricsOptions {
+        by,
+        every: number_or(options, EVERY, 10),
+        follow: flag_at(options, FOLLOW),
+        lints: lints_or_plain(options),
+    }
+}
+
 fn metrics_with(options: &ArgMatches) -> Option<Request>
     ensures { result ≡ spec.metrics_with (rows_of (found_of options.now)) }
 {
-    let lints = lints_in(options)?;
-    Some(Request::Metrics { lints })
+    let by = by_at(options)?;
+    Some(Request::Metrics(metrics_by(by, options)))
 }
 
 // What a command asks for, by its name and its options.
@@ -571,38 +657,66 @@ fn filter_in<'a>(matches: &ArgMatches<'a>) -> Option<&'a str>
     }
 }
 
-// Whether there is no column as a watch names it.
-fn names_no_column(matches: &ArgMatches) -> bool
-    ensures { result ≡ spec.names_no_column (subcommand_rows_of matches.now) }
+fn to_in<'a>(matches: &ArgMatches<'a>) -> Option<&'a str>
+    ensures { option_map (λ to. to.now) result ≡ spec.to_in (subcommand_rows_of matches.now) }
 {
     match matches.subcommand() {
-        Some((name, options)) => name == "watch" && column_at(options).is_none(),
+        Some((_, options)) => text_at(options, TO),
+        None => None,
+    }
+}
+
+// Whether an option names nothing that there is.
+fn names_nothing(matches: &ArgMatches) -> bool
+    ensures { result ≡ spec.names_nothing (subcommand_rows_of matches.now) }
+{
+    match matches.subcommand() {
+        Some((name, options)) => {
+            if name == "watch" {
+                column_at(options).is_none()
+            } else {
+                name == "metrics" && by_at(options).is_none()
+            }
+        }
         None => false,
     }
 }
 
-fn column_mistake<'a>(
+// What there is in place of a name that an option has.
+fn names_there(alloc: Global, matches: &ArgMatches) -> Result<String, AllocError> {
+    match matches.subcommand() {
+        Some(("metrics", options)) => {
+            let word = options.get_str(BY).unwrap_or("");
+            format!(in alloc;
+                "invalid value '{word}' for '--by <KEY>'\n  [possible values: name, id]"
+            )
+        }
+        Some((_, options)) => {
+            let word = options.get_str(SORT).unwrap_or("");
+            format!(in alloc;
+                "invalid value '{word}' for '--sort <COLUMN>'\n  [possible values: busy, sched, polls, wakes, self-wakes]"
+            )
+        }
+        None => format!(in alloc; "invalid value"),
+    }
+}
+
+fn name_mistake<'a>(
     alloc: Global,
     command: &mut Command<'a>,
     matches: &ArgMatches<'a>,
 ) -> Result<Error, AllocError>
     ensures { IfOk result (λ e. kind_of e ≡ ErrorKind.InvalidValue) }
 {
-    let word = match matches.subcommand() {
-        Some((_, options)) => options.get_str(SORT).unwrap_or(""),
-        None => "",
-    };
-    let message = format!(in alloc;
-        "invalid value '{word}' for '--sort <COLUMN>'\n  [possible values: busy, sched, polls, wakes, self-wakes]"
-    )?;
+    let message = names_there(alloc, matches)?;
     command.error(ErrorKind::InvalidValue, message.as_str())
 }
 
-// The mistake in a name that is no column's.
-fn no_column<'a>(alloc: Global, command: &mut Command<'a>, matches: &ArgMatches<'a>) -> Error
+// The mistake in a name of nothing that there is.
+fn no_name<'a>(alloc: Global, command: &mut Command<'a>, matches: &ArgMatches<'a>) -> Error
     ensures { (kind_of result ≡ ErrorKind.OutOfMemory) ⊎ (kind_of result ≡ ErrorKind.InvalidValue) }
 {
-    match column_mistake(alloc, command, matches) {
+    match name_mistake(alloc, command, matches) {
         Ok(error) => error,
         Err(error) => error.into(),
     }
@@ -615,19 +729,20 @@ fn matches_of<'a>(alloc: Global, words: &'a [String]) -> Result<ArgMatches<'a>, 
 {
     let mut command = command_line(alloc)?;
     let matches = command.try_get_matches_from_mut(words)?;
-    if names_no_column(&matches) {
-        return Err(no_column(alloc, &mut command, &matches));
+    if names_nothing(&matches) {
+        return Err(no_name(alloc, &mut command, &matches));
     }
     Ok(matches)
 }
 
 /// What the words ask for, the first of which is the program's name. Else a mistake in them, or the help that they ask for.
 pub(crate) fn call_of<'a>(alloc: Global, words: &'a [String]) -> Result<Call<'a>, Error>
-    // A call where a parse takes the words and their column is one, and else a kind of error by which they are refused; or want of memory.
+    // A call where a parse takes the words and their options name what there is, and else a kind of error by which they are refused; or want of memory.
     ensures fails { FailsBy (refusals (texts words.now)) result }
     ensures asked { IfOk result (λ call. spec.asked (texts words.now) ≡ Some call.request) }
     ensures file { IfOk result (λ call. spec.file_of (texts words.now) ≡ option_map (λ file. file.now) call.file) }
     ensures filter { IfOk result (λ call. spec.filter_of (texts words.now) ≡ option_map (λ filter. filter.now) call.filter) }
+    ensures to { IfOk result (λ call. spec.to_of (texts words.now) ≡ option_map (λ to. to.now) call.to) }
 {
     let matches = matches_of(alloc, words)?;
     // A command is required, and the parse has checked its numbers.
@@ -636,5 +751,6 @@ pub(crate) fn call_of<'a>(alloc: Global, words: &'a [String]) -> Result<Call<'a>
         request,
         file: file_in(&matches),
         filter: filter_in(&matches),
+        to: to_in(&matches),
     })
 }

@@ -2,10 +2,12 @@
 #![tactic(auto)]
 
 mod command_line;
+mod files;
 mod outputs;
 mod program;
 mod terminal;
 
+use files::WholeFiles;
 use outputs::{Faults, Output};
 use program::{refuse_words, run_program};
 use std::cell::Cell;
@@ -32,6 +34,7 @@ fn main(rt: HostRuntime) -> ExitCode {
             terminal_of(&rt, rt.stdout().is_terminal()),
             &mut rt.reader(),
             &mut output,
+            &mut WholeFiles::new(&rt, rt.alloc()),
             &mut faults,
         ),
         Err(error) => refuse_words(error.kind(), &mut faults),

@@ -1,11 +1,11 @@
 //! A run of the program, from its words to its status.
-ghost use Rattle.std.specs.Prelude.{◌≡◌, ◌≢◌, ◌≤◌, ◌⊎◌, true, [], codes, IsSome};
+ghost use Rattle.std.specs.Prelude.{◌≡◌, ◌≢◌, ◌≤◌, ◌⊎◌, true, [], codes, IsSome, None};
 ghost use Rattle.std.specs.Option.{option_map};
 ghost use Rattle.clap.specs.Values.{kind_of};
-ghost use Rattle.taskscope.specs.Requests.{AsksForFile, AsksForHelp, AsksForInput, IsMistake, IsPlain, asked, filter_of, is_mistake, plain_lints, plain_watch, refusals, texts};
-ghost use Rattle.taskscope.specs.Program.{Does, DoesOfFile, WatchesStream, filter_text, page_status, screen_by, status_at, status_of, view_status};
+ghost use Rattle.taskscope.specs.Requests.{AsksForFile, AsksForHelp, AsksForInput, IsMistake, IsPlain, asked, filter_of, is_mistake, plain_lints, plain_metrics, plain_watch, refusals, texts, to_of};
+ghost use Rattle.taskscope.specs.Program.{Does, DoesOfFile, KeepsStream, WatchesStream, filter_text, page_status, screen_by, status_at, status_of, view_status};
 
-use crate::command_line::{Call, Request, WatchOptions, call_of};
+use crate::command_line::{Call, MetricsOptions, Request, WatchOptions, call_of};
 use clap::Error;
 use clap::error::ErrorKind;
 use std::alloc::{AllocGlobal, Global};
@@ -18,10 +18,11 @@ use std::thread::Threads;
 use std::time::Clock;
 use tk_app::{AppFault, Open, View, demo, run_script, view_stream};
 use tk_frame::Query;
-use tk_metrics::{By, metrics_stream};
+use tk_metrics::{Place, keep_metrics, metrics_stream};
+use tk_pace::Every;
 use tk_page::view_page;
 use tk_screen::Canvas;
-use tk_watch::{Every, Screen, watch_stream};
+use tk_watch::{Screen, watch_stream};
 
 /// All was done, which may be to show help.
 const DONE: u8 = 0;
@@ -136,24 +137,56 @@ fn watch<R: Clock, I: Read, O: Write, E: Write>(
     )
 }
 
-// Does what is asked for, with this filter and terminal for a watch, and answers the status.
+// Keeps a stream's numbers under a path, and answers the status.
+fn keep<R: Clock, I: Read, P: Place, E: Write>(
+    rt: &R,
+    alloc: Global,
+    options: &MetricsOptions,
+    path: &str,
+    input: &mut I,
+    place: &mut P,
+    faults: &mut E,
+) -> u8
+    ensures does { KeepsStream options.now path.now (I.remaining input.old) (I.remaining input.new) (P.texts place.old) (P.texts place.new) result }
+    ensures status { result ≤ FAULT }
+{
+    let mut pace = Every::new(rt, options.every.saturating_mul(1000), options.follow);
+    tell_outcome(
+        keep_metrics(
+            alloc,
+            input,
+            place,
+            path,
+            options.by,
+            &options.lints,
+            &mut pace,
+        ),
+        faults,
+    )
+}
+
+// Does what is asked for, with this filter and terminal for a watch, and this path for numbers, and answers the status.
 fn fulfil<
     R: Threads + Wait + Sync + RandomSource + AllocGlobal + Clock,
     I: Read,
     O: Write,
+    P: Place,
     E: Write,
 >(
     rt: &R,
     alloc: Global,
     request: Request,
     filter: Option<&str>,
+    to: Option<&str>,
     terminal: Canvas,
     input: &mut I,
     output: &mut O,
+    place: &mut P,
     faults: &mut E,
 ) -> u8
-    ensures does { Does terminal (option_map (λ f. f.now) filter.entry) request
-        (I.remaining input.old) (I.remaining input.new) (O.contents output.old) (O.contents output.new) result }
+    ensures does { Does terminal (option_map (λ f. f.now) filter.entry) (option_map (λ p. p.now) to.entry) request
+        (I.remaining input.old) (I.remaining input.new) (O.contents output.old) (O.contents output.new) (P.texts place.old) (P.texts place.new) result }
+    ensures kept { option_map (λ p. p.now) to.entry ≡ None → place.new ≡ place.old }
     ensures status { (result ≤ FAULT) ⊎ (result ≡ WARNED) }
 {
     match request {
@@ -170,10 +203,13 @@ fn fulfil<
             let text = filter_text(filter);
             watch(rt, alloc, &options, text, terminal, input, output, faults)
         }
-        Request::Metrics { lints } => tell_outcome(
-            metrics_stream(alloc, input, output, By::Name, &lints),
-            faults,
-        ),
+        Request::Metrics(options) => match to {
+            Some(path) => keep(rt, alloc, &options, path, input, place, faults),
+            None => tell_outcome(
+                metrics_stream(alloc, input, output, options.by, &options.lints),
+                faults,
+            ),
+        },
         Request::Demo => tell_outcome(demo(rt, alloc, output), faults),
     }
 }
@@ -182,23 +218,28 @@ fn fulfil<
 fn fulfil_of_file<
     R: Threads + Wait + Sync + RandomSource + AllocGlobal + Clock + Files,
     O: Write,
+    P: Place,
     E: Write,
 >(
     rt: &R,
     alloc: Global,
     request: Request,
     filter: Option<&str>,
+    to: Option<&str>,
     terminal: Canvas,
     path: &str,
     output: &mut O,
+    place: &mut P,
     faults: &mut E,
 ) -> u8
-    ensures does { DoesOfFile terminal (option_map (λ f. f.now) filter.entry) request (O.contents output.old) (O.contents output.new) result }
+    ensures does { DoesOfFile terminal (option_map (λ f. f.now) filter.entry) (option_map (λ p. p.now) to.entry) request
+        (O.contents output.old) (O.contents output.new) (P.texts place.old) (P.texts place.new) result }
+    ensures kept { option_map (λ p. p.now) to.entry ≡ None → place.new ≡ place.old }
     ensures status { (result ≤ FAULT) ⊎ (result ≡ WARNED) }
 {
     match fs::open(rt, path) {
         Ok(mut file) => fulfil(
-            rt, alloc, request, filter, terminal, &mut file, output, faults,
+            rt, alloc, request, filter, to, terminal, &mut file, output, place, faults,
         ),
         Err(error) => {
             let _ = writeln!(faults, "fault: Read {path}: {error}");
@@ -240,13 +281,15 @@ pub(crate) fn refuse_words<E: Write>(kind: IoErrorKind, faults: &mut E) -> u8
     USAGE
 }
 
-/// Does what the words ask for, the first of which is the program's name, and answers the status. Screens are drawn on this terminal.
+/// Does what the words ask for, the first of which is the program's name, and answers the status. Screens are drawn on this terminal, and
+/// numbers kept in this place.
 ///
 /// What goes to `faults` is only tested.
 pub(crate) fn run_program<
     R: Threads + Wait + Sync + RandomSource + AllocGlobal + Clock + Files,
     I: Read,
     O: Write,
+    P: Place,
     E: Write,
 >(
     rt: &R,
@@ -255,30 +298,35 @@ pub(crate) fn run_program<
     terminal: Canvas,
     input: &mut I,
     output: &mut O,
+    place: &mut P,
     faults: &mut E,
 ) -> u8
     // What is asked for is done: a run reads and writes as `run_script` does, a view as `view_stream` does, a page as
-    // `view_page` does, a watch as `watch_stream` does, numbers as `metrics_stream` does by name, and the demo writes as `demo` does. The status is
-    // 1 exactly where there was a fault, and 3 exactly where `lint` found warnings.
+    // `view_page` does, a watch as `watch_stream` does, numbers as `metrics_stream` does, or as `keep_metrics` does where a path is
+    // given, and the demo writes as `demo` does. The status is 1 exactly where there was a fault, and 3 exactly where `lint` found warnings.
     ensures does { (request : Request) → AsksForInput request (texts words.now)
-        → Does terminal (filter_of (texts words.now)) request
-        (I.remaining input.old) (I.remaining input.new) (O.contents output.old) (O.contents output.new) result }
+        → Does terminal (filter_of (texts words.now)) (to_of (texts words.now)) request
+        (I.remaining input.old) (I.remaining input.new) (O.contents output.old) (O.contents output.new) (P.texts place.old) (P.texts place.new) result }
     // With a file the same is done of its bytes, of which nothing is known, and the input is as it was.
     ensures file { (request : Request) → AsksForFile request (texts words.now)
         → (input.new ≡ input.old)
-        × DoesOfFile terminal (filter_of (texts words.now)) request (O.contents output.old) (O.contents output.new) result }
+        × DoesOfFile terminal (filter_of (texts words.now)) (to_of (texts words.now)) request
+        (O.contents output.old) (O.contents output.new) (P.texts place.old) (P.texts place.new) result }
+    // Numbers alone are put in a place, and only where the words are taken and name a path.
+    ensures kept { refusals (texts words.now) ≡ [] → to_of (texts words.now) ≡ None → place.new ≡ place.old }
     // A command alone asks for it of the input, with the lints of its defaults.
     ensures run { IsPlain (codes "run") (texts words.now) → AsksForInput Request.Run (texts words.now) }
     ensures view { IsPlain (codes "view") (texts words.now) → AsksForInput (Request.Show View.Report plain_lints) (texts words.now) }
     ensures lint { IsPlain (codes "lint") (texts words.now) → AsksForInput (Request.Show View.Lint plain_lints) (texts words.now) }
     ensures page { IsPlain (codes "page") (texts words.now) → AsksForInput (Request.Page plain_lints) (texts words.now) }
     ensures watch { IsPlain (codes "watch") (texts words.now) → AsksForInput (Request.Watch plain_watch) (texts words.now) }
-    ensures metrics { IsPlain (codes "metrics") (texts words.now) → AsksForInput (Request.Metrics plain_lints) (texts words.now) }
+    ensures metrics { IsPlain (codes "metrics") (texts words.now) → AsksForInput (Request.Metrics plain_metrics) (texts words.now) }
     ensures demo { IsPlain (codes "demo") (texts words.now) → AsksForInput Request.Demo (texts words.now) }
     // All words that are taken ask for a run, a view, a page, a watch, numbers or the demo.
     ensures asks { refusals (texts words.now) ≡ [] → IsSome (asked (texts words.now)) }
-    // Other words leave the input as it is.
+    // Other words leave the input and the place as they are.
     ensures unread { refusals (texts words.now) ≢ [] → input.new ≡ input.old }
+    ensures unplaced { refusals (texts words.now) ≢ [] → place.new ≡ place.old }
     // A mistake writes nothing to the output. Its status is 2, or 1 where memory ran out.
     ensures mistake { IsMistake (texts words.now)
         → (output.new ≡ output.old) × ((result ≡ USAGE) ⊎ (result ≡ FAULT)) }
@@ -291,12 +339,17 @@ pub(crate) fn run_program<
         request,
         file,
         filter,
+        to,
     } = match call_of(alloc, words) {
         Ok(call) => call,
         Err(error) => return answer(error, output, faults),
     };
     match file {
-        Some(path) => fulfil_of_file(rt, alloc, request, filter, terminal, path, output, faults),
-        None => fulfil(rt, alloc, request, filter, terminal, input, output, faults),
+        Some(path) => fulfil_of_file(
+            rt, alloc, request, filter, to, terminal, path, output, place, faults,
+        ),
+        None => fulfil(
+            rt, alloc, request, filter, to, terminal, input, output, place, faults,
+        ),
     }
 }

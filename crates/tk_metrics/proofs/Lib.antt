@@ -1,3 +1,5 @@
 pub mod LeavingLemmas
 pub mod SeriesLemmas
 pub mod StreamLemmas
+pub mod FollowLemmas
+pub mod KeepLemmas

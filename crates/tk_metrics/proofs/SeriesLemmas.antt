@@ -1,6 +1,7 @@
 -- A value more in series.
 use Rattle.std.proofs.Common.{◌≡◌, ℕ, zero, suc, List, [], ◌∷◌, ◌++◌, map, filter, Bool, true, false, cond, ◌||◌, Option, Some, None, ◌+◌, ◌≤◌, length, take, slice_get, refl, ap, ap₂, sym, subst, ◌∙◌, true≢false, append-nil, append_assoc, add-one}
-use Rattle.std.specs.Prelude.{fold}
+use Rattle.std.specs.Prelude.{fold, vec_len}
+use Rattle.std.specs.List.{AllZip}
 use Rattle.std.specs.Cmp.Lexicographic.{nat_list_eq_equiv}
 use Rattle.std.specs.Map.{lookup}
 use Rattle.std.specs.Str.{bytes_eq}
@@ -59,6 +60,21 @@ module _ {V : Type 0} (plus : V → V → V) (l : List ℕ) (v : V) where
 -- the texts of the keys of a map, with their values
 abbrev pub shown : {V : Type 0} → List (Vec ℕ Global × V) → List (List ℕ × V)
 shown es = map (λ e. (e.0.items, e.1)) es
+
+-- bytes that are copies are the same
+same_bytes : (xs ys : List ℕ) → AllZip (λ x y. y ≡ x) xs ys → ys ≡ xs
+same_bytes [] [] all = refl
+same_bytes [] (y ∷ ys) all = absurd all
+same_bytes (x ∷ xs) [] all = absurd all
+same_bytes (x ∷ xs) (y ∷ ys) all = ap₂ (λ z zs. z ∷ zs) all.0 (same_bytes xs ys all.1)
+
+-- entries whose keys and values are copies show the same
+pub copied : {V : Type 0} (C : V → V → Type 0) → ((a b : V) → C a b → b ≡ a)
+    → (es fs : List (Vec ℕ Global × V)) → AllZip (λ p q. (AllZip (λ x y. y ≡ x) p.0.items q.0.items × (vec_len q.0 ≡ vec_len p.0)) × C p.1 q.1) es fs → shown fs ≡ shown es
+copied C h [] [] all = refl
+copied C h [] (f ∷ fs) all = absurd all
+copied C h (e ∷ es) [] all = absurd all
+copied C h (e ∷ es) (f ∷ fs) all = ap₂ (λ x xs. x ∷ xs) (λ i. (same_bytes e.0.items f.0.items all.0.0.0 i, h e.1 f.1 all.0.1 i)) (copied C h es fs all.1)
 
 module _ {V : Type 0} (plus : V → V → V) (k : Vec ℕ Global) (v : V) where
   -- a key that isn't there goes last

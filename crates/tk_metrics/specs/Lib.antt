@@ -12,5 +12,10 @@ pub mod Metrics
 pub mod Leaving
 -- What the numbers of a stream are, and what writing them came to
 pub mod Streams
+-- What a place is given
+pub mod Places
+-- What a place is given of a stream whose numbers are kept there
+pub mod Keeping
 -- Inner: no public clause cites these
 pub mod Following
+pub mod Kept

@@ -65,11 +65,17 @@ impl Leavers {
         self.lines
     }
 
-    /// What has left.
-    pub fn into_left(self) -> Left
-        ensures { result ≡ self.left }
+    /// What tasks are told apart by.
+    pub fn by(&self) -> By
+        ensures { result ≡ self.now.by }
     {
-        let Leavers { left, .. } = self;
-        left
+        self.by
+    }
+
+    /// What has left.
+    pub fn left(&self) -> Result<Left, AllocError>
+        ensures { IfOk result (λ left. left ≡ self.now.left) }
+    {
+        self.left.copy()
     }
 }

@@ -99,7 +99,7 @@ fn add_resources(
 }
 
 impl Left {
-    ghost use Rattle.std.specs.Prelude.{◌++◌, [], OnOk, map};
+    ghost use Rattle.std.specs.Prelude.{◌≡◌, ◌++◌, [], IfOk, OnOk, map};
     ghost use Rattle.tk_metrics.specs.Leaving as spec;
     ghost use Rattle.tk_metrics.specs.Metrics.{Gone};
     ghost use Rattle.tk_metrics.specs.Sums as sums;
@@ -112,6 +112,14 @@ impl Left {
             tasks: Series::new(alloc),
             resources: Series::new(alloc),
         }
+    }
+
+    pub(crate) fn copy(&self) -> Result<Left, AllocError>
+        ensures { IfOk result (λ left. left ≡ self.now) }
+    {
+        let tasks = self.tasks.copy()?;
+        let resources = self.resources.copy()?;
+        Ok(Left { tasks, resources })
     }
 
     /// Takes what tables had that the next ones have no more.

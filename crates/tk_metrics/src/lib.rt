@@ -1,15 +1,19 @@
 //! The numbers of a stream as the text that Prometheus reads: families of samples, in the form of OpenMetrics.
 //!
 //! - [`metrics_stream`]: reads a stream to its end, and writes its numbers.
+//! - [`keep_metrics`]: keeps its numbers in a [`Place`] while it comes.
 //! - [`metrics`]: the numbers of tables, and of what has left them ([`Left`]).
 //! - [`By`]: whether tasks are added up by their names, or shown each by itself.
 #![tactic(auto)]
 
 mod by;
 mod family;
+mod following;
+mod keeping;
 mod leavers;
 mod left;
 mod numbers;
+mod place;
 mod series;
 mod stream;
 mod sums;
@@ -17,7 +21,9 @@ mod text;
 mod writing;
 
 pub use by::By;
+pub use keeping::keep_metrics;
 pub use left::Left;
 pub use numbers::metrics;
+pub use place::Place;
 pub use stream::metrics_stream;
 pub use tk_fault::AppFault;

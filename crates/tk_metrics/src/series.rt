@@ -1,5 +1,5 @@
 //! Series of numbers, each with its labels.
-ghost use Rattle.std.specs.Prelude.{◌≡◌, [], OnOk, length, slice_get, option_map};
+ghost use Rattle.std.specs.Prelude.{◌≡◌, [], IfOk, OnOk, length, slice_get, option_map};
 ghost use Rattle.tk_metrics.specs.Series as spec;
 
 use indexmap::IndexMap;
@@ -7,12 +7,14 @@ use std::alloc::{AllocError, Global};
 use std::marker::Model;
 
 /// What is added up of the things that have the same labels.
-pub trait Added: Copy + Drop {
+pub trait Added: Copy + Clone + Drop {
     ghost plus: { Self → Self → Self };
 
     /// What both come to.
     fn plus(self, more: Self) -> Self
         ensures { result ≡ plus self more };
+
+    ghost copies: { (a b : Self) → Self.is_clone a b → b ≡ a };
 }
 
 /// Series in the order in which their labels were first added.
@@ -36,6 +38,13 @@ impl<V: Added> Series<V> {
         Series {
             values: IndexMap::new(alloc),
         }
+    }
+
+    pub fn copy(&self) -> Result<Series<V>, AllocError>
+        ensures { IfOk result (λ series. series ≡ self.now) }
+    {
+        let values = self.values.clone()?;
+        Ok(Series { values })
     }
 
     /// How many there are.

@@ -1,114 +1,18 @@
 //! The numbers of a stream, once it was read to its end.
-ghost use Rattle.std.specs.Prelude.{◌≡◌, ◌≤◌, ◌<◌, ◌+◌, ◌^◌, ◌==◌, ◌++◌, [], ℕ, List, length, take, position, IfOk, IfErr, OnOk};
-ghost use Rattle.tk_client.specs.Meaning.{cut};
-ghost use Rattle.tk_report.specs.Taken.{HasTaken, Takes, TakesAll, first, stop_of};
+ghost use Rattle.std.specs.Prelude.{◌≡◌, [], IfErr};
+ghost use Rattle.tk_report.specs.Taken.{first};
 ghost use Rattle.tk_report.specs.Views.{IsOfWriter};
-ghost use Rattle.tk_stream.specs.Spelling.{line_end};
-ghost use Rattle.tk_page.specs.Shown.{shown_of};
-ghost use Rattle.tk_metrics.specs.Following.{Follows, FollowsAll};
+ghost use Rattle.tk_metrics.specs.Following.{Follows, FollowsStream};
 ghost use Rattle.tk_metrics.specs.Streams.{Measures};
-ghost use Rattle.tk_metrics.specs.declared.by.By.{By as Told};
 
 use crate::by::By;
+use crate::following::{MAX_LINE, PIECE, feed_lines, numbers_now};
 use crate::leavers::Leavers;
-use crate::numbers::metrics_with;
-use memchr::memchr;
 use std::alloc::Global;
 use std::io::{Read, Write};
-use tk_client::{Client, Fault, FeedError, Lints};
+use tk_client::{Client, Lints};
 use tk_fault::AppFault;
 use tk_stream::send;
-
-// How many bytes a line of a stream has at most. No script gives a longer one.
-const MAX_LINE: usize = 268_435_456;
-
-// How many bytes are read at a time.
-const PIECE: usize = 65_536;
-
-// Why a stream isn't taken after so many lines.
-fn stopped(lines: u64, error: FeedError) -> AppFault
-    requires { lines + error.lines < 2 ^ 64 }
-    ensures { result ≡ stop_of (lines + error.lines) error.fault }
-{
-    match error.fault {
-        Fault::Memory => AppFault::Memory,
-        fault => AppFault::Stream {
-            lines: lines + error.lines,
-            fault,
-        },
-    }
-}
-
-// Feeds a client that has applied so many lines, and answers how many it has then applied. Of the bytes only the last may be a
-// line end, so the tables after it are noted.
-fn feed_one(
-    client: &mut Client,
-    alloc: Global,
-    leavers: &mut Leavers,
-    lines: u64,
-    piece: &[u8],
-) -> Result<u64, AppFault>
-    requires few { lines ≤ 2 ^ 62 }
-    requires short { length piece.now ≤ 65536 }
-    requires one { length (cut piece.now).0 ≤ 1 }
-    ensures takes { (front : List ℕ) → HasTaken front lines client.old → Takes (front ++ piece.now) result client.new }
-    ensures follows { (by : Told) (front : List ℕ) → HasTaken front lines client.old → Follows by (shown_of front) leavers.old
-        → OnOk result (Follows by (shown_of (front ++ piece.now)) leavers.new) }
-    ensures few { IfOk result (λ sum. sum ≤ lines + length piece.now) }
-{
-    match client.feed(piece) {
-        Ok(0) => Ok(lines),
-        Ok(more) => match leavers.note(alloc, client.tables()) {
-            Ok(()) => Ok(lines + more),
-            Err(_) => Err(AppFault::Memory),
-        },
-        Err(error) => Err(stopped(lines, error)),
-    }
-}
-
-fn find_end(bytes: &[u8]) -> Option<usize>
-    ensures { result ≡ position (λ b. b == line_end) bytes.now }
-{
-    memchr(b'\n', bytes)
-}
-
-// How many bytes the first line has, with its end: all of them where none ends.
-fn first_line(bytes: &[u8]) -> usize
-    requires { 1 ≤ length bytes.now }
-    ensures some { 1 ≤ result }
-    ensures within { result ≤ length bytes.now }
-    ensures one { length (cut (take result bytes.now)).0 ≤ 1 }
-{
-    match find_end(bytes) {
-        Some(end) => end + 1,
-        None => bytes.len(),
-    }
-}
-
-// Feeds a piece line by line.
-fn feed_lines(
-    client: &mut Client,
-    alloc: Global,
-    leavers: &mut Leavers,
-    lines: u64,
-    piece: &[u8],
-) -> Result<u64, AppFault>
-    requires few { lines + 65536 ≤ 2 ^ 62 }
-    requires short { length piece.now ≤ 65536 }
-    ensures takes { (front : List ℕ) → HasTaken front lines client.old → Takes (front ++ piece.now) result client.new }
-    ensures follows { (by : Told) (front : List ℕ) → HasTaken front lines client.old → Follows by (shown_of front) leavers.old
-        → OnOk result (Follows by (shown_of (front ++ piece.now)) leavers.new) }
-    ensures few { IfOk result (λ sum. sum ≤ lines + 65536) }
-{
-    let mut sum = lines;
-    let mut at = 0;
-    while at < piece.len() {
-        let end = at + first_line(&piece[at..]);
-        sum = feed_one(client, alloc, leavers, sum, &piece[at..end])?;
-        at = end;
-    }
-    Ok(sum)
-}
 
 // Feeds a new client with the reader's bytes to their end. It gives up after 2^32 reads.
 fn take_stream<R: Read>(
@@ -119,8 +23,7 @@ fn take_stream<R: Read>(
 ) -> Result<(), AppFault>
     requires client { client.old ≡ first }
     requires leavers { Follows leavers.old.by [] leavers.old }
-    ensures takes { TakesAll (R.remaining reader.old) (R.remaining reader.new) result client.new }
-    ensures follows { OnOk result (FollowsAll leavers.old.by (R.remaining reader.old) client.new leavers.new) }
+    ensures { FollowsStream leavers.old.by (R.remaining reader.old) (R.remaining reader.new) result client.new leavers.new }
 {
     let mut piece = [0u8; PIECE];
     let mut lines = 0;
@@ -152,12 +55,7 @@ fn write_by<R: Read, W: Write>(
         return Err(AppFault::Memory);
     };
     take_stream(client, alloc, &mut leavers, reader)?;
-    let Ok(list) = client.warnings(lints) else {
-        return Err(AppFault::Memory);
-    };
-    let lines = leavers.lines();
-    let left = leavers.into_left();
-    let Ok(text) = metrics_with(alloc, by, client.tables(), list.as_slice(), left, lines) else {
+    let Ok(text) = numbers_now(alloc, client, &leavers, lints) else {
         return Err(AppFault::Memory);
     };
     match send(writer, text.as_slice()) {

@@ -67,6 +67,8 @@ impl Added for Sums {
 
     ghost plus = { spec.plus };
 
+    ghost copies = { λ a b e. e };
+
     fn plus(self, more: Sums) -> Sums {
         Sums {
             polls: self.polls.saturating_add(more.polls),
@@ -88,6 +90,8 @@ impl Added for PollOps {
     ghost use Rattle.tk_metrics.specs.Sums as spec;
 
     ghost plus = { spec.both_ops };
+
+    ghost copies = { λ a b e. e };
 
     fn plus(self, more: PollOps) -> PollOps {
         PollOps {

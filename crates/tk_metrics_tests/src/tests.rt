@@ -1,6 +1,7 @@
 //! The numbers of streams.
 
 mod given;
+mod keeping;
 
 use given::{
     FULL, FULL_NUMBERS, LEAVING, LEAVING_BY_ID, LEAVING_NUMBERS, LOST, LOST_BY_ID, LOST_NUMBERS,

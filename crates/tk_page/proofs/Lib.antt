@@ -1,5 +1,4 @@
 pub mod PageLemmas
-pub mod ShownLemmas
 pub mod HistoryLemmas
 pub mod LoopLemmas
 pub mod RankLemmas

@@ -1,12 +1,9 @@
--- What a page is made of, and what lines of a piece come to.
-use Rattle.std.proofs.Common.{◌≡◌, ℕ, ◌+◌, ◌-◌, ◌≤◌, List, ◌++◌, length, take, drop, Option, Some, Ok, Err, refl, ap, sym, ◌∙◌, append_assoc, take-append-drop, length-take, arith, subst}
+-- What a page is made of, and what lines of a stream come to.
+use Rattle.std.proofs.Common.{◌≡◌, ℕ, List, ◌++◌, length, Option, Some, Ok, Err, refl, ap, sym, ◌∙◌, subst}
 use Rattle.std.specs.Io.KnownBytes.{Appends, Consumes}
 use Rattle.std.proofs.KnownBytes.{Consumes-trans}
-use Rattle.std.proofs.Math.Seq.{take-add}
 use Rattle.tk_client.specs.Feeding.{ClientView}
-use Rattle.tk_client.specs.Meaning.{empty_start}
 use Rattle.tk_client.specs.Warnings.{LintsView, warnings_in}
-use Rattle.tk_client.proofs.Pieces.{stops-append}
 use Rattle.tk_fault.specs.declared.fault.AppFault.{AppFault}
 use Rattle.tk_fault.specs.declared.fault.AppFault.TheVariants as faults
 use Rattle.tk_paper.specs.Escaping.{PaperView, no_paper}
@@ -18,41 +15,13 @@ use Rattle.tk_page.specs.Drawn.{DrawsPage, scale_of, sections, signs_of}
 use Rattle.tk_page.specs.Holders.{holder_of}
 use Rattle.tk_page.specs.Kept.{Tells, TellsAll}
 use Rattle.tk_page.specs.Pages.{IsDrawn, Pages}
-use Rattle.tk_page.specs.Shown.{shown_of}
+use Rattle.tk_report.specs.Shown.{shown_of}
 use Rattle.tk_page.specs.declared.history.History.{History}
 use Rattle.tk_page.proofs.HistoryLemmas.{tell_of}
 use Rattle.tk_page.proofs.PlaceLemmas.{sections_to}
-use Rattle.tk_report.specs.Taken.{HasTaken, Reading, Takes, TakesAll}
+use Rattle.tk_report.specs.Taken.{HasTaken, Reading, TakesAll}
 use Rattle.tk_report.specs.Views.{LeadTo}
 use Rattle.tk_stream.specs.Sent.{IsCut}
-
--- so many bytes at most
-pub few_taken : (n : ℕ) (bytes : List ℕ) → length (take n bytes) ≤ n
-few_taken n bytes = omega (arith, length-take n bytes)
-
--- a front of a piece, and the bytes behind it
-pub more_taken : (front piece : List ℕ) (at n : ℕ) → front ++ take (at + n) piece ≡ (front ++ take at piece) ++ take ((at + n) - at) (drop at piece)
-more_taken front piece at n =
-    let same : (at + n) - at ≡ n = omega arith in
-    ap (λ xs. front ++ xs) (take-add at n piece)
-    ∙ sym (append_assoc front (take at piece) (take n (drop at piece)))
-    ∙ ap (λ k. (front ++ take at piece) ++ take k (drop at piece)) (sym same)
-
--- with what is behind them, they are the piece
-pub whole_piece : (front piece : List ℕ) (at n : ℕ)
-    → ((front ++ take at piece) ++ take ((at + n) - at) (drop at piece)) ++ drop (at + n) piece ≡ front ++ piece
-whole_piece front piece at n =
-    ap (λ xs. xs ++ drop (at + n) piece) (sym (more_taken front piece at n))
-    ∙ append_assoc front (take (at + n) piece) (drop (at + n) piece)
-    ∙ ap (λ xs. front ++ xs) (take-append-drop (at + n) piece)
-
--- a fault in a front of bytes is the fault of all
-pub front_stops : (bytes rest : List ℕ) (now : ClientView) (answer : AppFault) → Takes bytes (Err answer) now → Takes (bytes ++ rest) (Err answer) now
-front_stops bytes rest now faults.Memory h = tt
-front_stops bytes rest now faults.Read h = absurd h
-front_stops bytes rest now faults.Write h = absurd h
-front_stops bytes rest now (faults.Script line name) h = absurd h
-front_stops bytes rest now (faults.Stream lines fault) h = (h.0, h.1, stops-append 268435456 empty_start bytes rest h.0 lines h.1 fault h.2)
 
 -- ---- where a page ends
 

@@ -10,7 +10,7 @@ use Rattle.tk_core.specs.Lists.{capped}
 use Rattle.tk_report.specs.Views.{AreAll}
 use Rattle.tk_stream.specs.declared.task.Task.{Task}
 use Rattle.tk_stream.specs.Tables.{TablesView, empty_tables, task_id, task_with}
-use Rattle.tk_page.specs.Shown.{shown_of}
+use Rattle.tk_report.specs.Shown.{shown_of}
 use Rattle.tk_paper.specs.Courses.{IsCourse}
 use Rattle.tk_page.specs.declared.history.History.{History}
 use Rattle.tk_page.specs.declared.history.Track.{Track}

@@ -28,7 +28,5 @@ pub mod Heads
 pub mod Holders
 -- The page between its frame
 pub mod Drawn
--- The tables after each line of a stream
-pub mod Shown
 -- What a page is
 pub mod Pages

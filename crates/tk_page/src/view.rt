@@ -7,7 +7,7 @@ ghost use Rattle.tk_stream.specs.Spelling.{line_end};
 ghost use Rattle.tk_page.specs.Courses.{courses_of};
 ghost use Rattle.tk_page.specs.Kept.{Tells, TellsAll};
 ghost use Rattle.tk_page.specs.Pages.{IsDrawn, Pages};
-ghost use Rattle.tk_page.specs.Shown.{shown_of};
+ghost use Rattle.tk_report.specs.Shown.{shown_of};
 
 use crate::drawing::put_page;
 use crate::frame::{HEAD, TAIL};

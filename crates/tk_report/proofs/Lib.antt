@@ -1,2 +1,5 @@
 pub mod PutLemmas
 pub mod ViewLemmas
+pub mod ShownLemmas
+pub mod PieceLemmas
+pub mod FrontLemmas

@@ -2,6 +2,10 @@
 pub mod Report
 -- What the view of a stream writes
 pub mod Views
+-- The tables after each line of a stream
+pub mod Shown
+-- Fronts of a stream's bytes, each with more lines than the one before
+pub mod Fronts
 -- Inner: no public clause cites these
 pub mod Behind
 pub mod Taken

@@ -6,9 +6,8 @@
 #![tactic(auto)]
 
 mod drawing;
-mod pace;
 mod watching;
 
 pub use drawing::Screen;
-pub use pace::{Every, Pace};
+pub use tk_pace::{Every, Pace};
 pub use watching::watch_stream;

@@ -7,11 +7,11 @@ ghost use Rattle.tk_watch.specs.Watches.{Watches};
 ghost use Rattle.tk_watch.specs.Watching as spec;
 
 use crate::drawing::{Screen, draw};
-use crate::pace::Pace;
 use std::alloc::Global;
 use std::io::{Read, Write};
 use tk_client::{Client, Fault, FeedError};
 use tk_fault::AppFault;
+use tk_pace::Pace;
 
 // How many bytes a line of a stream has at most. No script gives a longer one.
 const MAX_LINE: usize = 268_435_456;

@@ -1,5 +1,5 @@
 use Rattle.std.proofs.Common.{ap, ◌∙◌, is_some, sym}
-use Rattle.taskscope.specs.Requests.{asked_in, file_in, filter_in, texts}
+use Rattle.taskscope.specs.Requests.{asked_in, file_in, filter_in, texts, to_in}
 use Rattle.taskscope.proofs.ParseLemmas.{taken_words_ask}
 use Rattle.taskscope.proofs.command_line.call_of.Goals as goal
 
@@ -15,3 +15,6 @@ returns-clause-file c = ap file_in (sym c.in_ok-matches.ensures.found) ∙ sym c
 
 pub returns-clause-filter : goal.returns-clause-filter
 returns-clause-filter c = ap filter_in (sym c.in_ok-matches.ensures.found) ∙ sym c.filter_in.ensures
+
+pub returns-clause-to : goal.returns-clause-to
+returns-clause-to c = ap to_in (sym c.in_ok-matches.ensures.found) ∙ sym c.to_in.ensures

@@ -6,8 +6,8 @@ use Rattle.clap.specs.Simple.{App, app_of, is_simple, subcommand_of, subcommand_
 use Rattle.clap.specs.Walk.{Row, Text}
 use Rattle.clap.specs.declared.error.Error.{Error}
 use Rattle.clap.proofs.OnLiterals.{clap_on_literals}
-use Rattle.taskscope.specs.Requests.{names_no_column, program, refusals, texts}
-use Rattle.taskscope.proofs.WordLemmas.{column_refuses, none_refuses, parse_refuses}
+use Rattle.taskscope.specs.Requests.{names_nothing, program, refusals, texts}
+use Rattle.taskscope.proofs.WordLemmas.{name_refuses, none_refuses, parse_refuses}
 use Rattle.taskscope.proofs.command_line.matches_of.Goals as goal
 
 -- what `clap` promises of a parse holds of this program's
@@ -40,13 +40,13 @@ returns-in_err-matches-clause-fails c =
     let p = err_from_is_err_and c.from_residual-in_err-matches.result c.from_residual-in_err-matches.ensures.1 in
     rw (p.1, p.2) (refused_as _ words app_is c.in_err-matches.field-0.0 (c.in_err-matches.ensures.kinds (is_free _ words app_is)))
 
-pub returns-then-names_no_column-clause-fails : goal.returns-then-names_no_column-clause-fails
-returns-then-names_no_column-clause-fails c =
+pub returns-then-names_nothing-clause-fails : goal.returns-then-names_nothing-clause-fails
+returns-then-names_nothing-clause-fails c =
     let words = texts c.args.words.now in
     let app_is : app_of c.in_ok-command.command ≡ program = c.in_ok-command.ensures.ok in
     let none = taken_as _ words app_is (c.in_ok-matches.ensures.kinds (is_free _ words app_is)) in
     let found = found_as _ words app_is (subcommand_rows_of c.in_ok-matches.matches) (λ simple. (c.in_ok-matches.ensures.ok.2 simple).1) in
-    column_refuses words c.no_column.result none (ap names_no_column (sym found) ∙ sym c.names_no_column.ensures ∙ c.if-names_no_column.true) c.no_column.ensures
+    name_refuses words c.no_name.result none (ap names_nothing (sym found) ∙ sym c.names_nothing.ensures ∙ c.if-names_nothing.true) c.no_name.ensures
 
 pub returns-clause-fails : goal.returns-clause-fails
 returns-clause-fails c =
@@ -54,7 +54,7 @@ returns-clause-fails c =
     let app_is : app_of c.in_ok-command.command ≡ program = c.in_ok-command.ensures.ok in
     let none = taken_as _ words app_is (c.in_ok-matches.ensures.kinds (is_free _ words app_is)) in
     let found = found_as _ words app_is (subcommand_rows_of c.in_ok-matches.matches) (λ simple. (c.in_ok-matches.ensures.ok.2 simple).1) in
-    none_refuses words none (ap names_no_column (sym found) ∙ sym c.names_no_column.ensures ∙ c.if-names_no_column.false)
+    none_refuses words none (ap names_nothing (sym found) ∙ sym c.names_nothing.ensures ∙ c.if-names_nothing.false)
 
 pub returns-clause-found : goal.returns-clause-found
 returns-clause-found c =

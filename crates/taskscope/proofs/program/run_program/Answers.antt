@@ -3,7 +3,7 @@ use Rattle.std.specs.Prelude.{IsSome}
 use Rattle.std.specs.Option.{option_map}
 use Rattle.clap.specs.Values.{kind_of}
 use Rattle.taskscope.specs.Program.{Does, DoesOfFile}
-use Rattle.taskscope.specs.Requests.{AsksForInput, IsPlain, asked, file_of, filter_of, refusals, texts}
+use Rattle.taskscope.specs.Requests.{AsksForInput, IsPlain, asked, file_of, filter_of, refusals, texts, to_of}
 use Rattle.taskscope.specs.declared.command_line.Request.{Request}
 use Rattle.taskscope.proofs.Outcomes.{nothing_done}
 use Rattle.taskscope.proofs.ParseLemmas.{taken_words_ask}
@@ -18,19 +18,22 @@ plain command request row words is = ((ap refusals is.1 ∙ (row is.0).0.0, ap a
 pub returns-in-Err-clause-does : goal.returns-in-Err-clause-does
 returns-in-Err-clause-does g c = λ request asks.
     let told = c.answer.ensures.memory (memory_alone (refusals (texts c.args.words.now)) c.in-Err.error asks.0.0 c.in-Err.ensures.fails) in
-    rw told.1 (nothing_done c.args.terminal (filter_of (texts c.args.words.now)) request (g.I.Read.remaining c.args.input.now) (g.O.Write.contents c.args.output.now) c.answer.result told.0)
+    rw told.1 (nothing_done c.args.terminal (filter_of (texts c.args.words.now)) (to_of (texts c.args.words.now)) request (g.I.Read.remaining c.args.input.now) (g.O.Write.contents c.args.output.now) (g.P.Place.texts c.args.place.now) c.answer.result told.0)
 
 pub returns-in-Err-clause-file : goal.returns-in-Err-clause-file
 returns-in-Err-clause-file g c = λ request asks.
     let told = c.answer.ensures.memory (memory_alone (refusals (texts c.args.words.now)) c.in-Err.error asks.0.0 c.in-Err.ensures.fails) in
-    (refl, (None, None, rw told.1 (nothing_done c.args.terminal (filter_of (texts c.args.words.now)) request None (g.O.Write.contents c.args.output.now) c.answer.result told.0)))
+    (refl, (None, None, rw told.1 (nothing_done c.args.terminal (filter_of (texts c.args.words.now)) (to_of (texts c.args.words.now)) request None (g.O.Write.contents c.args.output.now) (g.P.Place.texts c.args.place.now) c.answer.result told.0)))
 
 pub returns-in-None-clause-does : goal.returns-in-None-clause-does
 returns-in-None-clause-does g c = λ request asks.
     let same : c.in-Ok.call.request ≡ request = some_is _ _ (sym c.in-Ok.ensures.asked ∙ asks.0.1) in
     let filter = option_map (λ f. f.now) c.in-Ok.call.filter in
-    let done = λ (text : Option (List ℕ)) (r : Request). Does c.args.terminal text r (g.I.Read.remaining c.args.input.now) (g.I.Read.remaining c.fulfil.new.input) (g.O.Write.contents c.args.output.now) (g.O.Write.contents c.fulfil.new.output) c.fulfil.result in
-    subst (λ text. done text request) (sym c.in-Ok.ensures.filter) (subst (done filter) same c.fulfil.ensures.does)
+    let to = option_map (λ p. p.now) c.in-Ok.call.to in
+    let done = λ (text path : Option (List ℕ)) (r : Request). Does c.args.terminal text path r (g.I.Read.remaining c.args.input.now) (g.I.Read.remaining c.fulfil.new.input)
+    (g.O.Write.contents c.args.output.now) (g.O.Write.contents c.fulfil.new.output) (g.P.Place.texts c.args.place.now) (g.P.Place.texts c.fulfil.new.place) c.fulfil.result in
+    subst (λ path. done (filter_of (texts c.args.words.now)) path request) (sym c.in-Ok.ensures.to)
+    (subst (λ text. done text to request) (sym c.in-Ok.ensures.filter) (subst (done filter to) same c.fulfil.ensures.does))
 
 pub returns-in-None-clause-file : goal.returns-in-None-clause-file
 returns-in-None-clause-file g c = λ request asks.
@@ -45,8 +48,13 @@ pub returns-in-Some-clause-file : goal.returns-in-Some-clause-file
 returns-in-Some-clause-file g c = λ request asks.
     let same : c.in-Ok.call.request ≡ request = some_is _ _ (sym c.in-Ok.ensures.asked ∙ asks.0.1) in
     let filter = option_map (λ f. f.now) c.in-Ok.call.filter in
-    let done = λ (text : Option (List ℕ)) (r : Request). DoesOfFile c.args.terminal text r (g.O.Write.contents c.args.output.now) (g.O.Write.contents c.fulfil_of_file.new.output) c.fulfil_of_file.result in
-    (refl, subst (λ text. done text request) (sym c.in-Ok.ensures.filter) (subst (done filter) same c.fulfil_of_file.ensures.does))
+    let to = option_map (λ p. p.now) c.in-Ok.call.to in
+    let done = λ (text path : Option (List ℕ)) (r : Request). DoesOfFile c.args.terminal text path r (g.O.Write.contents c.args.output.now) (g.O.Write.contents c.fulfil_of_file.new.output)
+    (g.P.Place.texts c.args.place.now) (g.P.Place.texts c.fulfil_of_file.new.place) c.fulfil_of_file.result in (
+      refl,
+      subst (λ path. done (filter_of (texts c.args.words.now)) path request) (sym c.in-Ok.ensures.to)
+          (subst (λ text. done text to request) (sym c.in-Ok.ensures.filter) (subst (done filter to) same c.fulfil_of_file.ensures.does)),
+    )
 
 pub returns-in-Err-clause-mistake : goal.returns-in-Err-clause-mistake
 returns-in-Err-clause-mistake g c = λ wrong. elim c.in-Err.ensures.fails [
@@ -123,3 +131,9 @@ returns-in-Some-clause-demo g c = plain _ _ demo (texts c.args.words.now)
 
 pub returns-in-Err-clause-asks : goal.returns-in-Err-clause-asks
 returns-in-Err-clause-asks g c = taken_words_ask (texts c.args.words.now)
+
+pub returns-in-None-clause-kept : goal.returns-in-None-clause-kept
+returns-in-None-clause-kept g c = λ taken none. c.fulfil.ensures.kept (sym c.in-Ok.ensures.to ∙ none)
+
+pub returns-in-Some-clause-kept : goal.returns-in-Some-clause-kept
+returns-in-Some-clause-kept g c = λ taken none. c.fulfil_of_file.ensures.kept (sym c.in-Ok.ensures.to ∙ none)

@@ -1,11 +1,11 @@
 use Rattle.std.proofs.Common.{◌≡◌, ◌≤◌, ◌+◌, ◌-◌, ◌++◌, length, Err, take, drop, arith, subst, sym}
 use Rattle.std.proofs.lemmas.Result.{err_from_is_err_and}
 use Rattle.tk_client.proofs.FeedLemmas.{rest_is, within_piece}
-use Rattle.tk_page.proofs.PageLemmas.{few_taken, front_stops, more_taken, whole_piece}
+use Rattle.tk_report.proofs.PieceLemmas.{few_taken, front_stops, more_taken, whole_piece}
 use Rattle.tk_report.specs.Taken.{HasTaken, Takes}
 use Rattle.tk_client.specs.Meaning.{cut}
 use Rattle.tk_page.specs.Kept.{Tells}
-use Rattle.tk_page.specs.Shown.{shown_of}
+use Rattle.tk_report.specs.Shown.{shown_of}
 use Rattle.tk_page.proofs.view.feed_lines.Goals as goal
 
 pub feed_one-requires-clause-one : goal.feed_one-requires-clause-one

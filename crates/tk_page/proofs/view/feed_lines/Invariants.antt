@@ -1,7 +1,7 @@
 use Rattle.std.proofs.Common.{ℕ, ◌+◌, ◌-◌, ◌≤◌, List, ◌++◌, length, take}
 use Rattle.tk_report.specs.Taken.{HasTaken}
 use Rattle.tk_page.specs.Kept.{Tells}
-use Rattle.tk_page.specs.Shown.{shown_of}
+use Rattle.tk_report.specs.Shown.{shown_of}
 use Rattle.tk_page.proofs.view.feed_lines.Given as goal
 
 -- the lines so far

@@ -2,8 +2,8 @@ use Rattle.std.proofs.Common.{◌≡◌, ◌+◌, [], ◌∷◌, ◌++◌, arith
 use Rattle.tk_report.specs.Taken.{HasTaken}
 use Rattle.tk_report.proofs.ViewLemmas.{takes_more, stops_view}
 use Rattle.tk_page.specs.Kept.{Tells}
-use Rattle.tk_page.specs.Shown.{shown_of}
-use Rattle.tk_page.proofs.ShownLemmas.{none_more, one_more, shown_count}
+use Rattle.tk_report.specs.Shown.{shown_of}
+use Rattle.tk_report.proofs.ShownLemmas.{none_more, one_more, shown_count}
 use Rattle.tk_page.proofs.view.feed_one.Goals as goal
 
 pub returns-in-Ok-eq0-clause-takes : goal.returns-in-Ok-eq0-clause-takes

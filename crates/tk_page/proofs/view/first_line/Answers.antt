@@ -1,5 +1,5 @@
 use Rattle.std.proofs.Common.{arith, length, sym}
-use Rattle.tk_page.proofs.ShownLemmas.{one_ended, one_held}
+use Rattle.tk_report.proofs.ShownLemmas.{one_ended, one_held}
 use Rattle.tk_page.proofs.view.first_line.Goals as goal
 
 pub returns-in-Some-clause-one : goal.returns-in-Some-clause-one

@@ -1,23 +1,23 @@
-//! When a screen may be drawn.
+//! When what a stream has come to may be shown.
 use std::thread;
 use std::time::{Clock, Duration, Instant};
 
-/// What tells when a screen may be drawn. Which screens these are is no matter of its.
+/// What tells when a stream may be shown anew. How it is shown, as a screen or as a file, is no matter of its.
 pub trait Pace {
-    /// Whether a screen may be drawn now.
+    /// Whether it may be shown now.
     fn is_due(&mut self) -> bool;
 
-    /// Lets time pass until a screen may be drawn.
+    /// Lets time pass until it may be shown.
     fn wait(&mut self);
 
-    /// A screen was drawn now.
+    /// It was shown now.
     fn mark(&mut self);
 
     /// At the end of what a reader gave: whether more may come, once some time has passed.
     fn goes_on(&mut self) -> bool;
 }
 
-/// Screens by a clock, no two of them within a span of time.
+/// By a clock: no two times within a span.
 #[derive(Clone, Copy)]
 pub struct Every<'a, R: Clock> {
     clock: &'a R,
@@ -27,7 +27,7 @@ pub struct Every<'a, R: Clock> {
 }
 
 impl<'a, R: Clock> Every<'a, R> {
-    /// No two screens within so many milliseconds. A stream that is followed goes on at its end.
+    /// No two times within so many milliseconds. A stream that is followed goes on at its end.
     pub fn new(clock: &'a R, millis: u64, follows: bool) -> Self {
         Every {
             clock,
@@ -37,7 +37,7 @@ impl<'a, R: Clock> Every<'a, R> {
         }
     }
 
-    // How long it is until a screen may be drawn. A clock that can't be read asks for no time.
+    // How long it is until it may be shown. A clock that can't be read asks for no time.
     fn left(&self) -> Duration {
         match &self.last {
             Some(last) => match last.elapsed(self.clock) {

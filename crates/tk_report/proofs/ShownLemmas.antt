@@ -10,7 +10,7 @@ use Rattle.tk_client.specs.Meaning.{Start, Outcome, goes, stops, line_taken, cut
 use Rattle.tk_client.proofs.Ends.{cut-no_end, first_end, no_first}
 use Rattle.tk_client.proofs.Pieces.{glue, cut-append}
 use Rattle.tk_report.specs.Taken.{HasTaken}
-use Rattle.tk_page.specs.Shown.{shown_by, shown_from, shown_of}
+use Rattle.tk_report.specs.Shown.{shown_by, shown_from, shown_of}
 
 -- a test that didn't stop
 passed : (b : Bool) (tables : TablesView) (fault : Fault) (used : ℕ) (x : Outcome) (t : Start) (n : ℕ) → cond b (stops tables 0 fault used) x ≡ goes t n → x ≡ goes t n
@@ -103,15 +103,17 @@ none_more front piece lines more old new h took none =
 -- ---- the first line of bytes
 
 -- through its end it is one line
-pub one_ended : (bs : List ℕ) (i : ℕ) → position (λ b. nat_eq b 10) bs ≡ Some i → length (cut (take (i + 1) bs)).0 ≤ 1
-one_ended bs i is =
+pub cut_ended : (bs : List ℕ) (i : ℕ) → position (λ b. nat_eq b 10) bs ≡ Some i → cut (take (i + 1) bs) ≡ ((take i bs ++ []) ∷ [], [])
+cut_ended bs i is =
     let p = first_end bs i is in
-    let e : cut (take (i + 1) bs) ≡ ((take i bs ++ []) ∷ [], []) =
-    ap cut p.2 ∙ cut-append (take i bs) (10 ∷ []) ∙ ap (λ c. glue c (cut (10 ∷ []))) (cut-no_end (take i bs) p.1) in
-    omega (arith, ap (λ (c : List (List ℕ) × List ℕ). length c.0) e)
+    ap cut p.2 ∙ cut-append (take i bs) (10 ∷ []) ∙ ap (λ c. glue c (cut (10 ∷ []))) (cut-no_end (take i bs) p.1)
+
+pub one_ended : (bs : List ℕ) (i : ℕ) → position (λ b. nat_eq b 10) bs ≡ Some i → length (cut (take (i + 1) bs)).0 ≤ 1
+one_ended bs i is = omega (arith, ap (λ (c : List (List ℕ) × List ℕ). length c.0) (cut_ended bs i is))
 
 -- without an end it is none
+pub cut_held : (bs : List ℕ) (n : ℕ) → length bs ≤ n → position (λ b. nat_eq b 10) bs ≡ None → cut (take n bs) ≡ ([], bs)
+cut_held bs n all none = ap cut (take_all n bs all) ∙ cut-no_end bs (no_first bs none)
+
 pub one_held : (bs : List ℕ) (n : ℕ) → length bs ≤ n → position (λ b. nat_eq b 10) bs ≡ None → length (cut (take n bs)).0 ≤ 1
-one_held bs n all none =
-    let e : cut (take n bs) ≡ ([], bs) = ap cut (take_all n bs all) ∙ cut-no_end bs (no_first bs none) in
-    omega (arith, ap (λ (c : List (List ℕ) × List ℕ). length c.0) e)
+one_held bs n all none = omega (arith, ap (λ (c : List (List ℕ) × List ℕ). length c.0) (cut_held bs n all none))

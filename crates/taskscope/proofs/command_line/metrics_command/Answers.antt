@@ -1,0 +1,17 @@
+use Rattle.std.proofs.Common.{ap₂, ◌∙◌, ◌||◌}
+use Rattle.clap.specs.Simple.{with_rule}
+use Rattle.taskscope.proofs.command_line.metrics_command.Goals as goal
+
+pub returns-clause-ok : goal.returns-clause-ok
+returns-clause-ok c =
+    let by = c.in_ok-arg.ensures.shape c.text_arg-by.ensures.local ∙ ap₂ with_rule c.in_ok-view_command.ensures.ok c.text_arg-by.ensures.rule in
+    let to = c.in_ok-arg-2.ensures.shape c.text_arg-to.ensures.local ∙ ap₂ with_rule by c.text_arg-to.ensures.rule in
+    let every = c.in_ok-arg-3.ensures.shape c.number_arg-every.ensures.local ∙ ap₂ with_rule to c.number_arg-every.ensures.rule in
+    c.in_ok-arg-4.ensures.shape c.flag_arg-follow.ensures.local ∙ ap₂ with_rule every c.flag_arg-follow.ensures.rule
+
+pub returns-clause-local : goal.returns-clause-local
+returns-clause-local c =
+    let by = c.in_ok-arg.ensures.globals ∙ ap₂ (λ a b. a || b) c.in_ok-view_command.ensures.local c.text_arg-by.ensures.local in
+    let to = c.in_ok-arg-2.ensures.globals ∙ ap₂ (λ a b. a || b) by c.text_arg-to.ensures.local in
+    let every = c.in_ok-arg-3.ensures.globals ∙ ap₂ (λ a b. a || b) to c.number_arg-every.ensures.local in
+    c.in_ok-arg-4.ensures.globals ∙ ap₂ (λ a b. a || b) every c.flag_arg-follow.ensures.local

@@ -1,0 +1,47 @@
+use Rattle.std.proofs.Common.{◌≡◌, ◌+◌, ◌-◌, ◌++◌, take, drop, arith, subst, sym}
+use Rattle.std.proofs.lemmas.Result.{err_from_is_err_and}
+use Rattle.tk_client.proofs.FeedLemmas.{rest_is, within_piece}
+use Rattle.tk_report.proofs.PieceLemmas.{few_taken, more_taken}
+use Rattle.tk_report.specs.Shown.{shown_of}
+use Rattle.tk_report.specs.Taken.{HasTaken}
+use Rattle.tk_metrics.specs.Following.{Follows, IsLine}
+use Rattle.tk_metrics.proofs.FollowLemmas.{piece_stops_at}
+use Rattle.tk_metrics.proofs.following.feed_lines.Goals as goal
+
+pub feed_one-requires-clause-one : goal.feed_one-requires-clause-one
+feed_one-requires-clause-one c =
+    let at = c.loop-at.at in
+    let n = c.first_line.result in
+    let same : (at + n) - at ≡ n = omega arith in
+    let piece = c.args.piece.now in
+    let one : IsLine (take n (drop at piece)) = subst (λ xs. IsLine (take n xs)) (rest_is at piece) c.first_line.ensures.one in
+    subst (λ k. IsLine (take k (drop at piece))) (sym same) one
+
+pub loop-at-preserved : goal.loop-at-preserved
+loop-at-preserved c =
+    let i = c.loop-at.invariant in
+    let at = c.loop-at.at in
+    let n = c.first_line.result in
+    let piece = c.args.piece.now in
+    let more = few_taken ((at + n) - at) (drop at piece) in
+    record {
+      within = within_piece at n piece i.within c.first_line.ensures.within;
+      few = omega (arith, i.few, c.in_ok-sum.ensures.few, more);
+      follows = λ by front h f.
+          let before = i.follows by front h f in
+          let now = c.in_ok-sum.ensures.follows by (front ++ take at piece) before.0 before.1 in (
+            subst (λ xs. HasTaken xs c.in_ok-sum.sum c.feed_one.new.client) (sym (more_taken front piece at n)) now.0,
+            subst (λ xs. Follows by (shown_of xs) c.feed_one.new.leavers) (sym (more_taken front piece at n)) now.1,
+          );
+    }
+
+pub returns-in_err-sum-clause-follows : goal.returns-in_err-sum-clause-follows
+returns-in_err-sum-clause-follows c = λ by front h f.
+    let at = c.loop-at.at in
+    let n = c.first_line.result in
+    let piece = c.args.piece.now in
+    let before = c.loop-at.invariant.follows by front h f in
+    let answer = c.in_err-sum.field-0.0 in
+    let p = err_from_is_err_and c.from_residual.result c.from_residual.ensures.1 in
+    rw (p.1, p.2) (piece_stops_at by front piece at n c.feed_one.new.client c.feed_one.new.leavers answer
+    (c.in_err-sum.ensures.follows by (front ++ take at piece) before.0 before.1))

@@ -1,0 +1,65 @@
+-- How far the keeping of a stream's numbers has come. Inner: no public clause cites this.
+use Rattle.std.specs.Prelude.{◌≡◌, ◌≤◌, ◌+◌, ℕ, List, [], ◌∷◌, Bool, true, false, Option, Some, None, Result, Ok, Err}
+use Rattle.std.specs.Io.KnownBytes.{Consumes}
+use Rattle.tk_client.specs.Feeding.{ClientView}
+use Rattle.tk_client.specs.Warnings.{LintsView}
+use Rattle.tk_fault.specs.declared.fault.AppFault.{AppFault}
+use Rattle.tk_fault.specs.declared.fault.AppFault.TheVariants as faults
+use Rattle.tk_report.specs.Fronts.{Rise, last_lines}
+use Rattle.tk_report.specs.Shown.{shown_of}
+use Rattle.tk_report.specs.Taken.{HasTaken}
+use Rattle.tk_metrics.specs.declared.by.By.{By}
+use Rattle.tk_metrics.specs.declared.keeping.Progress.{Progress}
+use Rattle.tk_metrics.specs.declared.leavers.Leavers.{Leavers}
+use Rattle.tk_metrics.specs.Following.{Follows}
+use Rattle.tk_metrics.specs.Keeping.{Keeps, PutsAll, numbers_of_all}
+use Rattle.tk_metrics.specs.Places.{Gets, Texts}
+
+-- the fault is a stream's
+abbrev pub is_of_stream : AppFault → Bool
+is_of_stream (faults.Stream lines fault) = true
+is_of_stream other = false
+
+-- ---- what is put
+
+-- a text was put, or there was no memory for it, or the place didn't take it
+abbrev pub PutsNow : List ℕ → List ℕ → Result (Unit {0}) AppFault → Option Texts → Option Texts → Type 0
+PutsNow path text (Ok done) old new = Gets old new ((path, text) ∷ [])
+PutsNow path text (Err faults.Memory) old new = Gets old new []
+PutsNow path text (Err faults.Write) old new = Gets old new []
+PutsNow path text (Err other) old new = ⊥
+
+-- ---- how far a stream is kept
+
+-- what was read is taken, in so many lines, which are followed, and the numbers of rising fronts of it were put, the last of so many lines
+pub record Kept (path : List ℕ) (by : By) (lints : LintsView) (given left : Option (List ℕ)) (lines : ℕ) (put : Option ℕ) (now : ClientView) (l : Leavers) (old new : Option Texts) : Type 0 where
+  pub bytes : List ℕ
+  pub read : Consumes given left bytes
+  pub taken : HasTaken bytes lines now
+  pub follows : Follows by (shown_of bytes) l
+  pub fronts : List (List ℕ)
+  pub rise : Rise fronts bytes
+  pub last : last_lines fronts ≡ put
+  pub puts : Gets old new (numbers_of_all path by lints fronts)
+
+-- the keeping goes on with so many lines, or has stopped
+abbrev pub Goes : List ℕ → By → LintsView → Option (List ℕ) → Option (List ℕ) → Result ℕ AppFault → Option ℕ → ClientView → Leavers → Option Texts → Option Texts → Type 0
+Goes path by lints given left (Ok lines) put now l old new = Kept path by lints given left lines put now l old new
+Goes path by lints given left (Err fault) put now l old new = Keeps path by lints given left (Err fault) old new
+
+-- the keeping of so many lines goes on after numbers were put or not, or has stopped
+abbrev pub Went : List ℕ → By → LintsView → Option (List ℕ) → Option (List ℕ) → ℕ → Result (Option ℕ) AppFault → ClientView → Leavers → Option Texts → Option Texts → Type 0
+Went path by lints given left lines (Ok put) now l old new = Kept path by lints given left lines put now l old new
+Went path by lints given left lines (Err fault) now l old new = Keeps path by lints given left (Err fault) old new
+
+-- the keeping goes on from here, has come to the end, or has stopped
+abbrev pub Steps : List ℕ → By → LintsView → Option (List ℕ) → Option (List ℕ) → Result (Option Progress) AppFault → ClientView → Leavers → Option Texts → Option Texts → Type 0
+Steps path by lints given left (Ok (Some p)) now l old new = Kept path by lints given left p.lines p.put now l old new
+Steps path by lints given left (Ok None) now l old new = PutsAll path by lints given old new
+Steps path by lints given left (Err fault) now l old new = Keeps path by lints given left (Err fault) old new
+
+-- no more lines came than a piece has bytes
+abbrev pub IsFew : ℕ → Result (Option Progress) AppFault → Type 0
+IsFew lines (Ok (Some p)) = p.lines ≤ lines + 65536
+IsFew lines (Ok None) = Unit {0}
+IsFew lines (Err fault) = Unit {0}
