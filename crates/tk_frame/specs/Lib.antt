@@ -10,3 +10,9 @@ pub mod Lines
 pub mod Frames
 -- Inner: no public clause cites these
 pub mod Walks
+-- All that is told of one task
+pub mod Details
+-- What keys ask a screen for
+pub mod Keys
+-- The lines of a screen that keys ask for
+pub mod Shown

@@ -14,14 +14,18 @@ use tk_client::Warning;
 use tk_screen::{Line, Ranked};
 use tk_stream::Tables;
 
-fn push_heading(lines: &mut Vec<Line>, alloc: Global, text: &str) -> Result<(), AllocError>
+pub(crate) fn push_heading(
+    lines: &mut Vec<Line>,
+    alloc: Global,
+    text: &str,
+) -> Result<(), AllocError>
     ensures { OnOk result (Puts lines.old.items lines.new.items (texts.heading text.now ∷ [])) }
 {
     lines.push(heading(alloc, text)?)?;
     Ok(())
 }
 
-fn push_head(
+pub(crate) fn push_head(
     lines: &mut Vec<Line>,
     alloc: Global,
     tables: &Tables,
@@ -48,7 +52,7 @@ fn push_task(
     Ok(())
 }
 
-fn push_tasks(
+pub(crate) fn push_tasks(
     lines: &mut Vec<Line>,
     alloc: Global,
     tables: &Tables,
@@ -120,7 +124,7 @@ fn push_ops(
 }
 
 // Resources and async operations, where they were asked for.
-fn push_items(
+pub(crate) fn push_items(
     lines: &mut Vec<Line>,
     alloc: Global,
     tables: &Tables,

@@ -103,7 +103,7 @@ pub(crate) fn task_heading() -> &'static str
     "   TASK STATE          BUSY     SCHED   POLLS   WAKES SELF NAME                 KIND     LOCATION"
 }
 
-fn kind_word(kind: TaskKind) -> &'static str
+pub(crate) fn kind_word(kind: TaskKind) -> &'static str
     ensures { result.now ≡ kind_word kind }
 {
     match kind {
@@ -112,7 +112,7 @@ fn kind_word(kind: TaskKind) -> &'static str
     }
 }
 
-fn task_state(row: &TaskRow) -> &'static str
+pub(crate) fn task_state(row: &TaskRow) -> &'static str
     ensures { result.now ≡ task_state row.now }
 {
     if row.dropped.is_some() {
@@ -160,4 +160,15 @@ pub(crate) fn task_line(alloc: Global, task: &Task, now: u64) -> Result<Line, Al
     let mut room = String::new(alloc);
     put_task(&mut text, &mut room, task, now)?;
     Ok(Line::new(Style::Plain, text))
+}
+
+/// The line of a task that is chosen.
+pub(crate) fn chosen_line(alloc: Global, task: &Task, now: u64) -> Result<Line, AllocError>
+    ensures { IfOk result (λ line. line ≡ spec.heading (codes ">" ++ spec.task_text now task.now)) }
+{
+    let mut text = String::new(alloc);
+    let mut room = String::new(alloc);
+    put_text(&mut text, ">")?;
+    put_task(&mut text, &mut room, task, now)?;
+    Ok(Line::new(Style::Heading, text))
 }

@@ -124,7 +124,7 @@ fn push_warning_of(
     Ok(())
 }
 
-fn push_warning(
+pub(crate) fn push_warning(
     lines: &mut Vec<Line>,
     alloc: Global,
     tables: &Tables,

@@ -37,8 +37,8 @@ impl<'a, R: Clock> Every<'a, R> {
         }
     }
 
-    // How long it is until it may be shown. A clock that can't be read asks for no time.
-    fn left(&self) -> Duration {
+    /// How long it is until it may be shown. A clock that can't be read asks for no time.
+    pub fn left(&self) -> Duration {
         match &self.last {
             Some(last) => match last.elapsed(self.clock) {
                 Ok(gone) => self.span.saturating_sub(gone),

@@ -14,10 +14,10 @@ use tk_fault::AppFault;
 use tk_pace::Pace;
 
 // How many bytes a line of a stream has at most. No script gives a longer one.
-const MAX_LINE: usize = 268_435_456;
+pub(crate) const MAX_LINE: usize = 268_435_456;
 
 // How many bytes are read at a time.
-const PIECE: usize = 65_536;
+pub(crate) const PIECE: usize = 65_536;
 
 // How many lines are applied, and how many were when the last screen was drawn, if one was.
 #[derive(Clone, Copy)]
@@ -41,7 +41,7 @@ fn stopped(lines: u64, error: FeedError) -> AppFault
 }
 
 // Feeds a client that has applied so many lines, and answers how many it has then applied.
-fn feed_more(client: &mut Client, lines: u64, piece: &[u8]) -> Result<u64, AppFault>
+pub(crate) fn feed_more(client: &mut Client, lines: u64, piece: &[u8]) -> Result<u64, AppFault>
     requires few { lines ≤ 2 ^ 62 }
     requires short { length piece.now ≤ 65536 }
     ensures takes { (front : List ℕ) → HasTaken front lines client.old → spec.TakesTo (front ++ piece.now) result client.new }

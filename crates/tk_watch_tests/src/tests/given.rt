@@ -74,7 +74,7 @@ impl Pace for Few {
 }
 
 // Whether a fault has this text.
-fn is_text_of(alloc: Global, fault: AppFault, text: &str) -> bool {
+pub(super) fn is_text_of(alloc: Global, fault: AppFault, text: &str) -> bool {
     match format!(in alloc; "{fault}") {
         Ok(told) => told.as_str() == text,
         Err(_) => false,

@@ -1,0 +1,257 @@
+//! The lines of a screen that keys ask for.
+ghost use Rattle.std.specs.Prelude.{◌≡◌, ◌+◌, ◌∷◌, [], drop, slice_get, take, IfOk, OnOk, string_bytes};
+ghost use Rattle.std.specs.Option.{option_map_or};
+ghost use Rattle.tk_screen.specs.Texts.{Puts};
+ghost use Rattle.tk_frame.specs.Lines as texts;
+ghost use Rattle.tk_frame.specs.Shown as spec;
+
+use crate::details::{push_details, push_plain};
+use crate::keys::{Asked, Shown, query_by};
+use crate::lines::{push_head, push_heading, push_items, push_tasks};
+use crate::query::{Column, Query};
+use crate::ranks::walk;
+use crate::tasks::{chosen_line, task_heading};
+use crate::warnings::push_warnings;
+use std::alloc::{AllocError, Global};
+use tk_client::Warning;
+use tk_screen::{Line, Ranked, Style};
+use tk_stream::Tables;
+
+fn column_word(column: Column) -> &'static str
+    ensures { result.now ≡ spec.column_word column }
+{
+    match column {
+        Column::Busy => "busy",
+        Column::Sched => "sched",
+        Column::Polls => "polls",
+        Column::Wakes => "wakes",
+        Column::SelfWakes => "self-wakes",
+    }
+}
+
+fn paused_word(paused: bool) -> &'static str
+    ensures { result.now ≡ spec.paused_word paused }
+{
+    if paused { "  paused" } else { "" }
+}
+
+fn put_text(out: &mut String, text: &str) -> Result<(), AllocError>
+    ensures { OnOk result (Puts (string_bytes out.old) (string_bytes out.new) text.now) }
+{
+    out.push_str(text)
+}
+
+fn put_asked(out: &mut String, asked: &Asked) -> Result<(), AllocError>
+    ensures { OnOk result (Puts (string_bytes out.old) (string_bytes out.new) (spec.asked_text asked.now)) }
+{
+    put_text(out, "sorted by ")?;
+    put_text(out, column_word(asked.sort))?;
+    put_text(out, paused_word(asked.paused))?;
+    put_text(out, "  ? shows the keys")?;
+    Ok(())
+}
+
+fn push_asked(lines: &mut Vec<Line>, alloc: Global, asked: &Asked) -> Result<(), AllocError>
+    ensures { OnOk result (Puts lines.old.items lines.new.items (texts.plain (spec.asked_text asked.now) ∷ [])) }
+{
+    let mut text = String::new(alloc);
+    put_asked(&mut text, asked)?;
+    lines.push(Line::new(Style::Plain, text))?;
+    Ok(())
+}
+
+fn push_columns(lines: &mut Vec<Line>, alloc: Global) -> Result<(), AllocError>
+    ensures { OnOk result (Puts lines.old.items lines.new.items (take 6 spec.keys_part)) }
+{
+    push_heading(lines, alloc, "KEY    WHAT IT DOES")?;
+    push_plain(
+        lines,
+        alloc,
+        "b      sorts tasks by how long their polls ran",
+    )?;
+    push_plain(
+        lines,
+        alloc,
+        "s      sorts them by how long they waited, scheduled",
+    )?;
+    push_plain(
+        lines,
+        alloc,
+        "p      sorts them by how many polls of them started",
+    )?;
+    push_plain(
+        lines,
+        alloc,
+        "w      sorts them by how often they were woken",
+    )?;
+    push_plain(
+        lines,
+        alloc,
+        "o      sorts them by how often they woke themselves",
+    )?;
+    Ok(())
+}
+
+fn push_others(lines: &mut Vec<Line>, alloc: Global) -> Result<(), AllocError>
+    ensures { OnOk result (Puts lines.old.items lines.new.items (drop 6 spec.keys_part)) }
+{
+    push_plain(
+        lines,
+        alloc,
+        "r      shows resources and async operations, or not any more",
+    )?;
+    push_plain(
+        lines,
+        alloc,
+        "j, k   chooses the task below, or above, as arrows do",
+    )?;
+    push_plain(
+        lines,
+        alloc,
+        "Enter  shows all of the chosen task, or not any more",
+    )?;
+    push_plain(lines, alloc, "space  pauses, or goes on")?;
+    push_plain(lines, alloc, "?      shows this, or not any more")?;
+    push_plain(lines, alloc, "q      quits")?;
+    Ok(())
+}
+
+fn push_keys(lines: &mut Vec<Line>, alloc: Global) -> Result<(), AllocError>
+    ensures { OnOk result (Puts lines.old.items lines.new.items spec.keys_part) }
+{
+    push_columns(lines, alloc)?;
+    push_others(lines, alloc)?;
+    Ok(())
+}
+
+fn push_chosen(
+    lines: &mut Vec<Line>,
+    alloc: Global,
+    tables: &Tables,
+    ranked: &Ranked,
+) -> Result<(), AllocError>
+    ensures { OnOk result (Puts lines.old.items lines.new.items (spec.chosen_at tables.now ranked.now)) }
+{
+    if let Some(task) = tables.task_at(ranked.place) {
+        lines.push(chosen_line(alloc, task, tables.now())?)?;
+    }
+    Ok(())
+}
+
+fn ranked_at(top: &[Ranked], place: usize) -> Option<Ranked>
+    ensures { result ≡ slice_get top.now place }
+{
+    top.get(place).copied()
+}
+
+fn push_choice(
+    lines: &mut Vec<Line>,
+    alloc: Global,
+    tables: &Tables,
+    top: &[Ranked],
+    chosen: usize,
+) -> Result<(), AllocError>
+    ensures { OnOk result (Puts lines.old.items lines.new.items (option_map_or (spec.chosen_at tables.now) (slice_get top.now chosen) [])) }
+{
+    match ranked_at(top, chosen) {
+        Some(ranked) => push_chosen(lines, alloc, tables, &ranked),
+        None => Ok(()),
+    }
+}
+
+// The ranks before the chosen one.
+fn rows_above(top: &[Ranked], chosen: usize) -> &[Ranked]
+    ensures { result.now ≡ take chosen top.now }
+{
+    match top.get(..chosen) {
+        Some(front) => front,
+        None => top,
+    }
+}
+
+// The ranks after the chosen one.
+fn rows_below(top: &[Ranked], chosen: usize) -> &[Ranked]
+    ensures { result.now ≡ drop (chosen + 1) top.now }
+{
+    if chosen < top.len() {
+        &top[chosen + 1..]
+    } else {
+        &top[..0]
+    }
+}
+
+fn push_rows(
+    lines: &mut Vec<Line>,
+    alloc: Global,
+    tables: &Tables,
+    top: &[Ranked],
+    chosen: usize,
+) -> Result<(), AllocError>
+    ensures { OnOk result (Puts lines.old.items lines.new.items (spec.rows_part tables.now top.now chosen)) }
+{
+    push_tasks(lines, alloc, tables, rows_above(top, chosen))?;
+    push_choice(lines, alloc, tables, top, chosen)?;
+    push_tasks(lines, alloc, tables, rows_below(top, chosen))?;
+    Ok(())
+}
+
+fn push_tables(
+    lines: &mut Vec<Line>,
+    alloc: Global,
+    tables: &Tables,
+    warnings: &[Warning],
+    query: &Query<'_>,
+    chosen: usize,
+) -> Result<(), AllocError>
+    ensures { OnOk result (Puts lines.old.items lines.new.items (spec.choice_of chosen query.now tables.now warnings.now)) }
+{
+    let (states, top) = walk(alloc, tables, query)?;
+    push_head(lines, alloc, tables, states, warnings.len())?;
+    push_warnings(lines, alloc, tables, warnings)?;
+    push_heading(lines, alloc, task_heading())?;
+    push_rows(lines, alloc, tables, top.items(), chosen)?;
+    push_items(lines, alloc, tables, query)?;
+    Ok(())
+}
+
+fn push_shown(
+    lines: &mut Vec<Line>,
+    alloc: Global,
+    tables: &Tables,
+    warnings: &[Warning],
+    query: &Query<'_>,
+    asked: &Asked,
+) -> Result<(), AllocError>
+    ensures { OnOk result (Puts lines.old.items lines.new.items (spec.shown_part asked.now.shown asked.now query.now tables.now warnings.now)) }
+{
+    let shown = asked.shown;
+    match shown {
+        Shown::Tables => {
+            let query = query_by(query, asked);
+            let chosen = asked.chosen;
+            push_tables(lines, alloc, tables, warnings, &query, chosen)
+        }
+        Shown::Keys => push_keys(lines, alloc),
+        Shown::Task(id) => push_details(lines, alloc, tables, warnings, id),
+    }
+}
+
+/// The lines of a screen that keys ask for, of tables with these warnings: how tasks are sorted and whether it is paused, and then the
+/// tables as `frame` shows them, with a task chosen; or what each key does; or all that is told of a task. `docs/FORMATS.md` has
+/// their words.
+///
+/// It fails where there is no memory.
+pub fn asked_frame(
+    alloc: Global,
+    tables: &Tables,
+    warnings: &[Warning],
+    query: &Query<'_>,
+    asked: &Asked,
+) -> Result<Vec<Line>, AllocError>
+    ensures { IfOk result (λ lines. lines.items ≡ spec.lines_of asked.now query.now tables.now warnings.now) }
+{
+    let mut lines = Vec::new(alloc);
+    push_asked(&mut lines, alloc, asked)?;
+    push_shown(&mut lines, alloc, tables, warnings, query, asked)?;
+    Ok(lines)
+}

@@ -1,0 +1,12 @@
+use Rattle.std.proofs.Common.{refl}
+use Rattle.tk_watch.specs.Keyed.{key}
+use Rattle.tk_watch.proofs.KeyLemmas.{goes_by, stops_keys}
+use Rattle.tk_watch.proofs.keyed.turn_to.Goals as goal
+
+pub returns-in-Ok-clause-goes : goal.returns-in-Ok-clause-goes
+returns-in-Ok-clause-goes c = λ given left new old wrote byte asks lost w.
+    goes_by c.args.screen.now given left c.args.session.now old wrote w new byte lost _ asks c.turn.ensures.client c.turn.ensures.lines c.in-Ok.ensures.held c.args.asked.quits refl
+
+pub returns-in-Err-clause-goes : goal.returns-in-Err-clause-goes
+returns-in-Err-clause-goes c = λ given left new old wrote byte asks lost w.
+    stops_keys c.args.screen.now given left c.args.session.now old wrote w new (key byte) lost

@@ -1,0 +1,14 @@
+use Rattle.std.proofs.Common.{◌≡◌, ◌∙◌, subst}
+use Rattle.std.specs.Prelude.{IfOk}
+use Rattle.tk_client.specs.Warnings.{warnings_in}
+use Rattle.tk_frame.specs.Shown.{lines_of}
+use Rattle.tk_screen.specs.Screens.{screen_text}
+use Rattle.tk_watch.proofs.session.text_of_client.Goals as goal
+
+pub returns : goal.returns
+returns c =
+    let screen = c.args.screen.now in
+    let tables = c.args.client.now.start.tables in
+    let listed : c.as_slice.result.now ≡ warnings_in screen.lints tables = c.as_slice.ensures.value ∙ c.in-Ok.ensures.ok in
+    subst (λ t. IfOk c.text_by.result (λ text. text.items ≡ screen_text screen.canvas (lines_of c.args.asked.now screen.query t (warnings_in screen.lints tables)))) c.tables.ensures
+    (subst (λ ws. IfOk c.text_by.result (λ text. text.items ≡ screen_text screen.canvas (lines_of c.args.asked.now screen.query c.tables.result.now ws))) listed c.text_by.ensures)

@@ -1,0 +1,287 @@
+//! What keys ask for, and when what they ask for is drawn.
+
+ghost use Rattle.std.specs.Prelude.{Option, length};
+ghost use Rattle.tk_watch.specs.Keyed.{IsWithin};
+
+use super::given::{FIRST, ODD, SECOND, SEMAPHORE, THIRD, is_text_of};
+use std::alloc::Global;
+use std::sync::Wait;
+use std::thread::Threads;
+use std::time::Clock;
+use tk_client::Lints;
+use tk_frame::{Column, Query};
+use tk_keys::watch_terminal;
+use tk_screen::Canvas;
+use tk_watch::{Event, Screen, Source, watch_keys};
+
+// What comes: bytes of the stream, or another event.
+#[derive(Clone, Copy, Drop)]
+enum Comes {
+    Bytes(&'static [u8]),
+    Is(Event),
+}
+
+use Comes::{Bytes, Is};
+
+const DUE: Comes = Is(Event::Due);
+
+fn key(byte: u8) -> Comes {
+    Is(Event::Key(byte))
+}
+
+// Gives these one after the other, and then nothing more.
+#[derive(Drop)]
+struct Given<'a> {
+    events: &'a [Comes],
+    next: usize,
+}
+
+fn put(bytes: &[u8], room: &mut [u8]) -> Event
+    ensures { IsWithin (Option.Some result) (length room.new) }
+{
+    match room.get_mut(..bytes.len()) {
+        Some(front) => {
+            front.copy_from_slice(bytes);
+            Event::Piece(bytes.len())
+        }
+        None => Event::Broken,
+    }
+}
+
+fn event_of(comes: Comes, room: &mut [u8]) -> Event
+    ensures { IsWithin (Option.Some result) (length room.new) }
+{
+    match comes {
+        Comes::Bytes(bytes) => put(bytes, room),
+        Comes::Is(Event::Piece(_)) => Event::Broken,
+        Comes::Is(event) => event,
+    }
+}
+
+impl Source for Given<'_> {
+    fn next(&mut self, room: &mut [u8], _is_paused: bool) -> Option<Event> {
+        let comes = self.events.get(self.next).copied()?;
+        self.next = self.next.saturating_add(1);
+        Some(event_of(comes, room))
+    }
+}
+
+// Whether these events are watched to a fault of this text, or to the end where that is empty, by this output, and so many of them taken.
+fn draws(alloc: Global, events: &[Comes], fault: &str, output: &str, taken: usize) -> bool {
+    let screen = Screen {
+        query: Query {
+            sort: Column::Busy,
+            rows: 10,
+            filter: b"",
+            resources: false,
+        },
+        lints: Lints::default(),
+        canvas: Canvas::Plain,
+    };
+    let mut source = Given { events, next: 0 };
+    let mut writer = Vec::new(alloc);
+    let ends = match watch_keys(alloc, &mut source, &mut writer, &screen) {
+        Ok(()) => fault.is_empty(),
+        Err(stop) => is_text_of(alloc, stop, fault),
+    };
+    ends && writer.as_slice() == output.as_bytes() && source.next == taken
+}
+
+const ODD_BY_BUSY: &str = "sorted by busy  ? shows the keys
+now 1.0 s  tasks 2: 1 polling, 0 scheduled, 1 idle, 0 closed  warnings 3
+warning 1.1 self-wakes: 66% of its wakes are its own
+  let what it waits for wake it (main, script:1:1)
+warning 1.1 lost-waker: nobody is left who could wake it
+  keep a waker of it until the wake (main, script:1:1)
+warning 1.2 never-yielded: its first poll has run for 1.0 s
+  move work that blocks to a blocking task (resize, script:2:1)
+   TASK STATE          BUSY     SCHED   POLLS   WAKES SELF NAME                 KIND     LOCATION
+>    1.2 polling       1.0 s     50 ns       1       0    - resize               spawn    script:2:1
+    1.1 idle          20 ns    100 ns       2       3  66% main                 spawn    script:1:1
+
+";
+
+const ODD_BY_POLLS: &str = "sorted by polls  ? shows the keys
+now 1.0 s  tasks 2: 1 polling, 0 scheduled, 1 idle, 0 closed  warnings 3
+warning 1.1 self-wakes: 66% of its wakes are its own
+  let what it waits for wake it (main, script:1:1)
+warning 1.1 lost-waker: nobody is left who could wake it
+  keep a waker of it until the wake (main, script:1:1)
+warning 1.2 never-yielded: its first poll has run for 1.0 s
+  move work that blocks to a blocking task (resize, script:2:1)
+   TASK STATE          BUSY     SCHED   POLLS   WAKES SELF NAME                 KIND     LOCATION
+    1.1 idle          20 ns    100 ns       2       3  66% main                 spawn    script:1:1
+>    1.2 polling       1.0 s     50 ns       1       0    - resize               spawn    script:2:1
+
+";
+
+#[test]
+fn a_key_sorts_and_one_chooses_a_task_below(rt: HostRuntime) {
+    let events = [Bytes(ODD), DUE, key(b'p'), key(b'j'), key(b'j'), DUE];
+    let both = format!(in rt.alloc(); "{ODD_BY_BUSY}{ODD_BY_POLLS}").expect(&rt, "memory");
+    assert!(rt; draws(rt.alloc(), &events, "", both.as_str(), 6));
+}
+
+#[test]
+fn a_task_above_is_chosen_again_and_other_keys_change_nothing(rt: HostRuntime) {
+    let events = [Bytes(ODD), key(b'j'), key(b'k'), key(b'k'), key(b'x'), DUE];
+    assert!(rt; draws(rt.alloc(), &events, "", ODD_BY_BUSY, 6));
+}
+
+const ODD_DETAILS: &str = "sorted by busy  ? shows the keys
+TASK 1.1
+name         main
+kind         spawn
+location     script:1:1
+state        idle
+polls        2
+busy         20 ns
+first poll   1.0 s ago
+last poll    999.9 ms ago
+last end     999.9 ms ago
+wakes        3
+self-wakes   2
+self share   66%
+last wake    999.9 ms ago
+sched        100 ns
+clones       1
+drops        1
+handles      2
+created      1.0 s ago
+closed       -
+warning 1.1 self-wakes: 66% of its wakes are its own
+  let what it waits for wake it (main, script:1:1)
+warning 1.1 lost-waker: nobody is left who could wake it
+  keep a waker of it until the wake (main, script:1:1)
+
+";
+
+#[test]
+fn enter_shows_all_of_the_chosen_task(rt: HostRuntime) {
+    let events = [Bytes(ODD), key(b'j'), key(b'\n'), DUE];
+    assert!(rt; draws(rt.alloc(), &events, "", ODD_DETAILS, 4));
+    let arrow = [key(b'\x1b'), key(b'['), key(b'B')];
+    let events = [Bytes(ODD), arrow[0], arrow[1], arrow[2], key(b'\n'), DUE];
+    assert!(rt; draws(rt.alloc(), &events, "", ODD_DETAILS, 6));
+}
+
+#[test]
+fn enter_shows_tables_again(rt: HostRuntime) {
+    let events = [Bytes(ODD), key(b'\r'), key(b'\r'), DUE];
+    assert!(rt; draws(rt.alloc(), &events, "", ODD_BY_BUSY, 4));
+}
+
+const SEMAPHORE_SCREEN: &str = "sorted by busy  ? shows the keys
+now 50 ns  tasks 1: 0 polling, 1 scheduled, 0 idle, 0 closed  warnings 0
+   TASK STATE          BUSY     SCHED   POLLS   WAKES SELF NAME                 KIND     LOCATION
+>    1.1 scheduled      0 ns     40 ns       0       0    - worker               spawn    script:1:1
+RESOURCE    READY  PENDING TYPE (KIND) LOCATION
+     1.1        1        0 Semaphore (Sync) script:2:1
+OPERATION STATE      POLLS      BUSY     TASK RESOURCE SOURCE
+      1.1 idle           1      5 ns      1.1      1.1 Semaphore::acquire
+
+";
+
+#[test]
+fn a_key_shows_resources(rt: HostRuntime) {
+    let events = [Bytes(SEMAPHORE), key(b'r'), DUE];
+    assert!(rt; draws(rt.alloc(), &events, "", SEMAPHORE_SCREEN, 3));
+}
+
+const KEYS: &str = "sorted by busy  ? shows the keys
+KEY    WHAT IT DOES
+b      sorts tasks by how long their polls ran
+s      sorts them by how long they waited, scheduled
+p      sorts them by how many polls of them started
+w      sorts them by how often they were woken
+o      sorts them by how often they woke themselves
+r      shows resources and async operations, or not any more
+j, k   chooses the task below, or above, as arrows do
+Enter  shows all of the chosen task, or not any more
+space  pauses, or goes on
+?      shows this, or not any more
+q      quits
+
+";
+
+#[test]
+fn a_key_shows_the_keys(rt: HostRuntime) {
+    let events = [Bytes(ODD), key(b'?'), DUE];
+    assert!(rt; draws(rt.alloc(), &events, "", KEYS, 3));
+}
+
+// The screens of the first line, of the same in a pause, and of the second line.
+const PAUSED: &str = "sorted by busy  ? shows the keys
+now 6 ns  tasks 1: 0 polling, 0 scheduled, 0 idle, 1 closed  warnings 0
+   TASK STATE          BUSY     SCHED   POLLS   WAKES SELF NAME                 KIND     LOCATION
+
+sorted by busy  paused  ? shows the keys
+now 6 ns  tasks 1: 0 polling, 0 scheduled, 0 idle, 1 closed  warnings 0
+   TASK STATE          BUSY     SCHED   POLLS   WAKES SELF NAME                 KIND     LOCATION
+
+sorted by busy  ? shows the keys
+now 14 ns  tasks 1: 0 polling, 0 scheduled, 0 idle, 1 closed  warnings 0
+   TASK STATE          BUSY     SCHED   POLLS   WAKES SELF NAME                 KIND     LOCATION
+
+";
+
+#[test]
+fn in_a_pause_what_was_shown_stays(rt: HostRuntime) {
+    let events = [
+        Bytes(FIRST),
+        DUE,
+        key(b' '),
+        Bytes(SECOND),
+        DUE,
+        key(b' '),
+        DUE,
+    ];
+    assert!(rt; draws(rt.alloc(), &events, "", PAUSED, 7));
+}
+
+#[test]
+fn nothing_is_taken_after_a_key_that_quits(rt: HostRuntime) {
+    let events = [Bytes(FIRST), key(b'q'), DUE];
+    assert!(rt; draws(rt.alloc(), &events, "", "", 2));
+}
+
+const FIRST_SCREEN: &str = "sorted by busy  ? shows the keys
+now 6 ns  tasks 1: 0 polling, 0 scheduled, 0 idle, 1 closed  warnings 0
+   TASK STATE          BUSY     SCHED   POLLS   WAKES SELF NAME                 KIND     LOCATION
+
+";
+
+#[test]
+fn at_a_fault_what_stands_is_drawn(rt: HostRuntime) {
+    let events = [Bytes(FIRST), Bytes(THIRD), DUE];
+    let fault = "stream after 1 lines: Gap expected 2 found 3";
+    assert!(rt; draws(rt.alloc(), &events, fault, FIRST_SCREEN, 2));
+    let events = [Bytes(FIRST), Is(Event::Broken), DUE];
+    assert!(rt; draws(rt.alloc(), &events, "Read", "", 2));
+}
+
+// Whether a watch by threads of the stream, which a key quits or nobody, ends well.
+fn ends<R: Threads + Wait + Clock + Copy + Send + Sync + Drop + 'static>(
+    rt: &R,
+    alloc: Global,
+    keys: &'static [u8],
+) -> bool {
+    let screen = Screen {
+        query: Query {
+            sort: Column::Busy,
+            rows: 10,
+            filter: b"",
+            resources: false,
+        },
+        lints: Lints::default(),
+        canvas: Canvas::Plain,
+    };
+    let mut writer = Vec::new(alloc);
+    watch_terminal(rt, alloc, ODD, false, keys, &mut writer, &screen, 0).is_ok()
+}
+
+#[test]
+fn threads_read_until_a_key_quits_or_none_comes(rt: HostRuntime) {
+    assert!(rt; ends(&rt, rt.alloc(), b"pq"));
+    assert!(rt; ends(&rt, rt.alloc(), b""));
+}
