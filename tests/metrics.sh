@@ -46,13 +46,24 @@ has_lines() {
     return 1
 }
 
-# While a stream comes its numbers are kept up to it, and no more often than is asked for; a reader that looks all the time finds them whole.
-kept_while_it_comes() {
+# keep_every SECONDS: numbers of a stream that the test writes line by line to descriptor 4.
+keep_every() {
     stream=$examples/service.script.stdout
     rm -rf "$work/kept" && mkdir "$work/kept" && mkfifo "$work/kept/pipe" || return 1
-    "$program" metrics --to "$work/kept/tasks.prom" --every 0 < "$work/kept/pipe" &
+    "$program" metrics --to "$work/kept/tasks.prom" --every "$1" < "$work/kept/pipe" &
     reader=$!
     exec 4> "$work/kept/pipe"
+}
+
+# ends_with_lines COUNT: the stream ends, the program with it, and the numbers left are those of its first COUNT lines.
+ends_with_lines() {
+    exec 4>&-
+    wait "$reader" && has_lines "$stream" "$1" "$work/kept/tasks.prom"
+}
+
+# While a stream comes its numbers are kept up to it, and no more often than is asked for; a reader that looks all the time finds them whole.
+kept_while_it_comes() {
+    keep_every 0 || return 1
     head -n 1 "$stream" >&4 && has_lines "$stream" 1 "$work/kept/tasks.prom" &&
         sed -n 2p "$stream" >&4 && has_lines "$stream" 2 "$work/kept/tasks.prom"
     came=$?
@@ -60,22 +71,16 @@ kept_while_it_comes() {
         sed -n "${line}p" "$stream" >&4
         [ "$(tail -n 1 "$work/kept/tasks.prom")" = '# EOF' ] || came=1
     done
-    exec 4>&-
-    wait "$reader" && [ "$came" -eq 0 ] && has_lines "$stream" 60 "$work/kept/tasks.prom"
+    ends_with_lines 60 && [ "$came" -eq 0 ]
 }
 
 # Numbers are put at once, and then only at the end of a stream that has come before it is time again.
 kept_no_more_often() {
-    stream=$examples/service.script.stdout
-    rm -rf "$work/kept" && mkdir "$work/kept" && mkfifo "$work/kept/pipe" || return 1
-    "$program" metrics --to "$work/kept/tasks.prom" --every 600 < "$work/kept/pipe" &
-    reader=$!
-    exec 4> "$work/kept/pipe"
+    keep_every 600 || return 1
     head -n 1 "$stream" >&4 && has_lines "$stream" 1 "$work/kept/tasks.prom" && sed -n 2,5p "$stream" >&4 && sleep 0.5 &&
         has_lines "$stream" 1 "$work/kept/tasks.prom"
     came=$?
-    exec 4>&-
-    wait "$reader" && [ "$came" -eq 0 ] && has_lines "$stream" 5 "$work/kept/tasks.prom"
+    ends_with_lines 5 && [ "$came" -eq 0 ]
 }
 
 # A file that grows is followed.
