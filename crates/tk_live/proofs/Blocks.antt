@@ -1,17 +1,21 @@
 -- Blocks: what stands behind their lines.
 use Rattle.std.proofs.Common.{◌≡◌, ℕ, ◌⊎◌, Bool, true, false, List, [], ◌∷◌, ◌++◌, Option, Some, None, Result, Ok, Err, inl, inr, refl, sym, ap, ◌∙◌, subst, ◌≢◌, true≢false}
 use Rattle.std.proofs.KnownBytes.{Appends-nil}
-use Rattle.std.specs.Prelude.{option_map, is_some, OnOk, IfErr}
+use Rattle.std.specs.Prelude.{codes, option_and_then, option_map, is_some, ◌&&◌, if◌then◌else◌, OnOk, IfErr}
 use Rattle.std.proofs.lemmas.Bool.{cases_eq}
 use Rattle.std.specs.Option.{option_map_or}
+use Rattle.std.specs.Str.{bytes_eq}
+use Rattle.tk_ids.specs.Names.{is_name}
 use Rattle.tk_stream.specs.Streams.{Sending}
 use Rattle.tk_live.specs.Blocks.{Block, Wakers, no_lines, is_named, with_line, lines_of_worker, lines_of_other}
-use Rattle.tk_script.specs.Commands.{Said, Line, says, bad, skipped, joins, works, is_skipped, block_said, block_line, line_of}
+use Rattle.tk_script.specs.Commands.{Said, Line, says, bad, skipped, joins, works, is_skipped, block_said, block_line, line_of, declares, resource_by, op_by, said_by}
 use Rattle.tk_script.specs.Commands as said
+use Rattle.tk_script.specs.Attributes.{attrs_by}
+use Rattle.tk_script.specs.Words.{moment}
 use Rattle.tk_live.specs.Course.{Course, start_of_all, step, step_on, joined, line_after}
 use Rattle.tk_live.specs.Runs.{StandsFor, Stays, Keeps, IsOpen, Came, BlockCame, LineCame, block_of}
 use Rattle.tk_live.specs.Script.{Fronts}
-use Rattle.tk_live.specs.Stops.{Stops, line_stop, stop_inside, stop_outside, LineStops, LineLeaves, LineMayFail, MayFailWhere, MayFailInside, MayFailOutside, Closes, EndsIn, work_stop}
+use Rattle.tk_live.specs.Stops.{Stops, line_stop, stop_inside, stop_outside, LineStops, LineLeaves, LineMayFail, MayFailWhere, MayFailInside, MayFailOutside, Closes, EndsIn, TakesMemory, work_stop}
 use Rattle.tk_live.specs.Threads.{Apart}
 use Rattle.tk_script.specs.declared.block.BlockSaid.{BlockSaid}
 use Rattle.tk_script.specs.declared.block.BlockSaid.TheVariants as blocks
@@ -204,12 +208,49 @@ refused answers n settings c kept sent i block bytes b None e stands = (inl (ins
 refused answers n settings c kept sent i block bytes b (Some s) e stands =
     (inl (inside c (says s) b e), rests i settings c n s kept sent stands.keeps, [], no_front sent s BadCommand (λ w. bad_is_no_write w), Appends-nil bytes)
 
+-- what a declaring line says takes memory
+module _ where
+  from_map : {A : Type 0} (f : A → Said) → ((a : A) → TakesMemory (f a)) → (o : Option A) (s : Said) → option_map f o ≡ Some s → TakesMemory s
+  from_map f each None s e = absurd cc
+  from_map f each (Some a) s e = subst TakesMemory (some_same (f a) s e) (each a)
+
+  from_then : {A : Type 0} (f : A → Option Said) → ((a : A) (s : Said) → f a ≡ Some s → TakesMemory s) → (o : Option A) (s : Said) → option_and_then f o ≡ Some s → TakesMemory s
+  from_then f each None s e = absurd cc
+  from_then f each (Some a) s e = each a s e
+
+  from_if : (b : Bool) (o : Option Said) → ((s : Said) → o ≡ Some s → TakesMemory s) → (s : Said) → (if b then o else None) ≡ Some s → TakesMemory s
+  from_if true o each s e = each s e
+  from_if false o each s e = absurd cc
+
+  resource_takes : (words : List (List ℕ)) (s : Said) → resource_by words ≡ Some s → TakesMemory s
+  resource_takes [] s e = absurd cc
+  resource_takes (m ∷ []) s e = absurd cc
+  resource_takes (m ∷ k ∷ []) s e = absurd cc
+  resource_takes (m ∷ k ∷ t ∷ words) s e =
+      from_then _ (λ at. from_if (is_name k && is_name t) _ (from_map (said.resource at k t) (λ a. tt) (attrs_by words))) (moment m) s e
+
+  op_takes : (words : List (List ℕ)) (s : Said) → op_by words ≡ Some s → TakesMemory s
+  op_takes [] s e = absurd cc
+  op_takes (m ∷ []) s e = absurd cc
+  op_takes (m ∷ r ∷ []) s e = absurd cc
+  op_takes (m ∷ r ∷ source ∷ words) s e =
+      from_then _ (λ at. from_then _ (λ n. from_if (is_name source) _ (from_map (said.op at n source) (λ a. tt) (attrs_by words))) (moment r)) (moment m) s e
+
+  pub declared_takes : (words : List (List ℕ)) (s : Said) → declares words ≡ true → said_by words ≡ Some s → TakesMemory s
+  declared_takes [] s d e = absurd cc
+  declared_takes (w ∷ words) s d e = go (bytes_eq w (codes "resource")) (bytes_eq w (codes "op")) _ d e
+    where
+      go : (a b : Bool) (rest : Option Said) → (if a then true else b) ≡ true → (if a then resource_by words else (if b then op_by words else rest)) ≡ Some s → TakesMemory s
+      go true b rest d e = resource_takes words s e
+      go false true rest d e = op_takes words s e
+      go false false rest d e = absurd cc
+
 -- a line that memory is lacking for, before it is known what it says
-pub lacked : (answers : ℕ → Bool → Type 0) (n : ℕ) (settings : Settings) (c : Course) (kept : List Bool) (sent : List Sending) (i : Interpreter) (block : Option OpenBlock) (bytes : Option (List ℕ)) (o : Option Said) → c.block ≡ None → StandsFor i settings c kept sent
-    → LineCame answers settings c kept sent n (option_map_or says o bad) i block (Err Memory) bytes bytes
-lacked answers n settings c kept sent i block bytes None e stands = (inr (fails_outside c bad answers Memory e tt), record { left = c; is_left = refl; kept = kept; keeps = stands.keeps }, [], refl, Appends-nil bytes)
-lacked answers n settings c kept sent i block bytes (Some s) e stands =
-    (inr (fails_outside c (says s) answers Memory e tt), rests i settings c n s kept sent stands.keeps, [], no_front sent s Memory (λ w. memory_is_no_write w), Appends-nil bytes)
+pub lacked : (answers : ℕ → Bool → Type 0) (n : ℕ) (settings : Settings) (c : Course) (kept : List Bool) (sent : List Sending) (i : Interpreter) (block : Option OpenBlock) (bytes : Option (List ℕ)) (o : Option Said) → ((s : Said) → o ≡ Some s → TakesMemory s)
+    → c.block ≡ None → StandsFor i settings c kept sent → LineCame answers settings c kept sent n (option_map_or says o bad) i block (Err Memory) bytes bytes
+lacked answers n settings c kept sent i block bytes None takes e stands = (inr (fails_outside c bad answers Memory e tt), record { left = c; is_left = refl; kept = kept; keeps = stands.keeps }, [], refl, Appends-nil bytes)
+lacked answers n settings c kept sent i block bytes (Some s) takes e stands =
+    (inr (fails_outside c (says s) answers Memory e (takes s refl)), rests i settings c n s kept sent stands.keeps, [], no_front sent s Memory (λ w. memory_is_no_write w), Appends-nil bytes)
 
 -- a line that says no command
 pub bad_came : (answers : ℕ → Bool → Type 0) (n : ℕ) (settings : Settings) (c : Course) (kept : List Bool) (sent : List Sending) (i : Interpreter) (block : Option OpenBlock) (bytes : Option (List ℕ)) → c.block ≡ None → StandsFor i settings c kept sent

@@ -49,16 +49,20 @@ flat-map f (Some o) = refl
 pub live_item-map : {X Y : Type 0} (f : X → Y) (n : ℕ) (xs : List (Option X)) → live_item n (map (option_map f) xs) ≡ option_map f (live_item n xs)
 live_item-map f n xs = ap (option_and_then (λ p. p)) (made_item-map (option_map f) n xs) ∙ flat-map f (made_item n xs)
 
+flat_some : {X : Type 0} (o : Option (Option X)) (x : X) → option_and_then (λ p. p) o ≡ Some x → o ≡ Some (Some x)
+flat_some None x h = absurd cc
+flat_some (Some p) x h = ap (λ q. Some q) h
+
+-- what is live was made
+pub live_made : {X : Type 0} (n : ℕ) (xs : List (Option X)) (x : X) → live_item n xs ≡ Some x → made_item n xs ≡ Some (Some x)
+live_made n xs x e = flat_some (made_item n xs) x e
+
 -- what is live stands at its place
 pub live_within : {X : Type 0} (n : ℕ) (xs : List (Option X)) (x : X) → live_item n xs ≡ Some x → (slice_get xs (n - 1) ≡ Some (Some x)) × (n - 1 < length xs) × (1 ≤ n)
 live_within {X} n xs x e = go (nat_lt 0 n) refl e
   where
-    flat : (o : Option (Option X)) → option_and_then (λ p. p) o ≡ Some x → o ≡ Some (Some x)
-    flat None h = absurd cc
-    flat (Some p) h = ap (λ q. Some q) h
-
     go : (b : Bool) → nat_lt 0 n ≡ b → option_and_then (λ p. p) (cond b (slice_get xs (n - 1)) None) ≡ Some x → (slice_get xs (n - 1) ≡ Some (Some x)) × (n - 1 < length xs) × (1 ≤ n)
-    go true is h = let g = flat (slice_get xs (n - 1)) h in (g, within xs (n - 1) (Some x) g, ltb-true 0 n is)
+    go true is h = let g = flat_some (slice_get xs (n - 1)) x h in (g, within xs (n - 1) (Some x) g, ltb-true 0 n is)
     go false is h = absurd cc
 
 -- a handle that went on and was put back: what is told of it is told anew

@@ -1,10 +1,11 @@
 -- What an interpreter stands for behind a call on a handle.
 use Rattle.std.proofs.Common.{◌≡◌, ℕ, Bool, true, false, List, [], ◌∷◌, ◌++◌, Option, Some, None, inl, refl, sym, ap, ◌∙◌, subst}
-use Rattle.std.specs.Prelude.{not, map, filter, option_map, is_some}
+use Rattle.std.specs.Prelude.{not, map, filter, option_and_then, option_map, is_some}
 use Rattle.std.proofs.lemmas.List.{append-nil, map-append}
 use Rattle.std.proofs.lemmas.List.Elements.{filter-append}
 use Rattle.tk_core.specs.declared.history.Entry.{Entry}
 use Rattle.tk_core.specs.declared.reply.Refusal.{Refusal}
+use Rattle.tk_core.specs.declared.reply.Refusal.TheVariants.{Closed}
 use Rattle.tk_core.specs.declared.reply.Reply.{Reply}
 use Rattle.tk_core.specs.declared.reply.Reply.TheVariants.{Number, Refused}
 use Rattle.tk_core.specs.Fold.{is_accepted}
@@ -23,10 +24,10 @@ use Rattle.tk_live.specs.Course.{Names, Course}
 use Rattle.tk_live.specs.Known.{Handled, and_call, drawn_from, owner_of, caller_of}
 use Rattle.tk_live.specs.Named.{live_item}
 use Rattle.tk_live.specs.Runs.{Numbers, numbers_of, Holds, Keeps, Stays, StandsFor, Rests}
-use Rattle.tk_live.specs.Stops.{IsReply, Leaves, if_there}
+use Rattle.tk_live.specs.Stops.{IsReply, Leaves, if_there, unless_closed}
 use Rattle.tk_live.specs.declared.interpreter.Interpreter.{Interpreter}
 use Rattle.tk_script.specs.declared.stop.Stop.{Stop}
-use Rattle.tk_script.specs.declared.stop.Stop.TheVariants.{NoSuchItem}
+use Rattle.tk_script.specs.declared.stop.Stop.TheVariants.{Call, NoSuchItem}
 use Rattle.tk_script.specs.declared.settings.Settings.{Settings}
 use Rattle.tk_live.proofs.Places.{live_item-map}
 
@@ -150,6 +151,17 @@ is_there (Some x) stop e = refl
 pub isnt_there : {X : Type 0} (o : Option X) (stop : Option Stop) → is_some o ≡ false → if_there o stop ≡ Some NoSuchItem
 isnt_there None stop e = refl
 isnt_there (Some x) stop e = absurd cc
+
+-- the user of a number that names no resource
+pub user_unmade : {X : Type 0} (o : Option (Option X)) → is_some o ≡ false → unless_closed o ≡ Some NoSuchItem
+user_unmade None e = refl
+user_unmade (Some user) e = absurd cc
+
+-- and of one that is closed
+pub user_gone : {X : Type 0} (o : Option (Option X)) → is_some o ≡ true → option_and_then (λ u. u) o ≡ None → unless_closed o ≡ Some (Call Closed)
+user_gone None e none = absurd cc
+user_gone (Some None) e none = refl
+user_gone (Some (Some user)) e none = absurd cc
 
 module _ {Row C : Type 0} where
   -- an accepted call is one more

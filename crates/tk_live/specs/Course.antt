@@ -104,6 +104,10 @@ new_op n created attrs = record { id = id_of 1 n; opening = Some (op_rules.openi
 abbrev pub resource_made : ResourceHandled → Names → Names
 resource_made h names = record names { resources = names.resources ++ Some h ∷ []; users = names.users ++ Some (drawn_from h) ∷ [] }
 
+-- names without the owner of a resource and its user
+abbrev pub resource_closed : ℕ → Names → Names
+resource_closed n names = record names { resources = with_item n None names.resources; users = with_item n None names.users }
+
 -- names with one more call of the user of a resource, or of the owner of an async operation
 abbrev pub user_called : ℕ → ResourceCall → Names → Names
 user_called n call names = record names { users = with_change n (and_call call) names.users }
@@ -141,7 +145,7 @@ step c line (resource at kind concrete attrs) = record c {
   names = resource_made (new_resource (length c.names.resources + 1) at attrs) c.names;
   told = c.told ++ made_resource (resource_info (length c.names.resources + 1) line kind concrete attrs) ∷ [];
 }
-step c line (close_resource n moment) = record c { names = record c.names { resources = with_item n None c.names.resources } }
+step c line (close_resource n moment) = record c { names = resource_closed n c.names }
 step c line (change_resource n index change) = record c { names = user_called n (resource_calls.Attr index change) c.names }
 step c line (op at r source attrs) = record c {
   names = record c.names { ops = c.names.ops ++ Some (new_op (length c.names.ops + 1) at attrs) ∷ [] };

@@ -4,7 +4,7 @@ use Rattle.std.specs.Option.{option_map_or}
 use Rattle.tk_ids.specs.IdBlocks.{last_number}
 use Rattle.tk_core.specs.declared.history.Entry.{Entry}
 use Rattle.tk_core.specs.declared.reply.Refusal.{Refusal}
-use Rattle.tk_core.specs.declared.reply.Refusal.TheVariants.{AlreadyPolling, NotPolling, HandlesSpent}
+use Rattle.tk_core.specs.declared.reply.Refusal.TheVariants.{AlreadyPolling, Closed, HandlesSpent, NotPolling}
 use Rattle.tk_core.specs.declared.reply.Reply.{Reply}
 use Rattle.tk_core.specs.declared.reply.Reply.TheVariants.{Refused}
 use Rattle.tk_core.specs.declared.task.call.TaskCall.TheVariants.{CloneWaker}
@@ -53,6 +53,12 @@ abbrev pub if_there : {X : Type 0} → Option X → Option Stop → Option Stop
 if_there None stop = Some NoSuchItem
 if_there (Some x) stop = stop
 
+-- a change by the user of a resource, of what the resource's number names: the user is gone once the resource is closed
+abbrev pub unless_closed : {X : Type 0} → Option (Option X) → Option Stop
+unless_closed None = Some NoSuchItem
+unless_closed (Some None) = Some (Call Closed)
+unless_closed (Some (Some user)) = None
+
 -- a recorder makes so many offers, and no more
 abbrev pub offer_stop : Course → Option Stop
 offer_stop c = if length c.told == last_number then Some OffersSpent else None
@@ -71,7 +77,7 @@ stop_of c (wake n moment) = if_there (live_item n c.names.wakers) None
 stop_of c (release n) = if_there (live_item n c.names.wakers) None
 stop_of c (resource at kind concrete attrs) = offer_stop c
 stop_of c (close_resource n moment) = if_there (live_item n c.names.resources) None
-stop_of c (change_resource n index change) = if_there (live_item n c.names.users) None
+stop_of c (change_resource n index change) = unless_closed (made_item n c.names.users)
 stop_of c (op at r source attrs) = if_there (made_item r c.names.resources) (offer_stop c)
 stop_of c (op_task n t) = if_there (made_item t c.names.tasks) (if_there (live_item n c.names.ops) None)
 stop_of c (start_op n moment) = unless_polled (option_map is_polled_op (live_item n c.names.ops))
@@ -98,9 +104,22 @@ pub record IsReply {Row C : Type 0} (m : Meaning Row C (Reply Row)) (handle : Op
   pub history : List (Entry C (Reply Row))
   pub legal : IsLegal m opening (history ++ entry caller call (Refused refusal) ∷ [])
 
--- what else may stop a command: its ledger's reply, want of memory, or a fault of the writer
+-- a command that takes memory: it makes a task, a resource, an operation or a waker, records a poll, or writes a line. Where a task
+-- that is named would have a number that no id has, the answer is the same
+abbrev pub TakesMemory : Said → Type 0
+TakesMemory (task at kind name) = Unit {0}
+TakesMemory (clone n) = Unit {0}
+TakesMemory (again n) = Unit {0}
+TakesMemory (resource at kind concrete attrs) = Unit {0}
+TakesMemory (op at r source attrs) = Unit {0}
+TakesMemory (op_task n t) = last_number < t
+TakesMemory (poll_op r o t name ready) = Unit {0}
+TakesMemory (publish moment whole) = Unit {0}
+TakesMemory s = ⊥
+
+-- what else may stop a command: its ledger's reply, want of memory where it takes some, or a fault of the writer
 abbrev pub MayFail : Course → Said → Stop → Type 0
-MayFail c s Memory = Unit {0}
+MayFail c s Memory = TakesMemory s
 MayFail c (publish moment whole) WriteFault = Unit {0}
 MayFail c (clone n) (Call HandlesSpent) = IsReply task_meaning (live_item n c.names.tasks) CloneWaker HandlesSpent
 MayFail c (again n) (Call HandlesSpent) = IsReply task_meaning (live_item n c.names.wakers) CloneWaker HandlesSpent
@@ -160,10 +179,10 @@ Closes answers b = ((0 < length b.first) × answers 1 false) ⊎ ((0 < length b.
 
 -- why threads aren't joined: want of memory, one that couldn't be started, or a gate
 abbrev pub EndsIn : Type 0 → Stop → Type 0
-EndsIn Closed Memory = Unit {0}
-EndsIn Closed NoThread = Unit {0}
-EndsIn Closed Stopped = Closed
-EndsIn Closed stop = ⊥
+EndsIn Halts Memory = Unit {0}
+EndsIn Halts NoThread = Unit {0}
+EndsIn Halts Stopped = Halts
+EndsIn Halts stop = ⊥
 
 -- what else may stop a line outside blocks. What is no command may need memory before that shows
 abbrev pub MayFailOutside : Course → Line → Stop → Type 0

@@ -32,6 +32,15 @@ pub(crate) fn take_seat<H: Drop>(seats: &mut Vec<Option<H>>, number: u64) -> Opt
     seats.get_mut(index)?.take()
 }
 
+/// Lets the handle of a number go, if it was made and is not spent.
+pub(crate) fn empty_seat<H: Drop>(seats: &mut Vec<Option<H>>, number: u64)
+    ensures { seats.new.items ≡ with_item number None seats.old.items }
+{
+    if let Some(seat) = seats.get_mut(number.saturating_sub(1) as usize) {
+        *seat = None;
+    }
+}
+
 /// Puts a handle back.
 pub(crate) fn put_seat<H: Drop>(seats: &mut Vec<Option<H>>, number: u64, handle: H)
     requires { (1 ≤ number) × (number - 1 < length seats.old.items) }

@@ -179,6 +179,15 @@ abbrev pub said_by : List (List ℕ) → Option Said
 said_by [] = None
 said_by (w ∷ words) = if bytes_eq w (codes "resource") then resource_by words else if bytes_eq w (codes "op") then op_by words else option_or (task_said w words) (option_or (waker_said w words) (option_or (resource_call_said w words) (option_or (op_call_said w words) (if bytes_eq w (codes "pollop") then poll_op_by words else line_command w words))))
 
+-- words that declare attributes
+abbrev pub declares : List (List ℕ) → Bool
+declares [] = false
+declares (w ∷ words) = if bytes_eq w (codes "resource") then true else bytes_eq w (codes "op")
+
+-- a line that declares attributes
+abbrev pub is_declaring : List ℕ → Bool
+is_declaring line = declares (pieces_at 32 line)
+
 -- what a line says: its words stand between single spaces
 abbrev pub said : List ℕ → Option Said
 said line = said_by (pieces_at 32 line)

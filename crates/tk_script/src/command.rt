@@ -1,5 +1,5 @@
 //! What a line of a script says.
-ghost use Rattle.std.specs.Prelude.{◌≡◌, IfOk, IfSome, option_map};
+ghost use Rattle.std.specs.Prelude.{◌≡◌, IfErr, IfOk, IfSome, option_map, true};
 ghost use Rattle.tk_script.specs.Pieces.{pieces_left};
 ghost use Rattle.tk_script.specs.Commands as spec;
 
@@ -408,10 +408,11 @@ fn line_command<'a>(word: &[u8], words: Pieces<'a>) -> Option<Command<'a>>
 
 /// The command that a line of text says, if it says one: its words between single spaces.
 ///
-/// The error is want of memory, for the attributes that it declares.
+/// The error is want of memory, where it declares attributes.
 pub fn command_of<'a>(alloc: Global, line: &'a [u8]) -> Result<Option<Command<'a>>, AllocError>
     ensures said { IfOk result (λ o. option_map spec.view o ≡ spec.said line.now) }
     ensures good { IfOk result (λ o. IfSome o (λ c. spec.IsGood (spec.view c))) }
+    ensures memory { IfErr result (λ e. spec.is_declaring line.now ≡ true) }
 {
     let mut words = Pieces::new(line, b' ');
     let Some(word) = words.next() else {

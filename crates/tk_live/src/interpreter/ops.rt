@@ -1,6 +1,7 @@
 //! Async operations, and the calls of their owners.
-ghost use Rattle.std.specs.Prelude.{◌≡◌, ◌≤◌, IfOk, IfErr, OnOk, None};
+ghost use Rattle.std.specs.Prelude.{◌≡◌, ◌<◌, ◌≤◌, IfOk, IfErr, OnOk, None};
 ghost use Rattle.tk_ids.specs.Ids.{id_of};
+ghost use Rattle.tk_ids.specs.IdBlocks.{last_number};
 ghost use Rattle.tk_core.specs.declared.op.call.OpCall.TheVariants.{Attr};
 ghost use Rattle.tk_core.specs.declared.reply.Reply.TheVariants.{Done};
 ghost use Rattle.tk_core.specs.declared.reply.Reply.TheVariants.{Refused as NotDone};
@@ -28,7 +29,8 @@ fn resource_id(number: u64) -> Result<ResourceId, IdError>
 // The id of the task of this number.
 fn task_id(number: u64) -> Result<TaskId, IdError>
     requires { 1 ≤ number }
-    ensures { IfOk result (λ id. id ≡ id_of 1 number) }
+    ensures ok { IfOk result (λ id. id ≡ id_of 1 number) }
+    ensures err { IfErr result (λ e. last_number < number) }
 {
     IdBlock::resume(1, number - 1, 0, 0)?.next_task()
 }

@@ -9,7 +9,7 @@ ghost use Rattle.tk_live.specs.Course as course;
 
 use super::Interpreter;
 use super::tasks::place_of;
-use crate::seats::{put_seat, take_seat};
+use crate::seats::{empty_seat, is_made, put_seat, take_seat};
 use std::alloc::Global;
 use std::sync::Wait;
 use tk_core::{AttrOp, Refusal};
@@ -99,7 +99,7 @@ impl Interpreter {
         }
     }
 
-    // A resource is closed, which spends its owner. Its user stays.
+    // A resource is closed, which spends its owner. Its user makes no call from then on, and is let go.
     pub(super) fn close_resource<R: Wait>(
         &mut self,
         rt: &R,
@@ -112,6 +112,7 @@ impl Interpreter {
             return Err(Stop::NoSuchItem);
         };
         owner.close(rt, moment);
+        empty_seat(&mut self.users, resource);
         Ok(())
     }
 
@@ -125,8 +126,11 @@ impl Interpreter {
     ) -> Result<(), Stop>
         ensures { (line : ℕ) → Does line (said.change_resource resource index op) self.old self.new result }
     {
-        let Some(mut user) = take_seat(&mut self.users, resource) else {
+        if !is_made(&self.users, resource) {
             return Err(Stop::NoSuchItem);
+        }
+        let Some(mut user) = take_seat(&mut self.users, resource) else {
+            return Err(Stop::Call(Refusal::Closed));
         };
         match change(rt, &mut user, index, op) {
             Ok(()) => {

@@ -1,7 +1,8 @@
 use Rattle.std.proofs.Common.{◌≡◌, true, false, Some, None, sym, ap, ◌∙◌}
 use Rattle.std.specs.Prelude.{option_map}
 use Rattle.tk_script.specs.Commands.{view, said, block_said, block_line, is_skipped}
-use Rattle.tk_live.proofs.Blocks.{open_some, open_none, said_came, block_came, skipped_came, refused, lacked, bad_came, line_is_block, line_is_said}
+use Rattle.tk_script.specs.Pieces.{pieces_at}
+use Rattle.tk_live.proofs.Blocks.{open_some, open_none, said_came, block_came, skipped_came, refused, declared_takes, lacked, bad_came, line_is_block, line_is_said}
 use Rattle.tk_live.proofs.script.run_line.Goals as goal
 
 pub returns-then-is_skipped : goal.returns-then-is_skipped
@@ -29,7 +30,8 @@ returns-in_default-command_of g c settings k kept sent stands was =
     let counts : is_skipped c.args.line.now ≡ false = sym c.if-is_skipped.ensures in
     let none : block_said c.args.line.now ≡ None = sym c.block_said.ensures ∙ ap (option_map block_line) c.in_default.is in
     let closed = open_none c.args.block.now k was c.if-is_some.ensures in
-    rw (line_is_said c.args.line.now counts none) (lacked (g.G.Gate.answers c.args.gate.now) c.args.number settings k kept sent c.args.interpreter.now c.args.block.now (g.W.Write.contents c.args.writer.now) (said c.args.line.now) closed stands)
+    rw (line_is_said c.args.line.now counts none) (lacked (g.G.Gate.answers c.args.gate.now) c.args.number settings k kept sent c.args.interpreter.now c.args.block.now (g.W.Write.contents c.args.writer.now) (said c.args.line.now)
+    (λ s told. declared_takes (pieces_at 32 c.args.line.now) s c.in_default-command_of.ensures.memory told) closed stands)
 
 pub returns-in-Some-said : goal.returns-in-Some-said
 returns-in-Some-said g c settings k kept sent stands was =

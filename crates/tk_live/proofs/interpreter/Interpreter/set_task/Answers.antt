@@ -22,7 +22,7 @@ returns g c line settings k kept sent stands =
     let e = c.set_task.ensures in
     let told : live_item n k.names.ops ≡ Some (owner_of owner) = told_live owner_of n i.ops.items k.names.ops c.take_seat.result owner stands.holds.ops_are c.take_seat.ensures.taken c.in-Some.is in
     let t_is = told_made owner_of t i.tasks.items k.names.tasks stands.holds.tasks_are ∙ sym c.if-not-is_made.ensures.made in
-    let called = owner_called op_meaning owner c.set_task.new.self e.id (SetTask c.in-Ok.id) Done e.caller e.entry refl ∙ ap (λ x. and_call (SetTask x) (owner_of owner)) c.in-Ok.ensures in (
+    let called = owner_called op_meaning owner c.set_task.new.self e.id (SetTask c.in-Ok.id) Done e.caller e.entry refl ∙ ap (λ x. and_call (SetTask x) (owner_of owner)) c.in-Ok.ensures.ok in (
       is_there _ _ t_is ∙ ap (λ o. if_there o None) told,
       [],
       on_handles i _ settings k (op_called n (SetTask (id_of 1 t)) k.names) kept sent stands refl (record {
@@ -51,3 +51,7 @@ returns-in_default g c line settings k kept sent stands =
     let t_is = told_made owner_of c.args.task i.tasks.items k.names.tasks stands.holds.tasks_are ∙ sym c.if-not-is_made.ensures.made in
     let told : live_item n k.names.ops ≡ None = told_of owner_of n i.ops.items k.names.ops c.take_seat.result stands.holds.ops_are c.take_seat.ensures.taken ∙ ap (option_map owner_of) c.in_default.is in
     (inl (is_there _ _ t_is ∙ ap (λ o. if_there o None) told), rests _ settings k line (said.op_task n c.args.task) kept sent stands.keeps)
+
+pub returns-in_default-task_id : goal.returns-in_default-task_id
+returns-in_default-task_id g c line settings k kept sent stands =
+    (inr c.in_default-task_id.ensures.err, rests _ settings k line (said.op_task c.args.op c.args.task) kept sent stands.keeps)
