@@ -5,7 +5,7 @@
 #
 # tests/watch/check_frames.py compares what screens show with the stream, which it reads by itself. In the terminal a stream comes line by
 # line: each screen is drawn over the one before, the terminal is as it was at the end and after an interrupt, and its size, its kind and
-# NO_COLOR are heard. A line that comes right after a screen is drawn though nothing follows it. Then each word ends without a fault's line
+# NO_COLOR are heard. Keys sort, pause, choose a task and quit. A line that comes right after a screen is drawn though nothing follows it. Then each word ends without a fault's line
 # where its reader goes away, and `view` shows what came till an interrupt.
 #
 # tmux is Debian's. Where it is missing it is installed by apt-get; where it can't be, that is said and its steps skipped, or with CI=true
@@ -179,6 +179,11 @@ shows() {
     capture | grep -q "$1"
 }
 
+# Keys as tmux names them.
+press() {
+    tmux -S "$work/tmux$terminals" send-keys -t watched "$@"
+}
+
 # Each has a server of its own, since one that is still ending takes no session.
 open_terminal() {
     terminals=$((terminals + 1))
@@ -236,6 +241,62 @@ is_sane_after_interrupt() {
     return "$1"
 }
 
+# Watches the stream at keys, in a terminal whose settings are kept. Its lines come with a pause after each.
+open_keys() {
+    open_terminal 120 40 && type_line "stty -g > before; feed '$stream' $1 | '$root/taskscope' watch --keys; stty -g > after; $ends" &&
+        await shows '^sorted by busy  ? shows the keys'
+}
+
+is_sorted_by() {
+    capture > "$work/screen" && check_frames keyed "$stream" "$work/screen" "$1"
+}
+
+sorts_and_quits() {
+    open_keys 0.01 && await is_sorted_by busy && press w && await is_sorted_by wakes && press o && await is_sorted_by self-wakes && press q &&
+        await shows '^ended' && keeps_settings
+    set -- $?
+    close_terminal
+    return "$1"
+}
+
+# What the screen shows stays the same for a second.
+stays() {
+    capture > "$work/screen" && sleep 1 && capture | cmp -s - "$work/screen"
+}
+
+line_moves() {
+    [ "$(capture | sed -n 2p)" != "$(sed -n 2p "$work/screen")" ]
+}
+
+pauses() {
+    open_keys 0.2 && press Space && await shows '^sorted by busy  paused' && stays && press s && await shows '^sorted by sched  paused' && stays &&
+        press Space && await shows '^sorted by sched  ?' && await line_moves && press q && await shows '^ended' && keeps_settings
+    set -- $?
+    close_terminal
+    return "$1"
+}
+
+# Whether all that is told of this task stands on the screen.
+tells_of() {
+    capture | grep -q "^TASK $1$"
+}
+
+shows_the_chosen() {
+    open_keys 0.01 && await is_sorted_by busy && chosen=$(sed -n 's/^> *\([0-9.]*\) .*/\1/p' "$work/screen") && press Enter && await tells_of "$chosen" &&
+        press Enter && await is_sorted_by busy && press j && below=$(sed -n '/^>/{n;s/^ *\([0-9.]*\) .*/\1/p;}' "$work/screen") && await shows "^> *$below " &&
+        press Enter && await tells_of "$below" && press '?' && await shows '^KEY ' && press q && await shows '^ended' && keeps_settings
+    set -- $?
+    close_terminal
+    return "$1"
+}
+
+is_sane_after_interrupted_keys() {
+    open_keys 0.1 && press C-c && await shows '^ended' && keeps_settings
+    set -- $?
+    close_terminal
+    return "$1"
+}
+
 # Keeps what is drawn on the terminal, where a variable is set so.
 draw_with() {
     open_terminal 100 24 && tmux -S "$work/tmux$terminals" pipe-pane -t watched "cat > '$work/drawn'" &&
@@ -281,6 +342,10 @@ if has_tmux || { install_tmux && has_tmux; }; then
     step "a stream that comes line by line, in a terminal: each screen is drawn over the one before" redraws_in_place
     step "a terminal of 60 by 8" is_cut
     step "an interrupt leaves the terminal as it was" is_sane_after_interrupt
+    step "keys sort, and quit" sorts_and_quits
+    step "a key pauses, and goes on" pauses
+    step "keys choose a task, of which all is shown" shows_the_chosen
+    step "an interrupt of a watch at keys leaves the terminal as it was" is_sane_after_interrupted_keys
     step "colors, unless NO_COLOR is set" hears_no_color
     step "text, where TERM is dumb" hears_dumb
     step "view shows what came till an interrupt" shows_what_came

@@ -6,6 +6,7 @@
     check_frames.py rising STREAM FRAMES              each screen is of a line after that of the one before, and the last of all lines
     check_frames.py last STREAM FRAMES LINES          the last screen is of so many lines
     check_frames.py terminal STREAM SCREEN COLUMNS LINES   a terminal of this size shows the screen of all lines, cut to it
+    check_frames.py keyed STREAM SCREEN COLUMN        a terminal shows all lines, its tasks sorted by a key
 """
 
 import os
@@ -132,7 +133,15 @@ def check_terminal(stream, path, columns, lines):
     same(shown, tasks_of(tables)[: len(shown)])
 
 
-CHECKS = {"sorted": check_sorted, "some": check_some, "rising": check_rising, "last": check_last, "terminal": check_terminal}
+def check_keyed(stream, path, column):
+    tables = Tables(stream)
+    with open(path, encoding="ascii") as file:
+        screen = [line.removeprefix(">") for line in file.read().split("\n")]
+    same(screen[:2], [f"sorted by {column}  ? shows the keys", head(tables)])
+    same(shown_tasks(screen), tasks_of(tables, column)[:20])
+
+
+CHECKS = {"keyed": check_keyed, "sorted": check_sorted, "some": check_some, "rising": check_rising, "last": check_last, "terminal": check_terminal}
 
 if len(sys.argv) < 4 or sys.argv[1] not in CHECKS:
     sys.exit(__doc__)

@@ -1,5 +1,5 @@
 -- What was done where nothing could be.
-use Rattle.std.proofs.Common.{◌≡◌, [], List, ℕ, Option, Some, None, Err, sym, refl}
+use Rattle.std.proofs.Common.{◌≡◌, [], List, ℕ, Bool, true, false, Option, Some, None, Err, sym, refl}
 use Rattle.std.specs.Borrow.{Bor}
 use Rattle.std.specs.Io.KnownBytes.{Appends}
 use Rattle.std.proofs.lemmas.List.{append-nil}
@@ -7,10 +7,12 @@ use Rattle.tk_fault.specs.declared.fault.AppFault.TheVariants as faults
 use Rattle.tk_screen.specs.declared.canvas.Canvas.{Canvas}
 use Rattle.tk_metrics.specs.Places.{Texts}
 use Rattle.tk_metrics.proofs.KeepLemmas.{none_put}
+use Rattle.tk_watch.proofs.KeyLemmas.{none_came}
 use Rattle.tk_watch.proofs.WatchLemmas.{none_drawn}
-use Rattle.taskscope.specs.Program.{Does, MeasuresTo, filter_text, screen_by}
+use Rattle.taskscope.specs.Program.{Does, MeasuresTo, WatchesAtKeys, WatchesBy, filter_text, screen_by}
 use Rattle.taskscope.specs.declared.command_line.MetricsOptions.{MetricsOptions}
 use Rattle.taskscope.specs.declared.command_line.Request.{Request}
+use Rattle.taskscope.specs.declared.command_line.WatchOptions.{WatchOptions}
 use Rattle.taskscope.specs.declared.command_line.Request.TheVariants.{Demo, Metrics, Page, Run, Show, Watch}
 
 -- nothing was written
@@ -35,6 +37,33 @@ none_measured (Some path) options given known texts status told = (
   refl,
 )
 
+abbrev some_text : List ℕ → Bor (List ℕ)
+some_text text = record { ref_ptr = (0, 0); now = text }
+
+-- nothing came of keys and of a stream
+pub none_heard : (options : WatchOptions) (text : List ℕ) (terminal : Canvas) (known : Option (List ℕ)) (status : ℕ) → status ≡ 1
+    → WatchesAtKeys options text terminal known known status
+none_heard options text terminal known status told = record {
+  outcome = Err faults.Memory;
+  told = told;
+  part = some_text text;
+  is_text = refl;
+  given = None;
+  left = None;
+  watches = none_came (screen_by options (some_text text) terminal) None known;
+}
+
+none_watched : (keys : Bool) (options : WatchOptions) (text : List ℕ) (terminal : Canvas) (given known : Option (List ℕ)) (status : ℕ) → status ≡ 1
+    → WatchesBy keys options text terminal given given known known status
+none_watched true options text terminal given known status told = none_heard options text terminal known status told
+none_watched false options text terminal given known status told = record {
+  outcome = Err faults.Memory;
+  told = told;
+  part = some_text text;
+  is_text = refl;
+  watches = none_drawn (screen_by options (some_text text) terminal) given known;
+}
+
 -- without memory nothing is read or written, whatever is asked for
 pub nothing_done : (terminal : Canvas) (filter to : Option (List ℕ)) (request : Request) (given known : Option (List ℕ)) (texts : Option Texts) (status : ℕ) → status ≡ 1
     → Does terminal filter to request given given known known texts texts status
@@ -57,15 +86,7 @@ nothing_done terminal filter to (Page lints) given known texts status told = rec
   pages = tt;
   unwritten = λ other. refl;
 }
-nothing_done terminal filter to (Watch options) given known texts status told =
-    let part : Bor (List ℕ) = record { ref_ptr = (0, 0); now = filter_text filter } in
-    record {
-      outcome = Err faults.Memory;
-      told = told;
-      part = part;
-      is_text = refl;
-      watches = none_drawn (screen_by options part terminal) given known;
-    }
+nothing_done terminal filter to (Watch options) given known texts status told = none_watched options.keys options (filter_text filter) terminal given known status told
 nothing_done terminal filter to (Metrics options) given known texts status told = none_measured to options given known texts status told
 nothing_done terminal filter to Demo given known texts status told = record {
   outcome = Err faults.Memory;

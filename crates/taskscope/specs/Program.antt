@@ -1,5 +1,5 @@
 -- What a run of the program does with a script, with a stream, and for the demo.
-use Rattle.std.specs.Prelude.{◌≡◌, ◌==◌, ℕ, Bool, true, List, [], Option, Some, None, Result, Ok, Err, IfErr, if◌then◌else◌, unwrap_or}
+use Rattle.std.specs.Prelude.{◌≡◌, ◌==◌, ℕ, Bool, true, false, List, [], Option, Some, None, Result, Ok, Err, IfErr, if◌then◌else◌, unwrap_or}
 use Rattle.std.specs.Borrow.{Bor}
 use Rattle.std.specs.Io.KnownBytes.{Appends}
 use Rattle.tk_client.specs.Warnings.{LintsView}
@@ -13,6 +13,7 @@ use Rattle.tk_report.specs.Views.{IsOfWriter, Views}
 use Rattle.tk_fault.specs.declared.fault.AppFault.{AppFault}
 use Rattle.tk_screen.specs.declared.canvas.Canvas.{Canvas}
 use Rattle.tk_screen.specs.declared.canvas.Canvas.TheVariants.{Plain}
+use Rattle.tk_watch.specs.Keyed.{Coming, WatchesKeys}
 use Rattle.tk_watch.specs.Watches.{Watches}
 use Rattle.tk_watch.specs.declared.drawing.Screen.{Screen}
 use Rattle.tk_report.specs.declared.view.View.{View}
@@ -92,6 +93,21 @@ pub record WatchesStream (options : WatchOptions) (text : List ℕ) (terminal : 
   pub is_text : part.now ≡ text
   pub watches : Watches (screen_by options part terminal) given left outcome old new
 
+-- some stream is watched by whoever presses the terminal's keys, of both of which nothing is known, and the status tells the outcome
+pub record WatchesAtKeys (options : WatchOptions) (text : List ℕ) (terminal : Canvas) (old new : Option (List ℕ)) (status : ℕ) : Type 0 where
+  pub outcome : Result (Unit {0}) AppFault
+  pub told : status ≡ status_of outcome
+  pub part : Bor (List ℕ)
+  pub is_text : part.now ≡ text
+  pub given : Option (List Coming)
+  pub left : Option (List Coming)
+  pub watches : WatchesKeys (screen_by options part terminal) given left outcome old new
+
+-- a stream is watched, at keys or without
+abbrev pub WatchesBy : Bool → WatchOptions → List ℕ → Canvas → Option (List ℕ) → Option (List ℕ) → Option (List ℕ) → Option (List ℕ) → ℕ → Type 0
+WatchesBy true options text terminal given left old new status = WatchesAtKeys options text terminal old new status
+WatchesBy false options text terminal given left old new status = WatchesStream options text terminal given left old new status
+
 -- a stream is read and its numbers are written, and the status tells the outcome
 pub record MeasuresStream (options : MetricsOptions) (given left old new : Option (List ℕ)) (status : ℕ) : Type 0 where
   pub outcome : Result (Unit {0}) AppFault
@@ -129,7 +145,7 @@ abbrev pub Does : Canvas → Option (List ℕ) → Option (List ℕ) → Request
 Does terminal filter to Run given left old new before after status = RunsScript given old new status
 Does terminal filter to (Show view lints) given left old new before after status = ViewsStream view lints given left old new status
 Does terminal filter to (Page lints) given left old new before after status = PagesStream lints given left old new status
-Does terminal filter to (Watch options) given left old new before after status = WatchesStream options (filter_text filter) terminal given left old new status
+Does terminal filter to (Watch options) given left old new before after status = WatchesBy options.keys options (filter_text filter) terminal given left old new status
 Does terminal filter to (Metrics options) given left old new before after status = MeasuresTo to options given left old new before after status
 Does terminal filter to Demo given left old new before after status = ShowsDemo given left old new status
 

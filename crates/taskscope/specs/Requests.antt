@@ -75,7 +75,8 @@ abbrev pub watch_command : App
 watch_command =
     let slow = with_rule shows_command (number_option (codes "every") (codes "100") 3600000) in
     let followed = with_rule slow (flag_option (codes "follow")) in
-    with_rule followed (flag_option (codes "plain"))
+    let keyed = with_rule followed (flag_option (codes "keys")) in
+    with_rule keyed (flag_option (codes "plain"))
 
 -- the command that writes numbers, or keeps them in a file
 abbrev pub metrics_command : App
@@ -178,6 +179,7 @@ watch_by sort options = record {
   rows = number_or 20 (codes "rows") options;
   resources = flag_at (codes "resources") options;
   plain = flag_at (codes "plain") options;
+  keys = flag_at (codes "keys") options;
   every = number_or 100 (codes "every") options;
   follow = flag_at (codes "follow") options;
   lints = lints_or_plain options;
@@ -295,6 +297,7 @@ plain_watch = record {
   rows = 20;
   resources = false;
   plain = false;
+  keys = false;
   every = 100;
   follow = false;
   lints = plain_lints;
@@ -303,6 +306,11 @@ plain_watch = record {
 -- which numbers are asked for where no option is given
 abbrev pub plain_metrics : MetricsOptions
 plain_metrics = record { by = Name; every = 10; follow = false; lints = plain_lints }
+
+-- the watch at keys that is asked for, if one is
+abbrev pub at_keys : Request → Option WatchOptions
+at_keys (Watch options) = if options.keys then Some options else None
+at_keys other = None
 
 -- the words ask for help, and make no mistake
 abbrev pub AsksForHelp : List (List ℕ) → Type 0

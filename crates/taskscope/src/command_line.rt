@@ -58,6 +58,8 @@ pub(crate) struct WatchOptions {
     pub resources: bool,
     /// Whether screens are text, also on a terminal.
     pub plain: bool,
+    /// Whether the terminal's keys are heard.
+    pub keys: bool,
     /// How many milliseconds lie between two screens at least.
     pub every: u64,
     /// Whether more may come once the stream has ended.
@@ -191,6 +193,10 @@ Tasks can be sorted by these columns:
   wakes       how often they were woken
   self-wakes  how often they woke themselves
 
+With `--keys` whoever sits at the terminal sorts by another column, pauses, looks at one task, and quits: `?` shows the
+keys. They come one by one where `./taskscope` has set the terminal's mode, which is as before once it ends. At the end
+of the stream the last screen then stays until `q`.
+
 A last line of the stream without its line end is ignored. At a fault the screen of what stood before it is drawn.";
 
 const METRICS_ABOUT: &str =
@@ -254,6 +260,10 @@ const EVERY_HELP: &str = "Draws no two screens within so many milliseconds";
 const FOLLOW: &str = "follow";
 
 const FOLLOW_HELP: &str = "Goes on at the end of the stream, as a file grows";
+
+const KEYS: &str = "keys";
+
+const KEYS_HELP: &str = "Hears the terminal's keys: `?` tells which there are";
 
 const PLAIN: &str = "plain";
 
@@ -390,8 +400,15 @@ fn watch_command<'a>(alloc: Global) -> Result<Command<'a>, Error>
 {
     let every = number_arg(alloc, EVERY, EVERY_HELP, "100", 3_600_000);
     let follow = flag_arg(alloc, FOLLOW, FOLLOW_HELP);
+    let keys = flag_arg(alloc, KEYS, KEYS_HELP);
     let plain = flag_arg(alloc, PLAIN, PLAIN_HELP);
-    Ok(shows_command(alloc)?.arg(every)?.arg(follow)?.arg(plain)?)
+    Ok(
+        shows_command(alloc)?
+            .arg(every)?
+            .arg(follow)?
+            .arg(keys)?
+            .arg(plain)?,
+    )
 }
 
 // The numbers of a stream, and the file that they are kept in.
@@ -557,6 +574,7 @@ fn watch_by(sort: Column, options: &ArgMatches) -> WatchOptions
         rows: number_or(options, ROWS, 20),
         resources: flag_at(options, RESOURCES),
         plain: flag_at(options, PLAIN),
+        keys: flag_at(options, KEYS),
         every: number_or(options, EVERY, 100),
         follow: flag_at(options, FOLLOW),
         lints: lints_or_plain(options),

@@ -32,7 +32,7 @@ fn main(rt: HostRuntime) -> ExitCode {
             rt.alloc(),
             words.as_slice(),
             terminal_of(&rt, rt.stdout().is_terminal()),
-            &mut rt.reader(),
+            &mut rt.stdin(),
             &mut output,
             &mut WholeFiles::new(&rt, rt.alloc()),
             &mut faults,

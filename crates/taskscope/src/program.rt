@@ -2,22 +2,24 @@
 ghost use Rattle.std.specs.Prelude.{◌≡◌, ◌≢◌, ◌≤◌, ◌⊎◌, true, [], codes, IsSome, None};
 ghost use Rattle.std.specs.Option.{option_map};
 ghost use Rattle.clap.specs.Values.{kind_of};
+ghost use Rattle.taskscope.specs.Requests as spec;
 ghost use Rattle.taskscope.specs.Requests.{AsksForFile, AsksForHelp, AsksForInput, IsMistake, IsPlain, asked, filter_of, is_mistake, plain_lints, plain_metrics, plain_watch, refusals, texts, to_of};
-ghost use Rattle.taskscope.specs.Program.{Does, DoesOfFile, KeepsStream, WatchesStream, filter_text, page_status, screen_by, status_at, status_of, view_status};
+ghost use Rattle.taskscope.specs.Program.{Does, DoesOfFile, KeepsStream, WatchesAtKeys, WatchesStream, filter_text, page_status, screen_by, status_at, status_of, view_status};
 
 use crate::command_line::{Call, MetricsOptions, Request, WatchOptions, call_of};
 use clap::Error;
 use clap::error::ErrorKind;
 use std::alloc::{AllocGlobal, Global};
-use std::fs;
 use std::io::{ErrorKind as IoErrorKind, Read, Write};
 use std::random::RandomSource;
 use std::rt::Files;
 use std::sync::Wait;
 use std::thread::Threads;
 use std::time::Clock;
+use std::{fs, io};
 use tk_app::{AppFault, Open, View, demo, run_script, view_stream};
 use tk_frame::Query;
+use tk_keys::watch_terminal;
 use tk_metrics::{Place, keep_metrics, metrics_stream};
 use tk_pace::Every;
 use tk_page::view_page;
@@ -36,11 +38,22 @@ const USAGE: u8 = 2;
 /// There are warnings, and `lint` has written them.
 const WARNED: u8 = 3;
 
+/// The terminal of whoever has started the program, whatever its input is.
+const KEYBOARD: &str = "/dev/tty";
+
 // A line that can't be written is let go, since the status tells the outcome.
 fn tell_fault<E: Write>(fault: AppFault, faults: &mut E) -> u8
     ensures { result ≡ FAULT }
 {
     let _ = writeln!(faults, "fault: {fault}");
+    FAULT
+}
+
+// What can't be opened is told by its path.
+fn tell_unopened<E: Write>(path: &str, error: io::Error, faults: &mut E) -> u8
+    ensures { result ≡ FAULT }
+{
+    let _ = writeln!(faults, "fault: Read {path}: {error}");
     FAULT
 }
 
@@ -137,6 +150,56 @@ fn watch<R: Clock, I: Read, O: Write, E: Write>(
     )
 }
 
+// The watch at keys that is asked for, if one is.
+fn at_keys(request: &Request) -> Option<WatchOptions>
+    ensures { result ≡ spec.at_keys request.now }
+{
+    match *request {
+        Request::Watch(options) => { if options.keys { Some(options) } else { None } }
+        _ => None,
+    }
+}
+
+// Watches a stream at the terminal's keys, and answers the status.
+fn watch_at_keys<
+    R: Threads + Wait + Clock + Files + Copy + Send + Sync + Drop + 'static,
+    I: Read + Send + Drop + 'static,
+    O: Write,
+    E: Write,
+>(
+    rt: &R,
+    alloc: Global,
+    options: &WatchOptions,
+    filter: &str,
+    terminal: Canvas,
+    stream: I,
+    output: &mut O,
+    faults: &mut E,
+) -> u8
+where
+    R::File: Send + 'static,
+    ensures does { WatchesAtKeys options.now filter.now terminal (O.contents output.old) (O.contents output.new) result }
+    ensures status { result ≤ FAULT }
+{
+    let screen = screen_of(options, filter, terminal);
+    match fs::open(rt, KEYBOARD) {
+        Ok(keys) => tell_outcome(
+            watch_terminal(
+                rt,
+                alloc,
+                stream,
+                options.follow,
+                keys,
+                output,
+                &screen,
+                options.every,
+            ),
+            faults,
+        ),
+        Err(error) => tell_unopened(KEYBOARD, error, faults),
+    }
+}
+
 // Keeps a stream's numbers under a path, and answers the status.
 fn keep<R: Clock, I: Read, P: Place, E: Write>(
     rt: &R,
@@ -165,7 +228,7 @@ fn keep<R: Clock, I: Read, P: Place, E: Write>(
     )
 }
 
-// Does what is asked for, with this filter and terminal for a watch, and this path for numbers, and answers the status.
+// Does what is asked for without keys, with this filter and terminal for a watch, and this path for numbers, and answers the status.
 fn fulfil<
     R: Threads + Wait + Sync + RandomSource + AllocGlobal + Clock,
     I: Read,
@@ -184,6 +247,7 @@ fn fulfil<
     place: &mut P,
     faults: &mut E,
 ) -> u8
+    requires { spec.at_keys request ≡ None }
     ensures does { Does terminal (option_map (λ f. f.now) filter.entry) (option_map (λ p. p.now) to.entry) request
         (I.remaining input.old) (I.remaining input.new) (O.contents output.old) (O.contents output.new) (P.texts place.old) (P.texts place.new) result }
     ensures kept { option_map (λ p. p.now) to.entry ≡ None → place.new ≡ place.old }
@@ -214,9 +278,66 @@ fn fulfil<
     }
 }
 
+// Does what is asked for with the bytes of the input.
+fn fulfil_of_input<
+    R: Threads
+        + Wait
+        + RandomSource
+        + AllocGlobal
+        + Clock
+        + Files
+        + Copy
+        + Send
+        + Sync
+        + Drop
+        + 'static,
+    I: Read + Copy + Send + Drop + 'static,
+    O: Write,
+    P: Place,
+    E: Write,
+>(
+    rt: &R,
+    alloc: Global,
+    request: Request,
+    filter: Option<&str>,
+    to: Option<&str>,
+    terminal: Canvas,
+    input: &mut I,
+    output: &mut O,
+    place: &mut P,
+    faults: &mut E,
+) -> u8
+where
+    R::File: Send + 'static,
+    ensures does { Does terminal (option_map (λ f. f.now) filter.entry) (option_map (λ p. p.now) to.entry) request
+        (I.remaining input.old) (I.remaining input.new) (O.contents output.old) (O.contents output.new) (P.texts place.old) (P.texts place.new) result }
+    ensures kept { option_map (λ p. p.now) to.entry ≡ None → place.new ≡ place.old }
+    ensures status { (result ≤ FAULT) ⊎ (result ≡ WARNED) }
+{
+    match at_keys(&request) {
+        Some(options) => {
+            let text = filter_text(filter);
+            watch_at_keys(rt, alloc, &options, text, terminal, *input, output, faults)
+        }
+        None => fulfil(
+            rt, alloc, request, filter, to, terminal, input, output, place, faults,
+        ),
+    }
+}
+
 // Does what is asked for with the bytes of a file.
 fn fulfil_of_file<
-    R: Threads + Wait + Sync + RandomSource + AllocGlobal + Clock + Files,
+    R: Threads
+        + Wait
+        + RandomSource
+        + AllocGlobal
+        + Clock
+        + Files
+        + Copy
+        + Send
+        + Sync
+        + Drop
+        + 'static,
     O: Write,
     P: Place,
     E: Write,
@@ -232,19 +353,25 @@ fn fulfil_of_file<
     place: &mut P,
     faults: &mut E,
 ) -> u8
+where
+    R::File: Send + 'static,
     ensures does { DoesOfFile terminal (option_map (λ f. f.now) filter.entry) (option_map (λ p. p.now) to.entry) request
         (O.contents output.old) (O.contents output.new) (P.texts place.old) (P.texts place.new) result }
     ensures kept { option_map (λ p. p.now) to.entry ≡ None → place.new ≡ place.old }
     ensures status { (result ≤ FAULT) ⊎ (result ≡ WARNED) }
 {
-    match fs::open(rt, path) {
-        Ok(mut file) => fulfil(
+    let mut file = match fs::open(rt, path) {
+        Ok(file) => file,
+        Err(error) => return tell_unopened(path, error, faults),
+    };
+    match at_keys(&request) {
+        Some(options) => {
+            let text = filter_text(filter);
+            watch_at_keys(rt, alloc, &options, text, terminal, file, output, faults)
+        }
+        None => fulfil(
             rt, alloc, request, filter, to, terminal, &mut file, output, place, faults,
         ),
-        Err(error) => {
-            let _ = writeln!(faults, "fault: Read {path}: {error}");
-            FAULT
-        }
     }
 }
 
@@ -286,8 +413,18 @@ pub(crate) fn refuse_words<E: Write>(kind: IoErrorKind, faults: &mut E) -> u8
 ///
 /// What goes to `faults` is only tested.
 pub(crate) fn run_program<
-    R: Threads + Wait + Sync + RandomSource + AllocGlobal + Clock + Files,
-    I: Read,
+    R: Threads
+        + Wait
+        + RandomSource
+        + AllocGlobal
+        + Clock
+        + Files
+        + Copy
+        + Send
+        + Sync
+        + Drop
+        + 'static,
+    I: Read + Copy + Send + Drop + 'static,
     O: Write,
     P: Place,
     E: Write,
@@ -301,9 +438,11 @@ pub(crate) fn run_program<
     place: &mut P,
     faults: &mut E,
 ) -> u8
+where
+    R::File: Send + 'static,
     // What is asked for is done: a run reads and writes as `run_script` does, a view as `view_stream` does, a page as
-    // `view_page` does, a watch as `watch_stream` does, numbers as `metrics_stream` does, or as `keep_metrics` does where a path is
-    // given, and the demo writes as `demo` does. The status is 1 exactly where there was a fault, and 3 exactly where `lint` found warnings.
+    // `view_page` does, a watch as `watch_stream` does, or as `watch_terminal` does of some stream where keys are heard, numbers as
+    // `metrics_stream` does, or as `keep_metrics` does where a path is given, and the demo writes as `demo` does. The status is 1 exactly where there was a fault, and 3 exactly where `lint` found warnings.
     ensures does { (request : Request) → AsksForInput request (texts words.now)
         → Does terminal (filter_of (texts words.now)) (to_of (texts words.now)) request
         (I.remaining input.old) (I.remaining input.new) (O.contents output.old) (O.contents output.new) (P.texts place.old) (P.texts place.new) result }
@@ -348,7 +487,7 @@ pub(crate) fn run_program<
         Some(path) => fulfil_of_file(
             rt, alloc, request, filter, to, terminal, path, output, place, faults,
         ),
-        None => fulfil(
+        None => fulfil_of_input(
             rt, alloc, request, filter, to, terminal, input, output, place, faults,
         ),
     }

@@ -6,10 +6,12 @@ pub returns-clause-ok : goal.returns-clause-ok
 returns-clause-ok c =
     let every = c.in_ok-arg.ensures.shape c.number_arg-every.ensures.local ∙ ap₂ with_rule c.in_ok-shows_command.ensures.ok c.number_arg-every.ensures.rule in
     let follow = c.in_ok-arg-2.ensures.shape c.flag_arg-follow.ensures.local ∙ ap₂ with_rule every c.flag_arg-follow.ensures.rule in
-    c.in_ok-arg-3.ensures.shape c.flag_arg-plain.ensures.local ∙ ap₂ with_rule follow c.flag_arg-plain.ensures.rule
+    let keys = c.in_ok-arg-3.ensures.shape c.flag_arg-keys.ensures.local ∙ ap₂ with_rule follow c.flag_arg-keys.ensures.rule in
+    c.in_ok-arg-4.ensures.shape c.flag_arg-plain.ensures.local ∙ ap₂ with_rule keys c.flag_arg-plain.ensures.rule
 
 pub returns-clause-local : goal.returns-clause-local
 returns-clause-local c =
     let every = c.in_ok-arg.ensures.globals ∙ ap₂ (λ a b. a || b) c.in_ok-shows_command.ensures.local c.number_arg-every.ensures.local in
     let follow = c.in_ok-arg-2.ensures.globals ∙ ap₂ (λ a b. a || b) every c.flag_arg-follow.ensures.local in
-    c.in_ok-arg-3.ensures.globals ∙ ap₂ (λ a b. a || b) follow c.flag_arg-plain.ensures.local
+    let keys = c.in_ok-arg-3.ensures.globals ∙ ap₂ (λ a b. a || b) follow c.flag_arg-keys.ensures.local in
+    c.in_ok-arg-4.ensures.globals ∙ ap₂ (λ a b. a || b) keys c.flag_arg-plain.ensures.local

@@ -1,7 +1,7 @@
-use Rattle.std.proofs.Common.{None, refl}
+use Rattle.std.proofs.Common.{None}
 use Rattle.std.specs.Option.{option_map}
 use Rattle.taskscope.proofs.Outcomes.{nothing_done}
 use Rattle.taskscope.proofs.program.fulfil_of_file.Goals as goal
 
 pub returns-in-Err-clause-does : goal.returns-in-Err-clause-does
-returns-in-Err-clause-does g c = (None, None, nothing_done c.args.terminal (option_map (λ f. f.now) c.args.filter) (option_map (λ p. p.now) c.args.to) c.args.request None (g.O.Write.contents c.args.output.now) (g.P.Place.texts c.args.place.now) 1 refl)
+returns-in-Err-clause-does g c = (None, None, nothing_done c.args.terminal (option_map (λ f. f.now) c.args.filter) (option_map (λ p. p.now) c.args.to) c.args.request None (g.O.Write.contents c.args.output.now) (g.P.Place.texts c.args.place.now) c.tell_unopened.result c.tell_unopened.ensures)

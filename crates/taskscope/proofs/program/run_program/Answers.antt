@@ -30,10 +30,10 @@ returns-in-None-clause-does g c = λ request asks.
     let same : c.in-Ok.call.request ≡ request = some_is _ _ (sym c.in-Ok.ensures.asked ∙ asks.0.1) in
     let filter = option_map (λ f. f.now) c.in-Ok.call.filter in
     let to = option_map (λ p. p.now) c.in-Ok.call.to in
-    let done = λ (text path : Option (List ℕ)) (r : Request). Does c.args.terminal text path r (g.I.Read.remaining c.args.input.now) (g.I.Read.remaining c.fulfil.new.input)
-    (g.O.Write.contents c.args.output.now) (g.O.Write.contents c.fulfil.new.output) (g.P.Place.texts c.args.place.now) (g.P.Place.texts c.fulfil.new.place) c.fulfil.result in
+    let done = λ (text path : Option (List ℕ)) (r : Request). Does c.args.terminal text path r (g.I.Read.remaining c.args.input.now) (g.I.Read.remaining c.fulfil_of_input.new.input)
+    (g.O.Write.contents c.args.output.now) (g.O.Write.contents c.fulfil_of_input.new.output) (g.P.Place.texts c.args.place.now) (g.P.Place.texts c.fulfil_of_input.new.place) c.fulfil_of_input.result in
     subst (λ path. done (filter_of (texts c.args.words.now)) path request) (sym c.in-Ok.ensures.to)
-    (subst (λ text. done text to request) (sym c.in-Ok.ensures.filter) (subst (done filter to) same c.fulfil.ensures.does))
+    (subst (λ text. done text to request) (sym c.in-Ok.ensures.filter) (subst (done filter to) same c.fulfil_of_input.ensures.does))
 
 pub returns-in-None-clause-file : goal.returns-in-None-clause-file
 returns-in-None-clause-file g c = λ request asks.
@@ -133,7 +133,7 @@ pub returns-in-Err-clause-asks : goal.returns-in-Err-clause-asks
 returns-in-Err-clause-asks g c = taken_words_ask (texts c.args.words.now)
 
 pub returns-in-None-clause-kept : goal.returns-in-None-clause-kept
-returns-in-None-clause-kept g c = λ taken none. c.fulfil.ensures.kept (sym c.in-Ok.ensures.to ∙ none)
+returns-in-None-clause-kept g c = λ taken none. c.fulfil_of_input.ensures.kept (sym c.in-Ok.ensures.to ∙ none)
 
 pub returns-in-Some-clause-kept : goal.returns-in-Some-clause-kept
 returns-in-Some-clause-kept g c = λ taken none. c.fulfil_of_file.ensures.kept (sym c.in-Ok.ensures.to ∙ none)
