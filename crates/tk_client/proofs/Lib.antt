@@ -14,8 +14,5 @@ pub mod LineLemmas
 pub mod WholeLemmas
 pub mod PlaceLemmas
 pub mod AppliedLemmas
-pub mod RiseLemmas
-pub mod MergeLemmas
-pub mod StandingLemmas
-pub mod SortLemmas
+pub mod AbleLemmas
 pub mod LeaveLemmas

@@ -1,5 +1,5 @@
 -- The tasks that can be warned of are those that are warned of.
-use Rattle.std.proofs.Common.{◌≡◌, ℕ, zero, suc, ◌+◌, ◌-◌, ◌*◌, ◌≤◌, List, [], ◌∷◌, ◌++◌, length, take, filter, Bool, true, false, cond, nat_lt, nat_le, nat_eq, Some, slice_get, refl, ap, ap₂, sym, ◌∙◌, append_assoc, arith, add-one, length-append}
+use Rattle.std.proofs.Common.{◌≡◌, ℕ, suc, ◌+◌, ◌-◌, ◌*◌, ◌≤◌, List, [], ◌∷◌, ◌++◌, length, Bool, true, false, cond, nat_lt, nat_le, nat_eq, Some, slice_get, refl, ap, ap₂, sym, ◌∙◌, append_assoc, arith}
 use Rattle.std.specs.Prelude.{flat_map, ◌&&◌, ◌||◌}
 use Rattle.std.specs.Option.{option_map_or}
 use Rattle.std.proofs.lemmas.Bool.{or_parts, le-ltb}
@@ -8,7 +8,7 @@ use Rattle.tk_stream.specs.declared.task.Task.{Task}
 use Rattle.tk_client.specs.declared.warning.Warning.{Warning}
 use Rattle.tk_client.specs.declared.warning.WarningKind.TheVariants.{SelfWakes, LostWaker, NeverYielded}
 use Rattle.tk_client.specs.Warnings.{LintsView, wakes_itself, has_lost_waker, has_never_yielded, is_spawn, warning_if, warnings_of}
-use Rattle.tk_client.specs.Candidates.{can_hold, can_warn, places_by, places_of, listed_at}
+use Rattle.tk_client.specs.Candidates.{can_hold, can_warn, places_by, places_of}
 
 -- without a self-wake there is no share of them that is too large
 no-share : (percent : ℕ) (x : TaskRow) → (nat_lt 0 x.wakes && nat_lt 0 x.self_wakes) ≡ false → wakes_itself percent x ≡ false
@@ -71,65 +71,3 @@ module _ (lints : LintsView) (now : ℕ) where
 
   pub listed : (tasks : List Task) → flat_map (at tasks) (places_of tasks) ≡ flat_map (warnings_of lints now) tasks
   listed tasks = listed-from [] tasks tasks refl
-
--- ---- places listed one after the other, and of fewer items
-
-module _ {X : Type 0} (test : X → Bool) where
-  -- the place of an item, where it passes the test
-  abbrev pub place_at : ℕ → ℕ → List X → List ℕ
-  place_at i p xs = option_map_or (λ x. cond (test x) ((i + p) ∷ []) []) (slice_get xs p) []
-
-  pub places-next : (i : ℕ) (xs : List X) (p : ℕ) → places_by test i (take (suc p) xs) ≡ places_by test i (take p xs) ++ place_at i p xs
-  places-next i [] zero = refl
-  places-next i [] (suc p) = refl
-  places-next i (x ∷ xs) zero = ap (λ n. cond (test x) (n ∷ []) []) (sym (let e : i + 0 ≡ i = omega arith in e))
-  places-next i (x ∷ xs) (suc p) =
-      by (test x) (places-next (suc i) xs p ∙ ap (λ n. places_by test (suc i) (take p xs) ++ option_map_or (λ y. cond (test y) (n ∷ []) []) (slice_get xs p) []) (let e : suc i + p ≡ i + suc p = omega arith in e))
-    where
-      by : (b : Bool) → places_by test (suc i) (take (suc p) xs) ≡ places_by test (suc i) (take p xs) ++ place_at i (suc p) (x ∷ xs)
-          → cond b (i ∷ places_by test (suc i) (take (suc p) xs)) (places_by test (suc i) (take (suc p) xs)) ≡ cond b (i ∷ places_by test (suc i) (take p xs)) (places_by test (suc i) (take p xs)) ++ place_at i (suc p) (x ∷ xs)
-      by true e = ap (λ ps. i ∷ ps) e
-      by false e = e
-
-  -- the first items have no more places than all
-  pub first-fewer : (i : ℕ) (xs : List X) (p : ℕ) → length (places_by test i (take p xs)) ≤ length (places_by test i xs)
-  first-fewer i [] zero = omega arith
-  first-fewer i [] (suc p) = omega arith
-  first-fewer i (x ∷ xs) zero = omega arith
-  first-fewer i (x ∷ xs) (suc p) = by (test x) (first-fewer (suc i) xs p)
-    where
-      by : (b : Bool) → length (places_by test (suc i) (take p xs)) ≤ length (places_by test (suc i) xs)
-          → length (cond b (i ∷ places_by test (suc i) (take p xs)) (places_by test (suc i) (take p xs))) ≤ length (cond b (i ∷ places_by test (suc i) xs) (places_by test (suc i) xs))
-      by true e = omega arith
-      by false e = e
-
-  -- where items leave, there are no more places than before
-  pub left-fewer : (q : X → Bool) (i j : ℕ) (xs : List X) → length (places_by test i (filter q xs)) ≤ length (places_by test j xs)
-  left-fewer q i j [] = omega arith
-  left-fewer q i j (x ∷ xs) = by (q x) (left-fewer q (suc i) (suc j) xs) (left-fewer q i (suc j) xs)
-    where
-      more : (b : Bool) → length (places_by test i (filter q xs)) ≤ length (places_by test (suc j) xs) → length (places_by test i (filter q xs)) ≤ length (cond b (j ∷ places_by test (suc j) xs) (places_by test (suc j) xs))
-      more true f = omega arith
-      more false f = f
-
-      both : (b : Bool) → length (places_by test (suc i) (filter q xs)) ≤ length (places_by test (suc j) xs)
-          → length (cond b (i ∷ places_by test (suc i) (filter q xs)) (places_by test (suc i) (filter q xs))) ≤ length (cond b (j ∷ places_by test (suc j) xs) (places_by test (suc j) xs))
-      both true e = omega arith
-      both false e = e
-
-      by : (a : Bool) → length (places_by test (suc i) (filter q xs)) ≤ length (places_by test (suc j) xs) → length (places_by test i (filter q xs)) ≤ length (places_by test (suc j) xs)
-          → length (places_by test i (cond a (x ∷ filter q xs) (filter q xs))) ≤ length (cond (test x) (j ∷ places_by test (suc j) xs) (places_by test (suc j) xs))
-      by true e f = both (test x) e
-      by false e f = more (test x) f
-
--- one more task that was looked at
-pub listed-next : (tasks : List Task) (p : ℕ) → places_of (take (p + 1) tasks) ≡ places_of (take p tasks) ++ listed_at tasks p
-listed-next tasks p =
-    ap (λ n. places_of (take n tasks)) (add-one p) ∙ places-next can_warn 0 tasks p
-    ∙ ap (λ n. places_of (take p tasks) ++ option_map_or (λ t. cond (can_warn t) (n ∷ []) []) (slice_get tasks p) []) (let e : 0 + p ≡ p = omega arith in e)
-
-pub listed-within : (tasks : List Task) (p count room : ℕ) → count ≡ length (places_of (take p tasks)) → length (places_of tasks) ≤ room → count + length (listed_at tasks p) ≤ room
-listed-within tasks p count room is fits =
-    let next : length (places_of (take (p + 1) tasks)) ≡ length (places_of (take p tasks)) + length (listed_at tasks p) = ap length (listed-next tasks p) ∙ length-append (places_of (take p tasks)) (listed_at tasks p) in
-    let fewer : length (places_of (take (p + 1) tasks)) ≤ length (places_of tasks) = first-fewer can_warn 0 tasks (p + 1) in
-    omega arith

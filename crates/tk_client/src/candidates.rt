@@ -1,5 +1,5 @@
-//! The tasks that can be warned of, by their places in the tables.
-ghost use Rattle.std.specs.Prelude.{◌≡◌, ◌++◌, ◌+◌, ◌≤◌, length, take, IfOk, OnOk};
+//! The tasks that can be warned of, and their warnings.
+ghost use Rattle.std.specs.Prelude.{◌≡◌, ◌++◌, IfOk, OnOk};
 ghost use Rattle.tk_client.specs.Candidates as spec;
 ghost use Rattle.tk_client.specs.Warnings.{warnings_in};
 
@@ -20,48 +20,6 @@ pub(crate) fn can_warn(task: &Task) -> bool
     ensures { result ≡ spec.can_warn task.now }
 {
     is_spawn(task.info.kind) && can_hold(&task.row)
-}
-
-// Writes the place of a task that can be warned of behind the first so many, and answers how many there are then.
-fn list_at(places: &mut [usize], count: usize, tables: &Tables, place: usize) -> usize
-    requires { count + length (spec.listed_at tables.now.tasks place) ≤ length places.old }
-    ensures listed { take result places.new ≡ take count places.old ++ spec.listed_at tables.now.tasks place }
-    ensures count { result ≡ count + length (spec.listed_at tables.now.tasks place) }
-    ensures len { length places.new ≡ length places.old }
-{
-    match tables.task_at(place) {
-        Some(task) => {
-            if can_warn(task) {
-                places[count] = place;
-                count + 1
-            } else {
-                count
-            }
-        }
-        None => count,
-    }
-}
-
-// Writes the places of the tasks that can be warned of over others that are as many or more. It answers how many there are.
-fn write_all(places: &mut [usize], tables: &Tables) -> usize
-    requires { length (spec.places_of tables.now.tasks) ≤ length places.old }
-    ensures { take result places.new ≡ spec.places_of tables.now.tasks }
-{
-    let mut count = 0;
-    let tasks = tables.task_count();
-    for place in 0..tasks {
-        count = list_at(places, count, tables, place);
-    }
-    count
-}
-
-/// Lists the places of the tasks that can be warned of anew, by a walk through all tasks, where there were as many or more.
-pub(crate) fn list_all(places: &mut Vec<usize>, tables: &Tables)
-    requires { length (spec.places_of tables.now.tasks) ≤ length places.old.items }
-    ensures { places.new.items ≡ spec.places_of tables.now.tasks }
-{
-    let count = write_all(places, tables);
-    places.truncate(count);
 }
 
 // Adds the warnings of the task at a place.

@@ -7,9 +7,9 @@
 //! - [`laws`]: what holds of the definitions by themselves.
 #![tactic(auto)]
 
+mod able;
 mod attrs;
 mod candidates;
-mod changes;
 mod client;
 mod counts;
 mod fault;

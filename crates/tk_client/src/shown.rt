@@ -8,13 +8,14 @@ ghost use Rattle.tk_client.specs.Taking.{line_applied};
 ghost use Rattle.tk_client.specs.Told.{Answers};
 ghost use Rattle.tk_client.specs.Warnings.{warnings_in};
 
-use crate::candidates::{list_all, warnings_of_places};
-use crate::changes::{list_changes, relist};
+use crate::able::{places_of, relist, unlist};
+use crate::candidates::warnings_of_places;
 use crate::fault::Fault;
 use crate::leaving::Leaving;
 use crate::lints::Lints;
 use crate::taking::apply_told;
 use crate::warning::Warning;
+use indexmap::IndexSet;
 use std::alloc::{AllocError, Global};
 use std::marker::Model;
 use tk_ids::Dropped;
@@ -24,15 +25,13 @@ use tk_stream::{Line, Tables};
 #[derive(Drop)]
 pub(crate) struct Shown {
     tables: Tables,
-    // The places of the tasks that can be warned of, rising.
-    places: Vec<usize>,
-    // Room for the next list of places.
-    spare: Vec<usize>,
+    // The ids of the tasks that can be warned of.
+    able: IndexSet<u64>,
 }
 
 impl Model for Shown {
     ghost use Rattle.std.specs.Prelude.{◌≡◌, true};
-    ghost use Rattle.tk_client.specs.Candidates.{places_of};
+    ghost use Rattle.tk_client.specs.Candidates.{AreAble};
     ghost use Rattle.tk_stream.specs.Tables.{TablesView};
     ghost use Rattle.tk_client.specs.Taking.{are_fitting};
 
@@ -40,7 +39,7 @@ impl Model for Shown {
 
     ghost view = { λ s. s.tables };
 
-    ghost invariant = { λ s. (are_fitting s.tables ≡ true) × (s.places.items ≡ places_of s.tables.tasks) };
+    ghost invariant = { λ s. (are_fitting s.tables ≡ true) × AreAble s.able.keys s.tables.tasks };
 }
 
 impl Shown {
@@ -50,8 +49,7 @@ impl Shown {
         let tables = Tables::new(alloc)?;
         Ok(Shown {
             tables,
-            places: Vec::new(alloc),
-            spare: Vec::new(alloc),
+            able: IndexSet::new(alloc),
         })
     }
 
@@ -74,33 +72,27 @@ impl Shown {
             },
             0,
         );
-        self.places.clear();
+        self.able.clear();
     }
 
-    // Applies what a line that is no snapshot tells, where these items are to leave then. Room for what will change in the list of
-    // places is made first.
+    // Applies what a line that is no snapshot tells, where these items are to leave then. Room in the list of tasks that can be
+    // warned of is made first.
     fn tell(&mut self, alloc: Global, line: &mut Line, leaving: &Leaving) -> Result<(), Fault>
         requires { leaving.now ≡ gone_of line.old }
         ensures applied { Answers (λ _. without_gone self.new leaving.now) result (line_applied self.old line.old) }
         ensures kept { OnErr result (self.new ≡ self.old) }
     {
-        let told = line.task_stats().len();
-        let Some(room) = self.places.len().checked_add(told) else {
-            return Err(Fault::Memory);
-        };
-        let mut changes = Vec::with_capacity(alloc, told)?;
-        self.spare.reserve(room)?;
+        self.able.reserve(line.task_stats().len())?;
         match apply_told(alloc, &mut self.tables, line, leaving) {
             Ok(()) => {
-                list_changes(&mut changes, &self.places, &self.tables, line.task_stats());
-                relist(&mut self.places, &mut self.spare, &mut changes);
+                relist(&mut self.able, &self.tables, line.task_stats());
                 Ok(())
             }
             Err(fault) => Err(fault),
         }
     }
 
-    // Takes items out of the tables. Where tasks leave, the others are listed anew. It takes no memory.
+    // Takes items out of the tables.
     fn leave(&mut self, leaving: &Leaving)
         ensures { self.new ≡ without_gone self.old leaving.now }
     {
@@ -109,9 +101,7 @@ impl Shown {
             leaving.resources.set(),
             leaving.ops.set(),
         );
-        if !leaving.tasks.list().is_empty() {
-            list_all(&mut self.places, &self.tables);
-        }
+        unlist(&mut self.able, leaving.tasks.list());
     }
 
     // Applies a line that is no snapshot.
@@ -153,6 +143,7 @@ impl Shown {
     pub(crate) fn warnings(&self, alloc: Global, lints: &Lints) -> Result<Vec<Warning>, AllocError>
         ensures { IfOk result (λ list. list.items ≡ warnings_in lints.now self.now) }
     {
-        warnings_of_places(alloc, &self.tables, &self.places, lints)
+        let places = places_of(alloc, &self.able, &self.tables)?;
+        warnings_of_places(alloc, &self.tables, &places, lints)
     }
 }

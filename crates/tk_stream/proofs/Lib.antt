@@ -1,5 +1,6 @@
 pub mod NoEnds
-pub mod Keyed
+pub mod SlotLemmas
+pub mod SlotIds
 pub mod Kept
 pub mod RowsLemmas
 pub mod Lists

@@ -19,6 +19,7 @@ pub mod Reading
 pub mod Errors
 -- Inner: no public clause cites these
 pub mod Entries
+pub mod Slots
 pub mod Kept
 pub mod Behind
 -- Where an item stands in its list

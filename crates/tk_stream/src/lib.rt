@@ -33,6 +33,7 @@ mod rows;
 mod sent;
 mod shaped;
 mod short;
+mod slots;
 mod table;
 mod tables;
 mod take_infos;

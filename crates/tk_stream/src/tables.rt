@@ -335,7 +335,7 @@ impl Tables {
     }
 }
 
-/// Removals. The other items keep their order, and poll counts stay. They take no memory.
+/// Removals. The other items keep their order, and poll counts stay. They can't fail for want of memory.
 impl Tables {
     ghost use Rattle.tk_stream.specs.Tables.{without_task, without_resource, without_op};
     ghost use Rattle.tk_stream.specs.Applied.{without_gone};
@@ -361,8 +361,8 @@ impl Tables {
         self.ops.remove(id.value());
     }
 
-    /// Removes what a line says is gone: the items of these ids. However many they are, that is one walk through the items of
-    /// each kind of which there are any, and none where there are none.
+    /// Removes what a line says is gone: the items of these ids. A few of many items leave at a small cost, and a large part of them
+    /// by one walk through the items of their kind.
     pub fn remove_gone(
         &mut self,
         tasks: &IndexSet<u64>,

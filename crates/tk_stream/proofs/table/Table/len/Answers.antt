@@ -1,11 +1,13 @@
-use Rattle.std.proofs.Common.{nat_eq, map, subst, ap, ◌∙◌}
-use Rattle.std.specs.List.{IsDistinct, AllByRecursion}
-use Rattle.tk_stream.proofs.Keyed.{keys_of-keyed}
+use Rattle.std.proofs.Common.{◌≡◌, ◌-◌, length, ap, arith}
+use Rattle.tk_stream.specs.Slots.{items_in}
+use Rattle.tk_stream.proofs.SlotLemmas.{counted_as}
 use Rattle.tk_stream.proofs.table.Table.len.Goals as goal
 
-pub returns-clause-in_range : goal.returns-clause-in_range
-returns-clause-in_range g c = subst (AllByRecursion g.T.Ranged.in_range) c.self.view_is c.self.invariant.1
+pub overflow_sub-result : goal.overflow_sub-result
+overflow_sub-result g c = let all = counted_as c.self.inside.slots c.self.inside.empty.items c.self.invariant in omega (arith, all, c.len.ensures.count, c.len-2.ensures, c.self.inside.empty.ok.0)
 
-pub returns-clause-distinct : goal.returns-clause-distinct
-returns-clause-distinct g c =
-    subst (IsDistinct nat_eq) (keys_of-keyed g.T.Item.id_of c.self.inside.map.entries c.self.invariant.0 ∙ ap (map g.T.Item.id_of) c.self.view_is) c.len.ensures.unique
+pub returns-clause-count : goal.returns-clause-count
+returns-clause-count g c =
+    let all = counted_as c.self.inside.slots c.self.inside.empty.items c.self.invariant in
+    let shown : length (items_in c.self.inside.slots) ≡ length c.args.self.now = ap length c.self.view_is in
+    omega (arith, all, shown, c.len.ensures.count, c.len-2.ensures, c.self.inside.empty.ok.0)

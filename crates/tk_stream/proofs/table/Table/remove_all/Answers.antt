@@ -1,39 +1,27 @@
-use Rattle.std.proofs.Common.{◌≡◌, ℕ, Bool, List, [], ◌∷◌, length, filter, rules, arith, ap, ◌∙◌, sym, subst}
-use Rattle.std.specs.Prelude.{not}
-use Rattle.std.specs.List.{AllByRecursion}
-use Rattle.std.specs.Map.{values_of}
-use Rattle.indexmap.proofs.CallerLemmas.{filter-RetainsPairs}
-use Rattle.tk_stream.specs.Tables.{is_among, staying}
-use Rattle.tk_stream.specs.Entries.{AreKeyed}
+use Rattle.std.proofs.Common.{◌<◌, ◌∷◌, [], length, take, get_or, subst, ap, ◌∙◌, sym}
+use Rattle.tk_stream.specs.Slots.{items_in, empty_from}
+use Rattle.tk_stream.specs.Tables.{staying}
 use Rattle.tk_stream.proofs.GoneLemmas.{staying_all}
-use Rattle.std.proofs.lemmas.Grind.{common_steps}
-use Rattle.tk_stream.proofs.Keyed.{AreKeyed-filter, values_of-filter, all-filter}
+use Rattle.tk_stream.proofs.SlotIds.{staying_next}
+use Rattle.tk_stream.proofs.SlotLemmas.{items_of-full, empty_of-full}
 use Rattle.tk_stream.proofs.table.Table.remove_all.Goals as goal
 
--- where there are no ids, all stay
-all_stay : {Item : Type 0} (id_of : Item → ℕ) (ids : List ℕ) (xs : List Item) → length ids ≡ 0 → xs ≡ staying id_of ids xs
-all_stay id_of [] xs none = sym (staying_all id_of xs)
-all_stay id_of (n ∷ ns) xs none = absurd (cc)
-
-pub returns-then-is_empty : goal.returns-then-is_empty
-returns-then-is_empty g c =
-    let none : length c.args.ids.now.keys ≡ 0 = grind (arith, common_steps) in all_stay g.T.Item.id_of c.args.ids.now.keys c.args.self.now none
-
-abbrev stays : List ℕ → ℕ → Bool
-stays ids id = not (is_among ids id)
-
 pub invariant_of-self : goal.invariant_of-self
-invariant_of-self g c =
-    let es = c.self.inside.map.entries in
-    let left : c.retain.new.self.entries ≡ filter (λ e. stays (c.args.ids.now.keys) e.0) es =
-    filter-RetainsPairs _ (λ e. stays (c.args.ids.now.keys) e.0) _ (λ k v b w f call. search rules) _ _ c.retain.ensures.filtered in (
-      subst (AreKeyed g.T.Item.id_of) (sym left) (AreKeyed-filter g.T.Item.id_of (stays (c.args.ids.now.keys)) es c.self.invariant.0),
-      subst (λ fs. AllByRecursion g.T.Ranged.in_range (values_of fs)) (sym left) (all-filter g.T.Ranged.in_range (λ e. stays (c.args.ids.now.keys) e.0) es c.self.invariant.1),
-    )
+invariant_of-self g c = c.clear.ensures.items ∙ sym (ap (empty_from 0) c.close_up.ensures ∙ empty_of-full 0 (items_in c.vacate_all.new.self))
 
-pub returns : goal.returns
-returns g c =
-    let es = c.self.inside.map.entries in
-    let left : c.retain.new.self.entries ≡ filter (λ e. stays (c.args.ids.now.keys) e.0) es =
-    filter-RetainsPairs _ (λ e. stays (c.args.ids.now.keys) e.0) _ (λ k v b w f call. search rules) _ _ c.retain.ensures.filtered in
-    ap values_of left ∙ values_of-filter g.T.Item.id_of (stays (c.args.ids.now.keys)) es c.self.invariant.0 ∙ ap (staying g.T.Item.id_of (c.args.ids.now.keys)) c.self.view_is
+pub returns-then-len : goal.returns-then-len
+returns-then-len g c =
+    ap items_in c.close_up.ensures ∙ items_of-full (items_in c.vacate_all.new.self) ∙ c.vacate_all.ensures ∙ ap (staying g.T.Item.id_of c.args.ids.now.keys) c.self.view_is
+
+pub loop-id-init : goal.loop-id-init
+loop-id-init g c = sym (staying_all g.T.Item.id_of c.args.self.now)
+
+pub loop-id-preserved : goal.loop-id-preserved
+loop-id-preserved g c =
+    let id_of = g.T.Item.id_of in
+    let i = c.loop-id.id-index in
+    let keys = c.as_slice-id-items.ensures.keys in
+    c.remove.ensures
+    ∙ ap (staying id_of (get_or c.as_slice-id-items.result.now i 0 ∷ [])) c.loop-id.invariant
+    ∙ ap (λ ids. staying id_of (get_or ids i 0 ∷ []) (staying id_of (take i c.args.ids.now.keys) c.args.self.now)) keys
+    ∙ staying_next id_of i c.args.ids.now.keys c.args.self.now (subst (λ ids. i < length ids) keys c.loop-id-test.true)

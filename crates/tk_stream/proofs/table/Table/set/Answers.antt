@@ -1,20 +1,21 @@
-use Rattle.std.proofs.Common.{ap, ◌∙◌, sym, subst}
-use Rattle.std.specs.Map.{values_of}
-use Rattle.indexmap.specs.Layout.{set_value_at}
-use Rattle.tk_stream.specs.Entries.{AreKeyed}
+use Rattle.std.proofs.Common.{◌<◌, length, ap, subst, ◌∙◌, sym}
+use Rattle.tk_stream.specs.Slots.{items_in, empty_from}
 use Rattle.tk_stream.specs.Tables.{changed_at}
-use Rattle.tk_stream.proofs.Keyed.{AreKeyed-set, values_of-set, all-set}
+use Rattle.tk_stream.proofs.SlotLemmas.{changed_there, empty_changed}
 use Rattle.tk_stream.proofs.table.Table.set.Goals as goal
 
+pub slot_at-slot-requires-clause-listed : goal.slot_at-slot-requires-clause-listed
+slot_at-slot-requires-clause-listed g c = c.deref.ensures.value ∙ c.self.invariant
+
+pub slot_at-slot-requires-clause-there : goal.slot_at-slot-requires-clause-there
+slot_at-slot-requires-clause-there g c = subst (λ xs. c.args.i < length xs) (sym c.self.view_is) c.requires
+
 pub invariant_of-self : goal.invariant_of-self
-invariant_of-self g c = (
-  subst (λ x. AreKeyed g.T.Item.id_of (set_value_at c.self.inside.map.entries c.args.i x)) (sym c.set_row.ensures)
-      (AreKeyed-set g.T.Item.id_of (λ x. g.T.Item.with_row x c.args.row) (λ x. g.met.T.Item.keeps_id x c.args.row) c.self.inside.map.entries c.args.i c.index_mut-item.result.now c.self.invariant.0 c.index_mut-item.ensures.value),
-  all-set g.T.Ranged.in_range c.self.inside.map.entries c.args.i c.set_row.new.self c.self.invariant.1 c.see.ensures,
-)
+invariant_of-self g c =
+    c.self.invariant ∙ sym (ap (empty_from 0) c.set.ensures ∙ empty_changed (λ x. g.T.Item.with_row x c.args.row) 0 c.self.inside.slots c.slot_at-slot.result)
 
 pub returns : goal.returns
 returns g c =
-    ap (λ x. values_of (set_value_at c.self.inside.map.entries c.args.i x)) c.set_row.ensures
-    ∙ values_of-set (λ x. g.T.Item.with_row x c.args.row) c.self.inside.map.entries c.args.i c.index_mut-item.result.now c.index_mut-item.ensures.value
+    ap items_in c.set.ensures
+    ∙ changed_there c.self.inside.slots c.deref.result.now c.args.i c.slot_at-slot.result (c.deref.ensures.value ∙ c.self.invariant) c.slot_at-slot.ensures.order c.slot_at-slot.ensures.stands (λ x. g.T.Item.with_row x c.args.row)
     ∙ ap (λ xs. changed_at (λ x. g.T.Item.with_row x c.args.row) xs c.args.i) c.self.view_is
