@@ -170,14 +170,14 @@ flag_read depth all ts b is = ap (value_read depth) is ∙ ap (converted of_json
 pub null_read : (depth : ℕ) (all ts : List Token) → all ≡ Token.null ∷ ts → value_read depth all ≡ Some (null, ts)
 null_read depth all ts is = ap (value_read depth) is ∙ ap (converted of_json) (value_is depth (Token.null ∷ ts))
 
-number_at : (depth : ℕ) (all ts : List Token) (s : List ℕ) → all ≡ Token.number s ∷ ts → value_read depth all ≡ option_map {U = Data × List Token} (λ d. (d, ts)) (option_map number (number_of s))
-number_at depth all ts s is = ap (value_read depth) is ∙ ap (converted of_json) (value_is depth (Token.number s ∷ ts))
+pub number_shown : (depth : ℕ) (all ts : List Token) (s : List ℕ) → all ≡ Token.number s ∷ ts → value_read depth all ≡ option_map {U = Data × List Token} (λ d. (d, ts)) (option_map number (number_of s))
+number_shown depth all ts s is = ap (value_read depth) is ∙ ap (converted of_json) (value_is depth (Token.number s ∷ ts))
 
 pub number_read : (depth : ℕ) (all ts : List Token) (s : List ℕ) (x : Num) → all ≡ Token.number s ∷ ts → Some x ≡ number_of s → value_read depth all ≡ Some (number x, ts)
-number_read depth all ts s x is e = number_at depth all ts s is ∙ rw (← e) refl
+number_read depth all ts s x is e = number_shown depth all ts s is ∙ rw (← e) refl
 
 pub number_refused : (depth : ℕ) (all ts : List Token) (s : List ℕ) → all ≡ Token.number s ∷ ts → None ≡ number_of s → value_read depth all ≡ None
-number_refused depth all ts s is e = number_at depth all ts s is ∙ rw (← e) refl
+number_refused depth all ts s is e = number_shown depth all ts s is ∙ rw (← e) refl
 
 -- ---- what is left behind a value
 

@@ -21,6 +21,8 @@ pub mod Errors
 pub mod Entries
 pub mod Kept
 pub mod Behind
+pub mod Spelled
+pub mod SmallShapes
 -- Where an item stands in its list
 pub mod Places
 pub mod Fronts
