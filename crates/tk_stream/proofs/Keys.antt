@@ -18,7 +18,7 @@ use Rattle.json.specs.Token.{Token}
 use Rattle.json.specs.Json.{parse_map, value}
 use Rattle.json.specs.Reads.{token_of}
 use Rattle.json.specs.declared.token.Token as tokens
-use Rattle.json.specs.declared.token.Token.TheVariants.{BeginArray, BeginObject}
+use Rattle.json.specs.declared.token.Token.TheVariants.{BeginObject}
 use Rattle.json.specs.Json as json
 use Rattle.json.proofs.Grammar.{left, left_some, skip_value-shorter}
 use Rattle.tk_json.specs.Small.{small, small_items}
@@ -47,9 +47,18 @@ list_after shape name key d ms = put_by shape (bytes_eq key name) name key d ms 
 
 pub lists_after : (key : List ℕ) (d : Data) (ms : Members) → lists_in (put key d ms) ≡ lists_put key d (lists_in ms)
 lists_after key d ms =
-    rw (list_after id_of (codes "gone_ops") key d ms, list_after id_of (codes "gone_resources") key d ms, list_after id_of (codes "gone_tasks") key d ms,
-      list_after op_of (codes "new_ops") key d ms, list_after resource_of (codes "new_resources") key d ms, list_after info_of (codes "new_tasks") key d ms,
-      list_after op_stats_of (codes "op_stats") key d ms, list_after counts_of (codes "poll_counts") key d ms, list_after resource_stats_of (codes "resource_stats") key d ms, list_after stats_of (codes "task_stats") key d ms) refl
+    rw (
+      list_after id_of (codes "gone_ops") key d ms,
+      list_after id_of (codes "gone_resources") key d ms,
+      list_after id_of (codes "gone_tasks") key d ms,
+      list_after op_of (codes "new_ops") key d ms,
+      list_after resource_of (codes "new_resources") key d ms,
+      list_after info_of (codes "new_tasks") key d ms,
+      list_after op_stats_of (codes "op_stats") key d ms,
+      list_after counts_of (codes "poll_counts") key d ms,
+      list_after resource_stats_of (codes "resource_stats") key d ms,
+      list_after stats_of (codes "task_stats") key d ms,
+    ) refl
 
 -- ---- the line's own object
 
@@ -241,7 +250,7 @@ module _ (ops resources tasks a b c w e f h : Option (List Data)) where
   kind_by : (one twelve two : Bool) (dropped : Option Dropped) (now seq : Option ℕ) (snapshot : Option Bool)
       → (parts_from (cond one (cond twelve (Some None) None) (cond two (option_map Some (gone_first ops resources tasks)) None)) dropped a b c now w e f seq snapshot h >>= line_from)
       ≡ ((cond one (cond twelve (Some false) None) (cond two (Some true) None) >>= λ says. dropped >>= λ d. now >>= λ n. seq >>= λ q. snapshot >>= λ s. Some (numbers_made says d n q s))
-        >>= λ n. line_with n lists_of)
+      >>= λ n. line_with n lists_of)
   unfolding line_with
   kind_by true false two dropped now seq snapshot = refl
   kind_by false twelve false dropped now seq snapshot = refl
@@ -270,9 +279,18 @@ at_lists ms =
 lists_are : (ms : Members) → lists_in ms ≡ at_lists ms
 unfolding at_lists
 lists_are ms =
-    rw (list_is id_of (codes "gone_ops") ms, list_is id_of (codes "gone_resources") ms, list_is id_of (codes "gone_tasks") ms,
-      list_is op_of (codes "new_ops") ms, list_is resource_of (codes "new_resources") ms, list_is info_of (codes "new_tasks") ms,
-      list_is op_stats_of (codes "op_stats") ms, list_is counts_of (codes "poll_counts") ms, list_is resource_stats_of (codes "resource_stats") ms, list_is stats_of (codes "task_stats") ms) refl
+    rw (
+      list_is id_of (codes "gone_ops") ms,
+      list_is id_of (codes "gone_resources") ms,
+      list_is id_of (codes "gone_tasks") ms,
+      list_is op_of (codes "new_ops") ms,
+      list_is resource_of (codes "new_resources") ms,
+      list_is info_of (codes "new_tasks") ms,
+      list_is op_stats_of (codes "op_stats") ms,
+      list_is counts_of (codes "poll_counts") ms,
+      list_is resource_stats_of (codes "resource_stats") ms,
+      list_is stats_of (codes "task_stats") ms,
+    ) refl
 
 abbrev parts_at : Members → Option (Option GoneParts) → Option PartsView
 parts_at ms gone =
@@ -282,8 +300,8 @@ parts_at ms gone =
 version_by : (version : Option ℕ) (ms : Members)
     → ((version >>= λ v. parts_at ms (gone_at v (object ms))) >>= line_from)
     ≡ ((version >>= λ v. says_gone_at v (object ms) >>= λ says. (list_at (codes "dropped") (object ms) >>= dropped_in) >>= λ d. number_at (codes "now") (object ms) >>= λ n. seq_at (codes "seq") (object ms) >>= λ q. flag_at (codes "snapshot") (object ms)
-        >>= λ s. Some (numbers_made says d n q s))
-      >>= λ n. line_with n (at_lists ms))
+    >>= λ s. Some (numbers_made says d n q s))
+    >>= λ n. line_with n (at_lists ms))
 unfolding gone_at at_lists
 version_by None ms = refl
 version_by (Some v) ms =

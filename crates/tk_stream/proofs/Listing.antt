@@ -1,5 +1,5 @@
 -- A list that is read item by item from tokens.
-use Rattle.std.proofs.Common.{◌≡◌, ◌-◌, ◌<◌, ℕ, zero, suc, arith, List, [], ◌∷◌, ◌++◌, append-nil, Bool, Option, Some, None, option_map, option_and_then, refl, sym, ap, ◌∙◌}
+use Rattle.std.proofs.Common.{◌≡◌, ◌-◌, ◌<◌, ℕ, zero, suc, arith, List, [], ◌∷◌, ◌++◌, append-nil, Bool, Option, Some, None, option_map, refl, sym, ap, ◌∙◌}
 use Rattle.json.specs.Token.{Token}
 use Rattle.json.specs.Json.{parse_map, after_end_array, value}
 use Rattle.json.specs.Reads.{token_of}
@@ -7,12 +7,12 @@ use Rattle.json.specs.declared.token.Token as tokens
 use Rattle.json.specs.declared.token.Token.TheVariants as variants
 use Rattle.json.specs.declared.token.Token.TheVariants.{BeginObject, EndObject, BeginArray, EndArray, Key, String, Number, Null, Bad}
 use Rattle.json.proofs.Grammar.{value_is}
-use Rattle.serde_json.specs.Data.{Num, Data, null, boolean, number, string, array, object, Items, no_items, item, Members}
+use Rattle.serde_json.specs.Data.{Num, Data, null, boolean, number, string, array, object, Items, item, Members}
 use Rattle.serde_json.specs.Read.{number_of}
 use Rattle.tk_json.specs.Values.{value_read, items_read, rest}
-use Rattle.tk_json.proofs.Growing.{mapped_some}
+use Rattle.tk_json.proofs.Growing.{mapped_none, mapped_some}
 use Rattle.tk_json.proofs.Steps.{item_read, items_over, array_read, array_deep, object_read, object_deep, text_read, flag_read, null_read, number_shown}
-use Rattle.tk_stream.specs.Reading.{list_of, each_of, values_of}
+use Rattle.tk_stream.specs.Reading.{each_of, values_of}
 use Rattle.tk_stream.specs.Spelled.{listed}
 use Rattle.tk_stream.proofs.Lists.{with_front, regroup}
 
@@ -55,6 +55,10 @@ module _ {A : Type 0} (shape : Data → Option A) where
   -- all items were of the shape
   pub listed_all : (front : List A) (depth : ℕ) (ts r : List Token) → after_end_array ts ≡ Some r → parse_map (left front) (items_read depth ts) ≡ Some (Some front, r)
   listed_all front depth ts r over = ap (parse_map (left front)) (items_over depth ts r over) ∙ ap (λ xs. Some (Some xs, r)) (append-nil front)
+
+-- what is seen of one list is seen of another, of which there is none
+pub none_listed : {B : Type 0} (f g : Items → B) (o p : Option (Items × List Token)) → parse_map f o ≡ parse_map g p → p ≡ None → o ≡ None
+none_listed f g o p e none = mapped_none f o (e ∙ ap (parse_map g) none)
 
 -- ---- the value at the key of a list
 

@@ -1,20 +1,18 @@
 -- What is kept of a value, three levels deep, is of the same shape.
-use Rattle.std.proofs.Common.{◌≡◌, ◌<◌, ◌≤◌, ◌==◌, ℕ, zero, suc, List, [], ◌∷◌, length, map, Bool, true, false, nat_le, cond, Option, Some, None, option_map, option_and_then, refl, ap, ◌∙◌, sym, arith}
+use Rattle.std.proofs.Common.{◌≡◌, ◌<◌, ◌≤◌, ℕ, zero, suc, List, [], ◌∷◌, length, Bool, true, false, nat_le, cond, Option, Some, None, option_map, option_and_then, refl, ap, ◌∙◌, sym, arith}
 use Rattle.std.specs.Prelude.{codes, ◌&&◌}
-use Rattle.serde_json.specs.Data.{Data, null, boolean, number, string, array, object, Items, no_items, item, Members, no_members, member}
+use Rattle.serde_json.specs.Data.{Data, null, boolean, number, string, array, object, Items, no_items, item, Members, no_members}
 use Rattle.serde_json.specs.Events.{items_len, members_len}
-use Rattle.serde_json.specs.Find.{get, as_number, as_str, as_bool, as_array, as_u64, as_i64}
-use Rattle.tk_core.specs.declared.op.row.OpRow.{OpRow}
-use Rattle.tk_core.specs.declared.resource.row.ResourceRow.{ResourceRow}
+use Rattle.serde_json.specs.Find.{get, as_str, as_bool, as_array, as_u64}
 use Rattle.tk_ids.specs.Attributes.{are_attributes, info_names}
 use Rattle.tk_ids.specs.declared.attr.AttrInfo.{AttrInfo}
 use Rattle.tk_ids.specs.declared.attr.AttrValue.{AttrValue}
 use Rattle.tk_ids.specs.declared.info.OpInfo.{OpInfo}
 use Rattle.tk_ids.specs.declared.info.ResourceInfo.{ResourceInfo}
 use Rattle.tk_ids.specs.declared.location.Location.{Location}
-use Rattle.tk_json.specs.Small.{small, small_items, small_members, few, has_count, nothing}
+use Rattle.tk_json.specs.Small.{small, small_items, small_members, few, nothing}
 use Rattle.tk_json.proofs.Kept.{scalars_kept, items_kept, members_kept}
-use Rattle.tk_stream.specs.Reading.{◌>>=◌, has_members, number_of, optional_of, id_of, optional_id_of, name_of, optional_name_of, small_of, values_of, list_of, each_of, number_at, optional_at, flag_at, text_at, list_at, id_at, optional_id_at, name_at, location_in, location_at, attr_in, attr_of, attrs_in, signed_in, value_of, values_in, kind_of, info_of, ResourceView, resource_parts, resource_of, OpView, op_parts, op_of, stats_of, resource_stats_with, resource_stats_of, op_stats_with, op_stats_of, counts_in, counts_of}
+use Rattle.tk_stream.specs.Reading.{◌>>=◌, has_members, number_of, optional_of, id_of, optional_id_of, name_of, optional_name_of, small_of, values_of, list_of, each_of, number_at, optional_at, flag_at, text_at, list_at, id_at, optional_id_at, name_at, location_in, location_at, attr_in, attr_of, attrs_in, signed_in, value_of, values_in, info_of, ResourceView, resource_parts, resource_of, OpView, op_parts, op_of, stats_of, resource_stats_with, resource_stats_of, op_stats_with, op_stats_of, counts_in, counts_of}
 
 -- ---- values of one token
 
@@ -324,7 +322,7 @@ pub resource_small : (d : Data) → resource_of (small d 3) ≡ resource_of d
 resource_small d =
     by_count resource_of 6 (omega arith) (omega arith) d (has_members 6 d) refl no_resource
     (λ counts is at. resource_is (small d 3) counts
-      ∙ rw (list_kept attrs_in (attrs_few, attrs_wide) (codes "attrs") d at, id_kept (codes "id") d at, name_kept (codes "kind") d at, location_kept (codes "loc") d at, optional_id_kept (codes "parent") d at, name_kept (codes "type") d at) (sym (resource_is d is)))
+    ∙ rw (list_kept attrs_in (attrs_few, attrs_wide) (codes "attrs") d at, id_kept (codes "id") d at, name_kept (codes "kind") d at, location_kept (codes "loc") d at, optional_id_kept (codes "parent") d at, name_kept (codes "type") d at) (sym (resource_is d is)))
 
 -- the info of an async operation whose attributes were read last
 abbrev op_last : Option (List AttrInfo) → Option ℕ → Option (Option ℕ) → Option ℕ → Option (List ℕ) → Option OpInfo
@@ -378,7 +376,7 @@ pub op_small : (d : Data) → op_of (small d 3) ≡ op_of d
 op_small d =
     by_count op_of 5 (omega arith) (omega arith) d (has_members 5 d) refl no_op
     (λ counts is at. op_is (small d 3) counts
-      ∙ rw (list_kept attrs_in (attrs_few, attrs_wide) (codes "attrs") d at, id_kept (codes "id") d at, optional_id_kept (codes "parent") d at, id_kept (codes "resource") d at, name_kept (codes "source") d at) (sym (op_is d is)))
+    ∙ rw (list_kept attrs_in (attrs_few, attrs_wide) (codes "attrs") d at, id_kept (codes "id") d at, optional_id_kept (codes "parent") d at, id_kept (codes "resource") d at, name_kept (codes "source") d at) (sym (op_is d is)))
 
 -- ---- rows
 
@@ -391,9 +389,27 @@ pub stats_small : (d : Data) → stats_of (small d 3) ≡ stats_of d
 unfolding stats_of
 stats_small d =
     by_count stats_of 17 (omega arith) (omega arith) d (has_members 17 d) refl (λ e none. rw none refl)
-    (λ counts is at. rw (counts, is, number_kept (codes "busy") d at, number_kept (codes "clones") d at, number_kept (codes "created") d at, optional_kept (codes "dropped") d at, number_kept (codes "drops") d at,
-      optional_kept (codes "first_poll") d at, number_kept (codes "handles") d at, id_kept (codes "id") d at, optional_kept (codes "last_ended") d at, optional_kept (codes "last_started") d at, optional_kept (codes "last_wake") d at,
-      flag_kept (codes "polling") d at, number_kept (codes "polls") d at, number_kept (codes "sched") d at, flag_kept (codes "scheduled") d at, number_kept (codes "self_wakes") d at, number_kept (codes "wakes") d at) refl)
+    (λ counts is at. rw (
+      counts,
+      is,
+      number_kept (codes "busy") d at,
+      number_kept (codes "clones") d at,
+      number_kept (codes "created") d at,
+      optional_kept (codes "dropped") d at,
+      number_kept (codes "drops") d at,
+      optional_kept (codes "first_poll") d at,
+      number_kept (codes "handles") d at,
+      id_kept (codes "id") d at,
+      optional_kept (codes "last_ended") d at,
+      optional_kept (codes "last_started") d at,
+      optional_kept (codes "last_wake") d at,
+      flag_kept (codes "polling") d at,
+      number_kept (codes "polls") d at,
+      number_kept (codes "sched") d at,
+      flag_kept (codes "scheduled") d at,
+      number_kept (codes "self_wakes") d at,
+      number_kept (codes "wakes") d at,
+    ) refl)
 
 -- steps that give the same
 same_steps : {A B : Type 0} (o : Option A) (f g : A → Option B) → ((x : A) → f x ≡ g x) → (o >>= f) ≡ (o >>= g)
@@ -417,9 +433,9 @@ rows_same row count some narrow none d same =
     by_count (λ e. list_at (codes "attrs") e >>= λ list. values_in list >>= λ attrs. row attrs e) count some narrow d (has_members count d) refl
     (λ e absent. no_step (list_at (codes "attrs") e) _ (λ list. no_step (values_in list) _ (λ attrs. none attrs e absent)))
     (λ counts is at. two_steps (list_at (codes "attrs") (small d 3)) values_in (λ attrs. row attrs (small d 3))
-      ∙ ap (λ o. o >>= λ attrs. row attrs (small d 3)) (list_kept values_in (values_few, values_wide) (codes "attrs") d at)
-      ∙ same_steps (list_at (codes "attrs") d >>= values_in) (λ attrs. row attrs (small d 3)) (λ attrs. row attrs d) (same counts is at)
-      ∙ sym (two_steps (list_at (codes "attrs") d) values_in (λ attrs. row attrs d)))
+    ∙ ap (λ o. o >>= λ attrs. row attrs (small d 3)) (list_kept values_in (values_few, values_wide) (codes "attrs") d at)
+    ∙ same_steps (list_at (codes "attrs") d >>= values_in) (λ attrs. row attrs (small d 3)) (λ attrs. row attrs d) (same counts is at)
+    ∙ sym (two_steps (list_at (codes "attrs") d) values_in (λ attrs. row attrs d)))
 
 -- the row of a resource
 pub resource_stats_small : (d : Data) → resource_stats_of (small d 3) ≡ resource_stats_of d
@@ -433,5 +449,18 @@ pub op_stats_small : (d : Data) → op_stats_of (small d 3) ≡ op_stats_of d
 unfolding op_stats_of op_stats_with
 op_stats_small d =
     rows_same op_stats_with 12 (omega arith) (omega arith) (λ attrs e none. rw none refl) d
-    (λ counts is at attrs. rw (counts, is, number_kept (codes "busy") d at, number_kept (codes "created") d at, optional_kept (codes "dropped") d at, optional_kept (codes "first_poll") d at, number_kept (codes "handles") d at,
-      id_kept (codes "id") d at, optional_kept (codes "last_ended") d at, optional_kept (codes "last_started") d at, flag_kept (codes "polling") d at, number_kept (codes "polls") d at, optional_id_kept (codes "task") d at) refl)
+    (λ counts is at attrs. rw (
+      counts,
+      is,
+      number_kept (codes "busy") d at,
+      number_kept (codes "created") d at,
+      optional_kept (codes "dropped") d at,
+      optional_kept (codes "first_poll") d at,
+      number_kept (codes "handles") d at,
+      id_kept (codes "id") d at,
+      optional_kept (codes "last_ended") d at,
+      optional_kept (codes "last_started") d at,
+      flag_kept (codes "polling") d at,
+      number_kept (codes "polls") d at,
+      optional_id_kept (codes "task") d at,
+    ) refl)

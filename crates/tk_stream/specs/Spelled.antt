@@ -1,13 +1,11 @@
 -- Which line the members of an object make, where they are read key by key: each list by itself, and of the rest what is kept.
-use Rattle.std.specs.Prelude.{ℕ, List, codes, Bool, true, false, not, is_some, ◌==◌, ◌&&◌, ◌||◌, Option, Some, None, option_map, if◌then◌else◌, Vec}
-use Rattle.std.specs.declared.alloc.Global.{Global}
+use Rattle.std.specs.Prelude.{ℕ, List, codes, Bool, true, false, not, is_some, ◌==◌, ◌&&◌, ◌||◌, Option, Some, None, if◌then◌else◌}
 use Rattle.std.specs.Str.{bytes_eq}
-use Rattle.serde_json.specs.Data.{Data, null, object, Members, no_members, member}
+use Rattle.serde_json.specs.Data.{Data, null, Members, no_members, member}
 use Rattle.serde_json.specs.Find.{get_member}
 use Rattle.tk_core.specs.declared.op.row.OpRow.{OpRow}
 use Rattle.tk_core.specs.declared.resource.row.ResourceRow.{ResourceRow}
 use Rattle.tk_core.specs.declared.task.row.TaskRow.{TaskRow}
-use Rattle.tk_ids.specs.declared.info.Dropped.{Dropped}
 use Rattle.tk_ids.specs.declared.info.OpInfo.{OpInfo}
 use Rattle.tk_ids.specs.declared.info.ResourceInfo.{ResourceInfo}
 use Rattle.tk_ids.specs.declared.info.TaskInfo.{TaskInfo}

@@ -8,8 +8,8 @@ ghost use Rattle.tk_stream.specs.Spelled as spelled;
 ghost use Rattle.tk_stream.specs.Spelling as spec;
 
 use crate::error::LineError;
-use crate::listed::Listed;
 use crate::fields::{op_id_of, resource_id_of, task_id_of};
+use crate::listed::Listed;
 use crate::pieces::put_text;
 use crate::putting::{Written, put_open};
 use crate::ranged::{Ranged, see_all};

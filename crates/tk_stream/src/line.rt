@@ -37,15 +37,15 @@ ghost use Rattle.tk_stream.specs.Retention.{due_of, prune, line_pruned, told_wit
 use crate::between::{infos_behind, new_infos, stats_beside, told_stats};
 use crate::error::LineError;
 use crate::gone::{Gone, gone_with, put_gone, see_gone, take_gone};
-use crate::line_lists::LineLists;
 use crate::leaving::{Leaving, due, leave_out};
+use crate::line_lists::LineLists;
 use crate::op::Op;
 use crate::putting::{put_items, put_open};
 use crate::ranged::{see_all, see_number, see_totals};
 use crate::reading::numbers_of;
 use crate::resource::Resource;
-use crate::spelled::read_spelled;
 use crate::short::{ROOM, flag_before, number_before, put_short, text_before};
+use crate::spelled::read_spelled;
 use crate::tables::Tables;
 use crate::takes::{take_flag, take_number, take_text};
 use crate::taking::{some_of, take_list};
@@ -278,9 +278,12 @@ impl Line {
     /// The line of a text: the JSON object that `serde_json` reads, with exactly the keys of version 1 or 2, each with a value
     /// of its kind. White space between its parts and the order of its keys are free.
     ///
+    /// No value is built of the whole text: the lists are read item by item, and of what no line has nothing is kept. So whatever the
+    /// bytes are, the call holds little more than the text once more and the lists of the line.
+    ///
     /// - `BadJson`: `serde_json` reads no value. Bytes that are not UTF-8 are such a text, and an empty one.
     /// - `BadShape`: the value is no line.
-    /// - `Memory`: there is no memory for the value or the line.
+    /// - `Memory`: there is no memory for the text once more, or for the line.
     pub fn read(alloc: Global, bytes: &[u8]) -> Result<Line, LineError>
         ensures { Answers (λ line. line) result (line_of_text bytes.now) }
     {

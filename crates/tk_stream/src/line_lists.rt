@@ -1,5 +1,5 @@
 //! The lists of a line, each found by its key.
-ghost use Rattle.std.specs.Prelude.{◌≡◌, Some, None, Err, IfOk, MatchBool, true, false, IsTrue, is_some, ◌&&◌, if◌then◌else◌};
+ghost use Rattle.std.specs.Prelude.{◌≡◌, Some, None, Err, IfOk, MatchBool};
 ghost use Rattle.json.specs.Json.{parse_map};
 ghost use Rattle.serde_json.specs.Data.{no_members};
 ghost use Rattle.tk_json.specs.Values.{value_read};

@@ -77,7 +77,7 @@ fn read_members(
     requires lists { lists.old ≡ lists_in no_members }
     ensures read { IfOk result (λ whole. MatchBool whole
         ((held : Members) × (members_read no_members depth reader.old ≡ Some (held, reader.new))
-            × (lists.new ≡ lists_in held) × (members_view own.new.entries ≡ own_members held))
+        × (lists.new ≡ lists_in held) × (members_view own.new.entries ≡ own_members held))
         (parse_map (λ ms. line_of (spec.object ms)) (members_read no_members depth reader.old) ≡ Some (None, reader.new))) }
     ensures refused { result ≡ Err JsonFault.BadJson → members_read no_members depth reader.old ≡ None }
 {

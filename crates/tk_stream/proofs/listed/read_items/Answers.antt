@@ -1,9 +1,8 @@
-use Rattle.std.proofs.Common.{◌≡◌, ◌<◌, ◌++◌, ◌∷◌, [], length, Some, None, sym, ap, ◌∙◌, arith}
+use Rattle.std.proofs.Common.{◌≡◌, ◌<◌, length, Some, None, sym, ap, ◌∙◌, arith}
 use Rattle.json.specs.Json.{parse_map, after_end_array}
 use Rattle.tk_json.specs.Values.{value_read, items_read}
-use Rattle.tk_json.proofs.Growing.{mapped_none}
 use Rattle.tk_json.proofs.Steps.{item_refused}
-use Rattle.tk_stream.proofs.Listing.{left, listed_more, not_listed, not_ended, listed_all}
+use Rattle.tk_stream.proofs.Listing.{left, listed_more, not_listed, not_ended, none_listed, listed_all}
 use Rattle.tk_stream.proofs.listed.read_items.Goals as goal
 
 pub returns-in_err-item-clause-refused : goal.returns-in_err-item-clause-refused
@@ -11,7 +10,7 @@ returns-in_err-item-clause-refused g c = λ refused.
     let l = c.items in
     let going : (after_end_array l.reader ≡ None) × (c.take_end_array.new.self ≡ l.reader) = grind arith in
     let none = item_refused c.args.depth l.reader going.0 (rw (← going.1) (c.read_item.ensures.refused (grind arith))) in
-    mapped_none _ _ (l.invariant.same ∙ ap (parse_map (left g.T.Shaped.shape l.found.items)) none)
+    none_listed _ (left g.T.Shaped.shape l.found.items) _ _ l.invariant.same none
 
 pub returns-in_err-pass_items-clause-refused : goal.returns-in_err-pass_items-clause-refused
 returns-in_err-pass_items-clause-refused g c = λ _.
@@ -20,7 +19,7 @@ returns-in_err-pass_items-clause-refused g c = λ _.
     let going : (after_end_array l.reader ≡ None) × (c.take_end_array.new.self ≡ l.reader) = grind arith in
     let other : parse_map shape (value_read c.args.depth l.reader) ≡ Some (None, c.read_item.new.reader) = rw (← going.1, ← c.in_default.is) c.in_ok-item.ensures.read in
     let none = not_ended shape c.args.depth l.reader c.read_item.new.reader None going.0 other c.in_err-pass_items.ensures.refused in
-    mapped_none _ _ (l.invariant.same ∙ ap (parse_map (left shape l.found.items)) none)
+    none_listed _ (left shape l.found.items) _ _ l.invariant.same none
 
 pub returns-in_default-clause-read : goal.returns-in_default-clause-read
 returns-in_default-clause-read g c =
@@ -39,7 +38,7 @@ items-preserved g c =
     let one : parse_map shape (value_read c.args.depth l.reader) ≡ Some (Some c.in-Some.item, c.read_item.new.reader) = rw (← going.1, ← c.in-Some.is) c.in_ok-item.ensures.read in
     record {
       same = l.invariant.same ∙ listed_more shape l.found.items c.args.depth l.reader c.read_item.new.reader c.in-Some.item going.0 one
-        ∙ ap (λ xs. parse_map (left shape xs) (items_read c.args.depth c.read_item.new.reader)) (sym c.in_ok-push.ensures.items);
+          ∙ ap (λ xs. parse_map (left shape xs) (items_read c.args.depth c.read_item.new.reader)) (sym c.in_ok-push.ensures.items);
       fewer = omega (arith, l.invariant.fewer, less);
     }
 

@@ -8,7 +8,7 @@ use Rattle.tk_stream.proofs.listed.read_items.Given as goal
 abbrev pub invariant-items : goal.invariant-items
 invariant-items g l = record {
   same : parse_map (λ ds. each_of g.T.Shaped.shape (values_of ds)) (items_read l.depth l.initial.reader)
-    ≡ parse_map (λ ds. with_front l.found.items (each_of g.T.Shaped.shape (values_of ds))) (items_read l.depth l.reader);
+      ≡ parse_map (λ ds. with_front l.found.items (each_of g.T.Shaped.shape (values_of ds))) (items_read l.depth l.reader);
   fewer : length l.reader ≤ length l.initial.reader;
 }
 

@@ -29,8 +29,8 @@ returns-in_ok-list-in-BeginArray-clause-read g c =
 
 pub returns-in_ok-pass_token-in_default-token : goal.returns-in_ok-pass_token-in_default-token
 returns-in_ok-pass_token-in_default-token g c = record {
-      read =
-        let first : c.args.reader.now ≡ token_of c.in-Some.token ∷ c.next.new.self = grind arith in
-        other_passed g.T.Shaped.shape c.args.depth c.in-Some.token _ _ _ first c.in_default-token.not-BeginArray c.in_ok-pass_token-in_default-token.ensures.passed;
-      refused = λ e. absurd (cc);
-    }
+  read =
+      let first : c.args.reader.now ≡ token_of c.in-Some.token ∷ c.next.new.self = grind arith in
+      other_passed g.T.Shaped.shape c.args.depth c.in-Some.token _ _ _ first c.in_default-token.not-BeginArray c.in_ok-pass_token-in_default-token.ensures.passed;
+  refused = λ e. absurd (cc);
+}

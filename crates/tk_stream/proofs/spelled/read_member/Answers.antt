@@ -1,8 +1,7 @@
 use Rattle.std.proofs.Common.{◌≡◌, string_bytes, ap, ap₂, ◌∙◌, rules}
 use Rattle.serde_json.specs.Data.{put}
-use Rattle.serde_json.specs.View.{view, members_view}
+use Rattle.serde_json.specs.View.{members_view}
 use Rattle.serde_json.proofs.Views.{members_view-insert_entry}
-use Rattle.tk_stream.specs.Spelled.{stands_for}
 use Rattle.tk_stream.proofs.spelled.read_member.Goals as goal
 
 pub returns-clause-read : goal.returns-clause-read

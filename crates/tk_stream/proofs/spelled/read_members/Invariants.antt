@@ -8,7 +8,7 @@ use Rattle.tk_stream.proofs.spelled.read_members.Given as goal
 abbrev pub invariant-members : goal.invariant-members
 invariant-members l = record {
   same : (held : Members) × (members_read no_members l.depth l.initial.reader ≡ members_read held l.depth l.reader)
-    × (l.lists ≡ lists_in held) × (members_view l.own.entries ≡ own_members held);
+      × (l.lists ≡ lists_in held) × (members_view l.own.entries ≡ own_members held);
   fewer : length l.reader ≤ length l.initial.reader;
 }
 

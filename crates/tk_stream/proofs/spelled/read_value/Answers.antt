@@ -25,8 +25,8 @@ returns-in-BeginObject-clause-refused c = λ refused.
 
 pub returns-in_ok-pass_token-in_default-token : goal.returns-in_ok-pass_token-in_default-token
 returns-in_ok-pass_token-in_default-token c = record {
-      read =
-        let first : c.args.reader.now ≡ token_of c.in-Some.token ∷ c.next.new.self = grind arith in
-        other_value 127 c.in-Some.token _ _ _ first c.in_default-token.not-BeginObject c.in_ok-pass_token-in_default-token.ensures.passed;
-      refused = λ e. absurd (cc);
-    }
+  read =
+      let first : c.args.reader.now ≡ token_of c.in-Some.token ∷ c.next.new.self = grind arith in
+      other_value 127 c.in-Some.token _ _ _ first c.in_default-token.not-BeginObject c.in_ok-pass_token-in_default-token.ensures.passed;
+  refused = λ e. absurd (cc);
+}
