@@ -7,6 +7,7 @@ mod gone;
 mod memory;
 mod pieces;
 mod random;
+mod respelled;
 mod rows;
 mod spelled;
 mod texts;

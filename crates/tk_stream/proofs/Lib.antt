@@ -16,3 +16,5 @@ pub mod InfoTexts
 pub mod FrontLemmas
 pub mod RangeLemmas
 pub mod PruneLemmas
+pub mod Listing
+pub mod Keys

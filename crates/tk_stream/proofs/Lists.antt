@@ -11,7 +11,7 @@ use Rattle.tk_stream.specs.Outcome.{Fails, shaped}
 abbrev pub with_front : {A : Type 0} → List A → Option (List A) → Option (List A)
 with_front front rest = option_map (λ xs. front ++ xs) rest
 
-regroup : {A : Type 0} (front : List A) (x : A) (rest : Option (List A)) → with_front front (option_map (λ xs. x ∷ xs) rest) ≡ with_front (front ++ x ∷ []) rest
+pub regroup : {A : Type 0} (front : List A) (x : A) (rest : Option (List A)) → with_front front (option_map (λ xs. x ∷ xs) rest) ≡ with_front (front ++ x ∷ []) rest
 regroup front x (Some xs) = ap Some (sym (append_assoc front (x ∷ []) xs))
 regroup front x None = refl
 

@@ -22,6 +22,8 @@ pub mod Entries
 pub mod Slots
 pub mod Kept
 pub mod Behind
+pub mod Spelled
+pub mod SmallShapes
 -- Where an item stands in its list
 pub mod Places
 pub mod Fronts

@@ -1,10 +1,11 @@
 //! Why there is no line.
 ghost use Rattle.std.specs.Prelude.{◌≡◌};
 ghost use Rattle.tk_stream.specs.declared.error.LineError.TheVariants.{Memory};
-ghost use Rattle.tk_stream.specs.Errors.{code_of};
+ghost use Rattle.tk_stream.specs.Errors.{code_of, fault_of};
 
 use std::alloc::{AllocError, AllocFailed};
 use thiserror::Error;
+use tk_json::JsonFault;
 
 /// Why a line was not made, read or written. A refused call changes nothing.
 #[derive(Clone, Copy, Debug, PartialEq, Eq, Error)]
@@ -48,5 +49,17 @@ impl<T: Drop> From<AllocFailed<T>> for LineError {
 
     fn from(_refused: AllocFailed<T>) -> LineError {
         LineError::Memory
+    }
+}
+
+/// A text from which no value was read is no line, for the same reason.
+impl From<JsonFault> for LineError {
+    ghost from_gives = { λ fault e. e ≡ fault_of fault };
+
+    fn from(fault: JsonFault) -> LineError {
+        match fault {
+            JsonFault::Memory => LineError::Memory,
+            JsonFault::BadJson => LineError::BadJson,
+        }
     }
 }

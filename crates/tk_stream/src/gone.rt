@@ -1,20 +1,19 @@
 //! Which items a line says are gone.
-ghost use Rattle.std.specs.Prelude.{◌++◌, map, option_map, IfOk, IfSome, OnOk};
+ghost use Rattle.std.specs.Prelude.{◌≡◌, ◌++◌, Some, option_map, IfOk, IfSome, OnOk, IsSome, IsTrue};
 ghost use Rattle.serde_json.specs.View.{view};
 ghost use Rattle.serde_json.specs.Written.{compact_text, comma_if};
 ghost use Rattle.tk_stream.specs.Behind.{Puts, Takes};
-ghost use Rattle.tk_stream.specs.Outcome.{Answers, shaped};
 ghost use Rattle.tk_stream.specs.Ranges as ranges;
-ghost use Rattle.tk_stream.specs.Reading as reading;
+ghost use Rattle.tk_stream.specs.Spelled as spelled;
 ghost use Rattle.tk_stream.specs.Spelling as spec;
 
 use crate::error::LineError;
 use crate::fields::{op_id_of, resource_id_of, task_id_of};
+use crate::listed::Listed;
 use crate::pieces::put_text;
 use crate::putting::{Written, put_open};
 use crate::ranged::{Ranged, see_all};
-use crate::reading::GoneParts;
-use crate::shaped::{Shaped, list_of};
+use crate::shaped::Shaped;
 use crate::short::{ROOM, comma_before, number_before, put_short};
 use crate::takes::{op_id, resource_id, take_number, take_text, task_id};
 use crate::taking::{Taken, some_of, take_list};
@@ -138,6 +137,7 @@ impl Taken for AsyncOpId {
 
 impl Shaped for TaskId {
     ghost use Rattle.tk_stream.specs.Reading.{id_of as shape_of_id};
+    ghost use Rattle.tk_stream.specs.SmallShapes.{id_small};
 
     ghost shape = { shape_of_id };
 
@@ -147,10 +147,13 @@ impl Shaped for TaskId {
             None => Err(LineError::BadShape),
         }
     }
+
+    ghost keeps = { id_small };
 }
 
 impl Shaped for ResourceId {
     ghost use Rattle.tk_stream.specs.Reading.{id_of as shape_of_id};
+    ghost use Rattle.tk_stream.specs.SmallShapes.{id_small};
 
     ghost shape = { shape_of_id };
 
@@ -160,10 +163,13 @@ impl Shaped for ResourceId {
             None => Err(LineError::BadShape),
         }
     }
+
+    ghost keeps = { id_small };
 }
 
 impl Shaped for AsyncOpId {
     ghost use Rattle.tk_stream.specs.Reading.{id_of as shape_of_id};
+    ghost use Rattle.tk_stream.specs.SmallShapes.{id_small};
 
     ghost shape = { shape_of_id };
 
@@ -173,6 +179,8 @@ impl Shaped for AsyncOpId {
             None => Err(LineError::BadShape),
         }
     }
+
+    ghost keeps = { id_small };
 }
 
 impl Gone {
@@ -255,28 +263,23 @@ fn take_lists(alloc: Global, bytes: &[u8]) -> Result<Option<(Gone, &[u8])>, Allo
     Ok(Some((gone, rest)))
 }
 
-fn ids_gone(alloc: Global, parts: &GoneParts<'_>) -> Result<Gone, LineError>
-    ensures { Answers (λ gone. gone) result (shaped (reading.ids_gone (record { ops = map view parts.now.ops.now; resources = map view parts.now.resources.now; tasks = map view parts.now.tasks.now }))) }
+/// What is gone, where a line says it.
+pub(crate) fn gone_with(
+    says_gone: bool,
+    ops: Listed<AsyncOpId>,
+    resources: Listed<ResourceId>,
+    tasks: Listed<TaskId>,
+) -> Option<Gone>
+    requires { IsTrue says_gone → IsSome ops × IsSome resources × IsSome tasks }
+    ensures { spelled.gone_with says_gone (option_map (λ v. v.items) ops) (option_map (λ v. v.items) resources) (option_map (λ v. v.items) tasks) ≡ Some result }
 {
-    let ops = list_of(alloc, parts.ops)?;
-    let resources = list_of(alloc, parts.resources)?;
-    let tasks = list_of(alloc, parts.tasks)?;
-    Ok(Gone {
-        ops,
-        resources,
-        tasks,
-    })
-}
-
-/// The ids of what is gone, where a line says it.
-pub(crate) fn gone_of(
-    alloc: Global,
-    parts: &Option<GoneParts<'_>>,
-) -> Result<Option<Gone>, LineError>
-    ensures { Answers (λ gone. gone) result (shaped (reading.gone_of_parts (option_map (λ g. record { ops = map view g.ops.now; resources = map view g.resources.now; tasks = map view g.tasks.now }) parts.now))) }
-{
-    match parts {
-        Some(parts) => Ok(Some(ids_gone(alloc, parts)?)),
-        None => Ok(None),
+    if says_gone {
+        Some(Gone {
+            ops: ops.unwrap(),
+            resources: resources.unwrap(),
+            tasks: tasks.unwrap(),
+        })
+    } else {
+        None
     }
 }

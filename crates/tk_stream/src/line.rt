@@ -26,8 +26,8 @@ ghost use Rattle.std.specs.Prelude.{◌≡◌, ◌++◌, [], true, codes, IfOk, 
 ghost use Rattle.serde_json.specs.View.{view};
 ghost use Rattle.serde_json.specs.Written.{compact_text};
 ghost use Rattle.tk_stream.specs.Lines as lines;
-ghost use Rattle.tk_stream.specs.Outcome.{Answers, shaped};
-ghost use Rattle.tk_stream.specs.Reading as reading;
+ghost use Rattle.tk_stream.specs.Outcome.{Answers};
+ghost use Rattle.tk_stream.specs.Spelled.{line_of_lists};
 ghost use Rattle.tk_stream.specs.Spelling as spec;
 ghost use Rattle.tk_stream.specs.Behind.{Puts, Takes};
 ghost use Rattle.std.specs.List.{AllByRecursion};
@@ -36,15 +36,16 @@ ghost use Rattle.tk_stream.specs.Retention.{due_of, prune, line_pruned, told_wit
 
 use crate::between::{infos_behind, new_infos, stats_beside, told_stats};
 use crate::error::LineError;
-use crate::gone::{Gone, gone_of, put_gone, see_gone, take_gone};
+use crate::gone::{Gone, gone_with, put_gone, see_gone, take_gone};
 use crate::leaving::{Leaving, due, leave_out};
+use crate::line_lists::LineLists;
 use crate::op::Op;
 use crate::putting::{put_items, put_open};
 use crate::ranged::{see_all, see_number, see_totals};
-use crate::reading::{LineParts, json_of};
+use crate::reading::numbers_of;
 use crate::resource::Resource;
-use crate::shaped::list_of;
 use crate::short::{ROOM, flag_before, number_before, put_short, text_before};
+use crate::spelled::read_spelled;
 use crate::tables::Tables;
 use crate::takes::{take_flag, take_number, take_text};
 use crate::taking::{some_of, take_list};
@@ -277,9 +278,12 @@ impl Line {
     /// The line of a text: the JSON object that `serde_json` reads, with exactly the keys of version 1 or 2, each with a value
     /// of its kind. White space between its parts and the order of its keys are free.
     ///
+    /// No value is built of the whole text: the lists are read item by item, and of what no line has nothing is kept. So whatever the
+    /// bytes are, the call holds little more than the text once more and the lists of the line.
+    ///
     /// - `BadJson`: `serde_json` reads no value. Bytes that are not UTF-8 are such a text, and an empty one.
     /// - `BadShape`: the value is no line.
-    /// - `Memory`: there is no memory for the value or the line.
+    /// - `Memory`: there is no memory for the text once more, or for the line.
     pub fn read(alloc: Global, bytes: &[u8]) -> Result<Line, LineError>
         ensures { Answers (λ line. line) result (line_of_text bytes.now) }
     {
@@ -287,8 +291,56 @@ impl Line {
             line.ranges();
             return Ok(line);
         }
-        let value = json_of(alloc, bytes)?;
-        line_of(alloc, &value)
+        read_spelled(alloc, bytes)
+    }
+
+    /// The line of an object whose lists were read by themselves, if it is one.
+    #[tactic(auto, unfolding(crate::specs::Spelled::line_with))]
+    pub(crate) fn of_lists(own: &Value, lists: LineLists) -> Option<Line>
+        ensures { result ≡ line_of_lists (view own.now) lists }
+    {
+        let numbers = numbers_of(own)?;
+        if !lists.are_whole(numbers.says_gone) {
+            return None;
+        }
+        let LineLists {
+            gone_ops,
+            gone_resources,
+            gone_tasks,
+            new_ops,
+            new_resources,
+            new_tasks,
+            op_stats,
+            poll_counts,
+            resource_stats,
+            task_stats,
+        } = lists;
+        let gone = gone_with(numbers.says_gone, gone_ops, gone_resources, gone_tasks);
+        let new_ops = new_ops.unwrap();
+        let new_resources = new_resources.unwrap();
+        let new_tasks = new_tasks.unwrap();
+        let op_stats = op_stats.unwrap();
+        let poll_counts = poll_counts.unwrap();
+        let resource_stats = resource_stats.unwrap();
+        let task_stats = task_stats.unwrap();
+        see_numbers(numbers.dropped, numbers.now);
+        see_gone(&gone);
+        see_new_items(&new_ops, &new_resources, &new_tasks);
+        see_stats(&op_stats, &poll_counts, &resource_stats, &task_stats);
+        Some(Line {
+            dropped: numbers.dropped,
+            gone,
+            new_ops,
+            new_resources,
+            new_tasks,
+            moment: numbers.now,
+            op_stats,
+            poll_counts,
+            resource_stats,
+            seq: numbers.seq,
+            snapshot: numbers.snapshot,
+            task_stats,
+        })
     }
 
     /// The text of the line: one JSON object, compact, with its keys in byte order and without a line end.
@@ -568,41 +620,6 @@ fn put_dropped(
     let at = number_before(scratch, at, b"{\"dropped\":[", dropped.tasks);
     put_short(out, scratch, at)?;
     Ok(())
-}
-
-#[tactic(auto, unfolding(crate::specs::Reading::line_of))]
-fn line_of(alloc: Global, value: &Value) -> Result<Line, LineError>
-    ensures { Answers (λ line. line) result (shaped (reading.line_of (view value.now))) }
-{
-    let Some(parts) = LineParts::of(value) else {
-        return Err(LineError::BadShape);
-    };
-    let gone = gone_of(alloc, &parts.gone)?;
-    let new_ops = list_of(alloc, parts.new_ops)?;
-    let new_resources = list_of(alloc, parts.new_resources)?;
-    let new_tasks = list_of(alloc, parts.new_tasks)?;
-    let op_stats = list_of(alloc, parts.op_stats)?;
-    let poll_counts = list_of(alloc, parts.poll_counts)?;
-    let resource_stats = list_of(alloc, parts.resource_stats)?;
-    let task_stats = list_of(alloc, parts.task_stats)?;
-    see_numbers(parts.dropped, parts.now);
-    see_gone(&gone);
-    see_new_items(&new_ops, &new_resources, &new_tasks);
-    see_stats(&op_stats, &poll_counts, &resource_stats, &task_stats);
-    Ok(Line {
-        dropped: parts.dropped,
-        gone,
-        new_ops,
-        new_resources,
-        new_tasks,
-        moment: parts.now,
-        op_stats,
-        poll_counts,
-        resource_stats,
-        seq: parts.seq,
-        snapshot: parts.snapshot,
-        task_stats,
-    })
 }
 
 fn take_dropped<'a>(bytes: &'a [u8], before: &[u8]) -> Option<(Dropped, &'a [u8])>

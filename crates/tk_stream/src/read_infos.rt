@@ -146,6 +146,7 @@ fn new_unit(alloc: Global, unit: Option<&str>) -> Result<Option<Name>, LineError
 
 impl Shaped for AttrInfo {
     ghost use Rattle.tk_stream.specs.Reading.{attr_of as shape_of_attr};
+    ghost use Rattle.tk_stream.specs.SmallShapes.{attr_small};
 
     ghost shape = { shape_of_attr };
 
@@ -158,6 +159,8 @@ impl Shaped for AttrInfo {
         let unit = new_unit(alloc, unit)?;
         Ok(AttrInfo { name, unit, kind })
     }
+
+    ghost keeps = { attr_small };
 }
 
 #[tactic(auto, unfolding(crate::specs::Reading::attrs_in))]
@@ -222,6 +225,7 @@ fn info_of(value: &Value) -> Option<InfoParts<'_>>
 
 impl Shaped for TaskInfo {
     ghost use Rattle.tk_stream.specs.Reading.{info_of as shape_of_info};
+    ghost use Rattle.tk_stream.specs.SmallShapes.{info_small};
 
     ghost shape = { shape_of_info };
 
@@ -244,6 +248,8 @@ impl Shaped for TaskInfo {
             location,
         })
     }
+
+    ghost keeps = { info_small };
 }
 
 // ---- resources
@@ -294,6 +300,7 @@ fn resource_parts(value: &Value) -> Option<ResourceParts<'_>>
 
 impl Shaped for ResourceInfo {
     ghost use Rattle.tk_stream.specs.Reading.{resource_of as shape_of_info};
+    ghost use Rattle.tk_stream.specs.SmallShapes.{resource_small};
 
     ghost shape = { shape_of_info };
 
@@ -323,6 +330,8 @@ impl Shaped for ResourceInfo {
             attrs,
         })
     }
+
+    ghost keeps = { resource_small };
 }
 
 // ---- async operations
@@ -367,6 +376,7 @@ fn op_parts(value: &Value) -> Option<OpParts<'_>>
 
 impl Shaped for OpInfo {
     ghost use Rattle.tk_stream.specs.Reading.{op_of as shape_of_info};
+    ghost use Rattle.tk_stream.specs.SmallShapes.{op_small};
 
     ghost shape = { shape_of_info };
 
@@ -392,4 +402,6 @@ impl Shaped for OpInfo {
             attrs,
         })
     }
+
+    ghost keeps = { op_small };
 }

@@ -37,6 +37,7 @@ fn value_of(value: &Value) -> Option<AttrValue>
 
 impl Shaped for AttrValue {
     ghost use Rattle.tk_stream.specs.Reading.{value_of as shape_of_value};
+    ghost use Rattle.tk_stream.specs.SmallShapes.{value_small};
 
     ghost shape = { shape_of_value };
 
@@ -46,6 +47,8 @@ impl Shaped for AttrValue {
             None => Err(LineError::BadShape),
         }
     }
+
+    ghost keeps = { value_small };
 }
 
 #[tactic(auto, unfolding(crate::specs::Reading::values_in))]
@@ -106,6 +109,7 @@ fn stats_of(value: &Value) -> Option<(TaskId, TaskRow)>
 
 impl Shaped for (TaskId, TaskRow) {
     ghost use Rattle.tk_stream.specs.Reading.{stats_of as shape_of_stats};
+    ghost use Rattle.tk_stream.specs.SmallShapes.{stats_small};
 
     ghost shape = { shape_of_stats };
 
@@ -115,6 +119,8 @@ impl Shaped for (TaskId, TaskRow) {
             None => Err(LineError::BadShape),
         }
     }
+
+    ghost keeps = { stats_small };
 }
 
 #[tactic(auto, unfolding(crate::specs::Reading::resource_stats_with))]
@@ -139,6 +145,7 @@ fn resource_stats_with(attrs: AttrValues, value: &Value) -> Option<(ResourceId, 
 
 impl Shaped for (ResourceId, ResourceRow) {
     ghost use Rattle.tk_stream.specs.Reading.{resource_stats_of as shape_of_stats};
+    ghost use Rattle.tk_stream.specs.SmallShapes.{resource_stats_small};
 
     ghost shape = { shape_of_stats };
 
@@ -153,6 +160,8 @@ impl Shaped for (ResourceId, ResourceRow) {
             None => Err(LineError::BadShape),
         }
     }
+
+    ghost keeps = { resource_stats_small };
 }
 
 #[tactic(auto, unfolding(crate::specs::Reading::op_stats_with))]
@@ -191,6 +200,7 @@ fn op_stats_with(attrs: AttrValues, value: &Value) -> Option<(AsyncOpId, OpRow)>
 
 impl Shaped for (AsyncOpId, OpRow) {
     ghost use Rattle.tk_stream.specs.Reading.{op_stats_of as shape_of_stats};
+    ghost use Rattle.tk_stream.specs.SmallShapes.{op_stats_small};
 
     ghost shape = { shape_of_stats };
 
@@ -205,6 +215,8 @@ impl Shaped for (AsyncOpId, OpRow) {
             None => Err(LineError::BadShape),
         }
     }
+
+    ghost keeps = { op_stats_small };
 }
 
 fn counts_in(values: &[Value]) -> Option<(ResourceId, u64, u64)>
@@ -237,6 +249,7 @@ pub(crate) fn values_of(value: &Value) -> Option<&[Value]>
 
 impl Shaped for (ResourceId, u64, u64) {
     ghost use Rattle.tk_stream.specs.Reading.{counts_of as shape_of_counts};
+    ghost use Rattle.tk_stream.specs.SmallShapes.{counts_small};
 
     ghost shape = { shape_of_counts };
 
@@ -246,4 +259,6 @@ impl Shaped for (ResourceId, u64, u64) {
             None => Err(LineError::BadShape),
         }
     }
+
+    ghost keeps = { counts_small };
 }

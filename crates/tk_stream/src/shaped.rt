@@ -1,7 +1,8 @@
 //! What is read of JSON, and lists of it.
-ghost use Rattle.std.specs.Prelude.{Option, map};
+ghost use Rattle.std.specs.Prelude.{◌≡◌, Option, map};
 ghost use Rattle.serde_json.specs.Data.{Data};
 ghost use Rattle.serde_json.specs.View.{view};
+ghost use Rattle.tk_json.specs.Small.{small};
 ghost use Rattle.tk_stream.specs.Outcome.{Answers, shaped};
 ghost use Rattle.tk_stream.specs.Reading.{each_of};
 
@@ -16,6 +17,9 @@ pub(crate) trait Shaped: Drop {
 
     fn of_value(alloc: Global, value: &Value) -> Result<Self, LineError>
         ensures { Answers (λ x. x) result (shaped (shape (view value.now))) };
+
+    /// What is kept of a value, three levels deep, is the same.
+    ghost keeps: { (d : Data) → shape (small d 3) ≡ shape d };
 }
 
 /// What each value of a list is.

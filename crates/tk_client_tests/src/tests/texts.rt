@@ -136,3 +136,35 @@ pub(super) fn gone_in_snapshot() -> &'static [u8] {
 pub(super) fn gone_at_first() -> &'static [u8] {
     b"{\"dropped\":[0,0,0],\"gone_ops\":[],\"gone_resources\":[],\"gone_tasks\":[1099511627777],\"new_ops\":[],\"new_resources\":[],\"new_tasks\":[],\"now\":6,\"op_stats\":[],\"poll_counts\":[],\"resource_stats\":[],\"seq\":1,\"snapshot\":false,\"task_stats\":[],\"v\":2}\n"
 }
+
+// A line with an item of each kind, attributes of each kind, and poll counts.
+pub(super) fn items_line() -> &'static str {
+    r#"{"dropped":[1,0,0],"new_ops":[{"attrs":[["ahead",null,"i64"],["queued",null,"bool"]],"id":1099511627777,"parent":null,"resource":1099511627777,"source":"pop"}],"new_resources":[{"attrs":[["lag","ms","i64"],["most",null,"u64"]],"id":1099511627777,"kind":"Sync","loc":["script",1,1],"parent":null,"type":"Queue"}],"new_tasks":[{"id":1099511627777,"kind":"spawn","loc":["script",1,1],"name":"main"}],"now":50,"op_stats":[{"attrs":[[7],true],"busy":0,"created":30,"dropped":null,"first_poll":null,"handles":1,"id":1099511627777,"last_ended":null,"last_started":null,"polling":false,"polls":0,"task":null}],"poll_counts":[[1099511627777,1,0]],"resource_stats":[{"attrs":[[-3],9],"created":20,"dropped":null,"handles":2,"id":1099511627777}],"seq":1,"snapshot":false,"task_stats":[{"busy":0,"clones":0,"created":5,"dropped":null,"drops":0,"first_poll":null,"handles":1,"id":1099511627777,"last_ended":null,"last_started":null,"last_wake":null,"polling":false,"polls":0,"sched":0,"scheduled":true,"self_wakes":0,"wakes":0}],"v":1}"#
+}
+
+// A first line that says what is gone: nothing, though it has the lists.
+pub(super) fn gone_line() -> &'static str {
+    r#"{"dropped":[0,0,0],"gone_ops":[],"gone_resources":[],"gone_tasks":[],"new_ops":[],"new_resources":[],"new_tasks":[],"now":15,"op_stats":[],"poll_counts":[],"resource_stats":[],"seq":1,"snapshot":false,"task_stats":[],"v":2}"#
+}
+
+// Values that stand in another's place: of each kind, too wide or too deep for any that a line has, and no JSON.
+pub(super) fn other_values() -> [&'static str; 16] {
+    [
+        "null",
+        "0",
+        "-1",
+        "1.0",
+        "1e999",
+        "true",
+        "\"\"",
+        "\"\\u0041\"",
+        "[]",
+        "[0,0,0,0,0,0,0]",
+        "[[[[[0]]]]]",
+        "{}",
+        "{\"\":0}",
+        "{\"a\":0,\"b\":0,\"c\":0,\"d\":0,\"e\":0,\"f\":0,\"g\":0,\"h\":0,\"i\":0,\"j\":0,\"k\":0,\"l\":0,\"m\":0,\"n\":0,\"o\":0,\"p\":0,\"q\":0,\"r\":0}",
+        "[1,]",
+        "01",
+    ]
+}

@@ -9,13 +9,16 @@ use tk_stream::Line;
 // Texts of lines, written as a line writes itself.
 const SAME: [&str; 8] = [EMPTY, FIRST, CHANGED, UNCHANGED, FULL, TWO, SIGNED, GONE];
 
-// The line without items in other texts: with white space, in another order, and with keys twice, of which the last counts.
+// The line without items in other texts: with white space, in another order, and with keys twice or often,
+// lists among them, of which the last counts.
 #[rattlefmt::skip]
-const OTHERS: [&str; 4] = [
+const OTHERS: [&str; 6] = [
     " {\t\"dropped\" : [ 0 , 0 , 0 ] ,\n\"new_ops\":[ ],\"new_resources\":[],\"new_tasks\":[],\"now\":5,\"op_stats\":[],\"poll_counts\":[],\"resource_stats\":[],\"seq\":1,\"snapshot\":false,\"task_stats\":[],\"v\":1}\r\n",
     r#"{"v":1,"task_stats":[],"snapshot":false,"seq":1,"resource_stats":[],"poll_counts":[],"op_stats":[],"now":5,"new_tasks":[],"new_resources":[],"new_ops":[],"dropped":[0,0,0]}"#,
     r#"{"now":7,"dropped":[0,0,0],"new_ops":[],"new_resources":[],"new_tasks":[],"now":5,"op_stats":[],"poll_counts":[],"resource_stats":[],"seq":1,"snapshot":false,"task_stats":[],"v":1}"#,
     r#"{"now":null,"dropped":[0,0,0],"new_ops":[],"new_resources":[],"new_tasks":[],"now":5,"op_stats":[],"poll_counts":[],"resource_stats":[],"seq":0,"snapshot":false,"task_stats":[],"v":1,"seq":1}"#,
+    r#"{"new_tasks":[{"id":1099511627777,"kind":"spawn","loc":["script",1,1],"name":"main"},0],"task_stats":null,"v":[[[[0]]]],"dropped":[0,0,0],"new_ops":[],"new_resources":[],"new_tasks":[],"now":5,"op_stats":[],"poll_counts":[],"resource_stats":[],"seq":1,"snapshot":false,"task_stats":[],"v":1}"#,
+    r#"{"now":0,"now":1,"now":2,"now":3,"now":4,"now":5,"now":6,"now":7,"now":8,"now":9,"now":10,"now":11,"now":12,"now":13,"now":14,"now":15,"now":16,"now":17,"now":18,"now":19,"dropped":[0,0,0],"new_ops":[],"new_resources":[],"new_tasks":[],"now":5,"op_stats":[],"poll_counts":[],"resource_stats":[],"seq":1,"snapshot":false,"task_stats":[],"v":1}"#,
 ];
 
 // Parts of the line with signed attributes, and other spellings of them: with white space, and a kind by its codes.

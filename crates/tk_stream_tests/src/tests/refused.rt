@@ -6,16 +6,20 @@ use std::alloc::Global;
 use std::test::Fail;
 use tk_stream::LineError;
 
-// What `serde_json` does not read: no text, words that are no JSON, no UTF-8, and a bare line end in a text.
+// What `serde_json` does not read: no text, words that are no JSON, no UTF-8, a bare line end in a text, and a fault behind what
+// no line has: another item, another kind of list, and a sixteenth key.
 #[rattlefmt::skip]
-const NO_JSON: [&[u8]; 8] = [
+const NO_JSON: [&[u8]; 13] = [
     b"", b" \n", b"line", b"{\"v\":1", b"{\"v\":1,}", b"1 2", b"\"\xFF\"", b"\"a\nb\"",
+    b"{\"new_tasks\":[0,1e999]}", b"{\"new_tasks\":[0,{\"\":[}]}", b"{\"new_tasks\":{\"a\":01}}", b"{\"v\":1} 1",
+    b"{\"a\":0,\"b\":0,\"c\":0,\"d\":0,\"e\":0,\"f\":0,\"g\":0,\"h\":0,\"i\":0,\"j\":0,\"k\":0,\"l\":0,\"m\":0,\"n\":0,\"o\":0,\"p\":0,\"q\":-}",
 ];
 
-// Values that are not of a line's kind.
+// Values that are not of a line's kind, and an object with more keys than a line has.
 #[rattlefmt::skip]
-const NO_LINES: [&[u8]; 5] = [
+const NO_LINES: [&[u8]; 6] = [
     b"null", b"1", b"\"line\"", b"[]", b"{}",
+    b"{\"a\":0,\"b\":0,\"c\":0,\"d\":0,\"e\":0,\"f\":0,\"g\":0,\"h\":0,\"i\":0,\"j\":0,\"k\":0,\"l\":0,\"m\":0,\"n\":0,\"o\":0,\"p\":0}",
 ];
 
 // A change of the full line after which it is no line: what stood there, and what stands there then.
@@ -114,7 +118,9 @@ const GONE_LISTS: [(&str, &str); 10] = [
 
 // Changes of a line of version 1 after which it is none.
 #[rattlefmt::skip]
-const PLAIN: [(&str, &str); 2] = [
+const PLAIN: [(&str, &str); 4] = [
+    ("\"new_tasks\":[]",   "\"new_tasks\":[],\"new_tasks\":[0]"),
+    ("\"new_tasks\":[]",   "\"new_tasks\":[],\"new_tasks\":null"),
     ("\"v\":1",              "\"v\":2"),
     ("\"dropped\":[0,0,0],", "\"dropped\":[0,0,0],\"gone_ops\":[],\"gone_resources\":[],\"gone_tasks\":[],"),
 ];
