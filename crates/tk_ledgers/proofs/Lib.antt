@@ -14,4 +14,5 @@ pub mod OpLemmas
 pub mod OpPollLemmas
 pub mod OpSumLemmas
 pub mod TimesLemmas
+pub mod TimedLemmas
 pub mod BesideLemmas
