@@ -15,4 +15,5 @@ pub mod OpPollLemmas
 pub mod OpSumLemmas
 pub mod TimesLemmas
 pub mod TimedLemmas
+pub mod TimesReadingLemmas
 pub mod BesideLemmas

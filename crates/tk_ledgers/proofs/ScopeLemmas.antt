@@ -24,10 +24,11 @@ use Rattle.tk_cell.specs.Views.{Known}
 use Rattle.tk_cell.specs.Calls.{entry, Calls}
 use Rattle.tk_ledgers.specs.Handles.{Drew, NotDrawn}
 use Rattle.tk_ledgers.specs.Tasks.{TaskSight, TaskEntries, is_polling, owner_calls}
-use Rattle.tk_ledgers.specs.Times.{runs_after, TimesGrow}
-use Rattle.tk_ledgers.specs.Scopes.{Scoped, owner_list, Grows, is_scope_call, AreOfScope, ScopeGrows}
+use Rattle.tk_ledgers.specs.Times.{runs_after, AreTimesOf, TimesGrow}
+use Rattle.tk_ledgers.specs.Scopes.{Scoped, owner_list, Grows, StaysTimed, is_scope_call, AreOfScope, ScopeGrows}
 use Rattle.tk_ledgers.proofs.TaskPollLemmas.{poll_of}
-use Rattle.tk_ledgers.proofs.TimedLemmas.{runs_append, runs_none, accepted_append, times_kept, times_more, times_stay}
+use Rattle.tk_ledgers.proofs.OwnerLemmas.{accepted_append}
+use Rattle.tk_ledgers.proofs.TimedLemmas.{runs_append, runs_none, stays_timed_by, times_kept, times_more, times_stay}
 
 -- ---- lists that grow
 
@@ -66,6 +67,11 @@ grows_by_call old new call reply id ledger caller k times = record {
   list = subst (λ (n : ℕ). own n new.token.view.seen ≡ own n old.token.view.seen ++ entry n call reply ∷ []) caller k.mine;
   times = times;
 }
+
+pub stays_timed : StaysTimed
+stays_timed old new entries timed g =
+    let calls : owner_calls new ≡ owner_calls old ++ accepted is_accepted entries = ap (λ (l : TaskEntries). accepted is_accepted l) g.list ∙ accepted_append (owner_list old) entries in
+    λ t is. subst (λ (cs : List TaskCall). AreTimesOf cs t) (sym calls) (stays_timed_by (owner_calls old) (accepted is_accepted entries) old.times new.times timed g.times t is)
 
 -- ---- polling, by the owner's list
 

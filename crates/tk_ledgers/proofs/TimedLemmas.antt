@@ -3,8 +3,8 @@ use Rattle.std.proofs.Common.{◌≡◌, ℕ, ◌-◌, Bool, true, false, cond, 
 use Rattle.std.specs.Prelude.{unwrap_or, map}
 use Rattle.std.specs.List.{filter_map}
 use Rattle.std.specs.Option.{option_map, option_or}
-use Rattle.std.proofs.lemmas.List.{append-nil, map-append}
-use Rattle.std.proofs.lemmas.List.Elements.{filter-append, filter_map-append}
+use Rattle.std.proofs.lemmas.List.{append-nil}
+use Rattle.std.proofs.lemmas.List.Elements.{filter_map-append}
 use Rattle.tk_core.specs.declared.history.Entry.{Entry}
 use Rattle.tk_core.specs.declared.reply.Refusal.{Refusal}
 use Rattle.tk_core.specs.declared.reply.Refusal.TheVariants.{AlreadyPolling, NotPolling, Closed, HandlesSpent, NoAttribute, WrongKind, OutOfRange, Memory}
@@ -58,15 +58,11 @@ pub runs_ended : (before : List TaskCall) (moment : ℕ) → runs_after before (
 unfolding runs_after
 runs_ended before moment = refl
 
-pub accepted_append : (xs ys : TaskEntries) → accepted is_accepted (xs ++ ys) ≡ accepted is_accepted xs ++ accepted is_accepted ys
-unfolding accepted
-accepted_append xs ys = rw (filter-append, map-append) refl
-
 -- ---- histograms that grow
 
 pub times_same : (o : Option KnownTimes) → TimesGrow o [] o
 times_same None = refl
-times_same (Some t) = (t, refl, refl, sym (append-nil (added_times t)))
+times_same (Some t) = (t, refl, refl, refl, sym (append-nil (added_times t)))
 
 pub times_kept : (old new : Option KnownTimes) → new ≡ old → TimesGrow old [] new
 times_kept old new is = subst (λ (o : Option KnownTimes). TimesGrow old [] o) (sym is) (times_same old)
@@ -78,7 +74,8 @@ times_more (Some a) b c xs ys p q =
       next.0,
       next.1,
       next.2 ∙ p.2,
-      next.3 ∙ (ap (λ (l : List ℕ). l ++ ys) p.3 ∙ append_assoc (added_times a) xs ys),
+      next.3 ∙ p.3,
+      next.4 ∙ (ap (λ (l : List ℕ). l ++ ys) p.4 ∙ append_assoc (added_times a) xs ys),
     )
 
 -- a time that is added
@@ -105,7 +102,20 @@ entry_adds_none old new call reply none caller k =
 
 pub times_added : (old new : Option KnownTimes) (time : ℕ) → AddsTime old time new → TimesGrow old (time ∷ []) new
 times_added None new time is = is
-times_added (Some old) new time is = (is.0, is.1, is.2, added_then old is.0 time is.3 is.4)
+times_added (Some old) new time is = (is.0, is.1, is.2, is.4.same_caller, added_then old is.0 time is.3 is.4)
+
+-- so its times stay how long the polls ran
+pub stays_timed_by : (calls more : List TaskCall) (old new : Option KnownTimes) → ((t : KnownTimes) → old ≡ Some t → AreTimesOf calls t) → TimesGrow old (runs_after calls more) new → (t : KnownTimes) → new ≡ Some t → AreTimesOf (calls ++ more) t
+stays_timed_by calls more None new timed g t is = let none : None ≡ Some t = sym g ∙ is in absurd cc
+stays_timed_by calls more (Some old) new timed g t is =
+    let was = timed old refl in
+    let some : Some g.0 ≡ Some t = sym g.1 ∙ is in
+    let same : g.0 ≡ t = cc in
+    let grown : AreTimesOf (calls ++ more) g.0 = record {
+      caller = g.3 ∙ was.caller;
+      runs = g.4 ∙ (ap (λ (l : List ℕ). l ++ runs_after calls more) was.runs ∙ sym (runs_append [] calls more));
+    } in
+    subst (λ (x : KnownTimes). AreTimesOf (calls ++ more) x) same grown
 
 -- what one entry of the owner adds
 pub times_stay : (before : List TaskCall) (call : TaskCall) (reply : Reply TaskRow) (old new : Option KnownTimes) → end_at call ≡ None → new ≡ old → TimesGrow old (runs_after before (accepted is_accepted (entry 0 call reply ∷ []))) new

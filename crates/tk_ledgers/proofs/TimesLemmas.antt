@@ -1,5 +1,5 @@
 -- What the calls on a histogram are answered, wherever they are made.
-use Rattle.std.proofs.Common.{ℕ, ◌+◌, ◌^◌, Bool, true, false, List, Some, None, refl, inl, inr}
+use Rattle.std.proofs.Common.{◌≡◌, ℕ, ◌+◌, ◌^◌, Bool, true, false, List, Some, None, refl, inl, inr}
 use Rattle.std.specs.Prelude.{◌==◌, if◌then◌else◌}
 use Rattle.tk_core.specs.declared.reply.Refusal.TheVariants.{HandlesSpent}
 use Rattle.tk_core.specs.declared.reply.Reply.TheVariants.{Number}

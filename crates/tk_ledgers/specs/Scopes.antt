@@ -7,7 +7,7 @@ use Rattle.tk_core.specs.History.{accepted}
 use Rattle.tk_core.specs.Fold.{is_accepted}
 use Rattle.tk_core.specs.Legal.{own}
 use Rattle.tk_ledgers.specs.Tasks.{TaskSight, TaskEntries, owner_calls}
-use Rattle.tk_ledgers.specs.Times.{runs_after, TimesGrow}
+use Rattle.tk_ledgers.specs.Times.{runs_after, IsTimed, TimesGrow}
 
 -- what contracts see of a scope: the owner that it holds, and the moment that it was opened at
 pub record Scoped : Type 0 where
@@ -24,6 +24,10 @@ pub record Grows (old : TaskSight) (entries : TaskEntries) (new : TaskSight) : T
   pub ledger : new.token.ledger ≡ old.token.ledger
   pub list : owner_list new ≡ owner_list old ++ entries
   pub times : TimesGrow old.times (runs_after (owner_calls old) (accepted is_accepted entries)) new.times
+
+-- the times of a task's histogram stay how long its polls ran
+abbrev pub StaysTimed : Type 0
+StaysTimed = (old new : TaskSight) (entries : TaskEntries) → IsTimed old → Grows old entries new → IsTimed new
 
 -- the calls of a scope: a clone of a waker, and a wake by reference that is a self-wake
 abbrev pub is_scope_call : TaskCall → Bool

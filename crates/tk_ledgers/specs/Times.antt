@@ -60,10 +60,10 @@ pub record AreTimesOf (calls : List TaskCall) (t : KnownTimes) : Type 0 where
 abbrev pub IsTimed : TaskSight → Type 0
 IsTimed h = (t : KnownTimes) → h.times ≡ Some t → AreTimesOf (owner_calls h) t
 
--- a histogram that there is stays, with these times added; where there is none there will be none
+-- a histogram that there is stays its owner's, with these times added; where there is none there will be none
 abbrev pub TimesGrow : Option KnownTimes → List ℕ → Option KnownTimes → Type 0
 TimesGrow None times new = new ≡ None
-TimesGrow (Some old) times new = (t : KnownTimes) × (new ≡ Some t) × (t.ledger ≡ old.ledger) × (added_times t ≡ added_times old ++ times)
+TimesGrow (Some old) times new = (t : KnownTimes) × (new ≡ Some t) × (t.ledger ≡ old.ledger) × (t.view.caller ≡ old.view.caller) × (added_times t ≡ added_times old ++ times)
 
 -- ---- the calls of handles
 

@@ -112,7 +112,10 @@ impl TaskOwner {
 
     /// Whether it has a histogram of how long its polls ran. No entry is made.
     pub fn has_times(&self) -> bool
-        ensures { result ≡ is_some self.now.times }
+        ensures has { result ≡ is_some self.now.times }
+
+        // Its times are how long the polls ran that have ended, each once and in their order.
+        ensures timed { IsTimed self.now }
     {
         self.timed.is_some()
     }
