@@ -37,6 +37,14 @@ IsOfTask id (Some times) = times.id ≡ id
 abbrev pub known_times : Option TimesSight → Option KnownTimes
 known_times times = option_map (λ t. t.token) times
 
+-- two tokens are of the same histogram, or of none
+abbrev pub IsSameHistogram : Option KnownTimes → Option KnownTimes → Type 0
+IsSameHistogram old new = option_map (λ (t : KnownTimes). t.ledger) new ≡ option_map (λ (t : KnownTimes). t.ledger) old
+
+-- a token is of the histogram that there is
+abbrev pub IsOfHistogram : Option KnownTimes → KnownTimes → Type 0
+IsOfHistogram times t = Some t.ledger ≡ option_map (λ (t : KnownTimes). t.ledger) times
+
 -- ---- the times of a histogram, and the polls of its task
 
 -- how long the polls ran that these calls of a task's owner end, which come behind those before, in their order

@@ -1,5 +1,5 @@
 //! Those who read a task.
-ghost use Rattle.std.specs.Prelude.{◌≡◌, Some, None, IfOk, IfErr};
+ghost use Rattle.std.specs.Prelude.{◌≡◌, Some, None, is_some, IfOk, IfErr};
 ghost use Rattle.tk_core.specs.declared.task.call.TaskCall.TheVariants.{Enlist, Read};
 ghost use Rattle.tk_core.specs.declared.reply.Reply.TheVariants.{Shown};
 ghost use Rattle.tk_core.specs.TaskMeaning.{task_meaning};
@@ -7,7 +7,7 @@ ghost use Rattle.tk_cell.specs.Calls.{Calls, Joins};
 ghost use Rattle.tk_ledgers.specs.Handles.{sight, sight_with, Drew, NotDrawn};
 ghost use Rattle.tk_ledgers.specs.Sums.{HoldsAll};
 ghost use Rattle.tk_ledgers.specs.Tasks.{CountsAre, CountsReach};
-ghost use Rattle.tk_ledgers.specs.Times.{known_times, IsOfTask, ReadsTimes};
+ghost use Rattle.tk_ledgers.specs.Times.{known_times, IsOfTask, IsSameHistogram, ReadsTimes};
 
 use crate::handle::Handle;
 use crate::role::Enlisted;
@@ -40,6 +40,8 @@ impl Model for TaskInspector {
 
 // The histogram that there is is read.
 fn read_times<R: Wait>(times: &mut Option<TimesInspector>, rt: &R) -> Option<TimesRow>
+    ensures ledger { IsSameHistogram (known_times times.old) (known_times times.new) }
+    ensures has { is_some result ≡ is_some times.old }
     ensures read { ReadsTimes (known_times times.old) result (known_times times.new) }
     ensures task { (id : _) → IsOfTask id times.old → IsOfTask id times.new }
 {
@@ -119,6 +121,8 @@ impl TaskInspector {
     pub fn read_times<R: Wait>(&mut self, rt: &R) -> Option<TimesRow>
         ensures id { self.new.id ≡ self.old.id }
         ensures token { self.new.token ≡ self.old.token }
+        ensures times_ledger { IsSameHistogram self.old.times self.new.times }
+        ensures has { is_some result ≡ is_some self.old.times }
         ensures times { ReadsTimes self.old.times result self.new.times }
     {
         read_times(&mut self.times, rt)

@@ -1,5 +1,5 @@
 //! The owner of a task.
-ghost use Rattle.std.specs.Prelude.{◌≡◌, true, false, not, is_ok, is_some, None, IfOk, IfErr, OnOk};
+ghost use Rattle.std.specs.Prelude.{◌≡◌, true, false, not, is_ok, is_some, None, IfOk, IfErr, IfSome, OnOk};
 ghost use Rattle.tk_core.specs.declared.task.call.TaskCall.TheVariants.{PollStart, PollEnd, Close, CloneWaker, WakeRef, Enlist, Read};
 ghost use Rattle.tk_core.specs.declared.reply.Reply.TheVariants.{Done, Woken, Shown};
 ghost use Rattle.tk_core.specs.declared.reply.Reply.TheVariants.{Refused as NotDone};
@@ -10,7 +10,7 @@ ghost use Rattle.tk_cell.specs.Views.{opened};
 ghost use Rattle.tk_cell.specs.Calls.{Calls};
 ghost use Rattle.tk_ledgers.specs.Handles.{Drew, NotDrawn};
 ghost use Rattle.tk_ledgers.specs.Tasks.{is_polling, names, owner_calls};
-ghost use Rattle.tk_ledgers.specs.Times.{IsTimed, IsNewHistogram, AddsTime, InspectsTimes};
+ghost use Rattle.tk_ledgers.specs.Times.{IsTimed, IsNewHistogram, AddsTime, InspectsTimes, IsSameHistogram, IsOfHistogram};
 ghost use Rattle.tk_core.specs.declared.reply.Refusal.TheVariants.{AlreadyPolling, NotPolling};
 
 use crate::handle::Handle;
@@ -150,6 +150,7 @@ impl TaskOwner {
         ensures caller { self.old.token.view.caller ≡ 0 }
         ensures exact { is_ok result ≡ is_polling self.old }
         ensures timed { OnOk result (AddsTime self.old.times (run_time start_at end_at (owner_calls self.old) (PollEnd moment)) self.new.times) }
+        ensures times_ledger { IsSameHistogram self.old.times self.new.times }
         ensures untimed { IfErr result (λ _. self.new.times ≡ self.old.times) }
         ensures ok { OnOk result (Calls task_meaning self.old.token.view (PollEnd moment) Done self.new.token.view) }
         ensures not_polling { IfErr result (λ refusal. (refusal ≡ NotPolling) × Calls task_meaning self.old.token.view (PollEnd moment) (NotDone NotPolling) self.new.token.view) }
@@ -267,6 +268,10 @@ impl TaskOwner {
     pub fn inspect_times<R: Wait>(&mut self, rt: &R) -> Option<Result<TimesInspector, Refusal>>
         ensures id { self.new.id ≡ self.old.id }
         ensures token { self.new.token ≡ self.old.token }
+        ensures times_ledger { IsSameHistogram self.old.times self.new.times }
+        ensures has { is_some result ≡ is_some self.old.times }
+        ensures made_id { IfSome result (λ drawn. IfOk drawn (λ made. made.id ≡ self.old.id)) }
+        ensures made_ledger { IfSome result (λ drawn. IfOk drawn (λ made. IsOfHistogram self.old.times made.token)) }
         ensures times { InspectsTimes self.old.id self.old.times result self.new.times }
     {
         timed::inspect(&mut self.timed, rt)

@@ -1,9 +1,9 @@
 //! Inner: the histogram of a task, as the task's owner has it. It takes in how long each poll ran.
-ghost use Rattle.std.specs.Prelude.{◌≡◌, None, IfOk};
+ghost use Rattle.std.specs.Prelude.{◌≡◌, Some, None, is_some, IfOk, IfSome};
 ghost use Rattle.std.specs.Option.{option_map};
 ghost use Rattle.tk_core.specs.Times.{opening_row};
 ghost use Rattle.tk_cell.specs.Views.{opened};
-ghost use Rattle.tk_ledgers.specs.Times.{known_times, IsOfTask};
+ghost use Rattle.tk_ledgers.specs.Times.{known_times, IsOfTask, IsSameHistogram, IsOfHistogram};
 ghost use Rattle.tk_ledgers.specs.Timed.{restarted, times_of, Ends, EndsAny, Inspects, InspectsAny, KeepsTimes};
 
 use crate::times::{TimesInspector, TimesOwner, TimesReceipt};
@@ -80,7 +80,8 @@ pub fn start(timed: &mut Option<Timed>, moment: u64)
 
 /// A poll of the task ended: how long it ran is added to the histogram, if there is one.
 pub fn end<R: Wait>(timed: &mut Option<Timed>, rt: &R, moment: u64)
-    ensures { EndsAny moment timed.old timed.new }
+    ensures ledger { IsSameHistogram (times_of timed.old) (times_of timed.new) }
+    ensures ends { EndsAny moment timed.old timed.new }
 {
     if let Some(timed) = timed {
         timed.end(rt, moment);
@@ -92,7 +93,11 @@ pub fn inspect<R: Wait>(
     timed: &mut Option<Timed>,
     rt: &R,
 ) -> Option<Result<TimesInspector, Refusal>>
-    ensures { InspectsAny timed.old result timed.new }
+    ensures ledger { IsSameHistogram (times_of timed.old) (times_of timed.new) }
+    ensures has { is_some result ≡ is_some timed.old }
+    ensures made { (id : _) → ((t : _) → timed.old ≡ Some t → t.id ≡ id) → IfSome result (λ drawn. IfOk drawn (λ made. made.id ≡ id)) }
+    ensures made_ledger { IfSome result (λ drawn. IfOk drawn (λ made. IsOfHistogram (times_of timed.old) made.token)) }
+    ensures inspects { InspectsAny timed.old result timed.new }
 {
     match timed {
         Some(timed) => Some(timed.inspect(rt)),

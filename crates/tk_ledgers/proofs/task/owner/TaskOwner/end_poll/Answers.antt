@@ -14,7 +14,7 @@ use Rattle.tk_ledgers.proofs.task.owner.TaskOwner.end_poll.Goals as goal
 pub invariant_of-self : goal.invariant_of-self
 invariant_of-self g c = (
   (ended task_polls c.self.inside.handle.view c.args.moment c.attempt.new.self.view c.in-Ok.ensures.ok c.attempt.ensures.role c.self.inside.polling c.self.invariant.0).1,
-  times_ended_by c.self.inside.id c.self.inside.handle.view c.args.moment c.attempt.new.self.view c.in-Ok.ensures.ok c.attempt.ensures.role c.self.inside.timed c.end.new.timed c.end.ensures c.self.invariant.1,
+  times_ended_by c.self.inside.id c.self.inside.handle.view c.args.moment c.attempt.new.self.view c.in-Ok.ensures.ok c.attempt.ensures.role c.self.inside.timed c.end.new.timed c.end.ensures.ends c.self.invariant.1,
 )
 
 pub invariant_of-self-in-Err : goal.invariant_of-self-in-Err
