@@ -4,7 +4,7 @@ ghost use Rattle.std.specs.Option.{option_map};
 ghost use Rattle.tk_core.specs.Times.{opening_row};
 ghost use Rattle.tk_cell.specs.Views.{opened};
 ghost use Rattle.tk_ledgers.specs.Times.{known_times, IsOfTask, IsSameHistogram, IsOfHistogram};
-ghost use Rattle.tk_ledgers.specs.Timed.{restarted, times_of, Ends, EndsAny, Inspects, InspectsAny, KeepsTimes};
+ghost use Rattle.tk_ledgers.specs.Timed.{restarted, times_of, Ends, EndsAny, Inspects, InspectsAny};
 
 use crate::times::{TimesInspector, TimesOwner, TimesReceipt};
 use std::alloc::{AllocError, Global};
