@@ -255,6 +255,7 @@ impl TaskOwner {
         ensures ledger { self.new.token.ledger ≡ self.old.token.ledger }
         ensures caller { self.old.token.view.caller ≡ 0 }
         ensures times { self.new.times ≡ self.old.times }
+        ensures made_times { IfOk result (λ made. made.times ≡ None) }
         ensures made_id { IfOk result (λ made. made.id ≡ self.old.id) }
         ensures made_ledger { IfOk result (λ made. made.token.ledger ≡ self.old.token.ledger) }
         ensures ok { IfOk result (λ made. Drew task_meaning self.old.token Enlist self.new.token made.token) }
