@@ -1,6 +1,8 @@
-use Rattle.std.proofs.Common.{sym, ◌∙◌}
+use Rattle.std.proofs.Common.{refl, sym, ◌∙◌}
 use Rattle.tk_core.specs.declared.reply.Reply.TheVariants.{Shown}
 use Rattle.tk_core.specs.declared.task.call.TaskCall.TheVariants.{Read}
+use Rattle.tk_ledgers.specs.Tasks.{owner_calls}
+use Rattle.tk_ledgers.proofs.TimedLemmas.{times_stay}
 use Rattle.tk_ledgers.proofs.ScopeLemmas.{grows_by_call}
 use Rattle.tk_exec.proofs.PollLemmas.{at_rest, rests, polling_read}
 use Rattle.tk_exec.proofs.instrumented.Instrumented.is_scheduled.Goals as goal
@@ -10,5 +12,5 @@ invariant_of-self-2 g c =
     let was = sym c.take.ensures.value ∙ c.in-Some.is in
     let rest = at_rest c.self.inside.id c.in-Some.owner c.self.inside.owner c.self.inside.receipt was c.self.invariant in
     let e = c.read-row.ensures in
-    let grown = grows_by_call c.in-Some.owner c.read-row.new.self Read (Shown c.read-row.result) e.id e.ledger e.caller e.entry in
+    let grown = grows_by_call c.in-Some.owner c.read-row.new.self Read (Shown c.read-row.result) e.id e.ledger e.caller e.entry (times_stay (owner_calls c.in-Some.owner) Read (Shown c.read-row.result) c.in-Some.owner.times c.read-row.new.self.times refl e.times) in
     rests c.self.inside.id c.read-row.new.self c.self.inside.receipt rest.0 (e.id ∙ rest.1) (polling_read c.in-Some.owner c.read-row.new.self c.read-row.result grown ∙ rest.2)
