@@ -1,6 +1,6 @@
 //! A histogram that is read while the task is polled on another thread, and learnt when it is closed.
-ghost use Rattle.std.specs.Prelude.{◌≡◌, Some, IfSome};
-ghost use Rattle.tk_ledgers.specs.Times.{known_times, IsOfHistogram};
+ghost use Rattle.std.specs.Prelude.{◌≡◌};
+ghost use Rattle.tk_ledgers.specs.Times.{IsOfHistogram};
 
 use super::given::{FIRST, timed_task};
 use std::sync::Wait;
