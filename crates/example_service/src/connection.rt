@@ -31,6 +31,7 @@ impl Work for Connection {
 
     ghost polls = { serves };
 
+    #[tactic(auto, using(tk_ledgers::proofs::ScopeLemmas::scope_same))]
     fn poll<R: Wait>(&mut self, rt: &R, scope: &mut PollScope) -> Poll<()> {
         if self.requests == 0 {
             return Poll::Ready(());

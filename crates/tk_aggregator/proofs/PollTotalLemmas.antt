@@ -180,7 +180,7 @@ module _ (id : ℕ) where
   -- one event more
   counts_after : (e : Shown) (infos : Infos) (a b : ℕ) → counts_of id infos.counts ≡ (a, b) → a + cond (is_ready_poll id (tells e)) 1 0 ≤ most → b + cond (is_pending_poll id (tells e)) 1 0 ≤ most
       → counts_of id (absorbed infos e).counts ≡ (a + cond (is_ready_poll id (tells e)) 1 0, b + cond (is_pending_poll id (tells e)) 1 0)
-  counts_after (MadeTask info ledger caller) infos a b is p q = is ∙ (λ i. (none_more a i, none_more b i))
+  counts_after (MadeTask info ledger caller times) infos a b is p q = is ∙ (λ i. (none_more a i, none_more b i))
   counts_after (MadeResource info ledger caller) infos a b is p q = is ∙ (λ i. (none_more a i, none_more b i))
   counts_after (MadeOp info ledger caller) infos a b is p q = is ∙ (λ i. (none_more a i, none_more b i))
   counts_after (Polled op) infos a b is p q = counted_poll op.resource op.ready infos.counts a b is p q
@@ -218,7 +218,7 @@ more_than_none true c = omega arith
 more_than_none false c = omega arith
 
 polled_after : (e : Shown) (infos : Infos) → All IsPolled infos.counts → All IsPolled (absorbed infos e).counts
-polled_after (MadeTask info ledger caller) infos all = all
+polled_after (MadeTask info ledger caller times) infos all = all
 polled_after (MadeResource info ledger caller) infos all = all
 polled_after (MadeOp info ledger caller) infos all = all
 polled_after (Polled op) infos all =

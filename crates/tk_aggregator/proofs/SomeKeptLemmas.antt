@@ -111,7 +111,7 @@ module _ {Info : Type 0} (id : Info → ℕ) (told : Told → List Info) (cases 
 -- ---- poll counts
 
 counts_with : (e : Shown) (i j : Infos) → i.counts ≡ j.counts → (absorbed i e).counts ≡ (absorbed j e).counts
-counts_with (MadeTask info ledger caller) i j same = same
+counts_with (MadeTask info ledger caller times) i j same = same
 counts_with (MadeResource info ledger caller) i j same = same
 counts_with (MadeOp info ledger caller) i j same = same
 counts_with (Polled op) i j same = ap (λ cs. counted op.resource op.ready cs) same

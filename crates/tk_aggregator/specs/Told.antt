@@ -15,7 +15,7 @@ pub data Told : Type 0 where
 
 -- what an event tells
 abbrev pub tells : Shown → Told
-tells (MadeTask info ledger caller) = made_task info
+tells (MadeTask info ledger caller times) = made_task info
 tells (MadeResource info ledger caller) = made_resource info
 tells (MadeOp info ledger caller) = made_op info
 tells (Polled op) = polled op.resource op.ready

@@ -1,5 +1,5 @@
 -- Which ids a recorder has given out after one more offer.
-use Rattle.std.proofs.Common.{◌≡◌, ℕ, ◌+◌, ◌<◌, Bool, true, false, cond, if◌then◌else◌, List, [], ◌∷◌, ◌++◌, length, length-append, refl, ap, sym, ◌∙◌, subst, arith}
+use Rattle.std.proofs.Common.{◌≡◌, ℕ, ◌+◌, ◌<◌, Bool, true, false, cond, if◌then◌else◌, List, [], ◌∷◌, ◌++◌, Option, length, length-append, refl, ap, sym, ◌∙◌, subst, arith}
 use Rattle.std.specs.List.{count_by, filter}
 use Rattle.std.proofs.lemmas.List.Elements.{filter-append}
 use Rattle.std.proofs.lemmas.List.Sums.{count_by-le-length, length-filter}
@@ -64,8 +64,8 @@ module _ (r : Recording) (ids : Given) (is : ids ≡ given r) where
   given_polled op = is ∙ (λ i. record { recorder = r.number; tasks = none (tasks_in r.kept + tasks_in r.refused) i; resources = none (resources_in r.kept + resources_in r.refused) i; ops = none (ops_in r.kept + ops_in r.refused) i })
 
   module _ (s : Shown) (id : ℕ) (ledger : TableId) where
-    pub next_task_has : (spec : TaskSpec) → s ≡ MadeTask (task_info id spec) ledger 1 → id ≡ id_of ids.recorder (ids.tasks + 1) → HasNextId r s
-    next_task_has spec e at = subst (λ (x : Shown). HasNextId r x) (sym e) (at ∙ ap (λ (g : Given). id_of g.recorder (g.tasks + 1)) is)
+    pub next_task_has : (spec : TaskSpec) (times : Option TableId) → s ≡ MadeTask (task_info id spec) ledger 1 times → id ≡ id_of ids.recorder (ids.tasks + 1) → HasNextId r s
+    next_task_has spec times e at = subst (λ (x : Shown). HasNextId r x) (sym e) (at ∙ ap (λ (g : Given). id_of g.recorder (g.tasks + 1)) is)
 
     pub next_resource_has : (spec : ResourceSpec) → s ≡ MadeResource (resource_info id spec) ledger 1 → id ≡ id_of ids.recorder (ids.resources + 1) → HasNextId r s
     next_resource_has spec e at = subst (λ (x : Shown). HasNextId r x) (sym e) (at ∙ ap (λ (g : Given). id_of g.recorder (g.resources + 1)) is)
@@ -74,8 +74,8 @@ module _ (r : Recording) (ids : Given) (is : ids ≡ given r) where
     next_op_has spec e at = subst (λ (x : Shown). HasNextId r x) (sym e) (at ∙ ap (λ (g : Given). id_of g.recorder (g.ops + 1)) is)
 
   module _ (after : Given) (s : Shown) where
-    pub given_task : (info : TaskInfo) (ledger : TableId) → s ≡ MadeTask info ledger 1 → after ≡ record ids { tasks = ids.tasks + 1 } → after ≡ given_with r s
-    given_task info ledger e more = more ∙ (ap (λ (g : Given). record g { tasks = g.tasks + 1 }) is ∙ ((λ i. record { recorder = r.number; tasks = tasks_in r.kept + tasks_in r.refused + 1; resources = none (resources_in r.kept + resources_in r.refused) i; ops = none (ops_in r.kept + ops_in r.refused) i }) ∙ sym (ap (λ (x : Shown). given_with r x) e)))
+    pub given_task : (info : TaskInfo) (ledger : TableId) (times : Option TableId) → s ≡ MadeTask info ledger 1 times → after ≡ record ids { tasks = ids.tasks + 1 } → after ≡ given_with r s
+    given_task info ledger times e more = more ∙ (ap (λ (g : Given). record g { tasks = g.tasks + 1 }) is ∙ ((λ i. record { recorder = r.number; tasks = tasks_in r.kept + tasks_in r.refused + 1; resources = none (resources_in r.kept + resources_in r.refused) i; ops = none (ops_in r.kept + ops_in r.refused) i }) ∙ sym (ap (λ (x : Shown). given_with r x) e)))
 
     pub given_resource : (info : ResourceInfo) (ledger : TableId) → s ≡ MadeResource info ledger 1 → after ≡ record ids { resources = ids.resources + 1 } → after ≡ given_with r s
     given_resource info ledger e more = more ∙ (ap (λ (g : Given). record g { resources = g.resources + 1 }) is ∙ ((λ i. record { recorder = r.number; tasks = none (tasks_in r.kept + tasks_in r.refused) i; resources = resources_in r.kept + resources_in r.refused + 1; ops = none (ops_in r.kept + ops_in r.refused) i }) ∙ sym (ap (λ (x : Shown). given_with r x) e)))

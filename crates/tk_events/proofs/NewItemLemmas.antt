@@ -1,5 +1,5 @@
 -- What the first call on a new ledger is answered, and what its owner and the caller that it made know then.
-use Rattle.std.proofs.Common.{suc, length, length-append, ◌≡◌, ◌≢◌, ℕ, ◌+◌, Bool, true, List, [], ◌∷◌, ◌++◌, Option, Some, refl, ap, sym, ◌∙◌, subst, arith, ⊎_elim}
+use Rattle.std.proofs.Common.{suc, length, length-append, ◌≡◌, ◌≢◌, ℕ, ◌+◌, Bool, true, List, [], ◌∷◌, ◌++◌, Option, Some, None, Result, Ok, Err, refl, ap, sym, ◌∙◌, subst, arith, ⊎_elim}
 use Rattle.std.specs.Prelude.{◌==◌}
 use Rattle.std.proofs.lemmas.Bool.{eq-eqb}
 use Rattle.std.proofs.lemmas.List.Elements.{filter-append}
@@ -11,6 +11,7 @@ use Rattle.tk_core.specs.declared.reply.Reply.{Reply}
 use Rattle.tk_core.specs.declared.reply.Reply.TheVariants.{Number, Refused}
 use Rattle.tk_core.specs.declared.resource.call.ResourceCall.TheVariants.{Enlist as EnlistResource}
 use Rattle.tk_core.specs.declared.task.call.TaskCall.TheVariants.{Enlist as EnlistTask}
+use Rattle.tk_core.specs.declared.times.call.TimesCall.TheVariants.{Enlist as EnlistTimes}
 use Rattle.tk_ids.specs.declared.attr.AttrValue.{AttrValue}
 use Rattle.tk_core.specs.Fold.{reply_after, fold_of}
 use Rattle.tk_core.specs.History.{accepted}
@@ -23,13 +24,17 @@ use Rattle.tk_core.specs.Resource.{opening_row as resource_row, row_of as resour
 use Rattle.tk_core.specs.ResourceMeaning.{resource_meaning}
 use Rattle.tk_core.specs.Task.{opening_row as task_row, row_of as task_row_of}
 use Rattle.tk_core.specs.TaskMeaning.{task_meaning}
+use Rattle.tk_core.specs.Times.{opening_row as times_row, row_of as times_row_of}
+use Rattle.tk_core.specs.TimesMeaning.{times_meaning}
 use Rattle.tk_cell.specs.declared.view.View.{View}
 use Rattle.tk_cell.specs.Views.{Known, opened, after_split, split_off}
 use Rattle.tk_cell.specs.Calls.{entry, Calls}
 use Rattle.tk_cell.proofs.HistoryLemmas.{may_made}
 use Rattle.tk_cell.proofs.ListLemmas.{dec_eq}
-use Rattle.tk_ledgers.specs.Handles.{Drew, NotDrawn}
-use Rattle.tk_events.specs.Items.{owner_view, inspector_view}
+use Rattle.tk_ledgers.specs.Handles.{KnownTimes, Drew, NotDrawn}
+use Rattle.tk_ledgers.specs.Times.{TimesSight, IsNewHistogram, DrawsTimes, InspectsTimes}
+use Rattle.tk_events.specs.Items.{owner_view, inspector_view, HasNewTimes, InspectsNewTimes}
+use Rattle.tk_events.specs.Offers.{times_ledger}
 
 module _ {O C R : Type 0} (m : Meaning O C R) where
   -- of an empty history only the owner makes a call
@@ -115,6 +120,10 @@ pub task_first : (created : ℕ) → task_meaning.reply_after (task_row created)
 unfolding reply_after fold_of accepted task_row_of count_of
 task_first created = refl
 
+pub times_first : times_meaning.reply_after times_row [] EnlistTimes ≡ Number 1
+unfolding reply_after fold_of accepted times_row_of count_of
+times_first = refl
+
 pub resource_first : (created : ℕ) (values : List AttrValue) → resource_meaning.reply_after (resource_row created values) [] EnlistResource ≡ Number 1
 unfolding reply_after fold_of accepted resource_row_of count_of
 resource_first created values = refl
@@ -122,3 +131,35 @@ resource_first created values = refl
 pub op_first : (created : ℕ) (values : List AttrValue) → op_meaning.reply_after (op_row created values) [] EnlistOp ≡ Number 1
 unfolding reply_after fold_of accepted op_row_of count_of
 op_first created values = refl
+
+-- ---- a new histogram, of which the first inspector is drawn
+
+drawn_is : (found drawn : Result TimesSight Refusal) → Some found ≡ Some drawn → drawn ≡ found
+drawn_is found drawn e = cc
+
+module _ (id : ℕ) (old new : Option KnownTimes) (begins : IsNewHistogram old) where
+  of_new : (found : Option (Result TimesSight Refusal)) → InspectsTimes id old found new → InspectsTimes id (Some begins.0) found new
+  of_new found i = subst (λ (o : Option KnownTimes). InspectsTimes id o found new) begins.1 i
+
+  pub new_inspected : (made : TimesSight) → InspectsTimes id old (Some (Ok made)) new → HasNewTimes new × InspectsNewTimes new (Some made.token)
+  new_inspected made i =
+      let n = of_new (Some (Ok made)) i in
+      let d : DrawsTimes id begins.0 (Ok made) n.1 = subst (λ (r : Result TimesSight Refusal). DrawsTimes id begins.0 r n.1) (drawn_is (Ok made) n.0 n.2) n.4 in
+      let owner = owner_is times_meaning times_row EnlistTimes times_first (λ k. refl) begins.0 n.1 made.token begins.2 d.ok in
+      let inspector = inspector_is times_meaning times_row EnlistTimes times_first (λ k. refl) begins.0 n.1 made.token begins.2 d.ok in (
+        (n.1, n.3, owner),
+        (n.1, made.token, n.3, refl, d.made_ledger ∙ sym d.ledger, inspector),
+      )
+
+  pub new_refused : (refusal : Refusal) → InspectsTimes id old (Some (Err refusal)) new → refusal ≢ Memory → ⊥
+  new_refused refusal i ne =
+      let n = of_new (Some (Err refusal)) i in
+      let d : DrawsTimes id begins.0 (Err refusal) n.1 = subst (λ (r : Result TimesSight Refusal). DrawsTimes id begins.0 r n.1) (drawn_is (Err refusal) n.0 n.2) n.4 in
+      only_memory times_meaning times_row EnlistTimes times_first (λ k. refl) begins.0 n.1 refusal begins.2 ne d.err
+
+  pub new_inspects : InspectsTimes id old None new → ⊥
+  new_inspects i = let n = of_new None i in let bad = n.2 in absurd cc
+
+-- the owner's histogram and that of the event are one
+pub same_times_ledger : (owned times : Option KnownTimes) → InspectsNewTimes owned times → times_ledger times ≡ times_ledger owned
+same_times_ledger owned times i = ap (λ (o : Option KnownTimes). times_ledger o) i.3 ∙ (ap (λ x. Some x) i.4 ∙ sym (ap (λ (o : Option KnownTimes). times_ledger o) i.2))

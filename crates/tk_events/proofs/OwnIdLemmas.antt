@@ -31,14 +31,14 @@ earlier_all n (o ∷ os) h = rw (lt-ltb o.number n (All-head (λ (x : Offer). x.
 
 -- the place of an offer depends on the earlier ones alone
 place_same : (r s : Returned) (n : ℕ) (e : Shown) → s.number ≡ r.number → earlier n s.kept ≡ earlier n r.kept → earlier n s.refused ≡ earlier n r.refused → HasPlaceId r n e → HasPlaceId s n e
-place_same r s n (MadeTask info ledger caller) p k f h = h ∙ (λ i. id_of (sym p i) (tasks_in (sym k i) + tasks_in (sym f i) + 1))
+place_same r s n (MadeTask info ledger caller times) p k f h = h ∙ (λ i. id_of (sym p i) (tasks_in (sym k i) + tasks_in (sym f i) + 1))
 place_same r s n (MadeResource info ledger caller) p k f h = h ∙ (λ i. id_of (sym p i) (resources_in (sym k i) + resources_in (sym f i) + 1))
 place_same r s n (MadeOp info ledger caller) p k f h = h ∙ (λ i. id_of (sym p i) (ops_in (sym k i) + ops_in (sym f i) + 1))
 place_same r s n (Polled op) p k f h = h
 
 -- the next id is that of the next place
 place_next : (r : Recording) (s : Returned) (n : ℕ) (e : Shown) → s.number ≡ r.number → earlier n s.kept ≡ r.kept → earlier n s.refused ≡ r.refused → HasNextId r e → HasPlaceId s n e
-place_next r s n (MadeTask info ledger caller) p k f h = h ∙ (λ i. id_of (sym p i) (tasks_in (sym k i) + tasks_in (sym f i) + 1))
+place_next r s n (MadeTask info ledger caller times) p k f h = h ∙ (λ i. id_of (sym p i) (tasks_in (sym k i) + tasks_in (sym f i) + 1))
 place_next r s n (MadeResource info ledger caller) p k f h = h ∙ (λ i. id_of (sym p i) (resources_in (sym k i) + resources_in (sym f i) + 1))
 place_next r s n (MadeOp info ledger caller) p k f h = h ∙ (λ i. id_of (sym p i) (ops_in (sym k i) + ops_in (sym f i) + 1))
 place_next r s n (Polled op) p k f h = h

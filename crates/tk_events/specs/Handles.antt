@@ -133,7 +133,7 @@ IsWhole n known = (p : ℕ) → 0 < p → p ≤ n → times p (numbers_known kno
 
 -- the offer of a new item has the id of its recorder and of its place among the recorder's offers of that kind, kept or dropped, in the order of their numbers
 abbrev pub HasPlaceId : Returned → ℕ → Shown → Type 0
-HasPlaceId r number (MadeTask info ledger caller) = info.id ≡ id_of r.number (tasks_in (earlier number r.kept) + tasks_in (earlier number r.refused) + 1)
+HasPlaceId r number (MadeTask info ledger caller times) = info.id ≡ id_of r.number (tasks_in (earlier number r.kept) + tasks_in (earlier number r.refused) + 1)
 HasPlaceId r number (MadeResource info ledger caller) = info.id ≡ id_of r.number (resources_in (earlier number r.kept) + resources_in (earlier number r.refused) + 1)
 HasPlaceId r number (MadeOp info ledger caller) = info.id ≡ id_of r.number (ops_in (earlier number r.kept) + ops_in (earlier number r.refused) + 1)
 HasPlaceId r number (Polled op) = ⊤

@@ -1,5 +1,5 @@
 -- What a new item is: its info, what its owner and its inspector have seen, and what agrees in its event.
-use Rattle.std.specs.Prelude.{◌≡◌, ℕ, List, [], ◌∷◌, map, Some, ⊤}
+use Rattle.std.specs.Prelude.{◌≡◌, ℕ, List, [], ◌∷◌, map, Option, Some, ⊤}
 use Rattle.tk_ids.specs.declared.attr.AttrInfo.{AttrInfo}
 use Rattle.tk_ids.specs.declared.attr.AttrSpec.{AttrSpec}
 use Rattle.tk_ids.specs.declared.attr.AttrValue.{AttrValue}
@@ -14,8 +14,11 @@ use Rattle.tk_core.specs.declared.op.row.OpRow.{OpRow}
 use Rattle.tk_core.specs.declared.reply.Reply.{Reply}
 use Rattle.tk_core.specs.declared.reply.Reply.TheVariants.{Number}
 use Rattle.tk_core.specs.declared.resource.row.ResourceRow.{ResourceRow}
+use Rattle.tk_core.specs.declared.times.call.TimesCall.TheVariants.{Enlist}
+use Rattle.tk_core.specs.Times.{opening_row}
 use Rattle.tk_cell.specs.declared.view.View.{View}
 use Rattle.tk_cell.specs.Calls.{entry}
+use Rattle.tk_ledgers.specs.Handles.{KnownTimes}
 use Rattle.tk_events.specs.declared.event.Event.{Event}
 use Rattle.tk_events.specs.declared.event.Event.TheVariants.{Task, Resource, Op, Poll}
 
@@ -51,6 +54,14 @@ module _ {Row C : Type 0} where
   -- what the inspector knows that this `Enlist` made: it is caller 1
   abbrev pub inspector_view : C → Row → View Row C (Reply Row)
   inspector_view enlist row = record { caller = 1; seen = entry 0 enlist (Number 1) ∷ []; held = 1 ∷ []; opening = Some row }
+
+-- the histogram of a new task, as its owner knows it: no time was added, and one inspector drawn
+abbrev pub HasNewTimes : Option KnownTimes → Type 0
+HasNewTimes times = (t : KnownTimes) × (times ≡ Some t) × (t.view ≡ owner_view Enlist opening_row)
+
+-- and as that inspector knows it, which is of the same ledger
+abbrev pub InspectsNewTimes : Option KnownTimes → Option KnownTimes → Type 0
+InspectsNewTimes owned times = (mine : KnownTimes) × (theirs : KnownTimes) × (owned ≡ Some mine) × (times ≡ Some theirs) × (theirs.ledger ≡ mine.ledger) × (theirs.view ≡ inspector_view Enlist opening_row)
 
 -- info and ledger agree in the id, and in number and kinds of the attributes that the ledger began with
 abbrev pub Agrees : Event → Type 0

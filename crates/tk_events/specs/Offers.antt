@@ -1,15 +1,22 @@
 -- Events, what is seen of them, and offers.
-use Rattle.std.specs.Prelude.{ℕ, ◌<◌, ◌==◌, nat_lt, Bool, true, false, List, [], ◌∷◌, map, count_by}
+use Rattle.std.specs.Prelude.{ℕ, ◌<◌, ◌==◌, nat_lt, Bool, true, false, List, [], ◌∷◌, Option, map, count_by}
 use Rattle.std.specs.List.{filter, AllPairs}
+use Rattle.std.specs.Option.{option_map}
+use Rattle.atomic_table.specs.Seated.{TableId}
+use Rattle.tk_ledgers.specs.Handles.{KnownTimes}
 use Rattle.tk_events.specs.declared.event.Event.{Event}
 use Rattle.tk_events.specs.declared.event.Event.TheVariants.{Task, Resource, Op, Poll}
 use Rattle.tk_events.specs.declared.event.Shown.{Shown}
 use Rattle.tk_events.specs.declared.event.Shown.TheVariants.{MadeTask, MadeResource, MadeOp, Polled}
 use Rattle.tk_events.specs.declared.item.Offer.{Offer}
 
--- what is seen of an event: its info or its poll, and of an inspector the ledger and the caller
+-- the ledger of a histogram, where there is one
+abbrev pub times_ledger : Option KnownTimes → Option TableId
+times_ledger times = option_map (λ (t : KnownTimes). t.ledger) times
+
+-- what is seen of an event: its info or its poll, and of an inspector the ledger and the caller, and the ledger of the task's histogram
 abbrev pub shown : Event → Shown
-shown (Task info inspector) = MadeTask info inspector.token.ledger inspector.token.view.caller
+shown (Task info inspector) = MadeTask info inspector.token.ledger inspector.token.view.caller (times_ledger inspector.times)
 shown (Resource info inspector) = MadeResource info inspector.token.ledger inspector.token.view.caller
 shown (Op info inspector) = MadeOp info inspector.token.ledger inspector.token.view.caller
 shown (Poll op) = Polled op
@@ -46,7 +53,7 @@ earlier number offers = filter (λ o. nat_lt o.number number) offers
 
 -- the kind under which a dropped event is counted: 0 for tasks, 1 for resources and polls of operations, 2 for operations
 abbrev pub kind_of : Shown → ℕ
-kind_of (MadeTask info ledger caller) = 0
+kind_of (MadeTask info ledger caller times) = 0
 kind_of (MadeResource info ledger caller) = 1
 kind_of (MadeOp info ledger caller) = 2
 kind_of (Polled op) = 1
@@ -61,21 +68,21 @@ drops_of offers = dropped_of 0 offers ∷ dropped_of 1 offers ∷ dropped_of 2 o
 
 -- an offer of a new task
 abbrev pub is_task : Shown → Bool
-is_task (MadeTask info ledger caller) = true
+is_task (MadeTask info ledger caller times) = true
 is_task (MadeResource info ledger caller) = false
 is_task (MadeOp info ledger caller) = false
 is_task (Polled op) = false
 
 -- an offer of a new resource
 abbrev pub is_resource : Shown → Bool
-is_resource (MadeTask info ledger caller) = false
+is_resource (MadeTask info ledger caller times) = false
 is_resource (MadeResource info ledger caller) = true
 is_resource (MadeOp info ledger caller) = false
 is_resource (Polled op) = false
 
 -- an offer of a new operation
 abbrev pub is_op : Shown → Bool
-is_op (MadeTask info ledger caller) = false
+is_op (MadeTask info ledger caller times) = false
 is_op (MadeResource info ledger caller) = false
 is_op (MadeOp info ledger caller) = true
 is_op (Polled op) = false

@@ -59,7 +59,7 @@ offered r = record { number = r.number; kept = r.kept; refused = r.refused }
 
 -- an event of a new item has the recorder's next id of its kind
 abbrev pub HasNextId : Recording → Shown → Type 0
-HasNextId r (MadeTask info ledger caller) = info.id ≡ next_task_id r
+HasNextId r (MadeTask info ledger caller times) = info.id ≡ next_task_id r
 HasNextId r (MadeResource info ledger caller) = info.id ≡ next_resource_id r
 HasNextId r (MadeOp info ledger caller) = info.id ≡ next_op_id r
 HasNextId r (Polled op) = ⊤

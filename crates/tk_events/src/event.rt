@@ -1,7 +1,7 @@
 //! What recorders offer.
 
 use tk_cell::Shared;
-use tk_core::{OpRow, ResourceRow, TaskRow};
+use tk_core::{OpRow, ResourceRow, TaskRow, TimesRow};
 use tk_ids::{AsyncOpId, Name, OpInfo, ResourceId, ResourceInfo, TaskId, TaskInfo};
 use tk_ledgers::{OpInspector, ResourceInspector, TaskInspector};
 
@@ -19,7 +19,8 @@ pub struct PollOp {
     pub ready: bool,
 }
 
-/// What a recorder offers: a new item, with an inspector of its ledger, or a poll of an operation.
+/// What a recorder offers: a new item, with an inspector of its ledger, or a poll of an operation. The inspector of a task that was made
+/// with a histogram reads that too.
 #[derive(Drop)]
 pub enum Event {
     Task(TaskInfo, TaskInspector),
@@ -28,9 +29,10 @@ pub enum Event {
     Poll(PollOp),
 }
 
-/// What the buffer's rule sees of an event: of an inspector its ledger and its caller. No value of it is made.
+/// What the buffer's rule sees of an event: of an inspector its ledger and its caller, and of a task's histogram the ledger. No value of it
+/// is made.
 pub enum Shown {
-    MadeTask(TaskInfo, Shared<TaskRow>, u64),
+    MadeTask(TaskInfo, Shared<TaskRow>, u64, Option<Shared<TimesRow>>),
     MadeResource(ResourceInfo, Shared<ResourceRow>, u64),
     MadeOp(OpInfo, Shared<OpRow>, u64),
     Polled(PollOp),

@@ -1,7 +1,7 @@
 //! New items: the ledger, its owner, and the event with the inspector.
 //!
 //! All that takes memory is done before a spec is taken apart, so that a refused call hands it back.
-ghost use Rattle.std.specs.Prelude.{◌≡◌, true, ◌+◌, ◌<◌, ◌≤◌, length, IfOk, IfErr, IfSome};
+ghost use Rattle.std.specs.Prelude.{◌≡◌, true, ◌+◌, ◌<◌, ◌≤◌, length, Some, None, IfOk, IfErr, IfSome};
 ghost use Rattle.tk_ids.specs.Attributes.{are_attributes, spec_names};
 ghost use Rattle.tk_ids.specs.Ids.{id_of};
 ghost use Rattle.tk_ids.specs.IdBlocks.{last_number};
@@ -11,9 +11,11 @@ ghost use Rattle.tk_core.specs.declared.op.call.OpCall.TheVariants.{Enlist as En
 ghost use Rattle.tk_core.specs.Task.{opening_row as task_row};
 ghost use Rattle.tk_core.specs.Resource.{opening_row as resource_row};
 ghost use Rattle.tk_core.specs.Op.{opening_row as op_row};
+ghost use Rattle.tk_ledgers.specs.Times.{IsNewHistogram};
+ghost use Rattle.tk_events.specs.declared.event.Event.TheVariants.{Task};
 ghost use Rattle.tk_events.specs.declared.event.Shown.TheVariants.{MadeTask, MadeResource, MadeOp};
-ghost use Rattle.tk_events.specs.Items.{info_of, infos_of, first_values, task_info, resource_info, op_info, owner_view, inspector_view, Agrees};
-ghost use Rattle.tk_events.specs.Offers.{shown};
+ghost use Rattle.tk_events.specs.Items.{info_of, infos_of, first_values, task_info, resource_info, op_info, owner_view, inspector_view, HasNewTimes, InspectsNewTimes, Agrees};
+ghost use Rattle.tk_events.specs.Offers.{shown, times_ledger};
 
 use crate::event::Event;
 use std::alloc::{AllocError, Global};
@@ -25,6 +27,7 @@ use tk_ids::{
 };
 use tk_ledgers::{
     OpInspector, OpOwner, ResourceInspector, ResourceOwner, TaskInspector, TaskOwner,
+    TimesInspector,
 };
 
 /// A block that has given out the same ids.
@@ -132,10 +135,63 @@ fn task_ledger<R: Wait>(
     ensures same { IfSome result (λ made. made.1.token.ledger ≡ made.0.token.ledger) }
     ensures owner { IfSome result (λ made. made.0.token.view ≡ owner_view EnlistTask (task_row created)) }
     ensures inspector { IfSome result (λ made. made.1.token.view ≡ inspector_view EnlistTask (task_row created)) }
+    ensures times { IfSome result (λ made. (made.0.times ≡ None) × (made.1.times ≡ None)) }
 {
     match TaskOwner::new(rt, alloc, id, created) {
         Ok(mut owner) => match owner.inspect(rt) {
             Ok(inspector) => Some((owner, inspector)),
+            Err(refusal) => {
+                if refusal != Refusal::Memory {
+                    unreachable!()
+                }
+                None
+            }
+        },
+        Err(_) => None,
+    }
+}
+
+// The inspector of a new task's histogram. Nothing, where memory is refused.
+fn times_inspector<R: Wait>(rt: &R, owner: &mut TaskOwner) -> Option<TimesInspector>
+    requires { IsNewHistogram owner.old.times }
+    ensures id { owner.new.id ≡ owner.old.id }
+    ensures token { owner.new.token ≡ owner.old.token }
+    ensures made_id { IfSome result (λ made. made.id ≡ owner.old.id) }
+    ensures owner { IfSome result (λ _. HasNewTimes owner.new.times) }
+    ensures inspector { IfSome result (λ made. InspectsNewTimes owner.new.times (Some made.token)) }
+{
+    match owner.inspect_times(rt) {
+        Some(Ok(times)) => Some(times),
+        Some(Err(refusal)) => {
+            if refusal != Refusal::Memory {
+                unreachable!()
+            }
+            None
+        }
+        None => unreachable!(),
+    }
+}
+
+// The handles of a new task with a histogram, whose inspector reads both. Nothing, where memory is refused.
+fn timed_ledger<R: Wait>(
+    rt: &R,
+    alloc: Global,
+    id: TaskId,
+    created: u64,
+) -> Option<(TaskOwner, TaskInspector)>
+    ensures ids { IfSome result (λ made. (made.0.id ≡ id) × (made.1.id ≡ id)) }
+    ensures same { IfSome result (λ made. made.1.token.ledger ≡ made.0.token.ledger) }
+    ensures owner { IfSome result (λ made. made.0.token.view ≡ owner_view EnlistTask (task_row created)) }
+    ensures inspector { IfSome result (λ made. made.1.token.view ≡ inspector_view EnlistTask (task_row created)) }
+    ensures times { IfSome result (λ made. HasNewTimes made.0.times) }
+    ensures times_inspector { IfSome result (λ made. InspectsNewTimes made.0.times made.1.times) }
+{
+    match TaskOwner::new_with_times(rt, alloc, id, created) {
+        Ok(mut owner) => match owner.inspect(rt) {
+            Ok(inspector) => match times_inspector(rt, &mut owner) {
+                Some(times) => Some((owner, inspector.with_times(times))),
+                None => None,
+            },
             Err(refusal) => {
                 if refusal != Refusal::Memory {
                     unreachable!()
@@ -203,6 +259,19 @@ fn op_ledger<R: Wait>(
     }
 }
 
+// The event that tells of a new task.
+fn task_event(id: TaskId, spec: TaskSpec, inspector: TaskInspector) -> Event
+    ensures { result ≡ Task (task_info id spec) inspector }
+{
+    let info = TaskInfo {
+        id,
+        kind: spec.kind,
+        name: spec.name,
+        location: spec.location,
+    };
+    Event::Task(info, inspector)
+}
+
 /// The owner of a new task, and the event that tells of it. The spec, where memory is refused.
 pub(crate) fn new_task<R: Wait>(
     rt: &R,
@@ -213,20 +282,37 @@ pub(crate) fn new_task<R: Wait>(
 ) -> Result<(TaskOwner, Event), TaskSpec>
     ensures id { IfOk result (λ made. made.0.id ≡ id) }
     ensures owner { IfOk result (λ made. made.0.token.view ≡ owner_view EnlistTask (task_row created)) }
-    ensures event { IfOk result (λ made. shown made.1 ≡ MadeTask (task_info id spec) made.0.token.ledger 1) }
+    ensures times { IfOk result (λ made. made.0.times ≡ None) }
+    ensures event { IfOk result (λ made. shown made.1 ≡ MadeTask (task_info id spec) made.0.token.ledger 1 None) }
     ensures agrees { IfOk result (λ made. Agrees made.1) }
     ensures back { IfErr result (λ back. back ≡ spec) }
 {
     let Some((owner, inspector)) = task_ledger(rt, alloc, id, created) else {
         return Err(spec);
     };
-    let info = TaskInfo {
-        id,
-        kind: spec.kind,
-        name: spec.name,
-        location: spec.location,
+    Ok((owner, task_event(id, spec, inspector)))
+}
+
+/// The owner of a new task with a histogram, and the event that tells of it, whose inspector reads both. The spec, where memory is
+/// refused.
+pub(crate) fn new_timed_task<R: Wait>(
+    rt: &R,
+    alloc: Global,
+    id: TaskId,
+    spec: TaskSpec,
+    created: u64,
+) -> Result<(TaskOwner, Event), TaskSpec>
+    ensures id { IfOk result (λ made. made.0.id ≡ id) }
+    ensures owner { IfOk result (λ made. made.0.token.view ≡ owner_view EnlistTask (task_row created)) }
+    ensures times { IfOk result (λ made. HasNewTimes made.0.times) }
+    ensures event { IfOk result (λ made. shown made.1 ≡ MadeTask (task_info id spec) made.0.token.ledger 1 (times_ledger made.0.times)) }
+    ensures agrees { IfOk result (λ made. Agrees made.1) }
+    ensures back { IfErr result (λ back. back ≡ spec) }
+{
+    let Some((owner, inspector)) = timed_ledger(rt, alloc, id, created) else {
+        return Err(spec);
     };
-    Ok((owner, Event::Task(info, inspector)))
+    Ok((owner, task_event(id, spec, inspector)))
 }
 
 // What stays of the attributes, and their first values. Nothing, where memory is refused.

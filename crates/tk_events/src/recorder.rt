@@ -1,5 +1,5 @@
 //! A recorder, which offers events to the buffer.
-ghost use Rattle.std.specs.Prelude.{◌≡◌, ◌↔◌, Err, ◌+◌, ◌-◌, ◌^◌, ◌<◌, ◌≤◌, Some, All, length, OnOk, IfOk, IfErr, IsErr};
+ghost use Rattle.std.specs.Prelude.{◌≡◌, ◌↔◌, Err, ◌+◌, ◌-◌, ◌^◌, ◌<◌, ◌≤◌, Some, None, All, length, OnOk, IfOk, IfErr, IsErr};
 ghost use Rattle.std.specs.Arc.{arc_value};
 ghost use Rattle.crossbeam_queue.specs.Fifo.{Held};
 ghost use Rattle.crossbeam_queue.specs.Passes.{view, IsSamePass, IsPassOf, ruled_capacity};
@@ -12,9 +12,9 @@ ghost use Rattle.tk_core.specs.Task.{opening_row as task_row};
 ghost use Rattle.tk_core.specs.Resource.{opening_row as resource_row};
 ghost use Rattle.tk_core.specs.Op.{opening_row as op_row};
 ghost use Rattle.tk_events.specs.declared.event.Shown.TheVariants.{MadeTask, MadeResource, MadeOp, Polled};
-ghost use Rattle.tk_events.specs.Items.{first_values, task_info, resource_info, op_info, owner_view, Agrees};
+ghost use Rattle.tk_events.specs.Items.{first_values, task_info, resource_info, op_info, owner_view, HasNewTimes, Agrees};
 ghost use Rattle.tk_events.specs.declared.recorder.Recorded.TheVariants.{Kept, DroppedFull};
-ghost use Rattle.tk_events.specs.Offers.{shown, offer_of, kind_of};
+ghost use Rattle.tk_events.specs.Offers.{shown, offer_of, kind_of, times_ledger};
 ghost use Rattle.tk_events.specs.Counts.{makes as makes_seat};
 ghost use Rattle.tk_events.specs.Buffer.{keeps, notes, makes, IsContentFor};
 ghost use Rattle.tk_events.specs.Handles.{IsSameRecorder, offers_made, next_offer, next_task_id, next_resource_id, next_op_id, with_kept, with_refused, new_recording, HeldFor, HasOwnIds, place};
@@ -28,7 +28,7 @@ use crate::error::RecordError;
 use crate::event::{Event, PollOp};
 use crate::item::Item;
 use crate::new_item::{
-    new_op, new_resource, new_task, next_op, next_resource, next_task, same_ids,
+    new_op, new_resource, new_task, new_timed_task, next_op, next_resource, next_task, same_ids,
 };
 use crate::retired::RetiredRecorder;
 use atomic_table::Seat;
@@ -175,8 +175,9 @@ impl Recorder {
     ) -> Result<(TaskOwner, Recorded), (RecordError, TaskSpec)>
         ensures id { IfOk result (λ made. made.0.id ≡ next_task_id self.old) }
         ensures owner { IfOk result (λ made. made.0.token.view ≡ owner_view EnlistTask (task_row created)) }
-        ensures kept { IfOk result (λ made. made.1 ≡ Kept → self.new ≡ with_kept self.old (next_offer self.old (MadeTask (task_info (next_task_id self.old) spec) made.0.token.ledger 1))) }
-        ensures refused { IfOk result (λ made. made.1 ≡ DroppedFull → self.new ≡ with_refused self.old (next_offer self.old (MadeTask (task_info (next_task_id self.old) spec) made.0.token.ledger 1))) }
+        ensures times { IfOk result (λ made. made.0.times ≡ None) }
+        ensures kept { IfOk result (λ made. made.1 ≡ Kept → self.new ≡ with_kept self.old (next_offer self.old (MadeTask (task_info (next_task_id self.old) spec) made.0.token.ledger 1 None))) }
+        ensures refused { IfOk result (λ made. made.1 ≡ DroppedFull → self.new ≡ with_refused self.old (next_offer self.old (MadeTask (task_info (next_task_id self.old) spec) made.0.token.ledger 1 None))) }
         ensures full { IfOk result (λ made. made.1 ≡ DroppedFull → Held self.old.capacity (HeldFor self.old)) }
         ensures alone { IfOk result (λ made. made.1 ≡ DroppedFull → self.old.recorders ≡ 1 → self.old.capacity ≤ length self.old.kept) }
         ensures same { IsSameRecorder self.old self.new }
@@ -188,6 +189,39 @@ impl Recorder {
         }
         let (ids, id) = next_task(&self.ids);
         match new_task(rt, alloc, id, spec, created) {
+            Ok((owner, event)) => Ok((owner, self.record(rt, event, ids))),
+            Err(spec) => Err((RecordError::Memory, spec)),
+        }
+    }
+
+    /// Makes a task with a histogram of how long its polls run, in nanoseconds, and offers it. The inspector of its event reads both the task
+    /// and the histogram. Its owner works also where the event was dropped.
+    ///
+    /// `OffersSpent` where the recorder has made all its offers, then `Memory`. No id is drawn then, no offer is made,
+    /// and the spec comes back.
+    pub fn task_with_times<R: Wait>(
+        &mut self,
+        rt: &R,
+        alloc: Global,
+        spec: TaskSpec,
+        created: u64,
+    ) -> Result<(TaskOwner, Recorded), (RecordError, TaskSpec)>
+        ensures id { IfOk result (λ made. made.0.id ≡ next_task_id self.old) }
+        ensures owner { IfOk result (λ made. made.0.token.view ≡ owner_view EnlistTask (task_row created)) }
+        ensures times { IfOk result (λ made. HasNewTimes made.0.times) }
+        ensures kept { IfOk result (λ made. made.1 ≡ Kept → self.new ≡ with_kept self.old (next_offer self.old (MadeTask (task_info (next_task_id self.old) spec) made.0.token.ledger 1 (times_ledger made.0.times)))) }
+        ensures refused { IfOk result (λ made. made.1 ≡ DroppedFull → self.new ≡ with_refused self.old (next_offer self.old (MadeTask (task_info (next_task_id self.old) spec) made.0.token.ledger 1 (times_ledger made.0.times)))) }
+        ensures full { IfOk result (λ made. made.1 ≡ DroppedFull → Held self.old.capacity (HeldFor self.old)) }
+        ensures alone { IfOk result (λ made. made.1 ≡ DroppedFull → self.old.recorders ≡ 1 → self.old.capacity ≤ length self.old.kept) }
+        ensures same { IsSameRecorder self.old self.new }
+        ensures spent { (result ≡ Err (OffersSpent, spec)) ↔ (offers_made self.old ≡ self.old.limit) }
+        ensures err { IfErr result (λ back. (back.1 ≡ spec) × (self.new ≡ self.old)) }
+    {
+        if self.made >= self.limit {
+            return Err((RecordError::OffersSpent, spec));
+        }
+        let (ids, id) = next_task(&self.ids);
+        match new_timed_task(rt, alloc, id, spec, created) {
             Ok((owner, event)) => Ok((owner, self.record(rt, event, ids))),
             Err(spec) => Err((RecordError::Memory, spec)),
         }

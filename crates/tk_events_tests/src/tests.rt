@@ -6,3 +6,4 @@ mod limits;
 mod memory;
 mod ring;
 mod threads;
+mod timed;

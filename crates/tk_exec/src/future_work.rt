@@ -88,6 +88,7 @@ impl<F: Future> FutureWork<F> {
     }
 
     // Keeps a waker of the task, from the first pending poll on.
+    #[tactic(auto, using(tk_ledgers::proofs::ScopeLemmas::scope_same))]
     fn keep_waker<R: Wait>(&mut self, rt: &R, scope: &mut PollScope)
         ensures future { self.new.future ≡ self.old.future }
         ensures lends { Lends self.old.waker scope.old self.new.waker scope.new }
@@ -138,6 +139,7 @@ where
 
     ghost polls = { lent_polls };
 
+    #[tactic(auto, using(tk_ledgers::proofs::ScopeLemmas::scope_same))]
     fn poll<R: Wait>(&mut self, rt: &R, scope: &mut PollScope) -> Poll<F::Output> {
         let Some(mut future) = self.future.take() else {
             self.wait(rt, scope);

@@ -110,6 +110,7 @@ impl Work for TakePermit {
 
     ghost polls = { permit_polls };
 
+    #[tactic(auto, using(tk_ledgers::proofs::ScopeLemmas::scope_same))]
     fn poll<R: Wait>(&mut self, rt: &R, scope: &mut PollScope) -> Poll<()> {
         if self.holds {
             self.give_back(rt);

@@ -14,4 +14,6 @@ pub mod OpLemmas
 pub mod OpPollLemmas
 pub mod OpSumLemmas
 pub mod TimesLemmas
+pub mod TimedLemmas
+pub mod TimesReadingLemmas
 pub mod BesideLemmas

@@ -3,8 +3,8 @@ use Rattle.std.proofs.Common.{◌≡◌, ℕ, Bool, true, false, cond, if◌then
 use Rattle.std.specs.Prelude.{◌==◌}
 use Rattle.std.specs.List.{filter_map, last_or}
 use Rattle.std.specs.Option.{option_map_or, option_or}
-use Rattle.std.proofs.lemmas.List.{append-nil}
-use Rattle.std.proofs.lemmas.List.Elements.{filter_map-append}
+use Rattle.std.proofs.lemmas.List.{append-nil, map-append}
+use Rattle.std.proofs.lemmas.List.Elements.{filter-append, filter_map-append}
 use Rattle.tk_core.specs.declared.history.Entry.{Entry}
 use Rattle.tk_core.specs.declared.reply.Reply.{Reply}
 use Rattle.tk_core.specs.Lists.{last, last_of}
@@ -26,6 +26,11 @@ snoc_same [] (b ∷ (c ∷ ys)) x e = absurd cc
 snoc_same (a ∷ []) [] x e = absurd cc
 snoc_same (a ∷ (b ∷ xs)) [] x e = absurd cc
 snoc_same (a ∷ xs) (b ∷ ys) x e = let heads : a ≡ b = cc in let tails = snoc_same xs ys x cc in cc (heads, tails)
+
+-- the accepted calls of two lists of entries, one behind the other
+pub accepted_append : {Row C : Type 0} (xs ys : List (Entry C (Reply Row))) → accepted is_accepted (xs ++ ys) ≡ accepted is_accepted xs ++ accepted is_accepted ys
+unfolding accepted
+accepted_append xs ys = rw (filter-append, map-append) refl
 
 module _ {Row C : Type 0} (m : Meaning Row C (Reply Row)) where
   -- a call of the owner is one entry more in its list
@@ -94,10 +99,14 @@ module _ {Row C : Type 0} (m : Meaning Row C (Reply Row)) where
         with_role true is may = absurd cc
         with_role false is may = by_maker (maker m e.caller before) may
 
-    -- in a legal history the last such call is the last in the owner's list
+    -- in a legal history such calls stand in the owner's list
+    pub picked_of_owner : (opening : Row) (h : List (Entry C (Reply Row))) → IsLegal m opening h → picked h ≡ picked (own 0 h)
+    picked_of_owner opening h legal = same_picked h (legal_others opening h legal)
+
+    -- so the last of them is the last there
     pub last_of_owner : (opening : Row) (h : List (Entry C (Reply Row))) → IsLegal m opening h → last_of f (accepted is_accepted h) ≡ last_of f (accepted is_accepted (own 0 h))
     unfolding last_of
-    last_of_owner opening h legal = ap (λ (xs : List X). last xs) (same_picked h (legal_others opening h legal))
+    last_of_owner opening h legal = ap (λ (xs : List X). last xs) (picked_of_owner opening h legal)
 
     module _ (v : View Row C (Reply Row)) (call : C) (reply : Reply Row) (w : View Row C (Reply Row)) (k : Calls m v call reply w) (o : IsOwner m v) where
       -- the last such call before a call of the owner

@@ -1,5 +1,5 @@
 -- How the owner's list grows, and what a scope's calls leave.
-use Rattle.std.proofs.Common.{◌≡◌, ℕ, Bool, true, false, ◌&&◌, cond, if◌then◌else◌, List, [], ◌∷◌, ◌++◌, Option, Some, None, refl, ap, sym, ◌∙◌, subst, append_assoc, Result, Ok, Err, IfOk, IfErr}
+use Rattle.std.proofs.Common.{◌≡◌, ℕ, Bool, true, false, ◌&&◌, cond, List, [], ◌∷◌, ◌++◌, None, refl, ap, sym, ◌∙◌, subst, append_assoc, Result, Ok, Err, IfOk, IfErr}
 use Rattle.std.specs.Prelude.{unwrap_or, map, filter}
 use Rattle.std.specs.List.{list_all, filter_map}
 use Rattle.std.proofs.lemmas.List.{append-nil, map-append}
@@ -9,11 +9,12 @@ use Rattle.tk_core.specs.declared.history.Entry.{Entry}
 use Rattle.tk_core.specs.declared.reply.Refusal.{Refusal}
 use Rattle.tk_core.specs.declared.reply.Refusal.TheVariants.{AlreadyPolling, NotPolling, Closed, HandlesSpent, NoAttribute, WrongKind, OutOfRange, Memory}
 use Rattle.tk_core.specs.declared.reply.Reply.{Reply}
-use Rattle.tk_core.specs.declared.reply.Reply.TheVariants.{Done, Number, Woken, Refused}
+use Rattle.tk_core.specs.declared.reply.Reply.TheVariants.{Done, Number, Refused}
 use Rattle.tk_core.specs.declared.task.row.TaskRow.{TaskRow}
 use Rattle.tk_core.specs.declared.task.call.TaskCall.{TaskCall}
 use Rattle.tk_core.specs.declared.task.call.TaskCall.TheVariants.{PollStart, PollEnd, Close, CloneWaker, WakeVal, WakeRef, Release, Enlist, Read}
 use Rattle.tk_core.specs.Lists.{last, last_of}
+use Rattle.tk_core.specs.Task.{end_at}
 use Rattle.tk_core.specs.History.{accepted}
 use Rattle.tk_core.specs.Fold.{is_accepted}
 use Rattle.tk_core.specs.Legal.{own}
@@ -22,30 +23,55 @@ use Rattle.tk_core.specs.Laws.Pushed.{last_or_push}
 use Rattle.tk_cell.specs.Views.{Known}
 use Rattle.tk_cell.specs.Calls.{entry, Calls}
 use Rattle.tk_ledgers.specs.Handles.{Drew, NotDrawn}
-use Rattle.tk_ledgers.specs.Tasks.{TaskSight, TaskEntries, is_polling}
-use Rattle.tk_ledgers.specs.Scopes.{Scoped, owner_list, Grows, is_scope_call, AreOfScope, ScopeGrows}
+use Rattle.tk_ledgers.specs.Tasks.{TaskSight, TaskEntries, is_polling, owner_calls}
+use Rattle.tk_ledgers.specs.Times.{runs_after, AreTimesOf, TimesGrow}
+use Rattle.tk_ledgers.specs.Scopes.{Scoped, owner_list, Grows, StaysTimed, is_scope_call, AreOfScope, ScopeGrows}
 use Rattle.tk_ledgers.proofs.TaskPollLemmas.{poll_of}
+use Rattle.tk_ledgers.proofs.OwnerLemmas.{accepted_append}
+use Rattle.tk_ledgers.proofs.TimedLemmas.{runs_append, runs_none, stays_timed_by, times_kept, times_more, times_stay}
 
 -- ---- lists that grow
 
+-- no entry adds no time
+none_more : (old new : TaskSight) → new.times ≡ old.times → TimesGrow old.times (runs_after (owner_calls old) (accepted (is_accepted {Row = TaskRow}) [])) new.times
+unfolding accepted
+none_more old new is = subst (λ (times : List ℕ). TimesGrow old.times times new.times) (sym (runs_none (owner_calls old))) (times_kept old.times new.times is)
+
+-- of the runs in two lists of entries the second ones begin behind the first
+runs_in : (a b : TaskSight) (xs ys : TaskEntries) → owner_list b ≡ owner_list a ++ xs
+    → runs_after (owner_calls a) (accepted is_accepted xs) ++ runs_after (owner_calls b) (accepted is_accepted ys) ≡ runs_after (owner_calls a) (accepted is_accepted (xs ++ ys))
+runs_in a b xs ys is =
+    let calls : owner_calls b ≡ owner_calls a ++ accepted is_accepted xs = ap (λ (l : TaskEntries). accepted is_accepted l) is ∙ accepted_append (owner_list a) xs in
+    sym (ap (λ (cs : List TaskCall). runs_after (owner_calls a) cs) (accepted_append xs ys) ∙ (runs_append (owner_calls a) (accepted is_accepted xs) (accepted is_accepted ys)
+    ∙ ap (λ (cs : List TaskCall). runs_after (owner_calls a) (accepted is_accepted xs) ++ runs_after cs (accepted is_accepted ys)) (sym calls)))
+
 pub grows_same : (h : TaskSight) → Grows h [] h
-grows_same h = record { id = refl; ledger = refl; list = sym (append-nil (owner_list h)) }
+grows_same h = record { id = refl; ledger = refl; list = sym (append-nil (owner_list h)); times = none_more h h refl }
 
 pub grows_more : (a b c : TaskSight) (xs ys : TaskEntries) → Grows a xs b → Grows b ys c → Grows a (xs ++ ys) c
 grows_more a b c xs ys p q = record {
   id = q.id ∙ p.id;
   ledger = q.ledger ∙ p.ledger;
   list = q.list ∙ (ap (λ (l : TaskEntries). l ++ ys) p.list ∙ append_assoc (owner_list a) xs ys);
+  times = subst (λ (times : List ℕ). TimesGrow a.times times c.times) (runs_in a b xs ys p.list)
+      (times_more a.times b.times c.times (runs_after (owner_calls a) (accepted is_accepted xs)) (runs_after (owner_calls b) (accepted is_accepted ys)) p.times q.times);
 }
 
 -- one call of the owner is one entry more
 pub grows_by_call : (old new : TaskSight) (call : TaskCall) (reply : Reply TaskRow) → new.id ≡ old.id → new.token.ledger ≡ old.token.ledger → old.token.view.caller ≡ 0
-    → Calls task_meaning old.token.view call reply new.token.view → Grows old (entry 0 call reply ∷ []) new
-grows_by_call old new call reply id ledger caller k = record {
+    → Calls task_meaning old.token.view call reply new.token.view → TimesGrow old.times (runs_after (owner_calls old) (accepted is_accepted (entry 0 call reply ∷ []))) new.times
+    → Grows old (entry 0 call reply ∷ []) new
+grows_by_call old new call reply id ledger caller k times = record {
   id = id;
   ledger = ledger;
   list = subst (λ (n : ℕ). own n new.token.view.seen ≡ own n old.token.view.seen ++ entry n call reply ∷ []) caller k.mine;
+  times = times;
 }
+
+pub stays_timed : StaysTimed
+stays_timed old new entries timed g =
+    let calls : owner_calls new ≡ owner_calls old ++ accepted is_accepted entries = ap (λ (l : TaskEntries). accepted is_accepted l) g.list ∙ accepted_append (owner_list old) entries in
+    λ t is. subst (λ (cs : List TaskCall). AreTimesOf cs t) (sym calls) (stays_timed_by (owner_calls old) (accepted is_accepted entries) old.times new.times timed g.times t is)
 
 -- ---- polling, by the owner's list
 
@@ -136,13 +162,18 @@ scope_more a b c p q = record {
 abbrev pub at_moment : ℕ → TaskSight → Scoped
 at_moment moment owner = record { owner = owner; moment = moment }
 
-module _ (moment : ℕ) (old new : TaskSight) (id : new.id ≡ old.id) (ledger : new.token.ledger ≡ old.token.ledger) (caller : old.token.view.caller ≡ 0) where
-  by_call : (call : TaskCall) (reply : Reply TaskRow) → is_scope_call call ≡ true → Calls task_meaning old.token.view call reply new.token.view → ScopeGrows (at_moment moment old) (at_moment moment new)
-  by_call call reply is k = record { moment = refl; entries = entry 0 call reply ∷ []; of_scope = cc is; grows = grows_by_call old new call reply id ledger caller k }
+module _ (moment : ℕ) (old new : TaskSight) (id : new.id ≡ old.id) (ledger : new.token.ledger ≡ old.token.ledger) (caller : old.token.view.caller ≡ 0) (same : new.times ≡ old.times) where
+  by_call : (call : TaskCall) (reply : Reply TaskRow) → is_scope_call call ≡ true → end_at call ≡ None → Calls task_meaning old.token.view call reply new.token.view → ScopeGrows (at_moment moment old) (at_moment moment new)
+  by_call call reply is none k = record {
+    moment = refl;
+    entries = entry 0 call reply ∷ [];
+    of_scope = cc is;
+    grows = grows_by_call old new call reply id ledger caller k (times_stay (owner_calls old) call reply old.times new.times none same);
+  }
 
   -- a wake by the scope
   pub scope_wakes : (m : ℕ) (reply : Reply TaskRow) → Calls task_meaning old.token.view (WakeRef m true) reply new.token.view → ScopeGrows (at_moment moment old) (at_moment moment new)
-  scope_wakes m reply k = by_call (WakeRef m true) reply refl k
+  scope_wakes m reply k = by_call (WakeRef m true) reply refl refl k
 
   -- a clone by the scope
   pub scope_clones : (made : Known TaskRow TaskCall (Reply TaskRow)) → Drew task_meaning old.token CloneWaker new.token made → ScopeGrows (at_moment moment old) (at_moment moment new)
@@ -155,6 +186,7 @@ module _ (moment : ℕ) (old new : TaskSight) (id : new.id ≡ old.id) (ledger :
       ledger = ledger;
       list = ap (λ (t : Known TaskRow TaskCall (Reply TaskRow)). own 0 t.view.seen) d.kept
           ∙ subst (λ (n : ℕ). own n d.view.seen ≡ own n old.token.view.seen ++ entry n CloneWaker (Number d.number) ∷ []) caller d.entry.mine;
+      times = times_stay (owner_calls old) CloneWaker (Number d.number) old.times new.times refl same;
     };
   }
 
@@ -168,9 +200,10 @@ module _ (moment : ℕ) (old new : TaskSight) (id : new.id ≡ old.id) (ledger :
       id = id;
       ledger = ledger;
       list = ap (λ (t : Known TaskRow TaskCall (Reply TaskRow)). own 0 t.view.seen) is ∙ sym (append-nil (owner_list old));
+      times = none_more old new same;
     };
   }
-  scope_clones_none HandlesSpent k = by_call CloneWaker (Refused HandlesSpent) refl k.1
+  scope_clones_none HandlesSpent k = by_call CloneWaker (Refused HandlesSpent) refl refl k.1
   scope_clones_none AlreadyPolling none = absurd none
   scope_clones_none NotPolling none = absurd none
   scope_clones_none Closed none = absurd none

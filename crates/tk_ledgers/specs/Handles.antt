@@ -1,15 +1,21 @@
 -- What a handle shows, as whom it makes calls, and how further handles are drawn.
-use Rattle.std.specs.Prelude.{◌≡◌, ℕ, ◌⊎◌, Bool, List, Some}
+use Rattle.std.specs.Prelude.{◌≡◌, ℕ, ◌⊎◌, Bool, List, Option, Some, None}
 use Rattle.tk_core.specs.declared.reply.Refusal.{Refusal}
 use Rattle.tk_core.specs.declared.reply.Refusal.TheVariants.{Memory, HandlesSpent}
 use Rattle.tk_core.specs.declared.reply.Reply.{Reply}
 use Rattle.tk_core.specs.declared.reply.Reply.TheVariants.{Done, Number, Woken, Shown, Refused}
 use Rattle.tk_core.specs.declared.reply.WakeReply.{WakeReply}
+use Rattle.tk_core.specs.declared.times.row.TimesRow.{TimesRow}
+use Rattle.tk_core.specs.declared.times.call.TimesCall.{TimesCall}
 use Rattle.tk_core.specs.Meaning.{Meaning}
 use Rattle.tk_cell.specs.declared.view.View.{View}
 use Rattle.tk_cell.specs.Views.{Known, known, after_split, split_off}
 use Rattle.tk_cell.specs.Calls.{Calls}
 use Rattle.tk_cell.specs.Roles.{IsOwner, IsMadeBy}
+
+-- what is known of a histogram by a token
+abbrev pub KnownTimes : Type 0
+KnownTimes = Known TimesRow TimesCall (Reply TimesRow)
 
 -- what contracts see of a handle, and of a receipt
 pub record Sight (O C R : Type 0) : Type 0 where
@@ -17,10 +23,16 @@ pub record Sight (O C R : Type 0) : Type 0 where
   pub id : ℕ
   -- the ledger that its token is of, and what is known by it
   pub token : Known O C R
+  -- the same of the histogram of how long the item's polls ran, where it has one
+  pub times : Option KnownTimes
+
+-- a handle of this item, with this token and with or without a histogram
+abbrev pub sight_with : {O C R : Type 0} → ℕ → Known O C R → Option KnownTimes → Sight O C R
+sight_with id token times = record { id = id; token = token; times = times }
 
 -- a handle of this item, with this token
 abbrev pub sight : {O C R : Type 0} → ℕ → Known O C R → Sight O C R
-sight id token = record { id = id; token = token }
+sight id token = sight_with id token None
 
 -- as whom a handle makes calls: as the owner, or as a caller whose number was answered to a given call
 pub data Caller (C : Type 0) : Type 0 where

@@ -8,3 +8,5 @@ pub mod Ops
 pub mod Scopes
 pub mod Times
 pub mod Beside
+-- Inner: what an owner keeps of a histogram
+pub mod Timed

@@ -1,13 +1,13 @@
 -- What the scope of a poll shows, and what may happen in it.
-use Rattle.std.specs.Prelude.{◌≡◌, ℕ, Bool, true, false, List, ◌++◌}
+use Rattle.std.specs.Prelude.{◌≡◌, ℕ, Bool, true, false, ◌++◌}
 use Rattle.std.specs.List.{list_all}
-use Rattle.tk_core.specs.declared.history.Entry.{Entry}
-use Rattle.tk_core.specs.declared.reply.Reply.{Reply}
-use Rattle.tk_core.specs.declared.task.row.TaskRow.{TaskRow}
 use Rattle.tk_core.specs.declared.task.call.TaskCall.{TaskCall}
 use Rattle.tk_core.specs.declared.task.call.TaskCall.TheVariants.{CloneWaker, WakeRef}
+use Rattle.tk_core.specs.History.{accepted}
+use Rattle.tk_core.specs.Fold.{is_accepted}
 use Rattle.tk_core.specs.Legal.{own}
-use Rattle.tk_ledgers.specs.Tasks.{TaskSight, TaskEntries}
+use Rattle.tk_ledgers.specs.Tasks.{TaskSight, TaskEntries, owner_calls}
+use Rattle.tk_ledgers.specs.Times.{runs_after, IsTimed, TimesGrow}
 
 -- what contracts see of a scope: the owner that it holds, and the moment that it was opened at
 pub record Scoped : Type 0 where
@@ -18,11 +18,16 @@ pub record Scoped : Type 0 where
 abbrev pub owner_list : TaskSight → TaskEntries
 owner_list h = own 0 h.token.view.seen
 
--- the task and the ledger stay, and the owner's list grows by these entries
+-- the task and the ledger stay, the owner's list grows by these entries, and its histogram by how long the polls ran that they end
 pub record Grows (old : TaskSight) (entries : TaskEntries) (new : TaskSight) : Type 0 where
   pub id : new.id ≡ old.id
   pub ledger : new.token.ledger ≡ old.token.ledger
   pub list : owner_list new ≡ owner_list old ++ entries
+  pub times : TimesGrow old.times (runs_after (owner_calls old) (accepted is_accepted entries)) new.times
+
+-- the times of a task's histogram stay how long its polls ran
+abbrev pub StaysTimed : Type 0
+StaysTimed = (old new : TaskSight) (entries : TaskEntries) → IsTimed old → Grows old entries new → IsTimed new
 
 -- the calls of a scope: a clone of a waker, and a wake by reference that is a self-wake
 abbrev pub is_scope_call : TaskCall → Bool

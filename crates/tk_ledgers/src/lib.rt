@@ -8,10 +8,11 @@
 //! - [`Origin`]: whence a wake comes: from within a poll, or from outside.
 //! - [`ResourceOwner`], [`ResourceUser`], [`ResourceInspector`], [`ResourceReceipt`]: the same of a resource.
 //! - [`OpOwner`], [`OpInspector`], [`OpReceipt`]: the same of an async operation.
-//! - [`TimesOwner`], [`TimesInspector`], [`TimesReceipt`]: the same of a histogram of times.
+//! - [`TimesOwner`], [`TimesInspector`], [`TimesReceipt`]: the same of a histogram of times. A task's owner may have one of how long its
+//!   polls ran ([`TaskOwner::new_with_times`]).
 //!
 //! A handle holds a share of its ledger and a token of it. What contracts see of it is its `Sight`
-//! (`specs/Handles.antt`): the id of its item, its ledger, and what is known by its token. A call is one entry of
+//! (`specs/Handles.antt`): the id of its item, its ledger, what is known by its token, and the same of a histogram. A call is one entry of
 //! the ledger's history (`Calls` of `tk_cell`). A call that makes a handle takes a share of the ledger first; where
 //! that is refused, it answers `Memory` and does nothing.
 //!

@@ -5,6 +5,7 @@ mod origin;
 mod owner;
 mod receipt;
 mod scope;
+mod timed;
 mod waker;
 
 pub use inspector::TaskInspector;

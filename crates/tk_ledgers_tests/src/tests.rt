@@ -9,5 +9,7 @@ mod rising;
 mod scopes;
 mod signed;
 mod threads;
+mod timed;
+mod timed_threads;
 mod times;
 mod wakes;

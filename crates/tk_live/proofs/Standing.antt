@@ -16,7 +16,7 @@ use Rattle.tk_cell.specs.declared.view.View.{View}
 use Rattle.tk_cell.specs.Calls.{Calls, entry}
 use Rattle.tk_cell.specs.Views.{Known}
 use Rattle.tk_events.specs.Items.{owner_view}
-use Rattle.tk_ledgers.specs.Handles.{Sight, Drew}
+use Rattle.tk_ledgers.specs.Handles.{Sight, sight, Drew}
 use Rattle.tk_stream.specs.Streams.{Sending}
 use Rattle.tk_script.specs.Commands.{Said}
 use Rattle.tk_script.specs.Commands as said
@@ -194,19 +194,19 @@ module _ {Row C : Type 0} (m : Meaning Row C (Reply Row)) (old new : Sight Row C
 
   -- the handle after a draw, before its caller was split off
   abbrev undivided : View Row C (Reply Row) → Sight Row C (Reply Row)
-  undivided v = record { id = new.id; token = record { ledger = old.token.ledger; view = v } }
+  undivided v = sight new.id (record { ledger = old.token.ledger; view = v })
 
 module _ {Row C : Type 0} (m : Meaning Row C (Reply Row)) (old new made : Sight Row C (Reply Row)) (id : new.id ≡ old.id) (call : C) (drew : Drew m old.token call new.token made.token) where
   -- a handle was drawn: it is a call of the handle that drew it
   pub owner_drew : old.token.view.caller ≡ 0 → owner_of new ≡ and_call call (owner_of old)
   owner_drew caller =
       let mid = undivided m old new id call drew.view in
-      ap (λ (t : Known Row C (Reply Row)). owner_of (record { id = new.id; token = t })) drew.kept ∙ owner_called m old mid id call (Number drew.number) caller drew.entry refl
+      ap (λ (t : Known Row C (Reply Row)). owner_of (sight new.id t)) drew.kept ∙ owner_called m old mid id call (Number drew.number) caller drew.entry refl
 
   pub caller_drew : caller_of new ≡ and_call call (caller_of old)
   caller_drew =
       let mid = undivided m old new id call drew.view in
-      ap (λ (t : Known Row C (Reply Row)). caller_of (record { id = new.id; token = t })) drew.kept ∙ caller_called m old mid id call (Number drew.number) drew.entry refl
+      ap (λ (t : Known Row C (Reply Row)). caller_of (sight new.id t)) drew.kept ∙ caller_called m old mid id call (Number drew.number) drew.entry refl
 
   -- and the new one has made no call
   pub drawn_calls : m.number (Number drew.number) ≡ Some drew.number → accepted is_accepted (own made.token.view.caller made.token.view.seen) ≡ []

@@ -49,6 +49,19 @@ fn make_task<R: Wait>(
     }
 }
 
+// The id of the task with a histogram, or its spec.
+fn make_timed<R: Wait>(
+    rt: &R,
+    alloc: Global,
+    recorder: &mut Recorder,
+    spec: TaskSpec,
+) -> Result<u64, TaskSpec> {
+    match recorder.task_with_times(rt, alloc, spec, 4) {
+        Ok((owner, _)) => Ok(owner.id().value()),
+        Err((_, back)) => Err(back),
+    }
+}
+
 fn make_resource<R: Wait>(
     rt: &R,
     alloc: Global,
@@ -83,6 +96,16 @@ fn makes_task<R: Wait>(rt: &R, alloc: Global, recorder: &mut Recorder) -> bool {
     }
 }
 
+fn makes_timed<R: Wait>(rt: &R, alloc: Global, recorder: &mut Recorder) -> bool {
+    let Some(spec) = task_spec(alloc) else {
+        return false;
+    };
+    match make_timed(rt, alloc, recorder, spec) {
+        Ok(id) => id == FIRST + 1,
+        Err(back) => make_timed(rt, alloc, recorder, back).ok() == Some(FIRST + 1),
+    }
+}
+
 fn makes_resource<R: Wait>(rt: &R, alloc: Global, recorder: &mut Recorder) -> bool {
     let Some(spec) = resource_spec(alloc) else {
         return false;
@@ -107,6 +130,7 @@ fn makes_each<R: Wait>(rt: &R, alloc: Global, recorders: &mut Vec<Recorder>) -> 
     match recorders.get_mut(0) {
         Some(recorder) => {
             makes_task(rt, alloc, recorder)
+                && makes_timed(rt, alloc, recorder)
                 && makes_resource(rt, alloc, recorder)
                 && makes_op(rt, alloc, recorder)
         }
@@ -121,6 +145,7 @@ fn takes_each<R: Wait>(rt: &R, taker: &mut Taker) -> bool {
         ops: 0,
     };
     takes_any(rt, taker)
+        && takes_any(rt, taker)
         && takes_any(rt, taker)
         && takes_any(rt, taker)
         && !takes_any(rt, taker)

@@ -38,6 +38,7 @@ impl Work for HoldWaker {
 
     ghost polls = { hold_polls };
 
+    #[tactic(auto, using(tk_ledgers::proofs::ScopeLemmas::scope_same))]
     fn poll<R: Wait>(&mut self, rt: &R, scope: &mut PollScope) -> Poll<u64> {
         if self.begun {
             if let Some(waker) = self.waker.take() {

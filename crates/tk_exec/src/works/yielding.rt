@@ -32,6 +32,7 @@ impl Work for YieldTimes {
 
     ghost polls = { yield_polls };
 
+    #[tactic(auto, using(tk_ledgers::proofs::ScopeLemmas::scope_same))]
     fn poll<R: Wait>(&mut self, rt: &R, scope: &mut PollScope) -> Poll<u64> {
         self.polls = self.polls.saturating_add(1);
         if self.left == 0 {

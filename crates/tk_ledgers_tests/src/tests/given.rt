@@ -14,3 +14,14 @@ pub(super) fn task<R: Wait>(rt: &R, alloc: Global, id: u64, created: u64) -> Opt
     let id = TaskId::from_value(id).ok()?;
     TaskOwner::new(rt, alloc, id, created).ok()
 }
+
+/// The same with a histogram of how long its polls ran.
+pub(super) fn timed_task<R: Wait>(
+    rt: &R,
+    alloc: Global,
+    id: u64,
+    created: u64,
+) -> Option<TaskOwner> {
+    let id = TaskId::from_value(id).ok()?;
+    TaskOwner::new_with_times(rt, alloc, id, created).ok()
+}

@@ -2,6 +2,8 @@ use Rattle.std.proofs.Common.{not, refl, ap, sym, subst, ◌∙◌, true≢false
 use Rattle.futures.specs.declared.task.Poll.TheVariants.{Ready, Pending}
 use Rattle.tk_core.specs.declared.reply.Reply.TheVariants.{Done}
 use Rattle.tk_core.specs.declared.task.call.TaskCall.TheVariants.{PollStart, PollEnd, Close}
+use Rattle.tk_ledgers.specs.Tasks.{owner_calls}
+use Rattle.tk_ledgers.proofs.TimedLemmas.{times_stay, times_ended}
 use Rattle.tk_ledgers.proofs.ScopeLemmas.{grows_by_call, polling_started, polling_ended}
 use Rattle.tk_exec.specs.Polls.{Tracked}
 use Rattle.tk_exec.proofs.PollLemmas.{at_rest, rests, pending_entries, ready_entries, over_and_shut, grew_in, grows_to, grows_from}
@@ -10,13 +12,13 @@ use Rattle.tk_exec.proofs.instrumented.Instrumented.poll_once.Goals as goal
 pub unreachable-requires-in_default-scope : goal.unreachable-requires-in_default-scope
 unreachable-requires-in_default-scope g c =
     let e = c.in-Ok.ensures in
-    let begun = grows_by_call c.in-Some.owner c.start_poll.new.self (PollStart c.now-first.result) Done e.id e.ledger e.caller e.ok in
+    let begun = grows_by_call c.in-Some.owner c.start_poll.new.self (PollStart c.now-first.result) Done e.id e.ledger e.caller e.ok (times_stay (owner_calls c.in-Some.owner) (PollStart c.now-first.result) Done c.in-Some.owner.times c.start_poll.new.self.times refl e.times) in
     absurd (true≢false (sym (polling_started c.in-Some.owner c.start_poll.new.self c.now-first.result begun) ∙ sym c.in_default-scope.ensures.exact))
 
 pub unreachable-requires-in_default-close : goal.unreachable-requires-in_default-close
 unreachable-requires-in_default-close g c =
     let e = c.in-Ok-end_poll.ensures in
-    let over = grows_by_call c.finish-owner.result c.end_poll.new.self (PollEnd c.now-second.result) Done e.id e.ledger e.caller e.ok in
+    let over = grows_by_call c.finish-owner.result c.end_poll.new.self (PollEnd c.now-second.result) Done e.id e.ledger e.caller e.ok (times_ended (owner_calls c.finish-owner.result) c.now-second.result c.finish-owner.result.times c.end_poll.new.self.times e.timed) in
     absurd (true≢false (sym (c.in_default-close.ensures.exact ∙ ap (λ b. not b) (polling_ended c.finish-owner.result c.end_poll.new.self c.now-second.result over))))
 
 pub invariant_of-self-in-Pending : goal.invariant_of-self-in-Pending
@@ -26,8 +28,8 @@ invariant_of-self-in-Pending g c =
     let scoped = c.poll-answer.ensures.scoped in
     let s = c.in-Ok.ensures in
     let e = c.in-Ok-end_poll.ensures in
-    let begun = grows_by_call c.in-Some.owner c.start_poll.new.self (PollStart c.now-first.result) Done s.id s.ledger s.caller s.ok in
-    let over = grows_by_call c.finish-owner.result c.end_poll.new.self (PollEnd c.now-second.result) Done e.id e.ledger e.caller e.ok in
+    let begun = grows_by_call c.in-Some.owner c.start_poll.new.self (PollStart c.now-first.result) Done s.id s.ledger s.caller s.ok (times_stay (owner_calls c.in-Some.owner) (PollStart c.now-first.result) Done c.in-Some.owner.times c.start_poll.new.self.times refl s.times) in
+    let over = grows_by_call c.finish-owner.result c.end_poll.new.self (PollEnd c.now-second.result) Done e.id e.ledger e.caller e.ok (times_ended (owner_calls c.finish-owner.result) c.now-second.result c.finish-owner.result.times c.end_poll.new.self.times e.timed) in
     let inside = grew_in c.start_poll.new.self c.finish-owner.result c.in-Ok-scope.scope c.poll-answer.new.scope c.in-Ok-scope.ensures.held c.finish-owner.ensures.owner scoped in
     rests c.self.inside.id c.end_poll.new.self c.self.inside.receipt rest.0 (over.id ∙ (inside.id ∙ (begun.id ∙ rest.1)))
     (polling_ended c.finish-owner.result c.end_poll.new.self c.now-second.result over)
@@ -39,9 +41,9 @@ returns-in-Ok-close-clause-polled g c =
     let s = c.in-Ok.ensures in
     let e = c.in-Ok-end_poll.ensures in
     let t = c.in-Ok-close.ensures in
-    let begun = grows_by_call c.in-Some.owner c.start_poll.new.self (PollStart c.now-first.result) Done s.id s.ledger s.caller s.ok in
-    let over = grows_by_call c.finish-owner.result c.end_poll.new.self (PollEnd c.now-second.result) Done e.id e.ledger e.caller e.ok in
-    let shut = grows_by_call c.end_poll.new.self c.in-Ok-close.receipt (Close c.now-second.result) Done t.id t.ledger t.caller t.ok in
+    let begun = grows_by_call c.in-Some.owner c.start_poll.new.self (PollStart c.now-first.result) Done s.id s.ledger s.caller s.ok (times_stay (owner_calls c.in-Some.owner) (PollStart c.now-first.result) Done c.in-Some.owner.times c.start_poll.new.self.times refl s.times) in
+    let over = grows_by_call c.finish-owner.result c.end_poll.new.self (PollEnd c.now-second.result) Done e.id e.ledger e.caller e.ok (times_ended (owner_calls c.finish-owner.result) c.now-second.result c.finish-owner.result.times c.end_poll.new.self.times e.timed) in
+    let shut = grows_by_call c.end_poll.new.self c.in-Ok-close.receipt (Close c.now-second.result) Done t.id t.ledger t.caller t.ok (times_stay (owner_calls c.end_poll.new.self) (Close c.now-second.result) Done c.end_poll.new.self.times c.in-Ok-close.receipt.times refl t.times) in
     let inside = grew_in c.start_poll.new.self c.finish-owner.result c.in-Ok-scope.scope c.poll-answer.new.scope c.in-Ok-scope.ensures.held c.finish-owner.ensures.owner scoped in
     record {
       before = c.in-Some.owner;
@@ -72,8 +74,8 @@ returns-in-Pending-clause-polled g c =
     let scoped = c.poll-answer.ensures.scoped in
     let s = c.in-Ok.ensures in
     let e = c.in-Ok-end_poll.ensures in
-    let begun = grows_by_call c.in-Some.owner c.start_poll.new.self (PollStart c.now-first.result) Done s.id s.ledger s.caller s.ok in
-    let over = grows_by_call c.finish-owner.result c.end_poll.new.self (PollEnd c.now-second.result) Done e.id e.ledger e.caller e.ok in
+    let begun = grows_by_call c.in-Some.owner c.start_poll.new.self (PollStart c.now-first.result) Done s.id s.ledger s.caller s.ok (times_stay (owner_calls c.in-Some.owner) (PollStart c.now-first.result) Done c.in-Some.owner.times c.start_poll.new.self.times refl s.times) in
+    let over = grows_by_call c.finish-owner.result c.end_poll.new.self (PollEnd c.now-second.result) Done e.id e.ledger e.caller e.ok (times_ended (owner_calls c.finish-owner.result) c.now-second.result c.finish-owner.result.times c.end_poll.new.self.times e.timed) in
     let inside = grew_in c.start_poll.new.self c.finish-owner.result c.in-Ok-scope.scope c.poll-answer.new.scope c.in-Ok-scope.ensures.held c.finish-owner.ensures.owner scoped in
     record {
       before = c.in-Some.owner;

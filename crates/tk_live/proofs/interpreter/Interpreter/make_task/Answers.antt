@@ -1,4 +1,4 @@
-use Rattle.std.proofs.Common.{◌+◌, ◌∷◌, ◌++◌, [], length, Some, ap, sym, ◌∙◌, subst, length-append}
+use Rattle.std.proofs.Common.{◌+◌, ◌∷◌, ◌++◌, [], length, Some, None, ap, sym, ◌∙◌, subst, length-append}
 use Rattle.std.specs.Prelude.{map, option_map}
 use Rattle.std.proofs.lemmas.List.{map-append}
 use Rattle.tk_ids.specs.Ids.{id_of}
@@ -26,7 +26,7 @@ returns-in-Ok-task g c settings k kept sent stands =
     let spec = c.in-Ok.spec in
     let owner = c.in-Ok-task.owner in
     let n = length k.names.tasks + 1 in
-    let event = MadeTask (events.task_info (next_task_id i.recorder) spec) owner.token.ledger 1 in
+    let event = MadeTask (events.task_info (next_task_id i.recorder) spec) owner.token.ledger 1 None in
     let info = info_is i.recorder settings.capacity k kept spec c.args.line c.args.kind c.args.name.now o c.in-Ok.ensures.0 c.in-Ok.ensures.1 c.in-Ok.ensures.2 in
     let one = recorded i.recorder c.task.new.self settings.capacity (numbers_of k.names) k.told kept o e.same event c.in-Ok-task._became e.kept e.refused e.alone in
     let names : Names = record k.names { tasks = k.names.tasks ++ Some (new_task n c.args.created) ∷ [] } in

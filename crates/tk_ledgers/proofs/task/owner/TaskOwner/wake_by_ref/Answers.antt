@@ -3,7 +3,11 @@ use Rattle.tk_core.specs.declared.reply.Reply.TheVariants.{Woken}
 use Rattle.tk_core.specs.declared.task.call.TaskCall.TheVariants.{WakeRef}
 use Rattle.tk_ledgers.proofs.PollLemmas.{kept}
 use Rattle.tk_ledgers.proofs.TaskPollLemmas.{task_polls}
+use Rattle.tk_ledgers.proofs.TimedLemmas.{times_kept_by}
 use Rattle.tk_ledgers.proofs.task.owner.TaskOwner.wake_by_ref.Goals as goal
 
 pub invariant_of-self : goal.invariant_of-self
-invariant_of-self g c = kept task_polls c.self.inside.handle.view (WakeRef c.args.moment c.names-from_self.result) (Woken c.wake.result) c.wake.new.self.view c.wake.ensures.entry c.wake.ensures.role (refl, refl) c.self.inside.polling c.self.invariant
+invariant_of-self g c = (
+  kept task_polls c.self.inside.handle.view (WakeRef c.args.moment c.names-from_self.result) (Woken c.wake.result) c.wake.new.self.view c.wake.ensures.entry c.wake.ensures.role (refl, refl) c.self.inside.polling c.self.invariant.0,
+  times_kept_by c.self.inside.id c.self.inside.handle.view (WakeRef c.args.moment c.names-from_self.result) (Woken c.wake.result) c.wake.new.self.view c.wake.ensures.entry c.wake.ensures.role (refl, refl) c.self.inside.timed c.self.invariant.1,
+)
