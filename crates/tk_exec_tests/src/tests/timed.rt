@@ -7,6 +7,7 @@ use tk_exec::{BusyUntil, Clock, Example, Executor, HoldWaker, Instrumented, Turn
 use tk_ledgers::{TaskInspector, TaskOwner};
 
 /// Tells moments that lie ever further apart: 0, 1, 3, 6, 10 and so on. The n-th poll runs for 2n - 1.
+#[derive(Drop)]
 struct Slowing {
     at: u64,
     step: u64,
@@ -25,8 +26,10 @@ impl Clock for Slowing {
     }
 }
 
-fn slowing() -> Slowing {
-    Slowing { at: 0, step: 0 }
+impl Slowing {
+    fn new() -> Slowing {
+        Slowing { at: 0, step: 0 }
+    }
 }
 
 /// The owner of the n-th task, created at 0, with a histogram.
@@ -54,7 +57,7 @@ fn read<R: Wait>(rt: &R, inspector: &mut TaskInspector) -> Option<(u64, u64, u64
 
 // Polls the work so many times.
 fn poll_often<R: Wait>(rt: &R, tracked: &mut Instrumented<Example>, polls: u64) -> bool {
-    let mut clock = slowing();
+    let mut clock = Slowing::new();
     for _ in 0..polls {
         if tracked.poll_once(rt, &mut clock).is_err() {
             return false;
@@ -143,7 +146,7 @@ fn spawns_timed(executor: &mut Executor<Example>, owner: TaskOwner) -> bool {
 }
 
 fn turn_often<R: Wait>(rt: &R, executor: &mut Executor<Example>, turns: u64) -> bool {
-    let mut clock = slowing();
+    let mut clock = Slowing::new();
     for _ in 0..turns {
         if executor.turn(rt, &mut clock) == Turn::Idle {
             return false;
