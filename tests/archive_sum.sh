@@ -12,7 +12,7 @@ root=$(CDPATH= cd -P -- "$(dirname -- "$0")/.." && pwd)
 work=$(mktemp -d)
 trap 'rm -rf "$work"' EXIT
 cd "$root"
-for crate in tk_ids tk_core tk_stream tk_embed; do
+for crate in tk_ids tk_core tk_json tk_stream tk_embed; do
     for part in src specs proofs; do
         find "crates/$crate/$part" -type f >> "$work/files"
     done
