@@ -44,6 +44,7 @@ impl<'a> Work for Waits<'a> {
 
     ghost gives = { λ work out. ⊤ };
 
+    #[tactic(auto, using(tk_ledgers::proofs::ScopeLemmas::scope_same))]
     fn poll<R: Wait>(&mut self, rt: &R, scope: &mut PollScope) -> Poll<bool> {
         self.flags.begun.store(true, Ordering::SeqCst);
         Poll::Ready(wait_for(&self.flags.read))
