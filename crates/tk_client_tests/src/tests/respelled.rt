@@ -32,18 +32,22 @@ fn end_of(line: &[u8], at: usize) -> usize {
     line.len()
 }
 
+// Where the last quote of a text stands.
+fn last_quote(text: &[u8]) -> Option<usize> {
+    let mut last = None;
+    for (i, byte) in text.iter().enumerate() {
+        if *byte == b'"' {
+            last = Some(i);
+        }
+    }
+    last
+}
+
 // The key, with its quotes and colon, whose value begins here.
 fn key_of(line: &[u8], at: usize) -> Option<&[u8]> {
     let before = line.get(..at)?;
     let key = before.strip_suffix(b"\":")?;
-    let mut from = key.len();
-    while 0 < from && key[from - 1] != b'"' {
-        from -= 1;
-    }
-    if from == 0 {
-        return None;
-    }
-    before.get(from - 1..)
+    before.get(last_quote(key)?..)
 }
 
 fn joined(alloc: Global, parts: &[&[u8]]) -> Result<Vec<u8>, AllocError> {
