@@ -48,21 +48,28 @@ REFUSED = {
 }
 
 
-def usage_of(program, path):
-    """The usage of a run of `view`, and its status."""
+def tell_usage(program, path):
+    """Runs `view`, and prints its status, the most kilobytes that it held, and its seconds."""
     child = subprocess.Popen([program, "view", path], stdout=subprocess.DEVNULL, stderr=subprocess.DEVNULL)
     _, status, usage = os.wait4(child.pid, 0)
     child.returncode = os.waitstatus_to_exitcode(status)
-    return usage, child.returncode
+    print(child.returncode, usage.ru_maxrss, usage.ru_utime + usage.ru_stime)
+
+
+def usage_of(program, path):
+    """The status of a run of `view`, the bytes that it held, and its seconds. A small process starts it, since what a process held when it
+    started another counts as held by that one too."""
+    said = subprocess.run([sys.executable, __file__, "--one", program, path], capture_output=True, check=True, text=True).stdout.split()
+    return int(said[0]), int(said[1]) * 1024, float(said[2])
 
 
 def seconds_of(program, path):
     times = []
     for _ in range(3):
-        usage, status = usage_of(program, path)
+        status, _, seconds = usage_of(program, path)
         if status != 0:
             sys.exit(f"{program}: status {status}")
-        times.append(usage.ru_utime + usage.ru_stime)
+        times.append(seconds)
     return statistics.median(times)
 
 
@@ -89,8 +96,8 @@ def measure_refused(programs, folder):
             file.write(text)
         cells = []
         for program in programs:
-            usage, status = usage_of(program, path)
-            cells.append(f"{usage.ru_maxrss * 1024 / len(text):.1f}" if status == 1 else f"status {status}")
+            status, held, _ = usage_of(program, path)
+            cells.append(f"{held / len(text):.1f}" if status == 1 else f"status {status}")
         row(name, f"{len(text) / 1e6:.1f}", *cells)
 
 
@@ -115,4 +122,7 @@ def main(programs):
 
 if len(sys.argv) < 2:
     sys.exit(__doc__)
-main(sys.argv[1:])
+if sys.argv[1] == "--one":
+    tell_usage(*sys.argv[2:])
+else:
+    main(sys.argv[1:])
