@@ -3,7 +3,7 @@
 
 Usage: tests/map.py. Its status is 1 where it lists any that doesn't.
 
-A path is written from the top, from crates/, or from a crate or a folder that the same row or paragraph names before, the nearest first; `*`
+A path is written from the top, from crates/, or from a crate or a folder that the same row, item or paragraph names before, the nearest first; `*`
 and `{a,b}` stand for several. "`word` in `path`" says that the word stands there, also of several words before one "in".
 """
 import glob
@@ -78,7 +78,7 @@ def has(at, word):
 
 
 def mistakes(text, known):
-    """What a row or a paragraph names and isn't there."""
+    """What a row, an item or a paragraph names and isn't there."""
     place, words, end = Place(known), [], 0
     for named in NAMED.finditer(text):
         name, between = named[1], text[end : named.start()]
@@ -105,7 +105,8 @@ def mistakes(text, known):
 def main():
     with open(MAP, encoding="utf-8") as lines:
         text = lines.read()
-    pieces = [piece for block in re.split(r"\n\n|```.*?```", text, flags=re.S) for piece in (block.split("\n") if block.startswith("|") else [block])]
+    blocks = re.split(r"\n\n|```.*?```", text, flags=re.S)
+    pieces = [piece for block in blocks for piece in (block.split("\n") if block.startswith(("|", "- ")) else [block])]
     known = crates()
     found = [f"{mistake}, in: {' '.join(piece.split())[:90]}" for piece in pieces for mistake in mistakes(piece, known)]
     print("\n".join(found + [f"docs/MAP.md: {len(found)} named and not there"]))
