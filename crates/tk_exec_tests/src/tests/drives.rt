@@ -1,7 +1,7 @@
 //! Drivers, to their answers.
 ghost use Rattle.std.specs.Prelude.{◌≤◌};
 
-use super::given::{Ticks, spawns};
+use super::given::{Ticks, is_made, spawns};
 use futures::executor::block_on;
 use futures::future::poll_immediate;
 use std::alloc::{AllocGlobal, Global};
@@ -42,7 +42,11 @@ fn gives_three_and_one<R: Wait + RandomSource + AllocGlobal>(
         return false;
     };
     match block_on(rt, driver) {
-        Ok(ran) => is_three_and_one(&ran),
+        Ok(ran) => {
+            let expected = is_three_and_one(&ran);
+            drop(ran);
+            expected
+        }
         Err(_) => false,
     }
 }
@@ -64,9 +68,9 @@ fn spawns_three<R: Wait>(rt: &R, alloc: Global, executor: &mut Executor<Example>
         && spawns(rt, alloc, executor, 3, Example::Hold(HoldWaker::new()))
 }
 
-fn is_stalled<T: Drop>(ran: &Ran<T>, wanted: usize) -> bool {
+fn is_stalled<T: Drop>(ran: Ran<T>, wanted: usize) -> bool {
     match ran {
-        Ran::Stalled { unfinished } => *unfinished == wanted,
+        Ran::Stalled { unfinished } => unfinished == wanted,
         Ran::Finished(_) => false,
     }
 }
@@ -78,7 +82,7 @@ fn stalls<R: Wait + RandomSource + AllocGlobal, W: Work>(
     unfinished: usize,
 ) -> bool {
     match block_on(rt, driver) {
-        Ok(ran) => is_stalled(&ran, unfinished),
+        Ok(ran) => is_stalled(ran, unfinished),
         Err(_) => false,
     }
 }
@@ -119,7 +123,7 @@ fn is_pending<R: Wait + RandomSource + AllocGlobal, W: Work>(
     driver: &mut Driver<'_, R, W, Ticks>,
 ) -> bool {
     match poll_once(rt, driver) {
-        Some(answer) => answer.is_none(),
+        Some(answer) => !is_made(answer),
         None => false,
     }
 }
@@ -129,9 +133,9 @@ fn stalls_at_once<R: Wait + RandomSource + AllocGlobal, W: Work>(
     driver: &mut Driver<'_, R, W, Ticks>,
     unfinished: usize,
 ) -> bool {
-    match poll_once(rt, driver) {
-        Some(Some(ran)) => is_stalled(&ran, unfinished),
-        _ => false,
+    match poll_once(rt, driver).flatten() {
+        Some(ran) => is_stalled(ran, unfinished),
+        None => false,
     }
 }
 
@@ -146,7 +150,8 @@ fn answers_twice<R: Wait + RandomSource + AllocGlobal>(
     rt: &R,
     mut driver: Driver<'_, R, LoseWaker, Ticks>,
 ) -> bool {
-    stalls_at_its_third_poll(rt, &mut driver) && stalls(rt, driver, 0)
+    let stalled = stalls_at_its_third_poll(rt, &mut driver);
+    stalls(rt, driver, 0) && stalled
 }
 
 fn makes_one_turn_a_poll<R: Wait + RandomSource + AllocGlobal>(
@@ -187,9 +192,11 @@ fn finishes_at_once<R: Wait + RandomSource + AllocGlobal>(
     let Some(mut driver) = driver(rt, alloc, executor, 1) else {
         return false;
     };
-    match poll_once(rt, &mut driver) {
-        Some(Some(ran)) => is_finished_empty(ran),
-        _ => false,
+    let ran = poll_once(rt, &mut driver).flatten();
+    drop(driver);
+    match ran {
+        Some(ran) => is_finished_empty(ran),
+        None => false,
     }
 }
 

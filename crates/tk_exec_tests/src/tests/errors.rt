@@ -1,17 +1,23 @@
 //! The errors of an executor.
 
-use std::test::Fail;
+use std::alloc::Global;
 use tk_exec::ExecError;
+
+fn has_text(alloc: Global, error: &ExecError, text: &str) -> bool {
+    match format!(in alloc; "{error}") {
+        Ok(told) => told.as_str() == text,
+        Err(_) => false,
+    }
+}
 
 // Each error has its number and its text.
 #[test]
-fn numbers_and_names_errors(rt: HostRuntime) -> Result<(), Fail> {
+fn numbers_and_names_errors(rt: HostRuntime) {
     for (error, number, text) in [
         (ExecError::Memory, 1, "out of memory"),
         (ExecError::Repeated, 2, "a task of this id is held"),
     ] {
-        assert_eq!(rt; error.code(), number, "{text}");
-        assert_eq!(rt; format!(in rt.alloc(); "{error}")?.as_str(), text);
+        assert!(rt; error.code() == number, "{text}");
+        assert!(rt; has_text(rt.alloc(), &error, text), "{text}");
     }
-    Ok(())
 }

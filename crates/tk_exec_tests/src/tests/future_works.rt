@@ -1,6 +1,6 @@
 //! Futures as works: the ends of channels, joined, and one that asks to be polled again.
 
-use super::given::{Ticks, at_rest, id, owner, spawns};
+use super::given::{Ticks, id, inspected, owner, spawns};
 use futures::Future;
 use futures::channel::oneshot::{Canceled, Receiver, Sender, channel};
 use futures::future::{Join, join};
@@ -40,10 +40,9 @@ where
     F::Output: Drop,
     requires { F.can_poll future }
 {
-    let mut owner = owner(rt, rt.alloc(), 1)?;
-    let inspector = owner.inspect(rt).ok()?;
-    let work = FutureWork::new(rt, future).ok()?;
-    Some((at_rest(owner, work)?, inspector))
+    let work = FutureWork::new(rt, future).ok();
+    let (owner, work) = owner(rt, rt.alloc(), 1).zip(work)?;
+    inspected(rt, owner, work)
 }
 
 // Whether the row says so of being scheduled, of wakes, of those by itself, of clones and of drops.
@@ -103,15 +102,21 @@ fn gets_two<R: Wait>(
 }
 
 fn is_woken_by_channels<R: Wait + RandomSource + AllocGlobal>(rt: &R) -> bool {
-    let (Ok((first, a)), Ok((second, b))) = (channel(rt.alloc()), channel(rt.alloc())) else {
+    let channels = channel(rt.alloc()).ok().zip(channel(rt.alloc()).ok());
+    let Some(((first, a), (second, b))) = channels else {
         return false;
     };
     let Some((mut task, mut inspector)) = tracked(rt, join(a, b)) else {
+        drop(first);
+        drop(second);
         return false;
     };
     let mut clock = Ticks::new();
-    waits_for_two(rt, &mut task, &mut inspector, &mut clock, first)
-        && gets_two(rt, &mut task, &mut inspector, &mut clock, second)
+    let waited = waits_for_two(rt, &mut task, &mut inspector, &mut clock, first);
+    let got = gets_two(rt, &mut task, &mut inspector, &mut clock, second);
+    drop(task);
+    drop(inspector);
+    waited && got
 }
 
 #[test]
@@ -135,7 +140,10 @@ fn asks_and_gets<R: Wait>(
 fn wakes_itself<R: Wait + RandomSource + AllocGlobal>(rt: &R) -> bool {
     match tracked(rt, AsksAgain { left: 1 }) {
         Some((mut task, mut inspector)) => {
-            asks_and_gets(rt, &mut task, &mut inspector, &mut Ticks::new())
+            let got = asks_and_gets(rt, &mut task, &mut inspector, &mut Ticks::new());
+            drop(task);
+            drop(inspector);
+            got
         }
         None => false,
     }
@@ -154,7 +162,7 @@ fn receives<R: Wait + RandomSource + AllocGlobal>(
     n: u64,
 ) -> Option<Sender<u64>> {
     let (sender, receiver) = channel(rt.alloc()).ok()?;
-    let work = FutureWork::new(rt, receiver).ok()?;
+    let (sender, work) = Some(sender).zip(FutureWork::new(rt, receiver).ok())?;
     spawns(rt, rt.alloc(), executor, n, work).then_some(sender)
 }
 
@@ -169,7 +177,8 @@ fn hears_the_second<R: Wait>(
     clock: &mut Ticks,
     second: Sender<u64>,
 ) -> bool {
-    let (Some(one), Some(two)) = (id(1), id(2)) else {
+    let Some((one, two)) = id(1).zip(id(2)) else {
+        drop(second);
         return false;
     };
     let waited = turns(rt, executor, clock, Turn::Polled(one, false))
@@ -189,17 +198,21 @@ fn polls_what_was_sent<R: Wait + RandomSource + AllocGlobal>(
 ) -> bool {
     let first = receives(rt, executor, 1);
     let second = receives(rt, executor, 2);
-    match second {
-        Some(second) => hears_the_second(rt, executor, &mut Ticks::new(), second)
-            && first.is_some(),
-        None => false,
-    }
+    let Some((first, second)) = first.zip(second) else {
+        return false;
+    };
+    let heard = hears_the_second(rt, executor, &mut Ticks::new(), second);
+    drop(first);
+    heard
 }
 
 #[test]
 fn an_executor_hears_of_a_value_that_was_sent(rt: HostRuntime) {
     match Executor::new(rt.alloc()) {
-        Ok(mut executor) => assert!(rt; polls_what_was_sent(&rt, &mut executor)),
+        Ok(mut executor) => {
+            assert!(rt; polls_what_was_sent(&rt, &mut executor));
+            drop(executor);
+        }
         Err(_) => assert!(rt; false, "no executor"),
     }
 }

@@ -1,14 +1,14 @@
 //! Inner: what several tests begin with.
 //!
-//! Each function owns at most one task or executor, and lends it to the next: that keeps the proofs
-//! short.
+//! A task, an executor or an inspector is lent, or let go by `drop`, or handed to what takes any value: what drops it is proved in
+//! each function at whose end it is dropped unsaid, which takes seconds.
 ghost use Rattle.std.specs.Prelude.{◌≡◌, false, IfSome, is_some};
 
 use std::alloc::Global;
 use std::sync::Wait;
 use tk_exec::{Clock, Executor, Instrumented, Work};
 use tk_ids::TaskId;
-use tk_ledgers::TaskOwner;
+use tk_ledgers::{TaskInspector, TaskOwner};
 
 /// The number before the first task of the first recorder.
 const BEFORE: u64 = 1099511627776;
@@ -52,6 +52,8 @@ pub(super) fn at_rest<W: Work>(owner: TaskOwner, work: W) -> Option<Instrumented
     ensures { IfSome result (λ t. is_some t.receipt ≡ false) }
 {
     if owner.is_polling() {
+        drop(owner);
+        drop(work);
         return None;
     }
     Some(Instrumented::new(owner, work))
@@ -66,10 +68,25 @@ pub(super) fn task<R: Wait, W: Work>(
 ) -> Option<Instrumented<W>>
     ensures { IfSome result (λ t. is_some t.receipt ≡ false) }
 {
-    match owner(rt, alloc, n) {
-        Some(owner) => at_rest(owner, work),
-        None => None,
-    }
+    let (owner, work) = owner(rt, alloc, n).zip(Some(work))?;
+    at_rest(owner, work)
+}
+
+/// An owner's task with this work, and who reads it.
+pub(super) fn inspected<R: Wait, W: Work>(
+    rt: &R,
+    mut owner: TaskOwner,
+    work: W,
+) -> Option<(Instrumented<W>, TaskInspector)>
+    ensures { IfSome result (λ it. is_some it.0.receipt ≡ false) }
+{
+    let inspector = owner.inspect(rt).ok();
+    at_rest(owner, work).zip(inspector)
+}
+
+/// Whether it was made.
+pub(super) fn is_made<T: Drop>(made: Option<T>) -> bool {
+    made.is_some()
 }
 
 /// Whether the n-th task, with this work, is taken in.
@@ -81,7 +98,7 @@ pub(super) fn spawns<R: Wait, W: Work>(
     work: W,
 ) -> bool {
     match task(rt, alloc, n, work) {
-        Some(task) => executor.spawn(task).is_ok(),
+        Some(task) => is_made(executor.spawn(task).ok()),
         None => false,
     }
 }

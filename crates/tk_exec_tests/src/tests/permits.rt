@@ -1,6 +1,6 @@
 //! A work that takes a permit of a resource in its polls, and tells of that.
 
-use super::given::{Ticks, id, task};
+use super::given::{Ticks, id, is_made, task};
 use crate::permits::TakePermit;
 use futures::task::Poll;
 use std::alloc::Global;
@@ -23,14 +23,12 @@ fn limits() -> Limits {
 
 // The attributes of a resource of which one permit is left.
 fn one_permit(alloc: Global) -> Option<Attrs> {
-    let mut attrs = Vec::new(alloc);
     let permits = AttrSpec {
         name: Name::new(alloc, b"permits").ok()?,
         unit: None,
         first: AttrValue::U64(1),
     };
-    attrs.push(permits).ok()?;
-    Attrs::new(attrs).ok()
+    Attrs::new(Vec::from_array(alloc, [permits]).ok()?).ok()
 }
 
 fn place(alloc: Global) -> Option<Location> {
@@ -42,14 +40,26 @@ fn place(alloc: Global) -> Option<Location> {
     })
 }
 
-fn pool<R: Wait>(rt: &R, alloc: Global, mut recorder: Recorder) -> Option<ResourceOwner> {
-    let spec = ResourceSpec {
+fn semaphore(alloc: Global) -> Option<ResourceSpec> {
+    let concrete = Name::new(alloc, b"Semaphore").ok();
+    let names = concrete.zip(Name::new(alloc, b"Sync").ok());
+    let rest = place(alloc).zip(one_permit(alloc));
+    let ((concrete, kind), (location, attrs)) = names.zip(rest)?;
+    Some(ResourceSpec {
         parent: None,
-        concrete: Name::new(alloc, b"Semaphore").ok()?,
-        kind: Name::new(alloc, b"Sync").ok()?,
-        location: place(alloc)?,
-        attrs: one_permit(alloc)?,
-    };
+        concrete,
+        kind,
+        location,
+        attrs,
+    })
+}
+
+fn pool<R: Wait>(
+    rt: &R,
+    alloc: Global,
+    recorder: &mut Recorder,
+    spec: ResourceSpec,
+) -> Option<ResourceOwner> {
     let (owner, _) = recorder.resource(rt, alloc, spec, 0).ok()?;
     Some(owner)
 }
@@ -59,13 +69,13 @@ fn taking<R: Wait>(
     rt: &R,
     alloc: Global,
     pool: &mut ResourceOwner,
-    recorder: Recorder,
+    recorder: Option<Recorder>,
     n: u64,
 ) -> Option<Instrumented<TakePermit>> {
-    let user = pool.user(rt).ok()?;
-    let op = AsyncOpId::from_value(OPERATION).ok()?;
-    let name = Name::new(alloc, b"poll_acquire").ok()?;
-    let work = TakePermit::new(user, op, id(n)?, recorder, name);
+    let ids = AsyncOpId::from_value(OPERATION).ok().zip(id(n));
+    let told = recorder.zip(Name::new(alloc, b"poll_acquire").ok());
+    let (user, ((op, id), (recorder, name))) = pool.user(rt).ok().zip(ids.zip(told))?;
+    let work = TakePermit::new(user, op, id, recorder, name);
     task(rt, alloc, n, work)
 }
 
@@ -103,40 +113,70 @@ fn take_of<R: Wait>(
     pool: &mut ResourceOwner,
     recorders: &mut Vec<Recorder>,
 ) -> Option<bool> {
-    let mut first = taking(rt, alloc, pool, recorders.pop()?, 1)?;
-    let mut second = taking(rt, alloc, pool, recorders.pop()?, 2)?;
-    Some(take_one_after_the_other(rt, &mut first, &mut second))
+    let first = taking(rt, alloc, pool, recorders.pop(), 1);
+    let second = taking(rt, alloc, pool, recorders.pop(), 2);
+    let (mut first, mut second) = first.zip(second)?;
+    let taken = take_one_after_the_other(rt, &mut first, &mut second);
+    drop(first);
+    drop(second);
+    Some(taken)
 }
 
 fn take_of_one<R: Wait>(rt: &R, alloc: Global, recorders: &mut Vec<Recorder>) -> Option<bool> {
-    let mut pool = pool(rt, alloc, recorders.pop()?)?;
-    take_of(rt, alloc, &mut pool, recorders)
+    let (mut recorder, spec) = recorders.pop().zip(semaphore(alloc))?;
+    let pool = pool(rt, alloc, &mut recorder, spec);
+    drop(recorder);
+    let mut pool = pool?;
+    let taken = take_of(rt, alloc, &mut pool, recorders);
+    drop(pool);
+    taken
 }
 
-// Whether the next event is a poll of the operation that was ready so.
-fn tells<R: Wait>(rt: &R, taker: &mut Taker, ready: bool) -> bool {
-    match taker.take(rt) {
-        Some(Event::Poll(op)) => op.name.as_str() == "poll_acquire" && op.ready == ready,
-        Some(_) | None => false,
+/// What the next event is to be.
+#[derive(Clone, Copy)]
+enum Wanted {
+    Resource,
+    /// A poll of the operation that was ready so.
+    Poll(bool),
+}
+
+fn is_wanted(event: &Event, wanted: Wanted) -> bool {
+    match (event, wanted) {
+        (Event::Resource(_, _), Wanted::Resource) => true,
+        (Event::Poll(op), Wanted::Poll(ready)) => {
+            op.name.as_str() == "poll_acquire" && op.ready == ready
+        }
+        _ => false,
     }
 }
 
-fn tells_the_resource<R: Wait>(rt: &R, taker: &mut Taker) -> bool {
-    matches!(taker.take(rt), Some(Event::Resource(_, _)))
+fn tells<R: Wait>(rt: &R, taker: &mut Taker, wanted: Wanted) -> bool {
+    match taker.take(rt) {
+        Some(event) => {
+            let told = is_wanted(&event, wanted);
+            drop(event);
+            told
+        }
+        None => false,
+    }
 }
 
 fn tells_the_tries<R: Wait>(rt: &R, taker: &mut Taker) -> bool {
-    tells_the_resource(rt, taker)
-        && tells(rt, taker, true)
-        && tells(rt, taker, false)
-        && tells(rt, taker, true)
-        && taker.take(rt).is_none()
+    tells(rt, taker, Wanted::Resource)
+        && tells(rt, taker, Wanted::Poll(true))
+        && tells(rt, taker, Wanted::Poll(false))
+        && tells(rt, taker, Wanted::Poll(true))
+        && !is_made(taker.take(rt))
 }
 
 fn is_told<R: Wait>(rt: &R, alloc: Global) -> bool {
     match Console::open(alloc, limits()) {
         Ok((mut recorders, mut taker)) => {
-            take_of_one(rt, alloc, &mut recorders) == Some(true) && tells_the_tries(rt, &mut taker)
+            let taken = take_of_one(rt, alloc, &mut recorders) == Some(true);
+            let told = tells_the_tries(rt, &mut taker);
+            drop(recorders);
+            drop(taker);
+            taken && told
         }
         Err(_) => false,
     }

@@ -1,6 +1,6 @@
 //! Works whose tasks have a histogram of how long their polls ran.
 
-use super::given::{at_rest, id, spawns};
+use super::given::{at_rest, id, is_made, spawns};
 use std::alloc::Global;
 use std::sync::Wait;
 use tk_exec::{BusyUntil, Clock, Example, Executor, HoldWaker, Instrumented, Turn, YieldTimes};
@@ -40,12 +40,9 @@ fn timed_owner<R: Wait>(rt: &R, alloc: Global, n: u64) -> Option<TaskOwner> {
 
 // An inspector of the task that reads its histogram too.
 fn inspector<R: Wait>(rt: &R, owner: &mut TaskOwner) -> Option<TaskInspector> {
-    let Ok(inspector) = owner.inspect(rt) else {
-        return None;
-    };
-    let Some(Ok(times)) = owner.inspect_times(rt) else {
-        return None;
-    };
+    let inspector = owner.inspect(rt).ok();
+    let times = owner.inspect_times(rt).transpose().ok().flatten();
+    let (inspector, times) = inspector.zip(times)?;
     Some(inspector.with_times(times))
 }
 
@@ -75,10 +72,10 @@ fn polled<R: Wait>(
 ) -> Option<(u64, u64, u64)> {
     match at_rest(owner, work) {
         Some(mut tracked) => {
-            if !poll_often(rt, &mut tracked, polls) {
-                return None;
-            }
-            read(rt, inspector)
+            let polled = poll_often(rt, &mut tracked, polls);
+            let found = read(rt, inspector);
+            drop(tracked);
+            if polled { found } else { None }
         }
         None => None,
     }
@@ -91,12 +88,20 @@ fn is_timed<R: Wait>(
     polls: u64,
     wanted: (u64, u64, u64),
 ) -> bool {
-    let Some(mut owner) = timed_owner(rt, alloc, 1) else {
+    let Some((mut owner, work)) = timed_owner(rt, alloc, 1).zip(Some(work)) else {
         return false;
     };
     match inspector(rt, &mut owner) {
-        Some(mut inspector) => polled(rt, owner, &mut inspector, work, polls) == Some(wanted),
-        None => false,
+        Some(mut inspector) => {
+            let found = polled(rt, owner, &mut inspector, work, polls);
+            drop(inspector);
+            found == Some(wanted)
+        }
+        None => {
+            drop(owner);
+            drop(work);
+            false
+        }
     }
 }
 
@@ -140,7 +145,7 @@ fn yields() -> Example {
 
 fn spawns_timed(executor: &mut Executor<Example>, owner: TaskOwner) -> bool {
     match at_rest(owner, yields()) {
-        Some(task) => executor.spawn(task).is_ok(),
+        Some(task) => is_made(executor.spawn(task).ok()),
         None => false,
     }
 }
@@ -161,12 +166,17 @@ fn is_polled_in_turn<R: Wait>(rt: &R, alloc: Global, executor: &mut Executor<Exa
     };
     match inspector(rt, &mut owner) {
         Some(mut inspector) => {
-            spawns_timed(executor, owner)
+            let polled = spawns_timed(executor, owner)
                 && spawns(rt, alloc, executor, 2, yields())
                 && turn_often(rt, executor, 4)
-                && read(rt, &mut inspector) == Some((2, 5, 6))
+                && read(rt, &mut inspector) == Some((2, 5, 6));
+            drop(inspector);
+            polled
         }
-        None => false,
+        None => {
+            drop(owner);
+            false
+        }
     }
 }
 
@@ -174,7 +184,10 @@ fn is_polled_in_turn<R: Wait>(rt: &R, alloc: Global, executor: &mut Executor<Exa
 #[test]
 fn an_executor_polls_tasks_with_and_without(rt: HostRuntime) {
     match Executor::new(rt.alloc()) {
-        Ok(mut executor) => assert!(rt; is_polled_in_turn(&rt, rt.alloc(), &mut executor)),
+        Ok(mut executor) => {
+            assert!(rt; is_polled_in_turn(&rt, rt.alloc(), &mut executor));
+            drop(executor);
+        }
         Err(_) => assert!(rt; false, "no executor"),
     }
 }

@@ -1,6 +1,6 @@
 //! Executors, turn by turn.
 
-use super::given::{Ticks, at_rest, id, owner, spawns, task};
+use super::given::{Ticks, id, inspected, is_made, owner, spawns, task};
 use std::alloc::Global;
 use std::sync::Wait;
 use tk_exec::{Example, ExecError, Executor, Instrumented, LoseWaker, Turn, Work, YieldTimes};
@@ -25,7 +25,7 @@ fn polls<R: Wait, W: Work>(
 
 fn takes_none<W: Work>(executor: &mut Executor<W>, n: u64) -> bool {
     match id(n) {
-        Some(id) => executor.take(id).is_none(),
+        Some(id) => !is_made(executor.take(id)),
         None => false,
     }
 }
@@ -39,7 +39,11 @@ fn takes_polls(executor: &mut Executor<YieldTimes>, n: u64, polls: u64) -> bool 
         return false;
     };
     match executor.take(id) {
-        Some((out, receipt)) => out == polls && is_of(&receipt, n),
+        Some((out, receipt)) => {
+            let expected = out == polls && is_of(&receipt, n);
+            drop(receipt);
+            expected
+        }
         None => false,
     }
 }
@@ -69,6 +73,7 @@ fn one_task_that_yields_once(rt: HostRuntime) {
         Ok(mut executor) => {
             assert!(rt; polls_one_twice(&rt, rt.alloc(), &mut executor, &mut clock));
             assert!(rt; takes_one_once(&rt, &mut executor, &mut clock));
+            drop(executor);
         }
         Err(_) => assert!(rt; false, "no executor"),
     }
@@ -85,7 +90,11 @@ fn is_refused<R: Wait>(rt: &R, alloc: Global, executor: &mut Executor<YieldTimes
     match executor.spawn(task) {
         Ok(()) => false,
         Err((error, back)) => {
-            error == ExecError::Repeated && error.code() == 2 && is_handed_back(&back)
+            let expected = error == ExecError::Repeated
+                && error.code() == 2
+                && is_handed_back(&back);
+            drop(back);
+            expected
         }
     }
 }
@@ -111,6 +120,7 @@ fn an_id_is_taken_in_once(rt: HostRuntime) {
             assert!(rt; is_refused(&rt, rt.alloc(), &mut executor));
             assert!(rt; takes_in(&rt, rt.alloc(), &mut executor) == Err(ExecError::Repeated));
             assert!(rt; ExecError::Memory.code() == 1);
+            drop(executor);
         }
         Err(_) => assert!(rt; false, "no executor"),
     }
@@ -140,7 +150,7 @@ fn spawns_three<R: Wait>(rt: &R, alloc: Global, executor: &mut Executor<Example>
 
 fn takes_some(executor: &mut Executor<Example>, n: u64) -> bool {
     match id(n) {
-        Some(id) => executor.take(id).is_some(),
+        Some(id) => is_made(executor.take(id)),
         None => false,
     }
 }
@@ -174,6 +184,7 @@ fn tasks_are_polled_in_turn(rt: HostRuntime) {
             assert!(rt; takes_the_first(&rt, &mut executor, &mut clock));
             assert!(rt; spawns_yielding(&rt, rt.alloc(), &mut executor, 4, 0));
             assert!(rt; passes_over_the_second(&rt, &mut executor, &mut clock));
+            drop(executor);
         }
         Err(_) => assert!(rt; false, "no executor"),
     }
@@ -221,6 +232,7 @@ fn an_id_may_come_again(rt: HostRuntime) {
         Ok(mut executor) => {
             assert!(rt; counts_two(&rt, rt.alloc(), &mut executor, &mut clock));
             assert!(rt; takes_in_again(&rt, rt.alloc(), &mut executor, &mut clock));
+            drop(executor);
         }
         Err(_) => assert!(rt; false, "no executor"),
     }
@@ -234,15 +246,15 @@ fn spawns_read<R: Wait>(
     n: u64,
     times: u64,
 ) -> Option<TaskInspector> {
-    let mut owner = owner(rt, alloc, n)?;
-    let inspector = owner.inspect(rt).ok()?;
-    let task = at_rest(owner, YieldTimes::new(times))?;
-    executor.spawn(task).ok()?;
-    Some(inspector)
+    let owner = owner(rt, alloc, n)?;
+    let (task, inspector) = inspected(rt, owner, YieldTimes::new(times))?;
+    is_made(executor.spawn(task).ok()).then_some(inspector)
 }
 
 fn is_closed_at<R: Wait>(rt: &R, mut inspector: TaskInspector, moment: u64) -> bool {
-    inspector.read(rt).dropped == Some(moment)
+    let row = inspector.read(rt);
+    drop(inspector);
+    row.dropped == Some(moment)
 }
 
 fn are_of_two(receipts: &[TaskReceipt]) -> bool {
@@ -253,9 +265,13 @@ fn are_of_two(receipts: &[TaskReceipt]) -> bool {
 }
 
 fn closes_two<R: Wait>(rt: &R, alloc: Global, executor: Executor<YieldTimes>) -> bool {
-    match executor.close_all(rt, alloc, 50) {
-        Ok(receipts) => are_of_two(receipts.as_slice()),
-        Err(_) => false,
+    match executor.close_all(rt, alloc, 50).ok() {
+        Some(receipts) => {
+            let expected = are_of_two(receipts.as_slice());
+            drop(receipts);
+            expected
+        }
+        None => false,
     }
 }
 
@@ -264,13 +280,15 @@ fn closes_the_second<R: Wait>(rt: &R, alloc: Global, mut executor: Executor<Yiel
     let mut clock = Ticks::new();
     let one = spawns_read(rt, alloc, &mut executor, 1, 0);
     let two = spawns_read(rt, alloc, &mut executor, 2, 3);
-    let (Some(one), Some(two)) = (one, two) else {
+    let Some((one, two)) = one.zip(two) else {
+        drop(executor);
         return false;
     };
-    polls(rt, &mut executor, &mut clock, 1, true)
-        && closes_two(rt, alloc, executor)
-        && is_closed_at(rt, one, 2)
-        && is_closed_at(rt, two, 50)
+    let polled = polls(rt, &mut executor, &mut clock, 1, true);
+    let closed = closes_two(rt, alloc, executor);
+    let one_closed = is_closed_at(rt, one, 2);
+    let two_closed = is_closed_at(rt, two, 50);
+    polled && closed && one_closed && two_closed
 }
 
 #[test]

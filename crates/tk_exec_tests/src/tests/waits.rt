@@ -1,6 +1,6 @@
 //! No lock is held while a work is polled: a work waits inside its poll until an inspector in another thread has read.
 
-use super::given::{Ticks, owner};
+use super::given::{Ticks, at_rest, owner};
 use futures::task::Poll;
 use std::sync::Wait;
 use std::sync::atomic::{AtomicBool, Ordering};
@@ -55,10 +55,9 @@ impl<'a> Work for Waits<'a> {
 fn poll<'a, R: Wait>(rt: &R, tracked: Instrumented<Waits<'a>>) -> bool {
     let mut tracked = tracked;
     let mut clock = Ticks::new();
-    match tracked.poll_once(rt, &mut clock) {
-        Ok(Poll::Ready(met)) => met,
-        _ => false,
-    }
+    let answer = tracked.poll_once(rt, &mut clock);
+    drop(tracked);
+    answer == Ok(Poll::Ready(true))
 }
 
 // Reads once the poll has begun, and says so.
@@ -67,6 +66,7 @@ fn read<R: Wait>(rt: &R, inspector: TaskInspector, flags: &Flags) -> TaskRow {
     wait_for(&flags.begun);
     let row = inspector.read(rt);
     flags.read.store(true, Ordering::SeqCst);
+    drop(inspector);
     row
 }
 
@@ -97,17 +97,20 @@ fn is_polled_through<R: Wait + Threads + Sync>(
     inspector: TaskInspector,
     flags: &Flags,
 ) -> bool {
-    if owner.is_polling() {
-        return false;
+    let tracked = at_rest(owner, Waits { flags });
+    match tracked.zip(Some(inspector)) {
+        Some((tracked, inspector)) => is_read_through(rt, tracked, inspector, flags),
+        None => false,
     }
-    let tracked = Instrumented::new(owner, Waits { flags });
-    is_read_through(rt, tracked, inspector, flags)
 }
 
 fn is_inspected<R: Wait + Threads + Sync>(rt: &R, mut owner: TaskOwner, flags: &Flags) -> bool {
     match owner.inspect(rt) {
         Ok(inspector) => is_polled_through(rt, owner, inspector, flags),
-        Err(_) => false,
+        Err(_) => {
+            drop(owner);
+            false
+        }
     }
 }
 

@@ -1,6 +1,6 @@
 //! The example works, polled to their ends.
 
-use super::given::{Ticks, at_rest, id, owner, task};
+use super::given::{Ticks, id, inspected, owner, task};
 use futures::task::Poll;
 use std::alloc::Global;
 use std::sync::Wait;
@@ -38,7 +38,11 @@ fn comes_to<R: Wait>(
 ) -> bool {
     let mut clock = Ticks::new();
     match task(rt, alloc, 1, work) {
-        Some(mut tracked) => polled(rt, &mut tracked, &mut clock, 9) == Some(wanted),
+        Some(mut tracked) => {
+            let found = polled(rt, &mut tracked, &mut clock, 9);
+            drop(tracked);
+            found == Some(wanted)
+        }
         None => false,
     }
 }
@@ -79,21 +83,34 @@ fn works_are_polled_to_their_ends(rt: HostRuntime) {
 #[test]
 fn an_id_is_kept(rt: HostRuntime) {
     match task(&rt, rt.alloc(), 7, LoseWaker::new()) {
-        Some(tracked) => assert!(rt; Some(tracked.id()) == id(7)),
+        Some(tracked) => {
+            assert!(rt; Some(tracked.id()) == id(7));
+            drop(tracked);
+        }
         None => assert!(rt; false, "no task"),
     }
 }
 
-// The row of a task whose work was polled so many times.
-fn row_behind<R: Wait>(rt: &R, alloc: Global, work: Example, polls: u64) -> Option<TaskRow> {
-    let mut owner = owner(rt, alloc, 1)?;
-    let mut inspector = owner.inspect(rt).ok()?;
-    let mut tracked = at_rest(owner, work)?;
+// Polls the work so many times.
+fn poll_often<R: Wait>(rt: &R, tracked: &mut Instrumented<Example>, polls: u64) -> bool {
     let mut clock = Ticks::new();
     for _ in 0..polls {
-        tracked.poll_once(rt, &mut clock).ok()?;
+        if tracked.poll_once(rt, &mut clock).is_err() {
+            return false;
+        }
     }
-    Some(inspector.read(rt))
+    true
+}
+
+// The row of a task whose work was polled so many times.
+fn row_behind<R: Wait>(rt: &R, alloc: Global, work: Example, polls: u64) -> Option<TaskRow> {
+    let (owner, work) = owner(rt, alloc, 1).zip(Some(work))?;
+    let (mut tracked, mut inspector) = inspected(rt, owner, work)?;
+    let polled = poll_often(rt, &mut tracked, polls);
+    let row = inspector.read(rt);
+    drop(tracked);
+    drop(inspector);
+    polled.then_some(row)
 }
 
 // Its own wakes, its clones and its drops.
