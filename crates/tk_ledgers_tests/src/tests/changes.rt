@@ -61,7 +61,11 @@ fn reads_none_left<R: Wait>(rt: &R, inspector: &mut ResourceInspector) -> bool
     ensures { inspector.new.token.ledger ≡ inspector.old.token.ledger }
 {
     match inspector.inspect(rt) {
-        Ok(mut drawn) => is_at(&drawn.read(rt), 0),
+        Ok(mut drawn) => {
+            let none_left = is_at(&drawn.read(rt), 0);
+            drop(drawn);
+            none_left
+        }
         Err(_) => false,
     }
 }
@@ -73,10 +77,12 @@ fn sets_most<R: Wait>(rt: &R, user: &mut ResourceUser, inspector: &mut ResourceI
 {
     match user.split(rt) {
         Ok(mut second) => {
-            second.number() == 3
+            let is_set = second.number() == 3
                 && is_at(&second.read(rt), 0)
                 && reads_none_left(rt, inspector)
-                && second.set(rt, 0, AttrValue::U64(MOST)) == Ok(())
+                && second.set(rt, 0, AttrValue::U64(MOST)) == Ok(());
+            drop(second);
+            is_set
         }
         Err(_) => false,
     }
@@ -93,7 +99,7 @@ fn changes<R: Wait>(rt: &R, user: &mut ResourceUser, inspector: &mut ResourceIns
 }
 
 fn close<R: Wait>(rt: &R, owner: ResourceOwner) {
-    let _receipt = owner.close(rt, 9);
+    drop(owner.close(rt, 9));
 }
 
 fn reads_the_end<R: Wait>(
@@ -115,8 +121,8 @@ fn refuses_when_closed<R: Wait>(
 ) -> bool
     requires { user.token.ledger ≡ inspector.old.token.ledger }
 {
-    user.set(rt, 0, AttrValue::U64(1)) == Err(Refusal::Closed)
-        && reads_the_end(rt, inspector, user.retire())
+    let refused = user.set(rt, 0, AttrValue::U64(1)) == Err(Refusal::Closed);
+    reads_the_end(rt, inspector, user.retire()) && refused
 }
 
 fn changes_and_closes<R: Wait>(
@@ -137,15 +143,26 @@ fn is_changed_and_closed<R: Wait>(rt: &R, mut owner: ResourceOwner, user: Resour
     requires { user.token.ledger ≡ owner.token.ledger }
 {
     match inspector(rt, &mut owner) {
-        Some(mut inspector) => changes_and_closes(rt, owner, user, &mut inspector),
-        None => false,
+        Some(mut inspector) => {
+            let changed = changes_and_closes(rt, owner, user, &mut inspector);
+            drop(inspector);
+            changed
+        }
+        None => {
+            drop(owner);
+            drop(user);
+            false
+        }
     }
 }
 
 fn is_changed_by_a_user<R: Wait>(rt: &R, mut owner: ResourceOwner) -> bool {
     match user(rt, &mut owner) {
         Some(user) => is_changed_and_closed(rt, owner, user),
-        None => false,
+        None => {
+            drop(owner);
+            false
+        }
     }
 }
 
@@ -206,7 +223,11 @@ fn is_closed_at_most(row: &OpRow) -> bool {
 
 fn drawn_reads_the_end<R: Wait>(rt: &R, inspector: &mut OpInspector) -> bool {
     match inspector.inspect(rt) {
-        Ok(mut drawn) => is_closed_at_most(&drawn.read(rt)),
+        Ok(mut drawn) => {
+            let closed = is_closed_at_most(&drawn.read(rt));
+            drop(drawn);
+            closed
+        }
         Err(_) => false,
     }
 }
@@ -214,12 +235,12 @@ fn drawn_reads_the_end<R: Wait>(rt: &R, inspector: &mut OpInspector) -> bool {
 fn closes_op<R: Wait>(rt: &R, owner: OpOwner, inspector: &mut OpInspector) -> bool
     requires { owner.token.ledger ≡ inspector.old.token.ledger }
 {
-    match owner.close(rt, 40) {
-        Ok(receipt) => {
+    match owner.close(rt, 40).ok() {
+        Some(receipt) => {
             inspector.learn(rt, receipt);
             drawn_reads_the_end(rt, inspector)
         }
-        Err(_) => false,
+        None => false,
     }
 }
 
@@ -243,9 +264,14 @@ fn is_op_changed_and_closed<R: Wait>(rt: &R, mut owner: OpOwner) -> bool {
     match inspector_of_op(rt, &mut owner) {
         Some(mut inspector) => {
             let changed = is_op_changed(rt, &mut owner);
-            closes_op(rt, owner, &mut inspector) && changed
+            let closed = closes_op(rt, owner, &mut inspector);
+            drop(inspector);
+            closed && changed
         }
-        None => false,
+        None => {
+            drop(owner);
+            false
+        }
     }
 }
 

@@ -48,9 +48,13 @@ fn learn_all<R: Wait>(
     for learnt in 0..=WAKERS {
         match receipts.pop() {
             Some(receipt) => inspector.learn(rt, receipt),
-            None => return learnt,
+            None => {
+                drop(receipts);
+                return learnt;
+            }
         }
     }
+    drop(receipts);
     WAKERS.saturating_add(1)
 }
 
@@ -103,8 +107,15 @@ fn inspected_adds_up<R: Wait + Threads + Sync>(
     requires { All (λ w. w.token.ledger ≡ owner.old.token.ledger) wakers.items }
 {
     match owner.inspect(rt) {
-        Ok(mut inspector) => adds_up(rt, wakers, &mut inspector),
-        Err(_) => false,
+        Ok(mut inspector) => {
+            let added = adds_up(rt, wakers, &mut inspector);
+            drop(inspector);
+            added
+        }
+        Err(_) => {
+            drop(wakers);
+            false
+        }
     }
 }
 
@@ -127,6 +138,7 @@ fn wakers<R: Wait>(rt: &R, alloc: Global, owner: &mut TaskOwner) -> Option<Vec<W
     let mut wakers = Vec::new(alloc);
     for made in 0..WAKERS {
         if !add_waker(rt, owner, &mut wakers) {
+            drop(wakers);
             return None;
         }
     }
@@ -143,7 +155,10 @@ fn wakers_add_up<R: Wait + Threads + Sync>(rt: &R, alloc: Global, owner: &mut Ta
 #[test]
 fn eight_threads_add_up(rt: HostRuntime) {
     match task(&rt, rt.alloc(), FIRST, 0) {
-        Some(mut owner) => assert!(rt; wakers_add_up(&rt, rt.alloc(), &mut owner)),
+        Some(mut owner) => {
+            assert!(rt; wakers_add_up(&rt, rt.alloc(), &mut owner));
+            drop(owner);
+        }
         None => assert!(rt; false, "no task"),
     }
 }

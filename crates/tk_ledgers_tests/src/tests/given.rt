@@ -1,6 +1,7 @@
 //! What several tests begin with: an owner, and what it hands out.
 //!
-//! Each function owns at most one handle, and lends it to the next: that keeps the proofs short.
+//! A handle is lent, or let go by `drop`, or handed to what takes any value: what drops it is proved in each function at whose end it
+//! is dropped unsaid, which takes seconds.
 
 use std::alloc::Global;
 use std::sync::Wait;
@@ -24,4 +25,9 @@ pub(super) fn timed_task<R: Wait>(
 ) -> Option<TaskOwner> {
     let id = TaskId::from_value(id).ok()?;
     TaskOwner::new_with_times(rt, alloc, id, created).ok()
+}
+
+/// Whether it was made.
+pub(super) fn is_made<T: Drop>(made: Option<T>) -> bool {
+    made.is_some()
 }

@@ -69,7 +69,10 @@ fn polls_as<R: Wait>(rt: &R, owner: &mut TaskOwner, poll: &Poll) -> bool {
 fn polls_by_the_owner(rt: HostRuntime) {
     for poll in &POLLS {
         match task(&rt, rt.alloc(), FIRST, poll.created) {
-            Some(mut owner) => assert!(rt; polls_as(&rt, &mut owner, poll), "{}", poll.case),
+            Some(mut owner) => {
+                assert!(rt; polls_as(&rt, &mut owner, poll), "{}", poll.case);
+                drop(owner);
+            }
             None => assert!(rt; false, "no task"),
         }
     }
@@ -89,10 +92,8 @@ fn refuses_a_second_start<R: Wait>(rt: &R, owner: &mut TaskOwner) -> bool {
 
 // The owner, which comes back from a close that is refused since it is polled.
 fn back_from_close<R: Wait>(rt: &R, owner: TaskOwner) -> Option<TaskOwner> {
-    match owner.close(rt, 12) {
-        Err((Refusal::AlreadyPolling, owner)) => Some(owner),
-        _ => None,
-    }
+    let (refusal, owner) = owner.close(rt, 12).err()?;
+    (refusal == Refusal::AlreadyPolling).then_some(owner)
 }
 
 // Its inspector, once its poll is ended.
@@ -109,16 +110,28 @@ fn is_of_first(receipt: &TaskReceipt) -> bool {
 }
 
 fn closes<R: Wait>(rt: &R, owner: TaskOwner) -> bool {
-    match owner.close(rt, 14) {
-        Ok(receipt) => is_of_first(&receipt),
-        Err(_) => false,
+    match owner.close(rt, 14).ok() {
+        Some(receipt) => {
+            let is_of_it = is_of_first(&receipt);
+            drop(receipt);
+            is_of_it
+        }
+        None => false,
     }
 }
 
 fn closes_behind_its_poll<R: Wait>(rt: &R, mut owner: TaskOwner) -> bool {
     match inspector_behind_the_poll(rt, &mut owner) {
-        Some(mut inspector) => closes(rt, owner) && inspector.read(rt).dropped == Some(14),
-        None => false,
+        Some(mut inspector) => {
+            let closed = closes(rt, owner);
+            let row = inspector.read(rt);
+            drop(inspector);
+            closed && row.dropped == Some(14)
+        }
+        None => {
+            drop(owner);
+            false
+        }
     }
 }
 

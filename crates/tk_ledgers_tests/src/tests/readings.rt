@@ -37,6 +37,7 @@ fn poll_task<R: Wait>(rt: &R, mut owner: TaskOwner) -> Option<TaskReceipt>
     ensures { IfSome result (λ receipt. receipt.token.ledger ≡ owner.token.ledger) }
 {
     if !polls_task(rt, &mut owner) {
+        drop(owner);
         return None;
     }
     owner.close(rt, TIMES).ok()
@@ -81,16 +82,21 @@ fn is_task_read_at_work<R: Wait + Threads + Sync>(
             ensures { result.0.token.ledger ≡ inspector.token.ledger }
         { read_task(rt, inspector) },
     );
-    match receipt {
-        Some(receipt) => is_task_read_whole(rt, &mut inspector, receipt) && rises,
+    let whole = match receipt {
+        Some(receipt) => is_task_read_whole(rt, &mut inspector, receipt),
         None => false,
-    }
+    };
+    drop(inspector);
+    whole && rises
 }
 
 fn is_task_inspected<R: Wait + Threads + Sync>(rt: &R, mut owner: TaskOwner) -> bool {
     match owner.inspect(rt) {
         Ok(inspector) => is_task_read_at_work(rt, owner, inspector),
-        Err(_) => false,
+        Err(_) => {
+            drop(owner);
+            false
+        }
     }
 }
 
@@ -133,6 +139,7 @@ fn poll_op<R: Wait>(rt: &R, mut owner: OpOwner) -> Option<OpReceipt>
     ensures { IfSome result (λ receipt. receipt.token.ledger ≡ owner.token.ledger) }
 {
     if !polls_op(rt, &mut owner) {
+        drop(owner);
         return None;
     }
     owner.close(rt, TIMES).ok()
@@ -179,16 +186,21 @@ fn is_op_read_at_work<R: Wait + Threads + Sync>(
             ensures { result.0.token.ledger ≡ inspector.token.ledger }
         { read_op(rt, inspector) },
     );
-    match receipt {
-        Some(receipt) => is_op_read_whole(rt, &mut inspector, receipt) && rises,
+    let whole = match receipt {
+        Some(receipt) => is_op_read_whole(rt, &mut inspector, receipt),
         None => false,
-    }
+    };
+    drop(inspector);
+    whole && rises
 }
 
 fn is_op_inspected<R: Wait + Threads + Sync>(rt: &R, mut owner: OpOwner) -> bool {
     match owner.inspect(rt) {
         Ok(inspector) => is_op_read_at_work(rt, owner, inspector),
-        Err(_) => false,
+        Err(_) => {
+            drop(owner);
+            false
+        }
     }
 }
 
@@ -223,6 +235,7 @@ fn add_on<R: Wait>(rt: &R, mut user: ResourceUser) -> Option<ResourceReceipt>
     ensures { IfSome result (λ receipt. receipt.token.ledger ≡ user.token.ledger) }
 {
     if !adds_on(rt, &mut user) {
+        drop(user);
         return None;
     }
     Some(user.retire())
@@ -280,10 +293,15 @@ fn is_resource_read_at_work<R: Wait + Threads + Sync>(
             ensures { result.0.token.ledger ≡ inspector.token.ledger }
         { read_resource(rt, inspector) },
     );
-    match receipt {
-        Some(receipt) => is_resource_read_whole(rt, owner, &mut inspector, receipt) && rises,
-        None => false,
-    }
+    let whole = match receipt {
+        Some(receipt) => is_resource_read_whole(rt, owner, &mut inspector, receipt),
+        None => {
+            drop(owner);
+            false
+        }
+    };
+    drop(inspector);
+    whole && rises
 }
 
 fn is_resource_inspected<R: Wait + Threads + Sync>(
@@ -295,14 +313,21 @@ fn is_resource_inspected<R: Wait + Threads + Sync>(
 {
     match owner.inspect(rt) {
         Ok(inspector) => is_resource_read_at_work(rt, owner, user, inspector),
-        Err(_) => false,
+        Err(_) => {
+            drop(owner);
+            drop(user);
+            false
+        }
     }
 }
 
 fn is_resource_used<R: Wait + Threads + Sync>(rt: &R, mut owner: ResourceOwner) -> bool {
     match owner.user(rt) {
         Ok(user) => is_resource_inspected(rt, owner, user),
-        Err(_) => false,
+        Err(_) => {
+            drop(owner);
+            false
+        }
     }
 }
 

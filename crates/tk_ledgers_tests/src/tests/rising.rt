@@ -25,7 +25,7 @@ const CALLS: u64 = 20_000_000;
 fn wake_and_clone<R: Wait>(rt: &R, waker: &mut WakerHandle, moment: u64) {
     waker.wake_by_ref(rt, moment, Origin::outside());
     if let Ok(cloned) = waker.clone_waker(rt) {
-        cloned.release(rt);
+        drop(cloned.release(rt));
     }
 }
 
@@ -155,7 +155,11 @@ fn is_inspected<R: Wait + Threads + Sync>(
     wakers: &mut [WakerHandle],
 ) -> bool {
     match owner.inspect(rt) {
-        Ok(mut inspector) => is_read_beside(rt, owner, wakers, &mut inspector),
+        Ok(mut inspector) => {
+            let read = is_read_beside(rt, owner, wakers, &mut inspector);
+            drop(inspector);
+            read
+        }
         Err(_) => false,
     }
 }
@@ -171,6 +175,7 @@ fn wakers<R: Wait>(rt: &R, alloc: Global, owner: &mut TaskOwner) -> Option<Vec<W
     let mut wakers = Vec::new(alloc);
     for _ in 0..WAKERS {
         if !add_waker(rt, owner, &mut wakers) {
+            drop(wakers);
             return None;
         }
     }
@@ -183,7 +188,11 @@ fn is_woken_and_inspected<R: Wait + Threads + Sync>(
     owner: &mut TaskOwner,
 ) -> bool {
     match wakers(rt, alloc, owner) {
-        Some(mut wakers) => is_inspected(rt, owner, &mut wakers),
+        Some(mut wakers) => {
+            let read = is_inspected(rt, owner, &mut wakers);
+            drop(wakers);
+            read
+        }
         None => false,
     }
 }
@@ -191,7 +200,10 @@ fn is_woken_and_inspected<R: Wait + Threads + Sync>(
 #[test]
 fn no_reading_falls(rt: HostRuntime) {
     match task(&rt, rt.alloc(), FIRST, 0) {
-        Some(mut owner) => assert!(rt; is_woken_and_inspected(&rt, rt.alloc(), &mut owner)),
+        Some(mut owner) => {
+            assert!(rt; is_woken_and_inspected(&rt, rt.alloc(), &mut owner));
+            drop(owner);
+        }
         None => assert!(rt; false, "no task"),
     }
 }

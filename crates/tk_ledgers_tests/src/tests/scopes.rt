@@ -1,6 +1,6 @@
 //! Scopes of polls: what is done in one is the owner's.
 
-use super::given::{FIRST, task};
+use super::given::{FIRST, is_made, task};
 use std::sync::Wait;
 use tk_core::{Refusal, WakeReply};
 use tk_ledgers::{Origin, PollScope, TaskOwner, WakerHandle};
@@ -18,16 +18,9 @@ fn wakes_itself<R: Wait>(rt: &R, scope: &mut PollScope) -> bool {
 
 // Wakes itself in a scope, whose owner comes back.
 fn owner_that_woke_itself<R: Wait>(rt: &R, owner: TaskOwner) -> Option<TaskOwner> {
-    match owner.scope(155) {
-        Ok(mut scope) => {
-            if wakes_itself(rt, &mut scope) {
-                Some(scope.finish())
-            } else {
-                None
-            }
-        }
-        Err(_) => None,
-    }
+    let mut scope = owner.scope(155).ok()?;
+    let woken = wakes_itself(rt, &mut scope);
+    woken.then_some(scope.finish())
 }
 
 fn ends_and_starts<R: Wait>(rt: &R, owner: &mut TaskOwner) -> bool {
@@ -41,7 +34,11 @@ fn has_one_self_wake<R: Wait>(rt: &R, owner: &mut TaskOwner) -> bool {
 
 fn is_a_self_wake<R: Wait>(rt: &R, owner: TaskOwner) -> bool {
     match owner_that_woke_itself(rt, owner) {
-        Some(mut owner) => ends_and_starts(rt, &mut owner) && has_one_self_wake(rt, &mut owner),
+        Some(mut owner) => {
+            let counted = ends_and_starts(rt, &mut owner) && has_one_self_wake(rt, &mut owner);
+            drop(owner);
+            counted
+        }
         None => false,
     }
 }
@@ -59,14 +56,13 @@ fn a_wake_in_a_poll_is_a_self_wake(rt: HostRuntime) {
 
 // The owner, which comes back from a scope that is refused since it isn't polled.
 fn back_from_scope(owner: TaskOwner) -> Option<TaskOwner> {
-    match owner.scope(5) {
-        Err((Refusal::NotPolling, owner)) => Some(owner),
-        _ => None,
-    }
+    let (refusal, owner) = owner.scope(5).err()?;
+    (refusal == Refusal::NotPolling).then_some(owner)
 }
 
 fn opens_a_scope_in_a_poll<R: Wait>(rt: &R, mut owner: TaskOwner) -> bool {
-    starts(rt, &mut owner, 10) && owner.scope(11).is_ok()
+    let started = starts(rt, &mut owner, 10);
+    is_made(owner.scope(11).ok()) && started
 }
 
 #[test]
@@ -91,7 +87,9 @@ fn wakes_by_a_first_waker<R: Wait>(rt: &R, scope: &mut PollScope, other: &mut Ta
     match scope.clone_waker(rt) {
         Ok(mut waker) => {
             wake_both(rt, scope, &mut waker, other);
-            waker.number() == 1
+            let number = waker.number();
+            drop(waker);
+            number == 1
         }
         Err(_) => false,
     }
@@ -102,16 +100,9 @@ fn owner_that_woke_both<R: Wait>(
     owner: TaskOwner,
     other: &mut TaskOwner,
 ) -> Option<TaskOwner> {
-    match owner.scope(10) {
-        Ok(mut scope) => {
-            if wakes_by_a_first_waker(rt, &mut scope, other) {
-                Some(scope.finish())
-            } else {
-                None
-            }
-        }
-        Err(_) => None,
-    }
+    let mut scope = owner.scope(10).ok()?;
+    let woken = wakes_by_a_first_waker(rt, &mut scope, other);
+    woken.then_some(scope.finish())
 }
 
 fn has_one_wake_of_its_own<R: Wait>(rt: &R, owner: &mut TaskOwner) -> bool {
@@ -127,7 +118,9 @@ fn has_one_of_another<R: Wait>(rt: &R, other: &mut TaskOwner) -> bool {
 fn tells_own_wakes<R: Wait>(rt: &R, owner: TaskOwner, other: &mut TaskOwner) -> bool {
     match owner_that_woke_both(rt, owner, other) {
         Some(mut owner) => {
-            has_one_wake_of_its_own(rt, &mut owner) && has_one_of_another(rt, other)
+            let counted = has_one_wake_of_its_own(rt, &mut owner) && has_one_of_another(rt, other);
+            drop(owner);
+            counted
         }
         None => false,
     }
@@ -135,15 +128,19 @@ fn tells_own_wakes<R: Wait>(rt: &R, owner: TaskOwner, other: &mut TaskOwner) -> 
 
 // A poll of one task that wakes another: the wake is not the other's own.
 fn wakes_another<R: Wait>(rt: &R, mut owner: TaskOwner, other: &mut TaskOwner) -> bool {
-    starts(rt, &mut owner, 10) && tells_own_wakes(rt, owner, other)
+    let started = starts(rt, &mut owner, 10);
+    tells_own_wakes(rt, owner, other) && started
 }
 
 #[test]
 fn a_wake_is_its_own_where_the_origin_names_it(rt: HostRuntime) {
     let owner = task(&rt, rt.alloc(), FIRST, 0);
     let other = task(&rt, rt.alloc(), SECOND, 0);
-    match (owner, other) {
-        (Some(owner), Some(mut other)) => assert!(rt; wakes_another(&rt, owner, &mut other)),
-        _ => assert!(rt; false, "no task"),
+    match owner.zip(other) {
+        Some((owner, mut other)) => {
+            assert!(rt; wakes_another(&rt, owner, &mut other));
+            drop(other);
+        }
+        None => assert!(rt; false, "no task"),
     }
 }

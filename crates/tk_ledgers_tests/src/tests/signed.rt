@@ -44,7 +44,9 @@ impl Change {
 fn user<R: Wait>(rt: &R, alloc: Global) -> Option<ResourceUser> {
     let id = ResourceId::from_value(1099511627777).ok()?;
     let mut owner = ResourceOwner::new(rt, alloc, id, 7, &[AttrValue::I64(0)]).ok()?;
-    owner.user(rt).ok()
+    let user = owner.user(rt).ok();
+    drop(owner);
+    user
 }
 
 fn change_by<R: Wait>(rt: &R, user: &mut ResourceUser, op: AttrOp) -> Result<(), Refusal> {
@@ -69,6 +71,7 @@ fn changes_signed_numbers_of_a_resource(rt: HostRuntime) {
             for change in &CHANGES {
                 assert!(rt; is_made_by(&rt, &mut user, change), "{}", change.case);
             }
+            drop(user);
         }
         None => assert!(rt; false, "no user"),
     }
@@ -103,6 +106,7 @@ fn changes_signed_numbers_of_an_operation(rt: HostRuntime) {
             for change in &CHANGES {
                 assert!(rt; is_made_of(&rt, &mut owner, change), "{}", change.case);
             }
+            drop(owner);
         }
         None => assert!(rt; false, "no operation"),
     }

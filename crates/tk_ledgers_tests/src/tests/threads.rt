@@ -84,8 +84,13 @@ fn wakers<R: Wait>(rt: &R, owner: &mut TaskOwner) -> Option<(WakerHandle, WakerH
     ensures made { IfSome result (λ h. (h.0.token.ledger ≡ owner.old.token.ledger) × (h.1.token.ledger ≡ owner.old.token.ledger)) }
 {
     let mut one = owner.clone_waker(rt).ok()?;
-    let two = one.clone_waker(rt).ok()?;
-    Some((one, two))
+    match one.clone_waker(rt) {
+        Ok(two) => Some((one, two)),
+        Err(_) => {
+            drop(one);
+            None
+        }
+    }
 }
 
 fn inspector<R: Wait>(rt: &R, owner: &mut TaskOwner) -> Option<TaskInspector>
@@ -111,7 +116,11 @@ fn counts_two_thousand(row: &TaskRow) -> bool {
 // A further inspector reads that it is the fourth handle.
 fn draws_a_fourth<R: Wait>(rt: &R, inspector: &mut TaskInspector) -> bool {
     match inspector.inspect(rt) {
-        Ok(mut drawn) => drawn.read(rt).handles == 4,
+        Ok(mut drawn) => {
+            let row = drawn.read(rt);
+            drop(drawn);
+            row.handles == 4
+        }
         Err(_) => false,
     }
 }
@@ -140,8 +149,16 @@ fn wakers_add_up<R: Wait + Threads + Sync>(
     requires two { two.token.ledger ≡ owner.old.token.ledger }
 {
     match inspector(rt, owner) {
-        Some(mut inspector) => adds_up(rt, one, two, &mut inspector),
-        None => false,
+        Some(mut inspector) => {
+            let added = adds_up(rt, one, two, &mut inspector);
+            drop(inspector);
+            added
+        }
+        None => {
+            drop(one);
+            drop(two);
+            false
+        }
     }
 }
 
@@ -155,7 +172,10 @@ fn handles_add_up<R: Wait + Threads + Sync>(rt: &R, owner: &mut TaskOwner) -> bo
 #[test]
 fn adds_up_what_two_threads_did(rt: HostRuntime) {
     match task(&rt, rt.alloc(), FIRST, 0) {
-        Some(mut owner) => assert!(rt; handles_add_up(&rt, &mut owner)),
+        Some(mut owner) => {
+            assert!(rt; handles_add_up(&rt, &mut owner));
+            drop(owner);
+        }
         None => assert!(rt; false, "no task"),
     }
 }
@@ -183,8 +203,16 @@ fn wakers_are_read<R: Wait + Threads + Sync>(
     requires two { two.token.ledger ≡ owner.old.token.ledger }
 {
     match inspector(rt, owner) {
-        Some(mut inspector) => shows_both_wakes(rt, one, two, &mut inspector),
-        None => false,
+        Some(mut inspector) => {
+            let shown = shows_both_wakes(rt, one, two, &mut inspector);
+            drop(inspector);
+            shown
+        }
+        None => {
+            drop(one);
+            drop(two);
+            false
+        }
     }
 }
 
@@ -198,7 +226,10 @@ fn handles_are_read<R: Wait + Threads + Sync>(rt: &R, owner: &mut TaskOwner) -> 
 #[test]
 fn reads_both_wakes(rt: HostRuntime) {
     match task(&rt, rt.alloc(), FIRST, 0) {
-        Some(mut owner) => assert!(rt; handles_are_read(&rt, &mut owner)),
+        Some(mut owner) => {
+            assert!(rt; handles_are_read(&rt, &mut owner));
+            drop(owner);
+        }
         None => assert!(rt; false, "no task"),
     }
 }

@@ -1,6 +1,6 @@
 //! The histogram of a task: how long its polls ran, who reads that, and what is learnt at the end.
 
-use super::given::{FIRST, task, timed_task};
+use super::given::{FIRST, is_made, task, timed_task};
 use std::sync::Wait;
 use tk_core::TimesRow;
 use tk_ledgers::{TaskInspector, TaskOwner};
@@ -59,9 +59,13 @@ fn poll_all<R: Wait>(rt: &R, owner: &mut TaskOwner, polls: &[(u64, u64)]) -> boo
 }
 
 fn polls_as<R: Wait>(rt: &R, owner: &mut TaskOwner, polls: &Polls) -> bool {
-    match owner.inspect_times(rt) {
-        Some(Ok(mut times)) => { poll_all(rt, owner, polls.polls) && shows(&times.read(rt), polls) }
-        _ => false,
+    match owner.inspect_times(rt).transpose().ok().flatten() {
+        Some(mut times) => {
+            let shown = poll_all(rt, owner, polls.polls) && shows(&times.read(rt), polls);
+            drop(times);
+            shown
+        }
+        None => false,
     }
 }
 
@@ -69,7 +73,10 @@ fn polls_as<R: Wait>(rt: &R, owner: &mut TaskOwner, polls: &Polls) -> bool {
 fn a_histogram_has_how_long_each_poll_ran(rt: HostRuntime) {
     for polls in &POLLS {
         match timed_task(&rt, rt.alloc(), FIRST, 0) {
-            Some(mut owner) => assert!(rt; polls_as(&rt, &mut owner, polls), "{}", polls.case),
+            Some(mut owner) => {
+                assert!(rt; polls_as(&rt, &mut owner, polls), "{}", polls.case);
+                drop(owner);
+            }
             None => assert!(rt; false, "no task"),
         }
     }
@@ -77,12 +84,9 @@ fn a_histogram_has_how_long_each_poll_ran(rt: HostRuntime) {
 
 // An inspector of the task that reads its histogram too.
 fn inspector<R: Wait>(rt: &R, owner: &mut TaskOwner) -> Option<TaskInspector> {
-    let Ok(inspector) = owner.inspect(rt) else {
-        return None;
-    };
-    let Some(Ok(times)) = owner.inspect_times(rt) else {
-        return None;
-    };
+    let inspector = owner.inspect(rt).ok();
+    let times = owner.inspect_times(rt).transpose().ok().flatten();
+    let (inspector, times) = inspector.zip(times)?;
     Some(inspector.with_times(times))
 }
 
@@ -114,7 +118,10 @@ fn adds_no_refused_end<R: Wait>(
 fn is_read<R: Wait>(rt: &R, owner: &mut TaskOwner) -> bool {
     match inspector(rt, owner) {
         Some(mut inspector) => {
-            reads_both(rt, owner, &mut inspector) && adds_no_refused_end(rt, owner, &mut inspector)
+            let read = reads_both(rt, owner, &mut inspector)
+                && adds_no_refused_end(rt, owner, &mut inspector);
+            drop(inspector);
+            read
         }
         None => false,
     }
@@ -123,7 +130,10 @@ fn is_read<R: Wait>(rt: &R, owner: &mut TaskOwner) -> bool {
 #[test]
 fn an_inspector_reads_a_task_and_its_histogram(rt: HostRuntime) {
     match timed_task(&rt, rt.alloc(), FIRST, 0) {
-        Some(mut owner) => assert!(rt; owner.has_times() && is_read(&rt, &mut owner)),
+        Some(mut owner) => {
+            assert!(rt; owner.has_times() && is_read(&rt, &mut owner));
+            drop(owner);
+        }
         None => assert!(rt; false, "no task"),
     }
 }
@@ -133,18 +143,24 @@ fn has_none<R: Wait>(rt: &R, owner: &mut TaskOwner) -> bool {
     let Ok(mut inspector) = owner.inspect(rt) else {
         return false;
     };
-    !owner.has_times()
-        && owner.inspect_times(rt).is_none()
+    let none = !owner.has_times()
+        && !is_made(owner.inspect_times(rt))
         && poll(rt, owner, 10, 40)
         && inspector.read_times(rt).is_none()
-        && inspector.take_times().is_none()
-        && inspector.read(rt).busy == 30
+        && !is_made(inspector.take_times())
+        && inspector.read(rt).busy == 30;
+    drop(inspector);
+    none
 }
 
 fn leaves_none<R: Wait>(rt: &R, owner: TaskOwner) -> bool {
-    match owner.close(rt, 50) {
-        Ok(mut receipt) => receipt.take_times().is_none(),
-        Err(_) => false,
+    match owner.close(rt, 50).ok() {
+        Some(mut receipt) => {
+            let none = !is_made(receipt.take_times());
+            drop(receipt);
+            none
+        }
+        None => false,
     }
 }
 
@@ -163,10 +179,12 @@ fn a_task_without_a_histogram_has_none(rt: HostRuntime) {
 fn takes_its_inspector<R: Wait>(rt: &R, inspector: &mut TaskInspector) -> bool {
     match inspector.take_times() {
         Some(mut times) => {
-            times.task().value() == FIRST
+            let taken = times.task().value() == FIRST
                 && times.read(rt).longest == 30
                 && inspector.read_times(rt).is_none()
-                && inspector.take_times().is_none()
+                && !is_made(inspector.take_times());
+            drop(times);
+            taken
         }
         None => false,
     }
@@ -175,7 +193,9 @@ fn takes_its_inspector<R: Wait>(rt: &R, inspector: &mut TaskInspector) -> bool {
 fn is_taken<R: Wait>(rt: &R, owner: &mut TaskOwner) -> bool {
     match inspector(rt, owner) {
         Some(mut inspector) => {
-            poll(rt, owner, 10, 40) && takes_its_inspector(rt, &mut inspector)
+            let taken = poll(rt, owner, 10, 40) && takes_its_inspector(rt, &mut inspector);
+            drop(inspector);
+            taken
         }
         None => false,
     }
@@ -184,7 +204,10 @@ fn is_taken<R: Wait>(rt: &R, owner: &mut TaskOwner) -> bool {
 #[test]
 fn the_inspector_of_a_histogram_is_taken_once(rt: HostRuntime) {
     match timed_task(&rt, rt.alloc(), FIRST, 0) {
-        Some(mut owner) => assert!(rt; is_taken(&rt, &mut owner)),
+        Some(mut owner) => {
+            assert!(rt; is_taken(&rt, &mut owner));
+            drop(owner);
+        }
         None => assert!(rt; false, "no task"),
     }
 }

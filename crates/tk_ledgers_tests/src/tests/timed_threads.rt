@@ -48,7 +48,7 @@ fn shows_the_first<R: Wait>(rt: &R, times: &mut TimesInspector) -> bool {
 }
 
 fn is_read_beside<R: Wait + Threads + Sync>(rt: &R, owner: &mut TaskOwner) -> bool {
-    let Some(Ok(mut times)) = owner.inspect_times(rt) else {
+    let Some(mut times) = owner.inspect_times(rt).transpose().ok().flatten() else {
         return false;
     };
     let (polled, shown) = join(
@@ -56,13 +56,18 @@ fn is_read_beside<R: Wait + Threads + Sync>(rt: &R, owner: &mut TaskOwner) -> bo
         || poll_often(rt, owner),
         || shows_the_first(rt, &mut times),
     );
-    polled && shown && polls_of(&times.read(rt)) == POLLS
+    let polls = polls_of(&times.read(rt));
+    drop(times);
+    polled && shown && polls == POLLS
 }
 
 #[test]
 fn a_reading_is_that_of_the_first_polls(rt: HostRuntime) {
     match timed_task(&rt, rt.alloc(), FIRST, 0) {
-        Some(mut owner) => assert!(rt; is_read_beside(&rt, &mut owner)),
+        Some(mut owner) => {
+            assert!(rt; is_read_beside(&rt, &mut owner));
+            drop(owner);
+        }
         None => assert!(rt; false, "no task"),
     }
 }
@@ -78,7 +83,9 @@ fn reads_all<R: Wait>(rt: &R, times: &mut TimesInspector, receipt: TimesReceipt)
 fn learns<R: Wait>(rt: &R, times: &mut TimesInspector, mut receipt: TaskReceipt) -> Option<u64>
     requires { IsOfHistogram receipt.times times.old.token }
 {
-    match receipt.take_times() {
+    let all = receipt.take_times();
+    drop(receipt);
+    match all {
         Some(all) => Some(reads_all(rt, times, all)),
         None => None,
     }
@@ -87,19 +94,22 @@ fn learns<R: Wait>(rt: &R, times: &mut TimesInspector, mut receipt: TaskReceipt)
 fn closes<R: Wait>(rt: &R, times: &mut TimesInspector, owner: TaskOwner) -> Option<u64>
     requires { IsOfHistogram owner.times times.old.token }
 {
-    match owner.close(rt, 9) {
-        Ok(receipt) => learns(rt, times, receipt),
-        Err(_) => None,
+    match owner.close(rt, 9).ok() {
+        Some(receipt) => learns(rt, times, receipt),
+        None => None,
     }
 }
 
 fn is_learnt<R: Wait>(rt: &R, mut owner: TaskOwner) -> Option<u64> {
     let Some(Ok(mut times)) = owner.inspect_times(rt) else {
+        drop(owner);
         return None;
     };
-    owner.start_poll(rt, 5).ok()?;
-    owner.end_poll(rt, 7).ok()?;
-    closes(rt, &mut times, owner)
+    let started = owner.start_poll(rt, 5).is_ok();
+    let ended = owner.end_poll(rt, 7).is_ok();
+    let learnt = closes(rt, &mut times, owner);
+    drop(times);
+    if started && ended { learnt } else { None }
 }
 
 #[test]

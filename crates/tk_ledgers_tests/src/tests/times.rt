@@ -24,13 +24,18 @@ fn is_read<R: Wait>(rt: &R, owner: &mut TimesOwner) -> bool {
     let before = reads(rt, &mut inspector, 0, 0);
     owner.add(rt, 30);
     owner.add(rt, 20);
-    before && reads(rt, &mut inspector, 2, 30)
+    let after = reads(rt, &mut inspector, 2, 30);
+    drop(inspector);
+    before && after
 }
 
 #[test]
 fn an_inspector_reads_what_was_added(rt: HostRuntime) {
     match histogram(&rt, rt.alloc()) {
-        Some(mut owner) => assert!(rt; is_read(&rt, &mut owner)),
+        Some(mut owner) => {
+            assert!(rt; is_read(&rt, &mut owner));
+            drop(owner);
+        }
         None => assert!(rt; false, "no histogram"),
     }
 }
@@ -44,10 +49,13 @@ fn learns<R: Wait>(rt: &R, owner: TimesOwner, inspector: &mut TimesInspector) ->
 
 fn is_learnt<R: Wait>(rt: &R, mut owner: TimesOwner) -> bool {
     let Ok(mut inspector) = owner.inspect(rt) else {
+        drop(owner);
         return false;
     };
     owner.add(rt, 7);
-    learns(rt, owner, &mut inspector)
+    let learnt = learns(rt, owner, &mut inspector);
+    drop(inspector);
+    learnt
 }
 
 #[test]

@@ -1,6 +1,6 @@
 //! Wakers, and what their calls count.
 
-use super::given::{FIRST, task};
+use super::given::{FIRST, is_made, task};
 use std::alloc::Global;
 use std::sync::Wait;
 use tk_core::WakeReply;
@@ -13,15 +13,13 @@ fn polls_once<R: Wait>(rt: &R, owner: &mut TaskOwner) -> bool {
 // A task created at 100 that was polled once, from 150 to 170.
 fn polled_once<R: Wait>(rt: &R, alloc: Global) -> Option<TaskOwner> {
     let mut owner = task(rt, alloc, FIRST, 100)?;
-    if !polls_once(rt, &mut owner) {
-        return None;
-    }
-    Some(owner)
+    polls_once(rt, &mut owner).then_some(owner)
 }
 
 fn wakes_once<R: Wait>(rt: &R, waker: WakerHandle, owner: &TaskOwner) -> bool {
     let named = waker.number() == 1 && waker.task() == owner.id();
-    let (found, _receipt) = waker.wake(rt, 300, Origin::outside());
+    let (found, receipt) = waker.wake(rt, 300, Origin::outside());
+    drop(receipt);
     named && found == WakeReply::Scheduled
 }
 
@@ -40,7 +38,10 @@ fn is_woken_by_value<R: Wait>(rt: &R, owner: &mut TaskOwner) -> bool {
 #[test]
 fn wakes_by_value(rt: HostRuntime) {
     match polled_once(&rt, rt.alloc()) {
-        Some(mut owner) => assert!(rt; is_woken_by_value(&rt, &mut owner)),
+        Some(mut owner) => {
+            assert!(rt; is_woken_by_value(&rt, &mut owner));
+            drop(owner);
+        }
         None => assert!(rt; false, "no polled task"),
     }
 }
@@ -54,7 +55,7 @@ fn wakes_twice<R: Wait>(rt: &R, waker: &mut WakerHandle) -> bool {
 }
 
 fn closes<R: Wait>(rt: &R, owner: TaskOwner) -> bool {
-    owner.close(rt, 400).is_ok()
+    is_made(owner.close(rt, 400).ok())
 }
 
 fn is_woken_thrice<R: Wait>(rt: &R, owner: TaskOwner, waker: &mut WakerHandle) -> bool {
@@ -70,16 +71,29 @@ fn counts_three_wakes<R: Wait>(rt: &R, inspector: &mut TaskInspector) -> bool {
 fn is_woken_and_read<R: Wait>(rt: &R, mut owner: TaskOwner, waker: &mut WakerHandle) -> bool {
     match owner.inspect(rt) {
         Ok(mut inspector) => {
-            is_woken_thrice(rt, owner, waker) && counts_three_wakes(rt, &mut inspector)
+            let woken = is_woken_thrice(rt, owner, waker);
+            let counted = counts_three_wakes(rt, &mut inspector);
+            drop(inspector);
+            woken && counted
         }
-        Err(_) => false,
+        Err(_) => {
+            drop(owner);
+            false
+        }
     }
 }
 
 fn is_woken_by_reference<R: Wait>(rt: &R, mut owner: TaskOwner) -> bool {
     match owner.clone_waker(rt) {
-        Ok(mut waker) => is_woken_and_read(rt, owner, &mut waker),
-        Err(_) => false,
+        Ok(mut waker) => {
+            let read = is_woken_and_read(rt, owner, &mut waker);
+            drop(waker);
+            read
+        }
+        Err(_) => {
+            drop(owner);
+            false
+        }
     }
 }
 
@@ -93,7 +107,7 @@ fn wakes_by_reference(rt: HostRuntime) {
 
 fn releases_second<R: Wait>(rt: &R, second: WakerHandle) -> bool {
     let number = second.number();
-    let _receipt = second.release(rt);
+    drop(second.release(rt));
     number == 2
 }
 
@@ -111,7 +125,11 @@ fn clone_is_released<R: Wait>(rt: &R, waker: &mut WakerHandle) -> bool {
 
 fn is_released<R: Wait>(rt: &R, owner: &mut TaskOwner) -> bool {
     match owner.clone_waker(rt) {
-        Ok(mut waker) => clone_is_released(rt, &mut waker) && counts_one_release(rt, owner),
+        Ok(mut waker) => {
+            let released = clone_is_released(rt, &mut waker) && counts_one_release(rt, owner);
+            drop(waker);
+            released
+        }
         Err(_) => false,
     }
 }
@@ -119,14 +137,18 @@ fn is_released<R: Wait>(rt: &R, owner: &mut TaskOwner) -> bool {
 #[test]
 fn releases(rt: HostRuntime) {
     match polled_once(&rt, rt.alloc()) {
-        Some(mut owner) => assert!(rt; is_released(&rt, &mut owner)),
+        Some(mut owner) => {
+            assert!(rt; is_released(&rt, &mut owner));
+            drop(owner);
+        }
         None => assert!(rt; false, "no polled task"),
     }
 }
 
 fn wakes_from_outside<R: Wait>(rt: &R, mut waker: WakerHandle) -> bool {
     let found = waker.wake_by_ref_from_outside(rt, 300);
-    let (again, _receipt) = waker.wake_from_outside(rt, 310);
+    let (again, receipt) = waker.wake_from_outside(rt, 310);
+    drop(receipt);
     found == WakeReply::Scheduled && again == WakeReply::Already
 }
 
@@ -148,7 +170,10 @@ fn is_woken_from_outside<R: Wait>(rt: &R, owner: &mut TaskOwner) -> bool {
 #[test]
 fn wakes_from_outside_are_no_self_wakes(rt: HostRuntime) {
     match polled_once(&rt, rt.alloc()) {
-        Some(mut owner) => assert!(rt; is_woken_from_outside(&rt, &mut owner)),
+        Some(mut owner) => {
+            assert!(rt; is_woken_from_outside(&rt, &mut owner));
+            drop(owner);
+        }
         None => assert!(rt; false, "no polled task"),
     }
 }
