@@ -1,7 +1,7 @@
 //! What several tests begin with: sizes, and what is offered.
 //!
-//! Each function owns at most one recorder, taker or list, and lends it to the next: that keeps the
-//! proofs short.
+//! A recorder, a taker, an event or a handle is lent, or let go by `drop`, or handed to what takes any value: what drops it is proved
+//! in each function at whose end it is dropped unsaid, which takes seconds.
 ghost use Rattle.std.specs.Prelude.{◌≡◌, All, IfSome};
 
 use std::alloc::Global;
@@ -27,8 +27,7 @@ pub(super) fn limits(recorders: u64, capacity: u64, offers: u64) -> Limits {
     }
 }
 
-// Whether a check holds of the first recorder of a new console, and its taker. They are owned here alone, so their end is
-// proved once.
+// Whether a check holds of the first recorder of a new console, and its taker.
 pub(super) fn on_first<F: FnOnce(&mut Recorder, &mut Taker) -> bool>(
     alloc: Global,
     limits: Limits,
@@ -37,15 +36,25 @@ pub(super) fn on_first<F: FnOnce(&mut Recorder, &mut Taker) -> bool>(
     requires { F.IsAlwaysCallable check }
 {
     match Console::open(alloc, limits) {
-        Ok((mut recorders, mut taker)) => match recorders.get_mut(0) {
-            Some(recorder) => check(recorder, &mut taker),
-            None => false,
-        },
+        Ok((mut recorders, mut taker)) => {
+            let holds = match recorders.get_mut(0) {
+                Some(recorder) => check(recorder, &mut taker),
+                None => false,
+            };
+            drop(recorders);
+            drop(taker);
+            holds
+        }
         Err(_) => false,
     }
 }
 
-// What a look at the next event tells, if one waits. Events are owned here alone.
+// Whether it was made.
+pub(super) fn is_made<T: Drop>(made: Option<T>) -> bool {
+    made.is_some()
+}
+
+// What a look at the next event tells, if one waits.
 pub(super) fn take<R: Wait, F: FnOnce(&mut Event) -> bool>(
     rt: &R,
     taker: &mut Taker,
@@ -55,14 +64,18 @@ pub(super) fn take<R: Wait, F: FnOnce(&mut Event) -> bool>(
     ensures { taker.new.console ≡ taker.old.console }
 {
     match taker.take(rt) {
-        Some(mut event) => Some(look(&mut event)),
+        Some(mut event) => {
+            let told = look(&mut event);
+            drop(event);
+            Some(told)
+        }
         None => None,
     }
 }
 
 // Whether an event waits. It is taken.
 pub(super) fn takes_any<R: Wait>(rt: &R, taker: &mut Taker) -> bool {
-    take(rt, taker, |_event| true).is_some()
+    is_made(taker.take(rt))
 }
 
 fn location(alloc: Global) -> Option<Location> {
@@ -75,8 +88,7 @@ fn location(alloc: Global) -> Option<Location> {
 }
 
 pub(super) fn task(alloc: Global, name: &[u8]) -> Option<TaskSpec> {
-    let name = Name::new(alloc, name).ok()?;
-    let location = location(alloc)?;
+    let (name, location) = Name::new(alloc, name).ok().zip(location(alloc))?;
     Some(TaskSpec {
         kind: TaskKind::Spawn,
         name,
@@ -94,16 +106,15 @@ fn permits(alloc: Global) -> Option<AttrSpec> {
 }
 
 fn attrs(alloc: Global) -> Option<Attrs> {
-    let mut list = Vec::new(alloc);
-    list.push(permits(alloc)?).ok()?;
-    Attrs::new(list).ok()
+    let permits = permits(alloc)?;
+    Attrs::new(Vec::from_array(alloc, [permits]).ok()?).ok()
 }
 
 pub(super) fn resource(alloc: Global) -> Option<ResourceSpec> {
-    let concrete = Name::new(alloc, b"Semaphore").ok()?;
-    let kind = Name::new(alloc, b"Sync").ok()?;
-    let location = location(alloc)?;
-    let attrs = attrs(alloc)?;
+    let concrete = Name::new(alloc, b"Semaphore").ok();
+    let names = concrete.zip(Name::new(alloc, b"Sync").ok());
+    let rest = location(alloc).zip(attrs(alloc));
+    let ((concrete, kind), (location, attrs)) = names.zip(rest)?;
     Some(ResourceSpec {
         parent: None,
         concrete,
@@ -115,8 +126,8 @@ pub(super) fn resource(alloc: Global) -> Option<ResourceSpec> {
 
 pub(super) fn op(alloc: Global) -> Option<OpSpec> {
     let resource = ResourceId::from_value(FIRST).ok()?;
-    let source = Name::new(alloc, b"Semaphore::acquire").ok()?;
-    let attrs = attrs(alloc)?;
+    let source = Name::new(alloc, b"Semaphore::acquire").ok();
+    let (source, attrs) = source.zip(attrs(alloc))?;
     Some(OpSpec {
         source,
         resource,
@@ -158,10 +169,9 @@ pub(super) fn refusal(taker: &mut Taker, retired: Vec<RetiredRecorder>) -> Optio
     requires { All (λ r. r.console ≡ taker.old.console) retired.items }
     ensures { taker.new.console ≡ taker.old.console }
 {
-    match taker.finish(retired) {
-        Ok(()) => None,
-        Err((why, _)) => Some(why),
-    }
+    let (why, back) = taker.finish(retired).err()?;
+    drop(back);
+    Some(why)
 }
 
 // This recorder, retired and alone in a list.
@@ -169,6 +179,11 @@ pub(super) fn alone(alloc: Global, recorder: Recorder) -> Option<Vec<RetiredReco
     ensures { IfSome result (λ all. All (λ r. r.console ≡ recorder.console) all.items) }
 {
     let mut all = Vec::new(alloc);
-    all.push(recorder.retire()).ok()?;
-    Some(all)
+    match all.push(recorder.retire()) {
+        Ok(()) => Some(all),
+        Err(_) => {
+            drop(all);
+            None
+        }
+    }
 }

@@ -2,7 +2,8 @@
 ghost use Rattle.std.specs.Prelude.{◌≡◌};
 
 use super::given::{
-    FIRST, alone, limits, offer_poll, on_first, op, poll, refusal, resource, take, takes_any, task,
+    FIRST, alone, is_made, limits, offer_poll, on_first, op, poll, refusal, resource, take,
+    takes_any, task,
 };
 use std::alloc::Global;
 use std::sync::Wait;
@@ -11,7 +12,9 @@ use tk_ids::{Dropped, TaskSpec};
 use tk_ledgers::{OpOwner, ResourceOwner, TaskOwner};
 
 fn task_starts<R: Wait>(rt: &R, mut owner: TaskOwner, id: u64) -> bool {
-    owner.id().value() == id && owner.start_poll(rt, 5).is_ok()
+    let starts = owner.id().value() == id && owner.start_poll(rt, 5).is_ok();
+    drop(owner);
+    starts
 }
 
 // What became of a task that got this id and starts a poll.
@@ -31,7 +34,9 @@ fn offer_task<R: Wait>(
 }
 
 fn resource_is_used<R: Wait>(rt: &R, mut owner: ResourceOwner, id: u64) -> bool {
-    owner.id().value() == id && owner.user(rt).is_ok()
+    let used = owner.id().value() == id && is_made(owner.user(rt).ok());
+    drop(owner);
+    used
 }
 
 // What became of a resource that got this id and has a user.
@@ -50,7 +55,9 @@ fn offer_resource<R: Wait>(
 }
 
 fn op_starts<R: Wait>(rt: &R, mut owner: OpOwner, id: u64) -> bool {
-    owner.id().value() == id && owner.start_poll(rt, 5).is_ok()
+    let starts = owner.id().value() == id && owner.start_poll(rt, 5).is_ok();
+    drop(owner);
+    starts
 }
 
 // What became of an operation that got this id and starts a poll.
@@ -66,7 +73,11 @@ fn offer_op<R: Wait>(rt: &R, alloc: Global, recorder: &mut Recorder, id: u64) ->
 // Whether it is the spec of the task of this name.
 fn is_spec_of(alloc: Global, spec: &TaskSpec, name: &[u8]) -> bool {
     match task(alloc, name) {
-        Some(wanted) => *spec == wanted,
+        Some(wanted) => {
+            let is_it = *spec == wanted;
+            drop(wanted);
+            is_it
+        }
         None => false,
     }
 }
@@ -80,10 +91,9 @@ fn refused_task<R: Wait>(
 ) -> Option<RecordError> {
     let spec = task(alloc, name)?;
     let (why, back) = recorder.task(rt, alloc, spec, 4).err()?;
-    if !is_spec_of(alloc, &back, name) {
-        return None;
-    }
-    Some(why)
+    let came_back = is_spec_of(alloc, &back, name);
+    drop(back);
+    came_back.then_some(why)
 }
 
 // Offers a poll where what comes back with an error is of no use.
@@ -217,21 +227,25 @@ fn items_of_each_kind_are_kept_and_dropped(rt: HostRuntime) {
 fn finishes_once(alloc: Global, recorder: Recorder, taker: &mut Taker) -> bool
     requires { recorder.console ≡ taker.old.console }
 {
-    if refusal(taker, Vec::new(alloc)) != Some(FinishError::Missing) {
-        return false;
-    }
+    let missing = refusal(taker, Vec::new(alloc)) == Some(FinishError::Missing);
     let Some(all) = alone(alloc, recorder) else {
         return false;
     };
-    refusal(taker, all).is_none() && refusal(taker, Vec::new(alloc)) == Some(FinishError::Finished)
+    let finished = refusal(taker, all).is_none();
+    missing && finished && refusal(taker, Vec::new(alloc)) == Some(FinishError::Finished)
 }
 
 fn is_finished_once(alloc: Global) -> bool {
     match Console::open(alloc, limits(1, 2, 4)) {
-        Ok((mut recorders, mut taker)) => match recorders.pop() {
-            Some(recorder) => finishes_once(alloc, recorder, &mut taker),
-            None => false,
-        },
+        Ok((mut recorders, mut taker)) => {
+            let finished = match recorders.pop() {
+                Some(recorder) => finishes_once(alloc, recorder, &mut taker),
+                None => false,
+            };
+            drop(recorders);
+            drop(taker);
+            finished
+        }
         Err(_) => false,
     }
 }

@@ -38,7 +38,12 @@ fn refuses_sizes_out_of_range(rt: HostRuntime) {
 // So many recorders are opened, numbered from 1.
 fn opens(alloc: Global, recorders: u64, capacity: u64, offers: u64) -> bool {
     match Console::open(alloc, limits(recorders, capacity, offers)) {
-        Ok((all, _)) => all.last().is_some_and(|last| last.number() == recorders),
+        Ok((all, taker)) => {
+            let opened = all.last().is_some_and(|last| last.number() == recorders);
+            drop(all);
+            drop(taker);
+            opened
+        }
         Err(_) => false,
     }
 }

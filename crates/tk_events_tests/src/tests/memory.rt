@@ -44,7 +44,11 @@ fn make_task<R: Wait>(
     spec: TaskSpec,
 ) -> Result<u64, TaskSpec> {
     match recorder.task(rt, alloc, spec, 4) {
-        Ok((owner, _)) => Ok(owner.id().value()),
+        Ok((owner, _)) => {
+            let id = owner.id().value();
+            drop(owner);
+            Ok(id)
+        }
         Err((_, back)) => Err(back),
     }
 }
@@ -57,7 +61,11 @@ fn make_timed<R: Wait>(
     spec: TaskSpec,
 ) -> Result<u64, TaskSpec> {
     match recorder.task_with_times(rt, alloc, spec, 4) {
-        Ok((owner, _)) => Ok(owner.id().value()),
+        Ok((owner, _)) => {
+            let id = owner.id().value();
+            drop(owner);
+            Ok(id)
+        }
         Err((_, back)) => Err(back),
     }
 }
@@ -69,7 +77,11 @@ fn make_resource<R: Wait>(
     spec: ResourceSpec,
 ) -> Result<u64, ResourceSpec> {
     match recorder.resource(rt, alloc, spec, 4) {
-        Ok((owner, _)) => Ok(owner.id().value()),
+        Ok((owner, _)) => {
+            let id = owner.id().value();
+            drop(owner);
+            Ok(id)
+        }
         Err((_, back)) => Err(back),
     }
 }
@@ -81,7 +93,11 @@ fn make_op<R: Wait>(
     spec: OpSpec,
 ) -> Result<u64, OpSpec> {
     match recorder.async_op(rt, alloc, spec, 4) {
-        Ok((owner, _)) => Ok(owner.id().value()),
+        Ok((owner, _)) => {
+            let id = owner.id().value();
+            drop(owner);
+            Ok(id)
+        }
         Err((_, back)) => Err(back),
     }
 }
@@ -158,6 +174,8 @@ fn what_found_no_memory_is_made_again(rt: HostRuntime) {
         Ok((mut recorders, mut taker)) => {
             assert!(rt; makes_each(&rt, rt.alloc(), &mut recorders));
             assert!(rt; takes_each(&rt, &mut taker));
+            drop(recorders);
+            drop(taker);
         }
         Err(_) => assert!(rt; false, "no console"),
     }

@@ -82,8 +82,7 @@ struct Taken {
 
 impl Taken {
     fn new(alloc: Global, recorders: u64) -> Option<Taken> {
-        let counts = Tally::new(alloc, recorders)?;
-        let last = Tally::new(alloc, recorders)?;
+        let (counts, last) = Tally::new(alloc, recorders).zip(Tally::new(alloc, recorders))?;
         Some(Taken {
             counts,
             last,
@@ -172,9 +171,14 @@ fn keeps_one<R: Threads + Wait + Sync>(
     match Tally::new(alloc, 2) {
         Some(kept) => {
             let retired = offer_in_threads(rt, alloc, recorders, 100, &kept);
-            finish(taker, retired) && kept.total() == 1
+            let kept_one = finish(taker, retired) && kept.total() == 1;
+            drop(kept);
+            kept_one
         }
-        None => false,
+        None => {
+            drop(recorders);
+            false
+        }
     }
 }
 
@@ -193,6 +197,7 @@ fn two_recorders_fill_a_buffer_of_one(rt: HostRuntime) {
         Ok((recorders, mut taker)) => {
             assert!(rt; keeps_one(&rt, rt.alloc(), recorders, &mut taker));
             assert!(rt; dropped_and_left_one(&rt, &mut taker));
+            drop(taker);
         }
         Err(_) => assert!(rt; false, "no console"),
     }
@@ -290,7 +295,9 @@ fn none_is_lost<R: Threads + Wait + Sync>(
                 kept,
                 taken,
             );
-            finished && are_all_taken(rt, &mut taker, limits, kept, taken)
+            let all_taken = finished && are_all_taken(rt, &mut taker, limits, kept, taken);
+            drop(taker);
+            all_taken
         }
         Err(_) => false,
     }
@@ -310,12 +317,15 @@ fn are_all_taken<R: Wait>(
 }
 
 fn is_followed<R: Threads + Wait + Sync>(rt: &R, alloc: Global, limits: Limits) -> bool {
-    match (
-        Tally::new(alloc, limits.recorders),
-        Taken::new(alloc, limits.recorders),
-    ) {
-        (Some(kept), Some(taken)) => none_is_lost(rt, alloc, limits, &kept, &taken),
-        _ => false,
+    let kept = Tally::new(alloc, limits.recorders);
+    match kept.zip(Taken::new(alloc, limits.recorders)) {
+        Some((kept, taken)) => {
+            let none_lost = none_is_lost(rt, alloc, limits, &kept, &taken);
+            drop(kept);
+            drop(taken);
+            none_lost
+        }
+        None => false,
     }
 }
 

@@ -8,10 +8,12 @@ use tk_ledgers::{TaskInspector, TaskOwner};
 
 // Whether the task got this id, has a histogram, and was polled for so many nanoseconds.
 fn is_polled<R: Wait>(rt: &R, mut owner: TaskOwner, id: u64, run: u64) -> bool {
-    owner.id().value() == id
+    let polled = owner.id().value() == id
         && owner.has_times()
         && owner.start_poll(rt, 5).is_ok()
-        && owner.end_poll(rt, run.saturating_add(5)).is_ok()
+        && owner.end_poll(rt, run.saturating_add(5)).is_ok();
+    drop(owner);
+    polled
 }
 
 // What became of a task with a histogram that got this id and was polled.
@@ -34,16 +36,16 @@ fn offer_timed<R: Wait>(
 fn offer_untimed<R: Wait>(rt: &R, alloc: Global, recorder: &mut Recorder) -> Option<Recorded> {
     let spec = task(alloc, b"untimed")?;
     let (owner, recorded) = recorder.task(rt, alloc, spec, 4).ok()?;
-    if owner.has_times() {
-        return None;
-    }
-    Some(recorded)
+    let timed = owner.has_times();
+    drop(owner);
+    (!timed).then_some(recorded)
 }
 
 // Why none is made. The spec that comes back is of no use.
 fn refused_timed<R: Wait>(rt: &R, alloc: Global, recorder: &mut Recorder) -> Option<RecordError> {
     let spec = task(alloc, b"timed")?;
-    let (why, _) = recorder.task_with_times(rt, alloc, spec, 4).err()?;
+    let (why, back) = recorder.task_with_times(rt, alloc, spec, 4).err()?;
+    drop(back);
     Some(why)
 }
 
