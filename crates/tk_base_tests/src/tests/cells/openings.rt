@@ -19,7 +19,10 @@ fn first_reply<O: Sequential, R: Wait>(
     requires role { O.meaning.owner_may call ≡ true }
 {
     let (shared, mut owner) = Shared::new(rt, alloc, row)?;
-    Ok(shared.call(rt, &mut owner, call))
+    let reply = shared.call(rt, &mut owner, call);
+    drop(shared);
+    drop(owner);
+    Ok(reply)
 }
 
 #[test]

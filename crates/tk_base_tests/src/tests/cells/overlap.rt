@@ -143,7 +143,10 @@ fn make_call<O: Sequential, R: Wait>(rt: &R, guest: Guest<O>) -> O::Reply {
         mut token,
         call,
     } = guest;
-    shared.call(rt, &mut token, call)
+    let reply = shared.call(rt, &mut token, call);
+    drop(shared);
+    drop(token);
+    reply
 }
 
 // Begins once the other thread's step has begun, and says that its call was answered.
@@ -180,6 +183,8 @@ fn two_guests<'a, R: Wait>(
     };
     let slow = Use { flags, waits: true };
     let Ok(theirs) = Arc::try_clone(&shared) else {
+        drop(shared);
+        drop(token);
         return None;
     };
     match shared.call(rt, &mut token, quick) {
@@ -197,7 +202,12 @@ fn two_guests<'a, R: Wait>(
             };
             Some((one, two))
         }
-        _ => None,
+        _ => {
+            drop(shared);
+            drop(theirs);
+            drop(token);
+            None
+        }
     }
 }
 

@@ -7,7 +7,6 @@ ghost use Rattle.tk_cell.specs.Roles.{IsOwner, IsMadeBy};
 
 use std::marker::Model;
 use std::sync::{Arc, Wait};
-use std::test::*;
 use std::thread::{Threads, join};
 use tk_cell::{Shared, Token};
 use tk_core::{Reply, TaskCall, TaskRow};
@@ -62,7 +61,10 @@ fn clone_waker<R: Wait>(
                 token,
             })
         }
-        _ => None,
+        _ => {
+            drop(theirs);
+            None
+        }
     }
 }
 
@@ -72,6 +74,7 @@ fn wake<R: Wait>(rt: &R, waker: Waker) -> Token<TaskRow>
 {
     let Waker { shared, mut token } = waker;
     wake_often(rt, &shared, &mut token);
+    drop(shared);
     token
 }
 
@@ -114,15 +117,40 @@ fn wake_twice<R: Wait + Threads + Sync>(
     shared.call(rt, owner, TaskCall::Read)
 }
 
-#[test]
-fn wakes_of_two_threads_add_up(rt: HostRuntime) -> Result<(), Fail> {
-    let (shared, mut owner) = Shared::new(&rt, rt.alloc(), TaskRow::opening(7))?;
-    let one = clone_waker(&rt, &shared, &mut owner).ok_or("no waker")?;
-    let two = clone_waker(&rt, &shared, &mut owner).ok_or("no second waker")?;
-    assert!(rt; one.token.caller() == 1 && two.token.caller() == 2);
-    let Reply::Shown(row) = wake_twice(&rt, &shared, &mut owner, one, two) else {
-        return Err(Fail::from("no row was shown"));
+// What the owner, who is caller 0, reads behind the wakes of callers 1 and 2.
+fn read_behind<R: Wait + Threads + Sync>(
+    rt: &R,
+    shared: &Arc<Shared<TaskRow>>,
+    owner: &mut Token<TaskRow>,
+) -> Option<TaskRow>
+    requires own { owner.old.ledger ≡ arc_value shared.now }
+    requires owner { IsOwner task_meaning owner.old.view }
+{
+    let one = clone_waker(rt, shared, owner)?;
+    let Some(two) = clone_waker(rt, shared, owner) else {
+        drop(one);
+        return None;
     };
-    assert!(rt; row.wakes == 2 * WAKES && row.clones == 2 && row.drops == 0 && owner.caller() == 0);
-    Ok(())
+    let numbered = one.token.caller() == 1 && two.token.caller() == 2;
+    match wake_twice(rt, shared, owner, one, two) {
+        Reply::Shown(row) => (numbered && owner.caller() == 0).then_some(row),
+        _ => None,
+    }
+}
+
+fn counts_all_wakes(row: &TaskRow) -> bool {
+    row.wakes == 2 * WAKES && row.clones == 2 && row.drops == 0
+}
+
+#[test]
+fn wakes_of_two_threads_add_up(rt: HostRuntime) {
+    match Shared::new(&rt, rt.alloc(), TaskRow::opening(7)) {
+        Ok((shared, mut owner)) => {
+            let row = read_behind(&rt, &shared, &mut owner);
+            drop(shared);
+            drop(owner);
+            assert!(rt; row.is_some_and(|row| counts_all_wakes(&row)));
+        }
+        Err(_) => assert!(rt; false, "no ledger"),
+    }
 }

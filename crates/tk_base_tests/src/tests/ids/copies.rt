@@ -1,7 +1,6 @@
 //! Copies of infos.
 
 use std::alloc::Global;
-use std::test::Fail;
 use tk_ids::{
     AsyncOpId, AttrInfo, AttrInfos, AttrKind, Location, Name, OpInfo, ResourceId, ResourceInfo,
     TaskId, TaskInfo, TaskKind,
@@ -12,44 +11,44 @@ const FIRST: u64 = 1099511627777;
 
 const SECOND: u64 = 1099511627778;
 
-fn location(alloc: Global) -> Result<Location, Fail> {
-    let file = Name::new(alloc, b"src/main.rs")?;
-    Ok(Location {
+fn location(alloc: Global) -> Option<Location> {
+    let file = Name::new(alloc, b"src/main.rs").ok()?;
+    Some(Location {
         file,
         line: 12,
         column: 34,
     })
 }
 
-fn attr(name: Name, unit: Option<Name>, kind: AttrKind) -> AttrInfo {
-    AttrInfo { name, unit, kind }
+fn permits(alloc: Global) -> Option<AttrInfo> {
+    let name = Name::new(alloc, b"permits").ok();
+    let (name, unit) = name.zip(Name::new(alloc, b"permits").ok())?;
+    Some(AttrInfo {
+        name,
+        unit: Some(unit),
+        kind: AttrKind::U64,
+    })
 }
 
-fn push_permits(alloc: Global, list: &mut Vec<AttrInfo>) -> Result<(), Fail> {
-    let name = Name::new(alloc, b"permits")?;
-    let unit = Name::new(alloc, b"permits")?;
-    list.push(attr(name, Some(unit), AttrKind::U64))?;
-    Ok(())
+fn closed(alloc: Global) -> Option<AttrInfo> {
+    let name = Name::new(alloc, b"closed").ok()?;
+    Some(AttrInfo {
+        name,
+        unit: None,
+        kind: AttrKind::Bool,
+    })
 }
 
-fn push_closed(alloc: Global, list: &mut Vec<AttrInfo>) -> Result<(), Fail> {
-    let name = Name::new(alloc, b"closed")?;
-    list.push(attr(name, None, AttrKind::Bool))?;
-    Ok(())
+fn attrs(alloc: Global) -> Option<AttrInfos> {
+    let (permits, closed) = permits(alloc).zip(closed(alloc))?;
+    AttrInfos::new(Vec::from_array(alloc, [permits, closed]).ok()?).ok()
 }
 
-fn attrs(alloc: Global) -> Result<AttrInfos, Fail> {
-    let mut list = Vec::new(alloc);
-    push_permits(alloc, &mut list)?;
-    push_closed(alloc, &mut list)?;
-    Ok(AttrInfos::new(list)?)
-}
-
-fn task(alloc: Global) -> Result<TaskInfo, Fail> {
-    let id = TaskId::from_value(FIRST)?;
-    let name = Name::new(alloc, b"accept")?;
-    let location = location(alloc)?;
-    Ok(TaskInfo {
+fn task(alloc: Global) -> Option<TaskInfo> {
+    let id = TaskId::from_value(FIRST).ok()?;
+    let name = Name::new(alloc, b"accept").ok();
+    let (name, location) = name.zip(location(alloc))?;
+    Some(TaskInfo {
         id,
         kind: TaskKind::Blocking,
         name,
@@ -57,16 +56,16 @@ fn task(alloc: Global) -> Result<TaskInfo, Fail> {
     })
 }
 
-fn resource(alloc: Global) -> Result<ResourceInfo, Fail> {
-    let id = ResourceId::from_value(SECOND)?;
-    let parent = Some(ResourceId::from_value(FIRST)?);
-    let concrete = Name::new(alloc, b"Semaphore")?;
-    let kind = Name::new(alloc, b"Sync")?;
-    let location = location(alloc)?;
-    let attrs = attrs(alloc)?;
-    Ok(ResourceInfo {
+fn resource(alloc: Global) -> Option<ResourceInfo> {
+    let first = ResourceId::from_value(FIRST).ok();
+    let (parent, id) = first.zip(ResourceId::from_value(SECOND).ok())?;
+    let concrete = Name::new(alloc, b"Semaphore").ok();
+    let names = concrete.zip(Name::new(alloc, b"Sync").ok());
+    let rest = location(alloc).zip(attrs(alloc));
+    let ((concrete, kind), (location, attrs)) = names.zip(rest)?;
+    Some(ResourceInfo {
         id,
-        parent,
+        parent: Some(parent),
         concrete,
         kind,
         location,
@@ -74,77 +73,76 @@ fn resource(alloc: Global) -> Result<ResourceInfo, Fail> {
     })
 }
 
-fn op(alloc: Global) -> Result<OpInfo, Fail> {
-    let id = AsyncOpId::from_value(SECOND)?;
-    let resource = ResourceId::from_value(FIRST)?;
-    let parent = Some(AsyncOpId::from_value(FIRST)?);
-    let source = Name::new(alloc, b"Semaphore::acquire")?;
-    let attrs = attrs(alloc)?;
-    Ok(OpInfo {
+fn op(alloc: Global) -> Option<OpInfo> {
+    let first = AsyncOpId::from_value(FIRST).ok();
+    let (parent, id) = first.zip(AsyncOpId::from_value(SECOND).ok())?;
+    let resource = ResourceId::from_value(FIRST).ok()?;
+    let source = Name::new(alloc, b"Semaphore::acquire").ok();
+    let (source, attrs) = source.zip(attrs(alloc))?;
+    Some(OpInfo {
         id,
         source,
         resource,
-        parent,
+        parent: Some(parent),
         attrs,
     })
 }
 
-fn is_task_copied(info: &TaskInfo) -> Result<bool, Fail> {
-    let copy = info.copy()?;
-    Ok(copy == *info)
+// Whether this was made, and is equal.
+fn is_equal<T: PartialEq + Drop>(made: Option<T>, wanted: &T) -> bool {
+    match made {
+        Some(it) => it == *wanted,
+        None => false,
+    }
 }
 
-fn is_task_cloned(info: &TaskInfo) -> Result<bool, Fail> {
-    let clone = info.clone()?;
-    Ok(clone == *info)
+fn is_task_copied(info: &TaskInfo) -> bool {
+    is_equal(info.copy().ok(), info)
+        && is_equal(info.clone().ok(), info)
+        && is_equal(info.location.clone().ok(), &info.location)
 }
 
-fn is_resource_copied(info: &ResourceInfo) -> Result<bool, Fail> {
-    let copy = info.copy()?;
-    Ok(copy == *info && copy.attrs.as_slice() == info.attrs.as_slice())
+fn is_resource_copied(info: &ResourceInfo) -> bool {
+    match info.copy().ok() {
+        Some(copy) => {
+            let has_attrs = copy.attrs.as_slice() == info.attrs.as_slice();
+            is_equal(Some(copy), info) && has_attrs && is_equal(info.clone().ok(), info)
+        }
+        None => false,
+    }
 }
 
-fn is_resource_cloned(info: &ResourceInfo) -> Result<bool, Fail> {
-    let clone = info.clone()?;
-    Ok(clone == *info)
+fn is_op_copied(info: &OpInfo) -> bool {
+    match info.copy().ok() {
+        Some(copy) => {
+            let has_attrs = copy.attrs.as_slice() == info.attrs.as_slice();
+            is_equal(Some(copy), info) && has_attrs && is_equal(info.clone().ok(), info)
+        }
+        None => false,
+    }
 }
 
-fn is_op_copied(info: &OpInfo) -> Result<bool, Fail> {
-    let copy = info.copy()?;
-    Ok(copy == *info && copy.attrs.as_slice() == info.attrs.as_slice())
-}
-
-fn is_op_cloned(info: &OpInfo) -> Result<bool, Fail> {
-    let clone = info.clone()?;
-    Ok(clone == *info)
-}
-
-fn is_location_cloned(location: &Location) -> Result<bool, Fail> {
-    let clone = location.clone()?;
-    Ok(clone == *location)
-}
-
-#[test]
-fn copies_a_task(rt: HostRuntime) -> Result<(), Fail> {
-    let info = task(rt.alloc())?;
-    assert!(rt; is_task_copied(&info)?, "a copy");
-    assert!(rt; is_task_cloned(&info)?, "a clone");
-    assert!(rt; is_location_cloned(&info.location)?, "its location");
-    Ok(())
-}
-
-#[test]
-fn copies_a_resource(rt: HostRuntime) -> Result<(), Fail> {
-    let info = resource(rt.alloc())?;
-    assert!(rt; is_resource_copied(&info)?, "a copy");
-    assert!(rt; is_resource_cloned(&info)?, "a clone");
-    Ok(())
+// Whether a check holds of what was made.
+fn holds_of<T: Drop, F: FnOnce(&T) -> bool>(made: Option<T>, check: F) -> bool
+    requires { F.IsAlwaysCallable check }
+{
+    match made {
+        Some(it) => check(&it),
+        None => false,
+    }
 }
 
 #[test]
-fn copies_an_operation(rt: HostRuntime) -> Result<(), Fail> {
-    let info = op(rt.alloc())?;
-    assert!(rt; is_op_copied(&info)?, "a copy");
-    assert!(rt; is_op_cloned(&info)?, "a clone");
-    Ok(())
+fn copies_a_task(rt: HostRuntime) {
+    assert!(rt; holds_of(task(rt.alloc()), is_task_copied));
+}
+
+#[test]
+fn copies_a_resource(rt: HostRuntime) {
+    assert!(rt; holds_of(resource(rt.alloc()), is_resource_copied));
+}
+
+#[test]
+fn copies_an_operation(rt: HostRuntime) {
+    assert!(rt; holds_of(op(rt.alloc()), is_op_copied));
 }

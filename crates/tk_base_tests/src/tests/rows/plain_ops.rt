@@ -57,6 +57,32 @@ fn changes(alloc: Global, index: u64, history: &[OpEntry]) -> Result<Vec<AttrOp>
     Ok(changes)
 }
 
+// An attribute's value, which is this before all changes.
+fn value_at(
+    alloc: Global,
+    index: u64,
+    first: AttrValue,
+    history: &[OpEntry],
+) -> Result<AttrValue, AllocError> {
+    let changes = changes(alloc, index, history)?;
+    let value = value(first, changes.as_slice());
+    drop(changes);
+    Ok(value)
+}
+
+fn values(
+    alloc: Global,
+    firsts: &[AttrValue; 4],
+    history: &[OpEntry],
+) -> Result<AttrValues, AllocError> {
+    Ok(AttrValues::new(&[
+        value_at(alloc, 0, firsts[0], history)?,
+        value_at(alloc, 1, firsts[1], history)?,
+        value_at(alloc, 2, firsts[2], history)?,
+        value_at(alloc, 3, firsts[3], history)?,
+    ]))
+}
+
 /// The row that a history leaves.
 pub fn row(
     alloc: Global,
@@ -64,15 +90,15 @@ pub fn row(
     firsts: &[AttrValue; 4],
     history: &[OpEntry],
 ) -> Result<OpRow, AllocError> {
+    let attrs = values(alloc, firsts, history)?;
     let points = points(alloc, history)?;
-    let points = points.as_slice();
-    let values = [
-        value(firsts[0], changes(alloc, 0, history)?.as_slice()),
-        value(firsts[1], changes(alloc, 1, history)?.as_slice()),
-        value(firsts[2], changes(alloc, 2, history)?.as_slice()),
-        value(firsts[3], changes(alloc, 3, history)?.as_slice()),
-    ];
-    Ok(OpRow {
+    let row = row_of(created, points.as_slice(), attrs, history);
+    drop(points);
+    Ok(row)
+}
+
+fn row_of(created: u64, points: &[Point], attrs: AttrValues, history: &[OpEntry]) -> OpRow {
+    OpRow {
         created,
         dropped: history.iter().filter_map(close).next(),
         polls: polls(points),
@@ -83,8 +109,8 @@ pub fn row(
         handles: history.iter().filter(|entry| draws(entry)).count() as u64,
         task: history.iter().filter_map(task).last(),
         polling: is_polling(points),
-        attrs: AttrValues::new(&values),
-    })
+        attrs,
+    }
 }
 
 /// The first refusal that applies to a call on a row.

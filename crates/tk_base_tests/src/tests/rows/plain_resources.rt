@@ -35,6 +35,19 @@ fn changes(
     Ok(changes)
 }
 
+// An attribute's value, which is this before all changes.
+fn value_at(
+    alloc: Global,
+    index: u64,
+    first: AttrValue,
+    history: &[ResourceEntry],
+) -> Result<AttrValue, AllocError> {
+    let changes = changes(alloc, index, history)?;
+    let value = value(first, changes.as_slice());
+    drop(changes);
+    Ok(value)
+}
+
 /// The row that a history leaves.
 pub fn row(
     alloc: Global,
@@ -43,10 +56,10 @@ pub fn row(
     history: &[ResourceEntry],
 ) -> Result<ResourceRow, AllocError> {
     let values = [
-        value(firsts[0], changes(alloc, 0, history)?.as_slice()),
-        value(firsts[1], changes(alloc, 1, history)?.as_slice()),
-        value(firsts[2], changes(alloc, 2, history)?.as_slice()),
-        value(firsts[3], changes(alloc, 3, history)?.as_slice()),
+        value_at(alloc, 0, firsts[0], history)?,
+        value_at(alloc, 1, firsts[1], history)?,
+        value_at(alloc, 2, firsts[2], history)?,
+        value_at(alloc, 3, firsts[3], history)?,
     ];
     Ok(ResourceRow {
         created,

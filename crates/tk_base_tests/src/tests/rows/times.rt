@@ -25,31 +25,31 @@ fn a_time_lies_above_the_bounds_that_it_has_reached(rt: HostRuntime) {
         67_108_864,
     ];
     let row = after(TimesRow::opening(), &times);
-    assert_eq!(rt; row.counts, [1, 2, 1, 0, 0, 0, 0, 0, 0, 0, 0, 0, 1, 2]);
-    assert_eq!(rt; row.longest, 2_000_000_000);
+    assert!(rt; row.counts == [1, 2, 1, 0, 0, 0, 0, 0, 0, 0, 0, 0, 1, 2]);
+    assert!(rt; row.longest == 2_000_000_000);
 }
 
 #[test]
 fn a_histogram_in_words(rt: HostRuntime) {
     let row = after(TimesRow::opening(), &[40_000, 5]);
     let words = [0, 40_000, 1, 0, 1, 0, 0, 0, 0, 0, 0, 0, 0, 0, 0, 0];
-    assert_eq!(rt; row.to_words(), words);
-    assert_eq!(rt; TimesRow::from_words(&words), Some(row));
-    assert_eq!(rt; TimesRow::opening().to_words(), [0; 16]);
+    assert!(rt; row.to_words() == words);
+    assert!(rt; TimesRow::from_words(&words) == Some(row));
+    assert!(rt; TimesRow::opening().to_words() == [0; 16]);
 }
 
 #[test]
 fn inspectors_are_numbered_until_none_is_left(rt: HostRuntime) {
     let (one, first) = TimesRow::opening().step(TimesCall::Enlist);
     let (two, second) = one.step(TimesCall::Enlist);
-    assert_eq!(rt; (first, second), (Reply::Number(1), Reply::Number(2)));
-    assert_eq!(rt; two.step(TimesCall::Read), (two, Reply::Shown(two)));
+    assert!(rt; (first, second) == (Reply::Number(1), Reply::Number(2)));
+    assert!(rt; two.step(TimesCall::Read) == (two, Reply::Shown(two)));
     let spent = TimesRow {
         handles: MOST_HANDLES,
         ..two
     };
     let refused = Reply::Refused(Refusal::HandlesSpent);
-    assert_eq!(rt; spent.step(TimesCall::Enlist), (spent, refused));
+    assert!(rt; spent.step(TimesCall::Enlist) == (spent, refused));
 }
 
 #[test]
@@ -60,7 +60,7 @@ fn a_count_stays_at_its_greatest(rt: HostRuntime) {
         longest: 9,
         counts: [most, 0, 0, 0, 0, 0, 0, 0, 0, 0, 0, 0, 0, 0],
     };
-    assert_eq!(rt; after(row, &[5]), row);
+    assert!(rt; after(row, &[5]) == row);
 }
 
 // Ninety-eight short times and two long ones.
@@ -71,10 +71,10 @@ fn percentiles_lie_where_so_many_times_are(rt: HostRuntime) {
         longest: 2_000_000_000,
         counts: [0, 98, 0, 0, 0, 0, 0, 0, 0, 0, 0, 0, 0, 2],
     };
-    assert_eq!(rt; row.percentile(1), Some(1));
-    assert_eq!(rt; row.percentile(50), Some(1));
-    assert_eq!(rt; row.percentile(98), Some(1));
-    assert_eq!(rt; row.percentile(99), Some(13));
-    assert_eq!(rt; row.percentile(100), Some(13));
-    assert_eq!(rt; TimesRow::opening().percentile(50), None);
+    assert!(rt; row.percentile(1) == Some(1));
+    assert!(rt; row.percentile(50) == Some(1));
+    assert!(rt; row.percentile(98) == Some(1));
+    assert!(rt; row.percentile(99) == Some(13));
+    assert!(rt; row.percentile(100) == Some(13));
+    assert!(rt; TimesRow::opening().percentile(50) == None);
 }

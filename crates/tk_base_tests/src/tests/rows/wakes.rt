@@ -49,16 +49,15 @@ const WAKES: [Wake; 8] = [
 fn counts_wakes_clones_and_drops(rt: HostRuntime) {
     for wake in &WAKES {
         let (row, reply) = run(100, wake.calls);
-        assert_eq!(rt; reply, wake.reply, "{}", wake.case);
-        assert_eq!(rt;
+        assert!(rt; reply == wake.reply, "{}", wake.case);
+        assert!(rt;
             (
                 row.wakes,
                 row.self_wakes,
                 row.clones,
                 row.drops,
                 row.last_wake
-            ),
-            (
+            ) == (
                 wake.wakes,
                 wake.self_wakes,
                 wake.clones,
@@ -76,8 +75,8 @@ fn numbers_of_handles_rise_by_one(rt: HostRuntime) {
     let calls = [TaskCall::CloneWaker, TaskCall::Enlist, TaskCall::CloneWaker];
     for n in 0..3 {
         let (row, reply) = run(0, &calls[..=n]);
-        assert_eq!(rt; reply, Reply::Number(n as u64 + 1));
-        assert_eq!(rt; row.handles, n as u64 + 1);
+        assert!(rt; reply == Reply::Number(n as u64 + 1));
+        assert!(rt; row.handles == n as u64 + 1);
     }
 }
 
@@ -92,15 +91,9 @@ fn spent() -> TaskRow {
 #[test]
 fn no_more_handles_than_the_limit(rt: HostRuntime) {
     for call in [TaskCall::CloneWaker, TaskCall::Enlist] {
-        assert_eq!(rt;
-            spent().step(call),
-            (spent(), Reply::Refused(Refusal::HandlesSpent))
-        );
+        assert!(rt; spent().step(call) == (spent(), Reply::Refused(Refusal::HandlesSpent)));
     }
-    assert_eq!(rt;
-        spent().step(TaskCall::Read),
-        (spent(), Reply::Shown(spent()))
-    );
+    assert!(rt; spent().step(TaskCall::Read) == (spent(), Reply::Shown(spent())));
 }
 
 /// A step through the bound alone.
@@ -111,6 +104,6 @@ fn stepped<S: Sequential>(row: &S, call: S::Call) -> (S, S::Reply) {
 #[test]
 fn a_task_is_stepped_through_the_trait(rt: HostRuntime) {
     let (row, reply) = stepped(&TaskRow::opening(7), TaskCall::CloneWaker);
-    assert_eq!(rt; reply, Reply::Number(1));
-    assert_eq!(rt; (row.clones, row.handles), (1, 1));
+    assert!(rt; reply == Reply::Number(1));
+    assert!(rt; (row.clones, row.handles) == (1, 1));
 }

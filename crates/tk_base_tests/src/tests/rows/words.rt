@@ -20,11 +20,10 @@ fn a_task_in_words(rt: HostRuntime) {
         TaskCall::Close(400),
     ];
     let (row, _) = super::polls::run(100, &calls);
-    assert_eq!(rt; row.to_words(), TASK);
-    assert_eq!(rt; TaskRow::from_words(&TASK), Some(row));
-    assert_eq!(rt;
-        TaskRow::opening(7).to_words(),
-        [64, 7, 0, 0, 0, 0, 0, 0, 0, 0, 0, 0, 0, 0, 0, 0]
+    assert!(rt; row.to_words() == TASK);
+    assert!(rt; TaskRow::from_words(&TASK) == Some(row));
+    assert!(rt;
+        TaskRow::opening(7).to_words() == [64, 7, 0, 0, 0, 0, 0, 0, 0, 0, 0, 0, 0, 0, 0, 0]
     );
 }
 
@@ -51,8 +50,8 @@ const RESOURCE: [u64; 16] = [
 #[test]
 fn a_resource_in_words(rt: HostRuntime) {
     let row = ResourceRow::opening(20, &[AttrValue::U64(5), AttrValue::Bool(true)]);
-    assert_eq!(rt; row.to_words(), RESOURCE);
-    assert_eq!(rt; ResourceRow::from_words(&RESOURCE), Some(row));
+    assert!(rt; row.to_words() == RESOURCE);
+    assert!(rt; ResourceRow::from_words(&RESOURCE) == Some(row));
 }
 
 // Bit 24 + i says that attribute i is signed, and its word is the number's two's complement: 2^64 - 3 of -3.
@@ -83,8 +82,8 @@ fn a_resource_with_signed_numbers_in_words(rt: HostRuntime) {
         AttrValue::I64(-9223372036854775808),
     ];
     let row = ResourceRow::opening(20, &values);
-    assert_eq!(rt; row.to_words(), SIGNED_RESOURCE);
-    assert_eq!(rt; ResourceRow::from_words(&SIGNED_RESOURCE), Some(row));
+    assert!(rt; row.to_words() == SIGNED_RESOURCE);
+    assert!(rt; ResourceRow::from_words(&SIGNED_RESOURCE) == Some(row));
 }
 
 // Flags: the poll that is open, and one attribute.
@@ -113,8 +112,8 @@ fn an_operation_in_words(rt: HostRuntime) -> Result<(), Fail> {
     let (row, _) = OpRow::opening(30, &[AttrValue::U64(9)]).step(OpCall::SetTask(task));
     let (row, _) = row.step(OpCall::Enlist);
     let (row, _) = row.step(OpCall::PollStart(40));
-    assert_eq!(rt; row.to_words(), OP);
-    assert_eq!(rt; OpRow::from_words(&OP), Some(row));
+    assert!(rt; row.to_words() == OP);
+    assert!(rt; OpRow::from_words(&OP) == Some(row));
     Ok(())
 }
 
@@ -149,8 +148,8 @@ fn an_operation_with_signed_numbers_in_words(rt: HostRuntime) {
         AttrValue::I64(-5),
     ];
     let row = OpRow::opening(30, &values);
-    assert_eq!(rt; row.to_words(), SIGNED_OP);
-    assert_eq!(rt; OpRow::from_words(&SIGNED_OP), Some(row));
+    assert!(rt; row.to_words() == SIGNED_OP);
+    assert!(rt; OpRow::from_words(&SIGNED_OP) == Some(row));
 }
 
 // Words that no row has, each by one word of a row that was changed.
@@ -171,7 +170,7 @@ fn words_of_no_task(rt: HostRuntime) {
         if index < 16 {
             words[index] = word;
         }
-        assert_eq!(rt; TaskRow::from_words(&words), None, "{case}");
+        assert!(rt; TaskRow::from_words(&words) == None, "{case}");
     }
 }
 
@@ -197,7 +196,7 @@ fn words_of_no_resource(rt: HostRuntime) {
         if index < 16 {
             words[index] = word;
         }
-        assert_eq!(rt; ResourceRow::from_words(&words), None, "{case}");
+        assert!(rt; ResourceRow::from_words(&words) == None, "{case}");
     }
 }
 
@@ -220,6 +219,6 @@ fn words_of_no_operation(rt: HostRuntime) {
         if index < 16 {
             words[index] = word;
         }
-        assert_eq!(rt; OpRow::from_words(&words), None, "{case}");
+        assert!(rt; OpRow::from_words(&words) == None, "{case}");
     }
 }
