@@ -8,8 +8,9 @@ use Rattle.tk_core.specs.History.{calls_of}
 use Rattle.tk_core.specs.Legal.{may_call, has_ended}
 use Rattle.tk_cell.specs.declared.view.View.{View}
 use Rattle.tk_cell.specs.Views.{after_split, split_off}
-use Rattle.tk_cell.specs.Calls.{Calls, Joins}
-use Rattle.tk_cell.proofs.RoleLemmas.{owner_role, made_role, owner_calls, made_calls, owner_after_split, made_after_split, owner_joins, made_joins, drawn_made, call_reply}
+use Rattle.tk_cell.specs.Calls.{Calls, Joins, Meets}
+use Rattle.tk_cell.specs.Ours.{CallsBeside}
+use Rattle.tk_cell.proofs.RoleLemmas.{owner_role, made_role, owner_calls, made_calls, owner_after_split, made_after_split, owner_joins, made_joins, drawn_made, call_reply, second_caller, second_begins, second_mine, later_owner, later_made}
 use Rattle.tk_ledgers.specs.Handles.{Caller, owner, made_by, role_may, HasRole, Gives, IsDrawing, IsReading, IsWake}
 
 module _ {O C R : Type 0} (m : Meaning O C R) where
@@ -32,6 +33,15 @@ module _ {O C R : Type 0} (m : Meaning O C R) where
   pub role_joins : (role : Caller C) (v other w : View O C R) → Joins m v other w → HasRole m role v → HasRole m role w
   role_joins owner v other w k has = owner_joins m v other w k has
   role_joins (made_by made) v other w k has = made_joins m v other w k made has
+
+  role_meets : (role : Caller C) (v q w u : View O C R) → Meets m v q w u → HasRole m role q → HasRole m role u
+  role_meets owner v q w u k has = later_owner m q u (second_caller m v q w u k) (second_begins m v q w u k) (second_mine m v q w u k) has
+  role_meets (made_by made) v q w u k has = later_made m q u (second_caller m v q w u k) (second_begins m v q w u k) (second_mine m v q w u k) made has
+
+  -- beside another token
+  pub role_beside : (role : Caller C) (v q w u : View O C R) (call : C) (reply : R) → CallsBeside m v q call reply w u → m.is_last call ≡ false → HasRole m role q → HasRole m role u
+  role_beside role v q w u call reply k isnt has =
+      role_meets role k.v_met k.q_called w u k.again (role_calls role k.q_met call reply k.q_called k.entry isnt (role_meets role v q k.v_met k.q_met k.before has))
 
   -- the caller of a number that was drawn has the role that the drawing call gives
   pub drawn_role : (role : Caller C) (v : View O C R) (call : C) (reply : R) (w : View O C R) → Calls m v call reply w → NumbersAreNew m → role ≡ made_by call → (n : ℕ) → m.number reply ≡ Some n → HasRole m role (split_off n w)

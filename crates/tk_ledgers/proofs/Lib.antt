@@ -17,3 +17,7 @@ pub mod TimesLemmas
 pub mod TimedLemmas
 pub mod TimesReadingLemmas
 pub mod BesideLemmas
+pub mod CallersLemmas
+pub mod HandLemmas
+pub mod HeldLemmas
+pub mod ToldLemmas

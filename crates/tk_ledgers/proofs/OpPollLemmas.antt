@@ -1,6 +1,6 @@
 -- Async operations, as items that their owner alone polls and closes.
 use Rattle.std.proofs.Common.{◌≡◌, ◌≢◌, ℕ, ◌+◌, ◌^◌, Bool, true, false, if◌then◌else◌, List, Option, Some, None, Result, Ok, Err, IfErr, refl, ap, sym, ◌∙◌, true≢false}
-use Rattle.std.specs.Prelude.{nat_lt, nat_le, slice_get, ◌+ℤ◌, ◌-ℤ◌}
+use Rattle.std.specs.Prelude.{◌&&◌, not, nat_lt, nat_le, slice_get, ◌+ℤ◌, ◌-ℤ◌}
 use Rattle.tk_ids.specs.declared.attr.AttrValue.{AttrValue}
 use Rattle.tk_ids.specs.declared.attr.AttrValue.TheVariants as values
 use Rattle.tk_core.specs.Attributes.{refused_by, is_i64}
@@ -19,7 +19,7 @@ use Rattle.tk_core.specs.Polls.{starts_or_ends, is_polling}
 use Rattle.tk_core.specs.History.{accepted, calls_of}
 use Rattle.tk_core.specs.Fold.{refused_or, is_accepted, fold_of, answer_at, row_after, reply_after}
 use Rattle.tk_core.specs.Legal.{IsLegal}
-use Rattle.tk_core.specs.Op.{start_at, end_at, close_at, row_of, op_kind, made_may, inspector_may}
+use Rattle.tk_core.specs.Op.{start_at, end_at, close_at, row_of, op_kind, made_may, inspector_may, wants_idle, wants_polling}
 use Rattle.tk_core.specs.OpMeaning.{op_meaning}
 use Rattle.tk_core.specs.Laws.OpLaws.{legal_fold}
 use Rattle.tk_cell.specs.declared.view.View.{View}
@@ -100,6 +100,14 @@ op_polls = record {
   end_answer = end_answer;
   close_answer = close_answer;
 }
+
+-- why a start of a poll, its end, a close or a change of the task is refused, if it is
+abbrev pub refusal_by : OpCall → Bool → Bool → Option Refusal
+refusal_by call closed polling =
+    if closed then Some Closed
+    else if wants_idle call && polling then Some AlreadyPolling
+    else if wants_polling call && not polling then Some NotPolling
+    else None
 
 -- a task that the owner sets is taken: it hasn't closed the operation
 pub task_is_set : (v : View OpRow OpCall (Reply OpRow)) (id : ℕ) (reply : Reply OpRow) (w : View OpRow OpCall (Reply OpRow)) → Calls op_meaning v (SetTask id) reply w → IsOwner op_meaning v → (polling : Bool) → Keeps op_polls v polling → reply ≡ Done

@@ -50,10 +50,10 @@ module _ {Row C : Type 0} (m : Meaning Row C (Reply Row)) where
 
   module _ {X : Type 0} (f : C → Option X) (others : (made call : C) → m.made_may made call ≡ true → f call ≡ None) where
     -- whoever isn't the owner makes no such call
-    abbrev OthersMakeNone : List (Entry C (Reply Row)) → Type 0
+    abbrev pub OthersMakeNone : List (Entry C (Reply Row)) → Type 0
     OthersMakeNone h = (before later : List (Entry C (Reply Row))) (e : Entry C (Reply Row)) → before ++ e ∷ later ≡ h → (e.caller == 0) ≡ false → f e.call ≡ None
 
-    abbrev picked : List (Entry C (Reply Row)) → List X
+    abbrev pub picked : List (Entry C (Reply Row)) → List X
     picked h = filter_map f (accepted is_accepted h)
 
     abbrev one : Entry C (Reply Row) → List X
@@ -78,7 +78,7 @@ module _ {Row C : Type 0} (m : Meaning Row C (Reply Row)) where
         go true = rw none refl
         go false = refl
 
-    same_picked : (h : List (Entry C (Reply Row))) → OthersMakeNone h → picked h ≡ picked (own 0 h)
+    pub same_picked : (h : List (Entry C (Reply Row))) → OthersMakeNone h → picked h ≡ picked (own 0 h)
     same_picked [] none = refl
     same_picked (e ∷ h) none =
         let rest = same_picked h (λ before later x cut. none (e ∷ before) later x (ap (λ (l : List (Entry C (Reply Row))). e ∷ l) cut)) in
@@ -88,7 +88,7 @@ module _ {Row C : Type 0} (m : Meaning Row C (Reply Row)) where
         go true is rest = ap (λ (l : List X). one e ++ l) rest ∙ sym (picked_cons e (own 0 h))
         go false is rest = ap (λ (l : List X). l ++ picked h) (one_none e (none [] h e refl is)) ∙ rest
 
-    legal_others : (opening : Row) (h : List (Entry C (Reply Row))) → IsLegal m opening h → OthersMakeNone h
+    pub legal_others : (opening : Row) (h : List (Entry C (Reply Row))) → IsLegal m opening h → OthersMakeNone h
     legal_others opening h legal before later e cut isnt = with_role (e.caller == 0) isnt (legal before later e cut).role
       where
         by_maker : (o : Option C) → option_map_or (λ made. m.made_may made e.call) o false ≡ true → f e.call ≡ None

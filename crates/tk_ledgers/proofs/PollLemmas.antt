@@ -79,14 +79,14 @@ module _ {Row C : Type 0} {m : Meaning Row C (Reply Row)} (p : Polled m) where
     pub reply_at : reply ≡ answer_at p.kind at call
     reply_at = call_reply m v call reply w k ∙ p.replies k.opening (v.seen ++ k.between) call (legal_before m v call reply w k o)
 
-    polling_at : p.polling at ≡ is_polling p.start_at p.end_at (owned v)
+    pub polling_at : p.polling at ≡ is_polling p.start_at p.end_at (owned v)
     polling_at = p.polling_is k.opening (v.seen ++ k.between)
         ∙ ap (λ (x : Option Bool). unwrap_or x false) (last_before m poll_of (λ made c may. (p.made_quiet made c may).0) v call reply w k o)
 
     pub dropped_at : p.dropped at ≡ last_of p.close_at (owned v)
     dropped_at = p.dropped_is k.opening (v.seen ++ k.between) ∙ last_before m p.close_at (λ made c may. (p.made_quiet made c may).1) v call reply w k o
 
-    polling_then : is_polling p.start_at p.end_at (owned w) ≡ unwrap_or (option_or (cond (is_accepted reply) (poll_of call) None) (last_of poll_of (owned v))) false
+    pub polling_then : is_polling p.start_at p.end_at (owned w) ≡ unwrap_or (option_or (cond (is_accepted reply) (poll_of call) None) (last_of poll_of (owned v))) false
     polling_then = ap (λ (x : Option Bool). unwrap_or x false) (last_after m poll_of (λ made c may. (p.made_quiet made c may).0) v call reply w k o)
 
     closed_then : last_of p.close_at (owned w) ≡ option_or (cond (is_accepted reply) (p.close_at call) None) (last_of p.close_at (owned v))

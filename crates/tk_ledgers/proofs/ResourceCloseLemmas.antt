@@ -1,5 +1,6 @@
 -- A resource is closed by its owner alone, who makes no call after it.
-use Rattle.std.proofs.Common.{◌≡◌, ℕ, true, cond, [], Option, None, refl, ap, sym, ◌∙◌, subst}
+use Rattle.std.proofs.Common.{◌≡◌, ℕ, true, cond, if◌then◌else◌, [], Option, Some, None, Result, Ok, Err, OnOk, IfErr, refl, ap, sym, ◌∙◌, subst}
+use Rattle.std.specs.Prelude.{is_some}
 use Rattle.std.specs.Option.{option_or}
 use Rattle.std.proofs.Common.{Bool, false, ◌++◌}
 use Rattle.tk_core.specs.declared.reply.Refusal.{Refusal}
@@ -11,17 +12,19 @@ use Rattle.tk_core.specs.declared.resource.call.ResourceCall.{ResourceCall}
 use Rattle.tk_core.specs.declared.resource.call.ResourceCall.TheVariants.{Close, Attr, Enlist, Read}
 use Rattle.tk_core.specs.Lists.{last_of}
 use Rattle.tk_core.specs.History.{accepted}
-use Rattle.tk_core.specs.Fold.{is_accepted, fold_of, answer_at, row_after, reply_after}
+use Rattle.tk_core.specs.Fold.{is_accepted, refused_or, fold_of, answer_at, row_after, reply_after}
 use Rattle.tk_core.specs.Legal.{own}
 use Rattle.tk_core.specs.Resource.{close_at, row_of, resource_kind, made_may, user_may}
 use Rattle.tk_core.specs.ResourceMeaning.{resource_meaning}
 use Rattle.tk_core.specs.Laws.ResourceLaws.{legal_fold}
 use Rattle.tk_cell.specs.declared.view.View.{View}
-use Rattle.tk_cell.specs.Views.{Known}
+use Rattle.tk_cell.specs.Views.{Known, as_caller}
 use Rattle.tk_cell.specs.Calls.{Calls}
 use Rattle.tk_cell.specs.Roles.{IsOwner}
 use Rattle.tk_cell.proofs.RoleLemmas.{call_reply}
-use Rattle.tk_ledgers.specs.Handles.{Drew, NotDrawn}
+use Rattle.tk_ledgers.specs.Callers.{CallsAs}
+use Rattle.tk_ledgers.specs.Handles.{Caller, Drew, NotDrawn}
+use Rattle.tk_ledgers.specs.Hands.{IsHand}
 use Rattle.tk_ledgers.proofs.OwnerLemmas.{legal_before, last_before, last_after}
 
 abbrev Seen : Type 0
@@ -33,7 +36,7 @@ user_open (Attr i change) may = refl
 user_open Enlist may = refl
 user_open Read may = refl
 
-made_open : (made call : ResourceCall) → made_may made call ≡ true → close_at call ≡ None
+pub made_open : (made call : ResourceCall) → made_may made call ≡ true → close_at call ≡ None
 made_open (Close m) call may = absurd cc
 made_open (Attr i change) call may = absurd cc
 made_open Enlist call may = user_open call may
@@ -89,3 +92,37 @@ kept_not_drawn old call Closed new none o quiet keeps = absurd none
 kept_not_drawn old call NoAttribute new none o quiet keeps = absurd none
 kept_not_drawn old call WrongKind new none o quiet keeps = absurd none
 kept_not_drawn old call OutOfRange new none o quiet keeps = absurd none
+
+-- a close in a hand is refused where its owner has closed the resource
+close_answer : (row : ResourceRow) (m : ℕ) → answer_at resource_kind row (Close m) ≡ refused_or (if is_some row.dropped then Some Closed else None) Done
+close_answer row m = refl
+
+abbrev closed_in : Seen → Bool
+closed_in v = is_some (last_of close_at (accepted is_accepted (own 0 v.seen)))
+
+module _ (role : Caller ResourceCall) (old new : Known ResourceRow ResourceCall (Reply ResourceRow)) (hand : IsHand resource_meaning role old.view) (m : ℕ) where
+  answered : (reply : Reply ResourceRow) → CallsAs resource_meaning old 0 (Close m) reply new → reply ≡ refused_or (if closed_in old.view then Some Closed else None) Done
+  answered reply k =
+      let o : IsOwner resource_meaning (as_caller 0 old.view) = record { caller = refl; going = hand.owner_goes_on } in
+      reply_at (as_caller 0 old.view) (Close m) reply new.view k.made o
+      ∙ (close_answer (at (as_caller 0 old.view) (Close m) reply new.view k.made o) m
+      ∙ ap (λ (d : Option ℕ). refused_or (if is_some d then Some Closed else None) Done) (dropped_at (as_caller 0 old.view) (Close m) reply new.view k.made o))
+
+  not_closed : (b : Bool) → ◌≡◌ {A = Reply ResourceRow} Done (refused_or (if b then Some Closed else None) Done) → b ≡ false
+  not_closed true e = absurd cc
+  not_closed false e = refl
+
+  was_closed : (b : Bool) (r : Refusal) → ◌≡◌ {A = Reply ResourceRow} (Refused r) (refused_or (if b then Some Closed else None) Done) → (r ≡ Closed) × (b ≡ true)
+  was_closed true r e = (cc, refl)
+  was_closed false r e = absurd cc
+
+  pub hand_closed : (result : Result (Unit {0}) Refusal) → OnOk result (CallsAs resource_meaning old 0 (Close m) Done new) → OnOk result ((closed_in old.view ≡ false) × CallsAs resource_meaning old 0 (Close m) Done new)
+  hand_closed (Ok x) ok = (not_closed (closed_in old.view) (answered Done ok), ok)
+  hand_closed (Err r) ok = ok
+
+  pub hand_not_closed : (result : Result (Unit {0}) Refusal) → IfErr result (λ r. CallsAs resource_meaning old 0 (Close m) (Refused r) new)
+      → IfErr result (λ r. (r ≡ Closed) × (closed_in old.view ≡ true) × CallsAs resource_meaning old 0 (Close m) (Refused Closed) new)
+  hand_not_closed (Ok x) err = err
+  hand_not_closed (Err r) err =
+      let is = was_closed (closed_in old.view) r (answered (Refused r) err) in
+      (is.0, is.1, subst (λ (s : Refusal). CallsAs resource_meaning old 0 (Close m) (Refused s) new) is.0 err)

@@ -1,5 +1,5 @@
 -- What the calls on a resource are answered, wherever they are made.
-use Rattle.std.proofs.Common.{ℕ, ◌+◌, ◌^◌, Bool, true, false, Option, Some, None, List, refl, inl, inr}
+use Rattle.std.proofs.Common.{◌≡◌, ℕ, ◌+◌, ◌^◌, Bool, true, false, Option, Some, None, List, refl, inl, inr}
 use Rattle.std.specs.Prelude.{◌==◌, if◌then◌else◌}
 use Rattle.tk_core.specs.declared.attrs.AttrOp.{AttrOp}
 use Rattle.tk_core.specs.declared.reply.Refusal.{Refusal}
@@ -8,7 +8,7 @@ use Rattle.tk_core.specs.declared.reply.Reply.TheVariants.{Done, Number}
 use Rattle.tk_core.specs.declared.resource.row.ResourceRow.{ResourceRow}
 use Rattle.tk_core.specs.declared.resource.call.ResourceCall.{ResourceCall}
 use Rattle.tk_core.specs.declared.resource.call.ResourceCall.TheVariants.{Close, Attr, Enlist, Read}
-use Rattle.tk_core.specs.Fold.{refused_or, fold_of, answer, reply_after}
+use Rattle.tk_core.specs.Fold.{refused_or, fold_of, answer, number_of, reply_after}
 use Rattle.tk_core.specs.History.{history_of}
 use Rattle.tk_core.specs.Resource.{resource_kind}
 use Rattle.tk_core.specs.ResourceMeaning.{resource_meaning}
@@ -16,6 +16,11 @@ use Rattle.tk_ledgers.specs.Handles.{Gives, IsDrawing, IsAttempt, IsReading}
 
 abbrev row_at : ResourceRow → List ResourceCall → ResourceRow
 row_at opening calls = fold_of resource_kind opening (history_of (answer resource_kind opening) calls)
+
+-- a reading answers no number
+pub reads_silent : (opening : ResourceRow) (calls : List ResourceCall) (n : ℕ) → number_of (reply_after resource_kind opening calls Read) ≡ Some n → ⊥
+unfolding reply_after
+reads_silent opening calls n is = cc
 
 pub read_reads : Gives resource_meaning IsReading Read
 unfolding reply_after

@@ -1,5 +1,5 @@
 -- What the calls on a task are answered, wherever they are made.
-use Rattle.std.proofs.Common.{ℕ, ◌+◌, ◌^◌, Bool, true, false, Option, Some, None, List, refl, inl, inr}
+use Rattle.std.proofs.Common.{◌≡◌, ℕ, ◌+◌, ◌^◌, Bool, true, false, Option, Some, None, List, refl, inl, inr}
 use Rattle.std.specs.Prelude.{◌==◌, if◌then◌else◌}
 use Rattle.tk_core.specs.declared.reply.Refusal.{Refusal}
 use Rattle.tk_core.specs.declared.reply.Refusal.TheVariants.{HandlesSpent}
@@ -7,7 +7,7 @@ use Rattle.tk_core.specs.declared.reply.Reply.TheVariants.{Done, Number}
 use Rattle.tk_core.specs.declared.task.row.TaskRow.{TaskRow}
 use Rattle.tk_core.specs.declared.task.call.TaskCall.{TaskCall}
 use Rattle.tk_core.specs.declared.task.call.TaskCall.TheVariants.{PollStart, PollEnd, Close, CloneWaker, WakeVal, WakeRef, Release, Enlist, Read}
-use Rattle.tk_core.specs.Fold.{refused_or, fold_of, answer, reply_after}
+use Rattle.tk_core.specs.Fold.{refused_or, fold_of, answer, number_of, reply_after}
 use Rattle.tk_core.specs.History.{history_of}
 use Rattle.tk_core.specs.Task.{task_kind, found_by_wake}
 use Rattle.tk_core.specs.TaskMeaning.{task_meaning}
@@ -19,6 +19,11 @@ row_at opening calls = fold_of task_kind opening (history_of (answer task_kind o
 pub read_reads : Gives task_meaning IsReading Read
 unfolding reply_after
 read_reads opening calls = (row_at opening calls, refl)
+
+-- a reading answers no number
+pub reads_silent : (opening : TaskRow) (calls : List TaskCall) (n : ℕ) → number_of (reply_after task_kind opening calls Read) ≡ Some n → ⊥
+unfolding reply_after
+reads_silent opening calls n is = cc
 
 pub value_wakes : (m : ℕ) (from_self : Bool) → Gives task_meaning IsWake (WakeVal m from_self)
 unfolding reply_after

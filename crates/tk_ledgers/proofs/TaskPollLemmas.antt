@@ -1,7 +1,9 @@
 -- Tasks, as items that their owner alone polls and closes.
-use Rattle.std.proofs.Common.{◌≡◌, ℕ, Bool, true, false, if◌then◌else◌, List, Option, None, refl, ap, sym}
+use Rattle.std.proofs.Common.{◌≡◌, ℕ, Bool, true, false, if◌then◌else◌, List, Option, Some, None, refl, ap, sym}
+use Rattle.std.specs.Prelude.{◌&&◌, not, is_some}
 use Rattle.tk_core.specs.declared.history.Entry.{Entry}
-use Rattle.tk_core.specs.declared.reply.Refusal.TheVariants.{AlreadyPolling, NotPolling}
+use Rattle.tk_core.specs.declared.reply.Refusal.{Refusal}
+use Rattle.tk_core.specs.declared.reply.Refusal.TheVariants.{AlreadyPolling, NotPolling, Closed}
 use Rattle.tk_core.specs.declared.reply.Reply.{Reply}
 use Rattle.tk_core.specs.declared.reply.Reply.TheVariants.{Done, Refused}
 use Rattle.tk_core.specs.declared.task.row.TaskRow.{TaskRow}
@@ -10,9 +12,9 @@ use Rattle.tk_core.specs.declared.task.call.TaskCall.TheVariants.{PollStart, Pol
 use Rattle.tk_core.specs.Lists.{last_of}
 use Rattle.tk_core.specs.Polls.{starts_or_ends, is_polling}
 use Rattle.tk_core.specs.History.{accepted, calls_of}
-use Rattle.tk_core.specs.Fold.{is_accepted, fold_of, answer_at, row_after, reply_after}
+use Rattle.tk_core.specs.Fold.{is_accepted, refused_or, fold_of, answer_at, row_after, reply_after}
 use Rattle.tk_core.specs.Legal.{IsLegal}
-use Rattle.tk_core.specs.Task.{start_at, end_at, close_at, row_of, task_kind, made_may, waker_may, inspector_may}
+use Rattle.tk_core.specs.Task.{start_at, end_at, close_at, row_of, task_kind, made_may, waker_may, inspector_may, wants_open, wants_idle, wants_polling}
 use Rattle.tk_core.specs.TaskMeaning.{task_meaning}
 use Rattle.tk_core.specs.Laws.TaskLaws.{legal_fold}
 use Rattle.tk_ledgers.proofs.PollLemmas.{Polled}
@@ -105,3 +107,22 @@ task_polls = record {
   end_answer = end_answer;
   close_answer = close_answer;
 }
+
+-- why a start of a poll, its end or a close is refused, if it is, and that they are answered so
+abbrev pub refusal_by : TaskCall → Bool → Bool → Option Refusal
+refusal_by call closed polling =
+    if closed then Some Closed
+    else if wants_idle call && polling then Some AlreadyPolling
+    else if wants_polling call && not polling then Some NotPolling
+    else None
+
+pub poll_answer : (call : TaskCall) → wants_open call ≡ true → (row : TaskRow) → answer_at task_kind row call ≡ refused_or (refusal_by call (is_some row.dropped) row.polling) Done
+poll_answer (PollStart at) may row = refl
+poll_answer (PollEnd at) may row = refl
+poll_answer (Close at) may row = refl
+poll_answer CloneWaker may row = absurd cc
+poll_answer (WakeVal at from_self) may row = absurd cc
+poll_answer (WakeRef at from_self) may row = absurd cc
+poll_answer Release may row = absurd cc
+poll_answer Enlist may row = absurd cc
+poll_answer Read may row = absurd cc

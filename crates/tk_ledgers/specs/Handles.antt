@@ -1,5 +1,5 @@
 -- What a handle shows, as whom it makes calls, and how further handles are drawn.
-use Rattle.std.specs.Prelude.{◌≡◌, ℕ, ◌⊎◌, Bool, List, Option, Some, None}
+use Rattle.std.specs.Prelude.{◌≡◌, ℕ, ◌⊎◌, Bool, List, [], ◌∷◌, Option, Some, None}
 use Rattle.tk_core.specs.declared.reply.Refusal.{Refusal}
 use Rattle.tk_core.specs.declared.reply.Refusal.TheVariants.{Memory, HandlesSpent}
 use Rattle.tk_core.specs.declared.reply.Reply.{Reply}
@@ -89,3 +89,7 @@ module _ {Row C : Type 0} (m : Meaning Row C (Reply Row)) where
   NotDrawn old call Memory new = new ≡ old
   NotDrawn old call HandlesSpent new = (new.ledger ≡ old.ledger) × Calls m old.view call (Refused HandlesSpent) new.view
   NotDrawn old call _ new = ⊥
+
+-- an owner that holds its own number alone does so after it drew a handle
+abbrev pub DrawsAlone : {Row C : Type 0} → Meaning Row C (Reply Row) → Type 0
+DrawsAlone {Row = Row} {C = C} m = (old new made : Known Row C (Reply Row)) (call : C) → Drew m old call new made → old.view.held ≡ 0 ∷ [] → new.view.held ≡ 0 ∷ []

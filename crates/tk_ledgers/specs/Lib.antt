@@ -8,5 +8,7 @@ pub mod Ops
 pub mod Scopes
 pub mod Times
 pub mod Beside
--- Inner: what an owner keeps of a histogram
+pub mod Callers
+-- Inner: what an owner keeps of a histogram, and what is kept of the callers in one hand
 pub mod Timed
+pub mod Hands

@@ -4,8 +4,11 @@ ghost use Rattle.std.specs.Arc.{arc_value};
 ghost use Rattle.tk_core.specs.declared.reply.Reply.TheVariants.{Done, Shown, Woken};
 ghost use Rattle.tk_core.specs.declared.reply.Reply.TheVariants.{Refused as NotDone};
 ghost use Rattle.tk_cell.specs.Calls.{Calls, Joins};
+ghost use Rattle.tk_cell.specs.Ours.{CallsBeside};
+ghost use Rattle.tk_ledgers.specs.Hands.{IsHand};
 ghost use Rattle.tk_ledgers.specs.Handles.{made_by, role_may, HasRole, Gives, IsDrawing, IsAttempt, IsReading, IsWake, IsDone, Drew, NotDrawn};
 
+use crate::callers::Callers;
 use crate::role::Role;
 use std::marker::{Model, PhantomData};
 use std::sync::{Arc, Wait};
@@ -81,6 +84,14 @@ impl<O: Sequential, K: Role<O::Call>> Handle<O, K> {
         (reply, token)
     }
 
+    /// The caller, in a hand that may hold callers of a role, too.
+    pub fn into_callers<D: Role<O::Call>>(self) -> Callers<O, D>
+        requires { IsHand O.meaning D.role self.view }
+        ensures { result ≡ self }
+    {
+        Callers::new(self.ledger, self.token)
+    }
+
     /// Makes no more calls.
     pub fn retire(self) -> Token<O>
         ensures { result ≡ self }
@@ -128,6 +139,23 @@ impl<O: Sequential<Reply = Reply<O>>, K: Role<O::Call>> Handle<O, K> {
         ensures role { HasRole O.meaning K.role self.old.view }
     {
         let Reply::Shown(row) = self.call(rt, call) else {
+            unreachable!()
+        };
+        row
+    }
+
+    /// Makes a call that shows the row, beside another token: both have seen the same before it and after it.
+    pub fn read_beside<R: Wait>(&mut self, rt: &R, token: &mut Token<O>, call: O::Call) -> O
+        requires same { token.old.ledger ≡ self.old.ledger }
+        requires may { role_may O.meaning K.role call ≡ true }
+        requires goes_on { O.meaning.is_last call ≡ false }
+        requires form { Gives O.meaning IsReading call }
+        ensures own { self.new.ledger ≡ self.old.ledger }
+        ensures token { token.new.ledger ≡ token.old.ledger }
+        ensures beside { CallsBeside O.meaning token.old.view self.old.view call (Shown result) token.new.view self.new.view }
+    {
+        let reply = self.ledger.call_beside(rt, token, &mut self.token, call);
+        let Reply::Shown(row) = reply else {
             unreachable!()
         };
         row

@@ -10,6 +10,8 @@
 //! - [`OpOwner`], [`OpInspector`], [`OpReceipt`]: the same of an async operation.
 //! - [`TimesOwner`], [`TimesInspector`], [`TimesReceipt`]: the same of a histogram of times. A task's owner may have one of how long its
 //!   polls ran ([`TaskOwner::new_with_times`]).
+//! - [`TaskCallers`], [`ResourceCallers`], [`OpCallers`]: the owner of an item and its other callers in one hand, for who makes all its
+//!   calls: these are one list in their order, and what an inspector reads beside it is the row after them.
 //!
 //! A handle holds a share of its ledger and a token of it. What contracts see of it is its `Sight`
 //! (`specs/Handles.antt`): the id of its item, its ledger, what is known by its token, and the same of a histogram. A call is one entry of
@@ -20,6 +22,7 @@
 //! its last call. Close owners, wake by wakers or release them, and finish scopes.
 #![tactic(auto)]
 
+mod callers;
 mod handle;
 pub mod laws;
 mod op;
@@ -28,7 +31,11 @@ mod role;
 mod task;
 mod times;
 
-pub use op::{OpInspector, OpOwner, OpReceipt};
-pub use resource::{ResourceInspector, ResourceOwner, ResourceReceipt, ResourceUser};
-pub use task::{Origin, PollScope, TaskInspector, TaskOwner, TaskReceipt, WakerHandle};
+pub use op::{OpCallers, OpInspector, OpOwner, OpReceipt};
+pub use resource::{
+    ResourceCallers, ResourceInspector, ResourceOwner, ResourceReceipt, ResourceUser,
+};
+pub use task::{
+    Origin, PollScope, TaskCallers, TaskInspector, TaskOwner, TaskReceipt, WakerHandle,
+};
 pub use times::{TimesInspector, TimesOwner, TimesReceipt};

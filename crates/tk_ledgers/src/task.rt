@@ -1,5 +1,6 @@
 //! The handles of a task's ledger.
 
+mod callers;
 mod inspector;
 mod origin;
 mod owner;
@@ -8,6 +9,7 @@ mod scope;
 mod timed;
 mod waker;
 
+pub use callers::TaskCallers;
 pub use inspector::TaskInspector;
 pub use origin::Origin;
 pub use owner::TaskOwner;

@@ -4,10 +4,14 @@ ghost use Rattle.tk_core.specs.declared.op.call.OpCall.TheVariants.{Enlist, Read
 ghost use Rattle.tk_core.specs.declared.reply.Reply.TheVariants.{Shown};
 ghost use Rattle.tk_core.specs.OpMeaning.{op_meaning};
 ghost use Rattle.tk_cell.specs.Calls.{Calls, Joins};
-ghost use Rattle.tk_ledgers.specs.Handles.{sight, Drew, NotDrawn};
+ghost use Rattle.tk_cell.specs.Ours.{CallsBeside};
+ghost use Rattle.tk_ledgers.specs.Callers.{live};
+ghost use Rattle.tk_ledgers.specs.Handles.{made_by, sight, Drew, NotDrawn};
+ghost use Rattle.tk_ledgers.specs.Hands.{IsHand};
 ghost use Rattle.tk_ledgers.specs.Sums.{HoldsAll};
 ghost use Rattle.tk_ledgers.specs.Ops.{CountsAre, CountsReach};
 
+use crate::callers::Callers;
 use crate::handle::Handle;
 use crate::op::OpReceipt;
 use crate::role::Enlisted;
@@ -66,6 +70,24 @@ impl OpInspector {
         ensures exact { HoldsAll op_meaning self.old.token.view → CountsAre self.old.token.view result }
     {
         self.handle.read(rt, OpCall::Read)
+    }
+
+    // Reads the row beside the callers of its item.
+    #[tactic(auto, using(crate::proofs::OpLemmas::read_reads))]
+    pub(crate) fn read_beside<R: Wait>(
+        &mut self,
+        rt: &R,
+        callers: &mut Callers<OpRow, Enlisted>,
+    ) -> OpRow
+        requires { callers.old.ledger ≡ self.old.token.ledger }
+        ensures id { self.new.id ≡ self.old.id }
+        ensures ledger { self.new.token.ledger ≡ self.old.token.ledger }
+        ensures own { callers.new.ledger ≡ callers.old.ledger }
+        ensures beside { CallsBeside op_meaning callers.old.view self.old.token.view Read (Shown result) callers.new.view self.new.token.view }
+        ensures live { live op_meaning callers.new.view ≡ live op_meaning callers.old.view }
+        ensures hand { IsHand op_meaning (made_by Enlist) callers.old.view }
+    {
+        callers.read_beside(rt, &mut self.handle, OpCall::Read)
     }
 
     /// Makes a further inspector. Refused with `Memory`, `HandlesSpent`.

@@ -1,5 +1,5 @@
 //! The owner of an operation.
-ghost use Rattle.std.specs.Prelude.{◌≡◌, ◌≢◌, ◌≤◌, true, false, not, is_ok, length, IfOk, IfErr, OnOk};
+ghost use Rattle.std.specs.Prelude.{◌≡◌, ◌≢◌, ◌≤◌, true, false, not, is_ok, length, IfOk, IfErr, OnOk, [], ◌∷◌};
 ghost use Rattle.tk_core.specs.declared.op.call.OpCall.TheVariants.{PollStart, PollEnd, Close, SetTask, Attr, Enlist, Read};
 ghost use Rattle.tk_core.specs.declared.reply.Reply.TheVariants.{Done, Shown};
 ghost use Rattle.tk_core.specs.declared.reply.Reply.TheVariants.{Refused as NotDone};
@@ -13,7 +13,7 @@ ghost use Rattle.tk_core.specs.declared.attrs.AttrOp.TheVariants.{Add, Sub, Over
 ghost use Rattle.tk_core.specs.declared.reply.Refusal.TheVariants.{AlreadyPolling, NotPolling, Closed};
 
 use crate::handle::Handle;
-use crate::op::{OpInspector, OpReceipt};
+use crate::op::{OpCallers, OpInspector, OpReceipt};
 use crate::role::{Enlisted, Owning};
 use std::alloc::{AllocError, Global};
 use std::marker::Model;
@@ -65,6 +65,15 @@ impl OpOwner {
             polling: false,
             handle: Handle::new(ledger, token),
         })
+    }
+
+    /// The owner in one hand ([`OpCallers`]): for who makes all calls of the operation. No entry is made. It is for an owner that has learnt
+    /// no other's numbers.
+    pub fn into_callers(self) -> OpCallers
+        requires alone { self.token.view.held ≡ 0 ∷ [] }
+        ensures { result ≡ self }
+    {
+        OpCallers::new(self.id, self.polling, self.handle.into_callers())
     }
 
     /// The operation.

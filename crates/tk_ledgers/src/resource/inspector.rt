@@ -4,10 +4,14 @@ ghost use Rattle.tk_core.specs.declared.resource.call.ResourceCall.TheVariants.{
 ghost use Rattle.tk_core.specs.declared.reply.Reply.TheVariants.{Shown};
 ghost use Rattle.tk_core.specs.ResourceMeaning.{resource_meaning};
 ghost use Rattle.tk_cell.specs.Calls.{Calls, Joins};
-ghost use Rattle.tk_ledgers.specs.Handles.{sight, Drew, NotDrawn};
+ghost use Rattle.tk_cell.specs.Ours.{CallsBeside};
+ghost use Rattle.tk_ledgers.specs.Callers.{live};
+ghost use Rattle.tk_ledgers.specs.Handles.{made_by, sight, Drew, NotDrawn};
+ghost use Rattle.tk_ledgers.specs.Hands.{IsHand};
 ghost use Rattle.tk_ledgers.specs.Sums.{HoldsAll};
 ghost use Rattle.tk_ledgers.specs.Resources.{CountsAre, CountsReach};
 
+use crate::callers::Callers;
 use crate::handle::Handle;
 use crate::resource::ResourceReceipt;
 use crate::role::Enlisted;
@@ -66,6 +70,24 @@ impl ResourceInspector {
         ensures exact { HoldsAll resource_meaning self.old.token.view → CountsAre self.old.token.view result }
     {
         self.handle.read(rt, ResourceCall::Read)
+    }
+
+    // Reads the row beside the callers of its item.
+    #[tactic(auto, using(crate::proofs::ResourceLemmas::read_reads))]
+    pub(crate) fn read_beside<R: Wait>(
+        &mut self,
+        rt: &R,
+        callers: &mut Callers<ResourceRow, Enlisted>,
+    ) -> ResourceRow
+        requires { callers.old.ledger ≡ self.old.token.ledger }
+        ensures id { self.new.id ≡ self.old.id }
+        ensures ledger { self.new.token.ledger ≡ self.old.token.ledger }
+        ensures own { callers.new.ledger ≡ callers.old.ledger }
+        ensures beside { CallsBeside resource_meaning callers.old.view self.old.token.view Read (Shown result) callers.new.view self.new.token.view }
+        ensures live { live resource_meaning callers.new.view ≡ live resource_meaning callers.old.view }
+        ensures hand { IsHand resource_meaning (made_by Enlist) callers.old.view }
+    {
+        callers.read_beside(rt, &mut self.handle, ResourceCall::Read)
     }
 
     /// Makes a further inspector. Refused with `Memory`, `HandlesSpent`.

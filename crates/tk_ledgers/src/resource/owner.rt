@@ -1,5 +1,5 @@
 //! The owner of a resource.
-ghost use Rattle.std.specs.Prelude.{◌≡◌, ◌≤◌, length, IfOk, IfErr};
+ghost use Rattle.std.specs.Prelude.{◌≡◌, ◌≤◌, length, IfOk, IfErr, [], ◌∷◌};
 ghost use Rattle.tk_core.specs.declared.resource.call.ResourceCall.TheVariants.{Close, Enlist};
 ghost use Rattle.tk_core.specs.declared.reply.Reply.TheVariants.{Done};
 ghost use Rattle.tk_core.specs.Resource.{opening_row};
@@ -9,7 +9,7 @@ ghost use Rattle.tk_cell.specs.Calls.{Calls};
 ghost use Rattle.tk_ledgers.specs.Handles.{Drew, NotDrawn};
 
 use crate::handle::Handle;
-use crate::resource::{ResourceInspector, ResourceReceipt, ResourceUser};
+use crate::resource::{ResourceCallers, ResourceInspector, ResourceReceipt, ResourceUser};
 use crate::role::{Enlisted, Owning};
 use std::alloc::{AllocError, Global};
 use std::marker::Model;
@@ -56,6 +56,15 @@ impl ResourceOwner {
             id,
             handle: Handle::new(ledger, token),
         })
+    }
+
+    /// The owner in one hand with the users that it makes from now on ([`ResourceCallers`]): for who makes all calls of the resource, and
+    /// needs no handle for each. No entry is made. It is for an owner that has learnt no other's numbers.
+    pub fn into_callers(self) -> ResourceCallers
+        requires alone { self.token.view.held ≡ 0 ∷ [] }
+        ensures { result ≡ self }
+    {
+        ResourceCallers::new(self.id, self.handle.into_callers())
     }
 
     /// The resource.

@@ -1,16 +1,20 @@
 //! Those who read a task.
 ghost use Rattle.std.specs.Prelude.{◌≡◌, Some, None, is_some, IfOk, IfErr};
-ghost use Rattle.tk_core.specs.declared.task.call.TaskCall.TheVariants.{Enlist, Read};
+ghost use Rattle.tk_core.specs.declared.task.call.TaskCall.TheVariants.{CloneWaker, Enlist, Read};
 ghost use Rattle.tk_core.specs.declared.reply.Reply.TheVariants.{Shown};
 ghost use Rattle.tk_core.specs.TaskMeaning.{task_meaning};
 ghost use Rattle.tk_cell.specs.Calls.{Calls, Joins};
-ghost use Rattle.tk_ledgers.specs.Handles.{sight, sight_with, Drew, NotDrawn};
+ghost use Rattle.tk_cell.specs.Ours.{CallsBeside};
+ghost use Rattle.tk_ledgers.specs.Callers.{live};
+ghost use Rattle.tk_ledgers.specs.Handles.{made_by, sight, sight_with, Drew, NotDrawn};
+ghost use Rattle.tk_ledgers.specs.Hands.{IsHand};
 ghost use Rattle.tk_ledgers.specs.Sums.{HoldsAll};
 ghost use Rattle.tk_ledgers.specs.Tasks.{CountsAre, CountsReach};
 ghost use Rattle.tk_ledgers.specs.Times.{known_times, IsOfTask, IsSameHistogram, ReadsTimes};
 
+use crate::callers::Callers;
 use crate::handle::Handle;
-use crate::role::Enlisted;
+use crate::role::{Enlisted, Waking};
 use crate::task::TaskReceipt;
 use crate::times::{TimesInspector, TimesReceipt};
 use std::marker::Model;
@@ -112,6 +116,25 @@ impl TaskInspector {
         ensures exact { HoldsAll task_meaning self.old.token.view → CountsAre self.old.token.view result }
     {
         self.handle.read(rt, TaskCall::Read)
+    }
+
+    // Reads the row beside the callers of the task.
+    #[tactic(auto, using(crate::proofs::TaskLemmas::read_reads))]
+    pub(crate) fn read_beside<R: Wait>(
+        &mut self,
+        rt: &R,
+        callers: &mut Callers<TaskRow, Waking>,
+    ) -> TaskRow
+        requires { callers.old.ledger ≡ self.old.token.ledger }
+        ensures id { self.new.id ≡ self.old.id }
+        ensures ledger { self.new.token.ledger ≡ self.old.token.ledger }
+        ensures times { self.new.times ≡ self.old.times }
+        ensures own { callers.new.ledger ≡ callers.old.ledger }
+        ensures beside { CallsBeside task_meaning callers.old.view self.old.token.view Read (Shown result) callers.new.view self.new.token.view }
+        ensures live { live task_meaning callers.new.view ≡ live task_meaning callers.old.view }
+        ensures hand { IsHand task_meaning (made_by CloneWaker) callers.old.view }
+    {
+        callers.read_beside(rt, &mut self.handle, TaskCall::Read)
     }
 
     /// Reads the histogram of how long the polls of the task ran, in nanoseconds. `None` where it has none: then nothing is done.

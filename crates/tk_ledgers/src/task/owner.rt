@@ -1,5 +1,5 @@
 //! The owner of a task.
-ghost use Rattle.std.specs.Prelude.{◌≡◌, true, false, not, is_ok, is_some, None, IfOk, IfErr, IfSome, OnOk};
+ghost use Rattle.std.specs.Prelude.{◌≡◌, true, false, not, is_ok, is_some, None, IfOk, IfErr, IfSome, OnOk, [], ◌∷◌};
 ghost use Rattle.tk_core.specs.declared.task.call.TaskCall.TheVariants.{PollStart, PollEnd, Close, CloneWaker, WakeRef, Enlist, Read};
 ghost use Rattle.tk_core.specs.declared.reply.Reply.TheVariants.{Done, Woken, Shown};
 ghost use Rattle.tk_core.specs.declared.reply.Reply.TheVariants.{Refused as NotDone};
@@ -16,7 +16,7 @@ ghost use Rattle.tk_core.specs.declared.reply.Refusal.TheVariants.{AlreadyPollin
 use crate::handle::Handle;
 use crate::role::{Enlisted, Owning, Waking};
 use crate::task::timed::{self, Timed};
-use crate::task::{Origin, PollScope, TaskInspector, TaskReceipt, WakerHandle};
+use crate::task::{Origin, PollScope, TaskCallers, TaskInspector, TaskReceipt, WakerHandle};
 use crate::times::TimesInspector;
 use std::alloc::{AllocError, Global};
 use std::marker::Model;
@@ -94,6 +94,17 @@ impl TaskOwner {
             handle: Handle::new(ledger, token),
             timed: Some(timed),
         })
+    }
+
+    /// The owner in one hand with the wakers that it makes from now on ([`TaskCallers`]): for who makes all calls of the task, and needs no
+    /// handle for each. No entry is made. It is for an owner without a histogram ([`TaskOwner::has_times`]), which is not kept there, and
+    /// that has learnt no other's numbers.
+    pub fn into_callers(self) -> TaskCallers
+        requires times { self.times ≡ None }
+        requires alone { self.token.view.held ≡ 0 ∷ [] }
+        ensures { result ≡ self }
+    {
+        TaskCallers::new(self.id, self.polling, self.handle.into_callers())
     }
 
     /// The task.

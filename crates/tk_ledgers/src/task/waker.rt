@@ -123,4 +123,12 @@ impl WakerHandle {
         let id = self.id;
         TaskReceipt::new(id, self.handle.last_done(rt, TaskCall::Release))
     }
+
+    /// Makes no more calls by this handle. No entry is made: whom the receipt goes back to goes on as this waker
+    /// ([`crate::TaskCallers::take_back`]).
+    pub fn retire(self) -> TaskReceipt
+        ensures { result ≡ self }
+    {
+        TaskReceipt::new(self.id, self.handle.retire())
+    }
 }

@@ -1,0 +1,26 @@
+use Rattle.std.proofs.Common.{◌≡◌, Some, None, OnOk, IfErr, refl, ◌∙◌, subst}
+use Rattle.tk_core.specs.declared.reply.Reply.TheVariants.{Done, Refused}
+use Rattle.tk_core.specs.declared.op.call.OpCall.TheVariants.{Enlist, SetTask}
+use Rattle.tk_core.specs.OpMeaning.{op_meaning}
+use Rattle.tk_ledgers.specs.Callers.{CallsAs}
+use Rattle.tk_ledgers.specs.Handles.{made_by}
+use Rattle.tk_ledgers.specs.Ops.{OpSight, owner_refusal}
+use Rattle.tk_ledgers.proofs.HandLemmas.{attempt_keeps, attempt_done, attempt_refused}
+use Rattle.tk_ledgers.proofs.OpPollLemmas.{op_polls, refusal_by}
+use Rattle.tk_ledgers.proofs.op.callers.OpCallers.set_task.Goals as goal
+
+pub invariant_of-self : goal.invariant_of-self
+invariant_of-self g c =
+    attempt_keeps op_polls (made_by Enlist) c.self.inside.callers c.attempt_as.new.self c.attempt_as.ensures.hand 0 (SetTask c.args.task) c.attempt_as.result c.attempt_as.ensures.ok c.attempt_as.ensures.err refl ∙ c.self.invariant
+
+pub returns-clause-ok : goal.returns-clause-ok
+returns-clause-ok g c =
+    let call = SetTask c.args.task in
+    subst (λ (h : OpSight). OnOk c.attempt_as.result ((owner_refusal h (SetTask c.args.task) ≡ None) × CallsAs op_meaning h.token 0 (SetTask c.args.task) Done c.attempt_as.new.self)) c.self.view_is
+    (attempt_done op_polls (made_by Enlist) c.self.inside.callers c.attempt_as.new.self c.attempt_as.ensures.hand call (refusal_by call) (λ row. refl) c.attempt_as.result c.attempt_as.ensures.ok)
+
+pub returns-clause-err : goal.returns-clause-err
+returns-clause-err g c =
+    let call = SetTask c.args.task in
+    subst (λ (h : OpSight). IfErr c.attempt_as.result (λ r. (owner_refusal h (SetTask c.args.task) ≡ Some r) × CallsAs op_meaning h.token 0 (SetTask c.args.task) (Refused r) c.attempt_as.new.self)) c.self.view_is
+    (attempt_refused op_polls (made_by Enlist) c.self.inside.callers c.attempt_as.new.self c.attempt_as.ensures.hand call (refusal_by call) (λ row. refl) c.attempt_as.result c.attempt_as.ensures.err)
