@@ -1,1 +1,2 @@
 pub mod UseLemmas
+pub mod HandUses

@@ -1,5 +1,6 @@
 //! The calls of handles as tables, and handles on two threads.
 
+mod callers;
 mod changes;
 mod crowd;
 mod given;
