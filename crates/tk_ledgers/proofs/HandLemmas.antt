@@ -5,8 +5,7 @@ use Rattle.std.specs.Option.{option_or}
 use Rattle.tk_core.specs.declared.history.Entry.{Entry}
 use Rattle.tk_core.specs.declared.reply.Refusal.{Refusal}
 use Rattle.tk_core.specs.declared.reply.Reply.{Reply}
-use Rattle.tk_core.specs.declared.reply.Reply.TheVariants.{Done, Number, Woken, Refused}
-use Rattle.tk_core.specs.declared.reply.WakeReply.{WakeReply}
+use Rattle.tk_core.specs.declared.reply.Reply.TheVariants.{Done, Number, Refused}
 use Rattle.tk_core.specs.Fold.{is_accepted, number_of, refused_or, answer_at}
 use Rattle.tk_core.specs.History.{accepted}
 use Rattle.tk_core.specs.Legal.{own, has_ended}
@@ -19,7 +18,7 @@ use Rattle.tk_cell.specs.Calls.{Calls}
 use Rattle.tk_cell.specs.Roles.{IsOwner}
 use Rattle.tk_cell.proofs.ListLemmas.{dec_eq}
 use Rattle.tk_ledgers.specs.Callers.{CallsAs}
-use Rattle.tk_ledgers.specs.Handles.{Caller, made_by, Gives, IsAttempt, IsDone, IsWake}
+use Rattle.tk_ledgers.specs.Handles.{Caller, Gives, IsAttempt, IsDone, IsWake}
 use Rattle.tk_ledgers.specs.Hands.{IsHand, Draws}
 use Rattle.tk_ledgers.proofs.PollLemmas.{Polled, at, reply_at, polling_at, dropped_at, polling_then}
 

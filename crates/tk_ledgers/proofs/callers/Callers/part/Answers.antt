@@ -1,5 +1,5 @@
-use Rattle.std.proofs.Common.{◌≡◌, ◌∙◌, ap, sym, subst}
-use Rattle.tk_cell.specs.Views.{Known, Holds, known, after_split, split_off, as_caller}
+use Rattle.std.proofs.Common.{◌∙◌, ap, sym, subst}
+use Rattle.tk_cell.specs.Views.{Known, Holds, known, after_split, split_off}
 use Rattle.tk_ledgers.specs.Callers.{HandsOut, IsLive, live}
 use Rattle.tk_ledgers.specs.Handles.{HasRole}
 use Rattle.tk_ledgers.specs.Hands.{IsHand, Others}

@@ -1,4 +1,4 @@
-use Rattle.std.proofs.Common.{◌≡◌, Some, None, true, false, refl, ◌∙◌, subst}
+use Rattle.std.proofs.Common.{◌≡◌, Some, None, true, refl, ◌∙◌, subst}
 use Rattle.tk_core.specs.declared.reply.Reply.TheVariants.{Done, Refused}
 use Rattle.tk_core.specs.declared.op.call.OpCall.TheVariants.{Enlist, PollStart}
 use Rattle.tk_core.specs.OpMeaning.{op_meaning}

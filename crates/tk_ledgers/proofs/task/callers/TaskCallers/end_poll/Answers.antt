@@ -1,4 +1,4 @@
-use Rattle.std.proofs.Common.{◌≡◌, Some, None, true, false, refl, ◌∙◌, subst}
+use Rattle.std.proofs.Common.{◌≡◌, Some, None, false, refl, ◌∙◌, subst}
 use Rattle.tk_core.specs.declared.reply.Reply.TheVariants.{Done, Refused}
 use Rattle.tk_core.specs.declared.task.call.TaskCall.TheVariants.{CloneWaker, PollEnd}
 use Rattle.tk_core.specs.TaskMeaning.{task_meaning}

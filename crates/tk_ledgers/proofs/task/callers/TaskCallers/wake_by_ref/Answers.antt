@@ -1,6 +1,6 @@
-use Rattle.std.proofs.Common.{true, false, refl, ◌∙◌}
-use Rattle.tk_core.specs.declared.reply.Reply.TheVariants.{Done, Woken}
-use Rattle.tk_core.specs.declared.task.call.TaskCall.TheVariants.{CloneWaker, WakeRef, WakeVal, Release}
+use Rattle.std.proofs.Common.{false, refl, ◌∙◌}
+use Rattle.tk_core.specs.declared.reply.Reply.TheVariants.{Woken}
+use Rattle.tk_core.specs.declared.task.call.TaskCall.TheVariants.{CloneWaker, WakeRef}
 use Rattle.tk_ledgers.specs.Handles.{made_by}
 use Rattle.tk_ledgers.proofs.HandLemmas.{quiet_keeps}
 use Rattle.tk_ledgers.proofs.TaskPollLemmas.{task_polls}
