@@ -144,4 +144,4 @@ pub pruned_line_is : (a : Aggregating) (now retention : ℕ) → a.retention ≡
 pruned_line_is a now retention is = ap line_by (sym is)
   where
     line_by : Option ℕ → LineView
-    line_by o = line_sent a.told (record { tables = record (pruned o a now).tables { now = now }; seq = a.last + 1; snapshot = false; removes = is_some o })
+    line_by o = line_sent a.told (record { tables = record (pruned o a now).tables { now = now }; seq = a.last + 1; snapshot = false; removes = is_some o; told = None })

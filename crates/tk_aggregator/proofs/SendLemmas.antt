@@ -60,7 +60,7 @@ goes_on_to bytes told last s stream may next = record {
 
 -- a snapshot opens a stream
 abbrev whole_sending : TablesView → ℕ → Bool → Sending
-whole_sending tables seq removes = record { tables = tables; seq = seq; snapshot = true; removes = removes }
+whole_sending tables seq removes = record { tables = tables; seq = seq; snapshot = true; removes = removes; told = None }
 
 behind_none : (tables : TablesView) (removes : Bool) → GoOn (if removes && false then what_stays empty_tables tables else empty_tables) tables
 behind_none tables true = record { tasks = tt; resources = tt; ops = tt; counts = tt }
@@ -70,7 +70,7 @@ pub opens_at : (told : TablesView) (tables : TablesView) (seq : ℕ) (removes : 
     → IsStreamTo (sent_text (line_sent told (whole_sending tables seq removes))) tables seq
 opens_at told tables seq removes may = record {
   sent = whole_sending tables seq removes ∷ [];
-  uninterrupted = (refl, record { fit = may.fit; in_range = may.in_range; numbered = may.numbered; on = behind_none tables removes }, tt);
+  uninterrupted = (refl, record { fit = may.fit; in_range = may.in_range; numbered = may.numbered; on = behind_none tables removes; told = tt }, tt);
   bytes_are = sym (append-nil (sent_text (line_sent empty_tables (whole_sending tables seq removes))));
   tables_are = refl;
   last_is = refl;
@@ -90,17 +90,18 @@ at_moment_fit t now fit = record {
 
 -- with all of its tables, as a snapshot or where nothing leaves
 sends_all : (a : Aggregating) (now : ℕ) (snapshot removes : Bool) → (removes && not snapshot) ≡ false → IsSound a → IsDue snapshot a now → IsNumber now
-    → MaySend a.told (record { tables = record a.tables { now = now }; seq = a.last + 1; snapshot = snapshot; removes = removes })
+    → MaySend a.told (record { tables = record a.tables { now = now }; seq = a.last + 1; snapshot = snapshot; removes = removes; told = None })
 sends_all a now snapshot removes stays sound due fits = record {
   fit = at_moment_fit a.tables now sound.fit;
   in_range = at_moment a.tables now sound.in_range fits;
   numbered = within a.last due.number;
   on = subst (λ (b : Bool). GoOn (if b then what_stays a.told a.tables else a.told) (record a.tables { now = now })) (sym stays) (record { tasks = sound.on.tasks; resources = sound.on.resources; ops = sound.on.ops; counts = sound.on.counts });
+  told = tt;
 }
 
 -- without what is due
 sends_pruned : (a : Aggregating) (now retention : ℕ) → IsSound a → IsDue false a now → IsNumber now
-    → MaySend a.told (record { tables = record (prune a.tables a.told now retention) { now = now }; seq = a.last + 1; snapshot = false; removes = true })
+    → MaySend a.told (record { tables = record (prune a.tables a.told now retention) { now = now }; seq = a.last + 1; snapshot = false; removes = true; told = None })
 sends_pruned a now retention sound due fits =
     let gone = due_of a.told now retention in
     let distinct = sound.fit.distinct in
@@ -110,6 +111,7 @@ sends_pruned a now retention sound due fits =
       in_range = at_moment (without_gone a.tables gone) now (less_in_range a.tables gone sound.in_range) fits;
       numbered = within a.last due.number;
       on = record { tasks = on.tasks; resources = on.resources; ops = on.ops; counts = on.counts };
+      told = tt;
     }
 
 pub may_send : (a : Aggregating) (now : ℕ) (snapshot : Bool) → IsSound a → IsDue snapshot a now → IsNumber now → MaySend a.told (sending_at snapshot a now)
@@ -120,7 +122,7 @@ may_send a now true sound due fits = sends_all a now true (is_some a.retention) 
     none_left false = refl
 may_send a now false sound due fits = by a.retention
   where
-    by : (o : Option ℕ) → MaySend a.told (record { tables = record (pruned o a now).tables { now = now }; seq = a.last + 1; snapshot = false; removes = is_some o })
+    by : (o : Option ℕ) → MaySend a.told (record { tables = record (pruned o a now).tables { now = now }; seq = a.last + 1; snapshot = false; removes = is_some o; told = None })
     by None = sends_all a now false false refl sound due fits
     by (Some retention) = sends_pruned a now retention sound due fits
 

@@ -296,7 +296,7 @@ tables_at snapshot a now = record (left_at snapshot a now).tables { now = now }
 
 -- what is sent at this moment: the next line
 abbrev pub sending_at : Bool → Aggregating → ℕ → Sending
-sending_at snapshot a now = record { tables = tables_at snapshot a now; seq = a.last + 1; snapshot = snapshot; removes = is_some a.retention }
+sending_at snapshot a now = record { tables = tables_at snapshot a now; seq = a.last + 1; snapshot = snapshot; removes = is_some a.retention; told = None }
 
 -- that line: it leads on from what was told, or is a snapshot
 abbrev pub line_at : Bool → Aggregating → ℕ → LineView

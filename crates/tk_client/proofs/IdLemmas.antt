@@ -28,7 +28,7 @@ turned a b = by (nat_eq a b) refl
     by false e = e ∙ sym (flipped a b e)
 
 -- a list of no length
-pub no-ids : (ids : List ℕ) → nat_eq (length ids) 0 ≡ true → ids ≡ []
+pub no-ids : {A : Type 0} (ids : List A) → nat_eq (length ids) 0 ≡ true → ids ≡ []
 no-ids [] e = refl
 no-ids (n ∷ ns) e = let none : length (n ∷ ns) ≡ 0 = eqb-true (length (n ∷ ns)) 0 e in absurd (omega arith)
 

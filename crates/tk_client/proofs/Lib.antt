@@ -2,7 +2,9 @@ pub mod Pieces
 pub mod Ends
 pub mod FeedLemmas
 pub mod TakeLemmas
-pub mod CountLemmas
+pub mod KeyedLemmas
+pub mod TimesLemmas
+pub mod ToldTimes
 pub mod WarnLemmas
 pub mod AttrLemmas
 pub mod StreamLemmas

@@ -17,7 +17,7 @@ use Rattle.tk_client.specs.Taking.{has_twice, has_id, repeats_kind, strange_kind
 use Rattle.tk_client.specs.Told.{finding, worse, has_info, Fails, info_id_by, stats_id_by, is_stranger, fits_told, or_misfit, tables_grown, tables_told, AreCounted, TellsOnce, told_part}
 use Rattle.tk_client.proofs.IdLemmas.{any-has}
 use Rattle.tk_client.proofs.FitLemmas.{rests, list_all-append, fit-told, old-rests, new-rests, new-told}
-use Rattle.tk_client.proofs.CountLemmas.{are-counted, counts-grown}
+use Rattle.tk_client.proofs.KeyedLemmas.{are-counted, counts-grown}
 
 -- ---- ids
 
@@ -140,7 +140,7 @@ after-grown old l g once p =
           ∙ ap (λ xs. map (told_item resource_kind l.resource_stats) old.resources ++ xs) (new-told resource_kind (λ _. true) (λ info s. refl) (λ info s. refl) l.resource_stats l.new_resources p.resources p.new_resources)) i;
       ops = sym (ap (λ (v : TablesView). map (told_item op_kind l.op_stats) v.ops) p.grown ∙ map-append (told_item op_kind l.op_stats) old.ops p.ops
           ∙ ap (λ xs. map (told_item op_kind l.op_stats) old.ops ++ xs) (new-told op_kind (λ _. true) (λ info s. refl) (λ info s. refl) l.op_stats l.new_ops p.ops p.new_ops)) i;
-      counts = sym (ap (λ (v : TablesView). counts_after v.counts l.poll_counts) p.grown ∙ counts-grown old.counts l.poll_counts once) i;
+      counts = sym (ap (λ (v : TablesView). counts_after v.counts l.poll_counts) p.grown ∙ counts-grown counts_id old.counts l.poll_counts once) i;
       dropped = l.dropped;
       now = l.now;
     }))
@@ -196,7 +196,7 @@ grown-fails old l Failed none known e = not-grown old l Failed none known e
 
 -- each resource whose counts are told has some then
 pub counted-grown : (old : TablesView) (l : LineView) (g : TablesView) → or_misfit (tables_grown old l) ≡ Ok g → AreCounted g.counts l.poll_counts
-counted-grown old l g e = subst (λ (v : TablesView). AreCounted v.counts l.poll_counts) (sym (parts old l g e).grown) (are-counted old.counts l.poll_counts)
+counted-grown old l g e = subst (λ (v : TablesView). AreCounted v.counts l.poll_counts) (sym (parts old l g e).grown) (are-counted counts_id old.counts l.poll_counts)
 
 -- tables that a line made fit
 pub applied-fits : (old : TablesView) (l : LineView) (t : TablesView) → line_applied old l ≡ Ok t → are_fitting t ≡ true

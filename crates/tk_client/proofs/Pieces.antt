@@ -86,7 +86,7 @@ held-more max s r rest short =
 run-more : (max : ℕ) (s : Start) (r m : List ℕ) (ms : List (List ℕ)) (rest : List ℕ) → length (s.part ++ r) ≤ max
     → run max s ((r ++ m) ∷ ms) rest ≡ after 0 (length r) (run max (record s { part = s.part ++ r }) (m ∷ ms) rest)
 run-more max s r m ms rest short =
-    rw (append_assoc s.part r m) (by (nat_lt max (length (s.part ++ (r ++ m)))) (line_taken s.tables s.last (s.part ++ (r ++ m))))
+    rw (append_assoc s.part r m) (by (nat_lt max (length (s.part ++ (r ++ m)))) (line_taken s.tables s.times s.last (s.part ++ (r ++ m))))
   where
     by : (b : Bool) (q : Result Start Fault) → cond b (stops s.tables 0 TooLong (max + 1 - length s.part)) (ended s.tables (length (r ++ m) + 1) q (λ t. run max t ms rest))
         ≡ after 0 (length r) (cond b (stops s.tables 0 TooLong (max + 1 - length (s.part ++ r))) (ended s.tables (length m + 1) q (λ t. run max t ms rest)))
@@ -112,11 +112,11 @@ run-glue max [] r (m ∷ ms, rest) s t n e =
     run-more max s r m ms rest p.0 ∙ ap₂ (λ u k. after k (length r) (run max u (m ∷ ms) rest)) p.1 p.2
 run-glue max (l ∷ ls) r ([], rest) s t n e =
     passed (is_too_long max s l) s.tables TooLong (max + 1 - length s.part) _ _ _ t n e
-    (λ short f. ended-after s.tables (length l + 1) (line_taken s.tables s.last (s.part ++ l)) (λ u. run max u ls r) (λ u. run max u ls (r ++ rest)) t n (size ls r) (held max t rest)
+    (λ short f. ended-after s.tables (length l + 1) (line_taken s.tables s.times s.last (s.part ++ l)) (λ u. run max u ls r) (λ u. run max u ls (r ++ rest)) t n (size ls r) (held max t rest)
     (λ u k h. run-glue max ls r ([], rest) u t k h) f)
 run-glue max (l ∷ ls) r (m ∷ ms, rest) s t n e =
     passed (is_too_long max s l) s.tables TooLong (max + 1 - length s.part) _ _ _ t n e
-    (λ short f. ended-after s.tables (length l + 1) (line_taken s.tables s.last (s.part ++ l)) (λ u. run max u ls r) (λ u. run max u (ls ++ (r ++ m) ∷ ms) rest) t n (size ls r) (run max t (m ∷ ms) rest)
+    (λ short f. ended-after s.tables (length l + 1) (line_taken s.tables s.times s.last (s.part ++ l)) (λ u. run max u ls r) (λ u. run max u (ls ++ (r ++ m) ∷ ms) rest) t n (size ls r) (run max t (m ∷ ms) rest)
     (λ u k h. run-glue max ls r (m ∷ ms, rest) u t k h) f)
 
 -- bytes behind bytes without a fault
@@ -162,14 +162,14 @@ stops-glue max [] r ([], rest) s t n fault used e =
     ap (λ b. cond b (too_long max s) (goes (record s { part = s.part ++ (r ++ rest) }) 0)) (longer max s r rest p.0) ∙ p.1
 stops-glue max [] r (m ∷ ms, rest) s t n fault used e =
     let p = is_stopped max s r (too_long max s) t n fault used e in
-    ap (λ b. cond b (too_long max s) (ended s.tables (length (r ++ m) + 1) (line_taken s.tables s.last (s.part ++ (r ++ m))) (λ u. run max u ms rest))) (longer max s r m p.0) ∙ p.1
+    ap (λ b. cond b (too_long max s) (ended s.tables (length (r ++ m) + 1) (line_taken s.tables s.times s.last (s.part ++ (r ++ m))) (λ u. run max u ms rest))) (longer max s r m p.0) ∙ p.1
 stops-glue max (l ∷ ls) r ([], rest) s t n fault used e =
     both (is_too_long max s l) (too_long max s) _ _ _
-    (ended_stops s.tables (length l + 1) (line_taken s.tables s.last (s.part ++ l)) (λ u. run max u ls r) (λ u. run max u ls (r ++ rest)) t n fault used
+    (ended_stops s.tables (length l + 1) (line_taken s.tables s.times s.last (s.part ++ l)) (λ u. run max u ls r) (λ u. run max u ls (r ++ rest)) t n fault used
     (λ u m v h. stops-glue max ls r ([], rest) u t m fault v h)) e
 stops-glue max (l ∷ ls) r (m ∷ ms, rest) s t n fault used e =
     both (is_too_long max s l) (too_long max s) _ _ _
-    (ended_stops s.tables (length l + 1) (line_taken s.tables s.last (s.part ++ l)) (λ u. run max u ls r) (λ u. run max u (ls ++ (r ++ m) ∷ ms) rest) t n fault used
+    (ended_stops s.tables (length l + 1) (line_taken s.tables s.times s.last (s.part ++ l)) (λ u. run max u ls r) (λ u. run max u (ls ++ (r ++ m) ∷ ms) rest) t n fault used
     (λ u k v h. stops-glue max ls r (m ∷ ms, rest) u t k fault v h)) e
 
 -- what stands behind a fault changes nothing

@@ -1,7 +1,8 @@
 -- An uninterrupted stream is taken line by line.
-use Rattle.std.proofs.Common.{◌≡◌, ℕ, ◌+◌, ◌≤◌, List, [], ◌∷◌, ◌++◌, length, take, drop, Bool, true, false, cond, nat_eq, Option, Some, None, Ok, Err, refl, ap, ap₂, sym, subst, ◌∙◌, arith, rules}
-use Rattle.std.specs.Prelude.{map, filter, is_none, is_some, not, ◌||◌, ◌&&◌}
+use Rattle.std.proofs.Common.{◌≡◌, ℕ, ◌+◌, ◌≤◌, List, [], ◌∷◌, ◌++◌, length, take, drop, Bool, true, false, cond, nat_eq, Option, Some, None, Ok, Err, inl, inr, refl, ap, ap₂, sym, subst, ◌∙◌, arith, rules}
+use Rattle.std.specs.Prelude.{map, filter, is_none, is_some, not, ◌||◌, ◌&&◌, unwrap_or, IfSome}
 use Rattle.std.specs.List.{list_any, list_all, AllByRecursion, IsDistinct}
+use Rattle.std.specs.Option.{option_map_or}
 use Rattle.std.proofs.lemmas.Bool.{eq-eqb, and_parts, le-ltb}
 use Rattle.std.proofs.lemmas.List.{take-append-drop, take-append-le}
 use Rattle.std.proofs.Math.Seq.{take-append-add}
@@ -12,9 +13,9 @@ use Rattle.tk_ids.specs.declared.attr.AttrKind.TheVariants as kinds
 use Rattle.tk_ids.specs.declared.attr.AttrValue.{AttrValue}
 use Rattle.tk_stream.specs.declared.op.Op.{Op}
 use Rattle.tk_stream.specs.declared.resource.Resource.{Resource}
-use Rattle.tk_stream.specs.Applied.{Kind, task_kind, resource_kind, op_kind, tables_after, GoOn, what_stays}
-use Rattle.tk_stream.specs.Lines.{LineView, GoneView, none_gone, gone_ids, gone_between, with_gone, is_seq, is_new, new_infos, told_stats, line_between, snapshot_of, task_stats_of, resource_stats_of, op_stats_of, all_counts, have_same_row, have_same_resource_row, have_same_op_row, task_info, resource_info, op_info}
-use Rattle.tk_stream.specs.Ranges.{IsLine, IsGone, IsId}
+use Rattle.tk_stream.specs.Applied.{Kind, task_kind, resource_kind, op_kind, tables_after, times_after, GoOn, what_stays}
+use Rattle.tk_stream.specs.Lines.{LineView, GoneView, none_gone, gone_ids, gone_between, with_gone, with_times, is_seq, is_new, new_infos, told_stats, line_between, snapshot_of, task_stats_of, resource_stats_of, op_stats_of, all_counts, have_same_row, have_same_resource_row, have_same_op_row, task_info, resource_info, op_info}
+use Rattle.tk_stream.specs.Ranges.{IsLine, IsGone, IsId, AreTold}
 use Rattle.tk_stream.specs.Reading.{line_of_text}
 use Rattle.tk_stream.specs.Rows.{same_counts}
 use Rattle.tk_stream.specs.Spelling.{line_text, is_one_line}
@@ -25,10 +26,12 @@ use Rattle.tk_client.specs.declared.fault.Fault.{Fault}
 use Rattle.tk_client.specs.declared.fault.Fault.TheVariants.{Memory, BadJson, BadShape, Gap, UnknownId, Repeated, TooLong, Misfit, Failed}
 use Rattle.tk_client.specs.declared.fault.FeedError.{FeedError}
 use Rattle.tk_client.specs.Feeding.{ClientView, Took, Stopped, StoppedBy}
-use Rattle.tk_client.specs.Meaning.{Start, Outcome, goes, stops, expected, is_next, base_of, behind_line, line_read, line_taken, cut, after as lines_before, too_long, ended, run, empty_start, meaning}
+use Rattle.tk_client.specs.Meaning.{Start, Outcome, goes, stops, expected, is_next, base_of, behind_line, line_read, line_taken, times_base, cut, after as lines_before, too_long, ended, run, empty_start, meaning}
 use Rattle.tk_client.specs.Streams.{AreShort, HasNoFault}
-use Rattle.tk_stream.specs.Streams.{Sending, line_sent, lines_sent, bytes_sent, tables_sent, AreInRange, MaySend, GoesOn, IsUninterrupted}
-use Rattle.tk_client.specs.Taking.{has_twice, has_id, repeats_kind, repeats_gone_kind, is_strange, strange_kind, strange_gone_kind, repeats_id, has_strange_id, is_kind, fit_attrs, fits_resource, fits_op, are_fitting, line_applied}
+use Rattle.tk_stream.specs.Streams.{Sending, line_sent, line_untimed, lines_sent, bytes_sent, tables_sent, times_sent, AreToldOf, AreInRange, MaySend, GoesOn, IsUninterrupted}
+use Rattle.tk_stream.specs.Times.{TaskTimes}
+use Rattle.tk_client.proofs.ToldTimes.{IsAsTold, untold_checked, told_checked, told_sound, told_known}
+use Rattle.tk_client.specs.Taking.{has_twice, has_id, repeats_kind, repeats_gone_kind, is_strange, strange_kind, strange_gone_kind, repeats_id, has_strange_id, is_kind, fit_attrs, fits_resource, fits_op, are_fitting, line_applied, line_checked}
 use Rattle.tk_client.specs.Told.{or_misfit}
 use Rattle.tk_client.proofs.Ends.{nothing}
 use Rattle.tk_client.proofs.FeedLemmas.{goes-then}
@@ -273,6 +276,7 @@ between_in old after seq all numbered = record {
   resource_stats = stats_in _ resource_id have_same_resource_row resource_stats_of old.resources after.resources all.resource_stats;
   seq = numbered;
   task_stats = stats_in _ task_id have_same_row task_stats_of old.tasks after.tasks all.task_stats;
+  task_times = tt;
 }
 
 pub snapshot_in : (after : TablesView) (seq : ℕ) → AreInRange after → is_seq seq ≡ true → IsLine (snapshot_of after seq)
@@ -288,6 +292,7 @@ snapshot_in after seq all numbered = record {
   resource_stats = all.resource_stats;
   seq = numbered;
   task_stats = all.task_stats;
+  task_times = tt;
 }
 
 -- the same line with what is gone
@@ -304,7 +309,12 @@ gone_in gone l in_range all = record {
   resource_stats = all.resource_stats;
   seq = all.seq;
   task_stats = all.task_stats;
+  task_times = told l.task_times all.task_times;
 }
+  where
+    told : (times : Option (List TaskTimes)) → IfSome times (AreTold l.gone) → IfSome times (AreTold (Some gone))
+    told None none = tt
+    told (Some times) is = record { each = is.each; said = refl }
 
 ids_in : {Item Stats : Type 0} (P : Stats → Type 0) (id_of : Item → ℕ) (same : Item → Item → Bool) (stats_of : Item → Stats) → ((x : Item) → P (stats_of x) → IsId (id_of x)) → (p : Item → Bool) (xs : List Item)
     → AllByRecursion P (told_stats id_of same stats_of [] xs) → AllByRecursion IsId (map id_of (filter p xs))
@@ -334,6 +344,7 @@ empty_in = record {
   resource_stats = tt;
   seq = refl;
   task_stats = tt;
+  task_times = tt;
 }
 
 -- ---- one line
@@ -350,20 +361,21 @@ cut_line (b ∷ bs) h =
     flipped false e = refl
 
 -- where a client stands behind a whole line
-abbrev behind : TablesView → Option ℕ → Start
-behind tables last = record { tables = tables; last = last; part = [] }
+abbrev behind : TablesView → List TaskTimes → Option ℕ → Start
+behind tables times last = record { tables = tables; last = last; part = []; times = times }
 
-one_line : (max : ℕ) (tables after : TablesView) (last next : Option ℕ) (text : List ℕ) → is_one_line text ≡ true → length text ≤ max → line_taken tables last text ≡ Ok (behind after next)
-    → meaning max (behind tables last) (text ++ 10 ∷ []) ≡ goes (behind after next) 1
-one_line max tables after last next text whole short taken =
-    ap (λ (c : List (List ℕ) × List ℕ). run max (behind tables last) c.0 c.1) (cut_line text whole)
-    ∙ ap (λ b. cond b (too_long max (behind tables last)) (ended tables (length text + 1) (line_taken tables last text) (λ u. run max u [] []))) (le-ltb max (length text) short)
+one_line : (max : ℕ) (tables after : TablesView) (times later : List TaskTimes) (last next : Option ℕ) (text : List ℕ) → is_one_line text ≡ true → length text ≤ max
+    → line_taken tables times last text ≡ Ok (behind after later next)
+    → meaning max (behind tables times last) (text ++ 10 ∷ []) ≡ goes (behind after later next) 1
+one_line max tables after times later last next text whole short taken =
+    ap (λ (c : List (List ℕ) × List ℕ). run max (behind tables times last) c.0 c.1) (cut_line text whole)
+    ∙ ap (λ b. cond b (too_long max (behind tables times last)) (ended tables (length text + 1) (line_taken tables times last text) (λ u. run max u [] []))) (le-ltb max (length text) short)
     ∙ ap (λ r. ended tables (length text + 1) r (λ u. run max u [] [])) taken
-    ∙ ap (λ b. lines_before 1 (length text + 1) (cond b (too_long max (behind after next)) (goes (behind after next) 0))) (le-ltb max 0 (omega arith))
+    ∙ ap (λ b. lines_before 1 (length text + 1) (cond b (too_long max (behind after later next)) (goes (behind after later next) 0))) (le-ltb max 0 (omega arith))
 
 -- a line of any kind: a snapshot or not, which says what is gone or not
 abbrev line_by : Bool → Bool → TablesView → TablesView → ℕ → LineView
-line_by b r before after seq = line_sent before (record { tables = after; seq = seq; snapshot = b; removes = r })
+line_by b r before after seq = line_untimed before (record { tables = after; seq = seq; snapshot = b; removes = r; told = None })
 
 next_number : (b r : Bool) (before after : TablesView) (seq last : ℕ) → seq ≡ last + 1 → is_next (Some last) (line_by b r before after seq) ≡ true
 next_number true true before after seq last e = eq-eqb seq (last + 1) e
@@ -377,68 +389,145 @@ first_number true false before after seq e = refl
 first_number false true before after seq e = e
 first_number false false before after seq e = e
 
+-- ---- histograms that it tells
+
+-- a line as it is sent, with the histograms that it tells, if it does
+abbrev timed : Option (List TaskTimes) → LineView → LineView
+timed told l = option_map_or (λ times. with_times times l) told l
+
+timed_in : (told : Option (List TaskTimes)) (after : TablesView) (l : LineView) → IfSome told (AreToldOf after) → l.task_times ≡ None → IsLine l → IsLine (timed told l)
+timed_in None after l h none all = all
+timed_in (Some times) after l h none all = record {
+  dropped = all.dropped;
+  gone = said l.gone all.gone;
+  new_ops = all.new_ops;
+  new_resources = all.new_resources;
+  new_tasks = all.new_tasks;
+  now = all.now;
+  op_stats = all.op_stats;
+  poll_counts = all.poll_counts;
+  resource_stats = all.resource_stats;
+  seq = all.seq;
+  task_stats = all.task_stats;
+  task_times = record { each = h.each; said = refl };
+}
+  where
+    said : (gone : Option GoneView) → IfSome gone IsGone → IsGone (unwrap_or gone none_gone)
+    said None none = record { ops = tt; resources = tt; tasks = tt }
+    said (Some gone) is = is
+
+timed_next : (told : Option (List TaskTimes)) (last : Option ℕ) (l : LineView) → is_next last l ≡ true → is_next last (timed told l) ≡ true
+timed_next None last l e = e
+timed_next (Some times) None l e = e
+timed_next (Some times) (Some n) l e = e
+
+timed_applied : (told : Option (List TaskTimes)) (base after : TablesView) (l : LineView) → IfSome told (AreToldOf after) → l.task_times ≡ None
+    → IsAsTold base after l → line_applied base l ≡ Ok after → line_checked base (timed told l) ≡ Ok after
+unfolding line_applied
+timed_applied None base after l h none shape applied = untold_checked base l none ∙ applied
+timed_applied (Some times) base after l h none shape applied =
+    told_checked base (with_times times l) (told_sound base after l times h shape) (told_known base after l times h shape) ∙ applied
+
+timed_base : (told : Option (List TaskTimes)) (tables : TablesView) (l : LineView) → base_of tables (timed told l) ≡ base_of tables l
+timed_base None tables l = refl
+timed_base (Some times) tables l = refl
+
+timed_seq : (told : Option (List TaskTimes)) (l : LineView) → (timed told l).seq ≡ l.seq
+timed_seq None l = refl
+timed_seq (Some times) l = refl
+
+-- the histograms that a line is applied to
+times_by : (told : Option (List TaskTimes)) (b r : Bool) (before after : TablesView) (seq : ℕ) (times : List TaskTimes)
+    → times_base times (timed told (line_by b r before after seq)) ≡ cond b [] times
+times_by None true true before after seq times = refl
+times_by None true false before after seq times = refl
+times_by None false true before after seq times = refl
+times_by None false false before after seq times = refl
+times_by (Some ts) true true before after seq times = refl
+times_by (Some ts) true false before after seq times = refl
+times_by (Some ts) false true before after seq times = refl
+times_by (Some ts) false false before after seq times = refl
+
 -- ---- streams, by the laws of lines
 
--- what a stream comes to, from tables on and behind a line of that number
-abbrev Comes : ℕ → TablesView → Option ℕ → List Sending → Type 0
-Comes max before last sent =
-    (t : Start) × (meaning max (behind before last) (bytes_sent (lines_sent before sent)) ≡ goes t (length sent)) × (t.tables ≡ tables_sent before sent) × (t.part ≡ [])
+-- what a stream comes to, from tables and histograms on and behind a line of that number
+abbrev Comes : ℕ → TablesView → List TaskTimes → Option ℕ → List Sending → Type 0
+Comes max before times last sent =
+    (t : Start) × (meaning max (behind before times last) (bytes_sent (lines_sent before sent)) ≡ goes t (length sent)) × (t.tables ≡ tables_sent before sent) × (t.part ≡ []) × (t.times ≡ times_sent times before sent)
 
 module _ (lead : (old after : TablesView) (seq : ℕ) → AreFit old → AreFit after → GoOn old after → tables_after old (line_between old after seq) ≡ Some after)
     (less : (old after : TablesView) (seq : ℕ) → AreFit old → AreFit after → GoOn (what_stays old after) after → tables_after old (with_gone (gone_between old after) (line_between old after seq)) ≡ Some after)
     (tell : (tables : TablesView) (seq : ℕ) → AreFit tables → tables_after empty_tables (snapshot_of tables seq) ≡ Some tables)
     (read : (l : LineView) → IsLine l → line_of_text (line_text l) ≡ Ok l) where
   -- a line that is read and has no fault is taken
-  taken_at : (before after : TablesView) (last : Option ℕ) (l : LineView) → IsLine l → is_next last l ≡ true → line_applied (base_of before l) l ≡ Ok after
-      → line_taken before last (line_text l) ≡ Ok (behind after (Some l.seq))
+  taken_at : (before after : TablesView) (times : List TaskTimes) (last : Option ℕ) (l : LineView) → IsLine l → is_next last l ≡ true → line_checked (base_of before l) l ≡ Ok after
+      → line_taken before times last (line_text l) ≡ Ok (behind after (times_after (times_base times l) l) (Some l.seq))
   unfolding line_taken
-  taken_at before after last l in_range next applied =
-      ap (line_read before last) (read l in_range)
-      ∙ ap (λ b. cond b (behind_line l (line_applied (base_of before l) l)) (Err (Gap (expected last) l.seq))) next
-      ∙ ap (behind_line l) applied
+  taken_at before after times last l in_range next applied =
+      ap (line_read before times last) (read l in_range)
+      ∙ ap (λ b. cond b (behind_line l times (line_checked (base_of before l) l)) (Err (Gap (expected last) l.seq))) next
+      ∙ ap (behind_line l times) applied
 
-  taken_by : (b r : Bool) (before after : TablesView) (seq : ℕ) (last : Option ℕ) → AreFit before → AreFit after → GoOn (cond (r && not b) (what_stays before after) before) after → AreInRange before → AreInRange after
-      → is_seq seq ≡ true → is_next last (line_by b r before after seq) ≡ true → line_taken before last (line_text (line_by b r before after seq)) ≡ Ok (behind after (Some seq))
-  taken_by true false before after seq last old fit on was all numbered next =
+  -- so is one without histograms, with those that are told beside it
+  told_at : (told : Option (List TaskTimes)) (before after : TablesView) (times : List TaskTimes) (last : Option ℕ) (l : LineView) → IfSome told (AreToldOf after) → l.task_times ≡ None
+      → IsAsTold (base_of before l) after l → IsLine l → is_next last l ≡ true → line_applied (base_of before l) l ≡ Ok after
+      → line_taken before times last (line_text (timed told l)) ≡ Ok (behind after (times_after (times_base times (timed told l)) (timed told l)) (Some l.seq))
+  told_at told before after times last l h none shape in_range next applied =
+      taken_at before after times last (timed told l) (timed_in told after l h none in_range) (timed_next told last l next)
+      (ap (λ base. line_checked base (timed told l)) (timed_base told before l) ∙ timed_applied told (base_of before l) after l h none shape applied)
+      ∙ ap (λ n. Ok (behind after (times_after (times_base times (timed told l)) (timed told l)) (Some n))) (timed_seq told l)
+
+  taken_by : (told : Option (List TaskTimes)) (b r : Bool) (before after : TablesView) (times : List TaskTimes) (seq : ℕ) (last : Option ℕ) → IfSome told (AreToldOf after)
+      → AreFit before → AreFit after → GoOn (cond (r && not b) (what_stays before after) before) after → AreInRange before → AreInRange after
+      → is_seq seq ≡ true → is_next last (line_by b r before after seq) ≡ true
+      → line_taken before times last (line_text (timed told (line_by b r before after seq)))
+      ≡ Ok (behind after (times_after (times_base times (timed told (line_by b r before after seq))) (timed told (line_by b r before after seq))) (Some seq))
+  taken_by told true false before after times seq last h old fit on was all numbered next =
       let l : LineView = snapshot_of after seq in
-      taken_at before after last l (snapshot_in after seq all numbered) next
+      told_at told before after times last l h refl (record { gone = inl refl; new = refl }) (snapshot_in after seq all numbered) next
       (line_fits empty_tables l after (no_repeats empty_tables after seq fit.distinct) (no_strangers empty_tables after seq) (ap or_misfit (tell after seq fit)) (fits_all after fit))
-  taken_by true true before after seq last old fit on was all numbered next =
+  taken_by told true true before after times seq last h old fit on was all numbered next =
       let l : LineView = with_gone none_gone (snapshot_of after seq) in
-      taken_at before after last l (gone_in none_gone (snapshot_of after seq) (record { ops = tt; resources = tt; tasks = tt }) (snapshot_in after seq all numbered)) next
+      told_at told before after times last l h refl (record { gone = inl refl; new = refl }) (gone_in none_gone (snapshot_of after seq) (record { ops = tt; resources = tt; tasks = tt }) (snapshot_in after seq all numbered)) next
       (line_fits empty_tables l after (no_repeats empty_tables after seq fit.distinct) (no_strangers empty_tables after seq) (ap or_misfit (tell after seq fit)) (fits_all after fit))
-  taken_by false false before after seq last old fit on was all numbered next =
+  taken_by told false false before after times seq last h old fit on was all numbered next =
       let l : LineView = line_between before after seq in
-      taken_at before after last l (between_in before after seq all numbered) next
+      told_at told before after times last l h refl (record { gone = inl refl; new = refl }) (between_in before after seq all numbered) next
       (line_fits before l after (no_repeats before after seq fit.distinct) (no_strangers before after seq) (ap or_misfit (lead before after seq old fit on)) (fits_all after fit))
-  taken_by false true before after seq last old fit on was all numbered next =
+  taken_by told false true before after times seq last h old fit on was all numbered next =
       let l : LineView = line_less before after seq in
-      taken_at before after last l (gone_in (gone_between before after) (line_between before after seq) (between_gone before after was) (between_in before after seq all numbered)) next
+      told_at told before after times last l h refl (record { gone = inr refl; new = refl }) (gone_in (gone_between before after) (line_between before after seq) (between_gone before after was) (between_in before after seq all numbered)) next
       (line_fits before l after (no_repeats_less before after seq old.distinct fit.distinct) (no_strangers_less before after seq old.distinct) (ap or_misfit (less before after seq old fit on)) (fits_all after fit))
 
   -- a line, and what comes behind it
-  line_first : (max : ℕ) (before : TablesView) (last : Option ℕ) (s : Sending) (ss : List Sending) → AreFit before → AreInRange before → MaySend before s → is_next last (line_sent before s) ≡ true
-      → length (line_text (line_sent before s)) ≤ max → Comes max s.tables (Some s.seq) ss → Comes max before last (s ∷ ss)
-  line_first max before last s ss old was may next short rest =
+  line_first : (max : ℕ) (before : TablesView) (times : List TaskTimes) (last : Option ℕ) (s : Sending) (ss : List Sending) → AreFit before → AreInRange before → MaySend before s
+      → is_next last (line_by s.snapshot s.removes before s.tables s.seq) ≡ true
+      → length (line_text (line_sent before s)) ≤ max → ((later : List TaskTimes) → Comes max s.tables later (Some s.seq) ss) → Comes max before times last (s ∷ ss)
+  line_first max before times last s ss old was may next short rest =
       let l : LineView = line_sent before s in
-      let taken : line_taken before last (line_text l) ≡ Ok (behind s.tables (Some s.seq)) = taken_by s.snapshot s.removes before s.tables s.seq last old may.fit may.on was may.in_range may.numbered next in (
-        rest.0,
-        goes-then max (behind before last) (behind s.tables (Some s.seq)) rest.0 (line_text l ++ 10 ∷ []) (bytes_sent (lines_sent s.tables ss)) 1 (length ss)
-            (one_line max before s.tables last (Some s.seq) (line_text l) (text_is_one_line l) short taken) rest.1
-            ∙ ap (goes rest.0) (omega arith),
-        rest.2,
-        rest.3,
+      let later : List TaskTimes = times_after (times_base times l) l in
+      let more : Comes max s.tables later (Some s.seq) ss = rest later in
+      let taken : line_taken before times last (line_text l) ≡ Ok (behind s.tables later (Some s.seq)) =
+      taken_by s.told s.snapshot s.removes before s.tables times s.seq last may.told old may.fit may.on was may.in_range may.numbered next in (
+        more.0,
+        goes-then max (behind before times last) (behind s.tables later (Some s.seq)) more.0 (line_text l ++ 10 ∷ []) (bytes_sent (lines_sent s.tables ss)) 1 (length ss)
+            (one_line max before s.tables times later last (Some s.seq) (line_text l) (text_is_one_line l) short taken) more.1
+            ∙ ap (goes more.0) (omega arith),
+        more.2,
+        more.3,
+        more.4 ∙ ap (λ base. times_sent (times_after base l) s.tables ss) (times_by s.told s.snapshot s.removes before s.tables s.seq times),
       )
 
-  later_lines : (max : ℕ) (before : TablesView) (last : ℕ) (ss : List Sending) → AreFit before → AreInRange before → GoesOn before last ss → AreShort max (lines_sent before ss) → Comes max before (Some last) ss
-  later_lines max before last [] old was on short = (behind before (Some last), nothing max (behind before (Some last)) (omega arith), refl, refl)
-  later_lines max before last (s ∷ ss) old was on short =
-      line_first max before (Some last) s ss old was on.1 (next_number s.snapshot s.removes before s.tables s.seq last on.0) short.0 (later_lines max s.tables s.seq ss on.1.fit on.1.in_range on.2 short.1)
+  later_lines : (max : ℕ) (before : TablesView) (last : ℕ) (ss : List Sending) → AreFit before → AreInRange before → GoesOn before last ss → AreShort max (lines_sent before ss)
+      → (times : List TaskTimes) → Comes max before times (Some last) ss
+  later_lines max before last [] old was on short times = (behind before times (Some last), nothing max (behind before times (Some last)) (omega arith), refl, refl, refl)
+  later_lines max before last (s ∷ ss) old was on short times =
+      line_first max before times (Some last) s ss old was on.1 (next_number s.snapshot s.removes before s.tables s.seq last on.0) short.0 (later_lines max s.tables s.seq ss on.1.fit on.1.in_range on.2 short.1)
 
-  pub whole : (max : ℕ) (sent : List Sending) → IsUninterrupted sent → AreShort max (lines_sent empty_tables sent) → Comes max empty_tables None sent
-  whole max [] on short = (empty_start, nothing max empty_start (omega arith), refl, refl)
+  pub whole : (max : ℕ) (sent : List Sending) → IsUninterrupted sent → AreShort max (lines_sent empty_tables sent) → Comes max empty_tables [] None sent
+  whole max [] on short = (empty_start, nothing max empty_start (omega arith), refl, refl, refl)
   whole max (s ∷ ss) on short =
-      line_first max empty_tables None s ss empty_fit empty_in on.1 (first_number s.snapshot s.removes empty_tables s.tables s.seq on.0) short.0 (later_lines max s.tables s.seq ss on.1.fit on.1.in_range on.2 short.1)
+      line_first max empty_tables [] None s ss empty_fit empty_in on.1 (first_number s.snapshot s.removes empty_tables s.tables s.seq on.0) short.0 (later_lines max s.tables s.seq ss on.1.fit on.1.in_range on.2 short.1)
 
   -- a front has no fault where the whole has none
   pub fronts : (max : ℕ) (sent : List Sending) (n : ℕ) → IsUninterrupted sent → AreShort max (lines_sent empty_tables sent)
@@ -449,7 +538,7 @@ module _ (lead : (old after : TablesView) (seq : ℕ) → AreFit old → AreFit 
       bytes : List ℕ
       bytes = bytes_sent (lines_sent empty_tables sent)
 
-      by : Comes max empty_tables None sent → (o : Outcome) → meaning max empty_start (take n bytes) ≡ o → HasNoFault o
+      by : Comes max empty_tables [] None sent → (o : Outcome) → meaning max empty_start (take n bytes) ≡ o → HasNoFault o
       by all (goes t k) e = tt
       by all (stops t k fault used) e =
           let same : meaning max empty_start bytes ≡ stops t k fault used =
@@ -461,14 +550,15 @@ module _ (lead : (old after : TablesView) (seq : ℕ) → AreFit old → AreFit 
 
   -- all of a stream
   pub fed_whole : (old new : ClientView) (sent : List Sending) (lines : ℕ) → old.start ≡ empty_start → IsUninterrupted sent → AreShort old.max_line (lines_sent empty_tables sent)
-      → Took old (bytes_sent (lines_sent empty_tables sent)) lines new → (lines ≡ length sent) × (new.start.tables ≡ tables_sent empty_tables sent)
+      → Took old (bytes_sent (lines_sent empty_tables sent)) lines new
+      → (lines ≡ length sent) × (new.start.tables ≡ tables_sent empty_tables sent) × (new.start.times ≡ times_sent [] empty_tables sent)
   fed_whole old new sent lines empty on short took =
-      let all : Comes old.max_line empty_tables None sent = whole old.max_line sent on short in
+      let all : Comes old.max_line empty_tables [] None sent = whole old.max_line sent on short in
       let same : goes all.0 (length sent) ≡ goes new.start lines =
       sym all.1 ∙ ap (λ s. meaning old.max_line s (bytes_sent (lines_sent empty_tables sent))) (sym empty) ∙ took.came in
       let start : all.0 ≡ new.start = (cc) in
       let count : length sent ≡ lines = (cc) in
-      (sym count, ap (λ (s : Start). s.tables) (sym start) ∙ all.2)
+      (sym count, ap (λ (s : Start). s.tables) (sym start) ∙ all.2, ap (λ (s : Start). s.times) (sym start) ∙ all.4)
 
   no_stop : (max : ℕ) (sent : List Sending) (n : ℕ) (x : List ℕ) → IsUninterrupted sent → AreShort max (lines_sent empty_tables sent) → x ≡ take n (bytes_sent (lines_sent empty_tables sent))
       → (tables : TablesView) (lines : ℕ) (fault : Fault) (used : ℕ) → meaning max empty_start x ≡ stops tables lines fault used → ⊥

@@ -2,24 +2,27 @@
 use Rattle.std.specs.Prelude.{ℕ, ◌+◌, ◌-◌, ◌==◌, List, [], ◌∷◌, ◌++◌, length, Bool, ◌||◌, nat_lt, Option, Some, None, if◌then◌else◌, Result, Ok, Err}
 use Rattle.tk_stream.specs.declared.error.LineError.{LineError}
 use Rattle.tk_stream.specs.declared.error.LineError.TheVariants as line
+use Rattle.tk_stream.specs.Applied.{times_after}
 use Rattle.tk_stream.specs.Lines.{LineView}
 use Rattle.tk_stream.specs.Reading.{line_of_text}
 use Rattle.tk_stream.specs.Spelling.{line_end}
 use Rattle.tk_stream.specs.Tables.{TablesView, empty_tables}
+use Rattle.tk_stream.specs.Times.{TaskTimes}
 use Rattle.tk_client.specs.declared.fault.Fault.{Fault}
 use Rattle.tk_client.specs.declared.fault.Fault.TheVariants.{Memory, BadJson, BadShape, Gap, TooLong}
-use Rattle.tk_client.specs.Taking.{line_applied}
+use Rattle.tk_client.specs.Taking.{line_checked}
 
--- where a client begins to read: tables, the number of the last line (none before the first), and the bytes of a line that
--- hasn't ended
+-- where a client begins to read: tables, the number of the last line (none before the first), the bytes of a line that hasn't
+-- ended, and the histograms of poll times that stand beside the tables
 pub record Start : Type 0 where
   pub tables : TablesView
   pub last : Option ℕ
   pub part : List ℕ
+  pub times : List TaskTimes
 
 -- where a new client begins
 abbrev pub empty_start : Start
-empty_start = record { tables = empty_tables; last = None; part = [] }
+empty_start = record { tables = empty_tables; last = None; part = []; times = [] }
 
 -- what bytes come to: they go on to a start, after so many lines, or stop at tables, after so many lines, by a fault, through
 -- so many of the bytes
@@ -49,20 +52,24 @@ is_next (Some last) l = l.seq == last + 1
 abbrev pub base_of : TablesView → LineView → TablesView
 base_of old l = if l.snapshot then empty_tables else old
 
--- the start behind a line that was applied
-abbrev pub behind_line : LineView → Result TablesView Fault → Result Start Fault
-behind_line l (Ok tables) = Ok (record { tables = tables; last = Some l.seq; part = [] })
-behind_line l (Err fault) = Err fault
+-- the histograms that a line is applied to: a snapshot stands for itself
+abbrev pub times_base : List TaskTimes → LineView → List TaskTimes
+times_base old l = if l.snapshot then [] else old
+
+-- the start behind a line that was applied, where these histograms stood beside the tables
+abbrev pub behind_line : LineView → List TaskTimes → Result TablesView Fault → Result Start Fault
+behind_line l times (Ok tables) = Ok (record { tables = tables; last = Some l.seq; part = []; times = times_after (times_base times l) l })
+behind_line l times (Err fault) = Err fault
 
 -- a line that was read is taken where it is the next one
-abbrev pub line_read : TablesView → Option ℕ → Result LineView LineError → Result Start Fault
-line_read tables last (Ok l) =
-    if is_next last l then behind_line l (line_applied (base_of tables l) l) else Err (Gap (expected last) l.seq)
-line_read tables last (Err e) = Err (fault_of e)
+abbrev pub line_read : TablesView → List TaskTimes → Option ℕ → Result LineView LineError → Result Start Fault
+line_read tables times last (Ok l) =
+    if is_next last l then behind_line l times (line_checked (base_of tables l) l) else Err (Gap (expected last) l.seq)
+line_read tables times last (Err e) = Err (fault_of e)
 
--- a whole line, without its end, taken behind tables and the number of the last line
-unfoldable pub line_taken : TablesView → Option ℕ → List ℕ → Result Start Fault
-line_taken tables last text = line_read tables last (line_of_text text)
+-- a whole line, without its end, taken behind tables, histograms and the number of the last line
+unfoldable pub line_taken : TablesView → List TaskTimes → Option ℕ → List ℕ → Result Start Fault
+line_taken tables times last text = line_read tables times last (line_of_text text)
 
 -- ---- the lines of bytes
 
@@ -105,7 +112,7 @@ abbrev pub run : ℕ → Start → List (List ℕ) → List ℕ → Outcome
 run max s [] rest = held max s rest
 run max s (l ∷ ls) rest =
     if is_too_long max s l then too_long max s else
-    ended s.tables (length l + 1) (line_taken s.tables s.last (s.part ++ l)) (λ t. run max t ls rest)
+    ended s.tables (length l + 1) (line_taken s.tables s.times s.last (s.part ++ l)) (λ t. run max t ls rest)
 
 -- what bytes mean to a client that takes lines of at most `max` bytes
 abbrev pub meaning : ℕ → Start → List ℕ → Outcome

@@ -8,8 +8,10 @@ use Rattle.tk_ids.specs.declared.attr.AttrKind.TheVariants as kinds
 use Rattle.tk_ids.specs.declared.attr.AttrValue.{AttrValue}
 use Rattle.tk_stream.specs.declared.op.Op.{Op}
 use Rattle.tk_stream.specs.declared.resource.Resource.{Resource}
-use Rattle.tk_stream.specs.Tables.{TablesView, counts_id, item_with}
-use Rattle.tk_stream.specs.Lines.{LineView, gone_of}
+use Rattle.tk_ids.specs.declared.info.TaskInfo.{TaskInfo}
+use Rattle.tk_stream.specs.Tables.{TablesView, task_id, counts_id, item_with, is_among}
+use Rattle.tk_stream.specs.Times.{times_id}
+use Rattle.tk_stream.specs.Lines.{LineView, gone_of, times_of}
 use Rattle.tk_stream.specs.Applied.{Kind, task_kind, resource_kind, op_kind, tables_after}
 use Rattle.tk_client.specs.declared.fault.Fault.{Fault}
 use Rattle.tk_client.specs.declared.fault.Fault.TheVariants.{UnknownId, Repeated, Misfit}
@@ -125,3 +127,27 @@ line_applied old l =
     if repeats_id old l then Err Repeated else
     (if has_strange_id old l then Err UnknownId else
     fitting (tables_after old l))
+
+-- ---- histograms of poll times
+
+-- the id of a new task
+abbrev pub new_id : TaskInfo → ℕ
+new_id info = info.id
+
+-- the line tells the histogram of a task twice, or that of one that is gone
+abbrev pub repeats_times : LineView → Bool
+repeats_times l = has_twice (map times_id (times_of l)) || list_any (is_among (map times_id (times_of l))) (gone_of l).tasks
+
+-- a task is neither there nor new
+abbrev pub is_strange_task : TablesView → List TaskInfo → ℕ → Bool
+is_strange_task old infos id = not (has_id task_id id old.tasks || is_among (map new_id infos) id)
+
+-- the line tells a histogram of a task that is neither there nor new
+abbrev pub strange_times : TablesView → LineView → Bool
+strange_times old l = list_any (λ t. is_strange_task old l.new_tasks (times_id t)) (times_of l)
+
+-- what a line makes of tables, once its histograms are found to be of tasks that are then there, and of none twice
+abbrev pub line_checked : TablesView → LineView → Result TablesView Fault
+line_checked old l =
+    if repeats_times l then Err Repeated else
+    (if strange_times old l then Err UnknownId else line_applied old l)

@@ -138,6 +138,30 @@ abbrev pub left_by : GoneView → Result TablesView Fault → Result TablesView 
 left_by gone (Ok tables) = Ok (without_gone tables gone)
 left_by gone (Err fault) = Err fault
 
+-- ---- items that are told whole
+
+-- a kind of items that are told whole
+abbrev pub keyed_kind : {Item : Type 0} → (Item → ℕ) → Kind Item ℕ Item
+keyed_kind id_of = record {
+  id_of = id_of;
+  info_of = id_of;
+  info_id = λ id. id;
+  stats_id = id_of;
+  item_of = λ id c. c;
+}
+
+-- items that are there with what is told of them, and behind them the new ones
+abbrev pub keyed_after : {Item : Type 0} → (Item → ℕ) → List Item → List Item → List Item
+keyed_after id_of old told = map (told_item (keyed_kind id_of) told) old ++ filter (is_new id_of old) told
+
+-- items with this one behind them, where none has its id
+abbrev pub key_added : {Item : Type 0} → (Item → ℕ) → Item → List Item → List Item
+key_added id_of c items = if is_some (item_with id_of (id_of c) items) then items else items ++ c ∷ []
+
+-- each item that is told is there
+abbrev pub AreKeyed : {Item : Type 0} → (Item → ℕ) → List Item → List Item → Type 0
+AreKeyed id_of items told = list_all (λ c. is_some (item_with id_of (id_of c) items)) told ≡ true
+
 -- ---- growth
 
 -- a list that begins with another one

@@ -10,17 +10,21 @@ ghost use Rattle.tk_client.specs.Told.{Answers, Ended, EndedWhole};
 use crate::fault::{Fault, FeedError};
 use crate::lints::Lints;
 use crate::shown::Shown;
+use crate::times::{Times, apply};
 use crate::warning::Warning;
 use memchr::memchr;
 use std::alloc::Global;
 use std::marker::Model;
-use tk_stream::{Line, Tables};
+use tk_ids::TaskId;
+use tk_stream::{Line, PollTimes, Table, Tables};
 
 /// A client of a stream.
 #[derive(Drop)]
 pub struct Client {
     alloc: Global,
     shown: Shown,
+    // Beside the tables, and of their tasks alone.
+    times: Times,
     last: Option<u64>,
     // The bytes of a line that hasn't ended.
     part: Vec<u8>,
@@ -35,7 +39,7 @@ impl Model for Client {
     ghost Value = { ClientView };
 
     ghost view = { λ c. record {
-      start = record { tables = c.shown; last = c.last; part = c.part.items };
+      start = record { tables = c.shown; last = c.last; part = c.part.items; times = c.times };
       has_failed = c.failed;
       max_line = c.limit;
     } };
@@ -81,10 +85,17 @@ fn is_next(last: Option<u64>, line: &Line) -> bool
 
 // Applies a line's text, or leaves the tables as they are. It answers the line's number.
 #[tactic(auto, unfolding(crate::specs::Meaning::line_taken))]
-fn take_line(alloc: Global, shown: &mut Shown, last: Option<u64>, text: &[u8]) -> Result<u64, Fault>
+fn take_line(
+    alloc: Global,
+    shown: &mut Shown,
+    times: &mut Times,
+    last: Option<u64>,
+    text: &[u8],
+) -> Result<u64, Fault>
     requires { IfSome last (λ n. n ≤ 2 ^ 63) }
-    ensures taken { Answers (λ n. record { tables = shown.new; last = Some n; part = [] }) result (spec.line_taken shown.old last text.now) }
+    ensures taken { Answers (λ n. record { tables = shown.new; last = Some n; part = []; times = times.new }) result (spec.line_taken shown.old times.old last text.now) }
     ensures kept { OnErr result (shown.new ≡ shown.old) }
+    ensures kept_times { OnErr result (times.new ≡ times.old) }
     ensures number { IfOk result (λ n. n ≤ 2 ^ 63) }
 {
     let mut line = Line::read(alloc, text)?;
@@ -95,7 +106,7 @@ fn take_line(alloc: Global, shown: &mut Shown, last: Option<u64>, text: &[u8]) -
             found,
         });
     }
-    shown.apply(alloc, &mut line)?;
+    apply(alloc, shown, times, &mut line)?;
     Ok(found)
 }
 
@@ -118,6 +129,7 @@ impl Client {
         Ok(Client {
             alloc,
             shown,
+            times: Table::new(alloc),
             last: None,
             part,
             limit: max_line,
@@ -132,11 +144,19 @@ impl Client {
         self.shown.tables()
     }
 
-    /// Forgets tables, numbers, part lines and faults: the next line is a first one. It takes no memory.
+    /// The histograms of poll times that the lines lead to that were applied, each of a task of the tables. Only lines of version 3 tell some.
+    pub fn times(&self) -> &Table<(TaskId, PollTimes)>
+        ensures { result.now ≡ self.now.start.times }
+    {
+        &self.times
+    }
+
+    /// Forgets tables, histograms, numbers, part lines and faults: the next line is a first one. It takes no memory.
     pub fn restart(&mut self)
         ensures { self.new ≡ record { start = empty_start; has_failed = false; max_line = self.old.max_line } }
     {
         self.shown.clear();
+        self.times.cut(0);
         self.last = None;
         self.part.clear();
         self.failed = false;
@@ -175,7 +195,13 @@ impl Client {
         ensures ended { Ended self.old result self.new }
         ensures limit { self.new.max_line ≡ self.old.max_line }
     {
-        match take_line(self.alloc, &mut self.shown, self.last, self.part.as_slice()) {
+        match take_line(
+            self.alloc,
+            &mut self.shown,
+            &mut self.times,
+            self.last,
+            self.part.as_slice(),
+        ) {
             Ok(number) => {
                 self.last = Some(number);
                 self.part.clear();
@@ -198,7 +224,13 @@ impl Client {
         ensures ended { EndedWhole self.old line.now result self.new }
         ensures limit { self.new.max_line ≡ self.old.max_line }
     {
-        match take_line(self.alloc, &mut self.shown, self.last, line) {
+        match take_line(
+            self.alloc,
+            &mut self.shown,
+            &mut self.times,
+            self.last,
+            line,
+        ) {
             Ok(number) => {
                 self.last = Some(number);
                 Ok(())
@@ -298,12 +330,12 @@ impl Client {
 
     /// Takes a piece of the stream: any bytes, wherever they are cut. A line ends at a line feed, byte 0x0A.
     ///
-    /// Lines of versions 1 and 2 are taken, also one after the other. What a line of version 2 says is gone leaves the tables,
-    /// where the other items keep their order; a later line may show it as new again.
+    /// Lines of versions 1, 2 and 3 are taken, also one after the other. What a line says is gone leaves the tables, where the other
+    /// items keep their order; a later line may show it as new again. The histogram of a task leaves with it.
     ///
     /// It answers how many lines were applied, which is how many ended. Each is checked in this order, and a line with a
-    /// fault is applied in no part: `TooLong` at the first byte too many; `BadJson`, `BadShape`; `Gap`; `Repeated`;
-    /// `UnknownId`; `Misfit`. `used` counts the bytes through the fault.
+    /// fault is applied in no part: `TooLong` at the first byte too many; `BadJson`, `BadShape`; `Gap`; `Repeated`
+    /// and `UnknownId` of histograms; `Repeated`; `UnknownId`; `Misfit`. `used` counts the bytes through the fault.
     ///
     /// - `Memory`: the first `used` bytes were taken, and those behind them may be fed again. A whole line that found no
     ///   memory is applied in no part: where all of it lies in the piece, `used` ends before the line, and where its front

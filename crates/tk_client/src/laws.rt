@@ -10,7 +10,7 @@ ghost use Rattle.tk_client.specs.Feeding.{ClientView, Took, Stopped};
 ghost use Rattle.tk_client.specs.Meaning.{Start, empty_start, goes, stops, meaning, after};
 ghost use Rattle.tk_client.specs.Streams.{AreShort, HasNoFault};
 ghost use Rattle.tk_client.specs.Warnings.{LintsView, warnings_of};
-ghost use Rattle.tk_stream.specs.Streams.{Sending, IsUninterrupted, lines_sent, bytes_sent, tables_sent};
+ghost use Rattle.tk_stream.specs.Streams.{Sending, IsUninterrupted, lines_sent, bytes_sent, tables_sent, times_sent};
 
 use tk_stream::laws::{lines_lead_on, lines_read_back};
 
@@ -28,11 +28,12 @@ pub fn faults_stay()
 {}
 
 /// An uninterrupted stream without a line that is too long has no fault, nor has a front of it, and the whole gives the tables
-/// of its last line, or empty ones where it has no line, with all of its lines applied and no part of a line left.
+/// of its last line, or empty ones where it has no line, and the histograms that its lines lead to, with all of its lines applied and no
+/// part of a line left.
 pub fn streams_are_taken()
     ensures whole { (max : ℕ) (sent : List Sending) → IsUninterrupted sent → AreShort max (lines_sent empty_tables sent)
         → (s : Start) × (meaning max empty_start (bytes_sent (lines_sent empty_tables sent)) ≡ goes s (length sent))
-        × (s.tables ≡ tables_sent empty_tables sent) × (s.part ≡ []) }
+        × (s.tables ≡ tables_sent empty_tables sent) × (s.part ≡ []) × (s.times ≡ times_sent [] empty_tables sent) }
     ensures fronts { (max : ℕ) (sent : List Sending) (n : ℕ) → IsUninterrupted sent → AreShort max (lines_sent empty_tables sent)
         → HasNoFault (meaning max empty_start (take n (bytes_sent (lines_sent empty_tables sent)))) }
 {
@@ -47,13 +48,13 @@ pub fn feeds_add_up()
 {}
 
 /// A client that takes an uninterrupted stream without a line that is too long, from empty tables on: once it has taken all
-/// bytes it has applied all lines and holds the tables of the last one, and until then feeding it the next piece stops for
+/// bytes it has applied all lines and holds the tables of the last one, and the histograms that they lead to, and until then feeding it the next piece stops for
 /// want of memory alone.
 pub fn streams_are_fed()
     ensures tables { (old new : ClientView) (sent : List Sending) (lines : ℕ) → old.start ≡ empty_start → IsUninterrupted sent
         → AreShort old.max_line (lines_sent empty_tables sent)
         → Took old (bytes_sent (lines_sent empty_tables sent)) lines new
-        → (lines ≡ length sent) × (new.start.tables ≡ tables_sent empty_tables sent) }
+        → (lines ≡ length sent) × (new.start.tables ≡ tables_sent empty_tables sent) × (new.start.times ≡ times_sent [] empty_tables sent) }
     ensures memory { (first old new : ClientView) (sent : List Sending) (front piece rest : List ℕ) (lines : ℕ) (e : FeedError)
         → first.start ≡ empty_start → IsUninterrupted sent → AreShort first.max_line (lines_sent empty_tables sent)
         → bytes_sent (lines_sent empty_tables sent) ≡ front ++ (piece ++ rest) → Took first front lines old

@@ -1,6 +1,6 @@
 //! A client of a stream: it takes the stream's bytes in any pieces, and keeps the tables that its lines lead to.
 //!
-//! - [`Client`]: tables that are kept up by the lines that are fed.
+//! - [`Client`]: tables that are kept up by the lines that are fed, and histograms of poll times beside them.
 //! - [`Fault`]: why a line is not taken. [`FeedError`]: how far feeding came.
 //! - [`Warning`], [`WarningKind`]: what is odd about a task. [`Lints`]: how much is too much.
 //! - [`warnings_in`]: the warnings of any tables.
@@ -23,6 +23,7 @@ mod resources;
 mod shown;
 mod taking;
 mod tasks;
+mod times;
 mod warning;
 
 pub use candidates::warnings_in;

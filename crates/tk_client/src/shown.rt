@@ -1,11 +1,11 @@
 //! The tables that a client shows, to which lines are applied in place.
-ghost use Rattle.std.specs.Prelude.{◌≡◌, Ok, IfOk, OnErr};
+ghost use Rattle.std.specs.Prelude.{◌≡◌, Ok, IfOk, OnOk, OnErr};
 ghost use Rattle.tk_stream.specs.Applied.{without_gone};
 ghost use Rattle.tk_stream.specs.Lines.{gone_of};
 ghost use Rattle.tk_stream.specs.Tables.{empty_tables};
 ghost use Rattle.tk_client.specs.Meaning.{base_of};
 ghost use Rattle.tk_client.specs.Taking.{line_applied};
-ghost use Rattle.tk_client.specs.Told.{Answers};
+ghost use Rattle.tk_client.specs.Told.{Answers, spent};
 ghost use Rattle.tk_client.specs.Warnings.{warnings_in};
 
 use crate::able::{places_of, relist, unlist};
@@ -81,6 +81,7 @@ impl Shown {
         requires { leaving.now ≡ gone_of line.old }
         ensures applied { Answers (λ _. without_gone self.new leaving.now) result (line_applied self.old line.old) }
         ensures kept { OnErr result (self.new ≡ self.old) }
+        ensures spent { OnOk result (line.new ≡ spent line.old) }
     {
         self.able.reserve(line.task_stats().len())?;
         match apply_told(alloc, &mut self.tables, line, leaving) {
@@ -108,6 +109,7 @@ impl Shown {
     fn go_on(&mut self, alloc: Global, line: &mut Line) -> Result<(), Fault>
         ensures applied { Answers (λ _. self.new) result (line_applied self.old line.old) }
         ensures kept { OnErr result (self.new ≡ self.old) }
+        ensures spent { OnOk result (line.new ≡ spent line.old) }
     {
         let Some(leaving) = Leaving::of(alloc, line)? else {
             return Err(Fault::Repeated);
@@ -125,6 +127,7 @@ impl Shown {
     pub(crate) fn apply(&mut self, alloc: Global, line: &mut Line) -> Result<(), Fault>
         ensures applied { Answers (λ _. self.new) result (line_applied (base_of self.old line.old) line.old) }
         ensures kept { OnErr result (self.new ≡ self.old) }
+        ensures spent { OnOk result (line.new ≡ spent line.old) }
     {
         if !line.snapshot() {
             return self.go_on(alloc, line);

@@ -11,3 +11,4 @@ mod respelled;
 mod rows;
 mod spelled;
 mod texts;
+mod times;

@@ -114,6 +114,7 @@ same_line left old new seq stay = λ i. record {
   seq = seq;
   snapshot = false;
   task_stats = same_stats task_id have_same_row left.tasks task_stats_of old.tasks new.tasks stay.tasks i;
+  task_times = None;
 }
 
 -- ---- lines of what leaves

@@ -1,5 +1,5 @@
 -- What a program publishes through the exports: the entries that it gives for each line, and the stream that the lines make.
-use Rattle.std.specs.Prelude.{◌≡◌, ℕ, Bool, true, false, List, [], ◌∷◌, ◌++◌, length, map}
+use Rattle.std.specs.Prelude.{◌≡◌, ℕ, Bool, true, false, List, [], ◌∷◌, ◌++◌, length, map, None}
 use Rattle.std.specs.List.{AllByRecursion, flat_map}
 use Rattle.tk_stream.specs.Retention.{prune}
 use Rattle.tk_stream.specs.Streams.{Sending}
@@ -84,7 +84,7 @@ removes (leaving retention) = true
 
 -- the line of a stream that is meant
 abbrev pub sending_of : Publishing → Sending
-sending_of p = record { tables = p.after; seq = p.head.seq; snapshot = p.head.snapshot; removes = removes p.how }
+sending_of p = record { tables = p.after; seq = p.head.seq; snapshot = p.head.snapshot; removes = removes p.how; told = None }
 
 -- the stream that is meant
 abbrev pub sendings : List Publishing → List Sending

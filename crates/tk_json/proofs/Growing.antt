@@ -67,15 +67,15 @@ item_turn levels depth found ts r v going e =
     ap (parse_map (kept_array levels found)) (item_read depth ts r d.0 going d.1) ∙ with_item levels found d.0 (items_read depth r)
     ∙ ap (λ x. parse_map (kept_array levels (found ++ x ∷ [])) (items_read depth r)) (sym d.2)
 
-pub narrow_array : (levels : ℕ) (found : List Data) → length found ≤ 6 → kept_array levels found no_items ≡ array (items_of found)
+pub narrow_array : (levels : ℕ) (found : List Data) → length found ≤ 14 → kept_array levels found no_items ≡ array (items_of found)
 narrow_array levels found h =
-    let e : nat_le (length found + 0) 6 ≡ true = grind arith in
+    let e : nat_le (length found + 0) 14 ≡ true = grind arith in
     rw e (ap array (before_none found))
 
-pub wide_array : (levels : ℕ) (found : List Data) (o : Option (Items × List Token)) (r : List Token) → 6 < length found → rest o ≡ Some r → parse_map (kept_array levels found) o ≡ Some (nothing, r)
+pub wide_array : (levels : ℕ) (found : List Data) (o : Option (Items × List Token)) (r : List Token) → 14 < length found → rest o ≡ Some r → parse_map (kept_array levels found) o ≡ Some (nothing, r)
 wide_array levels found None r h e = absurd (cc)
 wide_array levels found (Some p) r h e =
-    let wide : nat_le (length found + items_len p.0) 6 ≡ false = grind arith in
+    let wide : nat_le (length found + items_len p.0) 14 ≡ false = grind arith in
     let left : p.1 ≡ r = cc in
     rw (wide, left) refl
 

@@ -26,7 +26,7 @@ scalars_kept (string s) n = (refl, refl, refl)
 scalars_kept (array ds) zero = (refl, refl, refl)
 scalars_kept (object ms) zero = (refl, refl, refl)
 scalars_kept (array ds) (suc n) =
-    let b = nat_le (items_len ds) 6 in
+    let b = nat_le (items_len ds) 14 in
     let kept = array (small_items ds n) in
     (either b as_number kept nothing None refl refl, either b as_str kept nothing None refl refl, either b as_bool kept nothing None refl refl)
 scalars_kept (object ms) (suc n) =
@@ -43,7 +43,7 @@ items_kept null n = refl
 items_kept (boolean b) n = refl
 items_kept (number x) n = refl
 items_kept (string s) n = refl
-items_kept (array ds) n = few_items (nat_le (items_len ds) 6) n ds
+items_kept (array ds) n = few_items (nat_le (items_len ds) 14) n ds
 items_kept (object ms) n = either (nat_le (members_len ms) 17) as_array (object (small_members ms n)) nothing None refl refl
 
 get_by : (o : Ordering) (n : ℕ) (k l : List ℕ) (e : Data) (ms : Members) → get_member k (small_members ms n) ≡ option_map (λ d. small d n) (get_member k ms)
@@ -75,5 +75,5 @@ members_kept null n = no_count null n (λ k h. refl) (λ k. refl)
 members_kept (boolean b) n = no_count (boolean b) n (λ k h. refl) (λ k. refl)
 members_kept (number x) n = no_count (number x) n (λ k h. refl) (λ k. refl)
 members_kept (string s) n = no_count (string s) n (λ k h. refl) (λ k. refl)
-members_kept (array ds) n = no_count (array ds) n (λ k h. either (nat_le (items_len ds) 6) (has_count k) (array (small_items ds n)) nothing false refl (grind arith)) (λ k. refl)
+members_kept (array ds) n = no_count (array ds) n (λ k h. either (nat_le (items_len ds) 14) (has_count k) (array (small_items ds n)) nothing false refl (grind arith)) (λ k. refl)
 members_kept (object ms) n = λ k h g. (count_by (nat_le (members_len ms) 17) k n ms refl h g, λ has. member_by (nat_le (members_len ms) 17) k n ms refl g has)

@@ -9,7 +9,7 @@ use Rattle.tk_json.specs.Values.{value_read}
 
 -- the most items that an array has which is kept
 abbrev pub widest_array : ℕ
-widest_array = 6
+widest_array = 14
 
 -- the most members that an object has which is kept
 abbrev pub widest_object : ℕ

@@ -15,7 +15,7 @@ use json::{Reader, Token};
 use serde_json::{Map, Value};
 use std::alloc::Global;
 
-const WIDEST_ARRAY: usize = 6;
+const WIDEST_ARRAY: usize = 14;
 
 const WIDEST_OBJECT: usize = 17;
 
@@ -27,7 +27,7 @@ fn nothing(alloc: Global) -> Value
 }
 
 /// The value that is next, in which arrays and objects nest no deeper than `depth`. Of it so many levels are kept: an array of more
-/// than 6 items, an object of more than 17 members, and each of them that lies deeper, is an empty object. [`crate::laws`] says what
+/// than 14 items, an object of more than 17 members, and each of them that lies deeper, is an empty object. [`crate::laws`] says what
 /// the value still tells.
 ///
 /// - `BadJson`: no such value comes next.

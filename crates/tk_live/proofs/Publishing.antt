@@ -184,6 +184,7 @@ published a t retention due sent now whole are sound may later =
         moment = refl;
         snapshot = refl;
         removes = ap is_some are.retention_is;
+        told = refl;
         infos = infos_leave whole a now ∙ ap (λ i. infos_without (leaving a.retention a.told s) i) are.infos ∙ (λ i. infos_without (leaving (are.retention_is i) (are.told i) s) (infos_with (infos_of (are.told i)) are.since));
         gone = λ removes. ap (λ b. gone_by b s) (sym are.told) ∙ just_due whole a now sound removes ∙ (λ i. leaving (are.retention_is i) (are.told i) s);
         readings = record { tasks = b.tasks; resources = b.resources; ops = b.ops; tasks_are = later.tasks; resources_are = later.resources; ops_are = later.ops };

@@ -41,13 +41,14 @@ abbrev pub leaving : Option ℕ → TablesView → Sending → GoneView
 leaving None before s = none_gone
 leaving (Some retention) before s = if s.snapshot then none_gone else due_of before s.tables.now retention
 
--- a line is one that was due: at its moment, a snapshot or not, of version 2 where closed items leave. Behind the tables of the line
+-- a line is one that was due: at its moment, a snapshot or not, of version 2 where closed items leave, and without histograms. Behind the tables of the line
 -- before it has their infos and poll counts and those that were told since, but for the items that leave, and one of version 2 says
 -- that just these are gone. Its rows are readings
 pub record IsLineOf (retention : Option ℕ) (before : TablesView) (since : List Told) (d : Due) (s : Sending) : Type 0 where
   pub moment : s.tables.now ≡ d.moment
   pub snapshot : s.snapshot ≡ d.whole
   pub removes : s.removes ≡ is_some retention
+  pub told : s.told ≡ None
   pub infos : infos_of s.tables ≡ infos_without (leaving retention before s) (infos_with (infos_of before) since)
   pub gone : s.removes ≡ true → gone_by before s ≡ leaving retention before s
   pub readings : AreReadings s.tables

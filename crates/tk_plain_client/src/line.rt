@@ -24,6 +24,14 @@ pub struct Part {
     pub gone: Vec<u64>,
 }
 
+/// A task's histogram of poll times.
+#[derive(Clone, Copy, PartialEq, Eq)]
+pub struct Histogram {
+    pub id: u64,
+    pub counts: [u64; 14],
+    pub longest: u64,
+}
+
 /// How a line is spoilt.
 #[derive(Clone, Copy, Drop, PartialEq, Eq)]
 pub enum Spoilt {
@@ -41,8 +49,10 @@ pub struct Given {
     pub counts: Vec<(u64, u64, u64)>,
     pub seq: u64,
     pub snapshot: bool,
-    /// It is of version 2, which says what is gone.
+    /// It is of version 2 or 3, which say what is gone.
     pub removes: bool,
+    /// The histograms that it tells, where it is of version 3.
+    pub times: Option<Vec<Histogram>>,
     pub now: u64,
     pub spoilt: Spoilt,
 }

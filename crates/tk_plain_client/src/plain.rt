@@ -1,6 +1,6 @@
 //! What a client makes of lines, computed plainly: each rule by a look through whole lists.
 
-use crate::line::{Given, New, Part, Spoilt, Told};
+use crate::line::{Given, Histogram, New, Part, Spoilt, Told};
 use std::alloc::{AllocError, Global};
 
 /// An item that is held.
@@ -17,6 +17,7 @@ pub struct Plain {
     pub resources: Vec<Held>,
     pub ops: Vec<Held>,
     pub counts: Vec<(u64, u64, u64)>,
+    pub times: Vec<Histogram>,
     pub now: u64,
     pub last: Option<u64>,
 }
@@ -183,6 +184,65 @@ fn counts_behind(
     Ok(counts)
 }
 
+fn histogram_of(times: &[Histogram], id: u64) -> Option<Histogram> {
+    for one in times {
+        if one.id == id {
+            return Some(*one);
+        }
+    }
+    None
+}
+
+// The histograms that a line tells: none, where it isn't of version 3.
+fn times_told(line: &Given) -> &[Histogram] {
+    match &line.times {
+        Some(times) => times.as_slice(),
+        None => &[],
+    }
+}
+
+// Whether a histogram is told twice, or is of a task that is gone.
+fn repeats_times(line: &Given) -> bool {
+    let told = times_told(line);
+    for (i, one) in told.iter().enumerate() {
+        if histogram_of(&told[..i], one.id).is_some() || is_among(&line.tasks.gone, one.id) {
+            return true;
+        }
+    }
+    false
+}
+
+// Whether a histogram is of a task that is neither there nor new.
+fn has_strange_times(held: &[Held], line: &Given) -> bool {
+    for one in times_told(line) {
+        if !has(held, one.id) && !has_new(&line.tasks.news, one.id) {
+            return true;
+        }
+    }
+    false
+}
+
+// The histograms behind a line: those of tasks that are gone leave, what is told takes the place of what was, and new ones go last.
+fn times_behind(
+    alloc: Global,
+    held: &[Histogram],
+    line: &Given,
+) -> Result<Vec<Histogram>, AllocError> {
+    let told = times_told(line);
+    let mut times = Vec::new(alloc);
+    for old in held {
+        if !is_among(&line.tasks.gone, old.id) {
+            times.push(histogram_of(told, old.id).unwrap_or(*old))?;
+        }
+    }
+    for one in told {
+        if histogram_of(held, one.id).is_none() {
+            times.push(*one)?;
+        }
+    }
+    Ok(times)
+}
+
 // The ids and shapes of items.
 fn news_of(alloc: Global, held: &[Held]) -> Result<Vec<New>, AllocError> {
     let mut news = Vec::new(alloc);
@@ -212,6 +272,7 @@ impl Plain {
             resources: Vec::new(alloc),
             ops: Vec::new(alloc),
             counts: Vec::new(alloc),
+            times: Vec::new(alloc),
             now: 0,
             last: None,
         }
@@ -252,6 +313,12 @@ impl Plain {
 
     // Applies a line to what is held, or to nothing where it is a snapshot. It answers the fault's number, 0 without one.
     fn apply(&mut self, alloc: Global, line: &Given) -> Result<u32, AllocError> {
+        if repeats_times(line) {
+            return Ok(6);
+        }
+        if has_strange_times(&self.tasks, line) {
+            return Ok(5);
+        }
         if self.repeats(line) {
             return Ok(6);
         }
@@ -268,6 +335,7 @@ impl Plain {
         let resources = items_behind(alloc, &self.resources, &line.resources)?;
         let ops = items_behind(alloc, &self.ops, &line.ops)?;
         let counts = counts_behind(alloc, &self.counts, &line.counts)?;
+        let times = times_behind(alloc, &self.times, line)?;
         if !fit(&resources) || !fit(&ops) {
             return Ok(8);
         }
@@ -275,6 +343,7 @@ impl Plain {
         self.resources = resources;
         self.ops = ops;
         self.counts = counts;
+        self.times = times;
         self.now = line.now;
         self.last = Some(line.seq);
         Ok(0)
@@ -316,6 +385,7 @@ impl Plain {
             seq: 1,
             snapshot: true,
             removes: false,
+            times: None,
             now: self.now,
             spoilt: Spoilt::Whole,
         })

@@ -1,7 +1,7 @@
 //! A line, by its text.
 
 use crate::items::{Kind, new_of, told_of};
-use crate::line::{Given, New, Part, Spoilt, Told};
+use crate::line::{Given, Histogram, New, Part, Spoilt, Told};
 use crate::values::{flag, has_members, id_of, list, number};
 use serde_json::Value;
 use std::alloc::{AllocError, Global};
@@ -123,14 +123,72 @@ fn are_three_numbers(value: &Value, key: &str) -> bool {
     }
 }
 
-// Whether the value has as many keys as a line of its version, and so whether it says what is gone.
-fn framed(value: &Value) -> Option<bool> {
+// The count of a bucket, where these begin with it, and the others. None of them is empty.
+fn bucket_of(filled: &[Value], bucket: u64) -> Option<(u64, &[Value])> {
+    let [first, rest @ ..] = filled else {
+        return Some((0, filled));
+    };
+    match first.as_array()?.as_slice() {
+        [number, count] => {
+            let count = count.as_u64()?;
+            if number.as_u64()? != bucket {
+                return Some((0, filled));
+            }
+            if count == 0 {
+                None
+            } else {
+                Some((count, rest))
+            }
+        }
+        _ => None,
+    }
+}
+
+fn buckets_of(filled: &[Value]) -> Option<[u64; 14]> {
+    let mut counts = [0; 14];
+    let mut rest = filled;
+    for bucket in 0..14 {
+        let (count, others) = bucket_of(rest, bucket as u64)?;
+        counts[bucket] = count;
+        rest = others;
+    }
+    if rest.is_empty() { Some(counts) } else { None }
+}
+
+fn histogram_of(value: &Value) -> Option<Histogram> {
+    if !has_members(value, 3) {
+        return None;
+    }
+    let counts = buckets_of(list(value, "counts")?)?;
+    let id = id_of(value.get("id")?)?;
+    let longest = number(value, "longest")?;
+    Some(Histogram {
+        id,
+        counts,
+        longest,
+    })
+}
+
+fn times_at(alloc: Global, value: &Value) -> Result<Vec<Histogram>, Unread> {
+    let mut times = Vec::new(alloc);
+    for one in list_at(value, "task_times")? {
+        let found = histogram_of(one).ok_or(Unread::NoLine)?;
+        if times.push(found).is_err() {
+            return Err(Unread::Memory);
+        }
+    }
+    Ok(times)
+}
+
+// The version of a line, where the value has as many keys.
+fn framed(value: &Value) -> Option<u64> {
     if !are_three_numbers(value, "dropped") {
         return None;
     }
     match number(value, "v") {
-        Some(1) if has_members(value, 12) => Some(false),
-        Some(2) if has_members(value, 15) => Some(true),
+        Some(1) if has_members(value, 12) => Some(1),
+        Some(2) if has_members(value, 15) => Some(2),
+        Some(3) if has_members(value, 16) => Some(3),
         _ => None,
     }
 }
@@ -144,7 +202,8 @@ fn seq_of(value: &Value) -> Option<u64> {
 }
 
 fn of_value(alloc: Global, value: &Value) -> Result<Given, Unread> {
-    let removes = framed(value).ok_or(Unread::NoLine)?;
+    let version = framed(value).ok_or(Unread::NoLine)?;
+    let removes = version > 1;
     let seq = seq_of(value).ok_or(Unread::NoLine)?;
     let now = number(value, "now").ok_or(Unread::NoLine)?;
     let snapshot = flag(value, "snapshot").ok_or(Unread::NoLine)?;
@@ -152,6 +211,11 @@ fn of_value(alloc: Global, value: &Value) -> Result<Given, Unread> {
     let resources = part_at(alloc, value, RESOURCES, Kind::Resource, removes)?;
     let ops = part_at(alloc, value, OPS, Kind::Op, removes)?;
     let counts = counts_at(alloc, value)?;
+    let times = if version == 3 {
+        Some(times_at(alloc, value)?)
+    } else {
+        None
+    };
     Ok(Given {
         tasks,
         resources,
@@ -160,6 +224,7 @@ fn of_value(alloc: Global, value: &Value) -> Result<Given, Unread> {
         seq,
         snapshot,
         removes,
+        times,
         now,
         spoilt: Spoilt::Whole,
     })
@@ -190,6 +255,7 @@ fn spoilt_line(alloc: Global, spoilt: Spoilt) -> Given {
         seq: 0,
         snapshot: false,
         removes: false,
+        times: None,
         now: 0,
         spoilt,
     }

@@ -28,9 +28,9 @@ none_run max s t [] rest e = by (is_too_long max s rest) e
     by false h = let same : record s { part = s.part ++ rest } ≡ t = goes_same _ _ _ _ h in sym (ap (λ (u : Start). u.tables) same)
 none_run max s t (l ∷ ls) rest e = by (is_too_long max s l) e
   where
-    by : (b : Bool) → cond b (too_long max s) (ended s.tables (length l + 1) (line_taken s.tables s.last (s.part ++ l)) (λ u. run max u ls rest)) ≡ goes t 0 → t.tables ≡ s.tables
+    by : (b : Bool) → cond b (too_long max s) (ended s.tables (length l + 1) (line_taken s.tables s.times s.last (s.part ++ l)) (λ u. run max u ls rest)) ≡ goes t 0 → t.tables ≡ s.tables
     by true h = absurd (cc)
-    by false h = absurd (not_ended s.tables (length l + 1) (line_taken s.tables s.last (s.part ++ l)) (λ u. run max u ls rest) t h)
+    by false h = absurd (not_ended s.tables (length l + 1) (line_taken s.tables s.times s.last (s.part ++ l)) (λ u. run max u ls rest) t h)
 
 none_applied : (max : ℕ) (s t : Start) (bytes : List ℕ) → meaning max s bytes ≡ goes t 0 → t.tables ≡ s.tables
 none_applied max s t bytes e = none_run max s t _ _ e

@@ -2,7 +2,7 @@
 use Rattle.std.proofs.Common.{◌≡◌, ◌⊎◌, inl, inr, ℕ, zero, ◌+◌, ◌-◌, ◌≤◌, List, [], ◌∷◌, ◌++◌, length, take, drop, Bool, true, false, cond, Option, Result, Ok, Err, refl, ap, sym, ◌∙◌, append_assoc, take-append-drop, length-take, arith, subst}
 use Rattle.std.proofs.Math.Seq.{take-add}
 use Rattle.tk_client.specs.Feeding.{ClientView}
-use Rattle.tk_client.specs.Meaning.{Outcome, Start, after, base_of, behind_line, cut, empty_start, ended, expected, fault_of, goes, is_next, is_too_long, line_read, line_taken, meaning, run, stops, too_long}
+use Rattle.tk_client.specs.Meaning.{Outcome, Start, after, base_of, behind_line, cut, empty_start, ended, expected, fault_of, goes, is_next, is_too_long, line_read, line_taken, meaning, run, stops, times_base, too_long}
 use Rattle.tk_client.specs.declared.fault.Fault.{Fault}
 use Rattle.tk_client.specs.declared.fault.Fault.TheVariants.{Gap}
 use Rattle.tk_client.proofs.Ends.{nothing}
@@ -10,7 +10,9 @@ use Rattle.tk_client.proofs.Pieces.{stops-append}
 use Rattle.tk_fault.specs.declared.fault.AppFault.{AppFault}
 use Rattle.tk_fault.specs.declared.fault.AppFault.TheVariants as faults
 use Rattle.tk_report.specs.Taken.{Takes}
-use Rattle.tk_client.specs.Taking.{line_applied}
+use Rattle.tk_client.specs.Taking.{line_checked}
+use Rattle.tk_stream.specs.Applied.{times_after}
+use Rattle.tk_stream.specs.Times.{TaskTimes}
 use Rattle.tk_stream.specs.Lines.{LineView}
 use Rattle.tk_stream.specs.Reading.{line_of_text}
 use Rattle.tk_stream.specs.Tables.{TablesView}
@@ -47,19 +49,19 @@ front_stops bytes rest now (faults.Stream lines fault) h = (h.0, h.1, stops-appe
 -- ---- the fault of one line
 
 -- after a line that was taken nothing of the next one is there
-no_part : (tables : TablesView) (last : Option ℕ) (text : List ℕ) (s : Start) → line_taken tables last text ≡ Ok s → s.part ≡ []
+no_part : (tables : TablesView) (times : List TaskTimes) (last : Option ℕ) (text : List ℕ) (s : Start) → line_taken tables times last text ≡ Ok s → s.part ≡ []
 unfolding line_taken
-no_part tables last text s = by (line_of_text text)
+no_part tables times last text s = by (line_of_text text)
   where
-    applied : (l : LineView) (r : Result TablesView Fault) → behind_line l r ≡ Ok s → s.part ≡ []
-    applied l (Ok t) e = let same : Ok (record { tables = t; last = Option.Some l.seq; part = [] }) ≡ Ok s = e in cc
+    applied : (l : LineView) (r : Result TablesView Fault) → behind_line l times r ≡ Ok s → s.part ≡ []
+    applied l (Ok t) e = let same : Ok (record { tables = t; last = Option.Some l.seq; part = []; times = times_after (times_base times l) l }) ≡ Ok s = e in cc
     applied l (Err fault) e = absurd (cc)
 
-    next : (l : LineView) (b : Bool) → cond b (behind_line l (line_applied (base_of tables l) l)) (Err (Gap (expected last) l.seq)) ≡ Ok s → s.part ≡ []
-    next l true e = applied l (line_applied (base_of tables l) l) e
+    next : (l : LineView) (b : Bool) → cond b (behind_line l times (line_checked (base_of tables l) l)) (Err (Gap (expected last) l.seq)) ≡ Ok s → s.part ≡ []
+    next l true e = applied l (line_checked (base_of tables l) l) e
     next l false e = absurd (cc)
 
-    by : (r : Result LineView LineError) → line_read tables last r ≡ Ok s → s.part ≡ []
+    by : (r : Result LineView LineError) → line_read tables times last r ≡ Ok s → s.part ≡ []
     by (Ok l) e = next l (is_next last l) e
     by (Err error) e = absurd (cc)
 
@@ -83,15 +85,15 @@ module _ (max : ℕ) (s : Start) (t : TablesView) (n used : ℕ) (fault : Fault)
           let on : goes u 1 ≡ stops t n fault used = sym (ap (after 1 (length line + 1)) (nothing max u few)) ∙ e in
           absurd (cc)
 
-      taken : (r : Result Start Fault) → line_taken s.tables s.last (s.part ++ line) ≡ r
+      taken : (r : Result Start Fault) → line_taken s.tables s.times s.last (s.part ++ line) ≡ r
           → ended s.tables (length line + 1) r (λ u. run max u [] []) ≡ stops t n fault used → (t ≡ s.tables) × (n ≡ 0)
-      taken (Ok u) is e = goes_on u (no_part _ _ _ u is) e
+      taken (Ok u) is e = goes_on u (no_part _ _ _ _ u is) e
       taken (Err f) is e = at_once _ f e
 
-      by : (b : Bool) → cond b (too_long max s) (ended s.tables (length line + 1) (line_taken s.tables s.last (s.part ++ line)) (λ u. run max u [] [])) ≡ stops t n fault used
+      by : (b : Bool) → cond b (too_long max s) (ended s.tables (length line + 1) (line_taken s.tables s.times s.last (s.part ++ line)) (λ u. run max u [] [])) ≡ stops t n fault used
           → (t ≡ s.tables) × (n ≡ 0)
       by true e = at_once _ _ e
-      by false e = taken (line_taken s.tables s.last (s.part ++ line)) refl e
+      by false e = taken (line_taken s.tables s.times s.last (s.part ++ line)) refl e
 
   -- one line stops a client where it stood, with its end or without
   pub one_stops : (bytes : List ℕ) → ((line : List ℕ) × (cut bytes ≡ (line ∷ [], []))) ⊎ ((cut bytes).0 ≡ []) → meaning max s bytes ≡ stops t n fault used

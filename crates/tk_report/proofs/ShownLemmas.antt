@@ -31,15 +31,15 @@ shown-glue : (max : ℕ) (ls : List (List ℕ)) (r : List ℕ) (d : List (List �
 shown-glue max [] r ([], rest) s t n e = refl
 shown-glue max [] r (m ∷ ms, rest) s t n e =
     let p = held_is max s r t n e in
-    ap (λ l. shown_by (line_taken s.tables s.last l) (λ u. shown_from u ms)) (sym (append_assoc s.part r m))
+    ap (λ l. shown_by (line_taken s.tables s.times s.last l) (λ u. shown_from u ms)) (sym (append_assoc s.part r m))
     ∙ ap (λ (u : Start). shown_from u (m ∷ ms)) p.0
 shown-glue max (l ∷ ls) r ([], rest) s t n e =
-    by (line_taken s.tables s.last (s.part ++ l)) (passed (is_too_long max s l) s.tables TooLong (max + 1 - length s.part) _ t n e)
+    by (line_taken s.tables s.times s.last (s.part ++ l)) (passed (is_too_long max s l) s.tables TooLong (max + 1 - length s.part) _ t n e)
   where
     by : (q : Result Start Fault) → ended s.tables (length l + 1) q (λ u. run max u ls r) ≡ goes t n → shown_by q (λ u. shown_from u ls) ≡ shown_by q (λ u. shown_from u ls) ++ []
     by q f = sym (append-nil (shown_by q (λ u. shown_from u ls)))
 shown-glue max (l ∷ ls) r (m ∷ ms, rest) s t n e =
-    by (line_taken s.tables s.last (s.part ++ l)) (passed (is_too_long max s l) s.tables TooLong (max + 1 - length s.part) _ t n e)
+    by (line_taken s.tables s.times s.last (s.part ++ l)) (passed (is_too_long max s l) s.tables TooLong (max + 1 - length s.part) _ t n e)
     (λ u k. shown-glue max ls r (m ∷ ms, rest) u t k)
   where
     by : (q : Result Start Fault) → ended s.tables (length l + 1) q (λ u. run max u ls r) ≡ goes t n
@@ -56,7 +56,7 @@ shown-append max s t a b n e =
 shown-length : (max : ℕ) (ls : List (List ℕ)) (r : List ℕ) (s t : Start) (n : ℕ) → run max s ls r ≡ goes t n → length (shown_from s ls) ≡ n
 shown-length max [] r s t n e = (held_is max s r t n e).1
 shown-length max (l ∷ ls) r s t n e =
-    by (line_taken s.tables s.last (s.part ++ l)) (passed (is_too_long max s l) s.tables TooLong (max + 1 - length s.part) _ t n e)
+    by (line_taken s.tables s.times s.last (s.part ++ l)) (passed (is_too_long max s l) s.tables TooLong (max + 1 - length s.part) _ t n e)
     (λ u k. shown-length max ls r u t k)
   where
     by : (q : Result Start Fault) → ended s.tables (length l + 1) q (λ u. run max u ls r) ≡ goes t n
@@ -71,7 +71,7 @@ shown_count front lines now h = shown-length 268435456 (cut front).0 (cut front)
 one-shown : (max : ℕ) (ls : List (List ℕ)) (r : List ℕ) (s t : Start) (n : ℕ) → length ls ≤ 1 → run max s ls r ≡ goes t n → 0 < n → shown_from s ls ≡ t.tables ∷ []
 one-shown max [] r s t n few e some = absurd (omega (arith, (held_is max s r t n e).1))
 one-shown max (l ∷ []) r s t n few e some =
-    by (line_taken s.tables s.last (s.part ++ l)) (passed (is_too_long max s l) s.tables TooLong (max + 1 - length s.part) _ t n e)
+    by (line_taken s.tables s.times s.last (s.part ++ l)) (passed (is_too_long max s l) s.tables TooLong (max + 1 - length s.part) _ t n e)
   where
     by : (q : Result Start Fault) → ended s.tables (length l + 1) q (λ u. run max u [] r) ≡ goes t n → shown_by q (λ u. shown_from u []) ≡ t.tables ∷ []
     by (Ok u) f =

@@ -12,7 +12,7 @@ shown_by (Err fault) more = []
 -- the tables after each of these lines, the first after the part line of a start
 abbrev pub shown_from : Start → List (List ℕ) → List TablesView
 shown_from s [] = []
-shown_from s (l ∷ ls) = shown_by (line_taken s.tables s.last (s.part ++ l)) (λ t. shown_from t ls)
+shown_from s (l ∷ ls) = shown_by (line_taken s.tables s.times s.last (s.part ++ l)) (λ t. shown_from t ls)
 
 -- the tables after each line of a stream's bytes
 abbrev pub shown_of : List ℕ → List TablesView

@@ -21,8 +21,8 @@ use Rattle.serde_json.specs.View.{items_of}
 use Rattle.serde_json.specs.Written.{compact_text, items_text, members_text, comma_if}
 use Rattle.tk_ids.specs.Names.{is_name, is_printable}
 use Rattle.tk_stream.specs.Behind.{Puts, PutsOpen, Takes, is_escaped, is_plain}
-use Rattle.tk_stream.specs.Lines.{LineView}
-use Rattle.tk_stream.specs.Spelling.{members_in, behind_text, gone_members, members_behind, dropped_data, line_data, line_text}
+use Rattle.tk_stream.specs.Lines.{LineView, version}
+use Rattle.tk_stream.specs.Spelling.{members_in, behind_text, gone_members, members_between, times_fields, number_data, dropped_data, line_data, line_text}
 
 -- ---- writing
 
@@ -117,11 +117,29 @@ behind_members (f ∷ fs) gs =
     ∙ ap (λ xs. 44 ∷ (quoted f.0 ++ 58 ∷ xs)) (sym (append_assoc (compact_text f.1) (behind_text fs) (members_text true (members_in gs))))
     ∙ ap (λ xs. 44 ∷ xs) (sym (append_assoc (quoted f.0) (58 ∷ (compact_text f.1 ++ behind_text fs)) (members_text true (members_in gs))))
 
--- the text of a line: its first member, what is gone, and the rest
+-- members and what stands behind them
+abbrev pub members_then : List (List ℕ × Data) → List ℕ → List ℕ
+members_then [] more = more
+members_then (f ∷ fs) more = 44 ∷ (quoted f.0 ++ 58 ∷ (compact_text f.1 ++ members_then fs more))
+
+then_members : (fs gs : List (List ℕ × Data)) → members_text true (members_in (fs ++ gs)) ≡ members_then fs (members_text true (members_in gs))
+then_members [] gs = refl
+then_members (f ∷ fs) gs = ap (λ xs. 44 ∷ (quoted f.0 ++ 58 ∷ (compact_text f.1 ++ xs))) (then_members fs gs)
+
+-- the last members of a line: the histograms, and its version
+abbrev last_members : LineView → List (List ℕ × Data)
+last_members l = times_fields l.task_times ++ (codes "v", number_data (version l)) ∷ []
+
+-- the text of a line: its first member, what is gone, what each version has, the histograms, and the version
 pub line_split : (l : LineView) → line_text l
-    ≡ codes "{\"dropped\":" ++ (compact_text (dropped_data l.dropped) ++ (behind_text (gone_members l.gone) ++ members_text true (members_in (members_behind l))))
+    ≡ codes "{\"dropped\":" ++ (compact_text (dropped_data l.dropped) ++ (behind_text (gone_members l.gone)
+    ++ members_then (members_between l) (behind_text (times_fields l.task_times) ++ members_text true (members_in ((codes "v", number_data (version l)) ∷ [])))))
 unfolding line_text line_data escape_byte
-line_split l = ap (λ xs. codes "{\"dropped\":" ++ (compact_text (dropped_data l.dropped) ++ xs)) (behind_members (gone_members l.gone) (members_behind l))
+line_split l =
+    ap (λ xs. codes "{\"dropped\":" ++ (compact_text (dropped_data l.dropped) ++ xs))
+    (behind_members (gone_members l.gone) (members_between l ++ last_members l)
+    ∙ ap (λ xs. behind_text (gone_members l.gone) ++ xs) (then_members (members_between l) (last_members l)
+    ∙ ap (members_then (members_between l)) (behind_members (times_fields l.task_times) ((codes "v", number_data (version l)) ∷ []))))
 
 -- two pieces were taken
 pub taken : {a b c p q : List ℕ} → Takes a p b → Takes b q c → Takes a (p ++ q) c

@@ -1,6 +1,6 @@
 -- A line's value is read as that line.
 use Rattle.std.proofs.Common.{◌≡◌, ℕ, ◌/◌, ◌^◌, ◌<◌, ◌≤◌, List, [], ◌∷◌, true, pos, negsuc, Option, Some, None, Ok, IsUtf8, codes, refl, ap, ◌∙◌, arith, lit<, leb-true, ltb-true}
-use Rattle.std.specs.Prelude.{map, ◌&&◌, IfSome, nat_lt, nat_le, length, neg_ℤ, int_lt, int_le}
+use Rattle.std.specs.Prelude.{map, option_and_then, ◌++◌, ◌&&◌, IfSome, IsSome, nat_lt, nat_le, length, neg_ℤ, int_lt, int_le}
 use Rattle.std.specs.List.{AllByRecursion, list_all}
 use Rattle.std.specs.Str.{IsAscii}
 use Rattle.std.proofs.lemmas.Str.{IsUtf8-from_ascii}
@@ -29,13 +29,15 @@ use Rattle.json.specs.Tree as tree
 use Rattle.serde_json.specs.Data.{Data, string}
 use Rattle.serde_json.specs.View.{items_of}
 use Rattle.serde_json.specs.Read.{max_depth}
-use Rattle.serde_json.specs.Written.{outline, items_outline, compact_text}
+use Rattle.serde_json.specs.Written.{outline, items_outline, members_outline, compact_text}
 use Rattle.tk_stream.specs.Tables.{PollCounts}
-use Rattle.tk_stream.specs.Lines.{LineView, GoneView, is_seq}
+use Rattle.tk_stream.specs.Lines.{LineView, GoneView, is_seq, version}
+use Rattle.tk_stream.specs.Times.{TaskTimes, filled_from, counts_from}
+use Rattle.tk_stream.proofs.TimesLemmas.{filled_back, all_filled}
 use Rattle.tk_stream.specs.Outcome.{shaped, ◌then◌}
-use Rattle.tk_stream.specs.Reading.{id_of, optional_of, optional_id_of, optional_name_of, attr_of, attr_kind_of, value_of, attrs_in, values_in, kind_of, location_in, info_of, resource_parts, resource_of, op_parts, op_of, stats_of, resource_stats_with, resource_stats_of, op_stats_with, op_stats_of, counts_of, gone_at, parts_of, line_of, each_of, values_of, json_or_fault, line_of_text}
-use Rattle.tk_stream.specs.Spelling.{number_data, optional_data, optional_text, attr_kind_text, attr_data, value_data, kind_text, location_data, info_data, resource_data, op_data, stats_data, resource_stats_data, op_stats_data, counts_data, line_data, line_text}
-use Rattle.tk_stream.specs.Ranges.{IsId, IsOptional, IsOptionalId, IsName, IsLocation, IsAttr, IsValue, AreAttrs, AreValues, IsTaskInfo, IsResourceInfo, IsOpInfo, AreTaskStats, AreResourceStats, AreOpStats, AreCounts, IsGone, IsLine}
+use Rattle.tk_stream.specs.Reading.{id_of, optional_of, optional_id_of, optional_name_of, attr_of, attr_kind_of, value_of, attrs_in, values_in, kind_of, location_in, info_of, resource_parts, resource_of, op_parts, op_of, stats_of, resource_stats_with, resource_stats_of, op_stats_with, op_stats_of, counts_of, filled_of, buckets_in, times_of, said_at, parts_of, line_of, each_of, values_of, json_or_fault, line_of_text}
+use Rattle.tk_stream.specs.Spelling.{members_in, gone_members, members_between, times_fields, line_members, number_data, optional_data, optional_text, attr_kind_text, attr_data, value_data, kind_text, location_data, info_data, resource_data, op_data, stats_data, resource_stats_data, op_stats_data, counts_data, filled_data, times_data, line_data, line_text}
+use Rattle.tk_stream.specs.Ranges.{IsId, IsOptional, IsOptionalId, IsName, IsLocation, IsAttr, IsValue, AreAttrs, AreValues, IsTaskInfo, IsResourceInfo, IsOpInfo, AreTaskStats, AreResourceStats, AreOpStats, AreCounts, AreTimes, AreTold, IsGone, IsLine}
 use Rattle.tk_stream.proofs.Texts.{json_read}
 use Rattle.tk_stream.proofs.Round.{IsWhole, AreWhole, whole_is_text, read-compact_text}
 
@@ -157,19 +159,42 @@ counts_back c fit =
 id_back : (n : ℕ) → IsId n → id_of (number_data n) ≡ Some n
 id_back n h = rw h refl
 
--- a line that says nothing of what is gone, and one that does
+each_filled : (bs : List (ℕ × ℕ)) → each_of filled_of (values_of (items_of (map filled_data bs))) ≡ Some bs
+each_filled [] = refl
+each_filled (b ∷ bs) = rw (each_filled bs) refl
+
+buckets_back : (counts : List ℕ) → length counts ≡ 14 → buckets_in (values_of (items_of (map filled_data (filled_from 0 counts)))) ≡ Some counts
+unfolding buckets_in
+buckets_back counts many = ap (option_and_then (counts_from 0 14)) (each_filled (filled_from 0 counts)) ∙ filled_back 0 14 counts many
+
+times_back : (t : TaskTimes) → AreTimes t → times_of (times_data t) ≡ Some t
+unfolding times_of
+times_back t fit =
+    let task = fit.task in
+    rw (buckets_back t.1.counts fit.many, task) refl
+
+not_said : IsSome {T = GoneView} None → ⊥
+not_said e = absurd (cc)
+
+-- a line of each version
 pub line_back : (l : LineView) → IsLine l → line_of (line_data l) ≡ Some l
-unfolding line_of parts_of gone_at line_data
-line_back l fit = by l.gone fit.gone
+unfolding line_of parts_of said_at line_data
+line_back l fit = by l.gone l.task_times fit.gone fit.task_times
   where
-    by : (gone : Option GoneView) → IfSome gone IsGone → line_of (line_data (record l { gone = gone })) ≡ Some (record l { gone = gone })
-    by None none =
+    by : (gone : Option GoneView) (times : Option (List TaskTimes)) → IfSome gone IsGone → IfSome times (AreTold gone)
+        → line_of (line_data (record l { gone = gone; task_times = times })) ≡ Some (record l { gone = gone; task_times = times })
+    by None None none untold =
         let seq = fit.seq in
         rw (seq, each_back op_of op_data IsOpInfo op_back l.new_ops fit.new_ops, each_back resource_of resource_data IsResourceInfo resource_back l.new_resources fit.new_resources, each_back info_of info_data IsTaskInfo info_back l.new_tasks fit.new_tasks, each_back op_stats_of op_stats_data AreOpStats op_stats_back l.op_stats fit.op_stats, each_back counts_of counts_data AreCounts counts_back l.poll_counts fit.poll_counts, each_back resource_stats_of resource_stats_data AreResourceStats resource_stats_back l.resource_stats fit.resource_stats, each_back stats_of stats_data AreTaskStats stats_back l.task_stats fit.task_stats)
         refl
-    by (Some g) are =
+    by None (Some ts) none told = absurd (not_said told.said)
+    by (Some g) None are untold =
         let seq = fit.seq in
         rw (seq, each_back id_of number_data IsId id_back g.ops are.ops, each_back id_of number_data IsId id_back g.resources are.resources, each_back id_of number_data IsId id_back g.tasks are.tasks, each_back op_of op_data IsOpInfo op_back l.new_ops fit.new_ops, each_back resource_of resource_data IsResourceInfo resource_back l.new_resources fit.new_resources, each_back info_of info_data IsTaskInfo info_back l.new_tasks fit.new_tasks, each_back op_stats_of op_stats_data AreOpStats op_stats_back l.op_stats fit.op_stats, each_back counts_of counts_data AreCounts counts_back l.poll_counts fit.poll_counts, each_back resource_stats_of resource_stats_data AreResourceStats resource_stats_back l.resource_stats fit.resource_stats, each_back stats_of stats_data AreTaskStats stats_back l.task_stats fit.task_stats)
+        refl
+    by (Some g) (Some ts) are told =
+        let seq = fit.seq in
+        rw (seq, each_back times_of times_data AreTimes times_back ts told.each, each_back id_of number_data IsId id_back g.ops are.ops, each_back id_of number_data IsId id_back g.resources are.resources, each_back id_of number_data IsId id_back g.tasks are.tasks, each_back op_of op_data IsOpInfo op_back l.new_ops fit.new_ops, each_back resource_of resource_data IsResourceInfo resource_back l.new_resources fit.new_resources, each_back info_of info_data IsTaskInfo info_back l.new_tasks fit.new_tasks, each_back op_stats_of op_stats_data AreOpStats op_stats_back l.op_stats fit.op_stats, each_back counts_of counts_data AreCounts counts_back l.poll_counts fit.poll_counts, each_back resource_stats_of resource_stats_data AreResourceStats resource_stats_back l.resource_stats fit.resource_stats, each_back stats_of stats_data AreTaskStats stats_back l.task_stats fit.task_stats)
         refl
 
 -- ---- whole values
@@ -252,13 +277,24 @@ op_stats_whole s fit = ((ascii (codes "attrs") refl, each_whole value_data IsVal
 counts_whole : (c : PollCounts) → AreCounts c → IsWhole (counts_data c)
 counts_whole c fit = (id_small c.0 fit.resource, (fit.ready, (fit.pending, tt)))
 
+filled_whole : (bs : List (ℕ × ℕ)) → AllByRecursion (λ b. (b.0 < 2 ^ 64) × (b.1 < 2 ^ 64)) bs → AreWhole (items_of (map filled_data bs))
+filled_whole [] fit = tt
+filled_whole (b ∷ bs) fit = ((fit.0.0, (fit.0.1, tt)), filled_whole bs fit.1)
+
+times_whole : (t : TaskTimes) → AreTimes t → IsWhole (times_data t)
+times_whole t fit =
+    let many = fit.many in
+    ((ascii (codes "counts") refl, filled_whole (filled_from 0 t.1.counts) (all_filled 0 t.1.counts (omega (arith, many)) fit.counts), (ascii (codes "id") refl, id_small t.0 fit.task, (ascii (codes "longest") refl, fit.longest, tt))), refl)
+
 pub line_whole : (l : LineView) → IsLine l → IsWhole (line_data l)
 unfolding line_data
-line_whole l fit = by l.gone fit.gone
+line_whole l fit = by l.gone l.task_times fit.gone fit.task_times
   where
-    by : (gone : Option GoneView) → IfSome gone IsGone → IsWhole (line_data (record l { gone = gone }))
-    by None none = ((ascii (codes "dropped") refl, (fit.dropped.tasks, (fit.dropped.resources, (fit.dropped.ops, tt))), (ascii (codes "new_ops") refl, each_whole op_data IsOpInfo op_whole l.new_ops fit.new_ops, (ascii (codes "new_resources") refl, each_whole resource_data IsResourceInfo resource_whole l.new_resources fit.new_resources, (ascii (codes "new_tasks") refl, each_whole info_data IsTaskInfo info_whole l.new_tasks fit.new_tasks, (ascii (codes "now") refl, fit.now, (ascii (codes "op_stats") refl, each_whole op_stats_data AreOpStats op_stats_whole l.op_stats fit.op_stats, (ascii (codes "poll_counts") refl, each_whole counts_data AreCounts counts_whole l.poll_counts fit.poll_counts, (ascii (codes "resource_stats") refl, each_whole resource_stats_data AreResourceStats resource_stats_whole l.resource_stats fit.resource_stats, (ascii (codes "seq") refl, seq_small l.seq fit.seq, (ascii (codes "snapshot") refl, tt, (ascii (codes "task_stats") refl, each_whole stats_data AreTaskStats stats_whole l.task_stats fit.task_stats, (ascii (codes "v") refl, lit< tt, tt)))))))))))), refl)
-    by (Some g) are = ((ascii (codes "dropped") refl, (fit.dropped.tasks, (fit.dropped.resources, (fit.dropped.ops, tt))), (ascii (codes "gone_ops") refl, each_whole number_data IsId id_small g.ops are.ops, (ascii (codes "gone_resources") refl, each_whole number_data IsId id_small g.resources are.resources, (ascii (codes "gone_tasks") refl, each_whole number_data IsId id_small g.tasks are.tasks, (ascii (codes "new_ops") refl, each_whole op_data IsOpInfo op_whole l.new_ops fit.new_ops, (ascii (codes "new_resources") refl, each_whole resource_data IsResourceInfo resource_whole l.new_resources fit.new_resources, (ascii (codes "new_tasks") refl, each_whole info_data IsTaskInfo info_whole l.new_tasks fit.new_tasks, (ascii (codes "now") refl, fit.now, (ascii (codes "op_stats") refl, each_whole op_stats_data AreOpStats op_stats_whole l.op_stats fit.op_stats, (ascii (codes "poll_counts") refl, each_whole counts_data AreCounts counts_whole l.poll_counts fit.poll_counts, (ascii (codes "resource_stats") refl, each_whole resource_stats_data AreResourceStats resource_stats_whole l.resource_stats fit.resource_stats, (ascii (codes "seq") refl, seq_small l.seq fit.seq, (ascii (codes "snapshot") refl, tt, (ascii (codes "task_stats") refl, each_whole stats_data AreTaskStats stats_whole l.task_stats fit.task_stats, (ascii (codes "v") refl, lit< tt, tt))))))))))))))), refl)
+    by : (gone : Option GoneView) (times : Option (List TaskTimes)) → IfSome gone IsGone → IfSome times (AreTold gone) → IsWhole (line_data (record l { gone = gone; task_times = times }))
+    by None None none untold = ((ascii (codes "dropped") refl, (fit.dropped.tasks, (fit.dropped.resources, (fit.dropped.ops, tt))), (ascii (codes "new_ops") refl, each_whole op_data IsOpInfo op_whole l.new_ops fit.new_ops, (ascii (codes "new_resources") refl, each_whole resource_data IsResourceInfo resource_whole l.new_resources fit.new_resources, (ascii (codes "new_tasks") refl, each_whole info_data IsTaskInfo info_whole l.new_tasks fit.new_tasks, (ascii (codes "now") refl, fit.now, (ascii (codes "op_stats") refl, each_whole op_stats_data AreOpStats op_stats_whole l.op_stats fit.op_stats, (ascii (codes "poll_counts") refl, each_whole counts_data AreCounts counts_whole l.poll_counts fit.poll_counts, (ascii (codes "resource_stats") refl, each_whole resource_stats_data AreResourceStats resource_stats_whole l.resource_stats fit.resource_stats, (ascii (codes "seq") refl, seq_small l.seq fit.seq, (ascii (codes "snapshot") refl, tt, (ascii (codes "task_stats") refl, each_whole stats_data AreTaskStats stats_whole l.task_stats fit.task_stats, (ascii (codes "v") refl, lit< tt, tt)))))))))))), refl)
+    by None (Some ts) none told = absurd (not_said told.said)
+    by (Some g) None are untold = ((ascii (codes "dropped") refl, (fit.dropped.tasks, (fit.dropped.resources, (fit.dropped.ops, tt))), (ascii (codes "gone_ops") refl, each_whole number_data IsId id_small g.ops are.ops, (ascii (codes "gone_resources") refl, each_whole number_data IsId id_small g.resources are.resources, (ascii (codes "gone_tasks") refl, each_whole number_data IsId id_small g.tasks are.tasks, (ascii (codes "new_ops") refl, each_whole op_data IsOpInfo op_whole l.new_ops fit.new_ops, (ascii (codes "new_resources") refl, each_whole resource_data IsResourceInfo resource_whole l.new_resources fit.new_resources, (ascii (codes "new_tasks") refl, each_whole info_data IsTaskInfo info_whole l.new_tasks fit.new_tasks, (ascii (codes "now") refl, fit.now, (ascii (codes "op_stats") refl, each_whole op_stats_data AreOpStats op_stats_whole l.op_stats fit.op_stats, (ascii (codes "poll_counts") refl, each_whole counts_data AreCounts counts_whole l.poll_counts fit.poll_counts, (ascii (codes "resource_stats") refl, each_whole resource_stats_data AreResourceStats resource_stats_whole l.resource_stats fit.resource_stats, (ascii (codes "seq") refl, seq_small l.seq fit.seq, (ascii (codes "snapshot") refl, tt, (ascii (codes "task_stats") refl, each_whole stats_data AreTaskStats stats_whole l.task_stats fit.task_stats, (ascii (codes "v") refl, lit< tt, tt))))))))))))))), refl)
+    by (Some g) (Some ts) are told = ((ascii (codes "dropped") refl, (fit.dropped.tasks, (fit.dropped.resources, (fit.dropped.ops, tt))), (ascii (codes "gone_ops") refl, each_whole number_data IsId id_small g.ops are.ops, (ascii (codes "gone_resources") refl, each_whole number_data IsId id_small g.resources are.resources, (ascii (codes "gone_tasks") refl, each_whole number_data IsId id_small g.tasks are.tasks, (ascii (codes "new_ops") refl, each_whole op_data IsOpInfo op_whole l.new_ops fit.new_ops, (ascii (codes "new_resources") refl, each_whole resource_data IsResourceInfo resource_whole l.new_resources fit.new_resources, (ascii (codes "new_tasks") refl, each_whole info_data IsTaskInfo info_whole l.new_tasks fit.new_tasks, (ascii (codes "now") refl, fit.now, (ascii (codes "op_stats") refl, each_whole op_stats_data AreOpStats op_stats_whole l.op_stats fit.op_stats, (ascii (codes "poll_counts") refl, each_whole counts_data AreCounts counts_whole l.poll_counts fit.poll_counts, (ascii (codes "resource_stats") refl, each_whole resource_stats_data AreResourceStats resource_stats_whole l.resource_stats fit.resource_stats, (ascii (codes "seq") refl, seq_small l.seq fit.seq, (ascii (codes "snapshot") refl, tt, (ascii (codes "task_stats") refl, each_whole stats_data AreTaskStats stats_whole l.task_stats fit.task_stats, (ascii (codes "task_times") refl, each_whole times_data AreTimes times_whole ts told.each, (ascii (codes "v") refl, lit< tt, tt)))))))))))))))), refl)
 
 -- ---- how deep a line nests
 
@@ -299,13 +335,41 @@ op_stats_shallow : (s : ℕ × OpRow) → tree.depth (outline (op_stats_data s))
 op_stats_shallow s =
     omega (arith, each_shallow value_data 1 value_shallow s.1.attrs, optional_flat s.1.dropped, optional_flat s.1.first_poll, optional_flat s.1.last_ended, optional_flat s.1.last_started, optional_flat s.1.task)
 
+times_shallow : (t : TaskTimes) → tree.depth (outline (times_data t)) ≤ 3
+times_shallow t = omega (arith, each_shallow filled_data 1 (λ b. omega arith) (filled_from 0 t.1.counts))
+
+-- members that nest no deeper than a list of rows
+abbrev AreShallow : List (List ℕ × Data) → Type 0
+AreShallow = AllByRecursion (λ f. tree.depth (outline f.1) ≤ 4)
+
+members_shallow : (fs : List (List ℕ × Data)) → AreShallow fs → tree.members_depth (members_outline (members_in fs)) ≤ 4
+members_shallow [] all = omega arith
+members_shallow (f ∷ fs) all = omega (arith, all.0, members_shallow fs all.1)
+
+both_shallow : (fs gs : List (List ℕ × Data)) → AreShallow fs → AreShallow gs → AreShallow (fs ++ gs)
+both_shallow [] gs h g = g
+both_shallow (f ∷ fs) gs h g = (h.0, both_shallow fs gs h.1 g)
+
+gone_shallow : (gone : Option GoneView) → AreShallow (gone_members gone)
+gone_shallow None = tt
+gone_shallow (Some g) =
+    (omega (arith, each_shallow number_data 3 (λ n. omega arith) g.ops), (omega (arith, each_shallow number_data 3 (λ n. omega arith) g.resources), (omega (arith, each_shallow number_data 3 (λ n. omega arith) g.tasks), tt)))
+
+between_shallow : (l : LineView) → AreShallow (members_between l)
+between_shallow l =
+    (omega (arith, each_shallow op_data 3 op_shallow l.new_ops), (omega (arith, each_shallow resource_data 3 resource_shallow l.new_resources), (omega (arith, each_shallow info_data 3 (λ t. omega arith) l.new_tasks), (omega arith, (omega (arith, each_shallow op_stats_data 3 op_stats_shallow l.op_stats), (omega (arith, each_shallow counts_data 3 (λ c. omega arith) l.poll_counts), (omega (arith, each_shallow resource_stats_data 3 resource_stats_shallow l.resource_stats), (omega arith, (omega arith, (omega (arith, each_shallow stats_data 3 stats_shallow l.task_stats), tt))))))))))
+
+told_shallow : (times : Option (List TaskTimes)) → AreShallow (times_fields times)
+told_shallow None = tt
+told_shallow (Some ts) = (omega (arith, each_shallow times_data 3 times_shallow ts), tt)
+
 line_shallow : (l : LineView) → tree.depth (outline (line_data l)) ≤ max_depth
 unfolding line_data
-line_shallow l = by l.gone
-  where
-    by : (gone : Option GoneView) → tree.depth (outline (line_data (record l { gone = gone }))) ≤ max_depth
-    by None = omega (arith, each_shallow op_data 3 op_shallow l.new_ops, each_shallow resource_data 3 resource_shallow l.new_resources, each_shallow info_data 3 (λ t. omega arith) l.new_tasks, each_shallow op_stats_data 3 op_stats_shallow l.op_stats, each_shallow counts_data 3 (λ c. omega arith) l.poll_counts, each_shallow resource_stats_data 3 resource_stats_shallow l.resource_stats, each_shallow stats_data 3 stats_shallow l.task_stats)
-    by (Some g) = omega (arith, each_shallow number_data 3 (λ n. omega arith) g.ops, each_shallow number_data 3 (λ n. omega arith) g.resources, each_shallow number_data 3 (λ n. omega arith) g.tasks, each_shallow op_data 3 op_shallow l.new_ops, each_shallow resource_data 3 resource_shallow l.new_resources, each_shallow info_data 3 (λ t. omega arith) l.new_tasks, each_shallow op_stats_data 3 op_stats_shallow l.op_stats, each_shallow counts_data 3 (λ c. omega arith) l.poll_counts, each_shallow resource_stats_data 3 resource_stats_shallow l.resource_stats, each_shallow stats_data 3 stats_shallow l.task_stats)
+line_shallow l =
+    let last : List (List ℕ × Data) = (codes "v", number_data (version l)) ∷ [] in
+    let all = both_shallow (gone_members l.gone) (members_between l ++ (times_fields l.task_times ++ last)) (gone_shallow l.gone)
+    (both_shallow (members_between l) (times_fields l.task_times ++ last) (between_shallow l) (both_shallow (times_fields l.task_times) last (told_shallow l.task_times) (omega arith, tt))) in
+    omega (arith, members_shallow (line_members l) (omega arith, all))
 
 -- the text of a line reads back as that line
 pub text_reads : (l : LineView) → IsLine l → line_of_text (line_text l) ≡ Ok l

@@ -27,10 +27,13 @@ use Rattle.tk_json.proofs.Growing.{longer}
 use Rattle.tk_json.proofs.Steps.{object_read}
 use Rattle.tk_stream.proofs.Listing.{passed_unseen}
 use Rattle.tk_stream.specs.declared.reading.Numbers.{Numbers}
+use Rattle.tk_stream.specs.declared.reading.Version.{Version}
+use Rattle.tk_stream.specs.declared.reading.Version.TheVariants.{One, Two, Three}
 use Rattle.tk_stream.specs.Lines.{LineView, GoneView}
-use Rattle.tk_stream.specs.Reading.{◌>>=◌, number_of, values_of, list_of, each_of, id_of, number_at, flag_at, list_at, seq_at, dropped_in, has_members, op_of, resource_of, info_of, op_stats_of, counts_of, resource_stats_of, stats_of, GoneParts, gone_lists, gone_at, gone_of_parts, PartsView, parts_of, line_of}
+use Rattle.tk_stream.specs.Times.{TaskTimes}
+use Rattle.tk_stream.specs.Reading.{◌>>=◌, number_of, values_of, list_of, each_of, id_of, number_at, flag_at, list_at, seq_at, dropped_in, has_members, op_of, resource_of, info_of, op_stats_of, counts_of, resource_stats_of, stats_of, times_of, GoneParts, gone_lists, ids_gone, SaidParts, SaidView, nothing_said, gone_said, both_said, said_at, said_of_parts, PartsView, parts_of, line_of}
 use Rattle.tk_stream.specs.SmallShapes.{number_same, flag_same, list_same, list_then, no_step}
-use Rattle.tk_stream.specs.Spelled.{ListsView, listed, list_in, lists_in, list_put, lists_put, is_list_key, stands_for, own_members, says_gone_at, numbers_of, gone_with, line_with, line_of_lists}
+use Rattle.tk_stream.specs.Spelled.{ListsView, listed, list_in, lists_in, list_put, lists_put, is_list_key, stands_for, own_members, version_at, numbers_of, gone_with, said_with, line_with, line_of_lists}
 
 -- ---- lists, by their keys
 
@@ -58,6 +61,7 @@ lists_after key d ms =
       list_after counts_of (codes "poll_counts") key d ms,
       list_after resource_stats_of (codes "resource_stats") key d ms,
       list_after stats_of (codes "task_stats") key d ms,
+      list_after times_of (codes "task_times") key d ms,
     ) refl
 
 -- ---- the line's own object
@@ -111,7 +115,7 @@ dropped_few n (item a (item b no_items)) = refl
 dropped_few n (item a (item b (item c no_items))) = rw (number_same a n, number_same b n, number_same c n) refl
 dropped_few n (item a (item b (item c (item d ds)))) = refl
 
-dropped_wide : (ds : Items) → 6 < items_len ds → dropped_in (values_of ds) ≡ None
+dropped_wide : (ds : Items) → 14 < items_len ds → dropped_in (values_of ds) ≡ None
 dropped_wide no_items h = refl
 dropped_wide (item a no_items) h = refl
 dropped_wide (item a (item b no_items)) h = refl
@@ -129,7 +133,7 @@ own_has count ms = ap (λ n. n == count) (own_len ms)
 own_numbers : (ms : Members) → numbers_of (object (own_members ms)) ≡ numbers_of (object ms)
 unfolding numbers_of
 own_numbers ms =
-    rw (own_number (codes "v") refl ms, own_has 12 ms, own_has 15 ms, own_dropped (codes "dropped") refl ms, own_number (codes "now") refl ms, own_number (codes "seq") refl ms, own_flag (codes "snapshot") refl ms) refl
+    rw (own_number (codes "v") refl ms, own_has 12 ms, own_has 15 ms, own_has 16 ms, own_dropped (codes "dropped") refl ms, own_number (codes "now") refl ms, own_number (codes "seq") refl ms, own_flag (codes "snapshot") refl ms) refl
 
 -- ---- what is gone
 
@@ -144,24 +148,45 @@ module _ (ops resources tasks : Option (List Data)) where
 abbrev gone_made : List ℕ → List ℕ → List ℕ → GoneView
 gone_made o r t = record { ops = o; resources = r; tasks = t }
 
-each_gone : (ops resources tasks : Option (List ℕ))
-    → option_map Some (ops >>= λ o. resources >>= λ r. tasks >>= λ t. Some (gone_made o r t)) ≡ gone_with true ops resources tasks
-each_gone None r t = refl
-each_gone (Some o) None t = refl
-each_gone (Some o) (Some r) None = refl
-each_gone (Some o) (Some r) (Some t) = refl
-
-gone_order : (o r t : Option (List Data)) → (option_map Some (gone_first o r t) >>= gone_of_parts) ≡ gone_with true (o >>= each_of id_of) (r >>= each_of id_of) (t >>= each_of id_of)
+gone_order : (o r t : Option (List Data)) → (gone_first o r t >>= ids_gone) ≡ gone_with (o >>= each_of id_of) (r >>= each_of id_of) (t >>= each_of id_of)
 gone_order None r t = refl
 gone_order (Some o) None t = sym (no_step (each_of id_of o) _ (λ x. refl))
 gone_order (Some o) (Some r) None = sym (no_step (each_of id_of o) _ (λ x. no_step (each_of id_of r) _ (λ y. refl)))
-gone_order (Some o) (Some r) (Some t) = each_gone (each_of id_of o) (each_of id_of r) (each_of id_of t)
+gone_order (Some o) (Some r) (Some t) = refl
+
+-- ---- what only some versions say
+
+abbrev said_made : Option GoneView → Option (List TaskTimes) → SaidView
+said_made gone times = record { gone = gone; times = times }
+
+-- what is gone by itself
+gone_alone : (g : Option GoneParts) → (option_map gone_said g >>= said_of_parts) ≡ ((g >>= ids_gone) >>= λ gone. Some (record { gone = Some gone; times = None }))
+gone_alone None = refl
+gone_alone (Some g) = by (ids_gone g)
+  where
+    by : (o : Option GoneView) → (option_map Some o >>= λ gone. Some (said_made gone None)) ≡ (o >>= λ gone. Some (record { gone = Some gone; times = None }))
+    by None = refl
+    by (Some gone) = refl
+
+-- what is gone, and histograms
+abbrev both : Option GoneView → Option (List TaskTimes) → Option SaidView
+both gone times = gone >>= λ g. times >>= λ t. Some (record { gone = Some g; times = Some t })
+
+both_order : (g : Option GoneParts) (t : Option (List Data)) → ((g >>= λ gone. option_map (both_said gone) t) >>= said_of_parts) ≡ both (g >>= ids_gone) (t >>= each_of times_of)
+both_order None t = refl
+both_order (Some g) None = sym (no_step (ids_gone g) _ (λ x. refl))
+both_order (Some g) (Some t) = by (ids_gone g) (each_of times_of t)
+  where
+    by : (o : Option GoneView) (p : Option (List TaskTimes)) → (option_map Some o >>= λ gone. option_map Some p >>= λ times. Some (said_made gone times)) ≡ both o p
+    by None p = refl
+    by (Some gone) None = refl
+    by (Some gone) (Some times) = refl
 
 -- ---- the order in which the parts of a line are read
 
-abbrev parts_from : Option (Option GoneParts) → Option Dropped → (new_ops new_resources new_tasks : Option (List Data)) → Option ℕ → (op_stats poll_counts resource_stats : Option (List Data)) → Option ℕ → Option Bool → Option (List Data) → Option PartsView
-parts_from gone dropped new_ops new_resources new_tasks now op_stats poll_counts resource_stats seq snapshot task_stats = do
-  gone ← gone
+abbrev parts_from : Option SaidParts → Option Dropped → (new_ops new_resources new_tasks : Option (List Data)) → Option ℕ → (op_stats poll_counts resource_stats : Option (List Data)) → Option ℕ → Option Bool → Option (List Data) → Option PartsView
+parts_from said dropped new_ops new_resources new_tasks now op_stats poll_counts resource_stats seq snapshot task_stats = do
+  said ← said
   dropped ← dropped
   new_ops ← new_ops
   new_resources ← new_resources
@@ -173,11 +198,11 @@ parts_from gone dropped new_ops new_resources new_tasks now op_stats poll_counts
   seq ← seq
   snapshot ← snapshot
   task_stats ← task_stats
-  Some (record { dropped = dropped; gone = gone; new_ops = new_ops; new_resources = new_resources; new_tasks = new_tasks; now = now; op_stats = op_stats; poll_counts = poll_counts; resource_stats = resource_stats; seq = seq; snapshot = snapshot; task_stats = task_stats })
+  Some (record { dropped = dropped; said = said; new_ops = new_ops; new_resources = new_resources; new_tasks = new_tasks; now = now; op_stats = op_stats; poll_counts = poll_counts; resource_stats = resource_stats; seq = seq; snapshot = snapshot; task_stats = task_stats })
 
 abbrev line_from : PartsView → Option LineView
 line_from p = do
-  gone ← gone_of_parts p.gone
+  said ← said_of_parts p.said
   new_ops ← each_of op_of p.new_ops
   new_resources ← each_of resource_of p.new_resources
   new_tasks ← each_of info_of p.new_tasks
@@ -185,12 +210,12 @@ line_from p = do
   poll_counts ← each_of counts_of p.poll_counts
   resource_stats ← each_of resource_stats_of p.resource_stats
   task_stats ← each_of stats_of p.task_stats
-  Some (record { dropped = p.dropped; gone = gone; new_ops = new_ops; new_resources = new_resources; new_tasks = new_tasks; now = p.now; op_stats = op_stats; poll_counts = poll_counts; resource_stats = resource_stats; seq = p.seq; snapshot = p.snapshot; task_stats = task_stats })
+  Some (record { dropped = p.dropped; gone = said.gone; new_ops = new_ops; new_resources = new_resources; new_tasks = new_tasks; now = p.now; op_stats = op_stats; poll_counts = poll_counts; resource_stats = resource_stats; seq = p.seq; snapshot = p.snapshot; task_stats = task_stats; task_times = said.times })
 
 -- the same, each list at once, behind the numbers
-abbrev line_last : Dropped → ℕ → ℕ → Bool → Option (Option GoneView) → (new_ops new_resources new_tasks op_stats poll_counts resource_stats task_stats : Option (List Data)) → Option LineView
-line_last dropped now seq snapshot gone new_ops new_resources new_tasks op_stats poll_counts resource_stats task_stats = do
-  gone ← gone
+abbrev line_last : Dropped → ℕ → ℕ → Bool → Option SaidView → (new_ops new_resources new_tasks op_stats poll_counts resource_stats task_stats : Option (List Data)) → Option LineView
+line_last dropped now seq snapshot said new_ops new_resources new_tasks op_stats poll_counts resource_stats task_stats = do
+  said ← said
   new_ops ← new_ops >>= each_of op_of
   new_resources ← new_resources >>= each_of resource_of
   new_tasks ← new_tasks >>= each_of info_of
@@ -198,41 +223,41 @@ line_last dropped now seq snapshot gone new_ops new_resources new_tasks op_stats
   poll_counts ← poll_counts >>= each_of counts_of
   resource_stats ← resource_stats >>= each_of resource_stats_of
   task_stats ← task_stats >>= each_of stats_of
-  Some (record { dropped = dropped; gone = gone; new_ops = new_ops; new_resources = new_resources; new_tasks = new_tasks; now = now; op_stats = op_stats; poll_counts = poll_counts; resource_stats = resource_stats; seq = seq; snapshot = snapshot; task_stats = task_stats })
+  Some (record { dropped = dropped; gone = said.gone; new_ops = new_ops; new_resources = new_resources; new_tasks = new_tasks; now = now; op_stats = op_stats; poll_counts = poll_counts; resource_stats = resource_stats; seq = seq; snapshot = snapshot; task_stats = task_stats; task_times = said.times })
 
-lists_order : (d : Dropped) (now seq : ℕ) (s : Bool) (g : Option (Option GoneParts)) (a b c w e f h : Option (List Data))
-    → (parts_from g (Some d) a b c (Some now) w e f (Some seq) (Some s) h >>= line_from) ≡ line_last d now seq s (g >>= gone_of_parts) a b c w e f h
+lists_order : (d : Dropped) (now seq : ℕ) (s : Bool) (g : Option SaidParts) (a b c w e f h : Option (List Data))
+    → (parts_from g (Some d) a b c (Some now) w e f (Some seq) (Some s) h >>= line_from) ≡ line_last d now seq s (g >>= said_of_parts) a b c w e f h
 lists_order d now seq s None a b c w e f h = refl
-lists_order d now seq s (Some g) None b c w e f h = sym (no_step (gone_of_parts g) _ (λ _. refl))
-lists_order d now seq s (Some g) (Some a) None c w e f h = sym (no_step (gone_of_parts g) _ (λ _. no_step (each_of op_of a) _ (λ _. refl)))
-lists_order d now seq s (Some g) (Some a) (Some b) None w e f h = sym (no_step (gone_of_parts g) _ (λ _. no_step (each_of op_of a) _ (λ _. no_step (each_of resource_of b) _ (λ _. refl))))
-lists_order d now seq s (Some g) (Some a) (Some b) (Some c) None e f h = sym (no_step (gone_of_parts g) _ (λ _. no_step (each_of op_of a) _ (λ _. no_step (each_of resource_of b) _ (λ _. no_step (each_of info_of c) _ (λ _. refl)))))
-lists_order d now seq s (Some g) (Some a) (Some b) (Some c) (Some w) None f h = sym (no_step (gone_of_parts g) _ (λ _. no_step (each_of op_of a) _ (λ _. no_step (each_of resource_of b) _ (λ _. no_step (each_of info_of c) _ (λ _. no_step (each_of op_stats_of w) _ (λ _. refl))))))
-lists_order d now seq s (Some g) (Some a) (Some b) (Some c) (Some w) (Some e) None h = sym (no_step (gone_of_parts g) _ (λ _. no_step (each_of op_of a) _ (λ _. no_step (each_of resource_of b) _ (λ _. no_step (each_of info_of c) _ (λ _. no_step (each_of op_stats_of w) _ (λ _. no_step (each_of counts_of e) _ (λ _. refl)))))))
-lists_order d now seq s (Some g) (Some a) (Some b) (Some c) (Some w) (Some e) (Some f) None = sym (no_step (gone_of_parts g) _ (λ _. no_step (each_of op_of a) _ (λ _. no_step (each_of resource_of b) _ (λ _. no_step (each_of info_of c) _ (λ _. no_step (each_of op_stats_of w) _ (λ _. no_step (each_of counts_of e) _ (λ _. no_step (each_of resource_stats_of f) _ (λ _. refl))))))))
+lists_order d now seq s (Some g) None b c w e f h = sym (no_step (said_of_parts g) _ (λ _. refl))
+lists_order d now seq s (Some g) (Some a) None c w e f h = sym (no_step (said_of_parts g) _ (λ _. no_step (each_of op_of a) _ (λ _. refl)))
+lists_order d now seq s (Some g) (Some a) (Some b) None w e f h = sym (no_step (said_of_parts g) _ (λ _. no_step (each_of op_of a) _ (λ _. no_step (each_of resource_of b) _ (λ _. refl))))
+lists_order d now seq s (Some g) (Some a) (Some b) (Some c) None e f h = sym (no_step (said_of_parts g) _ (λ _. no_step (each_of op_of a) _ (λ _. no_step (each_of resource_of b) _ (λ _. no_step (each_of info_of c) _ (λ _. refl)))))
+lists_order d now seq s (Some g) (Some a) (Some b) (Some c) (Some w) None f h = sym (no_step (said_of_parts g) _ (λ _. no_step (each_of op_of a) _ (λ _. no_step (each_of resource_of b) _ (λ _. no_step (each_of info_of c) _ (λ _. no_step (each_of op_stats_of w) _ (λ _. refl))))))
+lists_order d now seq s (Some g) (Some a) (Some b) (Some c) (Some w) (Some e) None h = sym (no_step (said_of_parts g) _ (λ _. no_step (each_of op_of a) _ (λ _. no_step (each_of resource_of b) _ (λ _. no_step (each_of info_of c) _ (λ _. no_step (each_of op_stats_of w) _ (λ _. no_step (each_of counts_of e) _ (λ _. refl)))))))
+lists_order d now seq s (Some g) (Some a) (Some b) (Some c) (Some w) (Some e) (Some f) None = sym (no_step (said_of_parts g) _ (λ _. no_step (each_of op_of a) _ (λ _. no_step (each_of resource_of b) _ (λ _. no_step (each_of info_of c) _ (λ _. no_step (each_of op_stats_of w) _ (λ _. no_step (each_of counts_of e) _ (λ _. no_step (each_of resource_stats_of f) _ (λ _. refl))))))))
 lists_order d now seq s (Some g) (Some a) (Some b) (Some c) (Some w) (Some e) (Some f) (Some h) = refl
 
-line_order : (dropped : Option Dropped) (now seq : Option ℕ) (snapshot : Option Bool) (g : Option (Option GoneParts)) (a b c w e f h : Option (List Data))
-    → (parts_from g dropped a b c now w e f seq snapshot h >>= line_from) ≡ (dropped >>= λ d. now >>= λ n. seq >>= λ q. snapshot >>= λ s. line_last d n q s (g >>= gone_of_parts) a b c w e f h)
+line_order : (dropped : Option Dropped) (now seq : Option ℕ) (snapshot : Option Bool) (g : Option SaidParts) (a b c w e f h : Option (List Data))
+    → (parts_from g dropped a b c now w e f seq snapshot h >>= line_from) ≡ (dropped >>= λ d. now >>= λ n. seq >>= λ q. snapshot >>= λ s. line_last d n q s (g >>= said_of_parts) a b c w e f h)
 line_order None now seq snapshot g a b c w e f h = ap (λ o. o >>= line_from) (no_step g _ (λ _. refl))
 line_order (Some d) None seq snapshot g a b c w e f h = ap (λ o. o >>= line_from) (no_step g _ (λ _. no_step a _ (λ _. no_step b _ (λ _. no_step c _ (λ _. refl)))))
 line_order (Some d) (Some n) None snapshot g a b c w e f h = ap (λ o. o >>= line_from) (no_step g _ (λ _. no_step a _ (λ _. no_step b _ (λ _. no_step c _ (λ _. no_step w _ (λ _. no_step e _ (λ _. no_step f _ (λ _. refl))))))))
 line_order (Some d) (Some n) (Some q) None g a b c w e f h = ap (λ o. o >>= line_from) (no_step g _ (λ _. no_step a _ (λ _. no_step b _ (λ _. no_step c _ (λ _. no_step w _ (λ _. no_step e _ (λ _. no_step f _ (λ _. refl))))))))
 line_order (Some d) (Some n) (Some q) (Some s) g a b c w e f h = lists_order d n q s g a b c w e f h
 
-abbrev numbers_made : Bool → Dropped → ℕ → ℕ → Bool → Numbers
-numbers_made says d n q s = record { dropped = d; now = n; says_gone = says; seq = q; snapshot = s }
+abbrev numbers_made : Version → Dropped → ℕ → ℕ → Bool → Numbers
+numbers_made version d n q s = record { dropped = d; now = n; seq = q; snapshot = s; version = version }
 
-numbers_then : (says : Bool) (dropped : Option Dropped) (now seq : Option ℕ) (snapshot : Option Bool) (line : Numbers → Option LineView)
-    → ((dropped >>= λ d. now >>= λ n. seq >>= λ q. snapshot >>= λ s. Some (numbers_made says d n q s)) >>= line)
-    ≡ (dropped >>= λ d. now >>= λ n. seq >>= λ q. snapshot >>= λ s. line (numbers_made says d n q s))
-numbers_then says None now seq snapshot line = refl
-numbers_then says (Some d) None seq snapshot line = refl
-numbers_then says (Some d) (Some n) None snapshot line = refl
-numbers_then says (Some d) (Some n) (Some q) None line = refl
-numbers_then says (Some d) (Some n) (Some q) (Some s) line = refl
+numbers_then : (version : Version) (dropped : Option Dropped) (now seq : Option ℕ) (snapshot : Option Bool) (line : Numbers → Option LineView)
+    → ((dropped >>= λ d. now >>= λ n. seq >>= λ q. snapshot >>= λ s. Some (numbers_made version d n q s)) >>= line)
+    ≡ (dropped >>= λ d. now >>= λ n. seq >>= λ q. snapshot >>= λ s. line (numbers_made version d n q s))
+numbers_then version None now seq snapshot line = refl
+numbers_then version (Some d) None seq snapshot line = refl
+numbers_then version (Some d) (Some n) None snapshot line = refl
+numbers_then version (Some d) (Some n) (Some q) None line = refl
+numbers_then version (Some d) (Some n) (Some q) (Some s) line = refl
 
-module _ (ops resources tasks a b c w e f h : Option (List Data)) where
+module _ (ops resources tasks times a b c w e f h : Option (List Data)) where
   abbrev lists_of : ListsView
   lists_of = record {
     gone_ops = ops >>= each_of id_of;
@@ -245,21 +270,44 @@ module _ (ops resources tasks a b c w e f h : Option (List Data)) where
     poll_counts = e >>= each_of counts_of;
     resource_stats = f >>= each_of resource_stats_of;
     task_stats = h >>= each_of stats_of;
+    task_times = times >>= each_of times_of;
   }
 
-  kind_by : (one twelve two : Bool) (dropped : Option Dropped) (now seq : Option ℕ) (snapshot : Option Bool)
-      → (parts_from (cond one (cond twelve (Some None) None) (cond two (option_map Some (gone_first ops resources tasks)) None)) dropped a b c now w e f seq snapshot h >>= line_from)
-      ≡ ((cond one (cond twelve (Some false) None) (cond two (Some true) None) >>= λ says. dropped >>= λ d. now >>= λ n. seq >>= λ q. snapshot >>= λ s. Some (numbers_made says d n q s))
-      >>= λ n. line_with n lists_of)
+  -- the values of what each version says
+  abbrev two_said : Option SaidParts
+  two_said = option_map gone_said (gone_first ops resources tasks)
+
+  abbrev three_said : Option SaidParts
+  three_said = gone_first ops resources tasks >>= λ gone. option_map (both_said gone) times
+
+  two_order : (two_said >>= said_of_parts) ≡ said_with Two (ops >>= each_of id_of) (resources >>= each_of id_of) (tasks >>= each_of id_of) (times >>= each_of times_of)
+  two_order = gone_alone (gone_first ops resources tasks) ∙ ap (λ g. g >>= λ gone. Some (said_made (Some gone) None)) (gone_order ops resources tasks)
+
+  three_order : (three_said >>= said_of_parts) ≡ said_with Three (ops >>= each_of id_of) (resources >>= each_of id_of) (tasks >>= each_of id_of) (times >>= each_of times_of)
+  three_order = both_order (gone_first ops resources tasks) times ∙ ap (λ g. both g (times >>= each_of times_of)) (gone_order ops resources tasks)
+
+  -- a line of one version
+  version_line : (version : Version) (said : Option SaidParts) (dropped : Option Dropped) (now seq : Option ℕ) (snapshot : Option Bool)
+      → (said >>= said_of_parts) ≡ said_with version (ops >>= each_of id_of) (resources >>= each_of id_of) (tasks >>= each_of id_of) (times >>= each_of times_of)
+      → (parts_from said dropped a b c now w e f seq snapshot h >>= line_from)
+      ≡ ((dropped >>= λ d. now >>= λ n. seq >>= λ q. snapshot >>= λ s. Some (numbers_made version d n q s)) >>= λ n. line_with n lists_of)
   unfolding line_with
-  kind_by true false two dropped now seq snapshot = refl
-  kind_by false twelve false dropped now seq snapshot = refl
-  kind_by true true two dropped now seq snapshot =
-      line_order dropped now seq snapshot (Some None) a b c w e f h ∙ sym (numbers_then false dropped now seq snapshot (λ n. line_with n lists_of))
-  kind_by false twelve true dropped now seq snapshot =
-      line_order dropped now seq snapshot (option_map Some (gone_first ops resources tasks)) a b c w e f h
-      ∙ ap (λ g. dropped >>= λ d. now >>= λ n. seq >>= λ q. snapshot >>= λ s. line_last d n q s g a b c w e f h) (gone_order ops resources tasks)
-      ∙ sym (numbers_then true dropped now seq snapshot (λ n. line_with n lists_of))
+  version_line version said dropped now seq snapshot same =
+      line_order dropped now seq snapshot said a b c w e f h
+      ∙ ap (λ g. dropped >>= λ d. now >>= λ n. seq >>= λ q. snapshot >>= λ s. line_last d n q s g a b c w e f h) same
+      ∙ sym (numbers_then version dropped now seq snapshot (λ n. line_with n lists_of))
+
+  kind_by : (one twelve two fifteen three : Bool) (dropped : Option Dropped) (now seq : Option ℕ) (snapshot : Option Bool)
+      → (parts_from (cond one (cond twelve (Some nothing_said) None) (cond two (cond fifteen two_said None) (cond three three_said None))) dropped a b c now w e f seq snapshot h >>= line_from)
+      ≡ ((cond one (cond twelve (Some One) None) (cond two (cond fifteen (Some Two) None) (cond three (Some Three) None))
+      >>= λ version. dropped >>= λ d. now >>= λ n. seq >>= λ q. snapshot >>= λ s. Some (numbers_made version d n q s))
+      >>= λ n. line_with n lists_of)
+  kind_by true false two fifteen three dropped now seq snapshot = refl
+  kind_by false twelve true false three dropped now seq snapshot = refl
+  kind_by false twelve false fifteen false dropped now seq snapshot = refl
+  kind_by true true two fifteen three dropped now seq snapshot = version_line One (Some nothing_said) dropped now seq snapshot refl
+  kind_by false twelve true true three dropped now seq snapshot = version_line Two two_said dropped now seq snapshot two_order
+  kind_by false twelve false fifteen true dropped now seq snapshot = version_line Three three_said dropped now seq snapshot three_order
 
 -- ---- the line
 
@@ -272,7 +320,7 @@ list_is shape key ms = in_by shape (get_member key ms)
 
 at_lists : Members → ListsView
 at_lists ms =
-    lists_of (list_at (codes "gone_ops") (object ms)) (list_at (codes "gone_resources") (object ms)) (list_at (codes "gone_tasks") (object ms))
+    lists_of (list_at (codes "gone_ops") (object ms)) (list_at (codes "gone_resources") (object ms)) (list_at (codes "gone_tasks") (object ms)) (list_at (codes "task_times") (object ms))
     (list_at (codes "new_ops") (object ms)) (list_at (codes "new_resources") (object ms)) (list_at (codes "new_tasks") (object ms))
     (list_at (codes "op_stats") (object ms)) (list_at (codes "poll_counts") (object ms)) (list_at (codes "resource_stats") (object ms)) (list_at (codes "task_stats") (object ms))
 
@@ -290,25 +338,26 @@ lists_are ms =
       list_is counts_of (codes "poll_counts") ms,
       list_is resource_stats_of (codes "resource_stats") ms,
       list_is stats_of (codes "task_stats") ms,
+      list_is times_of (codes "task_times") ms,
     ) refl
 
-abbrev parts_at : Members → Option (Option GoneParts) → Option PartsView
-parts_at ms gone =
-    parts_from gone (list_at (codes "dropped") (object ms) >>= dropped_in) (list_at (codes "new_ops") (object ms)) (list_at (codes "new_resources") (object ms)) (list_at (codes "new_tasks") (object ms))
+abbrev parts_at : Members → Option SaidParts → Option PartsView
+parts_at ms said =
+    parts_from said (list_at (codes "dropped") (object ms) >>= dropped_in) (list_at (codes "new_ops") (object ms)) (list_at (codes "new_resources") (object ms)) (list_at (codes "new_tasks") (object ms))
     (number_at (codes "now") (object ms)) (list_at (codes "op_stats") (object ms)) (list_at (codes "poll_counts") (object ms)) (list_at (codes "resource_stats") (object ms)) (seq_at (codes "seq") (object ms)) (flag_at (codes "snapshot") (object ms)) (list_at (codes "task_stats") (object ms))
 
 version_by : (version : Option ℕ) (ms : Members)
-    → ((version >>= λ v. parts_at ms (gone_at v (object ms))) >>= line_from)
-    ≡ ((version >>= λ v. says_gone_at v (object ms) >>= λ says. (list_at (codes "dropped") (object ms) >>= dropped_in) >>= λ d. number_at (codes "now") (object ms) >>= λ n. seq_at (codes "seq") (object ms) >>= λ q. flag_at (codes "snapshot") (object ms)
+    → ((version >>= λ v. parts_at ms (said_at v (object ms))) >>= line_from)
+    ≡ ((version >>= λ v. version_at v (object ms) >>= λ says. (list_at (codes "dropped") (object ms) >>= dropped_in) >>= λ d. number_at (codes "now") (object ms) >>= λ n. seq_at (codes "seq") (object ms) >>= λ q. flag_at (codes "snapshot") (object ms)
     >>= λ s. Some (numbers_made says d n q s))
     >>= λ n. line_with n (at_lists ms))
-unfolding gone_at at_lists
+unfolding said_at at_lists
 version_by None ms = refl
 version_by (Some v) ms =
-    kind_by (list_at (codes "gone_ops") (object ms)) (list_at (codes "gone_resources") (object ms)) (list_at (codes "gone_tasks") (object ms))
+    kind_by (list_at (codes "gone_ops") (object ms)) (list_at (codes "gone_resources") (object ms)) (list_at (codes "gone_tasks") (object ms)) (list_at (codes "task_times") (object ms))
     (list_at (codes "new_ops") (object ms)) (list_at (codes "new_resources") (object ms)) (list_at (codes "new_tasks") (object ms))
     (list_at (codes "op_stats") (object ms)) (list_at (codes "poll_counts") (object ms)) (list_at (codes "resource_stats") (object ms)) (list_at (codes "task_stats") (object ms))
-    (v == 1) (has_members 12 (object ms)) (v == 2 && has_members 15 (object ms)) (list_at (codes "dropped") (object ms) >>= dropped_in) (number_at (codes "now") (object ms)) (seq_at (codes "seq") (object ms)) (flag_at (codes "snapshot") (object ms))
+    (v == 1) (has_members 12 (object ms)) (v == 2) (has_members 15 (object ms)) (v == 3 && has_members 16 (object ms)) (list_at (codes "dropped") (object ms) >>= dropped_in) (number_at (codes "now") (object ms)) (seq_at (codes "seq") (object ms)) (flag_at (codes "snapshot") (object ms))
 
 of_members : (ms : Members) → line_of (object ms) ≡ line_of_lists (object ms) (at_lists ms)
 unfolding line_of parts_of numbers_of
@@ -326,7 +375,8 @@ or_false false b e = (refl, e)
 
 pub no_list : (key : List ℕ) (d : Data) (lists : ListsView) → is_list_key key ≡ false → lists_put key d lists ≡ lists
 no_list key d lists e =
-    let ten = or_false _ (bytes_eq key (codes "task_stats")) e in
+    let eleven = or_false _ (bytes_eq key (codes "task_times")) e in
+    let ten = or_false _ (bytes_eq key (codes "task_stats")) eleven.0 in
     let nine = or_false _ (bytes_eq key (codes "resource_stats")) ten.0 in
     let eight = or_false _ (bytes_eq key (codes "poll_counts")) nine.0 in
     let seven = or_false _ (bytes_eq key (codes "op_stats")) eight.0 in
@@ -335,7 +385,7 @@ no_list key d lists e =
     let four = or_false _ (bytes_eq key (codes "new_ops")) five.0 in
     let three = or_false _ (bytes_eq key (codes "gone_tasks")) four.0 in
     let two = or_false (bytes_eq key (codes "gone_ops")) (bytes_eq key (codes "gone_resources")) three.0 in
-    rw (two.0, two.1, three.1, four.1, five.1, six.1, seven.1, eight.1, nine.1, ten.1) refl
+    rw (two.0, two.1, three.1, four.1, five.1, six.1, seven.1, eight.1, nine.1, ten.1, eleven.1) refl
 
 pub list_stands : (key : List ℕ) (d : Data) → is_list_key key ≡ true → null ≡ stands_for key d
 list_stands key d e = rw e refl
@@ -343,24 +393,26 @@ list_stands key d e = rw e refl
 pub small_stands : (key : List ℕ) (d : Data) → is_list_key key ≡ false → small d 3 ≡ stands_for key d
 small_stands key d e = rw e refl
 
-gone_none : (one two : Bool) (lists : Option (Option GoneParts)) → cond one (cond false (Some None) None) (cond (two && false) lists None) ≡ None
-gone_none true two lists = refl
-gone_none false true lists = refl
-gone_none false false lists = refl
+none_said : (one two three : Bool) (lists both : Option SaidParts) → cond one (cond false (Some nothing_said) None) (cond two (cond false lists None) (cond (three && false) both None)) ≡ None
+none_said true two three lists both = refl
+none_said false true three lists both = refl
+none_said false false true lists both = refl
+none_said false false false lists both = refl
 
-no_gone : (version : ℕ) (d : Data) → has_members 12 d ≡ false → has_members 15 d ≡ false → gone_at version d ≡ None
-unfolding gone_at
-no_gone version d twelve fifteen = rw (twelve, fifteen) (gone_none (version == 1) (version == 2) (option_map Some (gone_lists d)))
+no_said : (version : ℕ) (d : Data) → has_members 12 d ≡ false → has_members 15 d ≡ false → has_members 16 d ≡ false → said_at version d ≡ None
+unfolding said_at
+no_said version d twelve fifteen sixteen =
+    rw (twelve, fifteen, sixteen) (none_said (version == 1) (version == 2) (version == 3) (option_map gone_said (gone_lists d)) (gone_lists d >>= λ gone. option_map (both_said gone) (list_at (codes "task_times") d)))
 
-too_many_by : (version : Option ℕ) (ms : Members) → has_members 12 (object ms) ≡ false → has_members 15 (object ms) ≡ false → (version >>= λ v. parts_at ms (gone_at v (object ms))) ≡ None
-too_many_by None ms twelve fifteen = refl
-too_many_by (Some v) ms twelve fifteen = ap (parts_at ms) (no_gone v (object ms) twelve fifteen)
+too_many_by : (version : Option ℕ) (ms : Members) → has_members 12 (object ms) ≡ false → has_members 15 (object ms) ≡ false → has_members 16 (object ms) ≡ false → (version >>= λ v. parts_at ms (said_at v (object ms))) ≡ None
+too_many_by None ms twelve fifteen sixteen = refl
+too_many_by (Some v) ms twelve fifteen sixteen = ap (parts_at ms) (no_said v (object ms) twelve fifteen sixteen)
 
-too_many : (ms : Members) → 15 < members_len ms → line_of (object ms) ≡ None
+too_many : (ms : Members) → 16 < members_len ms → line_of (object ms) ≡ None
 unfolding line_of parts_of
-too_many ms h = ap (λ o. o >>= line_from) (too_many_by (number_at (codes "v") (object ms)) ms (grind arith) (grind arith))
+too_many ms h = ap (λ o. o >>= line_from) (too_many_by (number_at (codes "v") (object ms)) ms (grind arith) (grind arith) (grind arith))
 
-pub many_passed : (held : Members) (depth : ℕ) (ts r : List Token) → 15 < members_len held → rest (members_read held depth ts) ≡ Some r → parse_map (λ ms. line_of (object ms)) (members_read held depth ts) ≡ Some (None, r)
+pub many_passed : (held : Members) (depth : ℕ) (ts r : List Token) → 16 < members_len held → rest (members_read held depth ts) ≡ Some r → parse_map (λ ms. line_of (object ms)) (members_read held depth ts) ≡ Some (None, r)
 many_passed held depth ts r h e =
     let all = left_some (members_read held depth ts) r e in
     let more = longer held depth ts all.0 r all.1 in

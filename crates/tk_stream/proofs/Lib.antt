@@ -2,6 +2,7 @@ pub mod NoEnds
 pub mod SlotLemmas
 pub mod SlotIds
 pub mod Kept
+pub mod TimesLemmas
 pub mod RowsLemmas
 pub mod Lists
 pub mod Values

@@ -311,6 +311,7 @@ pruned_line told tables now retention seq once on =
       seq = seq;
       snapshot = false;
       task_stats = stats_leave task_kind task_stats_of have_same_row tasks_are task_due told.tasks tables.tasks on.tasks once.tasks i;
+      task_times = None;
     }
 
 -- those tables go on from what stays of the tables before
@@ -376,4 +377,5 @@ less_in_range tables gone r = record {
   resource_stats = less_stats resource_id resource_info have_same_resource_row resource_stats_of gone.resources tables.resources _ r.resource_stats;
   seq = r.seq;
   task_stats = less_stats task_id task_info have_same_row task_stats_of gone.tasks tables.tasks _ r.task_stats;
+  task_times = tt;
 }

@@ -40,8 +40,9 @@ are_in_range t tasks resources ops counts totals now = record {
   resource_stats = subst (AllByRecursion AreResourceStats) (sym (all_stats resource_id have_same_resource_row resource_stats_of t.resources)) (all_map resource_stats_of AreResourceStats ResourceInRange (λ x p. p.1) t.resources resources);
   seq = refl;
   task_stats = subst (AllByRecursion AreTaskStats) (sym (all_stats task_id have_same_row task_stats_of t.tasks)) (all_map task_stats_of AreTaskStats TaskInRange (λ x p. p.1) t.tasks tasks);
+  task_times = tt;
 }
 
 -- another moment in range
 pub at_moment : (t : TablesView) (now : ℕ) → AreInRange t → IsNumber now → AreInRange (record t { now = now })
-at_moment t now r fits = record { dropped = r.dropped; gone = tt; new_ops = r.new_ops; new_resources = r.new_resources; new_tasks = r.new_tasks; now = fits; op_stats = r.op_stats; poll_counts = r.poll_counts; resource_stats = r.resource_stats; seq = r.seq; task_stats = r.task_stats }
+at_moment t now r fits = record { dropped = r.dropped; gone = tt; new_ops = r.new_ops; new_resources = r.new_resources; new_tasks = r.new_tasks; now = fits; op_stats = r.op_stats; poll_counts = r.poll_counts; resource_stats = r.resource_stats; seq = r.seq; task_stats = r.task_stats; task_times = tt }

@@ -11,7 +11,8 @@ use Rattle.tk_stream.specs.declared.op.Op.{Op}
 use Rattle.tk_stream.specs.declared.resource.Resource.{Resource}
 use Rattle.tk_stream.specs.declared.task.Task.{Task}
 use Rattle.tk_stream.specs.Tables.{TablesView, PollCounts, task_id, resource_id, op_id, counts_id, item_with, staying}
-use Rattle.tk_stream.specs.Lines.{LineView, GoneView, gone_of, is_new, task_info, resource_info, op_info}
+use Rattle.tk_stream.specs.Times.{TaskTimes, times_id}
+use Rattle.tk_stream.specs.Lines.{LineView, GoneView, gone_of, times_of, is_new, task_info, resource_info, op_info}
 
 -- a kind of item: its id and what stays of it, the ids of what stays and of what changes, and the item that the two make
 pub record Kind (Item Info Stats : Type 0) : Type 0 where
@@ -61,6 +62,16 @@ counts_kind = record {
   item_of = λ id c. c;
 }
 
+-- histograms of poll times: what stays is the task's id, and they are told whole
+abbrev pub times_kind : Kind TaskTimes ℕ TaskTimes
+times_kind = record {
+  id_of = times_id;
+  info_of = times_id;
+  info_id = λ id. id;
+  stats_id = times_id;
+  item_of = λ id t. t;
+}
+
 -- an item that was there has what is told of it, and is as it was where nothing is
 abbrev pub told_item : {Item Info Stats : Type 0} → Kind Item Info Stats → List Stats → Item → Item
 told_item k stats item = option_map_or (k.item_of (k.info_of item)) (item_with k.stats_id (k.id_of item) stats) item
@@ -87,7 +98,16 @@ items_after k old gone infos stats = items_told k (staying k.id_of gone old) inf
 abbrev pub counts_after : List PollCounts → List PollCounts → List PollCounts
 counts_after old told = map (told_item counts_kind told) old ++ filter (is_new counts_id old) told
 
--- tables after a line, where it has what changes of each new item. Totals and moment are the line's
+-- histograms that are there with what is told of them, and after them the new ones in the line's order
+abbrev pub times_told : List TaskTimes → List TaskTimes → List TaskTimes
+times_told there told = map (told_item times_kind told) there ++ filter (is_new times_id there) told
+
+-- histograms after a line, where they stand beside tables that the line is applied to: those of tasks that are gone leave with them,
+-- the others are as they are told, and after them stand the new ones in the line's order
+abbrev pub times_after : List TaskTimes → LineView → List TaskTimes
+times_after old l = times_told (staying times_id (gone_of l).tasks old) (times_of l)
+
+-- tables after a line, where it has what changes of each new item. Totals and moment are the line's, and histograms stand beside them
 abbrev pub tables_after : TablesView → LineView → Option TablesView
 tables_after old l =
     option_and_then (λ tasks. option_and_then (λ resources. option_map (λ ops. record {

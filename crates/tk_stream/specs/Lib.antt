@@ -1,6 +1,7 @@
 -- What tables hold, and what their calls make of it
 pub mod Tables
 pub mod Polls
+pub mod Times
 -- What a line says
 pub mod Rows
 pub mod Lines

@@ -12,6 +12,7 @@ use Rattle.tk_stream.specs.declared.op.Op.{Op}
 use Rattle.tk_stream.specs.declared.resource.Resource.{Resource}
 use Rattle.tk_stream.specs.declared.task.Task.{Task}
 use Rattle.tk_stream.specs.Rows.{same_row, same_resource_row, same_op_row, same_counts}
+use Rattle.tk_stream.specs.Times.{TaskTimes, times_id, same_times, all_times}
 use Rattle.tk_stream.specs.Tables.{TablesView, PollCounts, empty_tables, task_id, resource_id, op_id, counts_id, item_with}
 
 -- which items are gone, by their ids
@@ -25,7 +26,7 @@ abbrev pub none_gone : GoneView
 none_gone = record { ops = []; resources = []; tasks = [] }
 
 -- what a line says: its infos are those of new items, its statistics are ids with their rows. A line of version 2 also says
--- which items are gone, and one of version 1 says nothing of it
+-- which items are gone, one of version 3 also tells histograms of tasks' poll times, and one of version 1 says nothing of either
 pub record LineView : Type 0 where
   pub dropped : Dropped
   pub gone : Option GoneView
@@ -39,23 +40,29 @@ pub record LineView : Type 0 where
   pub seq : ℕ
   pub snapshot : Bool
   pub task_stats : List (ℕ × TaskRow)
+  pub task_times : Option (List TaskTimes)
 
 -- lines are numbered from 1 to 2^63
 abbrev pub is_seq : ℕ → Bool
 is_seq n = nat_le 1 n && nat_le n (2 ^ 63)
 
--- the version of a line's format: 2 where it says what is gone, and otherwise 1
-abbrev pub version_with : Option GoneView → ℕ
-version_with None = 1
-version_with (Some gone) = 2
+-- the version of a line's format: 3 where it says what is gone and tells histograms, 2 where it says what is gone, and otherwise 1
+abbrev pub version_with : Option GoneView → Option (List TaskTimes) → ℕ
+version_with None times = 1
+version_with (Some gone) None = 2
+version_with (Some gone) (Some times) = 3
 
 -- the version of a line's format
 abbrev pub version : LineView → ℕ
-version l = version_with l.gone
+version l = version_with l.gone l.task_times
 
 -- the items that a line says are gone
 abbrev pub gone_of : LineView → GoneView
 gone_of l = unwrap_or l.gone none_gone
+
+-- the histograms that a line tells
+abbrev pub times_of : LineView → List TaskTimes
+times_of l = unwrap_or l.task_times []
 
 -- ---- between lists of items of any kind, where `id_of` is an item's id
 
@@ -135,6 +142,7 @@ line_between old new seq = record {
   seq = seq;
   snapshot = false;
   task_stats = told_stats task_id have_same_row task_stats_of old.tasks new.tasks;
+  task_times = None;
 }
 
 -- a snapshot line tells of tables as a whole: it is the line that leads there from empty ones, marked as a snapshot
@@ -156,6 +164,14 @@ gone_between old new = record {
 -- a line as version 2 has it, where these are gone
 abbrev pub with_gone : GoneView → LineView → LineView
 with_gone gone l = record l { gone = Some gone }
+
+-- the histograms that are new since the old ones, or differ from those, in the order of the new
+abbrev pub told_times : List TaskTimes → List TaskTimes → List TaskTimes
+told_times old new = told_stats times_id same_times all_times old new
+
+-- a line as version 3 has it, with these histograms
+abbrev pub with_times : List TaskTimes → LineView → LineView
+with_times times l = record l { gone = Some (gone_of l); task_times = Some times }
 
 -- a line has the info and the row of each item, and all poll counts, each in order of arrival
 pub record TellsAll (tables : TablesView) (l : LineView) : Type 0 where

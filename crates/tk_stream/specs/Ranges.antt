@@ -1,5 +1,5 @@
 -- The values of a line's types: numbers are below 2^64, ids are ids and names are names.
-use Rattle.std.specs.Prelude.{◌≡◌, ℕ, ◌^◌, ◌<◌, ◌≤◌, List, length, true, Option, IfSome}
+use Rattle.std.specs.Prelude.{◌≡◌, ℕ, ◌^◌, ◌<◌, ◌≤◌, List, length, true, Option, IfSome, IsSome}
 use Rattle.std.specs.List.{AllByRecursion}
 use Rattle.tk_core.specs.Attributes.{is_i64}
 use Rattle.tk_core.specs.declared.op.row.OpRow.{OpRow}
@@ -17,6 +17,7 @@ use Rattle.tk_ids.specs.declared.info.ResourceInfo.{ResourceInfo}
 use Rattle.tk_ids.specs.declared.info.TaskInfo.{TaskInfo}
 use Rattle.tk_ids.specs.declared.location.Location.{Location}
 use Rattle.tk_stream.specs.Tables.{PollCounts}
+use Rattle.tk_stream.specs.Times.{TaskTimes}
 use Rattle.tk_stream.specs.Lines.{LineView, GoneView, is_seq}
 
 -- a number of 64 bits
@@ -135,6 +136,13 @@ pub record AreCounts (c : PollCounts) : Type 0 where
   pub ready : IsNumber c.1
   pub pending : IsNumber c.2
 
+-- a task's histogram of poll times: the counts of fourteen buckets
+pub record AreTimes (t : TaskTimes) : Type 0 where
+  pub task : IsId t.0
+  pub longest : IsNumber t.1.longest
+  pub counts : AllByRecursion IsNumber t.1.counts
+  pub many : length t.1.counts ≡ 14
+
 -- the totals of what was dropped
 pub record AreTotals (d : Dropped) : Type 0 where
   pub tasks : IsNumber d.tasks
@@ -146,6 +154,11 @@ pub record IsGone (g : GoneView) : Type 0 where
   pub ops : AllByRecursion IsId g.ops
   pub resources : AllByRecursion IsId g.resources
   pub tasks : AllByRecursion IsId g.tasks
+
+-- histograms in a line, which says what is gone wherever it tells some
+pub record AreTold (gone : Option GoneView) (times : List TaskTimes) : Type 0 where
+  pub each : AllByRecursion AreTimes times
+  pub said : IsSome gone
 
 -- a line whose values are in their ranges. Its flag has no range
 pub record IsLine (l : LineView) : Type 0 where
@@ -160,3 +173,4 @@ pub record IsLine (l : LineView) : Type 0 where
   pub resource_stats : AllByRecursion AreResourceStats l.resource_stats
   pub seq : is_seq l.seq ≡ true
   pub task_stats : AllByRecursion AreTaskStats l.task_stats
+  pub task_times : IfSome l.task_times (AreTold l.gone)

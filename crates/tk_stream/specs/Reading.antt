@@ -27,6 +27,7 @@ use Rattle.serde_json.specs.Read.{read}
 use Rattle.tk_stream.specs.declared.error.LineError.{LineError}
 use Rattle.tk_stream.specs.declared.error.LineError.TheVariants.{BadJson}
 use Rattle.tk_stream.specs.Tables.{PollCounts}
+use Rattle.tk_stream.specs.Times.{TaskTimes, counts_from}
 use Rattle.tk_stream.specs.Lines.{LineView, GoneView, is_seq}
 use Rattle.tk_stream.specs.Outcome.{shaped, ◌then◌}
 
@@ -321,6 +322,31 @@ counts_in _ = None
 abbrev pub counts_of : Data → Option PollCounts
 counts_of d = list_of d >>= counts_in
 
+-- a bucket that isn't empty: [bucket, count]
+abbrev pub filled_in : List Data → Option (ℕ × ℕ)
+filled_in (b ∷ c ∷ []) = do
+  bucket ← number_of b
+  count ← number_of c
+  Some (bucket, count)
+filled_in _ = None
+
+-- a bucket that isn't empty
+abbrev pub filled_of : Data → Option (ℕ × ℕ)
+filled_of d = list_of d >>= filled_in
+
+-- the counts of fourteen buckets, by those that aren't empty
+unfoldable pub buckets_in : List Data → Option (List ℕ)
+buckets_in ds = each_of filled_of ds >>= counts_from 0 14
+
+-- a task's histogram of poll times, of exactly these keys
+unfoldable pub times_of : Data → Option TaskTimes
+times_of d = if has_members 3 d then (do
+  counts ← list_at (codes "counts") d >>= buckets_in
+  id ← id_at (codes "id") d
+  longest ← number_at (codes "longest") d
+  Some (id, record { longest = longest; counts = counts }))
+    else None
+
 -- ---- a line
 
 -- the totals of what was dropped: [tasks, resources, ops]
@@ -350,12 +376,29 @@ gone_lists d = do
   tasks ← list_at (codes "gone_tasks") d
   Some (record { ops = ops; resources = resources; tasks = tasks })
 
--- what is gone by the version of the format, which has so many keys: version 1 doesn't say it, version 2 does, and there are
--- no others
-unfoldable pub gone_at : ℕ → Data → Option (Option GoneParts)
-gone_at version d =
-    if version == 1 then (if has_members 12 d then Some None else None)
-    else (if version == 2 && has_members 15 d then option_map Some (gone_lists d) else None)
+-- what only some versions of the format say: what is gone, and the list of histograms of poll times, as values
+pub record SaidParts : Type 0 where
+  pub gone : Option GoneParts
+  pub times : Option (List Data)
+
+-- what version 1 says of these: nothing
+abbrev pub nothing_said : SaidParts
+nothing_said = record { gone = None; times = None }
+
+-- what version 2 says: what is gone
+abbrev pub gone_said : GoneParts → SaidParts
+gone_said gone = record { gone = Some gone; times = None }
+
+-- what version 3 says: both
+abbrev pub both_said : GoneParts → List Data → SaidParts
+both_said gone times = record { gone = Some gone; times = Some times }
+
+-- what a line says of these by the version of the format, which has so many keys; there are no other versions
+unfoldable pub said_at : ℕ → Data → Option SaidParts
+said_at version d =
+    if version == 1 then (if has_members 12 d then Some nothing_said else None)
+    else (if version == 2 then (if has_members 15 d then option_map gone_said (gone_lists d) else None)
+    else (if version == 3 && has_members 16 d then (gone_lists d >>= λ gone. option_map (both_said gone) (list_at (codes "task_times") d)) else None))
 
 -- the ids of what is gone
 abbrev pub ids_gone : GoneParts → Option GoneView
@@ -370,10 +413,27 @@ abbrev pub gone_of_parts : Option GoneParts → Option (Option GoneView)
 gone_of_parts None = Some None
 gone_of_parts (Some g) = option_map Some (ids_gone g)
 
+-- the histograms, where a line tells some
+abbrev pub times_of_parts : Option (List Data) → Option (Option (List TaskTimes))
+times_of_parts None = Some None
+times_of_parts (Some ds) = option_map Some (each_of times_of ds)
+
+-- what only some versions of the format say
+pub record SaidView : Type 0 where
+  pub gone : Option GoneView
+  pub times : Option (List TaskTimes)
+
+-- what only some versions say, where each of its values is of its kind
+abbrev pub said_of_parts : SaidParts → Option SaidView
+said_of_parts s = do
+  gone ← gone_of_parts s.gone
+  times ← times_of_parts s.times
+  Some (record { gone = gone; times = times })
+
 -- the parts of a line, with its lists as values
 pub record PartsView : Type 0 where
   pub dropped : Dropped
-  pub gone : Option GoneParts
+  pub said : SaidParts
   pub new_ops : List Data
   pub new_resources : List Data
   pub new_tasks : List Data
@@ -389,7 +449,7 @@ pub record PartsView : Type 0 where
 unfoldable pub parts_of : Data → Option PartsView
 parts_of d = do
   version ← number_at (codes "v") d
-  gone ← gone_at version d
+  said ← said_at version d
   dropped ← list_at (codes "dropped") d >>= dropped_in
   new_ops ← list_at (codes "new_ops") d
   new_resources ← list_at (codes "new_resources") d
@@ -401,13 +461,13 @@ parts_of d = do
   seq ← seq_at (codes "seq") d
   snapshot ← flag_at (codes "snapshot") d
   task_stats ← list_at (codes "task_stats") d
-  Some (record { dropped = dropped; gone = gone; new_ops = new_ops; new_resources = new_resources; new_tasks = new_tasks; now = now; op_stats = op_stats; poll_counts = poll_counts; resource_stats = resource_stats; seq = seq; snapshot = snapshot; task_stats = task_stats })
+  Some (record { dropped = dropped; said = said; new_ops = new_ops; new_resources = new_resources; new_tasks = new_tasks; now = now; op_stats = op_stats; poll_counts = poll_counts; resource_stats = resource_stats; seq = seq; snapshot = snapshot; task_stats = task_stats })
 
 -- the line that a value is: it has exactly the keys of its version, each with a value of its kind
 unfoldable pub line_of : Data → Option LineView
 line_of d = do
   p ← parts_of d
-  gone ← gone_of_parts p.gone
+  said ← said_of_parts p.said
   new_ops ← each_of op_of p.new_ops
   new_resources ← each_of resource_of p.new_resources
   new_tasks ← each_of info_of p.new_tasks
@@ -415,7 +475,7 @@ line_of d = do
   poll_counts ← each_of counts_of p.poll_counts
   resource_stats ← each_of resource_stats_of p.resource_stats
   task_stats ← each_of stats_of p.task_stats
-  Some (record { dropped = p.dropped; gone = gone; new_ops = new_ops; new_resources = new_resources; new_tasks = new_tasks; now = p.now; op_stats = op_stats; poll_counts = poll_counts; resource_stats = resource_stats; seq = p.seq; snapshot = p.snapshot; task_stats = task_stats })
+  Some (record { dropped = p.dropped; gone = said.gone; new_ops = new_ops; new_resources = new_resources; new_tasks = new_tasks; now = p.now; op_stats = op_stats; poll_counts = poll_counts; resource_stats = resource_stats; seq = p.seq; snapshot = p.snapshot; task_stats = task_stats; task_times = said.times })
 
 -- ---- a text
 

@@ -6,6 +6,7 @@ use Rattle.tk_stream.specs.declared.resource.Resource.{Resource}
 use Rattle.tk_stream.specs.declared.task.Task.{Task}
 use Rattle.tk_stream.specs.Applied.{without_gone}
 use Rattle.tk_stream.specs.Lines.{LineView, GoneView, line_between, gone_between, with_gone}
+use Rattle.tk_stream.specs.Times.{TaskTimes, times_id}
 use Rattle.tk_stream.specs.Tables.{TablesView, task_id, resource_id, op_id, is_among}
 
 -- when a task was closed, if it was
@@ -56,3 +57,7 @@ told_without gone l = record l {
   resource_stats = stats_without (λ s. s.0) gone.resources l.resource_stats;
   task_stats = stats_without (λ s. s.0) gone.tasks l.task_stats;
 }
+
+-- histograms but for those of tasks that leave, where something does
+abbrev pub times_staying : Option GoneView → List TaskTimes → List TaskTimes
+times_staying leaving times = option_map_or (λ gone. stats_without times_id gone.tasks times) leaving times

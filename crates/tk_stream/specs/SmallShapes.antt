@@ -1,6 +1,6 @@
 -- What is kept of a value, three levels deep, is of the same shape.
-use Rattle.std.proofs.Common.{◌≡◌, ◌<◌, ◌≤◌, ℕ, zero, suc, List, [], ◌∷◌, length, Bool, true, false, nat_le, cond, Option, Some, None, option_map, option_and_then, refl, ap, ◌∙◌, sym, arith}
-use Rattle.std.specs.Prelude.{codes, ◌&&◌}
+use Rattle.std.proofs.Common.{◌≡◌, ◌+◌, ◌<◌, ◌≤◌, ℕ, zero, suc, List, [], ◌∷◌, length, Bool, true, false, nat_le, cond, Option, Some, None, option_map, option_and_then, refl, ap, ◌∙◌, sym, arith}
+use Rattle.std.specs.Prelude.{codes, ◌&&◌, ◌==◌}
 use Rattle.serde_json.specs.Data.{Data, null, boolean, number, string, array, object, Items, no_items, item, Members, no_members}
 use Rattle.serde_json.specs.Events.{items_len, members_len}
 use Rattle.serde_json.specs.Find.{get, as_str, as_bool, as_array, as_u64}
@@ -12,7 +12,8 @@ use Rattle.tk_ids.specs.declared.info.ResourceInfo.{ResourceInfo}
 use Rattle.tk_ids.specs.declared.location.Location.{Location}
 use Rattle.tk_json.specs.Small.{small, small_items, small_members, few, nothing}
 use Rattle.tk_json.proofs.Kept.{scalars_kept, items_kept, members_kept}
-use Rattle.tk_stream.specs.Reading.{◌>>=◌, has_members, number_of, optional_of, id_of, optional_id_of, name_of, optional_name_of, small_of, values_of, list_of, each_of, number_at, optional_at, flag_at, text_at, list_at, id_at, optional_id_at, name_at, location_in, location_at, attr_in, attr_of, attrs_in, signed_in, value_of, values_in, info_of, ResourceView, resource_parts, resource_of, OpView, op_parts, op_of, stats_of, resource_stats_with, resource_stats_of, op_stats_with, op_stats_of, counts_in, counts_of}
+use Rattle.tk_stream.specs.Reading.{◌>>=◌, has_members, number_of, optional_of, id_of, optional_id_of, name_of, optional_name_of, small_of, values_of, list_of, each_of, number_at, optional_at, flag_at, text_at, list_at, id_at, optional_id_at, name_at, location_in, location_at, attr_in, attr_of, attrs_in, signed_in, value_of, values_in, info_of, ResourceView, resource_parts, resource_of, OpView, op_parts, op_of, stats_of, resource_stats_with, resource_stats_of, op_stats_with, op_stats_of, counts_in, counts_of, filled_in, filled_of, buckets_in, times_of}
+use Rattle.tk_stream.specs.Times.{counts_from}
 
 -- ---- values of one token
 
@@ -49,7 +50,7 @@ unless_null f arrays none objects (number x) n = refl
 unless_null f arrays none objects (string s) n = refl
 unless_null f arrays none objects (array ds) zero = none ds
 unless_null f arrays none objects (object ms) zero = objects no_members ms
-unless_null f arrays none objects (array ds) (suc n) = either (nat_le (items_len ds) 6) f (array (small_items ds n)) nothing (f (array ds)) (arrays _ _) (none ds)
+unless_null f arrays none objects (array ds) (suc n) = either (nat_le (items_len ds) 14) f (array (small_items ds n)) nothing (f (array ds)) (arrays _ _) (none ds)
 unless_null f arrays none objects (object ms) (suc n) = either (nat_le (members_len ms) 17) f (object (small_members ms n)) nothing (f (object ms)) (objects _ _) (objects no_members ms)
 
 optional_same : (d : Data) (n : ℕ) → optional_of (small d n) ≡ optional_of d
@@ -63,11 +64,11 @@ optional_name_same d n = unless_null optional_name_of (λ ds es. refl) (λ ds. r
 
 -- ---- lists of so few values that none is left out
 
--- a function of lists has nothing of more than six values, and otherwise the same of small ones
+-- a function of lists has nothing of more than fourteen values, and otherwise the same of small ones
 abbrev pub OfFew : {B : Type 0} → (List Data → Option B) → ℕ → Type 0
-OfFew f n = ((ds : Items) → f (values_of (small_items ds n)) ≡ f (values_of ds)) × ((ds : Items) → 6 < items_len ds → f (values_of ds) ≡ None)
+OfFew f n = ((ds : Items) → f (values_of (small_items ds n)) ≡ f (values_of ds)) × ((ds : Items) → 14 < items_len ds → f (values_of ds) ≡ None)
 
-few_by : {B : Type 0} (f : List Data → Option B) (n : ℕ) (ds : Items) (b : Bool) → nat_le (items_len ds) 6 ≡ b → OfFew f n
+few_by : {B : Type 0} (f : List Data → Option B) (n : ℕ) (ds : Items) (b : Bool) → nat_le (items_len ds) 14 ≡ b → OfFew f n
     → option_and_then f (option_map values_of (option_map (λ es. small_items es n) (cond b (Some ds) None))) ≡ f (values_of ds)
 few_by f n ds true e same = same.0 ds
 few_by f n ds false e same = sym (same.1 ds (grind arith))
@@ -75,7 +76,7 @@ few_by f n ds false e same = sym (same.1 ds (grind arith))
 few_same : {B : Type 0} (f : List Data → Option B) (n : ℕ) → OfFew f n
     → (o : Option Items) → option_and_then f (option_map values_of (option_map (λ es. small_items es n) (option_and_then few o))) ≡ option_and_then f (option_map values_of o)
 few_same f n same None = refl
-few_same f n same (Some ds) = few_by f n ds (nat_le (items_len ds) 6) refl same
+few_same f n same (Some ds) = few_by f n ds (nat_le (items_len ds) 14) refl same
 
 pub list_same : {B : Type 0} (f : List Data → Option B) (n : ℕ) → OfFew f n → (d : Data) → (list_of (small d (suc n)) >>= f) ≡ (list_of d >>= f)
 list_same f n same d = ap (λ o. option_and_then f (option_map values_of o)) (items_kept d n) ∙ few_same f n same (as_array d)
@@ -89,7 +90,7 @@ counts_few n (item a (item b no_items)) = refl
 counts_few n (item a (item b (item c no_items))) = rw (id_same a n, number_same b n, number_same c n) refl
 counts_few n (item a (item b (item c (item d ds)))) = refl
 
-counts_wide : (ds : Items) → 6 < items_len ds → counts_in (values_of ds) ≡ None
+counts_wide : (ds : Items) → 14 < items_len ds → counts_in (values_of ds) ≡ None
 counts_wide no_items h = refl
 counts_wide (item a no_items) h = refl
 counts_wide (item a (item b no_items)) h = refl
@@ -107,7 +108,7 @@ location_few n (item a (item b no_items)) = refl
 location_few n (item a (item b (item c no_items))) = rw (name_same a n, column_same b n, column_same c n) refl
 location_few n (item a (item b (item c (item d ds)))) = refl
 
-location_wide : (ds : Items) → 6 < items_len ds → location_in (values_of ds) ≡ None
+location_wide : (ds : Items) → 14 < items_len ds → location_in (values_of ds) ≡ None
 location_wide no_items h = refl
 location_wide (item a no_items) h = refl
 location_wide (item a (item b no_items)) h = refl
@@ -121,7 +122,7 @@ attr_few n (item a (item b no_items)) = refl
 attr_few n (item a (item b (item c no_items))) = rw (name_same a n, optional_name_same b n, text_same c n) refl
 attr_few n (item a (item b (item c (item d ds)))) = refl
 
-attr_wide : (ds : Items) → 6 < items_len ds → attr_in (values_of ds) ≡ None
+attr_wide : (ds : Items) → 14 < items_len ds → attr_in (values_of ds) ≡ None
 attr_wide no_items h = refl
 attr_wide (item a no_items) h = refl
 attr_wide (item a (item b no_items)) h = refl
@@ -140,12 +141,12 @@ signed_few n no_items = refl
 signed_few n (item a no_items) = rw ((scalars_kept a n).0) refl
 signed_few n (item a (item b ds)) = refl
 
-signed_wide : (ds : Items) → 6 < items_len ds → signed_in (values_of ds) ≡ None
+signed_wide : (ds : Items) → 14 < items_len ds → signed_in (values_of ds) ≡ None
 signed_wide no_items h = refl
 signed_wide (item a no_items) h = absurd (omega arith)
 signed_wide (item a (item b ds)) h = refl
 
-signed_by : (b : Bool) (n : ℕ) (ds : Items) → nat_le (items_len ds) 6 ≡ b → value_of (cond b (array (small_items ds n)) nothing) ≡ signed_in (values_of ds)
+signed_by : (b : Bool) (n : ℕ) (ds : Items) → nat_le (items_len ds) 14 ≡ b → value_of (cond b (array (small_items ds n)) nothing) ≡ signed_in (values_of ds)
 signed_by true n ds e = signed_few n ds
 signed_by false n ds e = sym (signed_wide ds (grind arith))
 
@@ -154,7 +155,7 @@ value_same null n = refl
 value_same (boolean b) n = refl
 value_same (number x) n = refl
 value_same (string s) n = refl
-value_same (array ds) n = signed_by (nat_le (items_len ds) 6) n ds refl
+value_same (array ds) n = signed_by (nat_le (items_len ds) 14) n ds refl
 value_same (object ms) n = either (nat_le (members_len ms) 17) value_of (object (small_members ms n)) nothing None refl refl
 
 -- the value of an attribute
@@ -191,7 +192,7 @@ attrs_few : (ds : Items) → attrs_in (values_of (small_items ds 1)) ≡ attrs_i
 unfolding attrs_in
 attrs_few ds = rw (each_few attr_of 1 (λ d. attr_same d 0) ds) refl
 
-attrs_wide : (ds : Items) → 6 < items_len ds → attrs_in (values_of ds) ≡ None
+attrs_wide : (ds : Items) → 14 < items_len ds → attrs_in (values_of ds) ≡ None
 unfolding attrs_in
 attrs_wide ds h =
     none_kept (each_of attr_of (values_of ds)) (λ attrs. are_attributes (info_names attrs))
@@ -201,7 +202,7 @@ values_few : (ds : Items) → values_in (values_of (small_items ds 1)) ≡ value
 unfolding values_in
 values_few ds = rw (each_few value_of 1 (λ d. value_same d 0) ds) refl
 
-values_wide : (ds : Items) → 6 < items_len ds → values_in (values_of ds) ≡ None
+values_wide : (ds : Items) → 14 < items_len ds → values_in (values_of ds) ≡ None
 unfolding values_in
 values_wide ds h = none_kept (each_of value_of (values_of ds)) (λ vs. nat_le (length vs) 6) (λ vs e. let many = all_of value_of ds vs e in grind (arith, many))
 
@@ -464,3 +465,58 @@ op_stats_small d =
       number_kept (codes "polls") d at,
       optional_id_kept (codes "task") d at,
     ) refl)
+
+-- ---- histograms of poll times
+
+filled_few : (n : ℕ) (ds : Items) → filled_in (values_of (small_items ds n)) ≡ filled_in (values_of ds)
+filled_few n no_items = refl
+filled_few n (item a no_items) = refl
+filled_few n (item a (item b no_items)) = rw (number_same a n, number_same b n) refl
+filled_few n (item a (item b (item c ds))) = refl
+
+filled_wide : (ds : Items) → 14 < items_len ds → filled_in (values_of ds) ≡ None
+filled_wide no_items h = refl
+filled_wide (item a no_items) h = refl
+filled_wide (item a (item b no_items)) h = absurd (omega arith)
+filled_wide (item a (item b (item c ds))) h = refl
+
+filled_same : (d : Data) (n : ℕ) → filled_of (small d (suc n)) ≡ filled_of d
+filled_same d n = list_same filled_in n (filled_few n, filled_wide) d
+
+-- a bucket that isn't empty
+pub filled_small : (d : Data) → filled_of (small d 3) ≡ filled_of d
+filled_small d = filled_same d 2
+
+mapped_none : {A B : Type 0} (f : A → B) (o : Option A) → o ≡ None → option_map f o ≡ None
+mapped_none f o none = ap (option_map f) none
+
+-- there are no more buckets that aren't empty than there are buckets
+too_many : (k n : ℕ) (bs : List (ℕ × ℕ)) → n < length bs → counts_from k n bs ≡ None
+too_many k zero [] h = absurd (omega arith)
+too_many k zero (b ∷ bs) h = refl
+too_many k (suc n) [] h = absurd (omega arith)
+too_many k (suc n) (b ∷ bs) h = by (b.0 == k) (b.1 == 0) (too_many (k + 1) n bs (omega (arith, h))) (too_many (k + 1) n (b ∷ bs) (omega (arith, h)))
+  where
+    by : (here none : Bool) → counts_from (k + 1) n bs ≡ None → counts_from (k + 1) n (b ∷ bs) ≡ None → cond here (cond none None (option_map (λ ns. b.1 ∷ ns) (counts_from (k + 1) n bs))) (option_map (λ ns. 0 ∷ ns) (counts_from (k + 1) n (b ∷ bs))) ≡ None
+    by true true rest same = refl
+    by true false rest same = mapped_none _ _ rest
+    by false none rest same = mapped_none _ _ same
+
+buckets_few : (ds : Items) → buckets_in (values_of (small_items ds 1)) ≡ buckets_in (values_of ds)
+unfolding buckets_in
+buckets_few ds = ap (λ o. o >>= counts_from 0 14) (each_few filled_of 1 (λ d. filled_same d 0) ds)
+
+buckets_wide : (ds : Items) → 14 < items_len ds → buckets_in (values_of ds) ≡ None
+unfolding buckets_in
+buckets_wide ds h = by (each_of filled_of (values_of ds)) refl
+  where
+    by : (o : Option (List (ℕ × ℕ))) → each_of filled_of (values_of ds) ≡ o → (o >>= counts_from 0 14) ≡ None
+    by None e = refl
+    by (Some bs) e = let many = all_of filled_of ds bs e in too_many 0 14 bs (omega (arith, h, many))
+
+-- a task's histogram
+pub times_small : (d : Data) → times_of (small d 3) ≡ times_of d
+unfolding times_of
+times_small d =
+    by_count times_of 3 (omega arith) (omega arith) d (has_members 3 d) refl (λ e none. rw none refl)
+    (λ counts is at. rw (counts, is, list_kept buckets_in (buckets_few, buckets_wide) (codes "counts") d at, id_kept (codes "id") d at, number_kept (codes "longest") d at) refl)

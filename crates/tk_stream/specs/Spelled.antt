@@ -1,5 +1,5 @@
 -- Which line the members of an object make, where they are read key by key: each list by itself, and of the rest what is kept.
-use Rattle.std.specs.Prelude.{ℕ, List, codes, Bool, true, false, not, is_some, ◌==◌, ◌&&◌, ◌||◌, Option, Some, None, if◌then◌else◌}
+use Rattle.std.specs.Prelude.{ℕ, List, codes, Bool, is_some, ◌==◌, ◌&&◌, ◌||◌, Option, Some, None, if◌then◌else◌}
 use Rattle.std.specs.Str.{bytes_eq}
 use Rattle.serde_json.specs.Data.{Data, null, Members, no_members, member}
 use Rattle.serde_json.specs.Find.{get_member}
@@ -11,9 +11,12 @@ use Rattle.tk_ids.specs.declared.info.ResourceInfo.{ResourceInfo}
 use Rattle.tk_ids.specs.declared.info.TaskInfo.{TaskInfo}
 use Rattle.tk_json.specs.Small.{small}
 use Rattle.tk_stream.specs.declared.reading.Numbers.{Numbers}
+use Rattle.tk_stream.specs.declared.reading.Version.{Version}
+use Rattle.tk_stream.specs.declared.reading.Version.TheVariants.{One, Two, Three}
 use Rattle.tk_stream.specs.Lines.{LineView, GoneView}
-use Rattle.tk_stream.specs.Reading.{◌>>=◌, list_of, each_of, id_of, op_of, resource_of, info_of, op_stats_of, counts_of, resource_stats_of, stats_of, number_at, flag_at, seq_at, list_at, dropped_in, has_members}
+use Rattle.tk_stream.specs.Reading.{◌>>=◌, list_of, each_of, id_of, op_of, resource_of, info_of, op_stats_of, counts_of, resource_stats_of, stats_of, times_of, SaidView, number_at, flag_at, seq_at, list_at, dropped_in, has_members}
 use Rattle.tk_stream.specs.Tables.{PollCounts}
+use Rattle.tk_stream.specs.Times.{TaskTimes}
 
 -- ---- lists
 
@@ -29,6 +32,7 @@ pub record ListsView : Type 0 where
   pub poll_counts : Option (List PollCounts)
   pub resource_stats : Option (List (ℕ × ResourceRow))
   pub task_stats : Option (List (ℕ × TaskRow))
+  pub task_times : Option (List TaskTimes)
 
 -- what the items of an array are, where all are of the shape
 abbrev pub listed : {A : Type 0} → (Data → Option A) → Data → Option (List A)
@@ -51,6 +55,7 @@ lists_in ms = record {
   poll_counts = list_in counts_of (codes "poll_counts") ms;
   resource_stats = list_in resource_stats_of (codes "resource_stats") ms;
   task_stats = list_in stats_of (codes "task_stats") ms;
+  task_times = list_in times_of (codes "task_times") ms;
 }
 
 -- the list at a name, once a value was read at a key
@@ -70,6 +75,7 @@ lists_put key d lists = record {
   poll_counts = list_put counts_of (codes "poll_counts") key d lists.poll_counts;
   resource_stats = list_put resource_stats_of (codes "resource_stats") key d lists.resource_stats;
   task_stats = list_put stats_of (codes "task_stats") key d lists.task_stats;
+  task_times = list_put times_of (codes "task_times") key d lists.task_times;
 }
 
 -- the key of a list
@@ -78,6 +84,7 @@ is_list_key key =
     bytes_eq key (codes "gone_ops") || bytes_eq key (codes "gone_resources") || bytes_eq key (codes "gone_tasks")
     || bytes_eq key (codes "new_ops") || bytes_eq key (codes "new_resources") || bytes_eq key (codes "new_tasks")
     || bytes_eq key (codes "op_stats") || bytes_eq key (codes "poll_counts") || bytes_eq key (codes "resource_stats") || bytes_eq key (codes "task_stats")
+    || bytes_eq key (codes "task_times")
 
 -- ---- the other values
 
@@ -90,28 +97,25 @@ abbrev pub own_members : Members → Members
 own_members no_members = no_members
 own_members (member key d ms) = member key (stands_for key d) (own_members ms)
 
--- whether a line says what is gone, by the version of the format, which has so many keys
-abbrev pub says_gone_at : ℕ → Data → Option Bool
-says_gone_at version d =
-    if version == 1 then (if has_members 12 d then Some false else None)
-    else (if version == 2 && has_members 15 d then Some true else None)
+-- the version of the format that a number is, where the value has as many keys
+abbrev pub version_at : ℕ → Data → Option Version
+version_at version d =
+    if version == 1 then (if has_members 12 d then Some One else None)
+    else (if version == 2 then (if has_members 15 d then Some Two else None)
+    else (if version == 3 && has_members 16 d then Some Three else None))
 
 -- the numbers of the line that a value is
 unfoldable pub numbers_of : Data → Option Numbers
 numbers_of d = do
-  version ← number_at (codes "v") d
-  says_gone ← says_gone_at version d
+  number ← number_at (codes "v") d
+  version ← version_at number d
   dropped ← list_at (codes "dropped") d >>= dropped_in
   now ← number_at (codes "now") d
   seq ← seq_at (codes "seq") d
   snapshot ← flag_at (codes "snapshot") d
-  Some (record { dropped = dropped; now = now; says_gone = says_gone; seq = seq; snapshot = snapshot })
+  Some (record { dropped = dropped; now = now; seq = seq; snapshot = snapshot; version = version })
 
 -- ---- the line
-
--- the lists of what is gone are there
-abbrev pub has_gone : ListsView → Bool
-has_gone lists = is_some lists.gone_ops && is_some lists.gone_resources && is_some lists.gone_tasks
 
 -- the lists of infos are there
 abbrev pub has_infos : ListsView → Bool
@@ -121,23 +125,33 @@ has_infos lists = is_some lists.new_ops && is_some lists.new_resources && is_som
 abbrev pub has_stats : ListsView → Bool
 has_stats lists = is_some lists.op_stats && is_some lists.poll_counts && is_some lists.resource_stats && is_some lists.task_stats
 
--- each list is there that a line has; those of what is gone only where it says that
-abbrev pub are_whole : Bool → ListsView → Bool
-are_whole says_gone lists = (not says_gone || has_gone lists) && has_infos lists && has_stats lists
+-- each list is there that a line of any version has
+abbrev pub are_whole : ListsView → Bool
+are_whole lists = has_infos lists && has_stats lists
 
--- what is gone, where a line says it
-abbrev pub gone_with : Bool → Option (List ℕ) → Option (List ℕ) → Option (List ℕ) → Option (Option GoneView)
-gone_with false gone_ops gone_resources gone_tasks = Some None
-gone_with true gone_ops gone_resources gone_tasks = do
+-- what is gone, where all three lists say it
+abbrev pub gone_with : Option (List ℕ) → Option (List ℕ) → Option (List ℕ) → Option GoneView
+gone_with gone_ops gone_resources gone_tasks = do
   ops ← gone_ops
   resources ← gone_resources
   tasks ← gone_tasks
-  Some (Some (record { ops = ops; resources = resources; tasks = tasks }))
+  Some (record { ops = ops; resources = resources; tasks = tasks })
+
+-- what only some versions say, by the version
+abbrev pub said_with : Version → Option (List ℕ) → Option (List ℕ) → Option (List ℕ) → Option (List TaskTimes) → Option SaidView
+said_with One gone_ops gone_resources gone_tasks task_times = Some (record { gone = None; times = None })
+said_with Two gone_ops gone_resources gone_tasks task_times = do
+  gone ← gone_with gone_ops gone_resources gone_tasks
+  Some (record { gone = Some gone; times = None })
+said_with Three gone_ops gone_resources gone_tasks task_times = do
+  gone ← gone_with gone_ops gone_resources gone_tasks
+  times ← task_times
+  Some (record { gone = Some gone; times = Some times })
 
 -- the line of these numbers and lists
 unfoldable pub line_with : Numbers → ListsView → Option LineView
 line_with n lists = do
-  gone ← gone_with n.says_gone lists.gone_ops lists.gone_resources lists.gone_tasks
+  said ← said_with n.version lists.gone_ops lists.gone_resources lists.gone_tasks lists.task_times
   new_ops ← lists.new_ops
   new_resources ← lists.new_resources
   new_tasks ← lists.new_tasks
@@ -145,7 +159,7 @@ line_with n lists = do
   poll_counts ← lists.poll_counts
   resource_stats ← lists.resource_stats
   task_stats ← lists.task_stats
-  Some (record { dropped = n.dropped; gone = gone; new_ops = new_ops; new_resources = new_resources; new_tasks = new_tasks; now = n.now; op_stats = op_stats; poll_counts = poll_counts; resource_stats = resource_stats; seq = n.seq; snapshot = n.snapshot; task_stats = task_stats })
+  Some (record { dropped = n.dropped; gone = said.gone; new_ops = new_ops; new_resources = new_resources; new_tasks = new_tasks; now = n.now; op_stats = op_stats; poll_counts = poll_counts; resource_stats = resource_stats; seq = n.seq; snapshot = n.snapshot; task_stats = task_stats; task_times = said.times })
 
 -- the line of an object whose lists were read by themselves
 abbrev pub line_of_lists : Data → ListsView → Option LineView

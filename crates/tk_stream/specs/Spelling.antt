@@ -21,6 +21,7 @@ use Rattle.json.specs.Print.{quoted}
 use Rattle.serde_json.specs.View.{items_of}
 use Rattle.serde_json.specs.Written.{compact_text}
 use Rattle.tk_stream.specs.Tables.{PollCounts}
+use Rattle.tk_stream.specs.Times.{TaskTimes, filled_from}
 use Rattle.tk_stream.specs.Lines.{LineView, GoneView, version}
 
 -- the members of a list of keys and values, in that order
@@ -91,6 +92,10 @@ value_data (values.I64 n) = array (items_of (signed_data n ∷ []))
 -- the poll counts of a resource, as [resource, ready, pending]
 abbrev pub counts_data : PollCounts → Data
 counts_data c = array (items_of (number_data c.0 ∷ number_data c.1 ∷ number_data c.2 ∷ []))
+
+-- a bucket that isn't empty, as [bucket, count]
+abbrev pub filled_data : ℕ × ℕ → Data
+filled_data b = array (items_of (number_data b.0 ∷ number_data b.1 ∷ []))
 
 -- ---- objects, with their keys in byte order
 
@@ -192,6 +197,17 @@ op_stats_fields s =
 abbrev pub op_stats_data : ℕ × OpRow → Data
 op_stats_data s = object_with (op_stats_fields s)
 
+-- the members of a task's histogram of poll times, of buckets that are spelled already
+abbrev pub times_members : Data → ℕ → ℕ → List (List ℕ × Data)
+times_members counts id longest =
+    (codes "counts", counts) ∷
+    (codes "id", number_data id) ∷
+    (codes "longest", number_data longest) ∷ []
+
+-- a task's histogram of poll times: only buckets that aren't empty, in rising order
+abbrev pub times_data : TaskTimes → Data
+times_data t = object_with (times_members (list_data filled_data (filled_from 0 t.1.counts)) t.0 t.1.longest)
+
 -- the members that say what is gone
 abbrev pub gone_fields : GoneView → List (List ℕ × Data)
 gone_fields g =
@@ -204,14 +220,19 @@ abbrev pub gone_members : Option GoneView → List (List ℕ × Data)
 gone_members None = []
 gone_members (Some gone) = gone_fields gone
 
+-- the member that tells histograms of tasks' poll times, where a line does
+abbrev pub times_fields : Option (List TaskTimes) → List (List ℕ × Data)
+times_fields None = []
+times_fields (Some times) = (codes "task_times", list_data times_data times) ∷ []
+
 -- the text of members that stand behind others
 abbrev pub behind_text : List (List ℕ × Data) → List ℕ
 behind_text [] = []
 behind_text (field ∷ fields) = 44 ∷ (quoted field.0 ++ 58 ∷ (compact_text field.1 ++ behind_text fields))
 
--- the members of a line behind these
-abbrev pub members_behind : LineView → List (List ℕ × Data)
-members_behind l =
+-- the members that a line of each version has, between its first and its last
+abbrev pub members_between : LineView → List (List ℕ × Data)
+members_between l =
     (codes "new_ops", list_data op_data l.new_ops) ∷
     (codes "new_resources", list_data resource_data l.new_resources) ∷
     (codes "new_tasks", list_data info_data l.new_tasks) ∷
@@ -221,12 +242,13 @@ members_behind l =
     (codes "resource_stats", list_data resource_stats_data l.resource_stats) ∷
     (codes "seq", number_data l.seq) ∷
     (codes "snapshot", boolean l.snapshot) ∷
-    (codes "task_stats", list_data stats_data l.task_stats) ∷
-    (codes "v", number_data (version l)) ∷ []
+    (codes "task_stats", list_data stats_data l.task_stats) ∷ []
 
 -- the members of a line
 abbrev pub line_members : LineView → List (List ℕ × Data)
-line_members l = (codes "dropped", dropped_data l.dropped) ∷ gone_members l.gone ++ members_behind l
+line_members l =
+    (codes "dropped", dropped_data l.dropped) ∷
+    gone_members l.gone ++ (members_between l ++ (times_fields l.task_times ++ (codes "v", number_data (version l)) ∷ []))
 
 -- a line
 unfoldable pub line_data : LineView → Data

@@ -1,5 +1,5 @@
 //! Which items a line says are gone.
-ghost use Rattle.std.specs.Prelude.{◌≡◌, ◌++◌, Some, option_map, IfOk, IfSome, OnOk, IsSome, IsTrue};
+ghost use Rattle.std.specs.Prelude.{◌≡◌, ◌++◌, option_map, IfOk, IfSome, OnOk};
 ghost use Rattle.serde_json.specs.View.{view};
 ghost use Rattle.serde_json.specs.Written.{compact_text, comma_if};
 ghost use Rattle.tk_stream.specs.Behind.{Puts, Takes};
@@ -263,23 +263,17 @@ fn take_lists(alloc: Global, bytes: &[u8]) -> Result<Option<(Gone, &[u8])>, Allo
     Ok(Some((gone, rest)))
 }
 
-/// What is gone, where a line says it.
+/// What is gone, where all three lists say it.
 pub(crate) fn gone_with(
-    says_gone: bool,
     ops: Listed<AsyncOpId>,
     resources: Listed<ResourceId>,
     tasks: Listed<TaskId>,
 ) -> Option<Gone>
-    requires { IsTrue says_gone → IsSome ops × IsSome resources × IsSome tasks }
-    ensures { spelled.gone_with says_gone (option_map (λ v. v.items) ops) (option_map (λ v. v.items) resources) (option_map (λ v. v.items) tasks) ≡ Some result }
+    ensures { result ≡ spelled.gone_with (option_map (λ v. v.items) ops) (option_map (λ v. v.items) resources) (option_map (λ v. v.items) tasks) }
 {
-    if says_gone {
-        Some(Gone {
-            ops: ops.unwrap(),
-            resources: resources.unwrap(),
-            tasks: tasks.unwrap(),
-        })
-    } else {
-        None
-    }
+    Some(Gone {
+        ops: ops?,
+        resources: resources?,
+        tasks: tasks?,
+    })
 }

@@ -6,10 +6,12 @@ ghost use Rattle.tk_stream.specs.Fronts.{told_item, told_tables, with_rows, Fits
 ghost use Rattle.tk_stream.specs.Kept.{kept};
 ghost use Rattle.tk_stream.specs.Retention as retentions;
 ghost use Rattle.tk_stream.specs.Tables.{is_among};
+ghost use Rattle.tk_stream.specs.Times.{times_id};
 
 use crate::gone::Gone;
 use crate::table::Table;
 use crate::tables::Tables;
+use crate::times::PollTimes;
 use crate::told::Closes;
 use crate::told_rows::ToldRows;
 use crate::told_tables::ToldTables;
@@ -153,5 +155,16 @@ pub(crate) fn leave_out<T: Closes>(stats: &mut Vec<T::Stats>, keys: &IndexSet<u6
         |one: &T::Stats| -> bool
             ensures { result ≡ not (is_among keys.entry.now.keys (T.id_in one.now)) }
         { !keys.contains(&T::stats_id(one)) },
+    );
+}
+
+/// Leaves out the histograms of tasks that leave.
+pub(crate) fn leave_times_out(times: &mut Vec<(TaskId, PollTimes)>, tasks: &IndexSet<u64>)
+    ensures { times.new.items ≡ retentions.stats_without times_id tasks.now.keys times.old.items }
+{
+    times.retain(
+        |one: &(TaskId, PollTimes)| -> bool
+            ensures { result ≡ not (is_among tasks.entry.now.keys (times_id one.now)) }
+        { !tasks.contains(&one.0.value()) },
     );
 }

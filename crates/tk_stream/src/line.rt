@@ -5,7 +5,7 @@
 //! | Key | Value |
 //! |---|---|
 //! | `dropped` | totals of what was dropped: `[tasks, resources, ops]` |
-//! | `gone_ops`, `gone_resources`, `gone_tasks` | in version 2 alone: lists of the ids of items that are gone |
+//! | `gone_ops`, `gone_resources`, `gone_tasks` | from version 2 on: lists of the ids of items that are gone |
 //! | `new_ops` | a list of `{"attrs":[A..],"id":N,"parent":N or null,"resource":N,"source":"..."}` |
 //! | `new_resources` | a list of `{"attrs":[A..],"id":N,"kind":"...","loc":[file, line, column],"parent":N or null,"type":"..."}` |
 //! | `new_tasks` | a list of `{"id":N,"kind":"spawn" or "blocking","loc":[file, line, column],"name":"..."}` |
@@ -16,13 +16,16 @@
 //! | `seq` | the line's number, from 1 to 2^63 |
 //! | `snapshot` | whether the line tells of the tables as a whole |
 //! | `task_stats` | a list of rows: an object with `id` and the row's 16 fields, each under its name |
-//! | `v` | 1 or 2, the version of the format |
+//! | `task_times` | in version 3: a list of histograms of poll times: `{"counts":[[bucket, count]..],"id":N,"longest":N}` |
+//! | `v` | 1, 2 or 3, the version of the format |
+//!
+//! Of a histogram only the buckets stand there that aren't empty, in rising order.
 //!
 //! A is `[name, unit or null, "u64", "bool" or "i64"]`. In a row `attrs` is a list of values, each a number, `true` or
 //! `false`, or `[number]` for a signed one, and what is absent is `null`.
 //!
 //! `specs/Lines.antt` says what a line says, and `specs/Spelling.antt` how it is spelled.
-ghost use Rattle.std.specs.Prelude.{◌≡◌, ◌++◌, [], true, codes, IfOk, IfSome, OnOk, if◌then◌else◌, IsTrue};
+ghost use Rattle.std.specs.Prelude.{◌≡◌, ◌≤◌, ◌++◌, [], true, Some, codes, length, option_map, IfOk, IfSome, OnOk, if◌then◌else◌, IsTrue};
 ghost use Rattle.serde_json.specs.View.{view};
 ghost use Rattle.serde_json.specs.Written.{compact_text};
 ghost use Rattle.tk_stream.specs.Lines as lines;
@@ -32,25 +35,34 @@ ghost use Rattle.tk_stream.specs.Spelling as spec;
 ghost use Rattle.tk_stream.specs.Behind.{Puts, Takes};
 ghost use Rattle.std.specs.List.{AllByRecursion};
 ghost use Rattle.tk_stream.specs.Ranges as ranges;
-ghost use Rattle.tk_stream.specs.Retention.{due_of, prune, line_pruned, told_without};
+ghost use Rattle.tk_stream.specs.Fronts.{told_item, with_rows};
+ghost use Rattle.tk_stream.specs.Retention.{due_of, prune, line_pruned, told_without, times_staying};
+ghost use Rattle.tk_stream.specs.Times.{times_with};
 
 use crate::between::{infos_behind, new_infos, stats_beside, told_stats};
 use crate::error::LineError;
-use crate::gone::{Gone, gone_with, put_gone, see_gone, take_gone};
-use crate::leaving::{Leaving, due, leave_out};
+use crate::gone::{Gone, put_gone, see_gone, take_gone};
+use crate::leaving::{Leaving, due, leave_out, leave_times_out};
 use crate::line_lists::LineLists;
 use crate::op::Op;
+use crate::pieces::put_text;
 use crate::putting::{put_items, put_open};
 use crate::ranged::{see_all, see_number, see_totals};
 use crate::reading::numbers_of;
 use crate::resource::Resource;
+use crate::said::{said_with, see_times};
 use crate::short::{ROOM, flag_before, number_before, put_short, text_before};
 use crate::spelled::read_spelled;
+use crate::table::Table;
 use crate::tables::Tables;
+use crate::take_times::take_times;
 use crate::takes::{take_flag, take_number, take_text};
 use crate::taking::{some_of, take_list};
 use crate::task::Task;
+use crate::times::PollTimes;
+use crate::told_rows::ToldRows;
 use crate::told_tables::ToldTables;
+use crate::write_times::put_times;
 use serde_json::Value;
 use std::alloc::{AllocError, Global};
 use std::marker::Model;
@@ -84,9 +96,12 @@ pub struct Line {
     seq: u64,
     snapshot: bool,
     task_stats: Vec<(TaskId, TaskRow)>,
+    // Histograms of poll times, in version 3.
+    task_times: Option<Vec<(TaskId, PollTimes)>>,
 }
 
 impl Model for Line {
+    ghost use Rattle.std.specs.Prelude.{option_map};
     ghost use Rattle.tk_stream.specs.Lines.{LineView};
     ghost use Rattle.tk_stream.specs.Ranges.{IsLine};
 
@@ -105,6 +120,7 @@ impl Model for Line {
       seq = l.seq;
       snapshot = l.snapshot;
       task_stats = l.task_stats.items;
+      task_times = option_map (λ v. v.items) l.task_times;
     } };
 
     ghost invariant = { λ l. IsLine (record {
@@ -120,6 +136,7 @@ impl Model for Line {
       seq = l.seq;
       snapshot = l.snapshot;
       task_stats = l.task_stats.items;
+      task_times = option_map (λ v. v.items) l.task_times;
     }) };
 }
 
@@ -175,6 +192,7 @@ impl Line {
             seq,
             snapshot,
             task_stats,
+            task_times: None,
         })
     }
 
@@ -217,6 +235,7 @@ impl Line {
             seq,
             snapshot,
             task_stats,
+            task_times: None,
         })
     }
 
@@ -275,7 +294,51 @@ impl Line {
         line
     }
 
-    /// The line of a text: the JSON object that `serde_json` reads, with exactly the keys of version 1 or 2, each with a value
+    /// The line as one of version 3, which tells the histograms of poll times that are new since they were told, or are others now,
+    /// but for those of tasks that leave.
+    ///
+    /// Its one error is `Memory`.
+    pub fn telling(
+        self,
+        told: &ToldRows<(TaskId, PollTimes)>,
+        times: &Table<(TaskId, PollTimes)>,
+        leaving: Option<&Leaving>,
+    ) -> Result<Line, LineError>
+        requires fits { length told.now.rows ≤ length times.now }
+        ensures ok { IfOk result (λ line. line ≡ lines.with_times (times_staying (option_map (λ l. l.now) leaving.entry)
+            (lines.told_times (with_rows (told_item times_with) times.now told.now.rows) times.now)) self) }
+        ensures memory { IfErr result (λ e. e ≡ LineError.Memory) }
+    {
+        let alloc = *self.new_tasks.allocator();
+        let mut list = stats_beside(alloc, told, times)?;
+        if let Some(leaving) = leaving {
+            leave_times_out(&mut list, &leaving.tasks);
+        }
+        Ok(self.with_times(list))
+    }
+
+    fn with_times(self, times: Vec<(TaskId, PollTimes)>) -> Line
+        ensures { result ≡ lines.with_times times.items self }
+    {
+        see_all(&times);
+        let mut line = self.saying_gone();
+        line.ranges();
+        line.task_times = Some(times);
+        line
+    }
+
+    // The line as one that says what is gone: nothing, where it didn't say it.
+    fn saying_gone(self) -> Line
+        ensures { result ≡ record self { gone = Some (lines.gone_of self) } }
+    {
+        if self.gone.is_some() {
+            self
+        } else {
+            self.removing_nothing()
+        }
+    }
+
+    /// The line of a text: the JSON object that `serde_json` reads, with exactly the keys of version 1, 2 or 3, each with a value
     /// of its kind. White space between its parts and the order of its keys are free.
     ///
     /// No value is built of the whole text: the lists are read item by item, and of what no line has nothing is kept. So whatever the
@@ -300,7 +363,7 @@ impl Line {
         ensures { result ≡ line_of_lists (view own.now) lists }
     {
         let numbers = numbers_of(own)?;
-        if !lists.are_whole(numbers.says_gone) {
+        if !lists.are_whole() {
             return None;
         }
         let LineLists {
@@ -314,8 +377,15 @@ impl Line {
             poll_counts,
             resource_stats,
             task_stats,
+            task_times,
         } = lists;
-        let gone = gone_with(numbers.says_gone, gone_ops, gone_resources, gone_tasks);
+        let said = said_with(
+            numbers.version,
+            gone_ops,
+            gone_resources,
+            gone_tasks,
+            task_times,
+        )?;
         let new_ops = new_ops.unwrap();
         let new_resources = new_resources.unwrap();
         let new_tasks = new_tasks.unwrap();
@@ -324,12 +394,13 @@ impl Line {
         let resource_stats = resource_stats.unwrap();
         let task_stats = task_stats.unwrap();
         see_numbers(numbers.dropped, numbers.now);
-        see_gone(&gone);
+        see_gone(&said.gone);
+        see_times(&said.times);
         see_new_items(&new_ops, &new_resources, &new_tasks);
         see_stats(&op_stats, &poll_counts, &resource_stats, &task_stats);
         Some(Line {
             dropped: numbers.dropped,
-            gone,
+            gone: said.gone,
             new_ops,
             new_resources,
             new_tasks,
@@ -340,6 +411,7 @@ impl Line {
             seq: numbers.seq,
             snapshot: numbers.snapshot,
             task_stats,
+            task_times: said.times,
         })
     }
 
@@ -411,8 +483,10 @@ impl Line {
         let at = number_before(scratch, at, b"],\"seq\":", self.seq);
         put_short(out, scratch, at)?;
         put_items(out, scratch, self.task_stats.as_slice())?;
+        put_text(out, b"]")?;
+        put_times(out, scratch, &self.task_times)?;
         let at = text_before(scratch, ROOM, b"}");
-        let at = number_before(scratch, at, b"],\"v\":", self.version());
+        let at = number_before(scratch, at, b",\"v\":", self.version());
         put_short(out, scratch, at)?;
         Ok(())
     }
@@ -552,6 +626,16 @@ impl Line {
         self.task_stats.as_slice()
     }
 
+    /// The histograms of poll times that the line tells, each with its task's id. In versions 1 and 2 there are none.
+    pub fn task_times(&self) -> &[(TaskId, PollTimes)]
+        ensures { result.now ≡ lines.times_of self.now }
+    {
+        match &self.task_times {
+            Some(times) => times.as_slice(),
+            None => &[],
+        }
+    }
+
     /// The line's values are in the ranges of their types. This does nothing.
     pub(crate) fn ranges(&self)
         ensures { IsLine self.now }
@@ -559,11 +643,11 @@ impl Line {
         let _dropped = &self.dropped;
     }
 
-    /// The version of the line's format: 2 where it says what is gone, and otherwise 1.
+    /// The version of the line's format: 3 where it tells histograms, 2 where it says what is gone, and otherwise 1.
     pub fn version(&self) -> u64
         ensures { result ≡ lines.version self.now }
     {
-        version_of(&self.gone)
+        version_of(&self.gone, &self.task_times)
     }
 }
 
@@ -655,13 +739,17 @@ fn take_line(alloc: Global, bytes: &[u8]) -> Result<Option<Line>, AllocError>
     let (seq, rest) = some_of!(take_number(rest, b",\"seq\":"));
     let (snapshot, rest) = some_of!(take_flag(rest, b",\"snapshot\":"));
     let (task_stats, rest) = some_of!(take_list(alloc, rest, b",\"task_stats\":[")?);
+    let (task_times, rest) = some_of!(take_times(alloc, rest)?);
     let (number, rest) = some_of!(take_number(rest, b",\"v\":"));
     let rest = some_of!(take_text(rest, b"}"));
     if rest.len() > 0 {
         return Ok(None);
     }
-    let version = version_of(&gone);
+    let version = version_of(&gone, &task_times);
     if number != version {
+        return Ok(None);
+    }
+    if task_times.is_some() && gone.is_none() {
         return Ok(None);
     }
     if !is_seq(seq) {
@@ -669,6 +757,7 @@ fn take_line(alloc: Global, bytes: &[u8]) -> Result<Option<Line>, AllocError>
     }
     see_numbers(dropped, moment);
     see_gone(&gone);
+    see_times(&task_times);
     see_new_items(&new_ops, &new_resources, &new_tasks);
     see_stats(&op_stats, &poll_counts, &resource_stats, &task_stats);
     Ok(Some(Line {
@@ -684,14 +773,21 @@ fn take_line(alloc: Global, bytes: &[u8]) -> Result<Option<Line>, AllocError>
         seq,
         snapshot,
         task_stats,
+        task_times,
     }))
 }
 
-// The version of the format, by whether a line says what is gone.
-fn version_of(gone: &Option<Gone>) -> u64
-    ensures { result ≡ lines.version_with gone.now }
+// The version of the format, by whether a line says what is gone, and whether it tells histograms.
+fn version_of(gone: &Option<Gone>, times: &Option<Vec<(TaskId, PollTimes)>>) -> u64
+    ensures { result ≡ lines.version_with gone.now (option_map (λ v. v.items) times.now) }
 {
-    if gone.is_some() { 2 } else { 1 }
+    if gone.is_none() {
+        1
+    } else if times.is_none() {
+        2
+    } else {
+        3
+    }
 }
 
 fn is_seq(seq: u64) -> bool

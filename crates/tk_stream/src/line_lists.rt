@@ -3,9 +3,10 @@ ghost use Rattle.std.specs.Prelude.{◌≡◌, Some, None, Err, IfOk, MatchBool}
 ghost use Rattle.json.specs.Json.{parse_map};
 ghost use Rattle.serde_json.specs.Data.{no_members};
 ghost use Rattle.tk_json.specs.Values.{value_read};
-ghost use Rattle.tk_stream.specs.Spelled.{is_list_key, lists_in, lists_put, has_gone, has_infos, has_stats, are_whole};
+ghost use Rattle.tk_stream.specs.Spelled.{is_list_key, lists_in, lists_put, has_infos, has_stats, are_whole};
 
 use crate::listed::{Listed, read_list};
+use crate::times::PollTimes;
 use json::Reader;
 use std::alloc::Global;
 use std::marker::Model;
@@ -26,6 +27,7 @@ pub(crate) struct LineLists {
     pub(crate) poll_counts: Listed<(ResourceId, u64, u64)>,
     pub(crate) resource_stats: Listed<(ResourceId, ResourceRow)>,
     pub(crate) task_stats: Listed<(TaskId, TaskRow)>,
+    pub(crate) task_times: Listed<(TaskId, PollTimes)>,
 }
 
 impl Model for LineLists {
@@ -45,6 +47,7 @@ impl Model for LineLists {
       poll_counts = option_map (λ v. v.items) s.poll_counts;
       resource_stats = option_map (λ v. v.items) s.resource_stats;
       task_stats = option_map (λ v. v.items) s.task_stats;
+      task_times = option_map (λ v. v.items) s.task_times;
     } };
 }
 
@@ -64,6 +67,7 @@ impl LineLists {
             poll_counts: None,
             resource_stats: None,
             task_stats: None,
+            task_times: None,
         }
     }
 
@@ -101,16 +105,12 @@ impl LineLists {
             read_list(alloc, reader, depth, &mut self.resource_stats)?;
         } else if key == "task_stats" {
             read_list(alloc, reader, depth, &mut self.task_stats)?;
+        } else if key == "task_times" {
+            read_list(alloc, reader, depth, &mut self.task_times)?;
         } else {
             return Ok(false);
         }
         Ok(true)
-    }
-
-    fn has_gone(&self) -> bool
-        ensures { result ≡ has_gone self.now }
-    {
-        self.gone_ops.is_some() && self.gone_resources.is_some() && self.gone_tasks.is_some()
     }
 
     fn has_infos(&self) -> bool
@@ -128,10 +128,10 @@ impl LineLists {
             && self.task_stats.is_some()
     }
 
-    /// Whether each list is there that a line has; those of what is gone only where it says that.
-    pub(crate) fn are_whole(&self, says_gone: bool) -> bool
-        ensures { result ≡ are_whole says_gone self.now }
+    /// Whether each list is there that a line of any version has.
+    pub(crate) fn are_whole(&self) -> bool
+        ensures { result ≡ are_whole self.now }
     {
-        (!says_gone || self.has_gone()) && self.has_infos() && self.has_stats()
+        self.has_infos() && self.has_stats()
     }
 }

@@ -6,6 +6,7 @@ ghost use Rattle.std.specs.List.{AllByRecursion};
 ghost use Rattle.tk_core.specs.Attributes.{is_i64};
 ghost use Rattle.tk_stream.specs.Ranges as ranges;
 
+use crate::times::PollTimes;
 use tk_core::{AttrValues, OpRow, ResourceRow, TaskRow};
 use tk_ids::{
     AsyncOpId, AttrInfo, AttrInfos, AttrValue, Dropped, Location, Name, OpInfo, ResourceId,
@@ -308,6 +309,30 @@ impl Ranged for (AsyncOpId, OpRow) {
         see_number(row.handles);
         see_optional_task(row.task);
         see_values(&row.attrs);
+    }
+}
+
+/// The number of a count.
+impl Ranged for u64 {
+    ghost use Rattle.tk_stream.specs.Ranges.{IsNumber};
+
+    ghost in_range = { IsNumber };
+
+    fn see(&self) {
+        see_number(*self);
+    }
+}
+
+impl Ranged for (TaskId, PollTimes) {
+    ghost use Rattle.tk_stream.specs.Ranges.{AreTimes};
+
+    ghost in_range = { AreTimes };
+
+    fn see(&self) {
+        let (id, times) = *self;
+        see_task_id(id);
+        see_number(times.longest);
+        see_each(&times.counts);
     }
 }
 

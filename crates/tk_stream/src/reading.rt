@@ -33,24 +33,34 @@ fn seq_at(value: &Value, key: &str) -> Option<u64>
     }
 }
 
-/// The numbers of a line, and whether it says what is gone.
+/// The version of a line's format. From `Two` on it says what is gone, and in `Three` it tells histograms of poll times.
+#[derive(Clone, Copy)]
+pub(crate) enum Version {
+    One,
+    Two,
+    Three,
+}
+
+/// The numbers of a line, and its version.
 #[derive(Drop)]
 pub(crate) struct Numbers {
     pub(crate) dropped: Dropped,
     pub(crate) now: u64,
-    pub(crate) says_gone: bool,
     pub(crate) seq: u64,
     pub(crate) snapshot: bool,
+    pub(crate) version: Version,
 }
 
-// Whether a line says what is gone, by the version of the format, which has so many keys.
-fn says_gone_at(version: u64, value: &Value) -> Option<bool>
-    ensures { result ≡ spelled.says_gone_at version (view value.now) }
+// The version of the format that a number is, where the value has as many keys.
+fn version_at(version: u64, value: &Value) -> Option<Version>
+    ensures { result ≡ spelled.version_at version (view value.now) }
 {
     if version == 1 && has_members(value, 12) {
-        Some(false)
+        Some(Version::One)
     } else if version == 2 && has_members(value, 15) {
-        Some(true)
+        Some(Version::Two)
+    } else if version == 3 && has_members(value, 16) {
+        Some(Version::Three)
     } else {
         None
     }
@@ -62,8 +72,8 @@ pub(crate) fn numbers_of(value: &Value) -> Option<Numbers>
     ensures numbers { result ≡ spelled.numbers_of (view value.now) }
     ensures seq { IfSome result (λ n. is_seq n.seq ≡ true) }
 {
-    let version = number_at(value, "v")?;
-    let says_gone = says_gone_at(version, value)?;
+    let number = number_at(value, "v")?;
+    let version = version_at(number, value)?;
     let dropped = dropped_in(list_at(value, "dropped")?)?;
     let now = number_at(value, "now")?;
     let seq = seq_at(value, "seq")?;
@@ -71,8 +81,8 @@ pub(crate) fn numbers_of(value: &Value) -> Option<Numbers>
     Some(Numbers {
         dropped,
         now,
-        says_gone,
         seq,
         snapshot,
+        version,
     })
 }

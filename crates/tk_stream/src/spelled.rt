@@ -24,7 +24,7 @@ const DEEPEST: usize = 127;
 const LEVELS: usize = 3;
 
 // A line has no more keys than this.
-const MOST_KEYS: usize = 15;
+const MOST_KEYS: usize = 16;
 
 // Reads the value of a key: a list of the line to `lists`, in whose place a null stands, and of any other what is kept of it.
 fn read_own(

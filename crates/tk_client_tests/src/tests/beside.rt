@@ -6,7 +6,7 @@ use super::spelled::{Row, is_spawn, row_of, text_of};
 use rand_pcg::Pcg32;
 use std::alloc::{AllocError, Global};
 use tk_client::{Client, Lints, Warning, WarningKind};
-use tk_plain_client::{Given, Held, Plain};
+use tk_plain_client::{Given, Held, Histogram, Plain};
 
 const ALLOWED: usize = 65_536;
 
@@ -89,6 +89,27 @@ fn holds_alike(alloc: Global, client: &Client, plain: &Plain) -> Result<bool, Al
     Ok(holds(alloc, client, text.as_bytes()))
 }
 
+// Whether the client has this histogram at a place.
+fn has_histogram(client: &Client, place: usize, wanted: &Histogram) -> bool {
+    match client.times().at(place) {
+        Some((id, times)) => {
+            id.value() == wanted.id
+                && times.longest == wanted.longest
+                && times.counts == wanted.counts
+        }
+        None => false,
+    }
+}
+
+fn has_times_alike(client: &Client, plain: &Plain) -> bool {
+    for (place, wanted) in plain.times.iter().enumerate() {
+        if !has_histogram(client, place, wanted) {
+            return false;
+        }
+    }
+    client.times().len() == plain.times.len()
+}
+
 fn next_line(alloc: Global, random: &mut Pcg32, plain: &Plain) -> Result<Given, AllocError> {
     let (tasks, resources, ops) = plain.held(alloc)?;
     line_behind(alloc, random, (&tasks, &resources, &ops), plain.next())
@@ -101,7 +122,7 @@ fn fed_line(alloc: Global, client: &mut Client, line: &Given) -> Result<(Came, u
     Ok((fed(client, text.as_bytes()), text.len()))
 }
 
-// Whether both take a line alike: the fault, what was taken, the tables and the warnings. Behind a fault both begin anew.
+// Whether both take a line alike: the fault, what was taken, the tables, the histograms and the warnings. Behind a fault both begin anew.
 // It answers the fault's number too, 0 without one.
 fn takes_alike(
     alloc: Global,
@@ -115,6 +136,7 @@ fn takes_alike(
     let lines = if code == 0 { 1 } else { 0 };
     let alike = came == Came { code, lines, used }
         && holds_alike(alloc, client, plain)?
+        && has_times_alike(client, plain)
         && warns_alike(alloc, client, plain, lints)?;
     if code != 0 {
         client.restart();

@@ -3,7 +3,7 @@
 use rand_core::Rng;
 use rand_pcg::Pcg32;
 use std::alloc::{AllocError, Global};
-use tk_plain_client::{Given, New, Part, Spoilt, Told};
+use tk_plain_client::{Given, Histogram, New, Part, Spoilt, Told};
 
 /// A number below another one.
 pub(super) fn below(random: &mut Pcg32, limit: u32) -> u64 {
@@ -146,6 +146,54 @@ fn counts_of(alloc: Global, random: &mut Pcg32) -> Result<Vec<(u64, u64, u64)>, 
     Ok(counts)
 }
 
+fn has_histogram(times: &[Histogram], id: u64) -> bool {
+    for one in times {
+        if one.id == id {
+            return true;
+        }
+    }
+    false
+}
+
+// A histogram of a task that is there or new, isn't told of and isn't gone, but for one in 64.
+fn add_histogram(
+    random: &mut Pcg32,
+    times: &mut Vec<Histogram>,
+    held: &[New],
+    tasks: &Part,
+) -> Result<(), AllocError> {
+    let id = any_id(random);
+    let is_there = has_new(held, id) || has_new(&tasks.news, id);
+    let is_odd = !is_there || has_histogram(times, id) || is_among(&tasks.gone, id);
+    if is_odd && !happens(random, 64) {
+        return Ok(());
+    }
+    let mut counts = [0; 14];
+    for count in &mut counts {
+        *count = below(random, 3);
+    }
+    let longest = u64::from(random.next_u32());
+    times.push(Histogram {
+        id,
+        counts,
+        longest,
+    })
+}
+
+// Up to four histograms.
+fn times_of(
+    alloc: Global,
+    random: &mut Pcg32,
+    held: &[New],
+    tasks: &Part,
+) -> Result<Vec<Histogram>, AllocError> {
+    let mut times = Vec::new(alloc);
+    for _ in 0..below(random, 5) {
+        add_histogram(random, &mut times, held, tasks)?;
+    }
+    Ok(times)
+}
+
 fn how_spoilt(random: &mut Pcg32) -> Spoilt {
     match below(random, 128) {
         0 => Spoilt::NoJson,
@@ -176,6 +224,11 @@ pub(super) fn line_behind(
     let resources = part_of(alloc, random, held.1, says_gone)?;
     let ops = part_of(alloc, random, held.2, says_gone)?;
     let counts = counts_of(alloc, random)?;
+    let times = if removes && happens(random, 2) {
+        Some(times_of(alloc, random, held.0, &tasks)?)
+    } else {
+        None
+    };
     Ok(Given {
         tasks,
         resources,
@@ -184,6 +237,7 @@ pub(super) fn line_behind(
         seq,
         snapshot,
         removes,
+        times,
         now,
         spoilt,
     })

@@ -1,7 +1,7 @@
 //! The texts of the random lines, in the order and spelling of a line that is written.
 
 use std::alloc::{AllocError, Global};
-use tk_plain_client::{Given, New, Spoilt, Told};
+use tk_plain_client::{Given, Histogram, New, Spoilt, Told};
 
 /// What the warnings look at in a task's row.
 #[derive(Clone, Copy)]
@@ -214,6 +214,31 @@ fn put_counts(text: &mut String, counts: &[(u64, u64, u64)]) -> Result<(), Alloc
     text.push_str("]")
 }
 
+fn put_buckets(text: &mut String, counts: &[u64]) -> Result<(), AllocError> {
+    let mut before = "[";
+    for (bucket, count) in counts.iter().enumerate() {
+        if *count > 0 {
+            put_number(text, before, bucket as u64)?;
+            put_number(text, ",", *count)?;
+            before = "],[";
+        }
+    }
+    text.push_str(if before == "[" { "" } else { "]" })
+}
+
+fn put_times(text: &mut String, times: &[Histogram]) -> Result<(), AllocError> {
+    text.push_str(",\"task_times\":[")?;
+    for (i, one) in times.iter().enumerate() {
+        put_comma(text, i)?;
+        text.push_str("{\"counts\":[")?;
+        put_buckets(text, &one.counts)?;
+        put_number(text, "],\"id\":", one.id)?;
+        put_number(text, ",\"longest\":", one.longest)?;
+        text.push_str("}")?;
+    }
+    text.push_str("]")
+}
+
 fn put_ids(text: &mut String, key: &str, ids: &[u64]) -> Result<(), AllocError> {
     text.push_str(key)?;
     for (i, id) in ids.iter().enumerate() {
@@ -262,8 +287,17 @@ pub(super) fn text_of(alloc: Global, line: &Given) -> Result<String, AllocError>
     put_number(&mut text, ",\"seq\":", line.seq)?;
     put_flag(&mut text, ",\"snapshot\":", line.snapshot)?;
     put_rows(&mut text, ",\"task_stats\":[", Kind::Task, &line.tasks.told)?;
-    // A line that is none has the number of the other version.
+    if let Some(times) = &line.times {
+        put_times(&mut text, times)?;
+    }
+    // A line that is none has the number of another version.
     let says_two = line.removes != (line.spoilt == Spoilt::NoLine);
-    text.push_str(if says_two { ",\"v\":2}" } else { ",\"v\":1}" })?;
+    text.push_str(if line.times.is_some() && says_two {
+        ",\"v\":3}"
+    } else if says_two {
+        ",\"v\":2}"
+    } else {
+        ",\"v\":1}"
+    })?;
     Ok(text)
 }

@@ -4,11 +4,13 @@
 //! front of it is such another one with the same meaning, so the two are compared by it.
 
 use super::given::{error_of, on_line, writes};
-use super::texts::{CHANGED, EMPTY, FIRST, FULL, GONE, SIGNED, TWO, UNCHANGED};
+use super::texts::{CHANGED, EMPTY, FIRST, FULL, GONE, SIGNED, TIMED, TWO, UNCHANGED};
 use std::alloc::{AllocError, Global};
 use tk_stream::Line;
 
-const TEXTS: [&str; 8] = [EMPTY, FIRST, CHANGED, UNCHANGED, FULL, TWO, SIGNED, GONE];
+const TEXTS: [&str; 9] = [
+    EMPTY, FIRST, CHANGED, UNCHANGED, FULL, TWO, SIGNED, GONE, TIMED,
+];
 
 // How many lines are made of these texts, by other digits in their short numbers.
 const LINES: u64 = 200;

@@ -1,13 +1,15 @@
 //! Texts that are lines.
 
 use super::given::{changed, error_of, on_line, writes};
-use super::texts::{CHANGED, EMPTY, FIRST, FULL, GONE, SIGNED, TWO, UNCHANGED};
+use super::texts::{CHANGED, EMPTY, FIRST, FULL, GONE, SIGNED, TIMED, TWO, UNCHANGED};
 use std::alloc::Global;
 use tk_ids::{OpInfo, ResourceInfo, TaskInfo};
 use tk_stream::Line;
 
 // Texts of lines, written as a line writes itself.
-const SAME: [&str; 8] = [EMPTY, FIRST, CHANGED, UNCHANGED, FULL, TWO, SIGNED, GONE];
+const SAME: [&str; 9] = [
+    EMPTY, FIRST, CHANGED, UNCHANGED, FULL, TWO, SIGNED, GONE, TIMED,
+];
 
 // The line without items in other texts: with white space, in another order, and with keys twice or often,
 // lists among them, of which the last counts.
@@ -36,6 +38,17 @@ const GONE_OTHERS: [(&str, &str); 3] = [
     ("[1099511627780]", "[ 1099511627780\n] "),
     ("\"v\":2",         "\"v\" : 2"),
     ("\"gone_ops\"",    "\"\\u0067one_ops\""),
+];
+
+// The same of the line that tells histograms.
+#[rattlefmt::skip]
+const TIMED_OTHERS: [(&str, &str); 5] = [
+    ("[4,120]",          "[ 4 , 120 ]"),
+    ("\"counts\":[]",    "\"counts\" : [ ]"),
+    ("\"v\":3",          "\"v\" :3"),
+    ("\"task_times\"",   "\"task\\u005ftimes\""),
+    ("\"counts\":[[0,18446744073709551615],[4,120],[13,1]],\"id\":1099511627777,\"longest\":2000000000",
+     "\"longest\":2000000000,\"counts\":[[0,18446744073709551615],[4,120],[13,1]],\"id\":1099511627777"),
 ];
 
 // Whether the text is a line that writes itself so.
@@ -92,6 +105,7 @@ fn reads_other_texts_of_a_line(rt: HostRuntime) {
     assert!(rt; all_read_as(rt.alloc(), OTHERS.as_slice(), EMPTY));
     assert!(rt; all_read_respelled(rt.alloc(), SIGNED, SIGNED_OTHERS.as_slice()));
     assert!(rt; all_read_respelled(rt.alloc(), GONE, GONE_OTHERS.as_slice()));
+    assert!(rt; all_read_respelled(rt.alloc(), TIMED, TIMED_OTHERS.as_slice()));
 }
 
 fn shows_numbers(line: &Line) -> bool {
@@ -176,6 +190,51 @@ fn shows_what_is_gone(rt: HostRuntime) {
             rt.alloc(),
             FULL.as_bytes(),
             |line| says_nothing_of_what_is_gone(line)
+        )
+    );
+}
+
+// The count of a bucket in one of the histograms that a line tells.
+fn count_of(line: &Line, place: usize, bucket: usize) -> Option<u64> {
+    let (_, times) = line.task_times().get(place)?;
+    times.counts.get(bucket).copied()
+}
+
+fn longest_of(line: &Line, place: usize) -> Option<u64> {
+    let (_, times) = line.task_times().get(place)?;
+    Some(times.longest)
+}
+
+fn percentile_of(line: &Line, place: usize, percent: u64) -> Option<usize> {
+    let (_, times) = line.task_times().get(place)?;
+    if percent == 0 || percent > 100 {
+        return None;
+    }
+    times.percentile(percent)
+}
+
+fn shows_histograms(line: &Line) -> bool {
+    line.version() == 3
+        && line.task_times().len() == 3
+        && count_of(line, 0, 0) == Some(u64::MAX)
+        && count_of(line, 0, 1) == Some(0)
+        && count_of(line, 0, 4) == Some(120)
+        && longest_of(line, 0) == Some(2000000000)
+        && percentile_of(line, 1, 50).is_none()
+        && count_of(line, 2, 13) == Some(14)
+        && percentile_of(line, 2, 50) == Some(9)
+        && percentile_of(line, 2, 100) == Some(13)
+}
+
+// What a line of version 3 tells of poll times, and that one of version 2 tells none.
+#[test]
+fn shows_histograms_of_poll_times(rt: HostRuntime) {
+    assert!(rt; on_line(rt.alloc(), TIMED.as_bytes(), |line| shows_histograms(line)));
+    assert!(rt;
+        on_line(
+            rt.alloc(),
+            GONE.as_bytes(),
+            |line| line.task_times().is_empty()
         )
     );
 }

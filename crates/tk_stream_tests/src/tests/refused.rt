@@ -1,25 +1,25 @@
 //! Texts that are no lines, and the errors.
 
 use super::given::{changed, error_of};
-use super::texts::{EMPTY, FULL, GONE};
+use super::texts::{EMPTY, FULL, GONE, TIMED};
 use std::alloc::Global;
 use std::test::Fail;
 use tk_stream::LineError;
 
 // What `serde_json` does not read: no text, words that are no JSON, no UTF-8, a bare line end in a text, and a fault behind what
-// no line has: another item, another kind of list, and a sixteenth key.
+// no line has: another item, another kind of list, and a seventeenth key.
 #[rattlefmt::skip]
 const NO_JSON: [&[u8]; 13] = [
     b"", b" \n", b"line", b"{\"v\":1", b"{\"v\":1,}", b"1 2", b"\"\xFF\"", b"\"a\nb\"",
     b"{\"new_tasks\":[0,1e999]}", b"{\"new_tasks\":[0,{\"\":[}]}", b"{\"new_tasks\":{\"a\":01}}", b"{\"v\":1} 1",
-    b"{\"a\":0,\"b\":0,\"c\":0,\"d\":0,\"e\":0,\"f\":0,\"g\":0,\"h\":0,\"i\":0,\"j\":0,\"k\":0,\"l\":0,\"m\":0,\"n\":0,\"o\":0,\"p\":0,\"q\":-}",
+    b"{\"a\":0,\"b\":0,\"c\":0,\"d\":0,\"e\":0,\"f\":0,\"g\":0,\"h\":0,\"i\":0,\"j\":0,\"k\":0,\"l\":0,\"m\":0,\"n\":0,\"o\":0,\"p\":0,\"q\":0,\"r\":-}",
 ];
 
 // Values that are not of a line's kind, and an object with more keys than a line has.
 #[rattlefmt::skip]
 const NO_LINES: [&[u8]; 6] = [
     b"null", b"1", b"\"line\"", b"[]", b"{}",
-    b"{\"a\":0,\"b\":0,\"c\":0,\"d\":0,\"e\":0,\"f\":0,\"g\":0,\"h\":0,\"i\":0,\"j\":0,\"k\":0,\"l\":0,\"m\":0,\"n\":0,\"o\":0,\"p\":0}",
+    b"{\"a\":0,\"b\":0,\"c\":0,\"d\":0,\"e\":0,\"f\":0,\"g\":0,\"h\":0,\"i\":0,\"j\":0,\"k\":0,\"l\":0,\"m\":0,\"n\":0,\"o\":0,\"p\":0,\"q\":0}",
 ];
 
 // A change of the full line after which it is no line: what stood there, and what stands there then.
@@ -116,6 +116,30 @@ const GONE_LISTS: [(&str, &str); 10] = [
     ("[1099511627777,1099511627779]",          "1099511627777"),
 ];
 
+// Changes of the line that tells histograms after which it is no line: of its version, of a bucket, of buckets that don't rise, of
+// one that is empty, and of the keys of a histogram.
+#[rattlefmt::skip]
+const HISTOGRAMS: [(&str, &str); 18] = [
+    ("\"v\":3",                     "\"v\":2"),
+    ("\"v\":3",                     "\"v\":4"),
+    ("\"v\":3",                     "\"v\":3,\"w\":1"),
+    ("\"gone_ops\":[],",            ""),
+    ("\"task_times\"",              "\"task_time\""),
+    ("[13,1]",                      "[14,1]"),
+    ("[13,1]",                      "[13,0]"),
+    ("[13,1]",                      "[4,1]"),
+    ("[13,1]",                      "[3,1]"),
+    ("[13,1]",                      "[13,1,1]"),
+    ("[13,1]",                      "[13]"),
+    ("[13,1]",                      "13"),
+    ("[13,1]",                      "[13,1.0]"),
+    ("[13,14]",                     "[13,14],[14,1]"),
+    ("\"counts\":[],",              ""),
+    ("\"longest\":0",               "\"longest\":-1"),
+    ("\"longest\":0",               "\"longest\":0,\"shortest\":0"),
+    ("\"id\":1099511627778",        "\"id\":1"),
+];
+
 // Changes of a line of version 1 after which it is none.
 #[rattlefmt::skip]
 const PLAIN: [(&str, &str); 4] = [
@@ -179,6 +203,11 @@ fn refuses_other_rows(rt: HostRuntime) {
 fn refuses_other_versions(rt: HostRuntime) {
     assert!(rt; all_are_bad_shapes(rt.alloc(), GONE, GONE_LISTS.as_slice()));
     assert!(rt; all_are_bad_shapes(rt.alloc(), EMPTY, PLAIN.as_slice()));
+}
+
+#[test]
+fn refuses_other_histograms(rt: HostRuntime) {
+    assert!(rt; all_are_bad_shapes(rt.alloc(), TIMED, HISTOGRAMS.as_slice()));
 }
 
 // So many arrays, each in the one before it.

@@ -31,3 +31,7 @@ pub(super) const SIGNED: &str =
 // A line of version 2, which says that two tasks and an operation are gone.
 pub(super) const GONE: &str =
     r#"{"dropped":[0,0,0],"gone_ops":[1099511627780],"gone_resources":[],"gone_tasks":[1099511627777,1099511627779],"new_ops":[],"new_resources":[],"new_tasks":[],"now":15,"op_stats":[],"poll_counts":[],"resource_stats":[],"seq":3,"snapshot":false,"task_stats":[],"v":2}"#;
+
+// A line of version 3, which tells histograms of poll times: of a few buckets, of none, and of all.
+pub(super) const TIMED: &str =
+    r#"{"dropped":[0,0,0],"gone_ops":[],"gone_resources":[],"gone_tasks":[1099511627779],"new_ops":[],"new_resources":[],"new_tasks":[],"now":15,"op_stats":[],"poll_counts":[],"resource_stats":[],"seq":3,"snapshot":false,"task_stats":[],"task_times":[{"counts":[[0,18446744073709551615],[4,120],[13,1]],"id":1099511627777,"longest":2000000000},{"counts":[],"id":1099511627778,"longest":0},{"counts":[[0,1],[1,2],[2,3],[3,4],[4,5],[5,6],[6,7],[7,8],[8,9],[9,10],[10,11],[11,12],[12,13],[13,14]],"id":1099511627780,"longest":67108864}],"v":3}"#;

@@ -7,5 +7,6 @@ use Rattle.tk_embed.proofs.laws.clients_hold_all_items.Goals as goal
 
 pub returns : goal.returns
 returns c old new ps lines start h on short took =
-    c.streams_are_fed.ensures.tables old new (sendings ps) lines start on short
-    (subst (λ (bytes : List ℕ). Took old bytes lines new) (published empty_tables ps h) took)
+    let held = c.streams_are_fed.ensures.tables old new (sendings ps) lines start on short
+    (subst (λ (bytes : List ℕ). Took old bytes lines new) (published empty_tables ps h) took) in
+    (held.0, held.1)

@@ -62,7 +62,7 @@ read_items-returns-then-len-gt-WIDEST_ARRAY-clause-read t c =
     let found = map view l.found.items ++ view v ∷ [] in
     let grown : map view c.push.new.self.items ≡ found = ap (map view) c.in_ok-push.ensures.items ∙ map-append view l.found.items (v ∷ []) in
     let many : length found ≡ length c.push.new.self.items = ap length (sym grown) ∙ length-map c.push.new.self.items view in
-    let wide : 6 < length c.push.new.self.items = omega arith in
+    let wide : 14 < length c.push.new.self.items = omega arith in
     let turn = item_turn c.args.levels c.args.depth (map view l.found.items) l.reader r (view v) going.0 (rw (← going.1) done.read) in
     l.invariant.same ∙ turn ∙ wide_array c.args.levels found (items_read c.args.depth r) c.pass_items.new.reader (rw many wide) c.in_ok-pass_items.ensures.passed
     ∙ ap (λ d. Some (d, c.pass_items.new.reader)) (sym c.nothing.ensures)
@@ -72,7 +72,7 @@ read_items-returns-clause-read t c =
     let l = c.items in
     let r = c.take_end_array.new.self in
     let over = items_over c.args.depth l.reader r (grind arith) in
-    let few : length (map view l.found.items) ≤ 6 = rw (length-map l.found.items view) l.invariant.narrow in
+    let few : length (map view l.found.items) ≤ 14 = rw (length-map l.found.items view) l.invariant.narrow in
     l.invariant.same ∙ ap (parse_map (kept_array c.args.levels (map view l.found.items))) over
     ∙ ap (λ d. Some (d, r)) (narrow_array c.args.levels (map view l.found.items) few ∙ sym (view-Array l.found))
 

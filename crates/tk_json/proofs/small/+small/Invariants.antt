@@ -21,7 +21,7 @@ abbrev pub invariant-read_items-items : goal.invariant-read_items-items
 invariant-read_items-items l = record {
   same : parse_map (λ ds. array_within (items_len ds) (small_items ds l.levels)) (items_read l.depth l.initial.reader)
       ≡ parse_map (kept_array l.levels (map view l.found.items)) (items_read l.depth l.reader);
-  narrow : length l.found.items ≤ 6;
+  narrow : length l.found.items ≤ 14;
   fewer : length l.reader ≤ length l.initial.reader;
 }
 

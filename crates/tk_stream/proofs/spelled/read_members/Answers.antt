@@ -82,7 +82,7 @@ returns-then-len-gt-MOST_KEYS-clause-read c =
     let held = put k d.0 now.0 in
     let many : members_len held ≡ length c.read_member.new.own.entries =
     sym (own_len held) ∙ ap members_len (own_put k d.0 now.0 ∙ ap (put k (stands_for k d.0)) (sym now.3) ∙ sym d.3) ∙ members_len-members_view c.read_member.new.own.entries in
-    let wide : 15 < length c.read_member.new.own.entries = omega arith in
+    let wide : 16 < length c.read_member.new.own.entries = omega arith in
     ap (parse_map (λ ms. line_of (object ms))) (now.1 ∙ member_read now.0 c.args.depth l.reader k s r d.0 named d.1)
     ∙ many_passed held c.args.depth r c.pass_members.new.reader (rw many wide) (c.in_ok-pass_members.ensures.passed held)
 

@@ -6,7 +6,7 @@ use Rattle.tk_client.proofs.client.Client.hold.Goals as goal
 pub returns-then-bytes-room-clause-stopped : goal.returns-then-bytes-room-clause-stopped
 returns-then-bytes-room-clause-stopped c =
     let room : ℕ = c.self.inside.limit - c.len.result in
-    let start : Start = record { tables = c.self.inside.shown; last = c.self.inside.last; part = c.self.inside.part.items } in
+    let start : Start = record { tables = c.self.inside.shown; last = c.self.inside.last; part = c.self.inside.part.items; times = c.self.inside.times } in
     let fits : length start.part + room ≡ c.self.inside.limit = omega (arith, c.len.ensures, c.self.invariant.0) in
     record {
       within = omega arith;
@@ -16,7 +16,7 @@ returns-then-bytes-room-clause-stopped c =
 
 pub returns-clause-held : goal.returns-clause-held
 returns-clause-held c =
-    let start : Start = record { tables = c.self.inside.shown; last = c.self.inside.last; part = c.self.inside.part.items } in
+    let start : Start = record { tables = c.self.inside.shown; last = c.self.inside.last; part = c.self.inside.part.items; times = c.self.inside.times } in
     let fits : length start.part + length c.args.bytes.now ≤ c.self.inside.limit = omega (arith, c.len.ensures, c.self.invariant.0) in
     record {
       came = rw (← c.self.view_is)

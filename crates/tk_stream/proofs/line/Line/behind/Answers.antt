@@ -19,5 +19,6 @@ returns-clause-ok c =
       seq = c.args.seq;
       snapshot = c.args.snapshot;
       task_stats = c.in_ok-task_stats.ensures i;
+      task_times = None;
     })
     ∙ ap₂ (λ (t : ToldView) (v : TablesView). record (line_between (told_tables t v) (record v { now = c.args.now }) c.args.seq) { snapshot = c.args.snapshot }) c.told.view_is c.tables.view_is

@@ -16,4 +16,6 @@ returns c = rw (line_split c.args.self.now, ← c.version.ensures, ← c.self.vi
     (closes c.in_ok-put_open-5.ensures
     (short_both c.in_ok-put_short-2.ensures (before c.number_before-at-2.ensures.text (before c.flag_before-at.ensures.text (before c.text_before-at-2.ensures.text (nothing_before _ c.put_open-5.array_long))))
     (closes c.in_ok-put_items-2.ensures
-    (short_put _ c.put_items-2.array_long c.in_ok-put_short-3.ensures (taken c.number_before-at-3.ensures.text c.text_before-at-3.ensures.text)))))))))))))
+    (both c.in_ok-put_text.ensures
+    (both c.in_ok-put_times.ensures
+    (short_put _ c.put_times.array_long c.in_ok-put_short-3.ensures (taken c.number_before-at-3.ensures.text c.text_before-at-3.ensures.text)))))))))))))))

@@ -1,12 +1,18 @@
-use Rattle.std.proofs.Common.{Some, ap, sym, subst, ◌∙◌}
-use Rattle.std.specs.Prelude.{not}
+use Rattle.std.proofs.Common.{List, Option, Some, None, option_map, refl, ap, sym, subst, ◌∙◌}
+use Rattle.std.specs.Prelude.{not, IfSome}
 use Rattle.std.specs.List.{AllByRecursion}
 use Rattle.tk_stream.specs.Lines.{GoneView}
-use Rattle.tk_stream.specs.Ranges.{AreOpStats, AreResourceStats, AreTaskStats}
+use Rattle.tk_stream.specs.Ranges.{AreOpStats, AreResourceStats, AreTaskStats, AreTold}
+use Rattle.tk_stream.specs.Times.{TaskTimes}
 use Rattle.tk_stream.specs.Retention.{stats_without, told_without}
 use Rattle.tk_stream.specs.Tables.{is_among}
 use Rattle.tk_stream.proofs.PruneLemmas.{all_filter}
 use Rattle.tk_stream.proofs.line.Line.without.Goals as goal
+
+-- what is told of histograms, whatever is gone
+still_told : (old : Option GoneView) (gone : GoneView) (times : Option (List TaskTimes)) → IfSome times (AreTold old) → IfSome times (AreTold (Some gone))
+still_told old gone None told = tt
+still_told old gone (Some ts) told = record { each = told.each; said = refl }
 
 pub invariant_of-line : goal.invariant_of-line
 invariant_of-line c =
@@ -23,6 +29,7 @@ invariant_of-line c =
       resource_stats = subst (AllByRecursion AreResourceStats) (sym c.leave_out-2.ensures) (all_filter AreResourceStats (λ s. not (is_among gone.resources.keys s.0)) c.line.inside.resource_stats.items r.resource_stats);
       seq = r.seq;
       task_stats = subst (AllByRecursion AreTaskStats) (sym c.leave_out-3.ensures) (all_filter AreTaskStats (λ s. not (is_among gone.tasks.keys s.0)) c.line.inside.task_stats.items r.task_stats);
+      task_times = still_told _ _ (option_map (λ v. v.items) c.line.inside.task_times) r.task_times;
     }
 
 pub returns : goal.returns
@@ -41,5 +48,6 @@ returns c =
       seq = l.seq;
       snapshot = l.snapshot;
       task_stats = (c.leave_out-3.ensures ∙ ap (λ (g : GoneView). stats_without (λ s. s.0) g.tasks l.task_stats.items) c.leaving.view_is) i;
+      task_times = option_map (λ v. v.items) l.task_times;
     })
     ∙ ap (told_without c.args.leaving.now) c.line.view_is

@@ -1,4 +1,4 @@
-use Rattle.std.proofs.Common.{◌≡◌, ◌<◌, ◌≤◌, ◌+◌, ◌-◌, length, ap, subst, sym, arith}
+use Rattle.std.proofs.Common.{◌≡◌, ◌<◌, ◌≤◌, ◌+◌, length, ap, subst, sym, arith}
 use Rattle.tk_stream.specs.Slots.{items_in, empty_from, AreRising}
 use Rattle.tk_stream.proofs.SlotLemmas.{rising, counted}
 use Rattle.tk_stream.proofs.slots.Slots.slot_at.Given.{Over}

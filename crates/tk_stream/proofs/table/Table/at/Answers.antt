@@ -1,4 +1,4 @@
-use Rattle.std.proofs.Common.{◌≡◌, ◌-◌, length, slice_get, ap, ◌∙◌, arith}
+use Rattle.std.proofs.Common.{◌≡◌, length, slice_get, ap, ◌∙◌, arith}
 use Rattle.tk_stream.specs.Slots.{items_in}
 use Rattle.tk_stream.proofs.SlotLemmas.{placed}
 use Rattle.tk_stream.proofs.table.Table.at.Goals as goal

@@ -1,4 +1,4 @@
-use Rattle.std.proofs.Common.{◌≡◌, ◌-◌, length, ap, arith}
+use Rattle.std.proofs.Common.{◌≡◌, length, ap, arith}
 use Rattle.tk_stream.specs.Slots.{items_in}
 use Rattle.tk_stream.proofs.SlotLemmas.{counted_as}
 use Rattle.tk_stream.proofs.table.Table.len.Goals as goal
