@@ -6,4 +6,4 @@ mod demonstration;
 
 pub use demonstration::demo;
 pub use tk_live::{Gate, Open, run_script};
-pub use tk_report::{AppFault, View, report, view_stream};
+pub use tk_report::{AppFault, TimesOptions, View, report, view_stream, view_stream_with};

@@ -6,6 +6,8 @@ pub mod Meaning
 pub mod Feeding
 -- Which warnings tables have
 pub mod Warnings
+-- Which tasks have a long poll, and all warnings of tables
+pub mod LongPolls
 -- Which bytes are an uninterrupted stream
 pub mod Streams
 -- The numbers of faults

@@ -4,6 +4,7 @@
 //! - [`Fault`]: why a line is not taken. [`FeedError`]: how far feeding came.
 //! - [`Warning`], [`WarningKind`]: what is odd about a task. [`Lints`]: how much is too much.
 //! - [`warnings_in`]: the warnings of any tables.
+//! - [`LongPoll`], [`long_polls_in`]: which tasks have a long poll. [`all_warnings_in`], [`AnyWarning`]: these and the others.
 //! - [`laws`]: what holds of the definitions by themselves.
 #![tactic(auto)]
 
@@ -18,6 +19,7 @@ pub mod laws;
 mod leaving;
 mod lints;
 mod listed;
+mod long_polls;
 mod ops;
 mod resources;
 mod shown;
@@ -30,4 +32,5 @@ pub use candidates::warnings_in;
 pub use client::Client;
 pub use fault::{Fault, FeedError};
 pub use lints::Lints;
+pub use long_polls::{AnyWarning, LongPoll, all_warnings_in, long_poll_of, long_polls_in};
 pub use warning::{Warning, WarningKind};

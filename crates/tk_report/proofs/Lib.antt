@@ -1,4 +1,6 @@
 pub mod PutLemmas
+pub mod PercentileLemmas
+pub mod TimedLemmas
 pub mod ViewLemmas
 pub mod ShownLemmas
 pub mod PieceLemmas

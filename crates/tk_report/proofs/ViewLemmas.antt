@@ -2,7 +2,7 @@
 use Rattle.std.proofs.Common.{◌≡◌, ℕ, ◌+◌, List, [], ◌∷◌, ◌++◌, length, take, drop, Option, Some, None, Ok, Err, refl, ap, sym, ◌∙◌, append_assoc, append-nil, take-append-drop, subst}
 use Rattle.std.specs.Io.KnownBytes.{Appends, Consumes, IsAtEnd}
 use Rattle.tk_stream.specs.Sent.{IsCut}
-use Rattle.tk_client.specs.Warnings.{LintsView, warnings_in}
+use Rattle.tk_client.specs.Warnings.{LintsView}
 use Rattle.std.proofs.KnownBytes.{Consumes-trans}
 use Rattle.tk_client.specs.declared.fault.Fault.{Fault}
 use Rattle.tk_client.specs.declared.fault.Fault.TheVariants as client
@@ -14,8 +14,11 @@ use Rattle.tk_client.proofs.Pieces.{meaning-append, stops-append}
 use Rattle.tk_fault.specs.declared.fault.AppFault.{AppFault}
 use Rattle.tk_fault.specs.declared.fault.AppFault.TheVariants as faults
 use Rattle.tk_report.specs.Taken.{HasTaken, Reading, Takes, TakesAll, first, stop_of}
+use Rattle.tk_report.specs.declared.options.TimesOptions.{TimesOptions}
 use Rattle.tk_report.specs.declared.view.View.{View}
-use Rattle.tk_report.specs.Views.{AreAll, LeadTo, Views, outcome_of, text_of}
+use Rattle.tk_report.specs.Timed.{timed_text_of, warned_of}
+use Rattle.tk_report.specs.TimedViews.{LeadToStart, ViewsTimed}
+use Rattle.tk_report.specs.Views.{AreAll, outcome_of}
 
 -- a piece more was taken
 pub takes_more : (front piece : List ℕ) (lines more : ℕ) (old new : ClientView) → HasTaken front lines old → Took old piece more new → new.max_line ≡ old.max_line
@@ -99,35 +102,35 @@ stops_all given left new piece lines old now (faults.Stream behind fault) r read
 -- ---- what is shown
 
 -- a stream that isn't taken isn't shown
-pub shows_none : (view : View) (lints : LintsView) (given left old new : Option (List ℕ)) (now : ClientView) (answer : AppFault) → TakesAll given left (Err answer) now
-    → Views view lints given left (Err answer) old new
-shows_none view lints given left old new now faults.Memory h = tt
-shows_none view lints given left old new now faults.Read h = tt
-shows_none view lints given left old new now faults.Write h = absurd h
-shows_none view lints given left old new now (faults.Script line name) h = absurd h
-shows_none view lints given left old new now (faults.Stream lines fault) h = h
+pub shows_none : (view : View) (lints : LintsView) (options : TimesOptions) (given left old new : Option (List ℕ)) (now : ClientView) (answer : AppFault) → TakesAll given left (Err answer) now
+    → ViewsTimed view lints options given left (Err answer) old new
+shows_none view lints options given left old new now faults.Memory h = tt
+shows_none view lints options given left old new now faults.Read h = tt
+shows_none view lints options given left old new now faults.Write h = absurd h
+shows_none view lints options given left old new now (faults.Script line name) h = absurd h
+shows_none view lints options given left old new now (faults.Stream lines fault) h = h
 
--- the tables to which all bytes lead
-pub leads : (given left : Option (List ℕ)) (client : ClientView) → TakesAll given left (Ok tt) client → LeadTo given client.start.tables
-leads given left client h = record { bytes = h.0; all = h.2; start = client.start; lines = h.1; come = h.3.took.came; shows = refl }
+-- the tables and histograms to which all bytes lead
+leads : (given left : Option (List ℕ)) (client : ClientView) → TakesAll given left (Ok tt) client → LeadToStart given client.start
+leads given left client h = record { bytes = h.0; all = h.2; lines = h.1; come = h.3.took.came }
 
 -- their text went out
-pub shows_all : (view : View) (lints : LintsView) (given left old new : Option (List ℕ)) (client : ClientView) (text : List ℕ) (warnings : ℕ)
-    → TakesAll given left (Ok tt) client → text ≡ text_of view lints client.start.tables → Appends old new text
-    → warnings ≡ length (warnings_in lints client.start.tables) → Views view lints given left (Ok warnings) old new
-shows_all view lints given left old new client text warnings h is wrote counted = record {
-  tables = client.start.tables;
+pub shows_all : (view : View) (lints : LintsView) (options : TimesOptions) (given left old new : Option (List ℕ)) (client : ClientView) (text : List ℕ) (warnings : ℕ)
+    → TakesAll given left (Ok tt) client → text ≡ timed_text_of view lints options client.start.tables client.start.times → Appends old new text
+    → warnings ≡ length (warned_of lints options client.start.tables client.start.times) → ViewsTimed view lints options given left (Ok warnings) old new
+shows_all view lints options given left old new client text warnings h is wrote counted = record {
+  start = client.start;
   lead = leads given left client h;
   wrote = subst (Appends old new) is wrote;
   counted = counted;
 }
 
 -- a front of it went out
-pub shows_front : (view : View) (lints : LintsView) (given left old new : Option (List ℕ)) (client : ClientView) (text front : List ℕ)
-    → TakesAll given left (Ok tt) client → text ≡ text_of view lints client.start.tables → IsCut text front → Appends old new front
-    → Views view lints given left (Err faults.Write) old new
-shows_front view lints given left old new client text front h is cut wrote = record {
-  tables = client.start.tables;
+pub shows_front : (view : View) (lints : LintsView) (options : TimesOptions) (given left old new : Option (List ℕ)) (client : ClientView) (text front : List ℕ)
+    → TakesAll given left (Ok tt) client → text ≡ timed_text_of view lints options client.start.tables client.start.times → IsCut text front → Appends old new front
+    → ViewsTimed view lints options given left (Err faults.Write) old new
+shows_front view lints options given left old new client text front h is cut wrote = record {
+  start = client.start;
   lead = leads given left client h;
   front = front;
   cut = subst (λ t. IsCut t front) is cut;

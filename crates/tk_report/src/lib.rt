@@ -2,15 +2,20 @@
 //!
 //! - [`report`]: what tables show, and the warnings about their tasks, as text.
 //! - [`view_stream`], [`View`]: reads a stream to its end, and writes the report of its tables, or its warning lines alone.
+//!   [`view_stream_with`], [`TimesOptions`]: with what is known of how long polls ran.
 //! - [`laws`]: what warning lines tell of.
 //! - [`AppFault`]: what a run of the program stops at.
 #![tactic(auto)]
 
 pub mod laws;
 mod lines;
+mod options;
 mod reporting;
+mod timed;
+mod times;
 mod view;
 
+pub use options::TimesOptions;
 pub use reporting::report;
 pub use tk_fault::AppFault;
-pub use view::{View, view_stream};
+pub use view::{View, view_stream, view_stream_with};

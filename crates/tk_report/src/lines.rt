@@ -10,15 +10,16 @@ use tk_core::{OpRow, ResourceRow, TaskRow};
 use tk_ids::{AttrInfo, AttrValue, Dropped, Name, TaskId, TaskKind};
 use tk_stream::{Op, Resource, Tables, Task};
 
-// Puts a text and a value.
-fn put<T: Display>(out: &mut String, before: &str, value: &T) -> Result<(), AllocError>
+/// Puts a text and a value.
+pub(crate) fn put<T: Display>(out: &mut String, before: &str, value: &T) -> Result<(), AllocError>
     ensures { OnOk result (IfSome (T.output value.now)
         (λ text. Puts (string_bytes out.old) (string_bytes out.new) (before.now ++ text))) }
 {
     write!(out, "{before}{value}")
 }
 
-fn put_end(out: &mut String) -> Result<(), AllocError>
+/// Ends a line.
+pub(crate) fn put_end(out: &mut String) -> Result<(), AllocError>
     ensures { OnOk result (Puts (string_bytes out.old) (string_bytes out.new) (spec.behind [])) }
 {
     out.push_str("\n")

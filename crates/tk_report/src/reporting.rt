@@ -40,7 +40,8 @@ fn put_resource_at(out: &mut String, tables: &Tables, place: usize) -> Result<()
     }
 }
 
-fn put_resources(out: &mut String, tables: &Tables) -> Result<(), AllocError>
+/// The lines of all resources.
+pub(crate) fn put_resources(out: &mut String, tables: &Tables) -> Result<(), AllocError>
     ensures { OnOk result (Puts (string_bytes out.old) (string_bytes out.new)
         (flat_map (spec.resource_lines tables.now.counts) tables.now.resources)) }
 {
@@ -60,7 +61,8 @@ fn put_op_at(out: &mut String, tables: &Tables, place: usize) -> Result<(), Allo
     }
 }
 
-fn put_ops(out: &mut String, tables: &Tables) -> Result<(), AllocError>
+/// The lines of all async operations.
+pub(crate) fn put_ops(out: &mut String, tables: &Tables) -> Result<(), AllocError>
     ensures { OnOk result (Puts (string_bytes out.old) (string_bytes out.new)
         (flat_map spec.op_lines tables.now.ops)) }
 {
@@ -92,25 +94,8 @@ fn put_report(out: &mut String, tables: &Tables, warnings: &[Warning]) -> Result
     Ok(())
 }
 
-/// The lines of these warnings.
-pub(crate) fn lines_of_warnings(
-    alloc: Global,
-    tables: &Tables,
-    warnings: &[Warning],
-) -> Result<Vec<u8>, AllocError>
-    ensures { IfOk result (λ text. text.items ≡ spec.warn_lines tables.now warnings.now) }
-{
-    let mut out = String::new(alloc);
-    put_warnings(&mut out, tables, warnings)?;
-    Ok(out.into_bytes())
-}
-
-/// The report of tables with these warnings.
-pub(crate) fn report_with(
-    alloc: Global,
-    tables: &Tables,
-    warnings: &[Warning],
-) -> Result<Vec<u8>, AllocError>
+// The report of tables with these warnings.
+fn report_with(alloc: Global, tables: &Tables, warnings: &[Warning]) -> Result<Vec<u8>, AllocError>
     ensures { IfOk result (λ text. text.items ≡ spec.report_with tables.now warnings.now) }
 {
     let mut out = String::new(alloc);

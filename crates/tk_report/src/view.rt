@@ -1,15 +1,19 @@
 //! Views of a stream: what its tables show, once it was read to its end.
 ghost use Rattle.std.specs.Prelude.{◌≡◌, ◌≤◌, ◌<◌, ◌+◌, ◌^◌, ◌++◌, ℕ, List, length, IfOk, IfErr};
 ghost use Rattle.tk_report.specs.Taken.{HasTaken, Takes, TakesAll, first, stop_of};
+ghost use Rattle.tk_report.specs.Timed.{timed_text_of, warned_of};
+ghost use Rattle.tk_report.specs.TimedViews.{ViewsTimed};
 ghost use Rattle.tk_report.specs.Views as shown;
-ghost use Rattle.tk_client.specs.Warnings.{LintsView, warnings_in};
+ghost use Rattle.tk_client.specs.Warnings.{LintsView};
 
-use crate::reporting::{lines_of_warnings, report_with};
+use crate::options::TimesOptions;
+use crate::timed::{lines_of_any_warnings, timed_report_with};
 use std::alloc::{AllocError, Global};
 use std::io::{Read, Write};
-use tk_client::{Client, Fault, FeedError, Lints, Warning};
+use tk_client::{AnyWarning, Client, Fault, FeedError, Lints, all_warnings_in};
 use tk_fault::AppFault;
-use tk_stream::{Tables, send};
+use tk_ids::TaskId;
+use tk_stream::{PollTimes, Table, Tables, send};
 
 /// What is written of a stream's tables.
 #[derive(Clone, Copy, Debug, PartialEq, Eq)]
@@ -70,23 +74,43 @@ fn take_stream<R: Read>(client: &mut Client, reader: &mut R) -> Result<(), AppFa
     Err(AppFault::Read)
 }
 
-// What is written of tables with these warnings.
+// What is written of tables and histograms with these warnings.
 fn text_of(
     alloc: Global,
     view: View,
     tables: &Tables,
-    warnings: &[Warning],
+    times: &Table<(TaskId, PollTimes)>,
+    options: &TimesOptions,
+    warnings: &[AnyWarning],
 ) -> Result<Vec<u8>, AllocError>
-    ensures { (lints : LintsView) → warnings.now ≡ warnings_in lints tables.now
-        → IfOk result (λ text. text.items ≡ shown.text_of view lints tables.now) }
+    ensures { (lints : LintsView) → warnings.now ≡ warned_of lints options.now tables.now times.now
+        → IfOk result (λ text. text.items ≡ timed_text_of view lints options.now tables.now times.now) }
 {
     match view {
-        View::Report => report_with(alloc, tables, warnings),
-        View::Lint => lines_of_warnings(alloc, tables, warnings),
+        View::Report => timed_report_with(alloc, tables, times, options.times, warnings),
+        View::Lint => lines_of_any_warnings(alloc, tables, warnings),
     }
 }
 
-// What `view_stream` does by a new client.
+// The warnings of a client's tables, long polls among them where they are asked for.
+fn warned_by(
+    alloc: Global,
+    client: &Client,
+    lints: &Lints,
+    options: &TimesOptions,
+) -> Result<Vec<AnyWarning>, AllocError>
+    ensures { IfOk result (λ list. list.items ≡ warned_of lints.now options.now client.now.start.tables client.now.start.times) }
+{
+    all_warnings_in(
+        alloc,
+        client.tables(),
+        client.times(),
+        lints,
+        options.long_poll,
+    )
+}
+
+// What `view_stream_with` does by a new client.
 fn view_by<R: Read, W: Write>(
     client: &mut Client,
     alloc: Global,
@@ -94,18 +118,26 @@ fn view_by<R: Read, W: Write>(
     writer: &mut W,
     view: View,
     lints: &Lints,
+    options: &TimesOptions,
 ) -> Result<u64, AppFault>
     requires { client.old ≡ first }
-    ensures views { shown.Views view lints.now (R.remaining reader.old) (R.remaining reader.new) result
+    ensures views { ViewsTimed view lints.now options.now (R.remaining reader.old) (R.remaining reader.new) result
         (W.contents writer.old) (W.contents writer.new) }
     ensures unwritten { IfErr result (λ fault. (shown.IsOfWriter fault → ⊥) → writer.new ≡ writer.old) }
 {
     take_stream(client, reader)?;
-    let Ok(list) = client.warnings(lints) else {
+    let Ok(list) = warned_by(alloc, client, lints, options) else {
         return Err(AppFault::Memory);
     };
     let warnings = list.as_slice();
-    let Ok(text) = text_of(alloc, view, client.tables(), warnings) else {
+    let Ok(text) = text_of(
+        alloc,
+        view,
+        client.tables(),
+        client.times(),
+        options,
+        warnings,
+    ) else {
         return Err(AppFault::Memory);
     };
     match send(writer, text.as_slice()) {
@@ -114,7 +146,8 @@ fn view_by<R: Read, W: Write>(
     }
 }
 
-/// Reads a stream to its end, writes what its tables then show, and answers how many warnings they have.
+/// Reads a stream to its end, writes what its tables and histograms then show, and answers how many warnings they have, long polls
+/// among them where the options ask for these.
 ///
 /// A last line without its line end is ignored. The text is made whole before its first byte is written.
 ///
@@ -122,6 +155,27 @@ fn view_by<R: Read, W: Write>(
 /// - `Read`: the reader failed, or gave no end within 2^32 reads. Nothing was written.
 /// - `Stream`: a line has a fault, or more than 268,435,456 bytes. Nothing was written.
 /// - `Write`: the writer failed. A proper front of the text went out.
+pub fn view_stream_with<R: Read, W: Write>(
+    alloc: Global,
+    reader: &mut R,
+    writer: &mut W,
+    view: View,
+    lints: &Lints,
+    options: &TimesOptions,
+) -> Result<u64, AppFault>
+    ensures views { ViewsTimed view lints.now options.now (R.remaining reader.old) (R.remaining reader.new) result
+        (W.contents writer.old) (W.contents writer.new) }
+    // Only a writer's fault comes once something was written.
+    ensures unwritten { IfErr result (λ fault. (shown.IsOfWriter fault → ⊥) → writer.new ≡ writer.old) }
+{
+    match Client::new(alloc, MAX_LINE) {
+        Ok(mut client) => view_by(&mut client, alloc, reader, writer, view, lints, options),
+        Err(_) => Err(AppFault::Memory),
+    }
+}
+
+/// As [`view_stream_with`], where nothing of poll times is shown: reads a stream to its end, writes what its tables then show, and
+/// answers how many warnings they have. Its errors are the same.
 pub fn view_stream<R: Read, W: Write>(
     alloc: Global,
     reader: &mut R,
@@ -134,8 +188,5 @@ pub fn view_stream<R: Read, W: Write>(
     // Only a writer's fault comes once something was written.
     ensures unwritten { IfErr result (λ fault. (shown.IsOfWriter fault → ⊥) → writer.new ≡ writer.old) }
 {
-    match Client::new(alloc, MAX_LINE) {
-        Ok(mut client) => view_by(&mut client, alloc, reader, writer, view, lints),
-        Err(_) => Err(AppFault::Memory),
-    }
+    view_stream_with(alloc, reader, writer, view, lints, &TimesOptions::none())
 }

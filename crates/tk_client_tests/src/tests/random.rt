@@ -177,7 +177,8 @@ fn add_histogram(
         id,
         counts,
         longest,
-    })
+    })?;
+    Ok(())
 }
 
 // Up to four histograms.

@@ -5,7 +5,7 @@ use super::given::{
 };
 use super::texts as text;
 use std::alloc::Global;
-use tk_client::{Client, Fault, FeedError, Lints, Warning, WarningKind};
+use tk_client::{Client, Fault, FeedError, Lints, LongPoll, Warning, WarningKind, long_polls_in};
 
 // The digits of warnings in their order: 1 for self-wakes, 2 for a lost waker, 3 for a poll that does not yield.
 fn digits_of(warnings: &[Warning]) -> u64 {
@@ -119,6 +119,62 @@ fn warns_of_a_poll_that_does_not_yield(rt: HostRuntime) {
     assert!(rt; warned_at(alloc, text::in_first_poll(), "1000000000") == Some(3));
     assert!(rt; warned_at(alloc, text::in_second_poll(), "9000000000") == Some(0));
     assert!(rt; warned_at(alloc, text::without_start(), "9000000000") == Some(0));
+}
+
+// The time of a long poll, and 0 where there is none.
+fn time_of(polls: &[LongPoll]) -> Option<u64> {
+    match polls {
+        [] => Some(0),
+        [poll] => Some(poll.time),
+        _ => None,
+    }
+}
+
+// The long poll of a client that takes this line first.
+fn long_by(alloc: Global, client: &mut Client, line: &[u8], limit_ms: u64) -> Option<u64> {
+    let came = fed(client, line);
+    if came.code != 0 || came.lines != 1 {
+        return None;
+    }
+    match long_polls_in(alloc, client.tables(), client.times(), limit_ms) {
+        Ok(list) => time_of(&list),
+        Err(_) => None,
+    }
+}
+
+fn new_client_long_by(alloc: Global, line: &[u8], limit_ms: u64) -> Option<u64> {
+    on_made(
+        Client::new(alloc, 2000),
+        None,
+        |client| long_by(alloc, client, line, limit_ms),
+    )
+}
+
+fn long_in(alloc: Global, tasks: &str, row: &str, now: &str, limit_ms: u64) -> Option<u64> {
+    match line_of(alloc, "1", "false", now, tasks, row) {
+        Some(line) => new_client_long_by(alloc, &line, limit_ms),
+        None => None,
+    }
+}
+
+fn long_at(alloc: Global, tasks: &str, polls: &str, now: &str, limit_ms: u64) -> Option<u64> {
+    match row_of(alloc, text::live(), polls, text::waiting(), "0", "0") {
+        Some(row) => long_in(alloc, tasks, row.as_str(), now, limit_ms),
+        None => None,
+    }
+}
+
+// Of a line of version 1 the poll that runs is known alone.
+#[test]
+fn warns_of_a_long_poll_that_runs(rt: HostRuntime) {
+    let alloc = rt.alloc();
+    let (main, blocking) = (text::main_task(), text::blocking_task());
+    let first = text::in_first_poll();
+    assert!(rt; long_at(alloc, main, first, "9999999", 10) == Some(0));
+    assert!(rt; long_at(alloc, main, first, "10000000", 10) == Some(10_000_000));
+    assert!(rt; long_at(alloc, blocking, first, "10000000", 10) == Some(0));
+    assert!(rt; long_at(alloc, main, text::without_start(), "10000000", 10) == Some(0));
+    assert!(rt; long_at(alloc, main, text::idle(), "10000000", 10) == Some(0));
 }
 
 fn percent_of(percent: u64) -> Option<u64> {

@@ -1,0 +1,168 @@
+//! The lines of histograms and of long polls, each put behind what is written.
+ghost use Rattle.std.specs.Prelude.{◌≡◌, ◌≤◌, ◌++◌, codes, decimal, slice_get, OnOk, string_bytes};
+ghost use Rattle.tk_core.specs.Percentiles.{total_of, begin_of, end_of};
+ghost use Rattle.tk_core.specs.Times.{bounds};
+ghost use Rattle.tk_report.specs.Behind.{Puts};
+ghost use Rattle.tk_report.specs.Timed as spec;
+
+use crate::lines::{put, put_end, put_warning};
+use std::alloc::AllocError;
+use std::fmt::Write;
+use tk_client::{AnyWarning, LongPoll};
+use tk_ids::TaskId;
+use tk_stream::{PollTimes, Table, Tables};
+
+// The bounds of the buckets, in nanoseconds: the first bucket begins at 0, each other at the bound before it.
+const BOUNDS: [u64; 13] = [
+    1 << 14,
+    1 << 15,
+    1 << 16,
+    1 << 17,
+    1 << 18,
+    1 << 19,
+    1 << 20,
+    1 << 21,
+    1 << 22,
+    1 << 23,
+    1 << 24,
+    1 << 25,
+    1 << 26,
+];
+
+fn bound_at(place: usize) -> Option<u64>
+    ensures { result ≡ slice_get bounds place }
+{
+    BOUNDS.get(place).copied()
+}
+
+fn begin_of(bucket: usize) -> u64
+    ensures { result ≡ begin_of bucket }
+{
+    if bucket == 0 {
+        return 0;
+    }
+    bound_at(bucket - 1).unwrap_or(0)
+}
+
+fn end_of(bucket: usize) -> Option<u64>
+    ensures { result ≡ end_of bucket }
+{
+    bound_at(bucket)
+}
+
+// Fourteen counts add up to less than 2^128.
+fn total_of(counts: &[u64; 14]) -> u128
+    ensures { result ≡ total_of counts.now }
+{
+    let mut total = 0u128;
+    for count in counts {
+        total += u128::from(*count);
+    }
+    total
+}
+
+// Where a bucket ends: the last with the longest time, or with a hyphen where that is shorter than it begins.
+fn put_high(out: &mut String, longest: u64, bucket: usize) -> Result<(), AllocError>
+    ensures { OnOk result (Puts (string_bytes out.old) (string_bytes out.new) (codes " " ++ spec.high_word longest bucket)) }
+{
+    match end_of(bucket) {
+        Some(end) => write!(out, " {end}"),
+        None => {
+            if begin_of(bucket) <= longest {
+                write!(out, " {longest}")
+            } else {
+                out.push_str(" -")
+            }
+        }
+    }
+}
+
+fn put_begin(out: &mut String, bucket: usize) -> Result<(), AllocError>
+    ensures { OnOk result (Puts (string_bytes out.old) (string_bytes out.new) (codes " " ++ decimal (begin_of bucket))) }
+{
+    put(out, " ", &begin_of(bucket))
+}
+
+fn put_bucket(out: &mut String, percent: u64, longest: u64, bucket: usize) -> Result<(), AllocError>
+    ensures { OnOk result (Puts (string_bytes out.old) (string_bytes out.new) (spec.bucket_words percent longest bucket)) }
+{
+    put(out, " p", &percent)?;
+    put_begin(out, bucket)?;
+    put_high(out, longest, bucket)?;
+    Ok(())
+}
+
+// The bucket of a percentile, where any poll has ended.
+fn percentile_of(times: &PollTimes, percent: u64) -> Option<usize>
+    requires some { 1 ≤ percent }
+    requires most { percent ≤ 100 }
+    ensures { result ≡ spec.percentile_of percent times.now.counts }
+{
+    times.percentile(percent)
+}
+
+fn put_percentile(out: &mut String, times: &PollTimes, percent: u64) -> Result<(), AllocError>
+    requires some { 1 ≤ percent }
+    requires most { percent ≤ 100 }
+    ensures { OnOk result (Puts (string_bytes out.old) (string_bytes out.new) (spec.percentile_words times.now percent)) }
+{
+    match percentile_of(times, percent) {
+        Some(bucket) => put_bucket(out, percent, times.longest, bucket),
+        None => Ok(()),
+    }
+}
+
+fn put_total(out: &mut String, counts: &[u64; 14]) -> Result<(), AllocError>
+    ensures { OnOk result (Puts (string_bytes out.old) (string_bytes out.new) (codes "  polls " ++ decimal (total_of counts.now))) }
+{
+    put(out, "  polls ", &total_of(counts))
+}
+
+fn put_times(out: &mut String, times: &PollTimes) -> Result<(), AllocError>
+    ensures { OnOk result (Puts (string_bytes out.old) (string_bytes out.new) (spec.times_line times.now)) }
+{
+    put_total(out, &times.counts)?;
+    put(out, " longest ", &times.longest)?;
+    put_percentile(out, times, 50)?;
+    put_percentile(out, times, 90)?;
+    put_percentile(out, times, 99)?;
+    put_end(out)?;
+    Ok(())
+}
+
+/// The line of a task's histogram, where it has one.
+pub(crate) fn put_times_below(
+    out: &mut String,
+    times: &Table<(TaskId, PollTimes)>,
+    task: TaskId,
+) -> Result<(), AllocError>
+    ensures { OnOk result (Puts (string_bytes out.old) (string_bytes out.new) (spec.times_below times.now task)) }
+{
+    match times.with_id(task.value()) {
+        Some(entry) => put_times(out, &entry.1),
+        None => Ok(()),
+    }
+}
+
+fn put_long_poll(out: &mut String, poll: &LongPoll) -> Result<(), AllocError>
+    ensures { OnOk result (Puts (string_bytes out.old) (string_bytes out.new) (spec.long_poll_line poll.now)) }
+{
+    put(out, "warn ", &poll.task)?;
+    put(out, " long-poll ", &poll.time)?;
+    put_end(out)?;
+    Ok(())
+}
+
+/// The line of any warning about a task of the tables.
+pub(crate) fn put_any_warning(
+    out: &mut String,
+    tables: &Tables,
+    warning: &AnyWarning,
+) -> Result<(), AllocError>
+    ensures { OnOk result (Puts (string_bytes out.old) (string_bytes out.new) (spec.any_warn_line tables.now warning.now)) }
+{
+    match warning {
+        AnyWarning::Usual(warning) => put_warning(out, tables, warning),
+        AnyWarning::LongPoll(poll) => put_long_poll(out, poll),
+    }
+}
