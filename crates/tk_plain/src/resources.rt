@@ -86,7 +86,7 @@ impl Plain {
         }
     }
 
-    /// A call of a resource's user, who stays when it is closed.
+    /// A call of a resource's user, which is refused once the resource is closed.
     pub(crate) fn call_resource(&mut self, number: u64, call: ResourceCall) -> Result<(), Stop> {
         let Some(place) = place_of(number) else {
             return Err(Stop::NoSuchItem);

@@ -71,7 +71,7 @@ pub enum Command<'a> {
         concrete: &'a [u8],
         attrs: Attrs,
     },
-    /// Its owner closes a resource, and is spent. Its user stays.
+    /// Its owner closes a resource, and is spent. Its user is let go.
     CloseResource {
         resource: u64,
         moment: u64,

@@ -5,7 +5,7 @@ ghost use Rattle.std.specs.Prelude.{◌≡◌, ◌≤◌, ◌++◌, length, map,
 ghost use Rattle.tk_stream.specs.Fronts.{told_item, told_tables, with_rows, FitsIn};
 ghost use Rattle.tk_stream.specs.Kept.{kept};
 ghost use Rattle.tk_stream.specs.Retention as retentions;
-ghost use Rattle.tk_stream.specs.Tables.{is_among};
+ghost use Rattle.tk_stream.specs.Tables.{is_among, staying};
 ghost use Rattle.tk_stream.specs.Times.{times_id};
 
 use crate::gone::Gone;
@@ -56,6 +56,13 @@ impl Leaving {
         ensures { result ≡ is_among self.now.ops id }
     {
         self.ops.contains(&id.value())
+    }
+
+    /// Removes the histograms of the tasks that leave. The others keep their order.
+    pub fn remove_times(&self, times: &mut Table<(TaskId, PollTimes)>)
+        ensures { times.new ≡ staying times_id self.now.tasks times.old }
+    {
+        times.remove_all(&self.tasks);
     }
 }
 
