@@ -1,5 +1,5 @@
 -- Where nothing is shown of poll times, a view writes what it writes of the tables alone.
-use Rattle.std.proofs.Common.{◌≡◌, ℕ, List, [], ◌∷◌, ◌++◌, length, Option, Result, Ok, Err, refl, ap, ap₂, ◌∙◌, append-nil, subst, false}
+use Rattle.std.proofs.Common.{◌≡◌, ℕ, List, [], ◌∷◌, ◌++◌, length, Option, None, Result, Ok, Err, refl, ap, ap₂, sym, ◌∙◌, append-nil, subst, false}
 use Rattle.std.specs.Prelude.{flat_map, map}
 use Rattle.std.specs.Io.KnownBytes.{Appends}
 use Rattle.std.proofs.lemmas.List.{length-map}
@@ -9,17 +9,24 @@ use Rattle.tk_stream.specs.Tables.{TablesView}
 use Rattle.tk_stream.specs.Times.{TaskTimes}
 use Rattle.tk_client.specs.declared.warning.Warning.{Warning}
 use Rattle.tk_client.specs.declared.long_polls.AnyWarning.TheVariants.{Usual}
+use Rattle.tk_client.specs.LongPolls.{all_warnings_in}
 use Rattle.tk_client.specs.Meaning.{Start}
 use Rattle.tk_client.specs.Warnings.{LintsView, warnings_in}
 use Rattle.tk_client.proofs.LongPollLemmas.{usual_alone}
 use Rattle.tk_fault.specs.declared.fault.AppFault.{AppFault}
 use Rattle.tk_fault.specs.declared.fault.AppFault.TheVariants as faults
+use Rattle.tk_report.specs.declared.options.TimesOptions.{TimesOptions}
 use Rattle.tk_report.specs.declared.view.View.{View}
 use Rattle.tk_report.specs.declared.view.View.TheVariants.{Report, Lint}
 use Rattle.tk_report.specs.Report.{heading, op_lines, resource_lines, task_line, warn_line, warn_lines}
 use Rattle.tk_report.specs.Timed.{any_warn_lines, no_times, task_lines, timed_text_of, warned_of}
 use Rattle.tk_report.specs.TimedViews.{LeadToStart, ViewsTimed}
 use Rattle.tk_report.specs.Views.{LeadTo, Views, text_of}
+
+-- where no long poll is asked for, all warnings are the usual ones
+pub usual_warned : (lints : LintsView) (options : TimesOptions) (tables : TablesView) (times : List TaskTimes) → options.long_poll ≡ None
+    → map Usual (warnings_in lints tables) ≡ warned_of lints options tables times
+usual_warned lints options tables times is = sym (ap (λ asked. all_warnings_in lints asked tables times) is ∙ usual_alone lints tables times)
 
 plain_tasks : (times : List TaskTimes) (tasks : List Task) → flat_map (task_lines false times) tasks ≡ flat_map task_line tasks
 plain_tasks times [] = refl
