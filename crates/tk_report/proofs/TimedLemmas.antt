@@ -8,6 +8,7 @@ use Rattle.tk_stream.specs.Sent.{IsCut}
 use Rattle.tk_stream.specs.Tables.{TablesView}
 use Rattle.tk_stream.specs.Times.{TaskTimes}
 use Rattle.tk_client.specs.declared.warning.Warning.{Warning}
+use Rattle.tk_client.specs.declared.long_polls.AnyWarning.{AnyWarning}
 use Rattle.tk_client.specs.declared.long_polls.AnyWarning.TheVariants.{Usual}
 use Rattle.tk_client.specs.LongPolls.{all_warnings_in}
 use Rattle.tk_client.specs.Meaning.{Start}
@@ -18,8 +19,8 @@ use Rattle.tk_fault.specs.declared.fault.AppFault.TheVariants as faults
 use Rattle.tk_report.specs.declared.options.TimesOptions.{TimesOptions}
 use Rattle.tk_report.specs.declared.view.View.{View}
 use Rattle.tk_report.specs.declared.view.View.TheVariants.{Report, Lint}
-use Rattle.tk_report.specs.Report.{heading, op_lines, resource_lines, task_line, warn_line, warn_lines}
-use Rattle.tk_report.specs.Timed.{any_warn_lines, no_times, task_lines, timed_text_of, warned_of}
+use Rattle.tk_report.specs.Report.{heading, op_lines, report_of, resource_lines, task_line, warn_line, warn_lines}
+use Rattle.tk_report.specs.Timed.{any_warn_lines, no_times, task_lines, timed_report_with, timed_text_of, warned_of}
 use Rattle.tk_report.specs.TimedViews.{LeadToStart, ViewsTimed}
 use Rattle.tk_report.specs.Views.{LeadTo, Views, text_of}
 
@@ -44,6 +45,11 @@ plain_text Report lints tables times =
     ap₂ (λ xs ys. heading tables ++ (xs ++ (flat_map (resource_lines tables.counts) tables.resources ++ (flat_map op_lines tables.ops ++ ys))))
     (plain_tasks times tables.tasks) (plain_lint lints tables times)
 plain_text Lint lints tables times = plain_lint lints tables times
+
+-- the report of tables, where all their warnings are told and no histogram is shown
+pub plain_report : (lints : LintsView) (tables : TablesView) (times : List TaskTimes) (warnings : List AnyWarning) → warnings ≡ all_warnings_in lints None tables times
+    → timed_report_with false tables times warnings ≡ report_of lints tables
+plain_report lints tables times warnings are = ap (timed_report_with false tables times) are ∙ plain_text Report lints tables times
 
 plain_count : (lints : LintsView) (tables : TablesView) (times : List TaskTimes) → length (warned_of lints no_times tables times) ≡ length (warnings_in lints tables)
 plain_count lints tables times = ap length (usual_alone lints tables times) ∙ length-map (warnings_in lints tables) Usual
