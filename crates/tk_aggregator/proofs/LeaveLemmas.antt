@@ -7,16 +7,19 @@ use Rattle.tk_ids.specs.declared.info.Dropped.{Dropped}
 use Rattle.tk_ledgers.specs.Ops.{OpSight}
 use Rattle.tk_ledgers.specs.Resources.{ResourceSight}
 use Rattle.tk_ledgers.specs.Tasks.{TaskSight}
-use Rattle.tk_aggregator.specs.Aggregates.{Aggregating, Pairs, ReadTask, ReadResource, ReadOp, without, pruned, left_at, line_at, having_told}
-use Rattle.tk_aggregator.specs.Standing.{IsStanding, ResourceFits, OpFits, due_at, leaving_at}
+use Rattle.tk_aggregator.specs.Aggregates.{Aggregating, Pairs, ReadTask, ReadResource, ReadOp, without, pruned, left_at, due_at, leaving_at, untimed_at, having_told}
+use Rattle.tk_aggregator.specs.Standing.{IsStanding, ResourceFits, OpFits}
 use Rattle.tk_stream.specs.Applied.{without_gone}
 use Rattle.tk_stream.specs.Fronts.{ToldView, told_tables, FitsIn, HaveRoom}
 use Rattle.tk_stream.specs.Lines.{LineView, GoneView, none_gone}
 use Rattle.tk_stream.specs.Retention.{line_pruned, prune}
-use Rattle.tk_stream.specs.Streams.{line_sent}
+use Rattle.tk_stream.specs.Streams.{line_untimed}
+use Rattle.tk_stream.specs.Times.{times_id}
+use Rattle.tk_ledgers.specs.Times.{TimesSight}
 use Rattle.tk_stream.specs.Tables.{TablesView, task_id, resource_id, op_id, is_among, staying}
 use Rattle.tk_stream.proofs.GoneLemmas.{staying_all}
 use Rattle.tk_aggregator.proofs.StandingLemmas.{whole}
+use Rattle.tk_aggregator.specs.Timing.{TimingView, timing_told}
 
 -- no more stay than there were
 fewer : {A : Type 0} (p : A → Bool) (xs : List A) (room : ℕ) → length xs ≤ room → length (filter p xs) ≤ room
@@ -107,9 +110,9 @@ module _ (shown : TablesView) (telling : ToldView) (tasks : List TaskSight) (res
       numbered = omega (arith, below);
     }
 
-    pub told_is : told_tables tells now ≡ now → (broken : Bool) (retention : Option ℕ)
-        → whole now tells task_handles resource_handles op_handles held (last + 1) false retention ≡ having_told (without (whole shown telling tasks resources ops held last broken retention) gone) moment
-    told_is all broken retention = λ i. record {
+    pub told_is : told_tables tells now ≡ now → (broken : Bool) (retention : Option ℕ) (timing : TimingView)
+        → whole now tells task_handles resource_handles op_handles held (last + 1) false retention (timing_told gone.tasks timing) ≡ having_told (without (whole shown telling tasks resources ops held last broken retention timing) gone) moment
+    told_is all broken retention timing = λ i. record {
       tables = is i;
       told = (all ∙ is) i;
       tasks = tasks_are i;
@@ -119,6 +122,7 @@ module _ (shown : TablesView) (telling : ToldView) (tasks : List TaskSight) (res
       last = last + 1;
       broken = false;
       retention = retention;
+      timing = timing_told gone.tasks timing;
     }
 
 -- ---- what leaves with a line
@@ -129,6 +133,7 @@ without_none a = λ i. record a {
   tasks = staying_all (λ (s : TaskSight). s.id) a.tasks i;
   resources = staying_all (λ (s : ResourceSight). s.id) a.resources i;
   ops = staying_all (λ (s : OpSight). s.id) a.ops i;
+  timing = record a.timing { shown = staying_all times_id a.timing.shown i; readers = staying_all (λ (s : TimesSight). s.id) a.timing.readers i };
 }
 
 pub left_is : (snapshot : Bool) (a : Aggregating) (now : ℕ) → without a (leaving_at snapshot a now) ≡ left_at snapshot a now
@@ -140,8 +145,8 @@ left_is false a now = by a.retention
     by (Some retention) = refl
 
 -- the line that leads to what stays
-pub pruned_line_is : (a : Aggregating) (now retention : ℕ) → a.retention ≡ Some retention → line_pruned a.told (prune (record a.tables { now = now }) a.told now retention) (a.last + 1) ≡ line_at false a now
+pub pruned_line_is : (a : Aggregating) (now retention : ℕ) → a.retention ≡ Some retention → line_pruned a.told (prune (record a.tables { now = now }) a.told now retention) (a.last + 1) ≡ untimed_at false a now
 pruned_line_is a now retention is = ap line_by (sym is)
   where
     line_by : Option ℕ → LineView
-    line_by o = line_sent a.told (record { tables = record (pruned o a now).tables { now = now }; seq = a.last + 1; snapshot = false; removes = is_some o; told = None })
+    line_by o = line_untimed a.told (record { tables = record (pruned o a now).tables { now = now }; seq = a.last + 1; snapshot = false; removes = is_some o; told = None })

@@ -16,7 +16,7 @@ use Rattle.tk_ids.specs.declared.info.TaskInfo.{TaskInfo}
 use Rattle.tk_ledgers.specs.Ops.{OpSight}
 use Rattle.tk_ledgers.specs.Resources.{ResourceSight}
 use Rattle.tk_ledgers.specs.Tasks.{TaskSight}
-use Rattle.tk_aggregator.specs.Aggregates.{ReadTask, ReadResource, ReadOp, TakesIn}
+use Rattle.tk_aggregator.specs.Aggregates.{ReadTask, ReadResource, ReadOp, TakesIn, TakesTimes}
 use Rattle.tk_stream.specs.Fronts.{ToldView, task_at, resource_at, op_at, counts_at, told_tables}
 use Rattle.tk_stream.specs.Places.{place_with}
 use Rattle.tk_aggregator.specs.Readings.{Reads, task_ledger, resource_ledger, op_ledger}
@@ -25,6 +25,7 @@ use Rattle.tk_stream.specs.Tables.{TablesView, PollCounts, counts_id, changed_at
 use Rattle.tk_aggregator.proofs.HandleLemmas.{reads_read, task_reads, resource_reads, op_reads}
 use Rattle.tk_aggregator.proofs.HandledLemmas.{Both, TasksStand, ResourcesStand, OpsStand, holds_more, holds_roomier, tasks_handled, resources_handled, ops_handled, tasks_stand, resources_stand, ops_stand, counts_stand}
 use Rattle.tk_aggregator.proofs.StandingLemmas.{whole}
+use Rattle.tk_aggregator.specs.Timing.{TimingView}
 
 -- what holds of three values holds of others that are the same
 moved : {A B C : Type 0} (Is : A → B → C → Type 0) (a b : A) (c d : B) (e f : C) → a ≡ b → c ≡ d → e ≡ f → Is b d f → Is a c e
@@ -50,8 +51,9 @@ module _ (shown : TablesView) (telling : ToldView) (tasks : List TaskSight) (res
     pub task_put_stands : IsStanding now tells handles resources ops held last
     task_put_stands = moved (λ (t : TablesView) (u : ToldView) (hs : List TaskSight). IsStanding t u hs resources ops held last) now (with_task shown info row) tells (with_task_room telling room) handles (tasks ++ read ∷ []) e_now e_tells e_handles task_put.0
 
-    pub task_put_takes : (broken : Bool) (retention : Option ℕ) → task_with info.id shown.tasks ≡ None → TakesIn (whole shown telling tasks resources ops held last broken retention) (events.Task info handle) (whole now tells handles resources ops held last broken retention)
-    task_put_takes broken retention none = none_there (task_with info.id shown.tasks) _ _ none (
+    pub task_put_takes : (broken : Bool) (retention : Option ℕ) (timing timed : TimingView) → task_with info.id shown.tasks ≡ None → TakesTimes info.id handle.times timing timed
+        → TakesIn (whole shown telling tasks resources ops held last broken retention timing) (events.Task info handle) (whole now tells handles resources ops held last broken retention timed)
+    task_put_takes broken retention timing timed none takes = none_there (task_with info.id shown.tasks) _ _ none (
       row,
       read,
       reading,
@@ -65,7 +67,9 @@ module _ (shown : TablesView) (telling : ToldView) (tasks : List TaskSight) (res
         last = last;
         broken = broken;
         retention = retention;
+        timing = timed;
       },
+      takes,
     )
 
   -- where it was not put, there may be more room
@@ -91,8 +95,8 @@ module _ (shown : TablesView) (telling : ToldView) (tasks : List TaskSight) (res
     pub resource_put_stands : IsStanding now tells tasks handles ops held last
     resource_put_stands = moved (λ (t : TablesView) (u : ToldView) (hs : List ResourceSight). IsStanding t u tasks hs ops held last) now (with_resource shown info row) tells (with_resource_room telling room) handles (resources ++ read ∷ []) e_now e_tells e_handles resource_put.0
 
-    pub resource_put_takes : (broken : Bool) (retention : Option ℕ) → resource_with info.id shown.resources ≡ None → TakesIn (whole shown telling tasks resources ops held last broken retention) (events.Resource info handle) (whole now tells tasks handles ops held last broken retention)
-    resource_put_takes broken retention none = none_there (resource_with info.id shown.resources) _ _ none (
+    pub resource_put_takes : (broken : Bool) (retention : Option ℕ) (timing : TimingView) → resource_with info.id shown.resources ≡ None → TakesIn (whole shown telling tasks resources ops held last broken retention timing) (events.Resource info handle) (whole now tells tasks handles ops held last broken retention timing)
+    resource_put_takes broken retention timing none = none_there (resource_with info.id shown.resources) _ _ none (
       row,
       read,
       reading,
@@ -106,6 +110,7 @@ module _ (shown : TablesView) (telling : ToldView) (tasks : List TaskSight) (res
         last = last;
         broken = broken;
         retention = retention;
+        timing = timing;
       },
     )
 
@@ -132,8 +137,8 @@ module _ (shown : TablesView) (telling : ToldView) (tasks : List TaskSight) (res
     pub op_put_stands : IsStanding now tells tasks resources handles held last
     op_put_stands = moved (λ (t : TablesView) (u : ToldView) (hs : List OpSight). IsStanding t u tasks resources hs held last) now (with_op shown info row) tells (with_op_room telling room) handles (ops ++ read ∷ []) e_now e_tells e_handles op_put.0
 
-    pub op_put_takes : (broken : Bool) (retention : Option ℕ) → op_with info.id shown.ops ≡ None → TakesIn (whole shown telling tasks resources ops held last broken retention) (events.Op info handle) (whole now tells tasks resources handles held last broken retention)
-    op_put_takes broken retention none = none_there (op_with info.id shown.ops) _ _ none (
+    pub op_put_takes : (broken : Bool) (retention : Option ℕ) (timing : TimingView) → op_with info.id shown.ops ≡ None → TakesIn (whole shown telling tasks resources ops held last broken retention timing) (events.Op info handle) (whole now tells tasks resources handles held last broken retention timing)
+    op_put_takes broken retention timing none = none_there (op_with info.id shown.ops) _ _ none (
       row,
       read,
       reading,
@@ -147,6 +152,7 @@ module _ (shown : TablesView) (telling : ToldView) (tasks : List TaskSight) (res
         last = last;
         broken = broken;
         retention = retention;
+        timing = timing;
       },
     )
 
@@ -211,8 +217,8 @@ module _ (shown : TablesView) (telling : ToldView) (tasks : List TaskSight) (res
       subst (λ (t : TablesView). IsStanding t view tasks resources ops held last) (sym e)
       (subst (λ (v : ToldView). IsStanding (record shown { counts = counts }) v tasks resources ops held last) (sym alone) polled_now.0)
 
-  pub poll_counts : (broken : Bool) (retention : Option ℕ) → whole now view tasks resources ops held last broken retention ≡ record (whole shown telling tasks resources ops held last broken retention) { tables = record shown { counts = counts } }
-  poll_counts broken retention = λ i. record {
+  pub poll_counts : (broken : Bool) (retention : Option ℕ) (timing : TimingView) → whole now view tasks resources ops held last broken retention timing ≡ record (whole shown telling tasks resources ops held last broken retention timing) { tables = record shown { counts = counts } }
+  poll_counts broken retention timing = λ i. record {
     tables = e i;
     told = (ap₂ told_tables alone e ∙ polled_now.1) i;
     tasks = tasks;
@@ -222,4 +228,5 @@ module _ (shown : TablesView) (telling : ToldView) (tasks : List TaskSight) (res
     last = last;
     broken = broken;
     retention = retention;
+    timing = timing;
   }

@@ -8,5 +8,5 @@ pub returns-in_ok-line-in-Some-clause-line : goal.returns-in_ok-line-in-Some-cla
 returns-in_ok-line-in-Some-clause-line c =
     let a = c.self.inside in
     c.in_ok-line-in-Some.ensures.line
-    ∙ pruned_line_is (whole a.tables a.told a.tasks.items a.resources.items a.ops.items a.held a.last a.broken a.retention) c.args.now c.in-Some.retention c.in-Some.is
+    ∙ pruned_line_is (whole a.tables a.told a.tasks.items a.resources.items a.ops.items a.held a.last a.broken a.retention a.timing) c.args.now c.in-Some.retention c.in-Some.is
     ∙ (λ i. line_at (sym c.if-snapshot.false i) (c.self.view_is i) c.args.now)
