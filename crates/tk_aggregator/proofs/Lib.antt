@@ -6,7 +6,6 @@ pub mod StandingLemmas
 pub mod HandledLemmas
 pub mod RefreshLemmas
 pub mod TakeInLemmas
-pub mod TimesLemmas
 pub mod LeaveLemmas
 pub mod GatherLemmas
 pub mod FollowLemmas
