@@ -1,4 +1,5 @@
 pub mod Readings
+pub mod Timing
 pub mod Told
 pub mod Absorbing
 pub mod Finished
