@@ -9,11 +9,12 @@ use Rattle.tk_ledgers.specs.Ops.{OpSight}
 use Rattle.tk_ledgers.specs.Resources.{ResourceSight}
 use Rattle.tk_ledgers.specs.Tasks.{TaskSight}
 use Rattle.tk_aggregator.specs.Absorbing.{infos_of}
-use Rattle.tk_aggregator.specs.Aggregates.{Aggregating, IsSound, IsLaterOf, IsSameStream, ReadTask, ReadResource, ReadOp, ReadsTasks, ReadsResources, ReadsOps, ReadsHistograms, Refreshes}
+use Rattle.tk_aggregator.proofs.TimingLemmas.{AreKnown, known_later, known_rows, readers_read}
+use Rattle.tk_aggregator.specs.Aggregates.{Pairs, Aggregating, IsSound, IsLaterOf, IsSameStream, ReadTask, ReadResource, ReadOp, ReadsTasks, ReadsResources, ReadsOps, ReadsHistograms, Refreshes}
 use Rattle.tk_stream.specs.Applied.{Kind, task_kind, resource_kind, op_kind, counts_kind, times_kind, BeginWith}
 use Rattle.tk_stream.specs.Fronts.{ToldView, with_rows, task_at, resource_at, op_at, told_tables}
 use Rattle.tk_aggregator.specs.Readings.{ReadAll, Reads, task_ledger, resource_ledger, op_ledger}
-use Rattle.tk_aggregator.specs.Standing.{IsStanding, ResourceFits, OpFits, TellsSame}
+use Rattle.tk_aggregator.specs.Standing.{IsStanding, ResourceFits, OpFits, TellsSame, TimesStand}
 use Rattle.tk_stream.specs.Tables.{TablesView}
 use Rattle.tk_stream.specs.declared.op.Op.{Op}
 use Rattle.tk_stream.specs.declared.resource.Resource.{Resource}
@@ -90,6 +91,23 @@ module _ (shown : TablesView) (telling : ToldView) (tasks : List TaskSight) (res
 
     pub ops_read : (broken : Bool) (retention : Option ℕ) (timing : TimingView) → ReadsOps (whole shown telling tasks resources ops held last broken retention timing) (whole now view tasks resources read held last broken retention timing)
     ops_read broken retention timing = (rows, each, λ i. record { tables = e i; told = (ap₂ told_tables alone e ∙ ops_now.1) i; tasks = tasks; resources = resources; ops = read; held = held; last = last; broken = broken; retention = retention; timing = timing })
+
+-- histograms stay those of the tasks that were read
+pub tasks_times : (shown now : TablesView) (tasks : List TaskSight) (rows : List TaskRow) (read : List TaskSight) → Pairs ReadTask shown.tasks tasks → ReadAll task_ledger tasks rows read
+    → now ≡ record shown { tasks = with_rows task_at shown.tasks rows } → (t : TimingView) → TimesStand shown.tasks t → TimesStand now.tasks t
+tasks_times shown now tasks rows read pairs each e t stands =
+    subst (λ (x : TablesView). TimesStand x.tasks t) (sym e) (record {
+      pairs = stands.pairs;
+      known = known_later shown.tasks (with_rows task_at shown.tasks rows) t.shown
+          (begins_rows task_kind task_at (λ x q. refl) shown.tasks rows (sym (pairs-count ReadTask shown.tasks tasks pairs) ∙ rows-count (Reads task_ledger) tasks rows read each)) stands.known;
+    })
+
+-- histograms that were read are of the same tasks
+pub times_read : (tasks : List Task) (t u : TimingView) → ReadsTimes t u → TimesStand tasks t → TimesStand tasks u
+times_read tasks t u reads stands = record {
+  pairs = readers_read t u stands.pairs reads;
+  known = subst (λ (x : TimingView). AreKnown tasks x.shown) (sym reads.2) (known_rows tasks t.shown (map times_shown reads.0) stands.known);
+}
 
 -- ---- all of them
 

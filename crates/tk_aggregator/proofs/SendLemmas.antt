@@ -6,9 +6,9 @@ use Rattle.std.specs.Option.{option_map_or}
 use Rattle.std.proofs.lemmas.Bool.{eq-eqb}
 use Rattle.tk_aggregator.specs.Aggregates.{Aggregating, IsSound, IsDue, pruned, due_at, leaving_at, tables_at, untimed_at, line_at, sending_at, having_told, after_line}
 use Rattle.tk_aggregator.specs.Publishing.{IsTimedStreamTo}
-use Rattle.tk_aggregator.specs.Timing.{TimingView, no_timing, told_by}
-use Rattle.tk_stream.specs.Applied.{GoOn, BeginWith, times_kind, times_told, times_after, what_stays, without_gone}
-use Rattle.tk_stream.specs.Lines.{LineView, GoneView, none_gone, gone_of, is_seq, told_times, with_times}
+use Rattle.tk_aggregator.specs.Timing.{TimingView, told_by}
+use Rattle.tk_stream.specs.Applied.{GoOn, times_after, what_stays, without_gone}
+use Rattle.tk_stream.specs.Lines.{LineView, GoneView, none_gone, gone_of, is_seq, told_times}
 use Rattle.tk_stream.specs.Ranges.{IsNumber}
 use Rattle.tk_stream.specs.Retention.{due_of, prune, stats_without}
 use Rattle.tk_stream.specs.Spelling.{sent_text}
@@ -19,7 +19,7 @@ use Rattle.tk_stream.proofs.GoneLemmas.{staying_all}
 use Rattle.tk_stream.proofs.PruneLemmas.{less_fit, less_in_range, pruned_goes_on, pruned_line, distinct_begin}
 use Rattle.tk_stream.proofs.RangeLemmas.{at_moment}
 use Rattle.tk_aggregator.proofs.LeaveLemmas.{left_is}
-use Rattle.tk_aggregator.proofs.TimingLemmas.{told_leads, snapshot_leads, told_fit}
+use Rattle.tk_aggregator.proofs.TimingLemmas.{line_leads, sent_times, sent_gone, times_more, told_fit}
 
 -- ---- one more line
 
@@ -54,11 +54,6 @@ tables_more before (x ∷ ss) s = tables_more x.tables ss s
 last_more : (before : ℕ) (ss : List Sending) (s : Sending) → last_sent before (more ss s) ≡ s.seq
 last_more before [] s = refl
 last_more before (x ∷ ss) s = last_more x.seq ss s
-
-times_more : (times : List TaskTimes) (before : TablesView) (ss : List Sending) (s : Sending)
-    → times_sent times before (more ss s) ≡ times_after (if s.snapshot then [] else times_sent times before ss) (line_sent (tables_sent before ss) s)
-times_more times before [] s = refl
-times_more times before (x ∷ ss) s = times_more (times_after (if x.snapshot then [] else times) (line_sent before x)) x.tables ss s
 
 pub goes_on_to : (bytes : List ℕ) (told : TablesView) (last : ℕ) (s : Sending) → IsStreamTo bytes told last → MaySend told s → s.seq ≡ last + 1 → (number : ℕ) → number ≡ s.seq
     → IsStreamTo (bytes ++ sent_text (line_sent told s)) s.tables number
@@ -138,7 +133,7 @@ may_tell : (a : Aggregating) (now : ℕ) (snapshot : Bool) (gone : GoneView) (ta
 may_tell a now snapshot gone tables is sound = by a.timing.reads
   where
     by : (b : Bool) → IfSome (if b then Some (stats_without times_id gone.tasks (told_times (if snapshot then [] else a.timing.told) a.timing.shown)) else None) (AreToldOf tables)
-    by true = told_fit a.tables tables (if snapshot then [] else a.timing.told) a.timing.shown gone.tasks is sound.times_fit
+    by true = told_fit a.tables tables gone.tasks is (if snapshot then [] else a.timing.told) a.timing.shown sound.times_fit
     by false = tt
 
 pub may_send : (a : Aggregating) (now : ℕ) (snapshot : Bool) → IsSound a → IsDue snapshot a now → IsNumber now → MaySend a.told (sending_at snapshot a now)
@@ -192,58 +187,16 @@ gone_at a now false sound = by a.retention
     by (Some retention) =
         ap (λ (l : LineView). (gone_of l).tasks) (sym (pruned_line a.told a.tables now retention (a.last + 1) (distinct_begin a.told a.tables sound.on sound.fit.distinct) sound.on))
 
--- a line without histograms leads on from none
-untold_leads : (l : LineView) → l.task_times ≡ None → times_after [] l ≡ []
-untold_leads l none = ap (λ (o : Option (List TaskTimes)). times_told [] (unwrap_or o [])) none
-
--- the line leads from the histograms that were told to those that are shown, but for those that leave
-line_leads : (t : TimingView) (untimed : LineView) (gone : List ℕ) (snapshot : Bool) → untimed.task_times ≡ None → (gone_of untimed).tasks ≡ gone → (snapshot ≡ true → gone ≡ [])
-    → IsDistinct nat_eq (map times_id t.shown) → BeginWith times_kind t.told t.shown → (t.reads ≡ false → t ≡ no_timing false)
-    → times_after (if snapshot then [] else t.told) (option_map_or (λ times. with_times times untimed) (told_by snapshot t gone) untimed) ≡ staying times_id gone t.shown
-line_leads t untimed gone snapshot none is whole distinct begins unread = by t.reads refl
-  where
-    Leads : Bool → Type 0
-    Leads b = times_after (if snapshot then [] else t.told) (option_map_or (λ times. with_times times untimed) (if b then Some (stats_without times_id gone (told_times (if snapshot then [] else t.told) t.shown)) else None) untimed) ≡ staying times_id gone t.shown
-
-    by : (b : Bool) → t.reads ≡ b → Leads b
-    by true e = timed snapshot refl
-      where
-        timed : (s : Bool) → snapshot ≡ s → times_after (if s then [] else t.told) (with_times (stats_without times_id gone (told_times (if s then [] else t.told) t.shown)) untimed) ≡ staying times_id gone t.shown
-        timed true f = snapshot_leads t.shown (with_times (stats_without times_id gone (told_times [] t.shown)) untimed) gone (whole f) refl is distinct
-        timed false f = told_leads t.told t.shown (with_times (stats_without times_id gone (told_times t.told t.shown)) untimed) gone begins distinct refl is
-    by false e = unread_leads t (unread e)
-      where
-        unread_leads : (u : TimingView) → u ≡ no_timing false → times_after (if snapshot then [] else u.told) untimed ≡ staying times_id gone u.shown
-        unread_leads u same = subst (λ (v : TimingView). times_after (if snapshot then [] else v.told) untimed ≡ staying times_id gone v.shown) (sym same) (either_way snapshot)
-          where
-            either_way : (s : Bool) → times_after (if s then [] else []) untimed ≡ []
-            either_way true = untold_leads untimed none
-            either_way false = untold_leads untimed none
-
-untimed_none : (a : Aggregating) (now : ℕ) (snapshot : Bool) → (untimed_at snapshot a now).task_times ≡ None
-untimed_none a now true = by (is_some a.retention)
-  where
-    by : (b : Bool) → (line_untimed a.told (record { tables = record a.tables { now = now }; seq = a.last + 1; snapshot = true; removes = b; told = None })).task_times ≡ None
-    by true = refl
-    by false = refl
-untimed_none a now false = by a.retention
-  where
-    by : (o : Option ℕ) → (line_untimed a.told (record { tables = record (pruned o a now).tables { now = now }; seq = a.last + 1; snapshot = false; removes = is_some o; told = None })).task_times ≡ None
-    by None = refl
-    by (Some retention) = refl
-
 -- what is told after a line are the histograms of the tasks that stay
 after_times : (a : Aggregating) (now : ℕ) (snapshot : Bool) → staying times_id (leaving_at snapshot a now).tasks a.timing.shown ≡ (after_line snapshot a now).timing.told
 after_times a now snapshot = ap (λ (x : Aggregating). x.timing.shown) (left_is snapshot a now)
 
 pub leads_on : (a : Aggregating) (now : ℕ) (snapshot : Bool) → IsSound a → times_after (if snapshot then [] else a.timing.told) (line_at snapshot a now) ≡ (after_line snapshot a now).timing.told
 leads_on a now snapshot sound =
-    line_leads a.timing (untimed_at snapshot a now) (leaving_at snapshot a now).tasks snapshot (untimed_none a now snapshot) (gone_at a now snapshot sound) (none_leaves snapshot) sound.times_fit.once sound.times_on sound.untimed
+    let s = sending_at snapshot a now in
+    line_leads snapshot a.timing (leaving_at snapshot a now).tasks (line_at snapshot a now) sound.times_fit.once sound.times_on (λ none. ap (λ (t : TimingView). t.shown) (sound.untimed none))
+    (sent_times a.told s) (ap (λ (g : GoneView). g.tasks) (sent_gone a.told s) ∙ gone_at a now snapshot sound)
     ∙ after_times a now snapshot
-  where
-    none_leaves : (s : Bool) → s ≡ true → (leaving_at s a now).tasks ≡ []
-    none_leaves true e = refl
-    none_leaves false e = absurd cc
 
 pub timed_goes_on : (a : Aggregating) (now : ℕ) (snapshot : Bool) → IsSound a → IsDue snapshot a now → IsNumber now → (bytes : List ℕ) → IsTimedStreamTo bytes a.told a.timing.told a.last
     → IsTimedStreamTo (bytes ++ sent_text (line_at snapshot a now)) (after_line snapshot a now).told (after_line snapshot a now).timing.told (after_line snapshot a now).last

@@ -1,8 +1,8 @@
 pub mod Readings
-pub mod Timing
 pub mod Told
 pub mod Absorbing
 pub mod Finished
+pub mod Timing
 pub mod Aggregates
 pub mod StreamErrors
 pub mod Standing

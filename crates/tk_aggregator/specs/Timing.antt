@@ -65,6 +65,10 @@ timing_with times reader t = record t { shown = t.shown ++ times ∷ []; readers
 abbrev pub told_by : Bool → TimingView → List ℕ → Option (List TaskTimes)
 told_by snapshot t gone = if t.reads then Some (stats_without times_id gone (told_times (if snapshot then [] else t.told) t.shown)) else None
 
+-- without the histograms of tasks that leave. Their readers are let go
+abbrev pub timing_without : List ℕ → TimingView → TimingView
+timing_without gone t = record t { shown = staying times_id gone t.shown; readers = staying (λ (s : TimesSight). s.id) gone t.readers }
+
 -- what stands after a whole line with which these tasks leave: their histograms and readers are let go, and all others are told
 abbrev pub timing_told : List ℕ → TimingView → TimingView
 timing_told gone t = record t {

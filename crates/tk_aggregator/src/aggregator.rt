@@ -540,7 +540,7 @@ impl Aggregator {
         ensures leaving { IfOk result (λ made. unwrap_or made.1 none_gone ≡ leaving_at snapshot self.now now) }
     {
         let (line, leaving) = self.untimed_line(now, snapshot)?;
-        let line = self.timing.line(line, &leaving, snapshot)?;
+        let line = self.timing.line(line, leaving.as_ref(), snapshot)?;
         Ok((line, leaving))
     }
 

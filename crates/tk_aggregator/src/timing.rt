@@ -84,6 +84,13 @@ impl Timing {
         self.reads
     }
 
+    /// The histograms of the tasks that have one, in order of arrival.
+    pub(crate) fn times(&self) -> &Table<(TaskId, PollTimes)>
+        ensures { result.now ≡ self.now.shown }
+    {
+        &self.times
+    }
+
     /// No task stands twice, each histogram is in range, the first ones are those that were told, and where none are read there are
     /// none. This does nothing.
     pub(crate) fn see(&self)

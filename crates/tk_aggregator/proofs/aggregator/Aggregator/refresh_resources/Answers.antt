@@ -1,4 +1,6 @@
-use Rattle.std.proofs.Common.{subst}
+use Rattle.std.proofs.Common.{sym, subst}
+use Rattle.tk_stream.specs.Tables.{TablesView}
+use Rattle.tk_aggregator.specs.Standing.{TimesStand}
 use Rattle.tk_aggregator.specs.Aggregates.{ReadResource, ReadsResources}
 use Rattle.tk_aggregator.proofs.StandingLemmas.{whole}
 use Rattle.tk_aggregator.proofs.HandledLemmas.{pairs-count}
@@ -12,8 +14,11 @@ pub invariant_of-self : goal.invariant_of-self
 invariant_of-self g c =
     let a = c.self.inside in
     let k = c.read_resources.ensures in
-    resources_standing a.tables a.told a.tasks.items a.resources.items a.ops.items a.held a.last c.self.invariant.0 c.read_resources.new.tables c.read_resources.new.told
-    k.reads.0 c.read_resources.new.handles.items k.reads.1 k.reads.2 k.alone k.told
+    (
+      resources_standing a.tables a.told a.tasks.items a.resources.items a.ops.items a.held a.last c.self.invariant.0 c.read_resources.new.tables c.read_resources.new.told
+    k.reads.0 c.read_resources.new.handles.items k.reads.1 k.reads.2 k.alone k.told,
+      subst (λ (t : TablesView). TimesStand t.tasks a.timing) (sym k.reads.2) c.self.invariant.1,
+    )
 
 pub returns : goal.returns
 returns g c =
