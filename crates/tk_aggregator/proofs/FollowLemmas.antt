@@ -1,6 +1,6 @@
 -- What taking events in makes of infos and poll counts, and what leaves.
 use Rattle.std.proofs.Common.{◌≡◌, ℕ, List, [], ◌∷◌, ◌++◌, Bool, true, false, cond, nat_eq, Some, None, refl, sym, ap, ap₂, ◌∙◌, subst, append_assoc, append-nil}
-use Rattle.std.specs.Prelude.{Option, if◌then◌else◌, IfSome, IfNone, map, option_map, fold, not}
+use Rattle.std.specs.Prelude.{Option, MatchBool, IfSome, IfNone, map, option_map, fold, not}
 use Rattle.std.specs.Option.{option_map_or}
 use Rattle.std.proofs.lemmas.List.{map-append}
 use Rattle.std.proofs.lemmas.List.Sums.{fold-append}
@@ -104,12 +104,11 @@ times_stay : (id : ℕ) (known : Option KnownTimes) (old new : TimingView) → T
 times_stay id None old new p = (ap (λ t. t.reads) p, ap (λ t. t.told) p)
 times_stay id (Some known) old new p = by old.reads p
   where
-    Takes : Bool → Type 0
-    Takes b = if b then ((row : TimesRow) × (read : TimesSight) × Reads times_ledger (sight id known) row read
-        × (new ≡ record old { shown = old.shown ++ (id, times_shown row) ∷ []; readers = old.readers ++ read ∷ [] })) else (new ≡ old)
+    abbrev Takes : Bool → Type 0
+    Takes b = MatchBool b ((row : TimesRow) × (read : TimesSight) × Reads times_ledger (sight id known) row read
+        × (new ≡ record old { shown = old.shown ++ (id, times_shown row) ∷ []; readers = old.readers ++ read ∷ [] })) (new ≡ old)
 
     by : (b : Bool) → Takes b → (new.reads ≡ old.reads) × (new.told ≡ old.told)
-    unfolding Takes
     by true q = (ap (λ t. t.reads) q.3, ap (λ t. t.told) q.3)
     by false q = (ap (λ t. t.reads) q, ap (λ t. t.told) q)
 

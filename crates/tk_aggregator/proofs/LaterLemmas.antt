@@ -6,7 +6,7 @@ use Rattle.tk_events.specs.Handles.{Taking}
 use Rattle.tk_events.specs.declared.event.Event.{Event}
 use Rattle.tk_events.specs.declared.event.Event.TheVariants as events
 use Rattle.tk_ledgers.specs.Handles.{KnownTimes, Sight, sight}
-use Rattle.std.specs.Prelude.{Option, None, Some, if◌then◌else◌}
+use Rattle.std.specs.Prelude.{Option, None, Some, MatchBool}
 use Rattle.tk_stream.specs.Polls.{one_more}
 use Rattle.tk_core.specs.declared.times.row.TimesRow.{TimesRow}
 use Rattle.tk_ledgers.specs.Times.{TimesSight}
@@ -94,12 +94,11 @@ times_later : (id : ℕ) (known : Option KnownTimes) (old new : TimingView) → 
 times_later id None old new p = subst (λ (t : TimingView). BeginWith times_kind old.shown t.shown × AreLater old.readers t.readers) (sym p) (begins_itself times_kind old.shown, all_same old.readers)
 times_later id (Some known) old new p = by old.reads p
   where
-    Takes : Bool → Type 0
-    Takes b = if b then ((row : TimesRow) × (read : TimesSight) × Reads times_ledger (sight id known) row read
-        × (new ≡ record old { shown = old.shown ++ (id, times_shown row) ∷ []; readers = old.readers ++ read ∷ [] })) else (new ≡ old)
+    abbrev Takes : Bool → Type 0
+    Takes b = MatchBool b ((row : TimesRow) × (read : TimesSight) × Reads times_ledger (sight id known) row read
+        × (new ≡ record old { shown = old.shown ++ (id, times_shown row) ∷ []; readers = old.readers ++ read ∷ [] })) (new ≡ old)
 
     by : (b : Bool) → Takes b → BeginWith times_kind old.shown new.shown × AreLater old.readers new.readers
-    unfolding Takes
     by true q =
         subst (λ (t : TimingView). BeginWith times_kind old.shown t.shown × AreLater old.readers t.readers) (sym q.3)
         (begins_more times_kind old.shown ((id, times_shown q.0) ∷ []), all_more old.readers (q.1 ∷ []))

@@ -4,6 +4,7 @@ pub mod KindLemmas
 pub mod HandleLemmas
 pub mod StandingLemmas
 pub mod HandledLemmas
+pub mod PairLemmas
 pub mod RefreshLemmas
 pub mod TakeInLemmas
 pub mod LeaveLemmas
@@ -17,4 +18,5 @@ pub mod PollTotalLemmas
 pub mod HoldLemmas
 pub mod PublishLemmas
 pub mod PairLemmas
+pub mod TimedLemmas
 pub mod TimingLemmas

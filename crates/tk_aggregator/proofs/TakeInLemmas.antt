@@ -1,6 +1,6 @@
 -- Taking an event in keeps what holds inside, and does what the event says.
 use Rattle.std.proofs.Common.{◌≡◌, ℕ, zero, suc, ◌+◌, ◌≤◌, ◌<◌, List, [], ◌∷◌, ◌++◌, length, Bool, true, false, cond, nat_eq, get_or, None, Some, refl, sym, ap, ap₂, ◌∙◌, subst, inl, inr, arith}
-use Rattle.std.specs.Prelude.{◌⊎◌, if◌then◌else◌, Option, IfSome, IfNone, is_some, not, map, position, option_map}
+use Rattle.std.specs.Prelude.{◌⊎◌, MatchBool, Option, IfSome, IfNone, is_some, not, map, position, option_map}
 use Rattle.std.specs.List.{position_or_len}
 use Rattle.std.proofs.lemmas.List.Quantifiers.{position-Some}
 use Rattle.std.proofs.lemmas.Bool.{eqb-true}
@@ -109,15 +109,15 @@ pub takes_none : (id : ℕ) (known : Option KnownTimes) (t : TimingView) → (t.
 takes_none id None t none = refl
 takes_none id (Some known) t (inr none) = absurd cc
 takes_none id (Some known) t (inl unread) =
-    subst (λ b. if b then ((row : TimesRow) × (read : TimesSight) × Reads times_ledger (sight id known) row read
-    × (t ≡ record t { shown = t.shown ++ (id, times_shown row) ∷ []; readers = t.readers ++ read ∷ [] })) else (t ≡ t)) (sym unread) refl
+    subst (λ b. MatchBool b ((row : TimesRow) × (read : TimesSight) × Reads times_ledger (sight id known) row read
+    × (t ≡ record t { shown = t.shown ++ (id, times_shown row) ∷ []; readers = t.readers ++ read ∷ [] })) (t ≡ t)) (sym unread) refl
 
 -- a task's histogram is taken in as it was read
 pub takes_one : (id : ℕ) (known : KnownTimes) (t u : TimingView) (s : TimesSight) (row : TimesRow) (read : TimesSight) → t.reads ≡ true → s.id ≡ id → s.token ≡ known → Reads times_ledger s row read
     → u ≡ timing_with (id, times_shown row) read t → TakesTimes id (Some known) t u
 takes_one id known t u s row read reads is token reading with =
-    subst (λ b. if b then ((row : TimesRow) × (read : TimesSight) × Reads times_ledger (sight id known) row read
-    × (u ≡ record t { shown = t.shown ++ (id, times_shown row) ∷ []; readers = t.readers ++ read ∷ [] })) else (u ≡ t)) (sym reads)
+    subst (λ b. MatchBool b ((row : TimesRow) × (read : TimesSight) × Reads times_ledger (sight id known) row read
+    × (u ≡ record t { shown = t.shown ++ (id, times_shown row) ∷ []; readers = t.readers ++ read ∷ [] })) (u ≡ t)) (sym reads)
     (row, read, moved_reading, with)
   where
     moved_reading : Reads times_ledger (sight id known) row read
