@@ -17,6 +17,5 @@ pub mod SomeKeptLemmas
 pub mod PollTotalLemmas
 pub mod HoldLemmas
 pub mod PublishLemmas
-pub mod PairLemmas
 pub mod TimedLemmas
 pub mod TimingLemmas

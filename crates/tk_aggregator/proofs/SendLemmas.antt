@@ -200,6 +200,7 @@ leads_on a now snapshot sound =
 
 pub timed_goes_on : (a : Aggregating) (now : ℕ) (snapshot : Bool) → IsSound a → IsDue snapshot a now → IsNumber now → (bytes : List ℕ) → IsTimedStreamTo bytes a.told a.timing.told a.last
     → IsTimedStreamTo (bytes ++ sent_text (line_at snapshot a now)) (after_line snapshot a now).told (after_line snapshot a now).timing.told (after_line snapshot a now).last
+unfolding stream_goes_on goes_on_to
 timed_goes_on a now snapshot sound due fits bytes stream = (
   stream_goes_on a now snapshot sound due fits bytes stream.0,
   times_more [] empty_tables stream.0.sent (sending_at snapshot a now)
@@ -210,4 +211,5 @@ timed_goes_on a now snapshot sound due fits bytes stream = (
 -- a snapshot says the same after any line
 pub timed_opens : (a : Aggregating) (now : ℕ) → IsSound a → IsDue true a now → IsNumber now
     → IsTimedStreamTo (sent_text (line_at true a now)) (after_line true a now).told (after_line true a now).timing.told (after_line true a now).last
+unfolding stream_opens opens_at
 timed_opens a now sound due fits = (stream_opens a now sound due fits, leads_on a now true sound)

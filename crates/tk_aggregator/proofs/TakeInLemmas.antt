@@ -1,6 +1,6 @@
 -- Taking an event in keeps what holds inside, and does what the event says.
 use Rattle.std.proofs.Common.{◌≡◌, ℕ, zero, suc, ◌+◌, ◌≤◌, ◌<◌, List, [], ◌∷◌, ◌++◌, length, Bool, true, false, cond, nat_eq, get_or, None, Some, refl, sym, ap, ap₂, ◌∙◌, subst, inl, inr, arith}
-use Rattle.std.specs.Prelude.{◌⊎◌, MatchBool, Option, IfSome, IfNone, is_some, not, map, position, option_map}
+use Rattle.std.specs.Prelude.{◌⊎◌, Option, IfSome, IfNone, is_some, not, map, position, option_map}
 use Rattle.std.specs.List.{position_or_len}
 use Rattle.std.proofs.lemmas.List.Quantifiers.{position-Some}
 use Rattle.std.proofs.lemmas.Bool.{eqb-true}
@@ -25,6 +25,7 @@ use Rattle.tk_aggregator.proofs.TimingLemmas.{begin_more, known_later, known_mor
 use Rattle.tk_stream.specs.Tables.{TablesView, PollCounts, counts_id, changed_at, put_item, task_with, with_task, resource_with, with_resource, op_with, with_op}
 use Rattle.tk_aggregator.proofs.HandleLemmas.{reads_read, task_reads, resource_reads, op_reads}
 use Rattle.tk_aggregator.proofs.HandledLemmas.{Both, TasksStand, ResourcesStand, OpsStand, holds_more, holds_roomier, tasks_handled, resources_handled, ops_handled, tasks_stand, resources_stand, ops_stand, counts_stand}
+use Rattle.tk_aggregator.proofs.FollowLemmas.{TakesWhere}
 use Rattle.tk_aggregator.proofs.StandingLemmas.{whole}
 use Rattle.tk_aggregator.specs.Timing.{TimingView, times_ledger, timing_with}
 use Rattle.tk_stream.specs.Times.{times_shown}
@@ -109,16 +110,13 @@ pub takes_none : (id : ℕ) (known : Option KnownTimes) (t : TimingView) → (t.
 takes_none id None t none = refl
 takes_none id (Some known) t (inr none) = absurd cc
 takes_none id (Some known) t (inl unread) =
-    subst (λ b. MatchBool b ((row : TimesRow) × (read : TimesSight) × Reads times_ledger (sight id known) row read
-    × (t ≡ record t { shown = t.shown ++ (id, times_shown row) ∷ []; readers = t.readers ++ read ∷ [] })) (t ≡ t)) (sym unread) refl
+    subst (TakesWhere id known t t) (sym unread) refl
 
 -- a task's histogram is taken in as it was read
 pub takes_one : (id : ℕ) (known : KnownTimes) (t u : TimingView) (s : TimesSight) (row : TimesRow) (read : TimesSight) → t.reads ≡ true → s.id ≡ id → s.token ≡ known → Reads times_ledger s row read
     → u ≡ timing_with (id, times_shown row) read t → TakesTimes id (Some known) t u
 takes_one id known t u s row read reads is token reading with =
-    subst (λ b. MatchBool b ((row : TimesRow) × (read : TimesSight) × Reads times_ledger (sight id known) row read
-    × (u ≡ record t { shown = t.shown ++ (id, times_shown row) ∷ []; readers = t.readers ++ read ∷ [] })) (u ≡ t)) (sym reads)
-    (row, read, moved_reading, with)
+    subst (TakesWhere id known t u) (sym reads) (row, read, moved_reading, with)
   where
     moved_reading : Reads times_ledger (sight id known) row read
     moved_reading = record {
