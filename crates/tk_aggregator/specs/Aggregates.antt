@@ -143,7 +143,7 @@ abbrev pub TakesTimes : ℕ → Option KnownTimes → TimingView → TimingView 
 TakesTimes id None old new = new ≡ old
 TakesTimes id (Some known) old new =
     MatchBool old.reads ((row : TimesRow) × (read : TimesSight) × Reads times_ledger (sight id known) row read
-        × (new ≡ record old { shown = old.shown ++ (id, times_shown row) ∷ []; readers = old.readers ++ read ∷ [] })) (new ≡ old)
+    × (new ≡ record old { shown = old.shown ++ (id, times_shown row) ∷ []; readers = old.readers ++ read ∷ [] })) (new ≡ old)
 
 -- a new item goes last, with the row that its handle then reads, and a task with its histogram. One whose id is there changes nothing.
 -- A poll operation is counted

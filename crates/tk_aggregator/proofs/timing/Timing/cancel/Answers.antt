@@ -1,4 +1,4 @@
-use Rattle.std.proofs.Common.{◌≡◌, ◌≤◌, ℕ, List, length, take, vec_capacity, sym, subst, ap, ap₂, ◌∙◌, arith}
+use Rattle.std.proofs.Common.{◌≤◌, List, length, take, vec_capacity, sym, subst, ap, ◌∙◌, arith}
 use Rattle.tk_stream.specs.Fronts.{told_item, with_rows}
 use Rattle.tk_stream.specs.Times.{TaskTimes, times_with}
 use Rattle.tk_aggregator.specs.Timing.{TimingView, AreTimed}

@@ -1,4 +1,4 @@
-use Rattle.std.proofs.Common.{◌≡◌, ◌∷◌, ◌++◌, [], length, vec_capacity, ap, ap₂, ◌∙◌, arith}
+use Rattle.std.proofs.Common.{◌∷◌, ◌++◌, [], length, vec_capacity, ap, ap₂, ◌∙◌, arith}
 use Rattle.tk_stream.specs.Tables.{changed_at}
 use Rattle.tk_stream.specs.Times.{TaskTimes, times_shown, times_with}
 use Rattle.tk_aggregator.specs.Timing.{TimingView}

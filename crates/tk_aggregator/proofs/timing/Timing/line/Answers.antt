@@ -1,4 +1,4 @@
-use Rattle.std.proofs.Common.{◌≡◌, [], List, Option, sym, ap, ◌∙◌}
+use Rattle.std.proofs.Common.{[], List, sym, ap, ◌∙◌}
 use Rattle.std.specs.Prelude.{if◌then◌else◌, option_map}
 use Rattle.tk_stream.specs.Fronts.{Telling, told_item, with_rows}
 use Rattle.tk_stream.specs.Times.{TaskTimes, times_with}
