@@ -8,7 +8,7 @@ use Rattle.tk_report.specs.declared.view.View.TheVariants.{Report, Lint}
 use Rattle.taskscope.specs.declared.command_line.Request.TheVariants.{Demo, Metrics, Page, Run, Show, Watch}
 use Rattle.tk_frame.specs.declared.query.Column.TheVariants.{Sched}
 use Rattle.tk_metrics.specs.declared.by.By.TheVariants.{Id}
-use Rattle.taskscope.specs.Requests.{AsksFor, AsksForHelp, AsksForInput, IsMistake, file_of, filter_of, plain_lints, plain_metrics, plain_watch, refusals, to_of}
+use Rattle.taskscope.specs.Requests.{AsksFor, AsksForHelp, AsksForInput, AsksForVersion, IsMistake, file_of, filter_of, plain_lints, plain_metrics, plain_watch, refusals, to_of}
 
 -- the program is called by some name
 module _ (name : List ℕ) where
@@ -123,6 +123,18 @@ module _ (name : List ℕ) where
   help_of_run : AsksForHelp (name ∷ codes "run" ∷ codes "--help" ∷ [])
   unfolding clap_on_literals
   help_of_run = refl
+
+  version_flag : AsksForVersion (name ∷ codes "--version" ∷ [])
+  unfolding clap_on_literals
+  version_flag = refl
+
+  short_version_flag : AsksForVersion (name ∷ codes "-V" ∷ [])
+  unfolding clap_on_literals
+  short_version_flag = refl
+
+  version_of_view : refusals (name ∷ codes "view" ∷ codes "--version" ∷ []) ≡ UnknownArgument ∷ []
+  unfolding clap_on_literals
+  version_of_view = refl
 
   -- what follows `help` may name no command
   help_command : refusals (name ∷ codes "help" ∷ codes "run" ∷ []) ≡ DisplayHelp ∷ InvalidSubcommand ∷ []

@@ -107,8 +107,12 @@ metrics_command =
 abbrev pub requiring : App → App
 requiring = on_top (λ s. record s { subcommand_required = true })
 
+-- `--version` is there
+abbrev pub versioned : App → App
+versioned = on_top (λ s. record s { has_version = true })
+
 abbrev pub bare : App
-bare = requiring (new_app (codes "taskscope"))
+bare = requiring (versioned (new_app (codes "taskscope")))
 
 -- `run`, `view` and `lint`
 abbrev pub first_words : App
@@ -336,6 +340,10 @@ at_keys other = None
 -- the words ask for help, and make no mistake
 abbrev pub AsksForHelp : List (List ℕ) → Type 0
 AsksForHelp words = refusals words ≡ kind.DisplayHelp ∷ []
+
+-- the words ask for the program's version, and make no mistake
+abbrev pub AsksForVersion : List (List ℕ) → Type 0
+AsksForVersion words = refusals words ≡ kind.DisplayVersion ∷ []
 
 -- the error is a mistake in the words, and neither a text that they ask for nor want of memory
 abbrev pub is_mistake : ErrorKind → Bool

@@ -99,6 +99,9 @@ const AFTER_HELP: &str =
     "The status is 0 if all was done, 1 after a fault (one line on standard error), 2 after words that ask for
 nothing that the program does, and 3 where `lint` found warnings.";
 
+// That of the crate for programs in Rust, rust/taskscope.
+const VERSION: &str = "0.1.0";
+
 const RUN_ABOUT: &str = "Runs a script and writes its stream to standard output";
 
 const RUN_LONG_ABOUT: &str = "Runs a script and writes its stream to standard output.
@@ -501,6 +504,7 @@ fn top_command<'a>(alloc: Global) -> Result<Command<'a>, Error>
             .about(ABOUT)
             .long_about(LONG_ABOUT)
             .after_help(AFTER_HELP)
+            .version(VERSION)
             .subcommand_required(true),
     )
 }

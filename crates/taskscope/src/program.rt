@@ -4,7 +4,7 @@ ghost use Rattle.std.specs.Option.{option_map};
 ghost use Rattle.clap.specs.Values.{kind_of};
 ghost use Rattle.tk_report.specs.Timed.{no_times};
 ghost use Rattle.taskscope.specs.Requests as spec;
-ghost use Rattle.taskscope.specs.Requests.{AsksForFile, AsksForHelp, AsksForInput, IsMistake, IsPlain, asked, filter_of, is_mistake, plain_lints, plain_metrics, plain_watch, refusals, texts, to_of};
+ghost use Rattle.taskscope.specs.Requests.{AsksForFile, AsksForHelp, AsksForInput, AsksForVersion, IsMistake, IsPlain, asked, filter_of, is_mistake, plain_lints, plain_metrics, plain_watch, refusals, texts, to_of};
 ghost use Rattle.taskscope.specs.Program.{Does, DoesOfFile, KeepsStream, WatchesAtKeys, WatchesStream, filter_text, page_status, screen_by, status_at, status_of, view_status};
 
 use crate::command_line::{Call, MetricsOptions, Request, WatchOptions, call_of};
@@ -374,11 +374,12 @@ where
     }
 }
 
-// What clap answers when it gives no request: help, a mistake in the words, or want of memory.
+// What clap answers when it gives no request: help, the version, a mistake in the words, or want of memory.
 fn answer<O: Write, E: Write>(error: Error, output: &mut O, faults: &mut E) -> u8
     ensures memory { kind_of error ≡ ErrorKind.OutOfMemory → (result ≡ FAULT) × (output.new ≡ output.old) }
     ensures mistake { is_mistake (kind_of error) ≡ true → (result ≡ USAGE) × (output.new ≡ output.old) }
     ensures help { kind_of error ≡ ErrorKind.DisplayHelp → result ≤ FAULT }
+    ensures version { kind_of error ≡ ErrorKind.DisplayVersion → result ≤ FAULT }
     ensures usage { result ≡ USAGE → output.new ≡ output.old }
     ensures status { result ≤ USAGE }
 {
@@ -468,8 +469,9 @@ where
     // A mistake writes nothing to the output. Its status is 2, or 1 where memory ran out.
     ensures mistake { IsMistake (texts words.now)
         → (output.new ≡ output.old) × ((result ≡ USAGE) ⊎ (result ≡ FAULT)) }
-    // Help is no mistake.
+    // Help is no mistake, and neither is the version.
     ensures help { AsksForHelp (texts words.now) → result ≤ FAULT }
+    ensures version { AsksForVersion (texts words.now) → result ≤ FAULT }
     ensures usage { result ≡ USAGE → (input.new ≡ input.old) × (output.new ≡ output.old) }
     ensures status { result ≤ WARNED }
 {
