@@ -39,8 +39,10 @@ with_block i settings c kept sent b stands = record {
   holds = stands.holds;
   capacity_said = stands.capacity_said;
   retention_said = stands.retention_said;
+  times_said = stands.times_said;
   begun = stands.begun;
   capacity_is = stands.capacity_is;
+  times_is = stands.times_is;
   least = stands.least;
   moment = stands.moment;
   numbers = stands.numbers;
@@ -61,8 +63,10 @@ opened i new settings c kept sent stands is = subst (λ (n : Interpreter). Stand
   };
   capacity_said = stands.capacity_said;
   retention_said = stands.retention_said;
+  times_said = stands.times_said;
   begun = refl;
   capacity_is = stands.capacity_is;
+  times_is = stands.times_is;
   least = stands.least;
   moment = stands.moment;
   numbers = stands.numbers;
@@ -93,6 +97,7 @@ step_block c line (said.change_op n i change) = refl
 step_block c line (said.poll_op r o t name ready) = refl
 step_block c line (said.capacity n) = refl
 step_block c line (said.retention n) = refl
+step_block c line said.times = refl
 step_block c line (said.publish m whole) = refl
 
 none_some : {X : Type 0} {x : X} → None ≡ Some x → ⊥

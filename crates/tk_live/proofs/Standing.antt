@@ -51,8 +51,10 @@ capacity_told i new settings k kept sent stands is = unmarked new settings (reco
   holds = stands_holds stands.holds;
   capacity_said = refl;
   retention_said = stands.retention_said;
+  times_said = stands.times_said;
   begun = stands.begun;
   capacity_is = stands.capacity_is;
+  times_is = stands.times_is;
   least = stands.least;
   moment = stands.moment;
   numbers = stands.numbers;
@@ -69,8 +71,10 @@ retention_told i new settings k kept sent stands is = unmarked new settings (rec
   holds = stands_holds stands.holds;
   capacity_said = stands.capacity_said;
   retention_said = refl;
+  times_said = stands.times_said;
   begun = stands.begun;
   capacity_is = stands.capacity_is;
+  times_is = stands.times_is;
   least = stands.least;
   moment = stands.moment;
   numbers = stands.numbers;
@@ -78,6 +82,26 @@ retention_told i new settings k kept sent stands is = unmarked new settings (rec
 }))
   where
     stands_holds : Holds i k.names → Holds (record i { retention_said = true }) k.names
+    stands_holds h = record { tasks_are = h.tasks_are; owners = h.owners; wakers_are = h.wakers_are; resources_are = h.resources_are; users_are = h.users_are; ops_are = h.ops_are }
+
+pub times_told : (i new : Interpreter) (settings : Settings) (k : Course) (kept : List Bool) (sent : List Sending) → StandsFor i settings k kept sent → new ≡ record i { times_said = true }
+    → StandsFor new settings (record k { times_said = true }) (kept ++ []) sent
+times_told i new settings k kept sent stands is = unmarked new settings (record k { times_said = true }) kept sent (subst (λ (n : Interpreter). StandsFor n settings (record k { times_said = true }) kept sent) (sym is) (record {
+  keeps = record { offered = stands.keeps.offered; takes = stands.keeps.takes; are = stands.keeps.are };
+  holds = stands_holds stands.holds;
+  capacity_said = stands.capacity_said;
+  retention_said = stands.retention_said;
+  times_said = refl;
+  begun = stands.begun;
+  capacity_is = stands.capacity_is;
+  times_is = stands.times_is;
+  least = stands.least;
+  moment = stands.moment;
+  numbers = stands.numbers;
+  going = stands.going;
+}))
+  where
+    stands_holds : Holds i k.names → Holds (record i { times_said = true }) k.names
     stands_holds h = record { tasks_are = h.tasks_are; owners = h.owners; wakers_are = h.wakers_are; resources_are = h.resources_are; users_are = h.users_are; ops_are = h.ops_are }
 
 -- handles went on, as the text tells of them
@@ -90,8 +114,10 @@ went_on i new settings k names kept sent stands is holds same =
       holds = h;
       capacity_said = stands.capacity_said;
       retention_said = stands.retention_said;
+      times_said = stands.times_said;
       begun = stands.begun;
       capacity_is = stands.capacity_is;
+      times_is = stands.times_is;
       least = stands.least;
       moment = stands.moment;
       numbers = stands.numbers;
@@ -129,6 +155,7 @@ leaves_same k line (said.change_op n i change) = refl
 leaves_same k line (said.poll_op r o t name ready) = refl
 leaves_same k line (said.capacity n) = refl
 leaves_same k line (said.retention n) = refl
+leaves_same k line said.times = refl
 leaves_same k line (said.publish m whole) = refl
 
 -- what was there stays

@@ -111,8 +111,10 @@ pub record StandsFor (i : Interpreter) (settings : Settings) (c : Course) (kept 
   pub holds : Holds i c.names
   pub capacity_said : i.capacity_said ≡ c.capacity_said
   pub retention_said : i.retention_said ≡ c.retention_said
+  pub times_said : i.times_said ≡ c.times_said
   pub begun : i.begun ≡ c.begun
   pub capacity_is : i.capacity ≡ settings.capacity
+  pub times_is : i.times ≡ settings.times
   pub least : 0 < settings.capacity
   pub moment : i.aggregator.tables.now ≡ c.now
   pub numbers : i.aggregator.last ≡ length c.due

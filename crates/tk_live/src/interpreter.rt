@@ -24,6 +24,8 @@ pub(crate) struct Interpreter {
     pub(crate) taker: Taker,
     pub(crate) aggregator: Aggregator,
     pub(crate) capacity: u64,
+    // Whether each task gets a histogram of how long its polls ran.
+    pub(crate) times: bool,
     pub(crate) tasks: Vec<Option<TaskOwner>>,
     pub(crate) wakers: Vec<Option<WakerHandle>>,
     pub(crate) resources: Vec<Option<ResourceOwner>>,
@@ -32,6 +34,7 @@ pub(crate) struct Interpreter {
     // Which settings were said, and whether there was any other command.
     pub(crate) capacity_said: bool,
     pub(crate) retention_said: bool,
+    pub(crate) times_said: bool,
     pub(crate) begun: bool,
 }
 
@@ -49,7 +52,7 @@ impl Interpreter {
     ghost use Rattle.std.specs.Prelude.{◌≡◌, ◌≤◌, ◌||◌, not, ℕ, List, [], Bool, IfOk};
     ghost use Rattle.std.specs.Vec.{vec_capacity};
     ghost use Rattle.tk_stream.specs.Streams.{Sending};
-    ghost use Rattle.tk_script.specs.Commands.{view, IsGood, capacity, retention, is_setting};
+    ghost use Rattle.tk_script.specs.Commands.{view, IsGood, capacity, retention, times, is_setting};
     ghost use Rattle.tk_live.specs.Course.{Course, step, step_on, start_of_all};
     ghost use Rattle.tk_live.specs.Ran.{picked, AreLinesOf};
     ghost use Rattle.tk_live.specs.Runs.{StandsFor, Stays, Comes, Does};
@@ -78,6 +81,7 @@ impl Interpreter {
             taker,
             aggregator,
             capacity: settings.capacity,
+            times: settings.times,
             tasks: Vec::new(alloc),
             wakers: Vec::new(alloc),
             resources: Vec::new(alloc),
@@ -85,6 +89,7 @@ impl Interpreter {
             ops: Vec::new(alloc),
             capacity_said: false,
             retention_said: false,
+            times_said: false,
             begun: false,
         })
     }
@@ -109,7 +114,7 @@ impl Interpreter {
         }
     }
 
-    /// What comes of a command, on a line of this number, and that no setting may stand behind it if it is none.
+    /// What comes of a command, on a line of this number, and that no setting may stand after it if it is none.
     pub(crate) fn run<R: Wait, W: Write>(
         &mut self,
         rt: &R,
@@ -199,6 +204,7 @@ impl Interpreter {
             } => self.poll_op(rt, alloc, resource, op, task, name, ready),
             Command::Capacity { count: _ } => self.say_capacity(),
             Command::Retention { span: _ } => self.say_retention(),
+            Command::Times => self.say_times(),
             Command::Publish { moment, whole } => self.publish(rt, moment, whole, writer),
         }
     }
@@ -222,6 +228,17 @@ impl Interpreter {
             return Err(Stop::BadCommand);
         }
         self.retention_said = true;
+        Ok(())
+    }
+
+    // And of the histograms.
+    fn say_times(&mut self) -> Result<(), Stop>
+        ensures { (line : ℕ) → Does line times self.old self.new result }
+    {
+        if self.begun || self.times_said {
+            return Err(Stop::BadCommand);
+        }
+        self.times_said = true;
         Ok(())
     }
 }

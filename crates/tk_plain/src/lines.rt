@@ -125,7 +125,13 @@ impl Plain {
     ) -> Result<Vec<u8>, AllocError> {
         if self.times_said {
             let times = times::list(self.alloc, self.times.as_slice(), next, whole)?;
-            return later_version(self.alloc, text.as_slice(), leaving, times.as_str(), b"\"v\":3}");
+            return later_version(
+                self.alloc,
+                text.as_slice(),
+                leaving,
+                times.as_str(),
+                b"\"v\":3}",
+            );
         }
         if self.retention.is_none() {
             return Ok(text);

@@ -58,8 +58,10 @@ returns-in-Ok g c line settings k kept sent stands =
         };
         capacity_said = stands.capacity_said;
         retention_said = stands.retention_said;
+        times_said = stands.times_said;
         begun = stands.begun;
         capacity_is = stands.capacity_is;
+        times_is = stands.times_is;
         least = stands.least;
         moment = ap (λ x. x.tables.now) state;
         numbers = omega (arith, next, count, length-append k.due (record { moment = now; whole = whole } ∷ []));
