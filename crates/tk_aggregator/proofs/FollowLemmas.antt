@@ -1,6 +1,6 @@
 -- What taking events in makes of infos and poll counts, and what leaves.
 use Rattle.std.proofs.Common.{◌≡◌, ℕ, List, [], ◌∷◌, ◌++◌, Bool, true, false, cond, nat_eq, Some, None, refl, sym, ap, ap₂, ◌∙◌, subst, append_assoc, append-nil}
-use Rattle.std.specs.Prelude.{Option, IfSome, IfNone, map, option_map, fold, not}
+use Rattle.std.specs.Prelude.{Option, if◌then◌else◌, IfSome, IfNone, map, option_map, fold, not}
 use Rattle.std.specs.Option.{option_map_or}
 use Rattle.std.proofs.lemmas.List.{map-append}
 use Rattle.std.proofs.lemmas.List.Sums.{fold-append}
@@ -22,7 +22,13 @@ use Rattle.tk_events.specs.declared.item.Offer.{Offer}
 use Rattle.tk_aggregator.specs.declared.stream_error.StreamError.{StreamError}
 use Rattle.tk_aggregator.specs.declared.stream_error.StreamError.TheVariants as errors
 use Rattle.tk_aggregator.specs.Absorbing.{Infos, Step, took, left, infos_of, no_infos, with_info, absorbed, absorb, infos_without, stepped, infos_after, events_taken}
-use Rattle.tk_aggregator.specs.Aggregates.{Aggregating, Gathers, Collects, RunsOut, TakesIn, TakesAllIn, FollowsTaker, IsSameStream, Refuses, held_events, free, without, pruned, having_told, after_line}
+use Rattle.tk_core.specs.declared.times.row.TimesRow.{TimesRow}
+use Rattle.tk_ledgers.specs.Handles.{KnownTimes, sight}
+use Rattle.tk_ledgers.specs.Times.{TimesSight}
+use Rattle.tk_stream.specs.Times.{times_shown}
+use Rattle.tk_aggregator.specs.Readings.{Reads}
+use Rattle.tk_aggregator.specs.Timing.{TimingView, times_ledger}
+use Rattle.tk_aggregator.specs.Aggregates.{Aggregating, TakesTimes, Gathers, Collects, RunsOut, TakesIn, TakesAllIn, FollowsTaker, IsSameStream, Refuses, held_events, free, without, pruned, having_told, after_line}
 use Rattle.tk_stream.specs.Applied.{without_gone}
 use Rattle.tk_stream.specs.Lines.{GoneView}
 use Rattle.tk_stream.specs.Retention.{due_of}
@@ -93,33 +99,47 @@ gathered_is_absorbed a t taken b u g = takes_all_infos (free a) taken (free b) g
 
 -- ---- the stream stays where it is
 
+-- taking in a task's histogram leaves what was told
+times_stay : (id : ℕ) (known : Option KnownTimes) (old new : TimingView) → TakesTimes id known old new → (new.reads ≡ old.reads) × (new.told ≡ old.told)
+times_stay id None old new p = (ap (λ t. t.reads) p, ap (λ t. t.told) p)
+times_stay id (Some known) old new p = by old.reads p
+  where
+    Takes : Bool → Type 0
+    Takes b = if b then ((row : TimesRow) × (read : TimesSight) × Reads times_ledger (sight id known) row read
+        × (new ≡ record old { shown = old.shown ++ (id, times_shown row) ∷ []; readers = old.readers ++ read ∷ [] })) else (new ≡ old)
+
+    by : (b : Bool) → Takes b → (new.reads ≡ old.reads) × (new.told ≡ old.told)
+    unfolding Takes
+    by true q = (ap (λ t. t.reads) q.3, ap (λ t. t.told) q.3)
+    by false q = (ap (λ t. t.reads) q, ap (λ t. t.told) q)
+
 takes_stays : (old : Aggregating) (e : Event) (new : Aggregating) → TakesIn old e new → IsSameStream old new
-takes_stays old (events.Task info handle) new p = by_case (task_with info.id old.tables.tasks) _ _ (IsSameStream old new) (λ q. Unit {0}) p.0 p.1 (λ x is q. stays q) (λ is q. record { told = ap (λ x. x.told) q.3; last = ap (λ x. x.last) q.3; broken = ap (λ x. x.broken) q.3; now = ap (λ x. x.tables.now) q.3; retention = ap (λ x. x.retention) q.3 }) tt
+takes_stays old (events.Task info handle) new p = by_case (task_with info.id old.tables.tasks) _ _ (IsSameStream old new) (λ q. Unit {0}) p.0 p.1 (λ x is q. stays q) (λ is q. record { told = ap (λ x. x.told) q.3; last = ap (λ x. x.last) q.3; broken = ap (λ x. x.broken) q.3; now = ap (λ x. x.tables.now) q.3; retention = ap (λ x. x.retention) q.3; reads = (times_stay info.id handle.times old.timing new.timing q.4).0; times_told = (times_stay info.id handle.times old.timing new.timing q.4).1 }) tt
   where
     stays : new ≡ old → IsSameStream old new
-    stays q = record { told = ap (λ x. x.told) q; last = ap (λ x. x.last) q; broken = ap (λ x. x.broken) q; now = ap (λ x. x.tables.now) q; retention = ap (λ x. x.retention) q }
-takes_stays old (events.Resource info handle) new p = by_case (resource_with info.id old.tables.resources) _ _ (IsSameStream old new) (λ q. Unit {0}) p.0 p.1 (λ x is q. stays q) (λ is q. record { told = ap (λ x. x.told) q.3; last = ap (λ x. x.last) q.3; broken = ap (λ x. x.broken) q.3; now = ap (λ x. x.tables.now) q.3; retention = ap (λ x. x.retention) q.3 }) tt
+    stays q = record { told = ap (λ x. x.told) q; last = ap (λ x. x.last) q; broken = ap (λ x. x.broken) q; now = ap (λ x. x.tables.now) q; retention = ap (λ x. x.retention) q; reads = ap (λ x. x.timing.reads) q; times_told = ap (λ x. x.timing.told) q }
+takes_stays old (events.Resource info handle) new p = by_case (resource_with info.id old.tables.resources) _ _ (IsSameStream old new) (λ q. Unit {0}) p.0 p.1 (λ x is q. stays q) (λ is q. record { told = ap (λ x. x.told) q.3; last = ap (λ x. x.last) q.3; broken = ap (λ x. x.broken) q.3; now = ap (λ x. x.tables.now) q.3; retention = ap (λ x. x.retention) q.3; reads = ap (λ x. x.timing.reads) q.3; times_told = ap (λ x. x.timing.told) q.3 }) tt
   where
     stays : new ≡ old → IsSameStream old new
-    stays q = record { told = ap (λ x. x.told) q; last = ap (λ x. x.last) q; broken = ap (λ x. x.broken) q; now = ap (λ x. x.tables.now) q; retention = ap (λ x. x.retention) q }
-takes_stays old (events.Op info handle) new p = by_case (op_with info.id old.tables.ops) _ _ (IsSameStream old new) (λ q. Unit {0}) p.0 p.1 (λ x is q. stays q) (λ is q. record { told = ap (λ x. x.told) q.3; last = ap (λ x. x.last) q.3; broken = ap (λ x. x.broken) q.3; now = ap (λ x. x.tables.now) q.3; retention = ap (λ x. x.retention) q.3 }) tt
+    stays q = record { told = ap (λ x. x.told) q; last = ap (λ x. x.last) q; broken = ap (λ x. x.broken) q; now = ap (λ x. x.tables.now) q; retention = ap (λ x. x.retention) q; reads = ap (λ x. x.timing.reads) q; times_told = ap (λ x. x.timing.told) q }
+takes_stays old (events.Op info handle) new p = by_case (op_with info.id old.tables.ops) _ _ (IsSameStream old new) (λ q. Unit {0}) p.0 p.1 (λ x is q. stays q) (λ is q. record { told = ap (λ x. x.told) q.3; last = ap (λ x. x.last) q.3; broken = ap (λ x. x.broken) q.3; now = ap (λ x. x.tables.now) q.3; retention = ap (λ x. x.retention) q.3; reads = ap (λ x. x.timing.reads) q.3; times_told = ap (λ x. x.timing.told) q.3 }) tt
   where
     stays : new ≡ old → IsSameStream old new
-    stays q = record { told = ap (λ x. x.told) q; last = ap (λ x. x.last) q; broken = ap (λ x. x.broken) q; now = ap (λ x. x.tables.now) q; retention = ap (λ x. x.retention) q }
-takes_stays old (events.Poll op) new p = record { told = ap (λ x. x.told) p; last = ap (λ x. x.last) p; broken = ap (λ x. x.broken) p; now = ap (λ x. x.tables.now) p; retention = ap (λ x. x.retention) p }
+    stays q = record { told = ap (λ x. x.told) q; last = ap (λ x. x.last) q; broken = ap (λ x. x.broken) q; now = ap (λ x. x.tables.now) q; retention = ap (λ x. x.retention) q; reads = ap (λ x. x.timing.reads) q; times_told = ap (λ x. x.timing.told) q }
+takes_stays old (events.Poll op) new p = record { told = ap (λ x. x.told) p; last = ap (λ x. x.last) p; broken = ap (λ x. x.broken) p; now = ap (λ x. x.tables.now) p; retention = ap (λ x. x.retention) p; reads = ap (λ x. x.timing.reads) p; times_told = ap (λ x. x.timing.told) p }
 
 pub then_same : (a b c : Aggregating) → IsSameStream a b → IsSameStream b c → IsSameStream a c
-then_same a b c p q = record { told = q.told ∙ p.told; last = q.last ∙ p.last; broken = q.broken ∙ p.broken; now = q.now ∙ p.now; retention = q.retention ∙ p.retention }
+then_same a b c p q = record { told = q.told ∙ p.told; last = q.last ∙ p.last; broken = q.broken ∙ p.broken; now = q.now ∙ p.now; retention = q.retention ∙ p.retention; reads = q.reads ∙ p.reads; times_told = q.times_told ∙ p.times_told }
 
 takes_all_stays : (old : Aggregating) (es : List Event) (new : Aggregating) → TakesAllIn old es new → IsSameStream old new
-takes_all_stays old [] new all = record { told = ap (λ x. x.told) all; last = ap (λ x. x.last) all; broken = ap (λ x. x.broken) all; now = ap (λ x. x.tables.now) all; retention = ap (λ x. x.retention) all }
+takes_all_stays old [] new all = record { told = ap (λ x. x.told) all; last = ap (λ x. x.last) all; broken = ap (λ x. x.broken) all; now = ap (λ x. x.tables.now) all; retention = ap (λ x. x.retention) all; reads = ap (λ x. x.timing.reads) all; times_told = ap (λ x. x.timing.told) all }
 takes_all_stays old (e ∷ es) new all = then_same old all.0 new (takes_stays old e all.0 all.1) (takes_all_stays all.0 es new all.2)
 
 pub gathers_stays : (a : Aggregating) (t : Taking) (taken : List Event) (b : Aggregating) (u : Taking) → Gathers a t taken b u → IsSameStream a b
-gathers_stays a t taken b u g = let s = takes_all_stays (free a) taken (free b) g.taken_in in record { told = s.told; last = s.last; broken = s.broken; now = s.now; retention = s.retention }
+gathers_stays a t taken b u g = let s = takes_all_stays (free a) taken (free b) g.taken_in in record { told = s.told; last = s.last; broken = s.broken; now = s.now; retention = s.retention; reads = s.reads; times_told = s.times_told }
 
 pub collects_stays : (a : Aggregating) (t : Taking) (limit count : ℕ) (b : Aggregating) (u : Taking) → Collects a t limit count b u → IsSameStream a b
-collects_stays a t limit count b u k = let s = gathers_stays a t k.taken k.gathered k.taker k.gathers in record { told = ap (λ x. x.told) k.now ∙ s.told; last = ap (λ x. x.last) k.now ∙ s.last; broken = ap (λ x. x.broken) k.now ∙ s.broken; now = ap (λ x. x.tables.now) k.now ∙ s.now; retention = ap (λ x. x.retention) k.now ∙ s.retention }
+collects_stays a t limit count b u k = let s = gathers_stays a t k.taken k.gathered k.taker k.gathers in record { told = ap (λ x. x.told) k.now ∙ s.told; last = ap (λ x. x.last) k.now ∙ s.last; broken = ap (λ x. x.broken) k.now ∙ s.broken; now = ap (λ x. x.tables.now) k.now ∙ s.now; retention = ap (λ x. x.retention) k.now ∙ s.retention; reads = ap (λ x. x.timing.reads) k.now ∙ s.reads; times_told = ap (λ x. x.timing.told) k.now ∙ s.times_told }
 
 -- ---- a course goes on
 

@@ -17,6 +17,7 @@ use Rattle.tk_stream.specs.declared.task.Task.{Task}
 use Rattle.tk_aggregator.specs.Aggregates.{Pairs, ReadTask, ReadResource, ReadOp}
 use Rattle.tk_aggregator.specs.Readings.{EachReads}
 use Rattle.tk_aggregator.specs.Standing.{IsStanding, ResourceFits, OpFits, TellsSame, told_list}
+use Rattle.tk_aggregator.proofs.PairLemmas.{pair_more, pairs_read}
 use Rattle.tk_aggregator.proofs.ReadingLemmas.{length-with_rows, with_rows-more}
 
 module _ {Item Handle : Type 0} (P : Item → Handle → Type 0) where
@@ -25,12 +26,6 @@ module _ {Item Handle : Type 0} (P : Item → Handle → Type 0) where
   pairs-count [] (s ∷ ss) all = absurd all
   pairs-count (x ∷ xs) [] all = absurd all
   pairs-count (x ∷ xs) (s ∷ ss) all = ap suc (pairs-count xs ss all.1)
-
-  pairs-push : (xs : List Item) (ss : List Handle) (x : Item) (s : Handle) → Pairs P xs ss → P x s → Pairs P (xs ++ x ∷ []) (ss ++ s ∷ [])
-  pairs-push [] [] x s all p = (p, tt)
-  pairs-push [] (t ∷ ss) x s all p = absurd all
-  pairs-push (y ∷ xs) [] x s all p = absurd all
-  pairs-push (y ∷ xs) (t ∷ ss) x s all p = (all.0, pairs-push xs ss x s all.1 p)
 
 module _ {Item Handle : Type 0} (P Q : Item → Handle → Type 0) where
   -- two relations of the same pairs
@@ -63,18 +58,6 @@ rows-count reads (u ∷ ss) [] ts all = absurd all
 rows-count reads (u ∷ ss) (q ∷ rs) [] all = absurd all
 rows-count reads (u ∷ ss) (q ∷ rs) (v ∷ ts) all = ap suc (rows-count reads ss rs ts all.1)
 
-pairs-read : {Item Handle Row : Type 0} (with_row : Item → Row → Item) (reads : Handle → Row → Handle → Type 0) (P : Item → Handle → Type 0)
-    → ((x : Item) (s : Handle) (r : Row) (t : Handle) → P x s → reads s r t → P (with_row x r) t)
-    → (xs : List Item) (ss : List Handle) (rs : List Row) (ts : List Handle) → Pairs P xs ss → EachReads reads ss rs ts → Pairs P (with_rows with_row xs rs) ts
-pairs-read with_row reads P step [] [] [] [] all each = tt
-pairs-read with_row reads P step [] [] [] (t ∷ ts) all each = absurd each
-pairs-read with_row reads P step [] [] (r ∷ rs) ts all each = absurd each
-pairs-read with_row reads P step [] (s ∷ ss) rs ts all each = absurd all
-pairs-read with_row reads P step (x ∷ xs) [] rs ts all each = absurd all
-pairs-read with_row reads P step (x ∷ xs) (s ∷ ss) [] ts all each = absurd each
-pairs-read with_row reads P step (x ∷ xs) (s ∷ ss) (r ∷ rs) [] all each = absurd each
-pairs-read with_row reads P step (x ∷ xs) (s ∷ ss) (r ∷ rs) (t ∷ ts) all each = (step x s r t all.0 each.0, pairs-read with_row reads P step xs ss rs ts all.1 each.1)
-
 -- items with their handles; the first ones were told of, and there is room for what is told of each
 pub record AreHandled {Item Row Handle : Type 0} (P : Item → Handle → Type 0) (items : List Item) (telling : Telling Row) (handles : List Handle) : Type 0 where
   pub pairs : Pairs P items handles
@@ -93,14 +76,14 @@ module _ {Item Row Handle : Type 0} (with_row : Item → Row → Item) (P : Item
       let count : length items ≡ length rows = sym (pairs-count P items handles was.pairs) ∙ rows-count reads handles rows read each in
       let same : length (with_rows with_row items rows) ≡ length items = length-with_rows with_row items rows count ∙ sym count in
       holds (with_rows with_row items rows) tells read
-      (record { pairs = pairs-read with_row reads P step items handles rows read was.pairs each; told = omega (arith, same, was.told, alike.count); room = omega (arith, same, was.room, alike.room) })
+      (record { pairs = pairs_read P with_row reads step items handles rows read was.pairs each; told = omega (arith, same, was.told, alike.count); room = omega (arith, same, was.room, alike.room) })
       alike.same
 
   -- one more item, with its handle
   pub holds_more : (x : Item) (s : Handle) (room : ℕ) → P x s → length (items ++ x ∷ []) ≤ room → Holds (items ++ x ∷ []) (record telling { room = room }) (handles ++ s ∷ [])
   holds_more x s room p near =
       holds (items ++ x ∷ []) (record telling { room = room }) (handles ++ s ∷ [])
-      (record { pairs = pairs-push P items handles x s was.pairs p; told = omega (arith, length-append items (x ∷ []), was.told); room = near })
+      (record { pairs = pair_more P items handles x s was.pairs p; told = omega (arith, length-append items (x ∷ []), was.told); room = near })
       (with_rows-more (told_item with_row) items (x ∷ []) telling.rows was.told)
 
   -- more room

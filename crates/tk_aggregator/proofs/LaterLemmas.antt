@@ -5,11 +5,16 @@ use Rattle.tk_core.specs.declared.reply.Reply.{Reply}
 use Rattle.tk_events.specs.Handles.{Taking}
 use Rattle.tk_events.specs.declared.event.Event.{Event}
 use Rattle.tk_events.specs.declared.event.Event.TheVariants as events
-use Rattle.tk_ledgers.specs.Handles.{Sight}
+use Rattle.tk_ledgers.specs.Handles.{KnownTimes, Sight, sight}
+use Rattle.std.specs.Prelude.{Option, None, Some, if◌then◌else◌}
 use Rattle.tk_stream.specs.Polls.{one_more}
-use Rattle.tk_aggregator.specs.Aggregates.{Aggregating, Gathers, Collects, TakesIn, TakesAllIn, IsLaterOf, free}
-use Rattle.tk_stream.specs.Applied.{Kind, task_kind, resource_kind, op_kind, counts_kind, BeginWith}
-use Rattle.tk_aggregator.specs.Readings.{IsLater, AreLater}
+use Rattle.tk_core.specs.declared.times.row.TimesRow.{TimesRow}
+use Rattle.tk_ledgers.specs.Times.{TimesSight}
+use Rattle.tk_stream.specs.Times.{times_shown}
+use Rattle.tk_aggregator.specs.Timing.{TimingView, times_ledger}
+use Rattle.tk_aggregator.specs.Aggregates.{Aggregating, Gathers, Collects, TakesIn, TakesTimes, TakesAllIn, IsLaterOf, free}
+use Rattle.tk_stream.specs.Applied.{Kind, task_kind, resource_kind, op_kind, counts_kind, times_kind, BeginWith}
+use Rattle.tk_aggregator.specs.Readings.{Reads, IsLater, AreLater}
 use Rattle.tk_stream.specs.Tables.{PollCounts, counts_id, counts_of, put_item, task_with, resource_with, op_with}
 use Rattle.tk_aggregator.proofs.FollowLemmas.{by_case}
 use Rattle.tk_aggregator.proofs.RefreshLemmas.{begins_itself}
@@ -65,6 +70,8 @@ same_items a = record {
   tasks = all_same a.tasks;
   resources = all_same a.resources;
   ops = all_same a.ops;
+  times = begins_itself times_kind a.timing.shown;
+  readers = all_same a.timing.readers;
 }
 
 pub then_later : (a b c : Aggregating) → IsLaterOf a b → IsLaterOf b c → IsLaterOf a c
@@ -78,7 +85,25 @@ then_later a b c p q = record {
   tasks = all_then a.tasks b.tasks c.tasks p.tasks q.tasks;
   resources = all_then a.resources b.resources c.resources p.resources q.resources;
   ops = all_then a.ops b.ops c.ops p.ops q.ops;
+  times = begins_then times_kind a.timing.shown b.timing.shown c.timing.shown p.times q.times;
+  readers = all_then a.timing.readers b.timing.readers c.timing.readers p.readers q.readers;
 }
+
+-- a task's histogram goes behind those that are there
+times_later : (id : ℕ) (known : Option KnownTimes) (old new : TimingView) → TakesTimes id known old new → BeginWith times_kind old.shown new.shown × AreLater old.readers new.readers
+times_later id None old new p = subst (λ (t : TimingView). BeginWith times_kind old.shown t.shown × AreLater old.readers t.readers) (sym p) (begins_itself times_kind old.shown, all_same old.readers)
+times_later id (Some known) old new p = by old.reads p
+  where
+    Takes : Bool → Type 0
+    Takes b = if b then ((row : TimesRow) × (read : TimesSight) × Reads times_ledger (sight id known) row read
+        × (new ≡ record old { shown = old.shown ++ (id, times_shown row) ∷ []; readers = old.readers ++ read ∷ [] })) else (new ≡ old)
+
+    by : (b : Bool) → Takes b → BeginWith times_kind old.shown new.shown × AreLater old.readers new.readers
+    unfolding Takes
+    by true q =
+        subst (λ (t : TimingView). BeginWith times_kind old.shown t.shown × AreLater old.readers t.readers) (sym q.3)
+        (begins_more times_kind old.shown ((id, times_shown q.0) ∷ []), all_more old.readers (q.1 ∷ []))
+    by false q = subst (λ (t : TimingView). BeginWith times_kind old.shown t.shown × AreLater old.readers t.readers) (sym q) (begins_itself times_kind old.shown, all_same old.readers)
 
 takes_later : (old : Aggregating) (e : Event) (new : Aggregating) → TakesIn old e new → IsLaterOf old new
 takes_later old (events.Task info handle) new p =
@@ -88,6 +113,8 @@ takes_later old (events.Task info handle) new p =
       tasks = all_more old.tasks (q.1 ∷ []);
       resources = all_same old.resources;
       ops = all_same old.ops;
+      times = (times_later info.id handle.times old.timing new.timing q.4).0;
+      readers = (times_later info.id handle.times old.timing new.timing q.4).1;
     })) tt
 takes_later old (events.Resource info handle) new p =
     by_case (resource_with info.id old.tables.resources) _ _ (IsLaterOf old new) (λ q. Unit {0}) p.0 p.1 (λ x is q. subst (λ (a : Aggregating). IsLaterOf old a) (sym q) (same_items old))
@@ -96,6 +123,8 @@ takes_later old (events.Resource info handle) new p =
       tasks = all_same old.tasks;
       resources = all_more old.resources (q.1 ∷ []);
       ops = all_same old.ops;
+      times = begins_itself times_kind old.timing.shown;
+      readers = all_same old.timing.readers;
     })) tt
 takes_later old (events.Op info handle) new p =
     by_case (op_with info.id old.tables.ops) _ _ (IsLaterOf old new) (λ q. Unit {0}) p.0 p.1 (λ x is q. subst (λ (a : Aggregating). IsLaterOf old a) (sym q) (same_items old))
@@ -104,6 +133,8 @@ takes_later old (events.Op info handle) new p =
       tasks = all_same old.tasks;
       resources = all_same old.resources;
       ops = all_more old.ops (q.1 ∷ []);
+      times = begins_itself times_kind old.timing.shown;
+      readers = all_same old.timing.readers;
     })) tt
 takes_later old (events.Poll op) new p =
     subst (λ (a : Aggregating). IsLaterOf old a) (sym p) (record {
@@ -111,6 +142,8 @@ takes_later old (events.Poll op) new p =
       tasks = all_same old.tasks;
       resources = all_same old.resources;
       ops = all_same old.ops;
+      times = begins_itself times_kind old.timing.shown;
+      readers = all_same old.timing.readers;
     })
 
 takes_all_later : (old : Aggregating) (es : List Event) (new : Aggregating) → TakesAllIn old es new → IsLaterOf old new
@@ -118,7 +151,7 @@ takes_all_later old [] new all = subst (λ (a : Aggregating). IsLaterOf old a) (
 takes_all_later old (e ∷ es) new all = then_later old all.0 new (takes_later old e all.0 all.1) (takes_all_later all.0 es new all.2)
 
 pub gathers_later : (a : Aggregating) (t : Taking) (taken : List Event) (b : Aggregating) (u : Taking) → Gathers a t taken b u → IsLaterOf a b
-gathers_later a t taken b u g = let s = takes_all_later (free a) taken (free b) g.taken_in in record { items = s.items; tasks = s.tasks; resources = s.resources; ops = s.ops }
+gathers_later a t taken b u g = let s = takes_all_later (free a) taken (free b) g.taken_in in record { items = s.items; tasks = s.tasks; resources = s.resources; ops = s.ops; times = s.times; readers = s.readers }
 
 pub collects_later : (a : Aggregating) (t : Taking) (limit count : ℕ) (b : Aggregating) (u : Taking) → Collects a t limit count b u → IsLaterOf a b
 collects_later a t limit count b u k =
@@ -128,4 +161,6 @@ collects_later a t limit count b u k =
       tasks = s.tasks;
       resources = s.resources;
       ops = s.ops;
+      times = s.times;
+      readers = s.readers;
     })

@@ -7,16 +7,21 @@ use Rattle.tk_ids.specs.declared.info.Dropped.{Dropped}
 use Rattle.tk_ledgers.specs.Ops.{OpSight}
 use Rattle.tk_ledgers.specs.Resources.{ResourceSight}
 use Rattle.tk_ledgers.specs.Tasks.{TaskSight}
-use Rattle.tk_aggregator.specs.Aggregates.{Aggregating, Pairs, ReadTask, ReadResource, ReadOp, without, pruned, left_at, line_at, having_told}
-use Rattle.tk_aggregator.specs.Standing.{IsStanding, ResourceFits, OpFits, due_at, leaving_at}
+use Rattle.tk_aggregator.specs.Aggregates.{Aggregating, Pairs, ReadTask, ReadResource, ReadOp, without, pruned, left_at, due_at, leaving_at, untimed_at, having_told}
+use Rattle.tk_aggregator.specs.Standing.{IsStanding, TimesStand, ResourceFits, OpFits}
 use Rattle.tk_stream.specs.Applied.{without_gone}
 use Rattle.tk_stream.specs.Fronts.{ToldView, told_tables, FitsIn, HaveRoom}
 use Rattle.tk_stream.specs.Lines.{LineView, GoneView, none_gone}
 use Rattle.tk_stream.specs.Retention.{line_pruned, prune}
-use Rattle.tk_stream.specs.Streams.{line_sent}
+use Rattle.tk_stream.specs.Streams.{line_untimed}
+use Rattle.tk_stream.specs.Times.{times_id}
+use Rattle.tk_ledgers.specs.Times.{TimesSight}
 use Rattle.tk_stream.specs.Tables.{TablesView, task_id, resource_id, op_id, is_among, staying}
 use Rattle.tk_stream.proofs.GoneLemmas.{staying_all}
+use Rattle.tk_aggregator.proofs.PairLemmas.{pairs_stay}
 use Rattle.tk_aggregator.proofs.StandingLemmas.{whole}
+use Rattle.tk_aggregator.proofs.TimingLemmas.{AreKnown, known_stay, readers_stay}
+use Rattle.tk_aggregator.specs.Timing.{TimingView, timing_told}
 
 -- no more stay than there were
 fewer : {A : Type 0} (p : A → Bool) (xs : List A) (room : ℕ) → length xs ≤ room → length (filter p xs) ≤ room
@@ -24,21 +29,6 @@ fewer p xs room le =
     let a = length-filter p xs in
     let b = count_by-le-length p xs in
     omega (arith, a, b, le)
-
--- items that stay go with the handles that stay
-module _ {Item Handle : Type 0} (P : Item → Handle → Type 0) (item_id : Item → ℕ) (handle_id : Handle → ℕ) (same : (x : Item) (s : Handle) → P x s → handle_id s ≡ item_id x) (gone : List ℕ) where
-  pairs_staying : (xs : List Item) (ss : List Handle) → Pairs P xs ss → Pairs P (staying item_id gone xs) (staying handle_id gone ss)
-  pairs_staying [] [] all = tt
-  pairs_staying [] (s ∷ ss) all = absurd all
-  pairs_staying (x ∷ xs) [] all = absurd all
-  pairs_staying (x ∷ xs) (s ∷ ss) all = by (is_among gone (item_id x)) (is_among gone (handle_id s)) (ap (is_among gone) (same x s all.0)) (pairs_staying xs ss all.1)
-    where
-      by : (b c : Bool) → c ≡ b → Pairs P (staying item_id gone xs) (staying handle_id gone ss)
-          → Pairs P (cond (not b) (x ∷ staying item_id gone xs) (staying item_id gone xs)) (cond (not c) (s ∷ staying handle_id gone ss) (staying handle_id gone ss))
-      by true true e rest = rest
-      by true false e rest = absurd cc
-      by false true e rest = absurd cc
-      by false false e rest = (all.0, rest)
 
 -- ---- behind a line
 
@@ -67,31 +57,31 @@ module _ (shown : TablesView) (telling : ToldView) (tasks : List TaskSight) (res
     task_pairs =
         subst (λ (hs : List TaskSight). Pairs ReadTask now.tasks hs) (sym tasks_are)
         (subst (λ (t : TablesView). Pairs ReadTask t.tasks (staying (λ (s : TaskSight). s.id) gone.tasks tasks)) (sym is)
-        (pairs_staying ReadTask task_id (λ (s : TaskSight). s.id) (λ x s p. p.0) gone.tasks shown.tasks tasks stands.tasks))
+        (pairs_stay ReadTask task_id (λ (s : TaskSight). s.id) (λ x s p. p.0) gone.tasks shown.tasks tasks stands.tasks))
 
     resource_pairs : Pairs ReadResource now.resources resource_handles
     resource_pairs =
         subst (λ (hs : List ResourceSight). Pairs ReadResource now.resources hs) (sym resources_are)
         (subst (λ (t : TablesView). Pairs ReadResource t.resources (staying (λ (s : ResourceSight). s.id) gone.resources resources)) (sym is)
-        (pairs_staying ReadResource resource_id (λ (s : ResourceSight). s.id) (λ x s p. p.0) gone.resources shown.resources resources stands.resources))
+        (pairs_stay ReadResource resource_id (λ (s : ResourceSight). s.id) (λ x s p. p.0) gone.resources shown.resources resources stands.resources))
 
     op_pairs : Pairs ReadOp now.ops op_handles
     op_pairs =
         subst (λ (hs : List OpSight). Pairs ReadOp now.ops hs) (sym ops_are)
         (subst (λ (t : TablesView). Pairs ReadOp t.ops (staying (λ (s : OpSight). s.id) gone.ops ops)) (sym is)
-        (pairs_staying ReadOp op_id (λ (s : OpSight). s.id) (λ x s p. p.0) gone.ops shown.ops ops stands.ops))
+        (pairs_stay ReadOp op_id (λ (s : OpSight). s.id) (λ x s p. p.0) gone.ops shown.ops ops stands.ops))
 
     resource_fits : Pairs ResourceFits now.resources resource_handles
     resource_fits =
         subst (λ (hs : List ResourceSight). Pairs ResourceFits now.resources hs) (sym resources_are)
         (subst (λ (t : TablesView). Pairs ResourceFits t.resources (staying (λ (s : ResourceSight). s.id) gone.resources resources)) (sym is)
-        (pairs_staying ResourceFits resource_id (λ (s : ResourceSight). s.id) (λ x s p. p.0) gone.resources shown.resources resources stands.resources_fit))
+        (pairs_stay ResourceFits resource_id (λ (s : ResourceSight). s.id) (λ x s p. p.0) gone.resources shown.resources resources stands.resources_fit))
 
     op_fits : Pairs OpFits now.ops op_handles
     op_fits =
         subst (λ (hs : List OpSight). Pairs OpFits now.ops hs) (sym ops_are)
         (subst (λ (t : TablesView). Pairs OpFits t.ops (staying (λ (s : OpSight). s.id) gone.ops ops)) (sym is)
-        (pairs_staying OpFits op_id (λ (s : OpSight). s.id) (λ x s p. p.0) gone.ops shown.ops ops stands.ops_fit))
+        (pairs_stay OpFits op_id (λ (s : OpSight). s.id) (λ x s p. p.0) gone.ops shown.ops ops stands.ops_fit))
 
     pub told_stands : FitsIn tells now → HaveRoom tells now → last < 2 ^ 63 → IsStanding now tells task_handles resource_handles op_handles held (last + 1)
     told_stands fits room below = record {
@@ -107,9 +97,9 @@ module _ (shown : TablesView) (telling : ToldView) (tasks : List TaskSight) (res
       numbered = omega (arith, below);
     }
 
-    pub told_is : told_tables tells now ≡ now → (broken : Bool) (retention : Option ℕ)
-        → whole now tells task_handles resource_handles op_handles held (last + 1) false retention ≡ having_told (without (whole shown telling tasks resources ops held last broken retention) gone) moment
-    told_is all broken retention = λ i. record {
+    pub told_is : told_tables tells now ≡ now → (broken : Bool) (retention : Option ℕ) (timing : TimingView)
+        → whole now tells task_handles resource_handles op_handles held (last + 1) false retention (timing_told gone.tasks timing) ≡ having_told (without (whole shown telling tasks resources ops held last broken retention timing) gone) moment
+    told_is all broken retention timing = λ i. record {
       tables = is i;
       told = (all ∙ is) i;
       tasks = tasks_are i;
@@ -119,7 +109,16 @@ module _ (shown : TablesView) (telling : ToldView) (tasks : List TaskSight) (res
       last = last + 1;
       broken = false;
       retention = retention;
+      timing = timing_told gone.tasks timing;
     }
+
+-- histograms that stay are of tasks that stay
+pub times_left : (shown : TablesView) (gone : GoneView) (moment : ℕ) (now : TablesView) → now ≡ record (without_gone shown gone) { now = moment } → (t u : TimingView) → u ≡ timing_told gone.tasks t → TimesStand shown.tasks t → TimesStand now.tasks u
+times_left shown gone moment now is t u told stands =
+    subst (λ (x : TablesView). TimesStand x.tasks u) (sym is) (subst (TimesStand (without_gone shown gone).tasks) (sym told) (record {
+      pairs = readers_stay gone.tasks t.shown t.readers stands.pairs;
+      known = known_stay shown.tasks gone.tasks t.shown stands.known;
+    }))
 
 -- ---- what leaves with a line
 
@@ -129,6 +128,7 @@ without_none a = λ i. record a {
   tasks = staying_all (λ (s : TaskSight). s.id) a.tasks i;
   resources = staying_all (λ (s : ResourceSight). s.id) a.resources i;
   ops = staying_all (λ (s : OpSight). s.id) a.ops i;
+  timing = record a.timing { shown = staying_all times_id a.timing.shown i; readers = staying_all (λ (s : TimesSight). s.id) a.timing.readers i };
 }
 
 pub left_is : (snapshot : Bool) (a : Aggregating) (now : ℕ) → without a (leaving_at snapshot a now) ≡ left_at snapshot a now
@@ -140,8 +140,8 @@ left_is false a now = by a.retention
     by (Some retention) = refl
 
 -- the line that leads to what stays
-pub pruned_line_is : (a : Aggregating) (now retention : ℕ) → a.retention ≡ Some retention → line_pruned a.told (prune (record a.tables { now = now }) a.told now retention) (a.last + 1) ≡ line_at false a now
+pub pruned_line_is : (a : Aggregating) (now retention : ℕ) → a.retention ≡ Some retention → line_pruned a.told (prune (record a.tables { now = now }) a.told now retention) (a.last + 1) ≡ untimed_at false a now
 pruned_line_is a now retention is = ap line_by (sym is)
   where
     line_by : Option ℕ → LineView
-    line_by o = line_sent a.told (record { tables = record (pruned o a now).tables { now = now }; seq = a.last + 1; snapshot = false; removes = is_some o; told = None })
+    line_by o = line_untimed a.told (record { tables = record (pruned o a now).tables { now = now }; seq = a.last + 1; snapshot = false; removes = is_some o; told = None })

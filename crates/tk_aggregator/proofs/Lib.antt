@@ -16,3 +16,5 @@ pub mod SomeKeptLemmas
 pub mod PollTotalLemmas
 pub mod HoldLemmas
 pub mod PublishLemmas
+pub mod PairLemmas
+pub mod TimingLemmas

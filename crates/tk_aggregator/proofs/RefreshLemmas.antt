@@ -9,11 +9,12 @@ use Rattle.tk_ledgers.specs.Ops.{OpSight}
 use Rattle.tk_ledgers.specs.Resources.{ResourceSight}
 use Rattle.tk_ledgers.specs.Tasks.{TaskSight}
 use Rattle.tk_aggregator.specs.Absorbing.{infos_of}
-use Rattle.tk_aggregator.specs.Aggregates.{Aggregating, IsSound, IsLaterOf, IsSameStream, ReadTask, ReadResource, ReadOp, ReadsTasks, ReadsResources, ReadsOps, Refreshes}
-use Rattle.tk_stream.specs.Applied.{Kind, task_kind, resource_kind, op_kind, counts_kind, BeginWith}
+use Rattle.tk_aggregator.proofs.TimingLemmas.{AreKnown, known_later, known_rows, readers_read}
+use Rattle.tk_aggregator.specs.Aggregates.{Pairs, Aggregating, IsSound, IsLaterOf, IsSameStream, ReadTask, ReadResource, ReadOp, ReadsTasks, ReadsResources, ReadsOps, ReadsHistograms, Refreshes}
+use Rattle.tk_stream.specs.Applied.{Kind, task_kind, resource_kind, op_kind, counts_kind, times_kind, BeginWith}
 use Rattle.tk_stream.specs.Fronts.{ToldView, with_rows, task_at, resource_at, op_at, told_tables}
 use Rattle.tk_aggregator.specs.Readings.{ReadAll, Reads, task_ledger, resource_ledger, op_ledger}
-use Rattle.tk_aggregator.specs.Standing.{IsStanding, ResourceFits, OpFits, TellsSame}
+use Rattle.tk_aggregator.specs.Standing.{IsStanding, ResourceFits, OpFits, TellsSame, TimesStand}
 use Rattle.tk_stream.specs.Tables.{TablesView}
 use Rattle.tk_stream.specs.declared.op.Op.{Op}
 use Rattle.tk_stream.specs.declared.resource.Resource.{Resource}
@@ -21,6 +22,9 @@ use Rattle.tk_stream.specs.declared.task.Task.{Task}
 use Rattle.tk_aggregator.proofs.HandleLemmas.{reads_read, task_reads, resource_reads, op_reads, all_later}
 use Rattle.tk_aggregator.proofs.HandledLemmas.{Both, TasksStand, ResourcesStand, OpsStand, pairs-count, rows-count, holds_read, tasks_handled, resources_handled, ops_handled, tasks_stand, resources_stand, ops_stand}
 use Rattle.tk_aggregator.proofs.StandingLemmas.{whole}
+use Rattle.tk_aggregator.specs.Timing.{TimingView, times_ledger, ReadTimes, ReadsTimes}
+use Rattle.tk_stream.specs.Times.{times_shown, times_with}
+use Rattle.std.proofs.lemmas.List.{length-map}
 
 pub begins_rows : {Item Info Stats Row : Type 0} (k : Kind Item Info Stats) (with_row : Item → Row → Item) → ((x : Item) (r : Row) → k.info_of x ≡ k.info_of (with_row x r))
     → (xs : List Item) (rs : List Row) → length xs ≡ length rs → BeginWith k xs (with_rows with_row xs rs)
@@ -55,8 +59,8 @@ module _ (shown : TablesView) (telling : ToldView) (tasks : List TaskSight) (res
         subst (λ (t : TablesView). IsStanding t view read resources ops held last) (sym e)
         (subst (λ (v : ToldView). IsStanding (record shown { tasks = with_rows task_at shown.tasks rows }) v read resources ops held last) (sym alone) tasks_now.0)
 
-    pub tasks_read : (broken : Bool) (retention : Option ℕ) → ReadsTasks (whole shown telling tasks resources ops held last broken retention) (whole now view read resources ops held last broken retention)
-    tasks_read broken retention = (rows, each, λ i. record { tables = e i; told = (ap₂ told_tables alone e ∙ tasks_now.1) i; tasks = read; resources = resources; ops = ops; held = held; last = last; broken = broken; retention = retention })
+    pub tasks_read : (broken : Bool) (retention : Option ℕ) (timing : TimingView) → ReadsTasks (whole shown telling tasks resources ops held last broken retention timing) (whole now view read resources ops held last broken retention timing)
+    tasks_read broken retention timing = (rows, each, λ i. record { tables = e i; told = (ap₂ told_tables alone e ∙ tasks_now.1) i; tasks = read; resources = resources; ops = ops; held = held; last = last; broken = broken; retention = retention; timing = timing })
 
   module _ (rows : List ResourceRow) (read : List ResourceSight) (each : ReadAll resource_ledger resources rows read) (e : now ≡ record shown { resources = with_rows resource_at shown.resources rows }) (alone : view ≡ record telling { resources = view.resources })
       (alike : TellsSame resource_at shown.resources telling.resources now.resources view.resources) where
@@ -70,8 +74,8 @@ module _ (shown : TablesView) (telling : ToldView) (tasks : List TaskSight) (res
         subst (λ (t : TablesView). IsStanding t view tasks read ops held last) (sym e)
         (subst (λ (v : ToldView). IsStanding (record shown { resources = with_rows resource_at shown.resources rows }) v tasks read ops held last) (sym alone) resources_now.0)
 
-    pub resources_read : (broken : Bool) (retention : Option ℕ) → ReadsResources (whole shown telling tasks resources ops held last broken retention) (whole now view tasks read ops held last broken retention)
-    resources_read broken retention = (rows, each, λ i. record { tables = e i; told = (ap₂ told_tables alone e ∙ resources_now.1) i; tasks = tasks; resources = read; ops = ops; held = held; last = last; broken = broken; retention = retention })
+    pub resources_read : (broken : Bool) (retention : Option ℕ) (timing : TimingView) → ReadsResources (whole shown telling tasks resources ops held last broken retention timing) (whole now view tasks read ops held last broken retention timing)
+    resources_read broken retention timing = (rows, each, λ i. record { tables = e i; told = (ap₂ told_tables alone e ∙ resources_now.1) i; tasks = tasks; resources = read; ops = ops; held = held; last = last; broken = broken; retention = retention; timing = timing })
 
   module _ (rows : List OpRow) (read : List OpSight) (each : ReadAll op_ledger ops rows read) (e : now ≡ record shown { ops = with_rows op_at shown.ops rows }) (alone : view ≡ record telling { ops = view.ops })
       (alike : TellsSame op_at shown.ops telling.ops now.ops view.ops) where
@@ -85,35 +89,58 @@ module _ (shown : TablesView) (telling : ToldView) (tasks : List TaskSight) (res
         subst (λ (t : TablesView). IsStanding t view tasks resources read held last) (sym e)
         (subst (λ (v : ToldView). IsStanding (record shown { ops = with_rows op_at shown.ops rows }) v tasks resources read held last) (sym alone) ops_now.0)
 
-    pub ops_read : (broken : Bool) (retention : Option ℕ) → ReadsOps (whole shown telling tasks resources ops held last broken retention) (whole now view tasks resources read held last broken retention)
-    ops_read broken retention = (rows, each, λ i. record { tables = e i; told = (ap₂ told_tables alone e ∙ ops_now.1) i; tasks = tasks; resources = resources; ops = read; held = held; last = last; broken = broken; retention = retention })
+    pub ops_read : (broken : Bool) (retention : Option ℕ) (timing : TimingView) → ReadsOps (whole shown telling tasks resources ops held last broken retention timing) (whole now view tasks resources read held last broken retention timing)
+    ops_read broken retention timing = (rows, each, λ i. record { tables = e i; told = (ap₂ told_tables alone e ∙ ops_now.1) i; tasks = tasks; resources = resources; ops = read; held = held; last = last; broken = broken; retention = retention; timing = timing })
+
+-- histograms stay those of the tasks that were read
+pub tasks_times : (shown now : TablesView) (tasks : List TaskSight) (rows : List TaskRow) (read : List TaskSight) → Pairs ReadTask shown.tasks tasks → ReadAll task_ledger tasks rows read
+    → now ≡ record shown { tasks = with_rows task_at shown.tasks rows } → (t : TimingView) → TimesStand shown.tasks t → TimesStand now.tasks t
+tasks_times shown now tasks rows read pairs each e t stands =
+    subst (λ (x : TablesView). TimesStand x.tasks t) (sym e) (record {
+      pairs = stands.pairs;
+      known = known_later shown.tasks (with_rows task_at shown.tasks rows) t.shown
+          (begins_rows task_kind task_at (λ x q. refl) shown.tasks rows (sym (pairs-count ReadTask shown.tasks tasks pairs) ∙ rows-count (Reads task_ledger) tasks rows read each)) stands.known;
+    })
+
+-- histograms that were read are of the same tasks
+pub times_read : (tasks : List Task) (t u : TimingView) → ReadsTimes t u → TimesStand tasks t → TimesStand tasks u
+times_read tasks t u reads stands = record {
+  pairs = readers_read t u stands.pairs reads;
+  known = subst (λ (x : TimingView). AreKnown tasks x.shown) (sym reads.2) (known_rows tasks t.shown (map times_shown reads.0) stands.known);
+}
 
 -- ---- all of them
 
-pub refreshes : (a b c d : Aggregating) → ReadsTasks a b → ReadsResources b c → ReadsOps c d → Refreshes a d
-refreshes a b c d tasks resources ops =
-    let b_tasks : d.tasks ≡ b.tasks = ap (λ x. x.tasks) ops.2 ∙ ap (λ x. x.tasks) resources.2 in
-    let c_resources : d.resources ≡ c.resources = ap (λ x. x.resources) ops.2 in
+pub refreshes : (a b c d e : Aggregating) → ReadsTasks a b → ReadsResources b c → ReadsOps c d → ReadsHistograms d e → Refreshes a e
+refreshes a b c d e tasks resources ops times =
+    let e_tasks : e.tasks ≡ b.tasks = ap (λ x. x.tasks) times.1 ∙ ap (λ x. x.tasks) ops.2 ∙ ap (λ x. x.tasks) resources.2 in
+    let e_resources : e.resources ≡ c.resources = ap (λ x. x.resources) times.1 ∙ ap (λ x. x.resources) ops.2 in
+    let e_ops : e.ops ≡ d.ops = ap (λ x. x.ops) times.1 in
+    let d_timing : d.timing ≡ a.timing = ap (λ x. x.timing) ops.2 ∙ ap (λ x. x.timing) resources.2 ∙ ap (λ x. x.timing) tasks.2 in
     record {
       task_rows = tasks.0;
       resource_rows = resources.0;
       op_rows = ops.0;
-      tasks = subst (λ ts. ReadAll task_ledger a.tasks tasks.0 ts) (sym b_tasks) tasks.1;
-      resources = subst (λ ss. ReadAll resource_ledger ss resources.0 d.resources) (ap (λ x. x.resources) tasks.2) (subst (λ ts. ReadAll resource_ledger b.resources resources.0 ts) (sym c_resources) resources.1);
-      ops = subst (λ ss. ReadAll op_ledger ss ops.0 d.ops) (ap (λ x. x.ops) resources.2 ∙ ap (λ x. x.ops) tasks.2) ops.1;
+      tasks = subst (λ ts. ReadAll task_ledger a.tasks tasks.0 ts) (sym e_tasks) tasks.1;
+      resources = subst (λ ss. ReadAll resource_ledger ss resources.0 e.resources) (ap (λ x. x.resources) tasks.2) (subst (λ ts. ReadAll resource_ledger b.resources resources.0 ts) (sym e_resources) resources.1);
+      ops = subst (λ ss. ReadAll op_ledger ss ops.0 e.ops) (ap (λ x. x.ops) resources.2 ∙ ap (λ x. x.ops) tasks.2) (subst (λ ts. ReadAll op_ledger c.ops ops.0 ts) (sym e_ops) ops.1);
+      times = subst (λ (t : TimingView). ReadsTimes t e.timing) d_timing times.0;
       now =
-          ops.2
+          times.1
+          ∙ ap (λ (x : Aggregating). record x { timing = e.timing })
+          (ops.2
           ∙ ap (λ (x : Aggregating). record x { tables = record x.tables { ops = with_rows op_at x.tables.ops ops.0 }; ops = d.ops })
-          (resources.2 ∙ ap (λ (x : Aggregating). record x { tables = record x.tables { resources = with_rows resource_at x.tables.resources resources.0 }; resources = c.resources }) tasks.2)
+          (resources.2 ∙ ap (λ (x : Aggregating). record x { tables = record x.tables { resources = with_rows resource_at x.tables.resources resources.0 }; resources = c.resources }) tasks.2))
           ∙ (λ i. record a {
             tables = record a.tables {
               tasks = with_rows task_at a.tables.tasks tasks.0;
               resources = with_rows resource_at a.tables.resources resources.0;
               ops = with_rows op_at a.tables.ops ops.0;
             };
-            tasks = sym b_tasks i;
-            resources = sym c_resources i;
-            ops = d.ops;
+            tasks = sym e_tasks i;
+            resources = sym e_resources i;
+            ops = sym e_ops i;
+            timing = e.timing;
           });
     }
 
@@ -127,6 +154,9 @@ module _ (a d : Aggregating) (sound : IsSound a) (r : Refreshes a d) where
   op_count : length a.tables.ops ≡ length r.op_rows
   op_count = sym (pairs-count ReadOp a.tables.ops a.ops sound.ops) ∙ rows-count (Reads op_ledger) a.ops r.op_rows d.ops r.ops
 
+  times_count : length a.timing.shown ≡ length (map times_shown r.times.0)
+  times_count = sym (pairs-count ReadTimes a.timing.shown a.timing.readers sound.times) ∙ rows-count (Reads times_ledger) a.timing.readers r.times.0 d.timing.readers r.times.1 ∙ sym (length-map r.times.0 times_shown)
+
   pub refreshes_later : IsLaterOf a d
   refreshes_later = record {
     items = record {
@@ -138,6 +168,8 @@ module _ (a d : Aggregating) (sound : IsSound a) (r : Refreshes a d) where
     tasks = all_later task_ledger a.tasks r.task_rows d.tasks r.tasks;
     resources = all_later resource_ledger a.resources r.resource_rows d.resources r.resources;
     ops = all_later op_ledger a.ops r.op_rows d.ops r.ops;
+    times = subst (λ (t : TimingView). BeginWith times_kind a.timing.shown t.shown) (sym r.times.2) (begins_rows times_kind times_with (λ x q. refl) a.timing.shown (map times_shown r.times.0) times_count);
+    readers = all_later times_ledger a.timing.readers r.times.0 d.timing.readers r.times.1;
   }
 
   pub refreshes_infos : infos_of d.tables ≡ infos_of a.tables
@@ -149,4 +181,4 @@ module _ (a d : Aggregating) (sound : IsSound a) (r : Refreshes a d) where
   })
 
   pub refreshes_stays : IsSameStream a d
-  refreshes_stays = record { told = ap (λ x. x.told) r.now; last = ap (λ x. x.last) r.now; broken = ap (λ x. x.broken) r.now; now = ap (λ x. x.tables.now) r.now; retention = ap (λ x. x.retention) r.now }
+  refreshes_stays = record { told = ap (λ x. x.told) r.now; last = ap (λ x. x.last) r.now; broken = ap (λ x. x.broken) r.now; now = ap (λ x. x.tables.now) r.now; retention = ap (λ x. x.retention) r.now; reads = ap (λ (t : TimingView). t.reads) r.times.2; times_told = ap (λ (t : TimingView). t.told) r.times.2 }

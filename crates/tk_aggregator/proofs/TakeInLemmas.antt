@@ -1,6 +1,6 @@
 -- Taking an event in keeps what holds inside, and does what the event says.
-use Rattle.std.proofs.Common.{◌≡◌, ℕ, zero, suc, ◌+◌, ◌≤◌, ◌<◌, List, [], ◌∷◌, ◌++◌, length, Bool, true, false, cond, nat_eq, get_or, None, Some, refl, sym, ap, ap₂, ◌∙◌, subst, arith}
-use Rattle.std.specs.Prelude.{Option, IfSome, IfNone, is_some, not, map, position, option_map}
+use Rattle.std.proofs.Common.{◌≡◌, ℕ, zero, suc, ◌+◌, ◌≤◌, ◌<◌, List, [], ◌∷◌, ◌++◌, length, Bool, true, false, cond, nat_eq, get_or, None, Some, refl, sym, ap, ap₂, ◌∙◌, subst, inl, inr, arith}
+use Rattle.std.specs.Prelude.{◌⊎◌, if◌then◌else◌, Option, IfSome, IfNone, is_some, not, map, position, option_map}
 use Rattle.std.specs.List.{position_or_len}
 use Rattle.std.proofs.lemmas.List.Quantifiers.{position-Some}
 use Rattle.std.proofs.lemmas.Bool.{eqb-true}
@@ -16,15 +16,25 @@ use Rattle.tk_ids.specs.declared.info.TaskInfo.{TaskInfo}
 use Rattle.tk_ledgers.specs.Ops.{OpSight}
 use Rattle.tk_ledgers.specs.Resources.{ResourceSight}
 use Rattle.tk_ledgers.specs.Tasks.{TaskSight}
-use Rattle.tk_aggregator.specs.Aggregates.{ReadTask, ReadResource, ReadOp, TakesIn}
+use Rattle.tk_aggregator.specs.Aggregates.{ReadTask, ReadResource, ReadOp, TakesIn, TakesTimes}
 use Rattle.tk_stream.specs.Fronts.{ToldView, task_at, resource_at, op_at, counts_at, told_tables}
 use Rattle.tk_stream.specs.Places.{place_with}
 use Rattle.tk_aggregator.specs.Readings.{Reads, task_ledger, resource_ledger, op_ledger}
-use Rattle.tk_aggregator.specs.Standing.{IsStanding, ResourceFits, OpFits, told_list}
+use Rattle.tk_aggregator.specs.Standing.{IsStanding, TimesStand, ResourceFits, OpFits, told_list}
+use Rattle.tk_aggregator.proofs.TimingLemmas.{begin_more, known_later, known_more, readers_more}
 use Rattle.tk_stream.specs.Tables.{TablesView, PollCounts, counts_id, changed_at, put_item, task_with, with_task, resource_with, with_resource, op_with, with_op}
 use Rattle.tk_aggregator.proofs.HandleLemmas.{reads_read, task_reads, resource_reads, op_reads}
 use Rattle.tk_aggregator.proofs.HandledLemmas.{Both, TasksStand, ResourcesStand, OpsStand, holds_more, holds_roomier, tasks_handled, resources_handled, ops_handled, tasks_stand, resources_stand, ops_stand, counts_stand}
 use Rattle.tk_aggregator.proofs.StandingLemmas.{whole}
+use Rattle.tk_aggregator.specs.Timing.{TimingView, times_ledger, timing_with}
+use Rattle.tk_stream.specs.Times.{times_shown}
+use Rattle.tk_ledgers.specs.Handles.{KnownTimes, sight}
+use Rattle.tk_ledgers.specs.Times.{TimesSight}
+use Rattle.tk_core.specs.declared.times.row.TimesRow.{TimesRow}
+use Rattle.tk_core.specs.declared.times.call.TimesCall.TheVariants.{Read}
+use Rattle.tk_core.specs.declared.reply.Reply.TheVariants.{Shown}
+use Rattle.tk_core.specs.TimesMeaning.{times_meaning}
+use Rattle.tk_cell.specs.Calls.{Calls}
 
 -- what holds of three values holds of others that are the same
 moved : {A B C : Type 0} (Is : A → B → C → Type 0) (a b : A) (c d : B) (e f : C) → a ≡ b → c ≡ d → e ≡ f → Is b d f → Is a c e
@@ -50,8 +60,9 @@ module _ (shown : TablesView) (telling : ToldView) (tasks : List TaskSight) (res
     pub task_put_stands : IsStanding now tells handles resources ops held last
     task_put_stands = moved (λ (t : TablesView) (u : ToldView) (hs : List TaskSight). IsStanding t u hs resources ops held last) now (with_task shown info row) tells (with_task_room telling room) handles (tasks ++ read ∷ []) e_now e_tells e_handles task_put.0
 
-    pub task_put_takes : (broken : Bool) (retention : Option ℕ) → task_with info.id shown.tasks ≡ None → TakesIn (whole shown telling tasks resources ops held last broken retention) (events.Task info handle) (whole now tells handles resources ops held last broken retention)
-    task_put_takes broken retention none = none_there (task_with info.id shown.tasks) _ _ none (
+    pub task_put_takes : (broken : Bool) (retention : Option ℕ) (timing timed : TimingView) → task_with info.id shown.tasks ≡ None → TakesTimes info.id handle.times timing timed
+        → TakesIn (whole shown telling tasks resources ops held last broken retention timing) (events.Task info handle) (whole now tells handles resources ops held last broken retention timed)
+    task_put_takes broken retention timing timed none takes = none_there (task_with info.id shown.tasks) _ _ none (
       row,
       read,
       reading,
@@ -65,7 +76,9 @@ module _ (shown : TablesView) (telling : ToldView) (tasks : List TaskSight) (res
         last = last;
         broken = broken;
         retention = retention;
+        timing = timed;
       },
+      takes,
     )
 
   -- where it was not put, there may be more room
@@ -73,6 +86,46 @@ module _ (shown : TablesView) (telling : ToldView) (tasks : List TaskSight) (res
   task_kept_stands e_now e_handles near =
       moved (λ (t : TablesView) (u : ToldView) (hs : List TaskSight). IsStanding t u hs resources ops held last) now shown tells (with_task_room telling room) handles tasks e_now e_tells e_handles
       (holds_roomier task_at ReadTask shown.tasks telling.tasks tasks (tasks_handled shown telling tasks resources ops held last stands) (TasksStand shown telling tasks resources ops held last) (tasks_stand shown telling tasks resources ops held last stands) room near).0
+
+-- histograms are of the tasks that are there once there is one more
+pub times_after_task : (shown : TablesView) (info : TaskInfo) (row : TaskRow) (now : TablesView) → now ≡ with_task shown info row → (t : TimingView) → TimesStand shown.tasks t → TimesStand now.tasks t
+times_after_task shown info row now e t stands =
+    subst (λ (x : TablesView). TimesStand x.tasks t) (sym e) (record {
+      pairs = stands.pairs;
+      known = known_later shown.tasks (with_task shown info row).tasks t.shown (begin_more shown.tasks (record { info = info; row = row })) stands.known;
+    })
+
+-- and of that one too
+pub times_with_task : (shown : TablesView) (info : TaskInfo) (row : TaskRow) (now : TablesView) → now ≡ with_task shown info row → (t u : TimingView) (s : TimesSight) (times : TimesRow) (read : TimesSight)
+    → s.id ≡ info.id → Reads times_ledger s times read → u ≡ timing_with (info.id, times_shown times) read t → TimesStand shown.tasks t → TimesStand now.tasks u
+times_with_task shown info row now e t u s times read is reading with stands =
+    subst (λ (x : TablesView). TimesStand x.tasks u) (sym e) (subst (TimesStand (with_task shown info row).tasks) (sym with) (record {
+      pairs = readers_more t.shown t.readers info.id s times read stands.pairs is reading;
+      known = known_more shown.tasks (record { info = info; row = row }) (times_shown times) t.shown stands.known;
+    }))
+
+-- a task without a histogram, or where none is read, leaves them as they are
+pub takes_none : (id : ℕ) (known : Option KnownTimes) (t : TimingView) → (t.reads ≡ false) ⊎ (known ≡ None) → TakesTimes id known t t
+takes_none id None t none = refl
+takes_none id (Some known) t (inr none) = absurd cc
+takes_none id (Some known) t (inl unread) =
+    subst (λ b. if b then ((row : TimesRow) × (read : TimesSight) × Reads times_ledger (sight id known) row read
+    × (t ≡ record t { shown = t.shown ++ (id, times_shown row) ∷ []; readers = t.readers ++ read ∷ [] })) else (t ≡ t)) (sym unread) refl
+
+-- a task's histogram is taken in as it was read
+pub takes_one : (id : ℕ) (known : KnownTimes) (t u : TimingView) (s : TimesSight) (row : TimesRow) (read : TimesSight) → t.reads ≡ true → s.id ≡ id → s.token ≡ known → Reads times_ledger s row read
+    → u ≡ timing_with (id, times_shown row) read t → TakesTimes id (Some known) t u
+takes_one id known t u s row read reads is token reading with =
+    subst (λ b. if b then ((row : TimesRow) × (read : TimesSight) × Reads times_ledger (sight id known) row read
+    × (u ≡ record t { shown = t.shown ++ (id, times_shown row) ∷ []; readers = t.readers ++ read ∷ [] })) else (u ≡ t)) (sym reads)
+    (row, read, moved_reading, with)
+  where
+    moved_reading : Reads times_ledger (sight id known) row read
+    moved_reading = record {
+      id = reading.id ∙ is;
+      ledger = reading.ledger ∙ ap (λ (k : KnownTimes). k.ledger) token;
+      entry = subst (λ (k : KnownTimes). Calls times_meaning k.view Read (Shown row) read.token.view) token reading.entry;
+    }
 
 -- ---- resources
 
@@ -91,8 +144,8 @@ module _ (shown : TablesView) (telling : ToldView) (tasks : List TaskSight) (res
     pub resource_put_stands : IsStanding now tells tasks handles ops held last
     resource_put_stands = moved (λ (t : TablesView) (u : ToldView) (hs : List ResourceSight). IsStanding t u tasks hs ops held last) now (with_resource shown info row) tells (with_resource_room telling room) handles (resources ++ read ∷ []) e_now e_tells e_handles resource_put.0
 
-    pub resource_put_takes : (broken : Bool) (retention : Option ℕ) → resource_with info.id shown.resources ≡ None → TakesIn (whole shown telling tasks resources ops held last broken retention) (events.Resource info handle) (whole now tells tasks handles ops held last broken retention)
-    resource_put_takes broken retention none = none_there (resource_with info.id shown.resources) _ _ none (
+    pub resource_put_takes : (broken : Bool) (retention : Option ℕ) (timing : TimingView) → resource_with info.id shown.resources ≡ None → TakesIn (whole shown telling tasks resources ops held last broken retention timing) (events.Resource info handle) (whole now tells tasks handles ops held last broken retention timing)
+    resource_put_takes broken retention timing none = none_there (resource_with info.id shown.resources) _ _ none (
       row,
       read,
       reading,
@@ -106,6 +159,7 @@ module _ (shown : TablesView) (telling : ToldView) (tasks : List TaskSight) (res
         last = last;
         broken = broken;
         retention = retention;
+        timing = timing;
       },
     )
 
@@ -132,8 +186,8 @@ module _ (shown : TablesView) (telling : ToldView) (tasks : List TaskSight) (res
     pub op_put_stands : IsStanding now tells tasks resources handles held last
     op_put_stands = moved (λ (t : TablesView) (u : ToldView) (hs : List OpSight). IsStanding t u tasks resources hs held last) now (with_op shown info row) tells (with_op_room telling room) handles (ops ++ read ∷ []) e_now e_tells e_handles op_put.0
 
-    pub op_put_takes : (broken : Bool) (retention : Option ℕ) → op_with info.id shown.ops ≡ None → TakesIn (whole shown telling tasks resources ops held last broken retention) (events.Op info handle) (whole now tells tasks resources handles held last broken retention)
-    op_put_takes broken retention none = none_there (op_with info.id shown.ops) _ _ none (
+    pub op_put_takes : (broken : Bool) (retention : Option ℕ) (timing : TimingView) → op_with info.id shown.ops ≡ None → TakesIn (whole shown telling tasks resources ops held last broken retention timing) (events.Op info handle) (whole now tells tasks resources handles held last broken retention timing)
+    op_put_takes broken retention timing none = none_there (op_with info.id shown.ops) _ _ none (
       row,
       read,
       reading,
@@ -147,6 +201,7 @@ module _ (shown : TablesView) (telling : ToldView) (tasks : List TaskSight) (res
         last = last;
         broken = broken;
         retention = retention;
+        timing = timing;
       },
     )
 
@@ -211,8 +266,8 @@ module _ (shown : TablesView) (telling : ToldView) (tasks : List TaskSight) (res
       subst (λ (t : TablesView). IsStanding t view tasks resources ops held last) (sym e)
       (subst (λ (v : ToldView). IsStanding (record shown { counts = counts }) v tasks resources ops held last) (sym alone) polled_now.0)
 
-  pub poll_counts : (broken : Bool) (retention : Option ℕ) → whole now view tasks resources ops held last broken retention ≡ record (whole shown telling tasks resources ops held last broken retention) { tables = record shown { counts = counts } }
-  poll_counts broken retention = λ i. record {
+  pub poll_counts : (broken : Bool) (retention : Option ℕ) (timing : TimingView) → whole now view tasks resources ops held last broken retention timing ≡ record (whole shown telling tasks resources ops held last broken retention timing) { tables = record shown { counts = counts } }
+  poll_counts broken retention timing = λ i. record {
     tables = e i;
     told = (ap₂ told_tables alone e ∙ polled_now.1) i;
     tasks = tasks;
@@ -222,4 +277,5 @@ module _ (shown : TablesView) (telling : ToldView) (tasks : List TaskSight) (res
     last = last;
     broken = broken;
     retention = retention;
+    timing = timing;
   }

@@ -11,25 +11,30 @@ use Rattle.tk_events.specs.declared.event.Event.TheVariants as events
 use Rattle.tk_events.specs.declared.item.Offer.{Offer}
 use Rattle.tk_events.specs.Offers.{shown, offers_of}
 use Rattle.tk_events.specs.Handles.{Taking, Totals, AreExact, AreLeft, AllTaken, IsSettled, events_of}
+use Rattle.tk_core.specs.declared.times.row.TimesRow.{TimesRow}
+use Rattle.tk_ledgers.specs.Handles.{KnownTimes, sight}
 use Rattle.tk_ledgers.specs.Ops.{OpSight}
 use Rattle.tk_ledgers.specs.Resources.{ResourceSight}
 use Rattle.tk_ledgers.specs.Tasks.{TaskSight}
+use Rattle.tk_ledgers.specs.Times.{TimesSight}
 use Rattle.tk_aggregator.specs.declared.stream_error.StreamError.{StreamError}
 use Rattle.tk_aggregator.specs.declared.stream_error.StreamError.TheVariants as errors
 use Rattle.tk_stream.specs.declared.op.Op.{Op}
 use Rattle.tk_stream.specs.declared.resource.Resource.{Resource}
 use Rattle.tk_stream.specs.declared.task.Task.{Task}
 use Rattle.tk_aggregator.specs.Absorbing.{Step, infos_of, no_infos, absorb, infos_after, events_taken}
-use Rattle.tk_stream.specs.Applied.{GoOn, without_gone}
+use Rattle.tk_stream.specs.Applied.{GoOn, BeginWith, times_kind, without_gone}
 use Rattle.tk_stream.specs.Fronts.{with_rows, task_at, resource_at, op_at}
-use Rattle.tk_stream.specs.Lines.{LineView, GoneView}
+use Rattle.tk_stream.specs.Lines.{LineView, GoneView, none_gone}
 use Rattle.tk_stream.specs.Polls.{counted}
 use Rattle.tk_aggregator.specs.Readings.{task_ledger, resource_ledger, op_ledger, Reads, IsRead, ReadAll, AreLater}
 use Rattle.tk_stream.specs.Retention.{due_of}
 use Rattle.tk_stream.specs.Spelling.{sent_text}
-use Rattle.tk_stream.specs.Streams.{AreInRange, Sending, line_sent}
+use Rattle.tk_stream.specs.Streams.{AreInRange, AreToldOf, Sending, line_sent, line_untimed}
 use Rattle.tk_stream.specs.Tables.{TablesView, empty_tables, AreFit, staying, task_with, with_task, resource_with, with_resource, op_with, with_op}
 use Rattle.tk_stream.specs.Sent.{IsCut}
+use Rattle.tk_stream.specs.Times.{times_shown}
+use Rattle.tk_aggregator.specs.Timing.{TimingView, no_timing, times_ledger, ReadTimes, ReadsTimes, told_by, timing_without}
 
 -- what contracts see of an aggregator
 pub record Aggregating : Type 0 where
@@ -49,6 +54,8 @@ pub record Aggregating : Type 0 where
   pub broken : Bool
   -- how long a closed item stays, in nanoseconds, where lines say what is gone. Lines of version 1 don't, and nothing leaves
   pub retention : Option ℕ
+  -- the histograms of poll times that it shows, has told and reads, where it does
+  pub timing : TimingView
 
 -- one that has told nothing, whose next line has the number behind this one
 abbrev pub new_aggregating : ℕ → Option ℕ → Aggregating
@@ -62,7 +69,12 @@ new_aggregating after retention = record {
   last = after;
   broken = false;
   retention = retention;
+  timing = no_timing false;
 }
+
+-- one that also reads histograms, and whose lines tell them
+abbrev pub new_timed : ℕ → Option ℕ → Aggregating
+new_timed after retention = record (new_aggregating after retention) { timing = no_timing true }
 
 -- ---- what holds of every aggregator
 
@@ -85,7 +97,8 @@ ReadResource r s = (s.id ≡ r.info.id) × IsRead resource_ledger s r.row
 abbrev pub ReadOp : Op → OpSight → Type 0
 ReadOp o s = (s.id ≡ o.info.id) × IsRead op_ledger s o.row
 
--- each row is the fold of a legal history of its item's ledger; the tables are fit, in range, and begin with those of the last line
+-- each row and each histogram is the fold of a legal history of its ledger; the tables are fit, in range, and begin with those of the
+-- last line; histograms are of their tasks, and begin with those that were told
 pub record IsSound (a : Aggregating) : Type 0 where
   pub tasks : Pairs ReadTask a.tables.tasks a.tasks
   pub resources : Pairs ReadResource a.tables.resources a.resources
@@ -98,6 +111,11 @@ pub record IsSound (a : Aggregating) : Type 0 where
   -- before line 1 nothing was told
   pub first : a.last ≡ 0 → a.told ≡ empty_tables
   pub numbered : a.last ≤ 2 ^ 63
+  pub times : Pairs ReadTimes a.timing.shown a.timing.readers
+  pub times_fit : AreToldOf a.tables a.timing.shown
+  pub times_on : BeginWith times_kind a.timing.told a.timing.shown
+  -- where no histogram is read there is none
+  pub untimed : a.timing.reads ≡ false → a.timing ≡ no_timing false
 
 -- the items of one aggregator are those of the other, now or later, and others may stand behind them
 pub record IsLaterOf (old new : Aggregating) : Type 0 where
@@ -105,6 +123,8 @@ pub record IsLaterOf (old new : Aggregating) : Type 0 where
   pub tasks : AreLater old.tasks new.tasks
   pub resources : AreLater old.resources new.resources
   pub ops : AreLater old.ops new.ops
+  pub times : BeginWith times_kind old.timing.shown new.timing.shown
+  pub readers : AreLater old.timing.readers new.timing.readers
 
 -- the stream stands where it stood: the same was told, by the same last line, and items stay as long
 pub record IsSameStream (old new : Aggregating) : Type 0 where
@@ -113,15 +133,27 @@ pub record IsSameStream (old new : Aggregating) : Type 0 where
   pub broken : new.broken ≡ old.broken
   pub now : new.tables.now ≡ old.tables.now
   pub retention : new.retention ≡ old.retention
+  pub reads : new.timing.reads ≡ old.timing.reads
+  pub times_told : new.timing.told ≡ old.timing.told
 
 -- ---- taking events in
 
--- a new item goes last, with the row that its handle then reads. One whose id is there changes nothing. A poll operation is counted
+-- a new task's histogram goes last, as its reader then reads it, where it has one and histograms are read
+abbrev pub TakesTimes : ℕ → Option KnownTimes → TimingView → TimingView → Type 0
+TakesTimes id None old new = new ≡ old
+TakesTimes id (Some known) old new =
+    if old.reads then ((row : TimesRow) × (read : TimesSight) × Reads times_ledger (sight id known) row read
+        × (new ≡ record old { shown = old.shown ++ (id, times_shown row) ∷ []; readers = old.readers ++ read ∷ [] }))
+    else (new ≡ old)
+
+-- a new item goes last, with the row that its handle then reads, and a task with its histogram. One whose id is there changes nothing.
+-- A poll operation is counted
 abbrev pub TakesIn : Aggregating → Event → Aggregating → Type 0
 TakesIn old (events.Task info handle) new =
     IfSome (task_with info.id old.tables.tasks) (λ there. new ≡ old)
     × IfNone (task_with info.id old.tables.tasks) ((row : TaskRow) × (read : TaskSight) × Reads task_ledger handle row read
-    × (new ≡ record old { tables = with_task old.tables info row; tasks = old.tasks ++ read ∷ [] }))
+    × (new ≡ record old { tables = with_task old.tables info row; tasks = old.tasks ++ read ∷ []; timing = new.timing })
+    × TakesTimes info.id handle.times old.timing new.timing)
 TakesIn old (events.Resource info handle) new =
     IfSome (resource_with info.id old.tables.resources) (λ there. new ≡ old)
     × IfNone (resource_with info.id old.tables.resources) ((row : ResourceRow) × (read : ResourceSight) × Reads resource_ledger handle row read
@@ -249,7 +281,11 @@ abbrev pub ReadsOps : Aggregating → Aggregating → Type 0
 ReadsOps old new = (rows : List OpRow) × ReadAll op_ledger old.ops rows new.ops
     × (new ≡ record old { tables = record old.tables { ops = with_rows op_at old.tables.ops rows }; ops = new.ops })
 
--- each handle read once, and what it read is the row of its item; nothing else changed
+-- each histogram was read once, where they are read; nothing else changed
+abbrev pub ReadsHistograms : Aggregating → Aggregating → Type 0
+ReadsHistograms old new = ReadsTimes old.timing new.timing × (new ≡ record old { timing = new.timing })
+
+-- each handle read once, and what it read is the row of its item, or its histogram; nothing else changed
 pub record Refreshes (old new : Aggregating) : Type 0 where
   pub task_rows : List TaskRow
   pub resource_rows : List ResourceRow
@@ -257,6 +293,7 @@ pub record Refreshes (old new : Aggregating) : Type 0 where
   pub tasks : ReadAll task_ledger old.tasks task_rows new.tasks
   pub resources : ReadAll resource_ledger old.resources resource_rows new.resources
   pub ops : ReadAll op_ledger old.ops op_rows new.ops
+  pub times : ReadsTimes old.timing new.timing
   pub now : new ≡ record old {
     tables = record old.tables {
       tasks = with_rows task_at old.tables.tasks task_rows;
@@ -266,9 +303,19 @@ pub record Refreshes (old new : Aggregating) : Type 0 where
     tasks = new.tasks;
     resources = new.resources;
     ops = new.ops;
+    timing = new.timing;
   }
 
 -- ---- what leaves
+
+-- the items that are due at this moment, and none where nothing may leave
+abbrev pub due_at : Option ℕ → TablesView → ℕ → GoneView
+due_at None told now = none_gone
+due_at (Some retention) told now = due_of told now retention
+
+-- the items that leave with the line of this moment. A snapshot removes nothing
+abbrev pub leaving_at : Bool → Aggregating → ℕ → GoneView
+leaving_at snapshot a now = if snapshot then none_gone else due_at a.retention a.told now
 
 -- one without these items. Their handles are let go
 abbrev pub without : Aggregating → GoneView → Aggregating
@@ -277,6 +324,7 @@ without a gone = record a {
   tasks = staying (λ (s : TaskSight). s.id) gone.tasks a.tasks;
   resources = staying (λ (s : ResourceSight). s.id) gone.resources a.resources;
   ops = staying (λ (s : OpSight). s.id) gone.ops a.ops;
+  timing = timing_without gone.tasks a.timing;
 }
 
 -- one without the items that are due at this moment, as the last whole line's tables have them
@@ -296,15 +344,19 @@ tables_at snapshot a now = record (left_at snapshot a now).tables { now = now }
 
 -- what is sent at this moment: the next line
 abbrev pub sending_at : Bool → Aggregating → ℕ → Sending
-sending_at snapshot a now = record { tables = tables_at snapshot a now; seq = a.last + 1; snapshot = snapshot; removes = is_some a.retention; told = None }
+sending_at snapshot a now = record { tables = tables_at snapshot a now; seq = a.last + 1; snapshot = snapshot; removes = is_some a.retention; told = told_by snapshot a.timing (leaving_at snapshot a now).tasks }
 
 -- that line: it leads on from what was told, or is a snapshot
 abbrev pub line_at : Bool → Aggregating → ℕ → LineView
 line_at snapshot a now = line_sent a.told (sending_at snapshot a now)
 
--- one that has told all of its tables at this moment, by the next line
+-- that line without histograms
+abbrev pub untimed_at : Bool → Aggregating → ℕ → LineView
+untimed_at snapshot a now = line_untimed a.told (sending_at snapshot a now)
+
+-- one that has told all of its tables and histograms at this moment, by the next line
 abbrev pub having_told : Aggregating → ℕ → Aggregating
-having_told a now = record a { tables = record a.tables { now = now }; told = record a.tables { now = now }; last = a.last + 1; broken = false }
+having_told a now = record a { tables = record a.tables { now = now }; told = record a.tables { now = now }; last = a.last + 1; broken = false; timing = record a.timing { told = a.timing.shown } }
 
 -- what stands behind the line of this moment
 abbrev pub after_line : Bool → Aggregating → ℕ → Aggregating

@@ -2,6 +2,7 @@ pub mod Readings
 pub mod Told
 pub mod Absorbing
 pub mod Finished
+pub mod Timing
 pub mod Aggregates
 pub mod StreamErrors
 pub mod Standing

@@ -1,14 +1,20 @@
 -- What one call makes of an aggregator that takes events in, reads the ledgers, and publishes.
-use Rattle.std.specs.Prelude.{◌≡◌, ℕ, ◌+◌, List, ◌++◌, false, Option, ◌⊎◌}
+use Rattle.std.specs.Prelude.{◌≡◌, ℕ, ◌+◌, List, [], ◌++◌, false, Option, ◌⊎◌}
 use Rattle.std.specs.Io.KnownBytes.{Appends}
 use Rattle.tk_events.specs.Handles.{Taking}
 use Rattle.tk_stream.specs.Spelling.{sent_text}
-use Rattle.tk_stream.specs.Streams.{IsStreamTo}
+use Rattle.tk_stream.specs.Streams.{IsStreamTo, times_sent}
+use Rattle.tk_stream.specs.Tables.{TablesView, empty_tables}
+use Rattle.tk_stream.specs.Times.{TaskTimes}
 use Rattle.tk_aggregator.specs.declared.published.Published.{Published}
 use Rattle.tk_aggregator.specs.declared.stream_error.StreamError.{StreamError}
 use Rattle.tk_aggregator.specs.declared.stream_error.StreamError.TheVariants.{Memory}
 use Rattle.tk_aggregator.specs.Absorbing.{infos_of}
 use Rattle.tk_aggregator.specs.Aggregates.{Aggregating, Collects, RunsOut, Refreshes, IsLaterOf, IsSameStream, IsDue, Refuses, line_at, after_line}
+
+-- bytes are an uninterrupted stream whose last line leads to these tables and histograms, and has this number
+abbrev pub IsTimedStreamTo : List ℕ → TablesView → List TaskTimes → ℕ → Type 0
+IsTimedStreamTo bytes tables times last = (stream : IsStreamTo bytes tables last) × (times_sent [] empty_tables stream.sent ≡ times)
 
 -- what was recorded was taken in, and then each ledger read
 pub record CatchesUp (old : Aggregating) (before : Taking) (limit count : ℕ) (new : Aggregating) (after : Taking) : Type 0 where
@@ -30,6 +36,7 @@ pub record Publishes (old : Aggregating) (before : Taking) (limit now : ℕ) (do
   pub state : new ≡ after_line false read now
   pub sent : Appends written written' (sent_text (line_at false read now))
   pub stream : (bytes : List ℕ) → IsStreamTo bytes old.told old.last → IsStreamTo (bytes ++ sent_text (line_at false read now)) new.told new.last
+  pub timed_stream : (bytes : List ℕ) → IsTimedStreamTo bytes old.told old.timing.told old.last → IsTimedStreamTo (bytes ++ sent_text (line_at false read now)) new.told new.timing.told new.last
 
 -- memory ran out for an event: no ledger was read, and nothing written
 pub record RanOut (why : StreamError) (old : Aggregating) (before : Taking) (limit : ℕ) (new : Aggregating) (after : Taking) (written written' : Option (List ℕ)) : Type 0 where

@@ -1,5 +1,6 @@
 -- What an aggregator keeps true inside. No public clause cites this.
-use Rattle.std.specs.Prelude.{◌≡◌, ℕ, ◌^◌, ◌≤◌, List, length, Bool, if◌then◌else◌, Option, Some, None, IfSome}
+use Rattle.std.specs.Prelude.{◌≡◌, ℕ, ◌^◌, ◌≤◌, List, length, Option, Some, IfSome, IsSome}
+use Rattle.std.specs.List.{AllByRecursion}
 use Rattle.tk_core.specs.declared.op.row.OpRow.{OpRow}
 use Rattle.tk_core.specs.declared.resource.row.ResourceRow.{ResourceRow}
 use Rattle.tk_events.specs.declared.event.Event.{Event}
@@ -11,11 +12,11 @@ use Rattle.tk_ledgers.specs.Tasks.{TaskSight}
 use Rattle.tk_stream.specs.declared.op.Op.{Op}
 use Rattle.tk_stream.specs.declared.resource.Resource.{Resource}
 use Rattle.tk_stream.specs.declared.task.Task.{Task}
-use Rattle.tk_aggregator.specs.Aggregates.{Aggregating, Pairs, ReadTask, ReadResource, ReadOp}
+use Rattle.tk_aggregator.specs.Aggregates.{Pairs, ReadTask, ReadResource, ReadOp}
 use Rattle.tk_stream.specs.Fronts.{Telling, ToldView, told_item, with_rows, told_tables, FitsIn, HaveRoom}
-use Rattle.tk_stream.specs.Lines.{GoneView, none_gone}
-use Rattle.tk_stream.specs.Retention.{due_of}
-use Rattle.tk_stream.specs.Tables.{TablesView, empty_tables}
+use Rattle.tk_stream.specs.Tables.{TablesView, empty_tables, task_with}
+use Rattle.tk_stream.specs.Times.{TaskTimes}
+use Rattle.tk_aggregator.specs.Timing.{TimingView, ReadTimes}
 
 -- a handle may read for a task: it is of the task
 abbrev pub TaskFits : Task → TaskSight → Type 0
@@ -52,11 +53,7 @@ pub record IsStanding (shown : TablesView) (telling : ToldView) (task_handles : 
   pub first : last ≡ 0 → told_tables telling shown ≡ empty_tables
   pub numbered : last ≤ 2 ^ 63
 
--- the items that are due at this moment, and none where nothing may leave
-abbrev pub due_at : Option ℕ → TablesView → ℕ → GoneView
-due_at None told now = none_gone
-due_at (Some retention) told now = due_of told now retention
-
--- the items that leave with the line of this moment. A snapshot removes nothing
-abbrev pub leaving_at : Bool → Aggregating → ℕ → GoneView
-leaving_at snapshot a now = if snapshot then none_gone else due_at a.retention a.told now
+-- what holds inside of histograms: each is what its reader read last, and of one of these tasks
+pub record TimesStand (tasks : List Task) (t : TimingView) : Type 0 where
+  pub pairs : Pairs ReadTimes t.shown t.readers
+  pub known : AllByRecursion (λ (x : TaskTimes). IsSome (task_with x.0 tasks)) t.shown

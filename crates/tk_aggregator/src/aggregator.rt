@@ -10,20 +10,22 @@
 //! | broken: the last line was cut off | `Broken` | writes all, and mends the stream |
 //!
 //! With a retention, closed items leave behind it, as tokio-console lets closed tasks go: behind a line that goes on, and that
-//! says so.
+//! says so. Where histograms of poll times are read, lines tell them too (`timing.rt`).
 //!
 //! `specs/Aggregates.antt` says what each call makes of it.
-ghost use Rattle.std.specs.Prelude.{◌≡◌, ◌≤◌, ◌<◌, ◌+◌, ◌^◌, ◌++◌, ℕ, List, Some, None, unwrap_or, false, true, OnOk, OnErr, IfOk, IfErr, IfSome, IfNone};
+ghost use Rattle.std.specs.Prelude.{◌≡◌, ◌≤◌, ◌<◌, ◌+◌, ◌^◌, ◌++◌, ℕ, List, Some, None, unwrap_or, false, true, OnOk, OnErr, IfOk, IfErr, IfSome, IfNone, ◌⊎◌};
 ghost use Rattle.std.specs.Io.KnownBytes.{Appends};
 ghost use Rattle.tk_events.specs.declared.event.Event.TheVariants as events;
 ghost use Rattle.tk_events.specs.Items.{Agrees};
 ghost use Rattle.tk_aggregator.specs.Absorbing.{infos_of};
 ghost use Rattle.tk_aggregator.specs.Finished.{HoldKept};
-ghost use Rattle.tk_aggregator.specs.Aggregates.{new_aggregating, IsSound, IsLaterOf, IsSameStream, Refreshes, ReadsTasks, ReadsResources, ReadsOps, TakesIn, Collects, RunsOut, TookMore, FollowsTaker, GathersUpTo, Comes, TellsTotals, WasEmpty, dropped_in, without, line_at, sending_at, having_told, after_line, MayGoOn, IsDue, Refuses};
-ghost use Rattle.tk_aggregator.specs.Publishing.{Publishes, StopsBefore};
-ghost use Rattle.tk_aggregator.specs.Standing.{leaving_at};
+ghost use Rattle.tk_aggregator.specs.Aggregates.{new_aggregating, new_timed, IsSound, ReadsHistograms, TakesTimes, leaving_at, untimed_at, IsLaterOf, IsSameStream, Refreshes, ReadsTasks, ReadsResources, ReadsOps, TakesIn, Collects, RunsOut, TookMore, FollowsTaker, GathersUpTo, Comes, TellsTotals, WasEmpty, dropped_in, without, line_at, sending_at, having_told, after_line, MayGoOn, IsDue, Refuses};
+ghost use Rattle.tk_aggregator.specs.Publishing.{Publishes, StopsBefore, IsTimedStreamTo};
+ghost use Rattle.tk_aggregator.specs.Timing.{no_timing, TimingView};
 ghost use Rattle.tk_events.specs.Handles.{Taking};
+ghost use Rattle.tk_ledgers.specs.Handles.{sight_with};
 ghost use Rattle.tk_stream.specs.Lines.{none_gone};
+ghost use Rattle.tk_stream.specs.Tables.{task_with};
 ghost use Rattle.tk_stream.specs.Polls.{counted};
 ghost use Rattle.tk_stream.specs.Spelling.{sent_text};
 ghost use Rattle.tk_stream.specs.Streams.{IsStreamTo, MaySend};
@@ -35,19 +37,20 @@ use crate::ledgered::{
 use crate::published::Published;
 use crate::removal::remove;
 use crate::stream_error::StreamError;
+use crate::timing::Timing;
 use std::alloc::{AllocError, Global};
 use std::io::Write;
 use std::marker::Model;
 use std::sync::Wait;
 use tk_events::{Event, Taker};
-use tk_ids::{OpInfo, ResourceId, ResourceInfo, TaskInfo};
-use tk_ledgers::{OpInspector, ResourceInspector, TaskInspector};
-use tk_stream::{Leaving, Line, LineError, Tables, ToldTables, send};
+use tk_ids::{OpInfo, ResourceId, ResourceInfo, TaskId, TaskInfo};
+use tk_ledgers::{OpInspector, ResourceInspector, TaskInspector, TimesInspector};
+use tk_stream::{Leaving, Line, LineError, PollTimes, Table, Tables, ToldTables, send};
 
 /// Takes events, reads the ledgers of their items, and writes the lines of a stream.
 ///
 /// Contracts see its tables, those of the last whole line, the handles that read its items, an event that found no memory, the
-/// number of the last line, whether that line was cut off, and how long closed items stay.
+/// number of the last line, whether that line was cut off, how long closed items stay, and the histograms of poll times.
 #[derive(Drop)]
 pub struct Aggregator {
     tables: Tables,
@@ -64,12 +67,14 @@ pub struct Aggregator {
     broken: bool,
     // How long a closed item stays, in nanoseconds. Without it nothing leaves, and lines are of version 1.
     retention: Option<u64>,
+    // The histograms of poll times. Where they are read, lines are of version 3.
+    timing: Timing,
 }
 
 impl Model for Aggregator {
     ghost use Rattle.tk_aggregator.specs.Aggregates.{Aggregating};
     ghost use Rattle.tk_stream.specs.Fronts.{told_tables};
-    ghost use Rattle.tk_aggregator.specs.Standing.{IsStanding};
+    ghost use Rattle.tk_aggregator.specs.Standing.{IsStanding, TimesStand};
 
     ghost Value = { Aggregating };
 
@@ -83,9 +88,10 @@ impl Model for Aggregator {
       last = a.last;
       broken = a.broken;
       retention = a.retention;
+      timing = a.timing;
     } };
 
-    ghost invariant = { λ a. IsStanding a.tables a.told a.tasks.items a.resources.items a.ops.items a.held a.last };
+    ghost invariant = { λ a. IsStanding a.tables a.told a.tasks.items a.resources.items a.ops.items a.held a.last × TimesStand a.tables.tasks a.timing };
 }
 
 // A line's text and its line end.
@@ -107,7 +113,7 @@ impl Aggregator {
         ensures ok { IfOk result (λ a. a ≡ new_aggregating after None) }
         ensures memory { IfErr result (λ e. e ≡ Memory) }
     {
-        Aggregator::starting(alloc, after, None)
+        Aggregator::starting(alloc, after, None, false)
     }
 
     /// As `new`, but its lines are of version 2, and closed items leave: with a line of `publish` those go that the last whole
@@ -122,16 +128,32 @@ impl Aggregator {
         ensures ok { IfOk result (λ a. a ≡ new_aggregating after (Some retention)) }
         ensures memory { IfErr result (λ e. e ≡ Memory) }
     {
-        Aggregator::starting(alloc, after, Some(retention))
+        Aggregator::starting(alloc, after, Some(retention), false)
+    }
+
+    /// As `new`, but its lines are of version 3: they tell the histograms of how long the polls of tasks ran, of those tasks that have
+    /// one, and say which items are gone. Closed items leave as with [`Aggregator::with_retention`] where there is a retention,
+    /// their histograms with them, and without one nothing leaves.
+    pub fn with_times(
+        alloc: Global,
+        after: u64,
+        retention: Option<u64>,
+    ) -> Result<Aggregator, StreamError>
+        requires { after ≤ 2 ^ 63 }
+        ensures ok { IfOk result (λ a. a ≡ new_timed after retention) }
+        ensures memory { IfErr result (λ e. e ≡ Memory) }
+    {
+        Aggregator::starting(alloc, after, retention, true)
     }
 
     fn starting(
         alloc: Global,
         after: u64,
         retention: Option<u64>,
+        reads: bool,
     ) -> Result<Aggregator, StreamError>
         requires { after ≤ 2 ^ 63 }
-        ensures ok { IfOk result (λ a. a ≡ new_aggregating after retention) }
+        ensures ok { IfOk result (λ a. a ≡ record (new_aggregating after retention) { timing = no_timing reads }) }
         ensures memory { IfErr result (λ e. e ≡ Memory) }
     {
         let tasks = Vec::with_capacity(alloc, 16)?;
@@ -146,6 +168,7 @@ impl Aggregator {
             last: after,
             broken: false,
             retention,
+            timing: Timing::new(alloc, reads),
         })
     }
 
@@ -156,11 +179,20 @@ impl Aggregator {
         ensures sound { IsSound self.now }
     {
         self.tables.see();
+        self.timing.see();
         &self.tables
     }
 
-    /// Reads the ledger of each item once, and the row of the item is what was read. It takes no memory, and nothing else
-    /// changes: the lines behind it tell of the new rows.
+    /// The histograms of how long the polls of tasks ran, of the tasks that have one, in their order, each as it was read last. None
+    /// where histograms aren't read.
+    pub fn times(&self) -> &Table<(TaskId, PollTimes)>
+        ensures { result.now ≡ self.now.timing.shown }
+    {
+        self.timing.times()
+    }
+
+    /// Reads the ledger of each item once, and the row of the item is what was read; where histograms are read, each of these once
+    /// too. It takes no memory, and nothing else changes: the lines after it tell of the new rows.
     pub fn refresh<R: Wait>(&mut self, rt: &R)
         ensures reads { Refreshes self.old self.new }
         ensures later { IsLaterOf self.old self.new }
@@ -172,6 +204,7 @@ impl Aggregator {
         self.refresh_tasks(rt);
         self.refresh_resources(rt);
         self.refresh_ops(rt);
+        self.refresh_times(rt);
     }
 
     /// Takes up to `limit` events, a held one first, and stops at the first empty answer of the taker. Each is taken in: a
@@ -285,6 +318,42 @@ impl Aggregator {
         if self.tables.task(info.id).is_some() {
             return Ok(());
         }
+        let mut handle = handle;
+        match self.reader_of(&mut handle) {
+            Some(reader) => self.put_timed(rt, info, handle, reader),
+            None => self.put_untimed(rt, info, handle),
+        }
+    }
+
+    // Takes the reader of a task's histogram, where it has one and histograms are read.
+    fn reader_of(&self, handle: &mut TaskInspector) -> Option<TimesInspector>
+        ensures task { IfSome result (λ reader. (reader.id ≡ handle.old.id) × (handle.old ≡ sight_with handle.old.id handle.old.token (Some reader.token))) }
+        ensures id { handle.new.id ≡ handle.old.id }
+        ensures token { handle.new.token ≡ handle.old.token }
+        ensures some { IfSome result (λ reader. self.now.timing.reads ≡ true) }
+        ensures none { IfNone result ((handle.new ≡ handle.old) × ((self.now.timing.reads ≡ false) ⊎ (handle.old.times ≡ None))) }
+    {
+        if self.timing.reads() {
+            handle.take_times()
+        } else {
+            None
+        }
+    }
+
+    // Puts a new task last, without a histogram.
+    fn put_untimed<R: Wait>(
+        &mut self,
+        rt: &R,
+        info: TaskInfo,
+        handle: TaskInspector,
+    ) -> Result<(), (TaskInfo, TaskInspector)>
+        requires agrees { Agrees (events.Task info handle) }
+        requires absent { task_with info.id self.old.tables.tasks ≡ None }
+        requires untimed { (self.old.timing.reads ≡ false) ⊎ (handle.times ≡ None) }
+        ensures ok { OnOk result (TakesIn self.old (events.Task info handle) self.new) }
+        ensures err { OnErr result (self.new ≡ self.old) }
+        ensures returned { IfErr result (λ e. (e.0 ≡ info) × (e.1 ≡ handle)) }
+    {
         put_task(
             rt,
             &mut self.tables,
@@ -294,6 +363,44 @@ impl Aggregator {
             handle,
         )?;
         Ok(())
+    }
+
+    // Puts a new task last, with the histogram that this reads.
+    fn put_timed<R: Wait>(
+        &mut self,
+        rt: &R,
+        info: TaskInfo,
+        handle: TaskInspector,
+        reader: TimesInspector,
+    ) -> Result<(), (TaskInfo, TaskInspector)>
+        requires agrees { handle.id ≡ info.id }
+        requires task { reader.id ≡ info.id }
+        requires absent { task_with info.id self.old.tables.tasks ≡ None }
+        requires reads { self.old.timing.reads ≡ true }
+        ensures ok { OnOk result (TakesIn self.old (events.Task info (sight_with handle.id handle.token (Some reader.token))) self.new) }
+        ensures err { OnErr result (self.new ≡ self.old) }
+        ensures returned { IfErr result (λ e. (e.0 ≡ info) × (e.1 ≡ sight_with handle.id handle.token (Some reader.token))) }
+    {
+        let Ok(()) = self.timing.open(info.id) else {
+            return Err((info, handle.with_times(reader)));
+        };
+        match put_task(
+            rt,
+            &mut self.tables,
+            &mut self.told,
+            &mut self.tasks,
+            info,
+            handle,
+        ) {
+            Ok(()) => {
+                self.timing.fill(rt, reader);
+                Ok(())
+            }
+            Err((info, handle)) => {
+                self.timing.cancel();
+                Err((info, handle.with_times(reader)))
+            }
+        }
     }
 
     // The same of a resource.
@@ -375,10 +482,16 @@ impl Aggregator {
         read_ops(rt, &mut self.tables, &mut self.told, &mut self.ops);
     }
 
-    // The snapshot of this moment.
+    fn refresh_times<R: Wait>(&mut self, rt: &R)
+        ensures { ReadsHistograms self.old self.new }
+    {
+        self.timing.refresh(rt);
+    }
+
+    // The snapshot of this moment, without histograms.
     fn whole_line(&self, now: u64) -> Result<Line, LineError>
         requires { self.now.last < 2 ^ 63 }
-        ensures { IfOk result (λ line. line ≡ line_at true self.now now) }
+        ensures { IfOk result (λ line. line ≡ untimed_at true self.now now) }
     {
         let alloc = *self.tasks.allocator();
         let nothing = ToldTables::new(alloc);
@@ -389,10 +502,10 @@ impl Aggregator {
         }
     }
 
-    // The line of this moment, and what leaves with it, if anything may.
-    fn next_line(&self, now: u64, snapshot: bool) -> Result<(Line, Option<Leaving>), LineError>
+    // The line of this moment without histograms, and what leaves with it, if anything may.
+    fn untimed_line(&self, now: u64, snapshot: bool) -> Result<(Line, Option<Leaving>), LineError>
         requires { self.now.last < 2 ^ 63 }
-        ensures line { IfOk result (λ made. made.0 ≡ line_at snapshot self.now now) }
+        ensures line { IfOk result (λ made. made.0 ≡ untimed_at snapshot self.now now) }
         ensures leaving { IfOk result (λ made. unwrap_or made.1 none_gone ≡ leaving_at snapshot self.now now) }
     {
         if snapshot {
@@ -418,6 +531,17 @@ impl Aggregator {
                 Ok((line, None))
             }
         }
+    }
+
+    // The line of this moment, and what leaves with it, if anything may.
+    fn next_line(&self, now: u64, snapshot: bool) -> Result<(Line, Option<Leaving>), LineError>
+        requires { self.now.last < 2 ^ 63 }
+        ensures line { IfOk result (λ made. made.0 ≡ line_at snapshot self.now now) }
+        ensures leaving { IfOk result (λ made. unwrap_or made.1 none_gone ≡ leaving_at snapshot self.now now) }
+    {
+        let (line, leaving) = self.untimed_line(now, snapshot)?;
+        let line = self.timing.line(line, leaving.as_ref(), snapshot)?;
+        Ok((line, leaving))
     }
 
     // Its text and a line end, and what leaves with it.
@@ -446,6 +570,7 @@ impl Aggregator {
         let dropped = self.tables.dropped();
         self.tables.set_totals(dropped, now);
         self.told.tell(&self.tables);
+        self.timing.tell(leaving);
         self.last += 1;
         self.broken = false;
     }
@@ -510,6 +635,8 @@ impl Aggregator {
         ensures may_send { IsDue false self.old now → MaySend self.old.told (sending_at false self.old now) }
         ensures stream { OnOk result ((bytes : List ℕ) → IsStreamTo bytes self.old.told self.old.last
             → IsStreamTo (bytes ++ sent_text (line_at false self.old now)) self.new.told self.new.last) }
+        ensures timed_stream { OnOk result ((bytes : List ℕ) → IsTimedStreamTo bytes self.old.told self.old.timing.told self.old.last
+            → IsTimedStreamTo (bytes ++ sent_text (line_at false self.old now)) self.new.told self.new.timing.told self.new.last) }
         ensures follows { (t : Taking) → FollowsTaker self.old t → FollowsTaker self.new t }
     {
         self.tables();
@@ -568,7 +695,10 @@ impl Aggregator {
         ensures may_send { IsDue true self.old now → MaySend self.old.told (sending_at true self.old now) }
         ensures stream { OnOk result ((bytes : List ℕ) → IsStreamTo bytes self.old.told self.old.last
             → IsStreamTo (bytes ++ sent_text (line_at true self.old now)) self.new.told self.new.last) }
+        ensures timed_stream { OnOk result ((bytes : List ℕ) → IsTimedStreamTo bytes self.old.told self.old.timing.told self.old.last
+            → IsTimedStreamTo (bytes ++ sent_text (line_at true self.old now)) self.new.told self.new.timing.told self.new.last) }
         ensures opens { OnOk result (IsStreamTo (sent_text (line_at true self.old now)) self.new.told self.new.last) }
+        ensures timed_opens { OnOk result (IsTimedStreamTo (sent_text (line_at true self.old now)) self.new.told self.new.timing.told self.new.last) }
         ensures follows { (t : Taking) → FollowsTaker self.old t → FollowsTaker self.new t }
     {
         self.tables();

@@ -1,5 +1,5 @@
 //! Items whose rows are read from their ledgers.
-ghost use Rattle.std.specs.Prelude.{◌≡◌, ◌≤◌, ◌<◌, ◌++◌, ◌∷◌, [], List, length, None, OnOk, OnErr, IfErr};
+ghost use Rattle.std.specs.Prelude.{◌≡◌, ◌≤◌, ◌<◌, ◌++◌, ◌∷◌, [], List, length, vec_capacity, None, OnOk, OnErr, IfErr};
 ghost use Rattle.tk_core.specs.declared.op.row.OpRow.{OpRow};
 ghost use Rattle.tk_core.specs.declared.resource.row.ResourceRow.{ResourceRow};
 ghost use Rattle.tk_core.specs.declared.task.row.TaskRow.{TaskRow};
@@ -16,9 +16,9 @@ ghost use Rattle.tk_stream.specs.Tables.{item_with, task_with, with_task, resour
 use std::alloc::AllocError;
 use std::sync::Wait;
 use tk_core::{OpRow, ResourceRow, TaskRow};
-use tk_ids::{OpInfo, ResourceId, ResourceInfo, TaskInfo};
-use tk_ledgers::{OpInspector, ResourceInspector, TaskInspector};
-use tk_stream::{Op, Resource, Table, Tables, Task, Told, ToldRows, ToldTables};
+use tk_ids::{OpInfo, ResourceId, ResourceInfo, TaskId, TaskInfo};
+use tk_ledgers::{OpInspector, ResourceInspector, TaskInspector, TimesInspector};
+use tk_stream::{Op, PollTimes, Resource, Table, Tables, Task, Told, ToldRows, ToldTables};
 
 /// An item that has a handle of its ledger.
 pub(crate) trait Ledgered: Told {
@@ -67,6 +67,18 @@ impl Ledgered for Op {
     }
 }
 
+impl Ledgered for (TaskId, PollTimes) {
+    ghost use Rattle.tk_aggregator.specs.Timing.{ReadsShown};
+
+    type Handle = TimesInspector;
+
+    ghost reads = { ReadsShown };
+
+    fn read<R: Wait>(handle: &mut TimesInspector, rt: &R) -> PollTimes {
+        PollTimes::of(&handle.read(rt))
+    }
+}
+
 /// Each handle reads once, and the row of its item is what it read. A row that is the same is not written.
 pub(crate) fn refresh_all<T: Ledgered, R: Wait>(
     rt: &R,
@@ -77,6 +89,7 @@ pub(crate) fn refresh_all<T: Ledgered, R: Wait>(
     requires { length handles.old.items ≡ length table.old }
     ensures reads { (rows : List T.Row) × EachReads T.reads handles.old.items rows handles.new.items × (table.new ≡ with_rows T.with_row table.old rows) }
     ensures told { TellsSame T.with_row table.old told.old table.new told.new }
+    ensures seats { vec_capacity handles.new ≡ vec_capacity handles.old }
 {
     for i in 0..handles.len() {
         let row = T::read(&mut handles[i], rt);

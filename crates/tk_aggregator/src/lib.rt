@@ -10,6 +10,7 @@ mod ledgered;
 mod published;
 mod removal;
 mod stream_error;
+mod timing;
 
 pub use aggregator::Aggregator;
 pub use published::Published;

@@ -9,6 +9,7 @@ mod retention;
 mod tasks;
 mod texts;
 mod threads;
+mod times;
 mod waits;
 mod writers;
 
@@ -43,6 +44,14 @@ fn lets_closed_items_leave(rt: HostRuntime) {
     assert!(rt; retention::is_told_as_closed_first(&rt, alloc));
     assert!(rt; retention::leaves_byte_by_byte(&rt, alloc));
     retention::assert_it_stays_where_the_line_is_cut_off(&rt);
+}
+
+#[test]
+fn tells_histograms_of_poll_times(rt: HostRuntime) {
+    let alloc = rt.alloc();
+    assert!(rt; times::tells_histograms(&rt, alloc));
+    assert!(rt; times::lets_histograms_leave(&rt, alloc));
+    assert!(rt; times::reads_none_unasked(&rt, alloc));
 }
 
 #[test]

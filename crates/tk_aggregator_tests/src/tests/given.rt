@@ -35,7 +35,7 @@ pub(super) fn location(alloc: Global, line: u32) -> Option<Location> {
     })
 }
 
-fn task(alloc: Global, name: &[u8], line: u32) -> Option<TaskSpec> {
+pub(super) fn spawn_spec(alloc: Global, name: &[u8], line: u32) -> Option<TaskSpec> {
     let name = Name::new(alloc, name).ok()?;
     let location = location(alloc, line)?;
     Some(TaskSpec {
@@ -53,7 +53,7 @@ pub(super) fn make_task<R: Wait>(
     name: &[u8],
     created: u64,
 ) -> Option<TaskOwner> {
-    let spec = task(alloc, name, 1)?;
+    let spec = spawn_spec(alloc, name, 1)?;
     let (owner, _) = recorder.task(rt, alloc, spec, created).ok()?;
     Some(owner)
 }

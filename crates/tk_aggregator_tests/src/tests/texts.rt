@@ -52,3 +52,17 @@ pub(super) const NOTHING_GONE: &str =
 pub(super) const LEFT: &str =
     r#"{"dropped":[0,0,0],"gone_ops":[],"gone_resources":[],"gone_tasks":[1099511627777],"new_ops":[],"new_resources":[],"new_tasks":[],"now":20,"op_stats":[],"poll_counts":[],"resource_stats":[],"seq":2,"snapshot":false,"task_stats":[],"v":2}
 "#;
+
+// A task with a histogram that was created at 1 and told at 2; two polls of it, of 20,000 ns and 5 ns, told at 40,000; a line that tells nothing new,
+// and a snapshot.
+pub(super) const TIMED: &str =
+    r#"{"dropped":[0,0,0],"gone_ops":[],"gone_resources":[],"gone_tasks":[],"new_ops":[],"new_resources":[],"new_tasks":[{"id":1099511627777,"kind":"spawn","loc":["script",1,1],"name":"a"}],"now":2,"op_stats":[],"poll_counts":[],"resource_stats":[],"seq":1,"snapshot":false,"task_stats":[{"busy":0,"clones":0,"created":1,"dropped":null,"drops":0,"first_poll":null,"handles":1,"id":1099511627777,"last_ended":null,"last_started":null,"last_wake":null,"polling":false,"polls":0,"sched":0,"scheduled":true,"self_wakes":0,"wakes":0}],"task_times":[{"counts":[],"id":1099511627777,"longest":0}],"v":3}
+{"dropped":[0,0,0],"gone_ops":[],"gone_resources":[],"gone_tasks":[],"new_ops":[],"new_resources":[],"new_tasks":[],"now":40000,"op_stats":[],"poll_counts":[],"resource_stats":[],"seq":2,"snapshot":false,"task_stats":[{"busy":20005,"clones":0,"created":1,"dropped":null,"drops":0,"first_poll":3,"handles":1,"id":1099511627777,"last_ended":30005,"last_started":30000,"last_wake":null,"polling":false,"polls":2,"sched":2,"scheduled":false,"self_wakes":0,"wakes":0}],"task_times":[{"counts":[[0,1],[1,1]],"id":1099511627777,"longest":20000}],"v":3}
+{"dropped":[0,0,0],"gone_ops":[],"gone_resources":[],"gone_tasks":[],"new_ops":[],"new_resources":[],"new_tasks":[],"now":40001,"op_stats":[],"poll_counts":[],"resource_stats":[],"seq":3,"snapshot":false,"task_stats":[],"task_times":[],"v":3}
+{"dropped":[0,0,0],"gone_ops":[],"gone_resources":[],"gone_tasks":[],"new_ops":[],"new_resources":[],"new_tasks":[{"id":1099511627777,"kind":"spawn","loc":["script",1,1],"name":"a"}],"now":40002,"op_stats":[],"poll_counts":[],"resource_stats":[],"seq":4,"snapshot":true,"task_stats":[{"busy":20005,"clones":0,"created":1,"dropped":null,"drops":0,"first_poll":3,"handles":1,"id":1099511627777,"last_ended":30005,"last_started":30000,"last_wake":null,"polling":false,"polls":2,"sched":2,"scheduled":false,"self_wakes":0,"wakes":0}],"task_times":[{"counts":[[0,1],[1,1]],"id":1099511627777,"longest":20000}],"v":3}
+"#;
+
+// After a line that told of a closed task with a histogram: it leaves.
+pub(super) const TIMED_LEFT: &str =
+    r#"{"dropped":[0,0,0],"gone_ops":[],"gone_resources":[],"gone_tasks":[1099511627777],"new_ops":[],"new_resources":[],"new_tasks":[],"now":20,"op_stats":[],"poll_counts":[],"resource_stats":[],"seq":2,"snapshot":false,"task_stats":[],"task_times":[],"v":3}
+"#;

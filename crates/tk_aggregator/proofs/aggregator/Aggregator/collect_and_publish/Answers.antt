@@ -1,5 +1,7 @@
-use Rattle.std.proofs.Common.{ℕ, ◌+◌, sym, ap, ◌∙◌, subst, inr}
+use Rattle.std.proofs.Common.{ℕ, List, ◌+◌, sym, ap, ◌∙◌, subst, inr}
 use Rattle.tk_stream.specs.Streams.{IsStreamTo}
+use Rattle.tk_stream.specs.Times.{TaskTimes}
+use Rattle.tk_aggregator.specs.Publishing.{IsTimedStreamTo}
 use Rattle.tk_stream.specs.Tables.{TablesView}
 use Rattle.tk_aggregator.proofs.FollowLemmas.{then_same}
 use Rattle.tk_aggregator.proofs.PublishLemmas.{caught_up, refresh_follows, line_kept}
@@ -20,6 +22,10 @@ returns-in-Ok-publish-clause-ok g c =
       stream = λ bytes stream.
           c.in-Ok-publish.ensures.stream bytes (subst (λ (told : TablesView). IsStreamTo bytes told c.refresh.new.self.last) (sym stays.told)
           (subst (λ (last : ℕ). IsStreamTo bytes c.args.self.now.told last) (sym stays.last) stream));
+      timed_stream = λ bytes stream.
+          c.in-Ok-publish.ensures.timed_stream bytes (subst (λ (told : TablesView). IsTimedStreamTo bytes told c.refresh.new.self.timing.told c.refresh.new.self.last) (sym stays.told)
+          (subst (λ (times : List TaskTimes). IsTimedStreamTo bytes c.args.self.now.told times c.refresh.new.self.last) (sym stays.times_told)
+          (subst (λ (last : ℕ). IsTimedStreamTo bytes c.args.self.now.told c.args.self.now.timing.told last) (sym stays.last) stream)));
     }
 
 pub returns-in-Ok-publish-clause-kept : goal.returns-in-Ok-publish-clause-kept

@@ -16,7 +16,7 @@ returns-in-Err-clause-err g c =
     let event = c.in-Some.event in
     let held : Gathers c.args.self.now c.args.taker.now inv.0 (record c.next_event.new.self { held = Some event }) c.next_event.new.taker =
     gathers_held c.args.self.now c.args.taker.now inv.0 c.loop-count.self c.loop-count.taker event c.next_event.new.self c.next_event.new.taker inv.1 c.in-Some.ensures.some in
-    let same : whole a.tables a.told a.tasks.items a.resources.items a.ops.items a.held a.last a.broken a.retention ≡ c.next_event.new.self = c.self.view_is ∙ c.in-Err.ensures.err in (
+    let same : whole a.tables a.told a.tasks.items a.resources.items a.ops.items a.held a.last a.broken a.retention a.timing ≡ c.next_event.new.self = c.self.view_is ∙ c.in-Err.ensures.err in (
       refl,
       record {
         taken = inv.0;

@@ -2,8 +2,9 @@ use Rattle.std.proofs.Common.{◌++◌, true, sym, subst}
 use Rattle.tk_aggregator.specs.Aggregates.{Aggregating, FollowsTaker, line_at}
 use Rattle.tk_stream.specs.Spelling.{sent_text}
 use Rattle.tk_stream.specs.Streams.{IsStreamTo}
+use Rattle.tk_aggregator.specs.Publishing.{IsTimedStreamTo}
 use Rattle.tk_aggregator.proofs.FollowLemmas.{line_follows, refused_follows}
-use Rattle.tk_aggregator.proofs.SendLemmas.{may_send, stream_goes_on, stream_opens}
+use Rattle.tk_aggregator.proofs.SendLemmas.{may_send, stream_goes_on, stream_opens, timed_goes_on, timed_opens}
 use Rattle.tk_aggregator.proofs.aggregator.Aggregator.snapshot.Goals as goal
 
 pub returns-clause-stream : goal.returns-clause-stream
@@ -15,6 +16,16 @@ pub returns-clause-opens : goal.returns-clause-opens
 returns-clause-opens g c =
     subst (λ (b : Aggregating). IsStreamTo (sent_text (line_at true c.args.self.now c.args.now)) b.told b.last) (sym c.in_ok-number.ensures.state)
     (stream_opens c.args.self.now c.args.now c.tables.ensures.sound c.in_ok-number.ensures.due c.ranges.now.fits)
+
+pub returns-clause-timed_stream : goal.returns-clause-timed_stream
+returns-clause-timed_stream g c bytes stream =
+    subst (λ (b : Aggregating). IsTimedStreamTo (bytes ++ sent_text (line_at true c.args.self.now c.args.now)) b.told b.timing.told b.last) (sym c.in_ok-number.ensures.state)
+    (timed_goes_on c.args.self.now c.args.now true c.tables.ensures.sound c.in_ok-number.ensures.due c.ranges.now.fits bytes stream)
+
+pub returns-clause-timed_opens : goal.returns-clause-timed_opens
+returns-clause-timed_opens g c =
+    subst (λ (b : Aggregating). IsTimedStreamTo (sent_text (line_at true c.args.self.now c.args.now)) b.told b.timing.told b.last) (sym c.in_ok-number.ensures.state)
+    (timed_opens c.args.self.now c.args.now c.tables.ensures.sound c.in_ok-number.ensures.due c.ranges.now.fits)
 
 pub returns-clause-may_send : goal.returns-clause-may_send
 returns-clause-may_send g c due = may_send c.args.self.now c.args.now true c.tables.ensures.sound due c.ranges.now.fits
