@@ -37,7 +37,7 @@ pub begun : (i new : Interpreter) (settings : Settings) (c : Course) (line : ℕ
     → (b : Bool) → new ≡ record i { begun = b } → b ≡ (not (is_setting s) || c.begun)
     → StandsFor new settings (step_on c line s) kept sent
 begun i new settings c line s kept sent stands b is same = subst (λ (n : Interpreter). StandsFor n settings (step_on c line s) kept sent) (sym is) (record {
-  keeps = record { offered = stands.keeps.offered; takes = stands.keeps.takes; are = stands.keeps.are };
+  keeps = record { offered = stands.keeps.offered; takes = stands.keeps.takes; timed = stands.keeps.timed; are = stands.keeps.are };
   holds = record {
     tasks_are = stands.holds.tasks_are;
     owners = stands.holds.owners;

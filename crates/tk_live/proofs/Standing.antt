@@ -47,7 +47,7 @@ unmarked i settings k kept sent stands = subst (λ (m : List Bool). StandsFor i 
 pub capacity_told : (i new : Interpreter) (settings : Settings) (k : Course) (kept : List Bool) (sent : List Sending) → StandsFor i settings k kept sent → new ≡ record i { capacity_said = true }
     → StandsFor new settings (record k { capacity_said = true }) (kept ++ []) sent
 capacity_told i new settings k kept sent stands is = unmarked new settings (record k { capacity_said = true }) kept sent (subst (λ (n : Interpreter). StandsFor n settings (record k { capacity_said = true }) kept sent) (sym is) (record {
-  keeps = record { offered = stands.keeps.offered; takes = stands.keeps.takes; are = stands.keeps.are };
+  keeps = record { offered = stands.keeps.offered; takes = stands.keeps.takes; timed = stands.keeps.timed; are = stands.keeps.are };
   holds = stands_holds stands.holds;
   capacity_said = refl;
   retention_said = stands.retention_said;
@@ -67,7 +67,7 @@ capacity_told i new settings k kept sent stands is = unmarked new settings (reco
 pub retention_told : (i new : Interpreter) (settings : Settings) (k : Course) (kept : List Bool) (sent : List Sending) → StandsFor i settings k kept sent → new ≡ record i { retention_said = true }
     → StandsFor new settings (record k { retention_said = true }) (kept ++ []) sent
 retention_told i new settings k kept sent stands is = unmarked new settings (record k { retention_said = true }) kept sent (subst (λ (n : Interpreter). StandsFor n settings (record k { retention_said = true }) kept sent) (sym is) (record {
-  keeps = record { offered = stands.keeps.offered; takes = stands.keeps.takes; are = stands.keeps.are };
+  keeps = record { offered = stands.keeps.offered; takes = stands.keeps.takes; timed = stands.keeps.timed; are = stands.keeps.are };
   holds = stands_holds stands.holds;
   capacity_said = stands.capacity_said;
   retention_said = refl;
@@ -87,7 +87,7 @@ retention_told i new settings k kept sent stands is = unmarked new settings (rec
 pub times_told : (i new : Interpreter) (settings : Settings) (k : Course) (kept : List Bool) (sent : List Sending) → StandsFor i settings k kept sent → new ≡ record i { times_said = true }
     → StandsFor new settings (record k { times_said = true }) (kept ++ []) sent
 times_told i new settings k kept sent stands is = unmarked new settings (record k { times_said = true }) kept sent (subst (λ (n : Interpreter). StandsFor n settings (record k { times_said = true }) kept sent) (sym is) (record {
-  keeps = record { offered = stands.keeps.offered; takes = stands.keeps.takes; are = stands.keeps.are };
+  keeps = record { offered = stands.keeps.offered; takes = stands.keeps.takes; timed = stands.keeps.timed; are = stands.keeps.are };
   holds = stands_holds stands.holds;
   capacity_said = stands.capacity_said;
   retention_said = stands.retention_said;
@@ -110,7 +110,7 @@ pub went_on : (i new : Interpreter) (settings : Settings) (k : Course) (names : 
     → StandsFor new settings (record k { names = names }) kept sent
 went_on i new settings k names kept sent stands is holds same =
     subst (λ (n : Interpreter). Holds n names → StandsFor n settings (record k { names = names }) kept sent) (sym is) (λ h. record {
-      keeps = record { offered = subst (λ (n : Numbers). Rattle.tk_live.specs.Runs.Offered i.recorder settings.capacity n k.told kept) (sym same) stands.keeps.offered; takes = stands.keeps.takes; are = stands.keeps.are };
+      keeps = record { offered = subst (λ (n : Numbers). Rattle.tk_live.specs.Runs.Offered i.recorder settings.capacity n k.told kept) (sym same) stands.keeps.offered; takes = stands.keeps.takes; timed = stands.keeps.timed; are = stands.keeps.are };
       holds = h;
       capacity_said = stands.capacity_said;
       retention_said = stands.retention_said;

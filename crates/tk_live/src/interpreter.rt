@@ -1,6 +1,7 @@
 //! The run of a script over live ledgers.
 ghost use Rattle.std.specs.Prelude.{◌≡◌, IfOk};
 ghost use Rattle.tk_aggregator.specs.Aggregates.{new_aggregating};
+ghost use Rattle.tk_aggregator.specs.Timing.{no_timing};
 
 mod lines;
 mod ops;
@@ -38,10 +39,13 @@ pub(crate) struct Interpreter {
     pub(crate) begun: bool,
 }
 
-// The aggregator of a script. Where closed items leave, its lines say what is gone.
+// The aggregator of a script. Where closed items leave, its lines say what is gone, and where tasks have histograms, they tell these.
 fn aggregator_for(alloc: Global, settings: Settings) -> Result<Aggregator, StreamError>
-    ensures { IfOk result (λ a. a ≡ new_aggregating 0 settings.retention) }
+    ensures { IfOk result (λ a. a ≡ record (new_aggregating 0 settings.retention) { timing = no_timing settings.times }) }
 {
+    if settings.times {
+        return Aggregator::with_times(alloc, 0, settings.retention);
+    }
     match settings.retention {
         Some(span) => Aggregator::with_retention(alloc, 0, span),
         None => Aggregator::new(alloc, 0),
@@ -99,7 +103,7 @@ impl Interpreter {
         requires room { (room.items ≡ []) × (1 ≤ vec_capacity room) }
         requires keeps { (settings : Settings) × (c : Course) × (kept : List Bool) × (sent : List Sending) × Stays self settings c kept sent }
         ensures { (settings : Settings) (c : Course) (kept : List Bool) (sent : List Sending) → Stays self settings c kept sent
-            → AreLinesOf settings.retention (picked kept c.told) c.due sent }
+            → AreLinesOf settings (picked kept c.told) c.due sent }
     {
         let Interpreter {
             recorder,

@@ -30,7 +30,7 @@ struct Came {
     left: u64,
     // How many told histograms.
     timed: u64,
-    // Of which buckets one was the first that isn't empty.
+    // Which of their buckets were seen with a count.
     buckets: [bool; 14],
     // Which of the names were seen.
     names: [bool; 9],
@@ -55,18 +55,14 @@ fn lets_items_leave(stream: &[u8]) -> bool {
         || text.contains("\"gone_tasks\":[1")
 }
 
-// What a histogram begins with whose shortest time lies in this bucket.
-fn begin_of(alloc: Global, bucket: usize) -> Result<String, AllocError> {
-    let mut begin = String::new(alloc);
-    write!(begin, "\"counts\":[[{bucket},")?;
-    Ok(begin)
-}
-
-fn tells_bucket(alloc: Global, stream: &str, bucket: usize) -> bool {
-    match begin_of(alloc, bucket) {
-        Ok(begin) => stream.contains(begin.as_str()),
-        Err(_) => false,
-    }
+// Whether a histogram has a count of this bucket, as the first of its list or after another. No other list of lists begins so: that of poll
+// counts has ids.
+fn tells_bucket(alloc: Global, stream: &str, bucket: usize) -> Result<bool, AllocError> {
+    let mut first = String::new(alloc);
+    write!(first, "\"counts\":[[{bucket},")?;
+    let mut later = String::new(alloc);
+    write!(later, "],[{bucket},")?;
+    Ok(stream.contains(first.as_str()) || stream.contains(later.as_str()))
 }
 
 fn lines_in(stream: &[u8]) -> u64 {
@@ -96,7 +92,7 @@ impl Came {
             self.timed = self.timed.saturating_add(1);
         }
         for bucket in 0..14 {
-            if tells_bucket(alloc, text, bucket) {
+            if tells_bucket(alloc, text, bucket) == Ok(true) {
                 self.buckets[bucket] = true;
             }
         }

@@ -157,7 +157,7 @@ fn late_moment(random: &mut Pcg32) -> u64 {
 fn moment(random: &mut Pcg32) -> u64 {
     match below(random, 32) {
         0 => u64::MAX,
-        1..=3 => late_moment(random),
+        1..=10 => late_moment(random),
         _ => below(random, 1000),
     }
 }

@@ -13,6 +13,7 @@ use Rattle.tk_live.specs.Course.{Names, task_info, new_task}
 use Rattle.tk_live.specs.Known.{owner_of}
 use Rattle.tk_live.specs.Runs.{numbers_of, IsOwner}
 use Rattle.tk_live.specs.Named.{EachLive}
+use Rattle.tk_live.proofs.Histograms.{offers_more, has_ledger}
 use Rattle.tk_live.proofs.Offers.{recorded}
 use Rattle.tk_live.proofs.Places.{each_more}
 use Rattle.tk_live.proofs.Recording.{unspent, nothing_more, offered_more, info_is, task_id_is}
@@ -36,7 +37,7 @@ returns-in-Ok-record_task g c settings k kept sent stands =
       one.0 ∷ [],
       record {
         keeps = offered_more i.recorder c.record_task.new.recorder i.taker i.aggregator settings k names (k.told ++ made_task (task_info n c.args.line c.args.kind c.args.name.now) ∷ []) kept (one.0 ∷ []) sent
-            _ _ stands.keeps e.same one.1 (λ j. record { tasks = sym (length-append k.names.tasks (Some (new_task n c.args.created) ∷ [])) j; resources = nothing_more (length k.names.resources) j; ops = nothing_more (length k.names.ops) j }) (ap (λ x. k.told ++ made_task x ∷ []) info);
+            _ _ stands.keeps e.same (λ timed. offers_more i.recorder c.record_task.new.recorder event c.in-Ok-record_task._became (has_ledger owner.times (e.timed ∙ stands.times_is ∙ timed)) e.kept e.refused) one.1 (λ j. record { tasks = sym (length-append k.names.tasks (Some (new_task n c.args.created) ∷ [])) j; resources = nothing_more (length k.names.resources) j; ops = nothing_more (length k.names.ops) j }) (ap (λ x. k.told ++ made_task x ∷ []) info);
         holds = record {
           tasks_are = ap (map (option_map owner_of)) (c.push_reserved.ensures.items ∙ ap (λ l. l ++ Some owner ∷ []) c.in_default-reserve.ensures.items) ∙ (map-append (option_map owner_of) i.tasks.items (Some owner ∷ [])
               ∙ (ap (λ l. l ++ Some (owner_of owner) ∷ []) stands.holds.tasks_are ∙ ap (λ h. k.names.tasks ++ Some h ∷ []) known));
