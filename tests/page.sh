@@ -4,7 +4,8 @@
 # Usage: tests/page.sh            behind `rt ci`, or `rt run` in crates/taskscope.
 #        tests/page.sh --picture  makes docs/page.png anew, of examples/service.script.html, and tries nothing. It wants `chromium` and `pngquant`.
 #
-# The frame is what frame/make.py writes and the service's script what examples/service.py does. Of the page of each example, which
+# The frame is what frame/make.py writes, and the scripts of the service and of the long tail are what examples/service.py and
+# examples/long-tail.py do. Of the page of each example, which
 # tests/examples.sh compares byte for byte with what the program writes, tests/page/check_page.py reads the text as HTML and compares
 # its numbers with the example's stream; so it does with pages of services at random, whose closed tasks leave. In a browser
 # tests/page/try_script.py sorts and filters the service's page.
@@ -38,6 +39,7 @@ fi
 
 step "the frame is what its script writes" python3 "$root/crates/tk_page/frame/make.py" --check
 step "the service's script is what its script writes" python3 "$examples/service.py" --check
+step "the long tail's script is what its script writes" python3 "$examples/long-tail.py" --check
 step "the picture has at most 150 kB" is_small "$picture"
 
 # A service in which chance falls as this number says, and whose closed tasks leave: its stream and its page.

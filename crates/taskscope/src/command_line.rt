@@ -109,6 +109,7 @@ const RUN_LONG_ABOUT: &str = "Runs a script and writes its stream to standard ou
 A script has one command a line, its words between single spaces:
   capacity COUNT         holds so many events between two lines, 1 to 65536; once, before other commands
   retention SPAN         lets closed items leave after so many nanoseconds; once, before other commands
+  times                  gives each task a histogram of how long its polls ran; once, before other commands
   task MOMENT KIND NAME  makes a task, of kind spawn or blocking
   start TASK MOMENT      starts a poll of the task
   selfwake TASK MOMENT   wakes the task from within its poll
@@ -133,6 +134,7 @@ A new item and a poll operation are events. Of those since the line before 1024 
 said; where there are more, `dropped` counts what was lost: publish more often, or begin with a greater capacity.
 
 With a retention a line says which items are gone: each was closed for so long, and told of as closed before.
+With times a line tells the histograms that are new, or others than it told last.
 
 A script has at most 1,048,576 bytes. It stops at its first fault, and the lines before it stay.";
 

@@ -35,12 +35,14 @@ use Rattle.tk_live.proofs.Working.{goes_alone}
 -- a block that opens or closes changes nothing else
 pub with_block : (i : Interpreter) (settings : Settings) (c : Course) (kept : List Bool) (sent : List Sending) (b : Option Block) → StandsFor i settings c kept sent → StandsFor i settings (record c { block = b }) kept sent
 with_block i settings c kept sent b stands = record {
-  keeps = record { offered = stands.keeps.offered; takes = stands.keeps.takes; are = stands.keeps.are };
+  keeps = record { offered = stands.keeps.offered; takes = stands.keeps.takes; timed = stands.keeps.timed; are = stands.keeps.are };
   holds = stands.holds;
   capacity_said = stands.capacity_said;
   retention_said = stands.retention_said;
+  times_said = stands.times_said;
   begun = stands.begun;
   capacity_is = stands.capacity_is;
+  times_is = stands.times_is;
   least = stands.least;
   moment = stands.moment;
   numbers = stands.numbers;
@@ -50,7 +52,7 @@ with_block i settings c kept sent b stands = record {
 pub opened : (i new : Interpreter) (settings : Settings) (c : Course) (kept : List Bool) (sent : List Sending) → StandsFor i settings c kept sent → new ≡ record i { begun = true }
     → StandsFor new settings (record c { begun = true; block = Some no_lines }) kept sent
 opened i new settings c kept sent stands is = subst (λ (n : Interpreter). StandsFor n settings (record c { begun = true; block = Some no_lines }) kept sent) (sym is) (record {
-  keeps = record { offered = stands.keeps.offered; takes = stands.keeps.takes; are = stands.keeps.are };
+  keeps = record { offered = stands.keeps.offered; takes = stands.keeps.takes; timed = stands.keeps.timed; are = stands.keeps.are };
   holds = record {
     tasks_are = stands.holds.tasks_are;
     owners = stands.holds.owners;
@@ -61,8 +63,10 @@ opened i new settings c kept sent stands is = subst (λ (n : Interpreter). Stand
   };
   capacity_said = stands.capacity_said;
   retention_said = stands.retention_said;
+  times_said = stands.times_said;
   begun = refl;
   capacity_is = stands.capacity_is;
+  times_is = stands.times_is;
   least = stands.least;
   moment = stands.moment;
   numbers = stands.numbers;
@@ -93,6 +97,7 @@ step_block c line (said.change_op n i change) = refl
 step_block c line (said.poll_op r o t name ready) = refl
 step_block c line (said.capacity n) = refl
 step_block c line (said.retention n) = refl
+step_block c line said.times = refl
 step_block c line (said.publish m whole) = refl
 
 none_some : {X : Type 0} {x : X} → None ≡ Some x → ⊥

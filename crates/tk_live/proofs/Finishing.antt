@@ -14,8 +14,9 @@ use Rattle.tk_aggregator.specs.Aggregates.{Aggregating}
 use Rattle.tk_stream.specs.Streams.{Sending}
 use Rattle.tk_live.specs.Course.{Course}
 use Rattle.tk_live.specs.Ran.{picked, AreLinesOf}
-use Rattle.tk_live.specs.Runs.{Keeps, offer_tells, held_tells}
+use Rattle.tk_live.specs.Runs.{Keeps, HaveTimes, offer_tells, held_tells}
 use Rattle.tk_script.specs.declared.settings.Settings.{Settings}
+use Rattle.tk_live.proofs.Histograms.{first_have}
 
 -- what one recorder kept is what was taken of it, and then what is left of it
 pub kept_is : (r : Recording) (t after : Taking) (back : Retiring) (left : List Offer) → after ≡ finished_with t (back ∷ []) → back.offers.number ≡ 1 → back.offers.kept ≡ r.kept → AreLeft after left → t.recorders ≡ 1
@@ -30,7 +31,7 @@ kept_is r t after back left is number kept are one named =
 
 -- so what lines tell is a front of what was kept
 pub finished : (r : Recording) (t after : Taking) (a : Aggregating) (settings : Settings) (k : Course) (kept : List Bool) (sent : List Sending) (back : Retiring) (left : List Offer) → Keeps r t a settings k kept sent
-    → after ≡ finished_with t (back ∷ []) → back.offers.number ≡ r.number → back.offers.kept ≡ r.kept → AreLeft after left → All (IsNamed after.recorders) after.taken → AreLinesOf settings.retention (picked kept k.told) k.due sent
+    → after ≡ finished_with t (back ∷ []) → back.offers.number ≡ r.number → back.offers.kept ≡ r.kept → AreLeft after left → All (IsNamed after.recorders) after.taken → AreLinesOf settings (picked kept k.told) k.due sent
 finished r t after a settings k kept sent back left keeps is number kept_same are named =
     let all : r.kept ≡ t.taken ++ by 1 left = kept_is r t after back left is (number ∙ keeps.offered.number) kept_same are keeps.takes.recorders named in
     let told : picked kept k.told ≡ map offer_tells t.taken ++ map offer_tells (by 1 left) = sym keeps.offered.picks ∙ (ap (map offer_tells) all ∙ map-append offer_tells t.taken (by 1 left)) in
@@ -39,5 +40,5 @@ finished r t after a settings k kept sent back left keeps is number kept_same ar
       news = lines.news;
       behind = (lines.since ++ held_tells a.held) ++ map offer_tells (by 1 left);
       is_front = told ∙ ap (λ xs. xs ++ map offer_tells (by 1 left)) lines.taken ∙ append_assoc (flat_map (λ told. told) lines.news) (lines.since ++ held_tells a.held) (map offer_tells (by 1 left));
-      each = lines.lines;
+      each = lines.lines (λ timed. first_have t.taken (by 1 left) (subst HaveTimes all (keeps.timed timed)));
     }

@@ -7,8 +7,9 @@ use Rattle.tk_ids.specs.declared.info.ResourceInfo.{ResourceInfo}
 use Rattle.tk_ids.specs.declared.info.TaskInfo.{TaskInfo}
 use Rattle.tk_stream.specs.Lines.{none_gone, gone_of, gone_between}
 use Rattle.tk_stream.specs.Retention.{due_of}
-use Rattle.tk_stream.specs.Streams.{Sending, gone_by, tables_sent}
+use Rattle.tk_stream.specs.Streams.{Sending, gone_by, tables_sent, times_sent}
 use Rattle.tk_stream.specs.Tables.{TablesView}
+use Rattle.tk_stream.specs.Times.{TaskTimes}
 use Rattle.tk_stream.proofs.GoneLemmas.{staying_all}
 use Rattle.tk_stream.proofs.PruneLemmas.{distinct_begin, pruned_line}
 use Rattle.tk_aggregator.specs.Absorbing.{Infos, infos_of, with_told, absorb, infos_without}
@@ -16,7 +17,8 @@ use Rattle.tk_aggregator.specs.Aggregates.{Aggregating, IsSound, pruned, tables_
 use Rattle.tk_aggregator.specs.Told.{Told, tells}
 use Rattle.tk_aggregator.proofs.FollowLemmas.{infos_left}
 use Rattle.tk_live.specs.Course.{Due}
-use Rattle.tk_live.specs.Ran.{infos_with, leaving, IsLineOf, EachIsLine}
+use Rattle.tk_live.specs.Ran.{infos_with, leaving, times_behind, IsLineOf, EachIsLine}
+use Rattle.tk_script.specs.declared.settings.Settings.{Settings}
 
 -- events add to infos and counts what they tell
 pub absorb_told : (infos : Infos) (ss : List Shown) → absorb infos ss ≡ infos_with infos (map tells ss)
@@ -62,11 +64,11 @@ just_due false a now sound removes = by a.retention removes
 
 -- ---- one line more
 
-pub each_line_push : (retention : Option ℕ) (t : TablesView) (news : List (List Told)) (due : List Due) (sent : List Sending) (since : List Told) (d : Due) (s : Sending) → EachIsLine retention t news due sent
-    → IsLineOf retention (tables_sent t sent) since d s → EachIsLine retention t (news ++ since ∷ []) (due ++ d ∷ []) (sent ++ s ∷ [])
-each_line_push retention t [] [] [] since d s each line = (line, tt)
-each_line_push retention t [] [] (y ∷ ys) since d s each line = absurd each
-each_line_push retention t [] (e ∷ es) ys since d s each line = absurd each
-each_line_push retention t (n ∷ ns) [] ys since d s each line = absurd each
-each_line_push retention t (n ∷ ns) (e ∷ es) [] since d s each line = absurd each
-each_line_push retention t (n ∷ ns) (e ∷ es) (y ∷ ys) since d s each line = (each.0, each_line_push retention y.tables ns es ys since d s each.1 line)
+pub each_line_push : (settings : Settings) (t : TablesView) (had : List TaskTimes) (news : List (List Told)) (due : List Due) (sent : List Sending) (since : List Told) (d : Due) (s : Sending) → EachIsLine settings t had news due sent
+    → IsLineOf settings (tables_sent t sent) (times_sent had t sent) since d s → EachIsLine settings t had (news ++ since ∷ []) (due ++ d ∷ []) (sent ++ s ∷ [])
+each_line_push settings t had [] [] [] since d s each line = (line, tt)
+each_line_push settings t had [] [] (y ∷ ys) since d s each line = absurd each
+each_line_push settings t had [] (e ∷ es) ys since d s each line = absurd each
+each_line_push settings t had (n ∷ ns) [] ys since d s each line = absurd each
+each_line_push settings t had (n ∷ ns) (e ∷ es) [] since d s each line = absurd each
+each_line_push settings t had (n ∷ ns) (e ∷ es) (y ∷ ys) since d s each line = (each.0, each_line_push settings y.tables (times_behind had t y) ns es ys since d s each.1 line)

@@ -37,7 +37,7 @@ pub begun : (i new : Interpreter) (settings : Settings) (c : Course) (line : ℕ
     → (b : Bool) → new ≡ record i { begun = b } → b ≡ (not (is_setting s) || c.begun)
     → StandsFor new settings (step_on c line s) kept sent
 begun i new settings c line s kept sent stands b is same = subst (λ (n : Interpreter). StandsFor n settings (step_on c line s) kept sent) (sym is) (record {
-  keeps = record { offered = stands.keeps.offered; takes = stands.keeps.takes; are = stands.keeps.are };
+  keeps = record { offered = stands.keeps.offered; takes = stands.keeps.takes; timed = stands.keeps.timed; are = stands.keeps.are };
   holds = record {
     tasks_are = stands.holds.tasks_are;
     owners = stands.holds.owners;
@@ -48,8 +48,10 @@ begun i new settings c line s kept sent stands b is same = subst (λ (n : Interp
   };
   capacity_said = stands.capacity_said;
   retention_said = stands.retention_said;
+  times_said = stands.times_said;
   begun = same;
   capacity_is = stands.capacity_is;
+  times_is = stands.times_is;
   least = stands.least;
   moment = stands.moment;
   numbers = stands.numbers;
@@ -92,6 +94,7 @@ no_front sent (said.change_op n i change) stop ne = refl
 no_front sent (said.poll_op r o t name ready) stop ne = refl
 no_front sent (said.capacity n) stop ne = refl
 no_front sent (said.retention n) stop ne = refl
+no_front sent said.times stop ne = refl
 no_front sent (said.publish m whole) stop ne = publish_front sent m whole stop ne
 
 -- a line more has the next number

@@ -17,6 +17,7 @@ use Rattle.tk_aggregator.specs.Told.{made_resource, made_op}
 use Rattle.tk_live.specs.Course.{Course, place, resource_info, new_resource, resource_made, op_info, new_op}
 use Rattle.tk_live.specs.Runs.{numbers_of, Keeps}
 use Rattle.tk_script.specs.declared.settings.Settings.{Settings}
+use Rattle.tk_live.proofs.Histograms.{offers_more}
 use Rattle.tk_live.proofs.Offers.{recorded}
 use Rattle.tk_live.proofs.Recording.{nothing_more, offered_more, resource_id_is, op_id_is}
 
@@ -36,7 +37,7 @@ resource_offered r new t a settings k kept sent spec owner became line created k
     λ j. record { id = id j; parent = is.0 j; concrete = is.1 j; kind = is.2 j; location = is.3 j; attrs = events.infos_of (is.4 j) } in
     let one = recorded r new settings.capacity (numbers_of k.names) k.told kept o same (MadeResource (events.resource_info (next_resource_id r) spec) owner.token.ledger 1) became keeps_it drops full in (
       one.0,
-      offered_more r new t a settings k (resource_made h k.names) (k.told ++ made_resource (resource_info n line kind concrete attrs) ∷ []) kept (one.0 ∷ []) sent _ _ keeps same one.1
+      offered_more r new t a settings k (resource_made h k.names) (k.told ++ made_resource (resource_info n line kind concrete attrs) ∷ []) kept (one.0 ∷ []) sent _ _ keeps same (λ timed. offers_more r new (MadeResource (events.resource_info (next_resource_id r) spec) owner.token.ledger 1) became tt keeps_it drops) one.1
           (λ j. record { tasks = nothing_more (length k.names.tasks) j; resources = sym (length-append k.names.resources (Some h ∷ [])) j; ops = nothing_more (length k.names.ops) j }) (ap (λ x. k.told ++ made_resource x ∷ []) info),
     )
 
@@ -55,6 +56,6 @@ op_offered r new t a settings k kept sent spec owner became created on source at
     let info : events.op_info (next_op_id r) spec ≡ op_info n on source attrs = λ j. record { id = id j; source = is.0 j; resource = is.1 j; parent = is.2 j; attrs = events.infos_of (is.3 j) } in
     let one = recorded r new settings.capacity (numbers_of k.names) k.told kept o same (MadeOp (events.op_info (next_op_id r) spec) owner.token.ledger 1) became keeps_it drops full in (
       one.0,
-      offered_more r new t a settings k (record k.names { ops = k.names.ops ++ Some h ∷ [] }) (k.told ++ made_op (op_info n on source attrs) ∷ []) kept (one.0 ∷ []) sent _ _ keeps same one.1
+      offered_more r new t a settings k (record k.names { ops = k.names.ops ++ Some h ∷ [] }) (k.told ++ made_op (op_info n on source attrs) ∷ []) kept (one.0 ∷ []) sent _ _ keeps same (λ timed. offers_more r new (MadeOp (events.op_info (next_op_id r) spec) owner.token.ledger 1) became tt keeps_it drops) one.1
           (λ j. record { tasks = nothing_more (length k.names.tasks) j; resources = nothing_more (length k.names.resources) j; ops = sym (length-append k.names.ops (Some h ∷ [])) j }) (ap (λ x. k.told ++ made_op x ∷ []) info),
     )

@@ -1,5 +1,5 @@
 -- What an interpreter keeps behind an offer.
-use Rattle.std.proofs.Common.{◌≡◌, ◌≢◌, ℕ, ◌+◌, Bool, List, ◌++◌, length, Some, None, refl, sym, ap, ◌∙◌, subst, arith, eq-eqb}
+use Rattle.std.proofs.Common.{◌≡◌, ◌≢◌, ℕ, ◌+◌, Bool, true, List, ◌++◌, length, Some, None, refl, sym, ap, ◌∙◌, subst, arith, eq-eqb}
 use Rattle.std.proofs.lemmas.Bool.{ne_eqb}
 use Rattle.tk_ids.specs.Ids.{id_of}
 use Rattle.tk_ids.specs.IdBlocks.{last_number}
@@ -11,7 +11,7 @@ use Rattle.tk_stream.specs.Streams.{Sending}
 use Rattle.tk_aggregator.specs.Aggregates.{Aggregating}
 use Rattle.tk_aggregator.specs.Told.{Told}
 use Rattle.tk_live.specs.Course.{Names, Course, place, task_info}
-use Rattle.tk_live.specs.Runs.{Numbers, numbers_of, Keeps, Offered}
+use Rattle.tk_live.specs.Runs.{Numbers, numbers_of, HaveTimes, Keeps, Offered}
 use Rattle.tk_live.specs.Stops.{offer_stop}
 use Rattle.tk_script.specs.declared.stop.Stop.TheVariants.{OffersSpent}
 use Rattle.tk_script.specs.declared.settings.Settings.{Settings}
@@ -33,9 +33,9 @@ spent r capacity numbers k kept o e =
 
 -- one more offer, of as many tasks and what is told now
 pub offered_more : (r new : Recording) (t : Taking) (a : Aggregating) (settings : Settings) (k : Course) (names : Names) (told : List Told) (kept marks : List Bool) (sent : List Sending) (numbers : Numbers) (more : List Told)
-    → Keeps r t a settings k kept sent → IsSameRecorder r new → Offered new settings.capacity numbers more (kept ++ marks) → numbers ≡ numbers_of names → more ≡ told
+    → Keeps r t a settings k kept sent → IsSameRecorder r new → (settings.times ≡ true → HaveTimes r.kept → HaveTimes new.kept) → Offered new settings.capacity numbers more (kept ++ marks) → numbers ≡ numbers_of names → more ≡ told
     → Keeps new t a settings (record k { names = names; told = told }) (kept ++ marks) sent
-offered_more r new t a settings k names told kept marks sent numbers more keeps same offered numbers_are told_is = record {
+offered_more r new t a settings k names told kept marks sent numbers more keeps same have offered numbers_are told_is = record {
   offered = subst (λ (p : Numbers × List Told). Offered new settings.capacity p.0 p.1 (kept ++ marks)) (λ i. (numbers_are i, told_is i)) offered;
   takes = record {
     console = keeps.takes.console ∙ sym same.console;
@@ -43,6 +43,7 @@ offered_more r new t a settings k names told kept marks sent numbers more keeps 
     unfinished = keeps.takes.unfinished;
     known = keeps.takes.known;
   };
+  timed = λ timed. have timed (keeps.timed timed);
   are = keeps.are;
 }
 

@@ -47,12 +47,14 @@ unmarked i settings k kept sent stands = subst (λ (m : List Bool). StandsFor i 
 pub capacity_told : (i new : Interpreter) (settings : Settings) (k : Course) (kept : List Bool) (sent : List Sending) → StandsFor i settings k kept sent → new ≡ record i { capacity_said = true }
     → StandsFor new settings (record k { capacity_said = true }) (kept ++ []) sent
 capacity_told i new settings k kept sent stands is = unmarked new settings (record k { capacity_said = true }) kept sent (subst (λ (n : Interpreter). StandsFor n settings (record k { capacity_said = true }) kept sent) (sym is) (record {
-  keeps = record { offered = stands.keeps.offered; takes = stands.keeps.takes; are = stands.keeps.are };
+  keeps = record { offered = stands.keeps.offered; takes = stands.keeps.takes; timed = stands.keeps.timed; are = stands.keeps.are };
   holds = stands_holds stands.holds;
   capacity_said = refl;
   retention_said = stands.retention_said;
+  times_said = stands.times_said;
   begun = stands.begun;
   capacity_is = stands.capacity_is;
+  times_is = stands.times_is;
   least = stands.least;
   moment = stands.moment;
   numbers = stands.numbers;
@@ -65,12 +67,14 @@ capacity_told i new settings k kept sent stands is = unmarked new settings (reco
 pub retention_told : (i new : Interpreter) (settings : Settings) (k : Course) (kept : List Bool) (sent : List Sending) → StandsFor i settings k kept sent → new ≡ record i { retention_said = true }
     → StandsFor new settings (record k { retention_said = true }) (kept ++ []) sent
 retention_told i new settings k kept sent stands is = unmarked new settings (record k { retention_said = true }) kept sent (subst (λ (n : Interpreter). StandsFor n settings (record k { retention_said = true }) kept sent) (sym is) (record {
-  keeps = record { offered = stands.keeps.offered; takes = stands.keeps.takes; are = stands.keeps.are };
+  keeps = record { offered = stands.keeps.offered; takes = stands.keeps.takes; timed = stands.keeps.timed; are = stands.keeps.are };
   holds = stands_holds stands.holds;
   capacity_said = stands.capacity_said;
   retention_said = refl;
+  times_said = stands.times_said;
   begun = stands.begun;
   capacity_is = stands.capacity_is;
+  times_is = stands.times_is;
   least = stands.least;
   moment = stands.moment;
   numbers = stands.numbers;
@@ -80,18 +84,40 @@ retention_told i new settings k kept sent stands is = unmarked new settings (rec
     stands_holds : Holds i k.names → Holds (record i { retention_said = true }) k.names
     stands_holds h = record { tasks_are = h.tasks_are; owners = h.owners; wakers_are = h.wakers_are; resources_are = h.resources_are; users_are = h.users_are; ops_are = h.ops_are }
 
+pub times_told : (i new : Interpreter) (settings : Settings) (k : Course) (kept : List Bool) (sent : List Sending) → StandsFor i settings k kept sent → new ≡ record i { times_said = true }
+    → StandsFor new settings (record k { times_said = true }) (kept ++ []) sent
+times_told i new settings k kept sent stands is = unmarked new settings (record k { times_said = true }) kept sent (subst (λ (n : Interpreter). StandsFor n settings (record k { times_said = true }) kept sent) (sym is) (record {
+  keeps = record { offered = stands.keeps.offered; takes = stands.keeps.takes; timed = stands.keeps.timed; are = stands.keeps.are };
+  holds = stands_holds stands.holds;
+  capacity_said = stands.capacity_said;
+  retention_said = stands.retention_said;
+  times_said = refl;
+  begun = stands.begun;
+  capacity_is = stands.capacity_is;
+  times_is = stands.times_is;
+  least = stands.least;
+  moment = stands.moment;
+  numbers = stands.numbers;
+  going = stands.going;
+}))
+  where
+    stands_holds : Holds i k.names → Holds (record i { times_said = true }) k.names
+    stands_holds h = record { tasks_are = h.tasks_are; owners = h.owners; wakers_are = h.wakers_are; resources_are = h.resources_are; users_are = h.users_are; ops_are = h.ops_are }
+
 -- handles went on, as the text tells of them
 pub went_on : (i new : Interpreter) (settings : Settings) (k : Course) (names : Names) (kept : List Bool) (sent : List Sending) → StandsFor i settings k kept sent
     → new ≡ record i { tasks = new.tasks; wakers = new.wakers; resources = new.resources; users = new.users; ops = new.ops } → Holds new names → numbers_of names ≡ numbers_of k.names
     → StandsFor new settings (record k { names = names }) kept sent
 went_on i new settings k names kept sent stands is holds same =
     subst (λ (n : Interpreter). Holds n names → StandsFor n settings (record k { names = names }) kept sent) (sym is) (λ h. record {
-      keeps = record { offered = subst (λ (n : Numbers). Rattle.tk_live.specs.Runs.Offered i.recorder settings.capacity n k.told kept) (sym same) stands.keeps.offered; takes = stands.keeps.takes; are = stands.keeps.are };
+      keeps = record { offered = subst (λ (n : Numbers). Rattle.tk_live.specs.Runs.Offered i.recorder settings.capacity n k.told kept) (sym same) stands.keeps.offered; takes = stands.keeps.takes; timed = stands.keeps.timed; are = stands.keeps.are };
       holds = h;
       capacity_said = stands.capacity_said;
       retention_said = stands.retention_said;
+      times_said = stands.times_said;
       begun = stands.begun;
       capacity_is = stands.capacity_is;
+      times_is = stands.times_is;
       least = stands.least;
       moment = stands.moment;
       numbers = stands.numbers;
@@ -129,6 +155,7 @@ leaves_same k line (said.change_op n i change) = refl
 leaves_same k line (said.poll_op r o t name ready) = refl
 leaves_same k line (said.capacity n) = refl
 leaves_same k line (said.retention n) = refl
+leaves_same k line said.times = refl
 leaves_same k line (said.publish m whole) = refl
 
 -- what was there stays

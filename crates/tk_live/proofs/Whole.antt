@@ -16,7 +16,7 @@ use Rattle.tk_script.specs.declared.settings.Settings.{Settings}
 
 -- what a finished taker tells of an interpreter
 abbrev pub Ends : Interpreter → Type 0
-Ends i = (settings : Settings) (c : Course) (kept : List Bool) (sent : List Sending) → Stays i settings c kept sent → AreLinesOf settings.retention (picked kept c.told) c.due sent
+Ends i = (settings : Settings) (c : Course) (kept : List Bool) (sent : List Sending) → Stays i settings c kept sent → AreLinesOf settings (picked kept c.told) c.due sent
 
 -- it was there to be finished
 pub stays_of : (answers : ℕ → Bool → Type 0) (last : ℕ) (script : List Line) (settings : Settings) (i : Interpreter) (result : Result (Unit {0}) AppFault) (text : List ℕ) → LinesCame answers last script settings i result text

@@ -24,7 +24,7 @@ use Rattle.tk_core.specs.Task.{opening_row}
 use Rattle.tk_events.specs.Items.{infos_of, first_values}
 use Rattle.tk_aggregator.specs.Told.{Told, made_task, made_resource, made_op, polled}
 use Rattle.tk_live.specs.Blocks.{Block, no_lines, with_line, after_block}
-use Rattle.tk_script.specs.Commands.{Said, Line, says, opens, joins, works, task, start, finish, close, self_wake, clone, again, wake_ref, wake, release, resource, close_resource, change_resource, op, op_task, start_op, finish_op, close_op, change_op, poll_op, capacity, retention, publish, is_setting}
+use Rattle.tk_script.specs.Commands.{Said, Line, says, opens, joins, works, task, start, finish, close, self_wake, clone, again, wake_ref, wake, release, resource, close_resource, change_resource, op, op_task, start_op, finish_op, close_op, change_op, poll_op, capacity, retention, times, publish, is_setting}
 use Rattle.tk_live.specs.Known.{Handled, and_call, drawn_from}
 use Rattle.tk_live.specs.Named.{live_item, with_item, with_change}
 
@@ -52,8 +52,8 @@ pub record Due : Type 0 where
   pub whole : Bool
 
 -- what commands come to: what their numbers name, what the recording ones tell, in order, the lines that are due, the moment
--- of the last one, whether a capacity and a retention were said, whether there was any other command, and the lines of the block
--- that is open, if one is
+-- of the last one, which settings were said, whether there was any other command, and the lines of the block that is open, if one
+-- is
 pub record Course : Type 0 where
   pub names : Names
   pub told : List Told
@@ -61,6 +61,7 @@ pub record Course : Type 0 where
   pub now : ℕ
   pub capacity_said : Bool
   pub retention_said : Bool
+  pub times_said : Bool
   pub begun : Bool
   pub block : Option Block
 
@@ -70,7 +71,7 @@ no_names = record { tasks = []; wakers = []; resources = []; users = []; ops = [
 
 -- before any command
 abbrev pub start_of_all : Course
-start_of_all = record { names = no_names; told = []; due = []; now = 0; capacity_said = false; retention_said = false; begun = false; block = None }
+start_of_all = record { names = no_names; told = []; due = []; now = 0; capacity_said = false; retention_said = false; times_said = false; begun = false; block = None }
 
 -- an item stands on a line of the script, at its first column
 abbrev pub place : ℕ → Location
@@ -159,6 +160,7 @@ step c line (change_op n index change) = record c { names = op_called n (op_call
 step c line (poll_op r o t name ready) = record c { told = c.told ++ polled (id_of 1 r) ready ∷ [] }
 step c line (capacity n) = record c { capacity_said = true }
 step c line (retention n) = record c { retention_said = true }
+step c line times = record c { times_said = true }
 step c line (publish moment whole) = record c { due = c.due ++ record { moment = moment; whole = whole } ∷ []; now = moment }
 
 -- what one command more comes to. Behind one that isn't a setting no setting may stand

@@ -1,17 +1,20 @@
 -- What an interpreter stands for. Inner: no public clause cites it.
-use Rattle.std.specs.Prelude.{◌≡◌, ℕ, ◌+◌, ◌<◌, ◌⊎◌, List, [], ◌∷◌, ◌++◌, map, length, slice_get, Bool, true, false, Option, Some, None, option_map, Result, Ok, Err}
-use Rattle.std.specs.List.{enumerate_from, flat_map}
+use Rattle.std.specs.Prelude.{◌≡◌, ℕ, ◌+◌, ◌<◌, ◌⊎◌, List, [], ◌∷◌, ◌++◌, map, length, slice_get, Bool, true, false, Option, Some, None, option_map, IsSome, Result, Ok, Err}
+use Rattle.std.specs.List.{AllByRecursion, enumerate_from, flat_map}
 use Rattle.std.specs.Io.KnownBytes.{Appends}
 use Rattle.tk_ids.specs.IdBlocks.{last_number}
 use Rattle.tk_events.specs.declared.event.Event.{Event}
+use Rattle.tk_events.specs.declared.event.Shown.{Shown}
+use Rattle.tk_events.specs.declared.event.Shown.TheVariants.{MadeTask}
 use Rattle.tk_events.specs.declared.item.Offer.{Offer}
 use Rattle.tk_events.specs.Handles.{Recording, Taking, offers_made}
 use Rattle.tk_events.specs.Offers.{shown, tasks_in, resources_in, ops_in}
 use Rattle.tk_ledgers.specs.Tasks.{TaskSight}
 use Rattle.tk_fault.specs.declared.fault.AppFault.{AppFault}
 use Rattle.tk_fault.specs.declared.fault.AppFault.TheVariants as faults
-use Rattle.tk_stream.specs.Streams.{Sending, GoesOn, lines_sent, bytes_sent, tables_sent, last_sent}
-use Rattle.tk_stream.specs.Tables.{empty_tables}
+use Rattle.tk_stream.specs.Streams.{Sending, GoesOn, lines_sent, bytes_sent, tables_sent, times_sent, last_sent}
+use Rattle.tk_stream.specs.Tables.{empty_tables, task_id}
+use Rattle.tk_stream.specs.Times.{times_id}
 use Rattle.tk_aggregator.specs.Absorbing.{infos_of}
 use Rattle.tk_aggregator.specs.Aggregates.{Aggregating, held_events}
 use Rattle.tk_aggregator.specs.Told.{Told, tells}
@@ -79,27 +82,46 @@ pub record Takes (r : Recording) (t : Taking) : Type 0 where
   pub unfinished : t.finished ≡ false
   pub known : t.known ≡ []
 
+-- a task that was offered has a histogram
+abbrev pub HasTimes : Shown → Type 0
+HasTimes (MadeTask info ledger caller times) = IsSome times
+HasTimes event = Unit {0}
+
+-- so has each task of these offers
+abbrev pub HaveTimes : List Offer → Type 0
+HaveTimes offers = AllByRecursion (λ o. HasTimes o.event) offers
+
+-- each task that an aggregator shows has a histogram, and so has one that is held
+pub record ShowsTimes (a : Aggregating) : Type 0 where
+  pub one_each : map times_id a.timing.shown ≡ map task_id a.tables.tasks
+  pub held : AllByRecursion (λ e. HasTimes (shown e)) (held_events a.held)
+
 -- what an event that is held tells
 abbrev pub held_tells : Option Event → List Told
 held_tells held = map tells (map shown (held_events held))
 
--- the lines so far: a stream that leads to where the aggregator is. What was taken was told for them, or since, but for a held event
-pub record Sent (a : Aggregating) (t : Taking) (retention : Option ℕ) (due : List Due) (sent : List Sending) : Type 0 where
-  pub retention_is : a.retention ≡ retention
+-- the lines so far: a stream that leads to where the aggregator is. What was taken was told for them, or since, but for a held event.
+-- That they tell a histogram of each task stands once it is known that each task that was taken has one
+pub record Sent (a : Aggregating) (t : Taking) (settings : Settings) (due : List Due) (sent : List Sending) : Type 0 where
+  pub retention_is : a.retention ≡ settings.retention
+  pub reads : a.timing.reads ≡ settings.times
   pub stream : GoesOn empty_tables 0 sent
   pub told : a.told ≡ tables_sent empty_tables sent
+  pub times_told : a.timing.told ≡ times_sent [] empty_tables sent
   pub last : a.last ≡ last_sent 0 sent
   pub news : List (List Told)
   pub since : List Told
   pub taken : map offer_tells t.taken ≡ flat_map (λ told. told) news ++ (since ++ held_tells a.held)
   pub infos : infos_of a.tables ≡ infos_with (infos_of a.told) since
-  pub lines : EachIsLine retention empty_tables news due sent
+  pub times : settings.times ≡ true → HaveTimes t.taken → ShowsTimes a
+  pub lines : (settings.times ≡ true → HaveTimes t.taken) → EachIsLine settings empty_tables [] news due sent
 
 -- what stands even where a command stops the script
 pub record Keeps (r : Recording) (t : Taking) (a : Aggregating) (settings : Settings) (c : Course) (kept : List Bool) (sent : List Sending) : Type 0 where
   pub offered : Offered r settings.capacity (numbers_of c.names) c.told kept
   pub takes : Takes r t
-  pub are : Sent a t settings.retention c.due sent
+  pub timed : settings.times ≡ true → HaveTimes r.kept
+  pub are : Sent a t settings c.due sent
 
 -- what stands of an interpreter
 abbrev pub Stays : Interpreter → Settings → Course → List Bool → List Sending → Type 0
@@ -111,8 +133,10 @@ pub record StandsFor (i : Interpreter) (settings : Settings) (c : Course) (kept 
   pub holds : Holds i c.names
   pub capacity_said : i.capacity_said ≡ c.capacity_said
   pub retention_said : i.retention_said ≡ c.retention_said
+  pub times_said : i.times_said ≡ c.times_said
   pub begun : i.begun ≡ c.begun
   pub capacity_is : i.capacity ≡ settings.capacity
+  pub times_is : i.times ≡ settings.times
   pub least : 0 < settings.capacity
   pub moment : i.aggregator.tables.now ≡ c.now
   pub numbers : i.aggregator.last ≡ length c.due

@@ -20,7 +20,7 @@ use Rattle.tk_core.specs.ResourceMeaning.{resource_meaning}
 use Rattle.tk_core.specs.TaskMeaning.{task_meaning}
 use Rattle.tk_cell.specs.Calls.{entry}
 use Rattle.tk_live.specs.Blocks.{Block, Wakers, after_lines, is_named, lines_of_worker, lines_of_other}
-use Rattle.tk_script.specs.Commands.{Said, Line, skipped, bad, says, opens, joins, works, task, start, finish, close, self_wake, clone, again, wake_ref, wake, release, resource, close_resource, change_resource, op, op_task, start_op, finish_op, close_op, change_op, poll_op, capacity, retention, publish}
+use Rattle.tk_script.specs.Commands.{Said, Line, skipped, bad, says, opens, joins, works, task, start, finish, close, self_wake, clone, again, wake_ref, wake, release, resource, close_resource, change_resource, op, op_task, start_op, finish_op, close_op, change_op, poll_op, capacity, retention, times, publish}
 use Rattle.tk_live.specs.Course.{Course, TaskHandled, OpHandled, new_resource, step, line_after}
 use Rattle.tk_live.specs.Known.{Handled}
 use Rattle.tk_live.specs.Named.{made_item, live_item}
@@ -88,6 +88,7 @@ stop_of c (poll_op r o t name ready) =
     if_there (made_item r c.names.resources) (if_there (made_item o c.names.ops) (if_there (made_item t c.names.tasks) (offer_stop c)))
 stop_of c (capacity n) = if c.begun || c.capacity_said then Some BadCommand else None
 stop_of c (retention n) = if c.begun || c.retention_said then Some BadCommand else None
+stop_of c times = if c.begun || c.times_said then Some BadCommand else None
 stop_of c (publish moment whole) =
     if nat_lt moment c.now then Some Clock else
     (if nat_le (2 ^ 63) (length c.due) then Some NumbersSpent else None)

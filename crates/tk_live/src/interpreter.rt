@@ -1,6 +1,7 @@
 //! The run of a script over live ledgers.
 ghost use Rattle.std.specs.Prelude.{◌≡◌, IfOk};
 ghost use Rattle.tk_aggregator.specs.Aggregates.{new_aggregating};
+ghost use Rattle.tk_aggregator.specs.Timing.{no_timing};
 
 mod lines;
 mod ops;
@@ -24,6 +25,8 @@ pub(crate) struct Interpreter {
     pub(crate) taker: Taker,
     pub(crate) aggregator: Aggregator,
     pub(crate) capacity: u64,
+    // Whether each task gets a histogram of how long its polls ran.
+    pub(crate) times: bool,
     pub(crate) tasks: Vec<Option<TaskOwner>>,
     pub(crate) wakers: Vec<Option<WakerHandle>>,
     pub(crate) resources: Vec<Option<ResourceOwner>>,
@@ -32,13 +35,17 @@ pub(crate) struct Interpreter {
     // Which settings were said, and whether there was any other command.
     pub(crate) capacity_said: bool,
     pub(crate) retention_said: bool,
+    pub(crate) times_said: bool,
     pub(crate) begun: bool,
 }
 
-// The aggregator of a script. Where closed items leave, its lines say what is gone.
+// The aggregator of a script. Where closed items leave, its lines say what is gone, and where tasks have histograms, they tell these.
 fn aggregator_for(alloc: Global, settings: Settings) -> Result<Aggregator, StreamError>
-    ensures { IfOk result (λ a. a ≡ new_aggregating 0 settings.retention) }
+    ensures { IfOk result (λ a. a ≡ record (new_aggregating 0 settings.retention) { timing = no_timing settings.times }) }
 {
+    if settings.times {
+        return Aggregator::with_times(alloc, 0, settings.retention);
+    }
     match settings.retention {
         Some(span) => Aggregator::with_retention(alloc, 0, span),
         None => Aggregator::new(alloc, 0),
@@ -49,7 +56,7 @@ impl Interpreter {
     ghost use Rattle.std.specs.Prelude.{◌≡◌, ◌≤◌, ◌||◌, not, ℕ, List, [], Bool, IfOk};
     ghost use Rattle.std.specs.Vec.{vec_capacity};
     ghost use Rattle.tk_stream.specs.Streams.{Sending};
-    ghost use Rattle.tk_script.specs.Commands.{view, IsGood, capacity, retention, is_setting};
+    ghost use Rattle.tk_script.specs.Commands.{view, IsGood, capacity, retention, times, is_setting};
     ghost use Rattle.tk_live.specs.Course.{Course, step, step_on, start_of_all};
     ghost use Rattle.tk_live.specs.Ran.{picked, AreLinesOf};
     ghost use Rattle.tk_live.specs.Runs.{StandsFor, Stays, Comes, Does};
@@ -78,6 +85,7 @@ impl Interpreter {
             taker,
             aggregator,
             capacity: settings.capacity,
+            times: settings.times,
             tasks: Vec::new(alloc),
             wakers: Vec::new(alloc),
             resources: Vec::new(alloc),
@@ -85,6 +93,7 @@ impl Interpreter {
             ops: Vec::new(alloc),
             capacity_said: false,
             retention_said: false,
+            times_said: false,
             begun: false,
         })
     }
@@ -94,7 +103,7 @@ impl Interpreter {
         requires room { (room.items ≡ []) × (1 ≤ vec_capacity room) }
         requires keeps { (settings : Settings) × (c : Course) × (kept : List Bool) × (sent : List Sending) × Stays self settings c kept sent }
         ensures { (settings : Settings) (c : Course) (kept : List Bool) (sent : List Sending) → Stays self settings c kept sent
-            → AreLinesOf settings.retention (picked kept c.told) c.due sent }
+            → AreLinesOf settings (picked kept c.told) c.due sent }
     {
         let Interpreter {
             recorder,
@@ -109,7 +118,7 @@ impl Interpreter {
         }
     }
 
-    /// What comes of a command, on a line of this number, and that no setting may stand behind it if it is none.
+    /// What comes of a command, on a line of this number, and that no setting may stand after it if it is none.
     pub(crate) fn run<R: Wait, W: Write>(
         &mut self,
         rt: &R,
@@ -199,6 +208,7 @@ impl Interpreter {
             } => self.poll_op(rt, alloc, resource, op, task, name, ready),
             Command::Capacity { count: _ } => self.say_capacity(),
             Command::Retention { span: _ } => self.say_retention(),
+            Command::Times => self.say_times(),
             Command::Publish { moment, whole } => self.publish(rt, moment, whole, writer),
         }
     }
@@ -222,6 +232,17 @@ impl Interpreter {
             return Err(Stop::BadCommand);
         }
         self.retention_said = true;
+        Ok(())
+    }
+
+    // And of the histograms.
+    fn say_times(&mut self) -> Result<(), Stop>
+        ensures { (line : ℕ) → Does line times self.old self.new result }
+    {
+        if self.begun || self.times_said {
+            return Err(Stop::BadCommand);
+        }
+        self.times_said = true;
         Ok(())
     }
 }

@@ -175,11 +175,12 @@ fn run<R: Threads + Wait + Sync, W: Write, G: Gate + Sync>(
 /// Reads a script, runs it over live ledgers, and writes the stream that it publishes.
 ///
 /// The reader is read to its end. The script's items are recorded by one recorder, of number 1, in a console that holds as
-/// many events as a `capacity` command before every other one says, from 1 to 65,536, and 1,024 without one. Each `publish`
+/// many events as the setting `capacity` says, from 1 to 65,536, and 1,024 without one. Each `publish`
 /// and each `snapshot` takes what the console holds, reads the ledgers of the items that are known by then, and writes one
 /// line. What did not fit into the console is counted as dropped; an item that was dropped keeps its number and its ledger.
-/// Where a `retention` command stands before every other one but `capacity`, the lines are of version 2: an item that a line
-/// showed as closed leaves with the first `publish` that is so many nanoseconds behind its close.
+/// Settings stand before every other command. Where `retention` is one, the lines are of version 2: an item that a line
+/// showed as closed leaves with the first `publish` that is so many nanoseconds after its close. Where `times` is one, they are of
+/// version 3, and tell of each task a histogram of how long its polls ran, in nanoseconds.
 /// A block of threads, from `par` to `join`, is run at its `join`: each of its two workers that has lines is one thread, which
 /// owns the wakers of its lines and passes the gate before each of its calls. Behind the block the wakers that are not spent
 /// are there again.
@@ -187,8 +188,8 @@ fn run<R: Threads + Wait + Sync, W: Write, G: Gate + Sync>(
 /// - `Memory`: the script could not be kept, or the run not begun, for want of memory. Nothing was written.
 /// - `Read`: the reader failed, gave no end within 2^32 reads, or gave more than 1,048,576 bytes. Nothing was written.
 /// - `Script`: a line was refused, and what the lines before it published stands. Its name is `BadCommand`
-///   (no command, `capacity` or `retention` a second time or behind another command, a line that may not stand in its block or needs one, a waker with lines of
-///   both workers, or, at the last line, a block that is not joined), `NoSuchItem` (an item that was not made, or is spent, in
+///   (no command, a setting a second time or after a command that is none, a line that may not stand in its block or needs one, a
+///   waker with lines of both workers, or, at the last line, a block that is not joined), `NoSuchItem` (an item that was not made, or is spent, in
 ///   a block by the lines before), the name of
 ///   the refused call's refusal, `OffersSpent` (2^40 - 1 events were recorded), `Clock` (a moment below the last line's),
 ///   `NumbersSpent` (2^63 lines were written), `Memory`, `WriteFault` (a proper front of the next line went out), or, at a

@@ -12,5 +12,6 @@ mod resources;
 mod run;
 mod script;
 mod tasks;
+mod times;
 
 pub use script::run_plain;

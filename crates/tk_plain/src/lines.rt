@@ -3,6 +3,7 @@ ghost use Rattle.std.specs.Prelude.{◌≤◌, ◌^◌};
 
 use crate::gone::Gone;
 use crate::run::Plain;
+use crate::times;
 use std::alloc::{AllocError, Global};
 use std::io::Write;
 use tk_ids::Dropped;
@@ -14,6 +15,9 @@ const LAST_LINE: u64 = 1 << 63;
 
 // What each line begins with that has lost nothing.
 const NO_DROPS: &[u8] = b"{\"dropped\":[0,0,0],";
+
+// What each line of version 1 ends with.
+const VERSION_1: &[u8] = b"\"v\":1}";
 
 const NONE_DROPPED: Dropped = Dropped {
     tasks: 0,
@@ -39,15 +43,23 @@ fn line_between(
     }
 }
 
-// The text of a line as version 2 has it: what is gone stands between its first two keys.
-fn second_version(alloc: Global, text: &[u8], gone: &Gone) -> Result<Vec<u8>, AllocError> {
+// The text of a line as a later version has it: what is gone stands between its first two keys, and histograms, if it tells such, before
+// its last.
+fn later_version(
+    alloc: Global,
+    text: &[u8],
+    gone: &Gone,
+    times: &str,
+    version: &[u8],
+) -> Result<Vec<u8>, AllocError> {
     let lists = gone.lists(alloc)?;
     let mut out = Vec::new(alloc);
     out.extend_from_slice(NO_DROPS)?;
     out.extend_from_slice(lists.as_bytes())?;
-    let end = text.len().saturating_sub(2);
+    let end = text.len().saturating_sub(VERSION_1.len());
     out.extend_from_slice(text.get(NO_DROPS.len()..end).unwrap_or(&[]))?;
-    out.extend_from_slice(b"2}")?;
+    out.extend_from_slice(times.as_bytes())?;
+    out.extend_from_slice(version)?;
     Ok(out)
 }
 
@@ -89,20 +101,42 @@ impl Plain {
         line_between(self.alloc, &told, next, seq, whole)
     }
 
-    // The text of a line, with its end.
-    fn text_of(&self, line: &Line, leaving: &Gone) -> Result<Vec<u8>, LineError> {
+    // The text of a line to these tables, with its end.
+    fn text_of(
+        &self,
+        line: &Line,
+        next: &Tables,
+        leaving: &Gone,
+        whole: bool,
+    ) -> Result<Vec<u8>, LineError> {
         let text = line.write()?;
-        let mut text = self.in_version(text, leaving)?;
+        let mut text = self.in_version(text, next, leaving, whole)?;
         text.push(b'\n')?;
         Ok(text)
     }
 
     // The text in the version of this run.
-    fn in_version(&self, text: Vec<u8>, leaving: &Gone) -> Result<Vec<u8>, AllocError> {
+    fn in_version(
+        &self,
+        text: Vec<u8>,
+        next: &Tables,
+        leaving: &Gone,
+        whole: bool,
+    ) -> Result<Vec<u8>, AllocError> {
+        if self.times_said {
+            let times = times::list(self.alloc, self.times.as_slice(), next, whole)?;
+            return later_version(
+                self.alloc,
+                text.as_slice(),
+                leaving,
+                times.as_str(),
+                b"\"v\":3}",
+            );
+        }
         if self.retention.is_none() {
             return Ok(text);
         }
-        second_version(self.alloc, text.as_slice(), leaving)
+        later_version(self.alloc, text.as_slice(), leaving, "", b"\"v\":2}")
     }
 
     fn text_to(
@@ -115,7 +149,7 @@ impl Plain {
         requires { (1 ≤ seq) × (seq ≤ 2 ^ 63) }
     {
         let line = self.line_to(next, leaving, seq, whole)?;
-        self.text_of(&line, leaving)
+        self.text_of(&line, next, leaving, whole)
     }
 
     // Writes the line to these tables.
@@ -151,6 +185,7 @@ impl Plain {
     {
         self.write_to(&next, leaving, seq, whole, writer)?;
         self.told = next;
+        times::tell(self.times.as_mut_slice());
         self.lines = seq;
         match self.left.add(leaving) {
             Ok(()) => Ok(()),

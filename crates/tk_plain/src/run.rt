@@ -1,6 +1,7 @@
 //! What a script's commands have made, and what each does to it.
 
 use crate::gone::Gone;
+use crate::times::Timed;
 use std::alloc::{AllocError, Global};
 use std::io::Write;
 use tk_core::{OpCall, ResourceCall, TaskCall};
@@ -29,6 +30,9 @@ pub(crate) struct Plain {
     // How long a closed item stays, if it leaves, and what has left.
     pub(crate) retention: Option<u64>,
     pub(crate) left: Gone,
+    // Of each task in the order of the tables how long its polls ran, where that is said.
+    pub(crate) times: Vec<Timed>,
+    pub(crate) times_said: bool,
     pub(crate) capacity_said: bool,
     pub(crate) begun: bool,
 }
@@ -59,6 +63,8 @@ impl Plain {
             lines: 0,
             retention: None,
             left: Gone::none(alloc),
+            times: Vec::new(alloc),
+            times_said: false,
             capacity_said: false,
             begun: false,
         })
@@ -80,11 +86,20 @@ impl Plain {
         Ok(())
     }
 
+    fn say_times(&mut self) -> Result<(), Stop> {
+        if self.begun || self.times_said {
+            return Err(Stop::BadCommand);
+        }
+        self.times_said = true;
+        Ok(())
+    }
+
     // A setting, or none.
     fn apply_setting(&mut self, command: &Command<'_>) -> Option<Result<(), Stop>> {
         match command {
             Command::Capacity { .. } => Some(self.say_capacity()),
             Command::Retention { span } => Some(self.say_retention(*span)),
+            Command::Times => Some(self.say_times()),
             _ => None,
         }
     }
@@ -93,7 +108,7 @@ impl Plain {
     fn apply_to_tasks(&mut self, command: &Command<'_>) -> Option<Result<(), Stop>> {
         let done = match command {
             Command::Start { task, moment } => self.call_task(*task, TaskCall::PollStart(*moment)),
-            Command::End { task, moment } => self.call_task(*task, TaskCall::PollEnd(*moment)),
+            Command::End { task, moment } => self.end_poll(*task, *moment),
             Command::Close { task, moment } => self.call_task(*task, TaskCall::Close(*moment)),
             Command::SelfWake { task, moment } => self.wake_itself(*task, *moment),
             Command::CloneWaker { task } => self.clone_waker(*task),

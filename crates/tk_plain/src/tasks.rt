@@ -1,6 +1,7 @@
 //! Tasks, and their wakers.
 
 use crate::run::{Plain, Waker, place_of};
+use crate::times::Timed;
 use std::alloc::Global;
 use tk_core::{TaskCall, TaskRow};
 use tk_ids::{IdError, Location, Name, TaskId, TaskInfo, TaskKind};
@@ -55,6 +56,11 @@ fn row_at(tables: &Tables, place: usize) -> Option<TaskRow> {
     Some(task.row)
 }
 
+// When the last poll of a task started.
+fn started_at(tables: &Tables, place: usize) -> Option<u64> {
+    row_at(tables, place)?.last_started
+}
+
 /// The id of the task of a number, if it was made.
 pub(crate) fn made_task(tables: &Tables, number: u64) -> Option<TaskId> {
     let task = tables.task_at(place_of(number)?)?;
@@ -90,7 +96,19 @@ impl Plain {
         let Ok(info) = info_of(self.alloc, id, line, kind, name) else {
             return Err(Stop::Memory);
         };
-        add(&mut self.tables, info, first_row(created))
+        add(&mut self.tables, info, first_row(created))?;
+        self.time(id)
+    }
+
+    // A new task gets a histogram, where tasks have such.
+    fn time(&mut self, id: TaskId) -> Result<(), Stop> {
+        if !self.times_said {
+            return Ok(());
+        }
+        match self.times.push(Timed::new(id)) {
+            Ok(()) => Ok(()),
+            Err(_) => Err(Stop::Memory),
+        }
     }
 
     // Where a task stands that is not closed.
@@ -113,6 +131,18 @@ impl Plain {
     pub(crate) fn call_task(&mut self, number: u64, call: TaskCall) -> Result<(), Stop> {
         let place = self.open_task(number)?;
         step(&mut self.tables, place, call)
+    }
+
+    /// Its owner ends the poll of a task, which has run since its start.
+    pub(crate) fn end_poll(&mut self, number: u64, moment: u64) -> Result<(), Stop> {
+        let place = self.open_task(number)?;
+        step(&mut self.tables, place, TaskCall::PollEnd(moment))?;
+        if let Some(timed) = self.times.get_mut(place) {
+            if let Some(started) = started_at(&self.tables, place) {
+                timed.add(moment.saturating_sub(started));
+            }
+        }
+        Ok(())
     }
 
     /// A task wakes itself in its open poll.

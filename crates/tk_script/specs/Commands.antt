@@ -58,6 +58,8 @@ pub data Said : Type 0 where
   capacity : ℕ → Said
   -- how long a closed item stays
   retention : ℕ → Said
+  -- tasks have histograms of how long their polls ran
+  times : Said
   -- a line of the stream, as a snapshot or not
   publish : ℕ → Bool → Said
 
@@ -85,6 +87,7 @@ view (commands.ChangeOp number index change) = change_op number index change
 view (commands.PollOp r o t name ready) = poll_op r o t name.now ready
 view (commands.Capacity count) = capacity count
 view (commands.Retention span) = retention span
+view commands.Times = times
 view (commands.Publish moment whole) = publish moment whole
 
 -- what a command names is a name, and a capacity is in range
@@ -162,17 +165,23 @@ poll_op_by (r ∷ o ∷ t ∷ name ∷ end ∷ []) =
     option_and_then (λ on. option_and_then (λ by. option_and_then (λ of. if is_name name then option_map (poll_op on by of name) (readiness end) else None) (moment t)) (moment o)) (moment r)
 poll_op_by _ = None
 
+-- a word that stands alone
+abbrev pub alone : {X : Type 0} → X → List (List ℕ) → Option X
+alone x [] = Some x
+alone x (w ∷ words) = None
+
 -- how many events the console holds, from 1 to 65,536
 abbrev pub capacity_by : List (List ℕ) → Option Said
 capacity_by words = option_and_then (λ n. if nat_le 1 n && nat_le n 65536 then Some (capacity n) else None) (one_number words)
 
--- a line of the stream, how many events the console holds, or how long a closed item stays
+-- a line of the stream, or a setting
 abbrev pub line_command : List ℕ → List (List ℕ) → Option Said
 line_command w words =
     if bytes_eq w (codes "publish") then option_map (λ at. publish at false) (one_number words) else
     (if bytes_eq w (codes "snapshot") then option_map (λ at. publish at true) (one_number words) else
     (if bytes_eq w (codes "capacity") then capacity_by words else
-    (if bytes_eq w (codes "retention") then option_map (λ n. retention n) (one_number words) else None)))
+    (if bytes_eq w (codes "retention") then option_map (λ n. retention n) (one_number words) else
+    (if bytes_eq w (codes "times") then alone times words else None))))
 
 -- by the first word, and then by the rest
 abbrev pub said_by : List (List ℕ) → Option Said
@@ -227,11 +236,6 @@ worker_line_by (w ∷ words) =
     (if bytes_eq w (codes "wake") then option_map (λ p. waker_line p.0 (Wake p.1)) (two_numbers words) else
     (if bytes_eq w (codes "release") then option_map (λ n. waker_line n Release) (one_number words) else None))
 
--- a word that stands alone
-abbrev pub alone : Line → List (List ℕ) → Option Line
-alone line [] = Some line
-alone line (w ∷ words) = None
-
 -- what only a block has: `par`, `join`, and the lines of workers
 abbrev pub block_said_by : List (List ℕ) → Option Line
 block_said_by [] = None
@@ -261,20 +265,22 @@ line_of line = if is_skipped line then skipped else line_said line
 abbrev pub lines_of : List ℕ → List Line
 lines_of script = map line_of (pieces_at 10 script)
 
--- where a script says nothing else: 1,024 events are held, and no item leaves
+-- where a script says nothing else: 1,024 events are held, no item leaves, and tasks have no histograms
 abbrev pub default_settings : Settings
-default_settings = record { capacity = 1024; retention = None }
+default_settings = record { capacity = 1024; retention = None; times = false }
 
 -- a command that makes nothing and writes nothing, and tells how the script is run
 abbrev pub is_setting : Said → Bool
 is_setting (capacity n) = true
 is_setting (retention n) = true
+is_setting times = true
 is_setting _ = false
 
 -- settings by a command
 abbrev pub settings_by : Settings → Said → Settings
 settings_by settings (capacity n) = record settings { capacity = n }
 settings_by settings (retention n) = record settings { retention = Some n }
+settings_by settings times = record settings { times = true }
 settings_by settings _ = settings
 
 -- settings by a line behind which further ones may be said: it says one, or is skipped
@@ -291,7 +297,7 @@ abbrev pub settings_behind : Settings → List Line → Settings
 settings_behind settings [] = settings
 settings_behind settings (line ∷ more) = option_map_or (λ s. settings_behind s more) (settings_said settings line) settings
 
--- the settings of a script: those of its `capacity` and `retention` commands before all others
+-- the settings of a script: those of its `capacity`, `retention` and `times` commands before all others
 abbrev pub settings_of : List Line → Settings
 settings_of ls = settings_behind default_settings ls
 

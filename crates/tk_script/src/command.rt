@@ -123,14 +123,16 @@ pub enum Command<'a> {
         name: &'a [u8],
         ready: bool,
     },
-    /// How many events the console holds, from 1 to 65,536: once, before every command but a retention.
+    /// How many events the console holds, from 1 to 65,536: once, before every command that is no setting.
     Capacity {
         count: u64,
     },
-    /// How long a closed item stays, and that lines say what is gone: once, before every command but a capacity.
+    /// How long a closed item stays, and that lines say what is gone: once, before every command that is no setting.
     Retention {
         span: u64,
     },
+    /// Each task has a histogram of how long its polls ran, and lines tell them: once, before every command that is no setting.
+    Times,
     /// A line of the stream, as a snapshot or not.
     Publish {
         moment: u64,
@@ -144,7 +146,7 @@ impl Command<'_> {
         ensures { result ≡ spec.is_setting (spec.view self.now) }
     {
         match self {
-            Command::Capacity { .. } | Command::Retention { .. } => true,
+            Command::Capacity { .. } | Command::Retention { .. } | Command::Times => true,
             _ => false,
         }
     }
@@ -382,7 +384,19 @@ fn capacity_of(words: Pieces<'_>) -> Option<Command<'_>>
     Some(Command::Capacity { count })
 }
 
-// A line of the stream, how many events the console holds, or how long a closed item stays.
+// Behind the word for histograms stands nothing.
+fn times_of(words: Pieces<'_>) -> Option<Command<'_>>
+    ensures said { option_map spec.view result ≡ spec.alone spec.times (pieces_left words.entry) }
+    ensures good { IfSome result (λ c. spec.IsGood (spec.view c)) }
+{
+    let mut words = words;
+    match words.next() {
+        Some(_) => None,
+        None => Some(Command::Times),
+    }
+}
+
+// A line of the stream, or a setting.
 fn line_command<'a>(word: &[u8], words: Pieces<'a>) -> Option<Command<'a>>
     ensures said { option_map spec.view result ≡ spec.line_command word.now (pieces_left words.entry) }
     ensures good { IfSome result (λ c. spec.IsGood (spec.view c)) }
@@ -401,6 +415,8 @@ fn line_command<'a>(word: &[u8], words: Pieces<'a>) -> Option<Command<'a>>
         capacity_of(words)
     } else if word == b"retention".as_slice() {
         one_number(words).map(|span| Command::Retention { span })
+    } else if word == b"times".as_slice() {
+        times_of(words)
     } else {
         None
     }

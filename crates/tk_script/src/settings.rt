@@ -8,21 +8,25 @@ use crate::lines::is_skipped;
 use crate::pieces::Pieces;
 use std::alloc::{AllocError, Global};
 
-/// What the settings of a script say: how many events the console holds, from 1 to 65,536, and how long a closed item stays, in
-/// nanoseconds. Without that no item leaves.
+/// What the settings of a script say.
 #[derive(Clone, Copy, Debug, PartialEq, Eq)]
 pub struct Settings {
+    /// How many events the console holds, from 1 to 65,536.
     pub capacity: u64,
+    /// How long a closed item stays, in nanoseconds. Without that no item leaves.
     pub retention: Option<u64>,
+    /// Whether each task has a histogram of how long its polls ran, which the lines of the stream tell.
+    pub times: bool,
 }
 
-/// How many events the console holds where the script doesn't say, and no item leaves there.
+/// Where the script says none.
 const DEFAULT: Settings = Settings {
     capacity: 1_024,
     retention: None,
+    times: false,
 };
 
-// The settings behind a line, if further ones may be said there.
+// The settings after a line, if further ones may be said there.
 fn settings_by(
     alloc: Global,
     line: &[u8],
@@ -45,6 +49,10 @@ fn settings_by(
         })),
         Some(Command::Retention { span }) => Ok(Some(Settings {
             retention: Some(span),
+            ..settings
+        })),
+        Some(Command::Times) => Ok(Some(Settings {
+            times: true,
             ..settings
         })),
         _ => Ok(None),

@@ -7,8 +7,8 @@ use tk_core::Refusal;
 /// Why a line of a script stops it, in the order in which these are tried; `Memory` may come before any of them.
 #[derive(Clone, Copy, Debug, PartialEq, Eq)]
 pub enum Stop {
-    /// The line says no command, `capacity` behind another command, or what may not stand there: in a block what is no line of it,
-    /// outside of blocks a `join` or a worker's line; or a block is open at the script's end.
+    /// The line says no command, a setting a second time or after another command, or what may not stand there: in a block what is
+    /// no line of it, outside of blocks a `join` or a worker's line; or a block is open at the script's end.
     BadCommand,
     /// A number names nothing, or what is spent.
     NoSuchItem,

@@ -2,7 +2,8 @@
 
 use super::random::script_of;
 use rand_pcg::Pcg32;
-use std::alloc::Global;
+use std::alloc::{AllocError, Global};
+use std::fmt::Write;
 use std::process::Abort;
 use std::sync::Wait;
 use std::thread::Threads;
@@ -27,6 +28,10 @@ struct Came {
     dropped: u64,
     // Of those that lost nothing, how many let an item leave.
     left: u64,
+    // How many told histograms.
+    timed: u64,
+    // Which of their buckets were seen with a count.
+    buckets: [bool; 14],
     // Which of the names were seen.
     names: [bool; 9],
 }
@@ -50,6 +55,16 @@ fn lets_items_leave(stream: &[u8]) -> bool {
         || text.contains("\"gone_tasks\":[1")
 }
 
+// Whether a histogram has a count of this bucket, as the first of its list or after another. No other list of lists begins so: that of poll
+// counts has ids.
+fn tells_bucket(alloc: Global, stream: &str, bucket: usize) -> Result<bool, AllocError> {
+    let mut first = String::new(alloc);
+    write!(first, "\"counts\":[[{bucket},")?;
+    let mut later = String::new(alloc);
+    write!(later, "],[{bucket},")?;
+    Ok(stream.contains(first.as_str()) || stream.contains(later.as_str()))
+}
+
 fn lines_in(stream: &[u8]) -> u64 {
     let mut lines = 0u64;
     for byte in stream {
@@ -65,6 +80,20 @@ impl Came {
         for (i, known) in NAMES.iter().enumerate() {
             if *known == name {
                 self.names[i] = true;
+            }
+        }
+    }
+
+    fn note_times(&mut self, alloc: Global, stream: &[u8]) {
+        let Ok(text) = str::from_utf8(stream) else {
+            return;
+        };
+        if text.contains("\"v\":3") {
+            self.timed = self.timed.saturating_add(1);
+        }
+        for bucket in 0..14 {
+            if tells_bucket(alloc, text, bucket) == Ok(true) {
+                self.buckets[bucket] = true;
             }
         }
     }
@@ -110,6 +139,7 @@ fn runs_alike<R: Threads + Wait + Sync>(
     let mut written = Vec::new(alloc);
     let end = run_script(rt, alloc, &mut reader, &mut written, &Open);
     came.note(end, written.as_slice());
+    came.note_times(alloc, written.as_slice());
     is_alike(alloc, script, end, written.as_slice())
 }
 
@@ -127,8 +157,8 @@ fn assert_alike<R: Abort + Threads + Wait + Sync + AllocGlobal>(
     }
 }
 
-// Of 1,000 scripts some hundreds run to their ends, some hundreds stop, by each name that a text can tell, some lose events, and of some
-// items leave.
+// Of 1,000 scripts some hundreds run to their ends, some hundreds stop, by each name that a text can tell, some lose events, of some
+// items leave, and some hundreds tell histograms, with times of each bucket.
 #[test]
 fn random_scripts_run_as_on_plain_rows(rt: HostRuntime) {
     let mut random = Pcg32::new(20, 54);
@@ -137,6 +167,8 @@ fn random_scripts_run_as_on_plain_rows(rt: HostRuntime) {
         stopped: 0,
         dropped: 0,
         left: 0,
+        timed: 0,
+        buckets: [false; 14],
         names: [false; 9],
     };
     for _ in 0..1000 {
@@ -146,5 +178,7 @@ fn random_scripts_run_as_on_plain_rows(rt: HostRuntime) {
     assert!(rt; came.stopped > 300, "{} stopped", came.stopped);
     assert!(rt; came.dropped > 50, "{} lost something", came.dropped);
     assert!(rt; came.left > 50, "items left in {}", came.left);
+    assert!(rt; came.timed > 300, "{} told histograms", came.timed);
+    assert!(rt; came.buckets == [true; 14], "{:?}", came.buckets);
     assert!(rt; came.names == [true; 9], "{:?}", came.names);
 }

@@ -92,11 +92,22 @@ const WILD: [&str; 4] = [
     " -9223372036854775808",
 ];
 
-const OTHERS: [&str; 7] = [
+const LATEST: [u32; 7] = [
+    1 << 15,
+    1 << 17,
+    1 << 19,
+    1 << 21,
+    1 << 23,
+    1 << 25,
+    1 << 27,
+];
+
+const OTHERS: [&str; 8] = [
     "tusk",
     "start 1",
     "capacity 5",
     "retention 5",
+    "times",
     "task 1 spawn a b",
     "end 1 x",
     "publish",
@@ -133,12 +144,21 @@ fn call_of(random: &mut Pcg32, calls: &[Call]) -> Call {
     }
 }
 
+// A moment below one of these, so that polls run for times of each bucket.
+fn late_moment(random: &mut Pcg32) -> u64 {
+    let at = below(random, 7) as usize;
+    match LATEST.get(at) {
+        Some(latest) => below(random, *latest),
+        None => 0,
+    }
+}
+
 // A moment, at times the greatest.
 fn moment(random: &mut Pcg32) -> u64 {
-    if happens(random, 32) {
-        u64::MAX
-    } else {
-        below(random, 1000)
+    match below(random, 32) {
+        0 => u64::MAX,
+        1..=10 => late_moment(random),
+        _ => below(random, 1000),
     }
 }
 
@@ -413,8 +433,8 @@ fn nothing(alloc: Global) -> Made {
     }
 }
 
-/// A script of some lines, one in four with a small capacity of its own and one in four with a retention, that ends with a line of
-/// the stream.
+/// A script of some lines, one in four with a small capacity of its own, one in four with a retention and half of them with histograms,
+/// that ends with a line of the stream.
 pub(super) fn script_of(alloc: Global, random: &mut Pcg32) -> Result<String, AllocError> {
     let mut out = String::new(alloc);
     let mut made = nothing(alloc);
@@ -428,6 +448,9 @@ pub(super) fn script_of(alloc: Global, random: &mut Pcg32) -> Result<String, All
     }
     if happens(random, 4) {
         put(&mut out, "retention", &[below(random, 100)], "")?;
+    }
+    if happens(random, 2) {
+        put(&mut out, "times", &[], "")?;
     }
     for _ in 0..below(random, 80).saturating_add(8) {
         add_line(random, &mut made, &mut out)?;

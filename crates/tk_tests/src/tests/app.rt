@@ -14,5 +14,6 @@ mod retention;
 mod rows;
 mod snapshots;
 mod streams;
+mod times;
 mod wakers;
 mod writers;

@@ -55,6 +55,10 @@ pub returns-in-Retention : goal.returns-in-Retention
 returns-in-Retention g c =
     rw c.in-Retention.is (quietly c.args.line (said.retention c.in-Retention.span) c.args.self.now c.say_retention.new.self c.say_retention.result (g.W.Write.contents c.args.writer.now) (c.say_retention.ensures c.args.line c.in-Retention.span) (λ sent stop. refl {A = List ℕ} {a = []}))
 
+pub returns-in-Times : goal.returns-in-Times
+returns-in-Times g c =
+    rw c.in-Times.is (quietly c.args.line said.times c.args.self.now c.say_times.new.self c.say_times.result (g.W.Write.contents c.args.writer.now) (c.say_times.ensures c.args.line) (λ sent stop. refl {A = List ℕ} {a = []}))
+
 pub returns-in-Resource : goal.returns-in-Resource
 returns-in-Resource g c =
     rw c.in-Resource.is (quietly c.args.line (said.resource c.in-Resource.moment c.in-Resource.kind.now c.in-Resource.concrete.now c.in-Resource.attrs) c.args.self.now c.make_resource.new.self c.make_resource.result (g.W.Write.contents c.args.writer.now) c.make_resource.ensures (λ sent stop. refl {A = List ℕ} {a = []}))

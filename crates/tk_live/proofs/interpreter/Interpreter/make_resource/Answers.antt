@@ -51,8 +51,10 @@ returns-in-Ok-user g c settings k kept sent stands =
         };
         capacity_said = stands.capacity_said;
         retention_said = stands.retention_said;
+        times_said = stands.times_said;
         begun = stands.begun;
         capacity_is = stands.capacity_is;
+        times_is = stands.times_is;
         least = stands.least;
         moment = stands.moment;
         numbers = stands.numbers;

@@ -5,6 +5,7 @@ use Rattle.tk_script.specs.Commands as said
 use Rattle.tk_live.specs.Known.{owner_of}
 use Rattle.tk_live.specs.Runs.{numbers_of, Keeps}
 use Rattle.tk_aggregator.specs.Told.{polled}
+use Rattle.tk_live.proofs.Histograms.{offers_more}
 use Rattle.tk_live.proofs.Offers.{recorded}
 use Rattle.tk_live.proofs.Places.{told_made}
 use Rattle.tk_live.proofs.Recording.{unspent, spent, nothing_more, offered_more}
@@ -26,7 +27,7 @@ returns-in-Ok-poll_op g c line settings k kept sent stands =
       is_there _ _ r_is ∙ (is_there _ _ o_is ∙ (is_there _ _ t_is ∙ unspent i.recorder settings.capacity (numbers_of k.names) k kept o (λ h. let bad = e.spent.1 h in absurd cc))),
       one.0 ∷ [],
       record {
-        keeps = offered_more i.recorder c.poll_op.new.self i.taker i.aggregator settings k k.names (k.told ++ polled (id_of 1 c.args.resource) c.args.ready ∷ []) kept (one.0 ∷ []) sent _ _ stands.keeps e.same one.1
+        keeps = offered_more i.recorder c.poll_op.new.self i.taker i.aggregator settings k k.names (k.told ++ polled (id_of 1 c.args.resource) c.args.ready ∷ []) kept (one.0 ∷ []) sent _ _ stands.keeps e.same (λ timed. offers_more i.recorder c.poll_op.new.self (Polled poll) c.in-Ok-poll_op._became tt (λ h. e.kept (ap (λ b. Ok b) h)) (λ h. e.refused (ap (λ b. Ok b) h))) one.1
             (λ j. record { tasks = nothing_more (length k.names.tasks) j; resources = nothing_more (length k.names.resources) j; ops = nothing_more (length k.names.ops) j }) (λ j. k.told ++ polled (resource_is j) (ready_is j) ∷ []);
         holds = record {
           tasks_are = stands.holds.tasks_are;
@@ -38,8 +39,10 @@ returns-in-Ok-poll_op g c line settings k kept sent stands =
         };
         capacity_said = stands.capacity_said;
         retention_said = stands.retention_said;
+        times_said = stands.times_said;
         begun = stands.begun;
         capacity_is = stands.capacity_is;
+        times_is = stands.times_is;
         least = stands.least;
         moment = stands.moment;
         numbers = stands.numbers;

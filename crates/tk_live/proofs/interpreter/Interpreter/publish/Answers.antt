@@ -16,7 +16,7 @@ pub returns-in-Err : goal.returns-in-Err
 returns-in-Err g c line settings k kept sent stands =
     let i = c.args.self.now in
     let took = c.collect.ensures.took in
-    let col = collected i.aggregator c.collect.new.self i.taker c.collect.new.taker i.capacity c.collect.result settings.retention k.due sent stands.keeps.are c.collect.ensures.ok c.collect.ensures.err in
+    let col = collected i.aggregator c.collect.new.self i.taker c.collect.new.taker i.capacity c.collect.result settings k.due sent stands.keeps.are c.collect.ensures.ok c.collect.ensures.err in
     (inr tt, rests _ settings k line (said.publish c.args.moment c.args.whole) kept sent (stays i.recorder i.taker c.collect.new.taker i.aggregator c.collect.new.self settings k kept sent stands.keeps took col), [], refl, Appends-nil _)
 
 pub returns-in-Ok : goal.returns-in-Ok
@@ -30,7 +30,7 @@ returns-in-Ok g c line settings k kept sent stands =
     let s : Sending = sending_at whole a now in
     let due : List Due = k.due ++ record { moment = now; whole = whole } ∷ [] in
     let e = c.in-Ok.ensures in
-    let is = ready i c.collect.new.self c.refresh.new.self c.collect.new.taker i.capacity c.collect.result settings k kept sent stands c.collect.ensures.ok c.collect.ensures.err c.collect.ensures.stays c.refresh.ensures.stays c.refresh.ensures.same_infos c.refresh.ensures.held in
+    let is = ready i c.collect.new.self c.refresh.new.self c.collect.new.taker i.capacity c.collect.result settings k kept sent stands c.collect.ensures.ok c.collect.ensures.err c.collect.ensures.stays c.refresh.ensures.stays c.refresh.ensures.reads.times c.refresh.ensures.later.times c.refresh.ensures.same_infos c.refresh.ensures.held in
     let was = is.lines in
     let late = is.moment in
     let count = is.last in
@@ -45,8 +45,9 @@ returns-in-Ok g c line settings k kept sent stands =
         keeps = record {
           offered = stands.keeps.offered;
           takes = took_more i.recorder i.taker t stands.keeps.takes took;
-          are = subst (λ x. Sent x t settings.retention due (sent ++ s ∷ [])) (sym state)
-              (published a t settings.retention k.due sent now whole was good may (subst (λ x. IsSound x) state e.stays_sound));
+          timed = stands.keeps.timed;
+          are = subst (λ x. Sent x t settings due (sent ++ s ∷ [])) (sym state)
+              (published a t settings k.due sent now whole was good may (subst (λ x. IsSound x) state e.stays_sound));
         };
         holds = record {
           tasks_are = stands.holds.tasks_are;
@@ -58,8 +59,10 @@ returns-in-Ok g c line settings k kept sent stands =
         };
         capacity_said = stands.capacity_said;
         retention_said = stands.retention_said;
+        times_said = stands.times_said;
         begun = stands.begun;
         capacity_is = stands.capacity_is;
+        times_is = stands.times_is;
         least = stands.least;
         moment = ap (λ x. x.tables.now) state;
         numbers = omega (arith, next, count, length-append k.due (record { moment = now; whole = whole } ∷ []));
@@ -72,7 +75,7 @@ pub returns-in-Err-Clock : goal.returns-in-Err-Clock
 returns-in-Err-Clock g c line settings k kept sent stands =
     let i = c.args.self.now in
     let took = c.collect.ensures.took in
-    let is = ready i c.collect.new.self c.refresh.new.self c.collect.new.taker i.capacity c.collect.result settings k kept sent stands c.collect.ensures.ok c.collect.ensures.err c.collect.ensures.stays c.refresh.ensures.stays c.refresh.ensures.same_infos c.refresh.ensures.held in
+    let is = ready i c.collect.new.self c.refresh.new.self c.collect.new.taker i.capacity c.collect.result settings k kept sent stands c.collect.ensures.ok c.collect.ensures.err c.collect.ensures.stays c.refresh.ensures.stays c.refresh.ensures.reads.times c.refresh.ensures.later.times c.refresh.ensures.same_infos c.refresh.ensures.held in
     let e = c.in-Err-Clock in
     let before = g.W.Write.contents c.args.writer.now in
     let r = subst (λ x. Refuses x c.args.whole c.refresh.new.self c.args.moment c.send.new.aggregator before (g.W.Write.contents c.send.new.writer)) e.field-0-is e.ensures.refused in
@@ -82,7 +85,7 @@ pub returns-in-Err-NumbersSpent : goal.returns-in-Err-NumbersSpent
 returns-in-Err-NumbersSpent g c line settings k kept sent stands =
     let i = c.args.self.now in
     let took = c.collect.ensures.took in
-    let is = ready i c.collect.new.self c.refresh.new.self c.collect.new.taker i.capacity c.collect.result settings k kept sent stands c.collect.ensures.ok c.collect.ensures.err c.collect.ensures.stays c.refresh.ensures.stays c.refresh.ensures.same_infos c.refresh.ensures.held in
+    let is = ready i c.collect.new.self c.refresh.new.self c.collect.new.taker i.capacity c.collect.result settings k kept sent stands c.collect.ensures.ok c.collect.ensures.err c.collect.ensures.stays c.refresh.ensures.stays c.refresh.ensures.reads.times c.refresh.ensures.later.times c.refresh.ensures.same_infos c.refresh.ensures.held in
     let e = c.in-Err-NumbersSpent in
     let before = g.W.Write.contents c.args.writer.now in
     let r = subst (λ x. Refuses x c.args.whole c.refresh.new.self c.args.moment c.send.new.aggregator before (g.W.Write.contents c.send.new.writer)) e.field-0-is e.ensures.refused in (
@@ -97,7 +100,7 @@ pub returns-in-Err-Memory : goal.returns-in-Err-Memory
 returns-in-Err-Memory g c line settings k kept sent stands =
     let i = c.args.self.now in
     let took = c.collect.ensures.took in
-    let is = ready i c.collect.new.self c.refresh.new.self c.collect.new.taker i.capacity c.collect.result settings k kept sent stands c.collect.ensures.ok c.collect.ensures.err c.collect.ensures.stays c.refresh.ensures.stays c.refresh.ensures.same_infos c.refresh.ensures.held in
+    let is = ready i c.collect.new.self c.refresh.new.self c.collect.new.taker i.capacity c.collect.result settings k kept sent stands c.collect.ensures.ok c.collect.ensures.err c.collect.ensures.stays c.refresh.ensures.stays c.refresh.ensures.reads.times c.refresh.ensures.later.times c.refresh.ensures.same_infos c.refresh.ensures.held in
     let e = c.in-Err-Memory in
     let before = g.W.Write.contents c.args.writer.now in
     let r = subst (λ x. Refuses x c.args.whole c.refresh.new.self c.args.moment c.send.new.aggregator before (g.W.Write.contents c.send.new.writer)) e.field-0-is e.ensures.refused in
@@ -112,12 +115,12 @@ returns-in-Err-WriteFault g c line settings k kept sent stands =
     let before = g.W.Write.contents c.args.writer.now in
     let r = subst (λ x. Refuses x c.args.whole a c.args.moment c.send.new.aggregator before (g.W.Write.contents c.send.new.writer)) e.field-0-is e.ensures.refused in
     let s : Sending = sending_at c.args.whole a c.args.moment in
-    let is = ready i c.collect.new.self c.refresh.new.self c.collect.new.taker i.capacity c.collect.result settings k kept sent stands c.collect.ensures.ok c.collect.ensures.err c.collect.ensures.stays c.refresh.ensures.stays c.refresh.ensures.same_infos c.refresh.ensures.held in
+    let is = ready i c.collect.new.self c.refresh.new.self c.collect.new.taker i.capacity c.collect.result settings k kept sent stands c.collect.ensures.ok c.collect.ensures.err c.collect.ensures.stays c.refresh.ensures.stays c.refresh.ensures.reads.times c.refresh.ensures.later.times c.refresh.ensures.same_infos c.refresh.ensures.held in
     let was = is.lines in
     let may = e.ensures.may_send r.1 in (
       inr tt,
       rests _ settings k line (said.publish c.args.moment c.args.whole) kept sent (stays i.recorder i.taker c.collect.new.taker i.aggregator c.send.new.aggregator settings k kept sent stands.keeps took
-          (subst (λ x. Sent x c.collect.new.taker settings.retention k.due sent) (sym r.0) (broke a c.collect.new.taker settings.retention k.due sent was))),
+          (subst (λ x. Sent x c.collect.new.taker settings k.due sent) (sym r.0) (broke a c.collect.new.taker settings k.due sent was))),
       r.2.0,
       (s, refl, refl, ap (λ n. n + 1) was.last, subst (λ b. MaySend b s) was.told may, subst (λ b. IsCut (sent_text (line_sent b s)) r.2.0) was.told r.2.1),
       r.2.2,
@@ -127,7 +130,7 @@ pub returns-in-Err-Broken : goal.returns-in-Err-Broken
 returns-in-Err-Broken g c line settings k kept sent stands =
     let i = c.args.self.now in
     let took = c.collect.ensures.took in
-    let is = ready i c.collect.new.self c.refresh.new.self c.collect.new.taker i.capacity c.collect.result settings k kept sent stands c.collect.ensures.ok c.collect.ensures.err c.collect.ensures.stays c.refresh.ensures.stays c.refresh.ensures.same_infos c.refresh.ensures.held in
+    let is = ready i c.collect.new.self c.refresh.new.self c.collect.new.taker i.capacity c.collect.result settings k kept sent stands c.collect.ensures.ok c.collect.ensures.err c.collect.ensures.stays c.refresh.ensures.stays c.refresh.ensures.reads.times c.refresh.ensures.later.times c.refresh.ensures.same_infos c.refresh.ensures.held in
     let e = c.in-Err-Broken in
     let r = subst (λ x. Refuses x c.args.whole c.refresh.new.self c.args.moment c.send.new.aggregator (g.W.Write.contents c.args.writer.now) (g.W.Write.contents c.send.new.writer)) e.field-0-is e.ensures.refused in
     let goes = is.going in
