@@ -1,6 +1,10 @@
 //! Tests of `tk_ids`, `tk_core` and `tk_cell` through their public calls, in one crate above them: so their own proofs are
 //! made once, without them.
+//!
+//! - [`uses`]: proved callers of `tk_core`, to copy.
 #![tactic(auto)]
+
+pub mod uses;
 
 #[cfg(test)]
 mod tests;

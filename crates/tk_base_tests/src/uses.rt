@@ -2,8 +2,6 @@
 //!
 //! - [`two_calls`]: two calls on any object, one after the other.
 //! - [`call_in_words`]: one call on any object that is kept as sixteen words.
-#![tactic(auto)]
-
 ghost use Rattle.std.specs.Prelude.{◌≡◌, List, [], ◌∷◌, ◌++◌};
 
 use tk_core::Sequential;
