@@ -19,5 +19,6 @@ for crate in tk_ids tk_core tk_json tk_stream tk_embed; do
     grep -E "^${crate}[ :]" crates.txt >> "$work/lines"
 done
 LC_ALL=C sort "$work/files" | xargs sha256sum > "$work/sums"
-rt version > "$work/version"
-cat "$work/sums" "$work/lines" "$work/version" | sha256sum | cut -d ' ' -f 1
+rt version | sed -n 's/.* \(logic .*\)/\1/p' > "$work/logic"
+[ -s "$work/logic" ] || { echo "archive_sum.sh: rt version tells no logic" >&2; exit 1; }
+cat "$work/sums" "$work/lines" "$work/logic" | sha256sum | cut -d ' ' -f 1

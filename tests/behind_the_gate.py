@@ -68,6 +68,8 @@ def crates():
 def give_kept(name):
     """Puts the libraries below a crate into out/ that a run of `rt ci` has kept on this machine, and answers one that none has, if there is one."""
     rt = rt_command()
+    if not hasattr(rt, "Kept"):
+        sys.exit(f"this kit's rt ci keeps no libraries for other runs: run rt check in crates/{name}")
     rt.Crate.allowed = rt.handles_of(ROOT)
     crates = {crate.name: crate for crate in rt.crates_of(ROOT)}
     kept = rt.Kept(list(crates.values()))

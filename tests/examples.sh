@@ -71,6 +71,12 @@ try_calls() {
     done < calls
 }
 
+# The program has the version of the crate for programs in Rust.
+try_version() {
+    sed -n 's/^version = "\(.*\)"$/taskscope \1/p' "$root/rust/taskscope/Cargo.toml" > "$work/version"
+    try /dev/null 0 "$work/version" - --version
+}
+
 # What differs from run to run is when its polls were.
 try_service() {
     service=$root/crates/example_service/out/example_service
@@ -88,6 +94,7 @@ for program in "$out/taskscope" "$out/taskscope.by-rattle"; do
     [ -x "$program" ] || continue
     try_examples
     try_calls
+    try_version
     try_service
 done
 [ "$passed" -gt 0 ] || failed=$((failed + 1))

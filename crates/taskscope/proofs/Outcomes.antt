@@ -74,10 +74,11 @@ nothing_done terminal filter to Run given known texts status told = record {
   runs = refl;
   appends = nothing_more known;
 }
-nothing_done terminal filter to (Show shown lints) given known texts status told = record {
+nothing_done terminal filter to (Show shown lints times) given known texts status told = record {
   outcome = Err faults.Memory;
   told = told;
   views = tt;
+  plain = λ none. tt;
   unwritten = λ other. refl;
 }
 nothing_done terminal filter to (Page lints) given known texts status told = record {

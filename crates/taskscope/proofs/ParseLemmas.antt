@@ -23,12 +23,13 @@ use Rattle.clap.specs.declared.parser.matches.ValueSource.TheVariants.{CommandLi
 use Rattle.clap.proofs.ValueTestLemmas.{Accepts-accepts, accepts-Accepts}
 use Rattle.clap.proofs.WalkLemmas.{both}
 use Rattle.tk_client.specs.Warnings.{LintsView}
+use Rattle.tk_report.specs.declared.options.TimesOptions.{TimesOptions}
 use Rattle.tk_report.specs.declared.view.View.{View}
 use Rattle.tk_report.specs.declared.view.View.TheVariants.{Report, Lint}
 use Rattle.tk_frame.specs.declared.query.Column.{Column}
 use Rattle.taskscope.specs.declared.command_line.Request.TheVariants.{Metrics, Page, Show, Watch}
 use Rattle.tk_metrics.specs.declared.by.By.{By}
-use Rattle.taskscope.specs.Requests.{asked, asked_in, by_at, column_at, name_fault, file_argument, lints_in, metrics_by, names_nothing, number_of, number_option, program, refusals, watch_by}
+use Rattle.taskscope.specs.Requests.{asked, asked_in, by_at, column_at, file_argument, flag_option, lints_in, long_poll_option, metrics_by, name_fault, names_nothing, number_of, number_option, program, refusals, times_in, watch_by}
 
 -- ---- lists of kinds
 
@@ -177,17 +178,63 @@ sound_file again values rows good none =
     rw one.1 (good_at (codes "FILE") (more_values CommandLine (one.0 ∷ [])) (new_row (codes "FILE") CommandLine one.0 ∷ []) (without (codes "FILE") rows)
     (good_at (codes "FILE") (λ _. []) [] rows good (λ r g. tt) tt) (good_more CommandLine (one.0 ∷ [])) (new_file one.0, tt))
 
-abbrev rules : List Rule
-rules = file_rule ∷ number_rule percent_id (codes "50") 100 ∷ number_rule limit_id (codes "1000000000") most ∷ with_index 1 (filled help_rule) ∷ []
+abbrev long_poll_rule : Rule
+long_poll_rule = with_index 1 (filled long_poll_option)
 
-sound_rules : AreSound rules
-sound_rules = (
+long_poll_use : (again : Bool) (values : List Text) (rows : List Row) → use_fault again long_poll_rule values rows ≡ [] → (v : Text) × (values ≡ v ∷ [])
+long_poll_use again [] rows none = absurd (some_kind _ _ none)
+long_poll_use again (v ∷ []) rows none = (v, refl)
+long_poll_use again (v ∷ w ∷ vs) rows none = absurd (some_kind _ _ (sym (two_values (length vs)) ∙ first_none _ _ none))
+
+new_long_poll : (v : Text) → IsGood (new_row (codes "long-poll") CommandLine v)
+new_long_poll v = (λ is. absurd (true≢false (sym is)), λ is. absurd (true≢false (sym is)))
+
+sound_long_poll : Sound long_poll_rule
+sound_long_poll again values rows good none =
+    let one = long_poll_use again values rows none in
+    rw one.1 (good_at (codes "long-poll") (more_values CommandLine (one.0 ∷ [])) (new_row (codes "long-poll") CommandLine one.0 ∷ []) (without (codes "long-poll") rows)
+    (good_at (codes "long-poll") (λ _. []) [] rows good (λ r g. tt) tt) (good_more CommandLine (one.0 ∷ [])) (new_long_poll one.0, tt))
+
+abbrev times_rule : Rule
+times_rule = with_index 1 (filled (flag_option (codes "times")))
+
+-- where no value is wanted, one is too many
+no_values : (n : ℕ) → range_kinds 0 0 (suc n) ≡ WrongNumberOfValues ∷ []
+no_values n = rw (ne_eqb 0 (suc n) (λ e. omega (arith, e))) refl
+
+-- a use of a flag has no value
+times_use : (again : Bool) (values : List Text) (rows : List Row) → use_fault again times_rule values rows ≡ [] → values ≡ []
+times_use again [] rows none = refl
+times_use again (v ∷ vs) rows none = absurd (some_kind _ _ (sym (no_values (length vs)) ∙ first_none _ _ none))
+
+new_times : (s : ValueSource) (v : Text) → IsGood (new_row (codes "times") s v)
+new_times s v = (λ is. absurd (true≢false (sym is)), λ is. absurd (true≢false (sym is)))
+
+sound_times : Sound times_rule
+sound_times again values rows good none =
+    let there : List Text = codes "true" ∷ [] in
+    rw (times_use again values rows none) (good_at (codes "times") (more_values CommandLine there) (new_row (codes "times") CommandLine (codes "true") ∷ [])
+    (without (codes "times") rows) (good_at (codes "times") (λ _. []) [] rows good (λ r g. tt) tt) (good_more CommandLine there) (new_times CommandLine (codes "true"), tt))
+
+-- the arguments of a command that has lints, and others
+abbrev ruled_by : List Rule → List Rule
+ruled_by more = file_rule ∷ number_rule percent_id (codes "50") 100 ∷ number_rule limit_id (codes "1000000000") most ∷ more
+
+sound_rules : (more : List Rule) → AreSound more → AreSound (ruled_by more)
+sound_rules more sound = (
   sound_file,
-  (
-    sound_number percent_id (codes "50") 100 (new_percent CommandLine),
-    (sound_number limit_id (codes "1000000000") most (new_limit CommandLine), (sound_help, tt)),
-  ),
+  (sound_number percent_id (codes "50") 100 (new_percent CommandLine), (sound_number limit_id (codes "1000000000") most (new_limit CommandLine), sound)),
 )
+
+-- these others, of `page`, `lint` and `view`
+abbrev page_rules : List Rule
+page_rules = with_index 1 (filled help_rule) ∷ []
+
+abbrev lint_rules : List Rule
+lint_rules = long_poll_rule ∷ page_rules
+
+abbrev view_rules : List Rule
+view_rules = long_poll_rule ∷ times_rule ∷ page_rules
 
 -- ---- the walk keeps rows good
 
@@ -364,15 +411,18 @@ row_put id s values new (r ∷ rs) same = go (row_put id s values new rs same) (
     go rest false is = put (bytes_eq r.id id) _ rest
 
 -- a default is a row more where the option was not used
-module _ (id default : Text) (n : ℕ) where
-  default_good : (rows : List Row) → AreGood rows → IsGood (new_row id DefaultValue default) → AreGood (with_default rows (number_rule id default n))
+abbrev defaulted : Text → Text → List Row → List Row
+defaulted id default rows = cond (has_row id rows) rows (at_row id (more_values DefaultValue (default ∷ [])) (new_row id DefaultValue default ∷ []) rows)
+
+module _ (id default : Text) where
+  default_good : (rows : List Row) → AreGood rows → IsGood (new_row id DefaultValue default) → AreGood (defaulted id default rows)
   default_good rows good new = go (has_row id rows)
     where
       go : (b : Bool) → AreGood (cond b rows (at_row id (more_values DefaultValue (default ∷ [])) (new_row id DefaultValue default ∷ []) rows))
       go true = good
       go false = good_at id (more_values DefaultValue (default ∷ [])) (new_row id DefaultValue default ∷ []) rows good (good_more DefaultValue (default ∷ [])) (new, tt)
 
-  default_there : (rows : List Row) → bytes_eq id id ≡ true → has_row id (with_default rows (number_rule id default n)) ≡ true
+  default_there : (rows : List Row) → bytes_eq id id ≡ true → has_row id (defaulted id default rows) ≡ true
   default_there rows same = go (has_row id rows) refl
     where
       go : (b : Bool) → has_row id rows ≡ b
@@ -380,7 +430,7 @@ module _ (id default : Text) (n : ℕ) where
       go true has = has
       go false has = row_put id DefaultValue (default ∷ []) (new_row id DefaultValue default) rows same
 
-  default_keeps : (other : Text) (rows : List Row) → has_row other rows ≡ true → has_row other (with_default rows (number_rule id default n)) ≡ true
+  default_keeps : (other : Text) (rows : List Row) → has_row other rows ≡ true → has_row other (defaulted id default rows) ≡ true
   default_keeps other rows has = go (has_row id rows)
     where
       go : (b : Bool) → has_row other (cond b rows (at_row id (more_values DefaultValue (default ∷ [])) (new_row id DefaultValue default ∷ []) rows)) ≡ true
@@ -388,15 +438,8 @@ module _ (id default : Text) (n : ℕ) where
       go false = row_stays other id DefaultValue (default ∷ []) (new_row id DefaultValue default ∷ []) rows has
 
 -- an argument without a default adds no row
-no_default : (rows : List Row) → with_default rows (with_index 1 (filled help_rule)) ≡ rows
-no_default rows = go (has_row (codes "help") rows)
-  where
-    go : (b : Bool) → cond b rows rows ≡ rows
-    go true = refl
-    go false = refl
-
-no_default_file : (rows : List Row) → with_default rows file_rule ≡ rows
-no_default_file rows = go (has_row (codes "FILE") rows)
+no_default : (id : Text) (rows : List Row) → cond (has_row id rows) rows rows ≡ rows
+no_default id rows = go (has_row id rows)
   where
     go : (b : Bool) → cond b rows rows ≡ rows
     go true = refl
@@ -406,18 +449,52 @@ no_default_file rows = go (has_row (codes "FILE") rows)
 HaveNumbers : List Row → Type 0
 HaveNumbers rows = AreGood rows × (has_row percent_id rows ≡ true) × (has_row limit_id rows ≡ true)
 
-with_defaults : (rows : List Row) → AreGood rows → HaveNumbers (fold with_default rows rules)
+-- which the default of another argument leaves
+abbrev Keeps : Rule → Type 0
+Keeps a = (rows : List Row) → HaveNumbers rows → HaveNumbers (with_default rows a)
+
+abbrev AllKeep : List Rule → Type 0
+AllKeep [] = Unit {0}
+AllKeep (a ∷ more) = Keeps a × AllKeep more
+
+all_keep : (more : List Rule) → AllKeep more → (rows : List Row) → HaveNumbers rows → HaveNumbers (fold with_default rows more)
+all_keep [] keep rows numbers = numbers
+all_keep (a ∷ more) keep rows numbers = all_keep more keep.1 (with_default rows a) (keep.0 rows numbers)
+
+keeps_without : (id : Text) (rows : List Row) → HaveNumbers rows → HaveNumbers (cond (has_row id rows) rows rows)
+keeps_without id rows = subst HaveNumbers (sym (no_default id rows))
+
+keeps_times : Keeps times_rule
 unfolding HaveNumbers
-with_defaults rows good =
-    let percents = with_default rows (number_rule percent_id (codes "50") 100) in
-    let limits = with_default percents (number_rule limit_id (codes "1000000000") most) in
-    let first : AreGood percents = default_good percent_id (codes "50") 100 rows good (new_percent DefaultValue (codes "50") refl) in
-    let second : AreGood limits = default_good limit_id (codes "1000000000") most percents first (new_limit DefaultValue (codes "1000000000") refl) in
-    rw (no_default_file rows, no_default limits) (
-      second,
-      default_keeps limit_id (codes "1000000000") most percent_id percents (default_there percent_id (codes "50") 100 rows refl),
-      default_there limit_id (codes "1000000000") most percents refl,
+keeps_times rows numbers = (
+  default_good (codes "times") (codes "false") rows numbers.0 (new_times DefaultValue (codes "false")),
+  default_keeps (codes "times") (codes "false") percent_id rows numbers.1,
+  default_keeps (codes "times") (codes "false") limit_id rows numbers.2,
+)
+
+page_keeps : AllKeep page_rules
+page_keeps = (keeps_without (codes "help"), tt)
+
+lint_keeps : AllKeep lint_rules
+lint_keeps = (keeps_without (codes "long-poll"), page_keeps)
+
+view_keeps : AllKeep view_rules
+view_keeps = (keeps_without (codes "long-poll"), (keeps_times, page_keeps))
+
+both_defaults : (rows : List Row) → AreGood rows → HaveNumbers (defaulted limit_id (codes "1000000000") (defaulted percent_id (codes "50") rows))
+unfolding HaveNumbers
+both_defaults rows good =
+    let percents = defaulted percent_id (codes "50") rows in
+    let first : AreGood percents = default_good percent_id (codes "50") rows good (new_percent DefaultValue (codes "50") refl) in (
+      default_good limit_id (codes "1000000000") percents first (new_limit DefaultValue (codes "1000000000") refl),
+      default_keeps limit_id (codes "1000000000") percent_id percents (default_there percent_id (codes "50") rows refl),
+      default_there limit_id (codes "1000000000") percents refl,
     )
+
+with_defaults : (more : List Rule) → AllKeep more → (rows : List Row) → AreGood rows → HaveNumbers (fold with_default rows (ruled_by more))
+with_defaults more keep rows good =
+    subst (λ (r : List Row). HaveNumbers (fold with_default r (number_rule percent_id (codes "50") 100 ∷ number_rule limit_id (codes "1000000000") most ∷ more)))
+    (sym (no_default (codes "FILE") rows)) (all_keep more keep _ (both_defaults rows good))
 
 -- ---- numbers that passed are read
 
@@ -456,9 +533,9 @@ lints_there rows numbers =
 
 -- ---- the command that the words name
 
-view_asks : (view : View) (lints : Option LintsView) → IsSome lints → IsSome (option_and_then (λ l. Some (Show view l)) lints)
-view_asks view None some = absurd (true≢false (sym some))
-view_asks view (Some l) some = refl
+view_asks : (view : View) (times : TimesOptions) (lints : Option LintsView) → IsSome lints → IsSome (option_and_then (λ l. Some (Show view l times)) lints)
+view_asks view times None some = absurd (true≢false (sym some))
+view_asks view times (Some l) some = refl
 
 page_asks_of : (lints : Option LintsView) → IsSome lints → IsSome (option_and_then (λ l. Some (Page l)) lints)
 page_asks_of None some = absurd (true≢false (sym some))
@@ -591,15 +668,16 @@ walk_stops w (word ∷ words) at none =
     (next_none (turn_fault there.top (names_of there) w word) _ none)
 
 -- a command whose own words are taken has both numbers
-numbers_there : (s : Shape) (words : List Text) → s.rules ≡ rules → level_fault s [] nothing_held words false [] ≡ []
-    → HaveNumbers (rows_after s.rules [] words)
-numbers_there s words is none =
-    let sound : AreSound s.rules = subst AreSound (sym is) sound_rules in
-    let end = (walk s.rules [] nothing_held words).held in
-    let walks = walk_good s [] sound (walk_from nothing_held) words tt (first_none _ _ none) in
-    let after = next_none (walk_fault s [] (walk_from nothing_held) words) _ none in
-    let held = settled_good s.rules s.args_override_self sound end walks (first_none _ _ after) in
-    subst (λ c. HaveNumbers (fold with_default (settled s.rules end).rows c)) (sym is) (with_defaults (settled s.rules end).rows held)
+module _ (more : List Rule) (sound_more : AreSound more) (keep : AllKeep more) where
+  numbers_there : (s : Shape) (words : List Text) → s.rules ≡ ruled_by more → level_fault s [] nothing_held words false [] ≡ []
+      → HaveNumbers (rows_after s.rules [] words)
+  numbers_there s words is none =
+      let sound : AreSound s.rules = subst AreSound (sym is) (sound_rules more sound_more) in
+      let end = (walk s.rules [] nothing_held words).held in
+      let walks = walk_good s [] sound (walk_from nothing_held) words tt (first_none _ _ none) in
+      let after = next_none (walk_fault s [] (walk_from nothing_held) words) _ none in
+      let held = settled_good s.rules s.args_override_self sound end walks (first_none _ _ after) in
+      subst (λ c. HaveNumbers (fold with_default (settled s.rules end).rows c)) (sym is) (with_defaults more keep (settled s.rules end).rows held)
 
 -- where the words behind a command are taken, and its options name what there is, it asks for something
 abbrev TakenAsks : Text → List Text → Type 0
@@ -609,19 +687,23 @@ TakenAsks name words = entered_fault there (Some (name, words)) ≡ [] → names
 run_asks : (words : List Text) → TakenAsks (codes "run") words
 run_asks words none named = refl
 
-show_asks : (words : List Text) → TakenAsks (codes "view") words
-show_asks words none named = view_asks Report _ (lints_there _ (numbers_there _ words refl none))
-
-lint_asks : (words : List Text) → TakenAsks (codes "lint") words
-lint_asks words none named = view_asks Lint _ (lints_there _ (numbers_there _ words refl none))
-
-page_asks : (words : List Text) → TakenAsks (codes "page") words
-page_asks words none named = page_asks_of _ (lints_there _ (numbers_there _ words refl none))
-
 -- the options behind a command
 abbrev options_in : Option (Text × List Row) → List Row
 options_in None = []
 options_in (Some command) = command.1
+
+show_asks : (words : List Text) → TakenAsks (codes "view") words
+show_asks words none named =
+    view_asks Report (times_in (options_in (entered there (Some (codes "view", words))))) _
+    (lints_there _ (numbers_there view_rules (sound_long_poll, (sound_times, (sound_help, tt))) view_keeps _ words refl none))
+
+lint_asks : (words : List Text) → TakenAsks (codes "lint") words
+lint_asks words none named =
+    view_asks Lint (times_in (options_in (entered there (Some (codes "lint", words))))) _
+    (lints_there _ (numbers_there lint_rules (sound_long_poll, (sound_help, tt)) lint_keeps _ words refl none))
+
+page_asks : (words : List Text) → TakenAsks (codes "page") words
+page_asks words none named = page_asks_of _ (lints_there _ (numbers_there page_rules (sound_help, tt) page_keeps _ words refl none))
 
 watch_named : (options : List Row) → names_nothing (Some (codes "watch", options)) ≡ false → IsSome (asked_in (Some (codes "watch", options)))
 watch_named options named = watch_asks_of options (column_at options) named

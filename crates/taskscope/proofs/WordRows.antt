@@ -1,13 +1,14 @@
 -- What words of a command line ask for, word by word.
-use Rattle.std.proofs.Common.{◌≡◌, refl, ℕ, List, [], ◌∷◌, codes, true, true≢false, sym, ap, Some}
+use Rattle.std.proofs.Common.{◌≡◌, refl, ℕ, List, [], ◌∷◌, codes, false, true, true≢false, sym, ap, Some}
 use Rattle.clap.specs.Walk.{is_empty}
 use Rattle.clap.specs.declared.error.kind.ErrorKind.TheVariants.{ArgumentConflict, DisplayHelp, InvalidSubcommand, InvalidValue, MissingSubcommand, UnknownArgument, ValueValidation}
 use Rattle.clap.proofs.OnLiterals.{clap_on_literals}
+use Rattle.tk_report.specs.Timed.{no_times}
 use Rattle.tk_report.specs.declared.view.View.TheVariants.{Report, Lint}
 use Rattle.taskscope.specs.declared.command_line.Request.TheVariants.{Demo, Metrics, Page, Run, Show, Watch}
 use Rattle.tk_frame.specs.declared.query.Column.TheVariants.{Sched}
 use Rattle.tk_metrics.specs.declared.by.By.TheVariants.{Id}
-use Rattle.taskscope.specs.Requests.{AsksFor, AsksForHelp, AsksForInput, IsMistake, file_of, filter_of, plain_lints, plain_metrics, plain_watch, refusals, to_of}
+use Rattle.taskscope.specs.Requests.{AsksFor, AsksForHelp, AsksForInput, AsksForVersion, IsMistake, file_of, filter_of, plain_lints, plain_metrics, plain_watch, refusals, to_of}
 
 -- the program is called by some name
 module _ (name : List ℕ) where
@@ -15,11 +16,11 @@ module _ (name : List ℕ) where
   unfolding clap_on_literals
   run = ((refl, refl), refl)
 
-  pub view : AsksForInput (Show Report plain_lints) (name ∷ codes "view" ∷ [])
+  pub view : AsksForInput (Show Report plain_lints no_times) (name ∷ codes "view" ∷ [])
   unfolding clap_on_literals
   view = ((refl, refl), refl)
 
-  pub lint : AsksForInput (Show Lint plain_lints) (name ∷ codes "lint" ∷ [])
+  pub lint : AsksForInput (Show Lint plain_lints no_times) (name ∷ codes "lint" ∷ [])
   unfolding clap_on_literals
   lint = ((refl, refl), refl)
 
@@ -39,7 +40,7 @@ module _ (name : List ℕ) where
   unfolding clap_on_literals
   demo = ((refl, refl), refl)
 
-  a_file : AsksFor (Show Report plain_lints) (name ∷ codes "view" ∷ codes "a.stream" ∷ [])
+  a_file : AsksFor (Show Report plain_lints no_times) (name ∷ codes "view" ∷ codes "a.stream" ∷ [])
   unfolding clap_on_literals
   a_file = (refl, refl)
 
@@ -51,10 +52,19 @@ module _ (name : List ℕ) where
   unfolding clap_on_literals
   run_and_no_more = (refl, refl)
 
-  all_wakes : AsksFor (Show Lint (record { self_wake_percent = 100; never_yielded_ns = 0 }))
+  all_wakes : AsksFor (Show Lint (record { self_wake_percent = 100; never_yielded_ns = 0 }) no_times)
       (name ∷ codes "lint" ∷ codes "--self-wake-percent" ∷ codes "100" ∷ codes "--never-yielded-ns=0" ∷ [])
   unfolding clap_on_literals
   all_wakes = (refl, refl)
+
+  histograms_and_long_polls : AsksFor (Show Report plain_lints (record { times = true; long_poll = Some 5 }))
+      (name ∷ codes "view" ∷ codes "--times" ∷ codes "--long-poll" ∷ codes "5" ∷ [])
+  unfolding clap_on_literals
+  histograms_and_long_polls = (refl, refl)
+
+  long_polls_alone : AsksFor (Show Lint plain_lints (record { times = false; long_poll = Some 100 })) (name ∷ codes "lint" ∷ codes "--long-poll=100" ∷ [])
+  unfolding clap_on_literals
+  long_polls_alone = (refl, refl)
 
   the_longest_waits : AsksFor (Watch (record plain_watch { sort = Sched; rows = 5; plain = true; resources = true }))
       (name ∷ codes "watch" ∷ codes "--sort=sched" ∷ codes "--rows=5" ∷ codes "--plain" ∷ codes "--resources" ∷ [])
@@ -86,6 +96,14 @@ module _ (name : List ℕ) where
   unfolding clap_on_literals
   a_percentage_too_large = refl
 
+  every_poll_a_long_one : refusals (name ∷ codes "lint" ∷ codes "--long-poll=0" ∷ []) ≡ ValueValidation ∷ []
+  unfolding clap_on_literals
+  every_poll_a_long_one = refl
+
+  histograms_of_warnings : refusals (name ∷ codes "lint" ∷ codes "--times" ∷ []) ≡ UnknownArgument ∷ []
+  unfolding clap_on_literals
+  histograms_of_warnings = refl
+
   an_option_twice : refusals (name ∷ codes "lint" ∷ codes "--never-yielded-ns=1" ∷ codes "--never-yielded-ns=1" ∷ []) ≡ ArgumentConflict ∷ []
   unfolding clap_on_literals
   an_option_twice = refl
@@ -105,6 +123,18 @@ module _ (name : List ℕ) where
   help_of_run : AsksForHelp (name ∷ codes "run" ∷ codes "--help" ∷ [])
   unfolding clap_on_literals
   help_of_run = refl
+
+  version_flag : AsksForVersion (name ∷ codes "--version" ∷ [])
+  unfolding clap_on_literals
+  version_flag = refl
+
+  short_version_flag : AsksForVersion (name ∷ codes "-V" ∷ [])
+  unfolding clap_on_literals
+  short_version_flag = refl
+
+  version_of_view : refusals (name ∷ codes "view" ∷ codes "--version" ∷ []) ≡ UnknownArgument ∷ []
+  unfolding clap_on_literals
+  version_of_view = refl
 
   -- what follows `help` may name no command
   help_command : refusals (name ∷ codes "help" ∷ codes "run" ∷ []) ≡ DisplayHelp ∷ InvalidSubcommand ∷ []

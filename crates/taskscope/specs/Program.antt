@@ -9,7 +9,10 @@ use Rattle.tk_metrics.specs.Keeping.{Keeps}
 use Rattle.tk_metrics.specs.Places.{Texts}
 use Rattle.tk_metrics.specs.Streams.{Measures}
 use Rattle.tk_page.specs.Pages.{Pages}
+use Rattle.tk_report.specs.Timed.{no_times}
+use Rattle.tk_report.specs.TimedViews.{ViewsTimed}
 use Rattle.tk_report.specs.Views.{IsOfWriter, Views}
+use Rattle.tk_report.specs.declared.options.TimesOptions.{TimesOptions}
 use Rattle.tk_fault.specs.declared.fault.AppFault.{AppFault}
 use Rattle.tk_screen.specs.declared.canvas.Canvas.{Canvas}
 use Rattle.tk_screen.specs.declared.canvas.Canvas.TheVariants.{Plain}
@@ -51,11 +54,13 @@ abbrev pub view_status : View → Result ℕ AppFault → ℕ
 view_status view (Ok warnings) = status_at view warnings
 view_status view (Err fault) = 1
 
--- a stream is read and viewed, and the status tells the outcome
-pub record ViewsStream (view : View) (lints : LintsView) (given left old new : Option (List ℕ)) (status : ℕ) : Type 0 where
+-- a stream is read and viewed, with what these options ask for of poll times, and the status tells the outcome
+pub record ViewsStream (view : View) (lints : LintsView) (times : TimesOptions) (given left old new : Option (List ℕ)) (status : ℕ) : Type 0 where
   pub outcome : Result ℕ AppFault
   pub told : status ≡ view_status view outcome
-  pub views : Views view lints given left outcome old new
+  pub views : ViewsTimed view lints times given left outcome old new
+  -- with nothing of poll times it is the view of the tables alone
+  pub plain : times ≡ no_times → Views view lints given left outcome old new
   -- only a writer's fault comes once something was written
   pub unwritten : IfErr outcome (λ fault. (IsOfWriter fault → ⊥) → new ≡ old)
 
@@ -143,7 +148,7 @@ filter_text filter = unwrap_or filter []
 -- after, of the output's, of a place's texts, and the status
 abbrev pub Does : Canvas → Option (List ℕ) → Option (List ℕ) → Request → Option (List ℕ) → Option (List ℕ) → Option (List ℕ) → Option (List ℕ) → Option Texts → Option Texts → ℕ → Type 0
 Does terminal filter to Run given left old new before after status = RunsScript given old new status
-Does terminal filter to (Show view lints) given left old new before after status = ViewsStream view lints given left old new status
+Does terminal filter to (Show view lints times) given left old new before after status = ViewsStream view lints times given left old new status
 Does terminal filter to (Page lints) given left old new before after status = PagesStream lints given left old new status
 Does terminal filter to (Watch options) given left old new before after status = WatchesBy options.keys options (filter_text filter) terminal given left old new status
 Does terminal filter to (Metrics options) given left old new before after status = MeasuresTo to options given left old new before after status

@@ -14,6 +14,7 @@ use Rattle.clap.specs.declared.builder.value_parser.ValueParser.TheVariants as v
 use Rattle.clap.specs.declared.error.kind.ErrorKind.{ErrorKind}
 use Rattle.clap.specs.declared.error.kind.ErrorKind.TheVariants as kind
 use Rattle.tk_client.specs.Warnings.{LintsView}
+use Rattle.tk_report.specs.declared.options.TimesOptions.{TimesOptions}
 use Rattle.tk_report.specs.declared.view.View.{View}
 use Rattle.tk_report.specs.declared.view.View.TheVariants.{Report, Lint}
 use Rattle.tk_frame.specs.declared.query.Column.{Column}
@@ -62,6 +63,22 @@ reading_command name = with_rule (new_app name) file_argument
 abbrev pub view_command : Text → App
 view_command name = with_rule (with_rule (reading_command name) percent_option) limit_option
 
+-- from how many milliseconds on a poll is a long one: `--long-poll MS`, from 1 on
+abbrev pub long_poll_option : Rule
+long_poll_option = record (new_rule (codes "long-poll")) {
+  long = Some (codes "long-poll");
+  value_names = 1;
+  parser = Some (vp.Unsigned 1 18446744073709551615);
+}
+
+-- such a command that also warns of long polls, where that option is there
+abbrev pub polls_command : Text → App
+polls_command name = with_rule (view_command name) long_poll_option
+
+-- the command that writes the report, with histograms where they are asked for
+abbrev pub report_command : App
+report_command = with_rule (polls_command (codes "view")) (flag_option (codes "times"))
+
 -- the command that watches a stream, with the options of what its screens show
 abbrev pub shows_command : App
 shows_command =
@@ -90,15 +107,19 @@ metrics_command =
 abbrev pub requiring : App → App
 requiring = on_top (λ s. record s { subcommand_required = true })
 
+-- `--version` is there
+abbrev pub versioned : App → App
+versioned = on_top (λ s. record s { has_version = true })
+
 abbrev pub bare : App
-bare = requiring (new_app (codes "taskscope"))
+bare = requiring (versioned (new_app (codes "taskscope")))
 
 -- `run`, `view` and `lint`
 abbrev pub first_words : App
 first_words =
     let runs = with_subcommand bare (reading_command (codes "run")).top in
-    let views = with_subcommand runs (view_command (codes "view")).top in
-    with_subcommand views (view_command (codes "lint")).top
+    let views = with_subcommand runs report_command.top in
+    with_subcommand views (polls_command (codes "lint")).top
 
 -- the program as a parse of its words reads it: these, `page`, `watch`, `metrics` and `demo`
 abbrev pub program : App
@@ -131,14 +152,6 @@ abbrev pub lints_in : List Row → Option LintsView
 lints_in options =
     option_and_then (λ percent. lints_with percent (number_at (codes "never-yielded-ns") options)) (number_at (codes "self-wake-percent") options)
 
--- a view with these options
-abbrev pub view_with : View → List Row → Option Request
-view_with view options = option_and_then (λ lints. Some (Show view lints)) (lints_in options)
-
--- a page with these options
-abbrev pub page_with : List Row → Option Request
-page_with options = option_and_then (λ lints. Some (Page lints)) (lints_in options)
-
 -- the text of an option
 abbrev pub text_at : Text → List Row → Option Text
 text_at name = first_of name
@@ -146,6 +159,18 @@ text_at name = first_of name
 -- an option is there
 abbrev pub flag_at : Text → List Row → Bool
 flag_at name options = option_map_or (λ text. bytes_eq text (codes "true")) (text_at name options) false
+
+-- what of poll times a command's options ask for: histograms by `--times`, and a warning of each long poll by `--long-poll`
+abbrev pub times_in : List Row → TimesOptions
+times_in options = record { times = flag_at (codes "times") options; long_poll = number_at (codes "long-poll") options }
+
+-- a view with these options
+abbrev pub view_with : View → List Row → Option Request
+view_with view options = option_and_then (λ lints. Some (Show view lints (times_in options))) (lints_in options)
+
+-- a page with these options
+abbrev pub page_with : List Row → Option Request
+page_with options = option_and_then (λ lints. Some (Page lints)) (lints_in options)
 
 -- the number of an option, or another where it has none
 abbrev pub number_or : ℕ → Text → List Row → ℕ
@@ -315,6 +340,10 @@ at_keys other = None
 -- the words ask for help, and make no mistake
 abbrev pub AsksForHelp : List (List ℕ) → Type 0
 AsksForHelp words = refusals words ≡ kind.DisplayHelp ∷ []
+
+-- the words ask for the program's version, and make no mistake
+abbrev pub AsksForVersion : List (List ℕ) → Type 0
+AsksForVersion words = refusals words ≡ kind.DisplayVersion ∷ []
 
 -- the error is a mistake in the words, and neither a text that they ask for nor want of memory
 abbrev pub is_mistake : ErrorKind → Bool

@@ -14,7 +14,7 @@ use clap::builder::ValueParser;
 use clap::error::ErrorKind;
 use clap::{Arg, ArgAction, ArgMatches, Command, Error};
 use std::alloc::{AllocError, Global};
-use tk_app::View;
+use tk_app::{TimesOptions, View};
 use tk_client::Lints;
 use tk_frame::Column;
 use tk_metrics::By;
@@ -35,10 +35,16 @@ pub(crate) struct Call<'a> {
 pub(crate) enum Request {
     /// To run a script.
     Run,
-    /// To show what a stream's tables come to, with warnings by these lints.
-    Show { view: View, lints: Lints },
+    /// To show what a stream's tables come to, with warnings by these lints, and of poll times what these options ask for.
+    Show {
+        view: View,
+        lints: Lints,
+        times: TimesOptions,
+    },
     /// To draw a stream as one page, with warnings by these lints.
-    Page { lints: Lints },
+    Page {
+        lints: Lints,
+    },
     /// To draw a stream's tables as a screen while it comes.
     Watch(WatchOptions),
     /// To write a stream's numbers, or to keep them in a file.
@@ -93,6 +99,9 @@ const AFTER_HELP: &str =
     "The status is 0 if all was done, 1 after a fault (one line on standard error), 2 after words that ask for
 nothing that the program does, and 3 where `lint` found warnings.";
 
+// That of the crate for programs in Rust, rust/taskscope.
+const VERSION: &str = "0.1.0";
+
 const RUN_ABOUT: &str = "Runs a script and writes its stream to standard output";
 
 const RUN_LONG_ABOUT: &str = "Runs a script and writes its stream to standard output.
@@ -140,6 +149,10 @@ The report has a line for each task, resource and async operation, and one for e
 `taskscope lint --help` says what they mean. docs/FORMATS.md explains the lines. A last line of the stream
 without its line end is ignored. After a fault nothing is written.
 
+With `--times` a line below a task says how many polls of it ended, how long the longest ran, and between which
+times the percentiles 50, 90 and 99 lie, in nanoseconds, where the stream tells of it, as one of version 3 does.
+A wall clock can't tell a long poll from one whose thread the system had put aside.
+
 The report is written at the end of the stream: `taskscope watch` shows a stream while it comes.";
 
 const LINT_ABOUT: &str =
@@ -154,6 +167,10 @@ A task has these warnings:
   lost-waker     nobody is left who could wake it: keep a waker of it until the wake
   self-wakes     too many wakes are its own: let what it waits for wake it
   never-yielded  its first poll runs too long: move work that blocks to a blocking task
+  long-poll      a poll of it ran as long as `--long-poll` says, or longer: let it yield, or move work that blocks
+
+A wall clock can't tell a long poll from one whose thread the system had put aside. Of polls that ended a stream of
+version 3 tells; of other streams the poll that runs is known alone.
 
 A waker, a task or a poll that a program lets go without its last call makes no entry, and counts as live: such a
 waker hides a lost-waker, and such a task never closes.
@@ -238,6 +255,14 @@ const PERCENT_HELP: &str = "Warns where more of a hundred wakes are a task's own
 const LIMIT: &str = "never-yielded-ns";
 
 const LIMIT_HELP: &str = "Warns where a first poll has run for so many nanoseconds";
+
+const LONG_POLL: &str = "long-poll";
+
+const LONG_POLL_HELP: &str = "Warns where a poll ran for so many milliseconds, from 1 on";
+
+const TIMES: &str = "times";
+
+const TIMES_HELP: &str = "Shows below a task how long its polls ran, where the stream tells of it";
 
 const SORT: &str = "sort";
 
@@ -327,6 +352,18 @@ fn number_arg<'a>(
         .value_parser(ValueParser::unsigned(0, most))
 }
 
+// The option from how many milliseconds on a poll is a long one.
+fn long_poll_arg<'a>(alloc: Global) -> Arg<'a>
+    ensures rule { rule_of result ≡ spec.long_poll_option }
+    ensures local { result.global ≡ false }
+{
+    Arg::new(alloc, LONG_POLL)
+        .long(LONG_POLL)
+        .value_name("MS")
+        .help(LONG_POLL_HELP)
+        .value_parser(ValueParser::unsigned(1, 18_446_744_073_709_551_615))
+}
+
 // An option of a text.
 fn text_arg<'a>(alloc: Global, name: &'a str, value: &'a str, told: &'a str) -> Arg<'a>
     ensures rule { rule_of result ≡ spec.text_option name.entry.now }
@@ -373,6 +410,31 @@ fn view_command<'a>(
             .arg(percent)?
             .arg(limit)?,
     )
+}
+
+// A command that views a stream, and warns of long polls where they are asked for.
+fn polls_command<'a>(
+    alloc: Global,
+    name: &'a str,
+    about: &'a str,
+    long_about: &'a str,
+) -> Result<Command<'a>, Error>
+    ensures ok { IfOk result (λ c. app_of c ≡ spec.polls_command name.entry.now) }
+    ensures local { IfOk result (λ c. (fields_of c).has_globals ≡ false) }
+    ensures err { IfErr result (λ e. kind_of e ≡ ErrorKind.OutOfMemory) }
+{
+    let long_poll = long_poll_arg(alloc);
+    Ok(view_command(alloc, name, about, long_about)?.arg(long_poll)?)
+}
+
+// The report, with histograms where they are asked for.
+fn report_command<'a>(alloc: Global) -> Result<Command<'a>, Error>
+    ensures ok { IfOk result (λ c. app_of c ≡ spec.report_command) }
+    ensures local { IfOk result (λ c. (fields_of c).has_globals ≡ false) }
+    ensures err { IfErr result (λ e. kind_of e ≡ ErrorKind.OutOfMemory) }
+{
+    let times = flag_arg(alloc, TIMES, TIMES_HELP);
+    Ok(polls_command(alloc, "view", VIEW_ABOUT, VIEW_LONG_ABOUT)?.arg(times)?)
 }
 
 // What a screen shows.
@@ -444,6 +506,7 @@ fn top_command<'a>(alloc: Global) -> Result<Command<'a>, Error>
             .about(ABOUT)
             .long_about(LONG_ABOUT)
             .after_help(AFTER_HELP)
+            .version(VERSION)
             .subcommand_required(true),
     )
 }
@@ -454,8 +517,8 @@ fn first_words<'a>(alloc: Global) -> Result<Command<'a>, Error>
     ensures err { IfErr result (λ e. kind_of e ≡ ErrorKind.OutOfMemory) }
 {
     let run = reading_command(alloc, "run", RUN_ABOUT, RUN_LONG_ABOUT)?;
-    let view = view_command(alloc, "view", VIEW_ABOUT, VIEW_LONG_ABOUT)?;
-    let lint = view_command(alloc, "lint", LINT_ABOUT, LINT_LONG_ABOUT)?;
+    let view = report_command(alloc)?;
+    let lint = polls_command(alloc, "lint", LINT_ABOUT, LINT_LONG_ABOUT)?;
     Ok(
         top_command(alloc)?
             .subcommand(run)?
@@ -497,20 +560,6 @@ fn lints_in(options: &ArgMatches) -> Option<Lints>
     Lints::new(percent, limit)
 }
 
-fn view_with(view: View, options: &ArgMatches) -> Option<Request>
-    ensures { result ≡ spec.view_with view (rows_of (found_of options.now)) }
-{
-    let lints = lints_in(options)?;
-    Some(Request::Show { view, lints })
-}
-
-fn page_with(options: &ArgMatches) -> Option<Request>
-    ensures { result ≡ spec.page_with (rows_of (found_of options.now)) }
-{
-    let lints = lints_in(options)?;
-    Some(Request::Page { lints })
-}
-
 fn text_at<'a>(options: &ArgMatches<'a>, name: &str) -> Option<&'a str>
     ensures { option_map (λ text. text.now) result ≡ spec.text_at name.now (rows_of (found_of options.now)) }
 {
@@ -525,6 +574,33 @@ fn flag_at(options: &ArgMatches, name: &str) -> bool
         Some(text) => text == "true",
         None => false,
     }
+}
+
+fn times_in(options: &ArgMatches) -> TimesOptions
+    ensures { result ≡ spec.times_in (rows_of (found_of options.now)) }
+{
+    TimesOptions {
+        times: flag_at(options, TIMES),
+        long_poll: number_at(options, LONG_POLL),
+    }
+}
+
+fn view_with(view: View, options: &ArgMatches) -> Option<Request>
+    ensures { result ≡ spec.view_with view (rows_of (found_of options.now)) }
+{
+    let lints = lints_in(options)?;
+    Some(Request::Show {
+        view,
+        lints,
+        times: times_in(options),
+    })
+}
+
+fn page_with(options: &ArgMatches) -> Option<Request>
+    ensures { result ≡ spec.page_with (rows_of (found_of options.now)) }
+{
+    let lints = lints_in(options)?;
+    Some(Request::Page { lints })
 }
 
 fn number_or(options: &ArgMatches, name: &str, other: u64) -> u64

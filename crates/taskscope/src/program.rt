@@ -2,8 +2,9 @@
 ghost use Rattle.std.specs.Prelude.{◌≡◌, ◌≢◌, ◌≤◌, ◌⊎◌, true, [], codes, IsSome, None};
 ghost use Rattle.std.specs.Option.{option_map};
 ghost use Rattle.clap.specs.Values.{kind_of};
+ghost use Rattle.tk_report.specs.Timed.{no_times};
 ghost use Rattle.taskscope.specs.Requests as spec;
-ghost use Rattle.taskscope.specs.Requests.{AsksForFile, AsksForHelp, AsksForInput, IsMistake, IsPlain, asked, filter_of, is_mistake, plain_lints, plain_metrics, plain_watch, refusals, texts, to_of};
+ghost use Rattle.taskscope.specs.Requests.{AsksForFile, AsksForHelp, AsksForInput, AsksForVersion, IsMistake, IsPlain, asked, filter_of, is_mistake, plain_lints, plain_metrics, plain_watch, refusals, texts, to_of};
 ghost use Rattle.taskscope.specs.Program.{Does, DoesOfFile, KeepsStream, WatchesAtKeys, WatchesStream, filter_text, page_status, screen_by, status_at, status_of, view_status};
 
 use crate::command_line::{Call, MetricsOptions, Request, WatchOptions, call_of};
@@ -17,7 +18,7 @@ use std::sync::Wait;
 use std::thread::Threads;
 use std::time::Clock;
 use std::{fs, io};
-use tk_app::{AppFault, Open, View, demo, run_script, view_stream};
+use tk_app::{AppFault, Open, View, demo, run_script, view_stream_with};
 use tk_frame::Query;
 use tk_keys::watch_terminal;
 use tk_metrics::{Place, keep_metrics, metrics_stream};
@@ -255,13 +256,11 @@ fn fulfil<
 {
     match request {
         Request::Run => tell_outcome(run_script(rt, alloc, input, output, &Open), faults),
-        Request::Show { view, lints } => {
-            tell_view(
-                view,
-                view_stream(alloc, input, output, view, &lints),
-                faults,
-            )
-        }
+        Request::Show { view, lints, times } => tell_view(
+            view,
+            view_stream_with(alloc, input, output, view, &lints, &times),
+            faults,
+        ),
         Request::Page { lints } => tell_page(view_page(alloc, input, output, &lints), faults),
         Request::Watch(options) => {
             let text = filter_text(filter);
@@ -375,11 +374,12 @@ where
     }
 }
 
-// What clap answers when it gives no request: help, a mistake in the words, or want of memory.
+// What clap answers when it gives no request: help, the version, a mistake in the words, or want of memory.
 fn answer<O: Write, E: Write>(error: Error, output: &mut O, faults: &mut E) -> u8
     ensures memory { kind_of error ≡ ErrorKind.OutOfMemory → (result ≡ FAULT) × (output.new ≡ output.old) }
     ensures mistake { is_mistake (kind_of error) ≡ true → (result ≡ USAGE) × (output.new ≡ output.old) }
     ensures help { kind_of error ≡ ErrorKind.DisplayHelp → result ≤ FAULT }
+    ensures version { kind_of error ≡ ErrorKind.DisplayVersion → result ≤ FAULT }
     ensures usage { result ≡ USAGE → output.new ≡ output.old }
     ensures status { result ≤ USAGE }
 {
@@ -440,7 +440,7 @@ pub(crate) fn run_program<
 ) -> u8
 where
     R::File: Send + 'static,
-    // What is asked for is done: a run reads and writes as `run_script` does, a view as `view_stream` does, a page as
+    // What is asked for is done: a run reads and writes as `run_script` does, a view as `view_stream_with` does, a page as
     // `view_page` does, a watch as `watch_stream` does, or as `watch_terminal` does of some stream where keys are heard, numbers as
     // `metrics_stream` does, or as `keep_metrics` does where a path is given, and the demo writes as `demo` does. The status is 1 exactly where there was a fault, and 3 exactly where `lint` found warnings.
     ensures does { (request : Request) → AsksForInput request (texts words.now)
@@ -453,10 +453,10 @@ where
         (O.contents output.old) (O.contents output.new) (P.texts place.old) (P.texts place.new) result }
     // Numbers alone are put in a place, and only where the words are taken and name a path.
     ensures kept { refusals (texts words.now) ≡ [] → to_of (texts words.now) ≡ None → place.new ≡ place.old }
-    // A command alone asks for it of the input, with the lints of its defaults.
+    // A command alone asks for it of the input, with the lints of its defaults, and for nothing of poll times.
     ensures run { IsPlain (codes "run") (texts words.now) → AsksForInput Request.Run (texts words.now) }
-    ensures view { IsPlain (codes "view") (texts words.now) → AsksForInput (Request.Show View.Report plain_lints) (texts words.now) }
-    ensures lint { IsPlain (codes "lint") (texts words.now) → AsksForInput (Request.Show View.Lint plain_lints) (texts words.now) }
+    ensures view { IsPlain (codes "view") (texts words.now) → AsksForInput (Request.Show View.Report plain_lints no_times) (texts words.now) }
+    ensures lint { IsPlain (codes "lint") (texts words.now) → AsksForInput (Request.Show View.Lint plain_lints no_times) (texts words.now) }
     ensures page { IsPlain (codes "page") (texts words.now) → AsksForInput (Request.Page plain_lints) (texts words.now) }
     ensures watch { IsPlain (codes "watch") (texts words.now) → AsksForInput (Request.Watch plain_watch) (texts words.now) }
     ensures metrics { IsPlain (codes "metrics") (texts words.now) → AsksForInput (Request.Metrics plain_metrics) (texts words.now) }
@@ -469,8 +469,9 @@ where
     // A mistake writes nothing to the output. Its status is 2, or 1 where memory ran out.
     ensures mistake { IsMistake (texts words.now)
         → (output.new ≡ output.old) × ((result ≡ USAGE) ⊎ (result ≡ FAULT)) }
-    // Help is no mistake.
+    // Help is no mistake, and neither is the version.
     ensures help { AsksForHelp (texts words.now) → result ≤ FAULT }
+    ensures version { AsksForVersion (texts words.now) → result ≤ FAULT }
     ensures usage { result ≡ USAGE → (input.new ≡ input.old) × (output.new ≡ output.old) }
     ensures status { result ≤ WARNED }
 {

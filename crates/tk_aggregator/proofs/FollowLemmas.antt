@@ -1,6 +1,6 @@
 -- What taking events in makes of infos and poll counts, and what leaves.
 use Rattle.std.proofs.Common.{◌≡◌, ℕ, List, [], ◌∷◌, ◌++◌, Bool, true, false, cond, nat_eq, Some, None, refl, sym, ap, ap₂, ◌∙◌, subst, append_assoc, append-nil}
-use Rattle.std.specs.Prelude.{Option, if◌then◌else◌, IfSome, IfNone, map, option_map, fold, not}
+use Rattle.std.specs.Prelude.{Option, MatchBool, IfSome, IfNone, map, option_map, fold, not}
 use Rattle.std.specs.Option.{option_map_or}
 use Rattle.std.proofs.lemmas.List.{map-append}
 use Rattle.std.proofs.lemmas.List.Sums.{fold-append}
@@ -99,17 +99,18 @@ gathered_is_absorbed a t taken b u g = takes_all_infos (free a) taken (free b) g
 
 -- ---- the stream stays where it is
 
--- taking in a task's histogram leaves what was told
+-- a task's histogram is taken in, where these are read
+abbrev pub TakesWhere : ℕ → KnownTimes → TimingView → TimingView → Bool → Type 0
+TakesWhere id known old new reads =
+    MatchBool reads ((row : TimesRow) × (read : TimesSight) × Reads times_ledger (sight id known) row read
+    × (new ≡ record old { shown = old.shown ++ (id, times_shown row) ∷ []; readers = old.readers ++ read ∷ [] })) (new ≡ old)
+
+-- that leaves what was told
 times_stay : (id : ℕ) (known : Option KnownTimes) (old new : TimingView) → TakesTimes id known old new → (new.reads ≡ old.reads) × (new.told ≡ old.told)
 times_stay id None old new p = (ap (λ t. t.reads) p, ap (λ t. t.told) p)
 times_stay id (Some known) old new p = by old.reads p
   where
-    Takes : Bool → Type 0
-    Takes b = if b then ((row : TimesRow) × (read : TimesSight) × Reads times_ledger (sight id known) row read
-        × (new ≡ record old { shown = old.shown ++ (id, times_shown row) ∷ []; readers = old.readers ++ read ∷ [] })) else (new ≡ old)
-
-    by : (b : Bool) → Takes b → (new.reads ≡ old.reads) × (new.told ≡ old.told)
-    unfolding Takes
+    by : (b : Bool) → TakesWhere id known old new b → (new.reads ≡ old.reads) × (new.told ≡ old.told)
     by true q = (ap (λ t. t.reads) q.3, ap (λ t. t.told) q.3)
     by false q = (ap (λ t. t.reads) q, ap (λ t. t.told) q)
 

@@ -5,18 +5,16 @@ use Rattle.tk_core.specs.declared.reply.Reply.{Reply}
 use Rattle.tk_events.specs.Handles.{Taking}
 use Rattle.tk_events.specs.declared.event.Event.{Event}
 use Rattle.tk_events.specs.declared.event.Event.TheVariants as events
-use Rattle.tk_ledgers.specs.Handles.{KnownTimes, Sight, sight}
-use Rattle.std.specs.Prelude.{Option, None, Some, if◌then◌else◌}
+use Rattle.tk_ledgers.specs.Handles.{KnownTimes, Sight}
+use Rattle.std.specs.Prelude.{Option, None, Some}
 use Rattle.tk_stream.specs.Polls.{one_more}
-use Rattle.tk_core.specs.declared.times.row.TimesRow.{TimesRow}
-use Rattle.tk_ledgers.specs.Times.{TimesSight}
 use Rattle.tk_stream.specs.Times.{times_shown}
-use Rattle.tk_aggregator.specs.Timing.{TimingView, times_ledger}
+use Rattle.tk_aggregator.specs.Timing.{TimingView}
 use Rattle.tk_aggregator.specs.Aggregates.{Aggregating, Gathers, Collects, TakesIn, TakesTimes, TakesAllIn, IsLaterOf, free}
 use Rattle.tk_stream.specs.Applied.{Kind, task_kind, resource_kind, op_kind, counts_kind, times_kind, BeginWith}
-use Rattle.tk_aggregator.specs.Readings.{Reads, IsLater, AreLater}
+use Rattle.tk_aggregator.specs.Readings.{IsLater, AreLater}
 use Rattle.tk_stream.specs.Tables.{PollCounts, counts_id, counts_of, put_item, task_with, resource_with, op_with}
-use Rattle.tk_aggregator.proofs.FollowLemmas.{by_case}
+use Rattle.tk_aggregator.proofs.FollowLemmas.{TakesWhere, by_case}
 use Rattle.tk_aggregator.proofs.RefreshLemmas.{begins_itself}
 
 begins_more : {I Info Stats : Type 0} (k : Kind I Info Stats) (xs more : List I) → BeginWith k xs (xs ++ more)
@@ -94,12 +92,7 @@ times_later : (id : ℕ) (known : Option KnownTimes) (old new : TimingView) → 
 times_later id None old new p = subst (λ (t : TimingView). BeginWith times_kind old.shown t.shown × AreLater old.readers t.readers) (sym p) (begins_itself times_kind old.shown, all_same old.readers)
 times_later id (Some known) old new p = by old.reads p
   where
-    Takes : Bool → Type 0
-    Takes b = if b then ((row : TimesRow) × (read : TimesSight) × Reads times_ledger (sight id known) row read
-        × (new ≡ record old { shown = old.shown ++ (id, times_shown row) ∷ []; readers = old.readers ++ read ∷ [] })) else (new ≡ old)
-
-    by : (b : Bool) → Takes b → BeginWith times_kind old.shown new.shown × AreLater old.readers new.readers
-    unfolding Takes
+    by : (b : Bool) → TakesWhere id known old new b → BeginWith times_kind old.shown new.shown × AreLater old.readers new.readers
     by true q =
         subst (λ (t : TimingView). BeginWith times_kind old.shown t.shown × AreLater old.readers t.readers) (sym q.3)
         (begins_more times_kind old.shown ((id, times_shown q.0) ∷ []), all_more old.readers (q.1 ∷ []))

@@ -1,6 +1,6 @@
 -- What leaves takes its handles along, and what stays stands as it stood.
-use Rattle.std.proofs.Common.{◌≡◌, ℕ, ◌+◌, ◌^◌, ◌<◌, ◌≤◌, List, [], ◌∷◌, length, Bool, true, false, cond, refl, sym, ap, ◌∙◌, subst, arith}
-use Rattle.std.specs.Prelude.{Option, None, Some, is_some, filter, not}
+use Rattle.std.proofs.Common.{◌≡◌, ℕ, ◌+◌, ◌^◌, ◌<◌, ◌≤◌, List, length, Bool, true, false, refl, sym, ap, ◌∙◌, subst, arith}
+use Rattle.std.specs.Prelude.{Option, None, Some, is_some, filter}
 use Rattle.std.proofs.lemmas.List.Sums.{length-filter, count_by-le-length}
 use Rattle.tk_events.specs.declared.event.Event.{Event}
 use Rattle.tk_ids.specs.declared.info.Dropped.{Dropped}
@@ -16,11 +16,11 @@ use Rattle.tk_stream.specs.Retention.{line_pruned, prune}
 use Rattle.tk_stream.specs.Streams.{line_untimed}
 use Rattle.tk_stream.specs.Times.{times_id}
 use Rattle.tk_ledgers.specs.Times.{TimesSight}
-use Rattle.tk_stream.specs.Tables.{TablesView, task_id, resource_id, op_id, is_among, staying}
+use Rattle.tk_stream.specs.Tables.{TablesView, task_id, resource_id, op_id, staying}
 use Rattle.tk_stream.proofs.GoneLemmas.{staying_all}
 use Rattle.tk_aggregator.proofs.PairLemmas.{pairs_stay}
 use Rattle.tk_aggregator.proofs.StandingLemmas.{whole}
-use Rattle.tk_aggregator.proofs.TimingLemmas.{AreKnown, known_stay, readers_stay}
+use Rattle.tk_aggregator.proofs.TimingLemmas.{known_stay, readers_stay}
 use Rattle.tk_aggregator.specs.Timing.{TimingView, timing_told}
 
 -- no more stay than there were

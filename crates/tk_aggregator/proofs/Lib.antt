@@ -4,6 +4,7 @@ pub mod KindLemmas
 pub mod HandleLemmas
 pub mod StandingLemmas
 pub mod HandledLemmas
+pub mod PairLemmas
 pub mod RefreshLemmas
 pub mod TakeInLemmas
 pub mod LeaveLemmas
@@ -16,5 +17,5 @@ pub mod SomeKeptLemmas
 pub mod PollTotalLemmas
 pub mod HoldLemmas
 pub mod PublishLemmas
-pub mod PairLemmas
+pub mod TimedLemmas
 pub mod TimingLemmas

@@ -1,6 +1,6 @@
 -- Items that go with their handles, in order: where some leave, where one goes last, and where each handle reads.
 use Rattle.std.proofs.Common.{◌≡◌, ℕ, List, [], ◌∷◌, ◌++◌, Bool, true, false, cond, ap}
-use Rattle.std.specs.Prelude.{filter, not}
+use Rattle.std.specs.Prelude.{not}
 use Rattle.tk_stream.specs.Fronts.{with_rows}
 use Rattle.tk_stream.specs.Tables.{is_among, staying}
 use Rattle.tk_aggregator.specs.Aggregates.{Pairs}

@@ -1,8 +1,6 @@
 -- A line that goes on leaves an uninterrupted stream.
 use Rattle.std.proofs.Common.{◌≡◌, ℕ, ◌+◌, ◌^◌, ◌<◌, List, [], ◌∷◌, ◌++◌, Bool, true, false, refl, sym, ap, ap₂, subst, ◌∙◌, append_assoc, append-nil, arith}
-use Rattle.std.specs.Prelude.{◌||◌, ◌&&◌, ◌==◌, not, nat_eq, map, if◌then◌else◌, Option, None, Some, is_some, unwrap_or, IfSome}
-use Rattle.std.specs.List.{IsDistinct}
-use Rattle.std.specs.Option.{option_map_or}
+use Rattle.std.specs.Prelude.{◌||◌, ◌&&◌, ◌==◌, not, if◌then◌else◌, Option, None, Some, is_some, IfSome}
 use Rattle.std.proofs.lemmas.Bool.{eq-eqb}
 use Rattle.tk_aggregator.specs.Aggregates.{Aggregating, IsSound, IsDue, pruned, due_at, leaving_at, tables_at, untimed_at, line_at, sending_at, having_told, after_line}
 use Rattle.tk_aggregator.specs.Publishing.{IsTimedStreamTo}
@@ -12,7 +10,7 @@ use Rattle.tk_stream.specs.Lines.{LineView, GoneView, none_gone, gone_of, is_seq
 use Rattle.tk_stream.specs.Ranges.{IsNumber}
 use Rattle.tk_stream.specs.Retention.{due_of, prune, stats_without}
 use Rattle.tk_stream.specs.Spelling.{sent_text}
-use Rattle.tk_stream.specs.Streams.{Sending, line_sent, line_untimed, lines_sent, bytes_sent, tables_sent, times_sent, last_sent, AreToldOf, MaySend, GoesOn, IsUninterrupted, IsStreamTo}
+use Rattle.tk_stream.specs.Streams.{Sending, line_sent, line_untimed, lines_sent, bytes_sent, tables_sent, last_sent, AreToldOf, MaySend, GoesOn, IsUninterrupted, IsStreamTo}
 use Rattle.tk_stream.specs.Tables.{TablesView, empty_tables, AreFit, task_id, staying}
 use Rattle.tk_stream.specs.Times.{TaskTimes, times_id}
 use Rattle.tk_stream.proofs.GoneLemmas.{staying_all}
@@ -200,14 +198,16 @@ leads_on a now snapshot sound =
 
 pub timed_goes_on : (a : Aggregating) (now : ℕ) (snapshot : Bool) → IsSound a → IsDue snapshot a now → IsNumber now → (bytes : List ℕ) → IsTimedStreamTo bytes a.told a.timing.told a.last
     → IsTimedStreamTo (bytes ++ sent_text (line_at snapshot a now)) (after_line snapshot a now).told (after_line snapshot a now).timing.told (after_line snapshot a now).last
+unfolding stream_goes_on goes_on_to
 timed_goes_on a now snapshot sound due fits bytes stream = (
   stream_goes_on a now snapshot sound due fits bytes stream.0,
   times_more [] empty_tables stream.0.sent (sending_at snapshot a now)
-  ∙ ap₂ (λ ts t. times_after (if snapshot then [] else ts) (line_sent t (sending_at snapshot a now))) stream.1 stream.0.tables_are
-  ∙ leads_on a now snapshot sound,
+      ∙ ap₂ (λ ts t. times_after (if snapshot then [] else ts) (line_sent t (sending_at snapshot a now))) stream.1 stream.0.tables_are
+      ∙ leads_on a now snapshot sound,
 )
 
 -- a snapshot says the same after any line
 pub timed_opens : (a : Aggregating) (now : ℕ) → IsSound a → IsDue true a now → IsNumber now
     → IsTimedStreamTo (sent_text (line_at true a now)) (after_line true a now).told (after_line true a now).timing.told (after_line true a now).last
+unfolding stream_opens opens_at
 timed_opens a now sound due fits = (stream_opens a now sound due fits, leads_on a now true sound)

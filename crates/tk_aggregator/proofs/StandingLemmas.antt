@@ -56,7 +56,7 @@ none_timed : (t : TimingView) → t.reads ≡ false → t.shown ≡ [] → Pairs
 none_timed t reads none pairs begins = λ i. record { reads = reads i; shown = none i; told = none_began t.told t.shown none begins i; readers = no_readers t.shown t.readers none pairs i }
 
 -- the aggregator of these parts
-abbrev pub whole : TablesView → ToldView → List TaskSight → List ResourceSight → List OpSight → Option Event → ℕ → Bool → Option ℕ → Aggregating
+abbrev pub whole : TablesView → ToldView → List TaskSight → List ResourceSight → List OpSight → Option Event → ℕ → Bool → Option ℕ → TimingView → Aggregating
 whole shown telling tasks resources ops held last broken retention timing = record { tables = shown; told = told_tables telling shown; tasks = tasks; resources = resources; ops = ops; held = held; last = last; broken = broken; retention = retention; timing = timing }
 
 pub sound : (shown : TablesView) (telling : ToldView) (tasks : List TaskSight) (resources : List ResourceSight) (ops : List OpSight) (held : Option Event) (last : ℕ) (broken : Bool) (retention : Option ℕ) (timing : TimingView)

@@ -1,6 +1,6 @@
 -- Taking an event in keeps what holds inside, and does what the event says.
 use Rattle.std.proofs.Common.{◌≡◌, ℕ, zero, suc, ◌+◌, ◌≤◌, ◌<◌, List, [], ◌∷◌, ◌++◌, length, Bool, true, false, cond, nat_eq, get_or, None, Some, refl, sym, ap, ap₂, ◌∙◌, subst, inl, inr, arith}
-use Rattle.std.specs.Prelude.{◌⊎◌, if◌then◌else◌, Option, IfSome, IfNone, is_some, not, map, position, option_map}
+use Rattle.std.specs.Prelude.{◌⊎◌, Option, IfSome, IfNone, is_some, not, map, position, option_map}
 use Rattle.std.specs.List.{position_or_len}
 use Rattle.std.proofs.lemmas.List.Quantifiers.{position-Some}
 use Rattle.std.proofs.lemmas.Bool.{eqb-true}
@@ -25,10 +25,13 @@ use Rattle.tk_aggregator.proofs.TimingLemmas.{begin_more, known_later, known_mor
 use Rattle.tk_stream.specs.Tables.{TablesView, PollCounts, counts_id, changed_at, put_item, task_with, with_task, resource_with, with_resource, op_with, with_op}
 use Rattle.tk_aggregator.proofs.HandleLemmas.{reads_read, task_reads, resource_reads, op_reads}
 use Rattle.tk_aggregator.proofs.HandledLemmas.{Both, TasksStand, ResourcesStand, OpsStand, holds_more, holds_roomier, tasks_handled, resources_handled, ops_handled, tasks_stand, resources_stand, ops_stand, counts_stand}
+use Rattle.tk_aggregator.proofs.FollowLemmas.{TakesWhere}
 use Rattle.tk_aggregator.proofs.StandingLemmas.{whole}
-use Rattle.tk_aggregator.specs.Timing.{TimingView, times_ledger, timing_with}
+use Rattle.tk_aggregator.specs.Timing.{TimingView, times_ledger, timing_opened, timing_with}
+use Rattle.tk_core.specs.Times.{opening_row}
+use Rattle.std.proofs.lemmas.List.{length-append}
 use Rattle.tk_stream.specs.Times.{times_shown}
-use Rattle.tk_ledgers.specs.Handles.{KnownTimes, sight}
+use Rattle.tk_ledgers.specs.Handles.{KnownTimes, sight, sight_with}
 use Rattle.tk_ledgers.specs.Times.{TimesSight}
 use Rattle.tk_core.specs.declared.times.row.TimesRow.{TimesRow}
 use Rattle.tk_core.specs.declared.times.call.TimesCall.TheVariants.{Read}
@@ -109,16 +112,13 @@ pub takes_none : (id : ℕ) (known : Option KnownTimes) (t : TimingView) → (t.
 takes_none id None t none = refl
 takes_none id (Some known) t (inr none) = absurd cc
 takes_none id (Some known) t (inl unread) =
-    subst (λ b. if b then ((row : TimesRow) × (read : TimesSight) × Reads times_ledger (sight id known) row read
-    × (t ≡ record t { shown = t.shown ++ (id, times_shown row) ∷ []; readers = t.readers ++ read ∷ [] })) else (t ≡ t)) (sym unread) refl
+    subst (TakesWhere id known t t) (sym unread) refl
 
 -- a task's histogram is taken in as it was read
 pub takes_one : (id : ℕ) (known : KnownTimes) (t u : TimingView) (s : TimesSight) (row : TimesRow) (read : TimesSight) → t.reads ≡ true → s.id ≡ id → s.token ≡ known → Reads times_ledger s row read
     → u ≡ timing_with (id, times_shown row) read t → TakesTimes id (Some known) t u
 takes_one id known t u s row read reads is token reading with =
-    subst (λ b. if b then ((row : TimesRow) × (read : TimesSight) × Reads times_ledger (sight id known) row read
-    × (u ≡ record t { shown = t.shown ++ (id, times_shown row) ∷ []; readers = t.readers ++ read ∷ [] })) else (u ≡ t)) (sym reads)
-    (row, read, moved_reading, with)
+    subst (TakesWhere id known t u) (sym reads) (row, read, moved_reading, with)
   where
     moved_reading : Reads times_ledger (sight id known) row read
     moved_reading = record {
@@ -126,6 +126,35 @@ takes_one id known t u s row read reads is token reading with =
       ledger = reading.ledger ∙ ap (λ (k : KnownTimes). k.ledger) token;
       entry = subst (λ (k : KnownTimes). Calls times_meaning k.view Read (Shown row) read.token.view) token reading.entry;
     }
+
+-- an entry that is opened is one more than there are readers
+pub opened_count : (t o : TimingView) (id : ℕ) → length t.readers ≡ length t.shown → o ≡ timing_opened id t → length o.readers + 1 ≡ length o.shown
+opened_count t o id step is =
+    ap (λ (x : TimingView). length x.readers + 1) is ∙ ap (λ n. n + 1) step ∙ sym (length-append t.shown ((id, times_shown opening_row) ∷ [])) ∙ sym (ap (λ (x : TimingView). length x.shown) is)
+
+pub opened_told : (t o : TimingView) (id : ℕ) → length t.readers ≡ length t.shown → length t.told ≤ length t.shown → o ≡ timing_opened id t → length o.told ≤ length o.readers
+opened_told t o id step few is = subst (λ (x : TimingView). length x.told ≤ length x.readers) (sym is) (subst (λ n. length t.told ≤ n) (sym step) few)
+
+-- what a reading is doesn't hang on the histogram that a task has
+pub same_reading : (s : TaskSight) (times : Option KnownTimes) (row : TaskRow) (read : TaskSight) → Reads task_ledger s row read → Reads task_ledger (sight_with s.id s.token times) row read
+same_reading s times row read reading = record { id = reading.id; ledger = reading.ledger; entry = reading.entry }
+
+-- where a task was not put, nothing has changed
+pub task_kept : (shown now : TablesView) (telling tells : ToldView) (room : ℕ) (tasks handles : List TaskSight) (resources : List ResourceSight) (ops : List OpSight) (held : Option Event) (last : ℕ) (broken : Bool) (retention : Option ℕ)
+    (timing timed : TimingView) → tells ≡ with_task_room telling room → now ≡ shown → handles ≡ tasks → timed ≡ timing
+    → whole now tells handles resources ops held last broken retention timed ≡ whole shown telling tasks resources ops held last broken retention timing
+task_kept shown now telling tells room tasks handles resources ops held last broken retention timing timed e_tells e_now e_handles e_timing = λ i. record {
+  tables = e_now i;
+  told = ap₂ told_tables e_tells e_now i;
+  tasks = e_handles i;
+  resources = resources;
+  ops = ops;
+  held = held;
+  last = last;
+  broken = broken;
+  retention = retention;
+  timing = e_timing i;
+}
 
 -- ---- resources
 

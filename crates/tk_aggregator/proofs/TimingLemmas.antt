@@ -1,12 +1,11 @@
 -- The histograms that an aggregator tells lead from those that it told to those that it shows, and their readers stay in step.
-use Rattle.std.proofs.Common.{◌≡◌, ℕ, zero, suc, ◌+◌, ◌≤◌, ◌&&◌, List, [], ◌∷◌, ◌++◌, length, take, Bool, true, false, cond, nat_eq, Option, Some, None, refl, ap, ap₂, sym, subst, ◌∙◌, true≢false, arith}
+use Rattle.std.proofs.Common.{◌≡◌, ℕ, List, [], ◌∷◌, ◌++◌, length, take, Bool, true, false, cond, nat_eq, Option, Some, None, refl, ap, ap₂, sym, subst, ◌∙◌, true≢false}
 use Rattle.std.specs.Prelude.{map, filter, not, is_none, is_some, IsSome, unwrap_or, option_map, option_and_then, if◌then◌else◌}
 use Rattle.std.specs.Cmp.Lexicographic.{pointwise}
 use Rattle.std.specs.List.{AllByRecursion, IsDistinct}
 use Rattle.std.specs.Option.{option_map_or}
 use Rattle.std.proofs.Math.Seq.{take-append_seam}
 use Rattle.std.proofs.lemmas.Bool.{and_parts, eqb-true, eq-eqb}
-use Rattle.std.proofs.lemmas.List.Sums.{length-filter, count_by-le-length}
 use Rattle.std.proofs.lemmas.Option.{same_Some}
 use Rattle.tk_core.specs.Fold.{row_after, reply_after}
 use Rattle.tk_core.specs.Laws.TimesLaws as times_laws
@@ -16,7 +15,7 @@ use Rattle.tk_core.specs.declared.times.row.TimesRow.{TimesRow}
 use Rattle.tk_ids.specs.declared.info.TaskInfo.{TaskInfo}
 use Rattle.tk_ledgers.specs.Times.{TimesSight}
 use Rattle.tk_stream.specs.Applied.{task_kind, times_kind, new_items, items_told, told_item, times_told, times_after, BeginWith}
-use Rattle.tk_stream.specs.Fronts.{Telling, told_item as told_as, with_rows}
+use Rattle.tk_stream.specs.Fronts.{with_rows}
 use Rattle.tk_stream.specs.Lines.{LineView, is_new, is_told, new_infos, told_times, times_of, gone_of, with_times}
 use Rattle.tk_stream.specs.Ranges.{AreTimes}
 use Rattle.tk_stream.specs.Retention.{stats_without}
@@ -26,13 +25,12 @@ use Rattle.tk_stream.specs.Times.{TaskTimes, times_id, times_shown, times_with, 
 use Rattle.tk_stream.specs.declared.task.Task.{Task}
 use Rattle.tk_stream.specs.declared.times.PollTimes.{PollTimes}
 use Rattle.tk_stream.proofs.AppliedLemmas.{IsKind, leads}
-use Rattle.tk_stream.proofs.FrontLemmas.{keeps_told}
 use Rattle.tk_stream.proofs.GoneLemmas.{once_kept}
 use Rattle.tk_stream.proofs.LinesLemmas.{IsFound, each_found, map-same}
 use Rattle.tk_stream.proofs.PruneLemmas.{once_begin, all_filter}
 use Rattle.tk_aggregator.specs.Aggregates.{Pairs}
-use Rattle.tk_aggregator.specs.Readings.{Reads, ReadAll, EachReads}
-use Rattle.tk_aggregator.specs.Timing.{TimingView, times_ledger, ReadsShown, ReadTimes, ReadsTimes, timing_opened, timing_with, told_by, timing_told}
+use Rattle.tk_aggregator.specs.Readings.{Reads}
+use Rattle.tk_aggregator.specs.Timing.{TimingView, times_ledger, ReadTimes, ReadsTimes, timing_opened, timing_with, told_by, timing_told}
 use Rattle.tk_aggregator.proofs.HandleLemmas.{ReadsFold, reads_read}
 use Rattle.tk_aggregator.proofs.PairLemmas.{pair_more, pairs_stay, pairs_read}
 use Rattle.tk_aggregator.proofs.ReadingLemmas.{changed_here}
@@ -316,7 +314,7 @@ times_reads opening h legal = ap Shown (sym (times_laws.legal_fold opening h leg
 
 -- one that read
 pub one_reads : (task : ℕ) (s : TimesSight) (row : TimesRow) (t : TimesSight) → s.id ≡ task → Reads times_ledger s row t → ReadTimes (task, times_shown row) t
-one_reads task s row t is reading = (reading.id ∙ is, row, refl, reads_read times_ledger times_reads s row t reading)
+one_reads task s row t is reading = (reading.id ∙ is, (row, refl, reads_read times_ledger times_reads s row t reading))
 
 -- where some leave
 pub readers_stay : (gone : List ℕ) (times : List TaskTimes) (readers : List TimesSight) → Pairs ReadTimes times readers
@@ -340,17 +338,6 @@ readers_read old new all reads =
     subst (λ (xs : List TaskTimes). Pairs ReadTimes xs new.readers) (sym (ap (λ (t : TimingView). t.shown) reads.2 ∙ rows_shown old.shown reads.0))
     (pairs_read ReadTimes (λ t row. times_with t (times_shown row)) (Reads times_ledger) (λ x s row t p reading. one_reads x.0 s row t p.0 reading) old.shown old.readers reads.0 new.readers all reads.1)
 
--- what each reader read, by its row
-pub rows_read : (ss : List TimesSight) (times : List PollTimes) (ts : List TimesSight) → EachReads ReadsShown ss times ts → (rows : List TimesRow) × (times ≡ map times_shown rows) × ReadAll times_ledger ss rows ts
-rows_read [] [] [] all = ([], refl, tt)
-rows_read [] [] (t ∷ ts) all = absurd all
-rows_read [] (x ∷ times) ts all = absurd all
-rows_read (s ∷ ss) [] ts all = absurd all
-rows_read (s ∷ ss) (x ∷ times) [] all = absurd all
-rows_read (s ∷ ss) (x ∷ times) (t ∷ ts) all =
-    let rest = rows_read ss times ts all.1 in
-    (all.0.0 ∷ rest.0, ap₂ (λ y ys. y ∷ ys) all.0.1 rest.1, (all.0.2, rest.2))
-
 -- ---- a histogram that is taken in
 
 -- opened and filled it is one more
@@ -367,36 +354,3 @@ pub cancelled : (before opened after : TimingView) (task : ℕ) → length befor
 cancelled before opened after task step is e =
     e ∙ ap (λ (t : TimingView). record t { shown = take (length t.readers) t.shown }) is
     ∙ ap (λ (xs : List TaskTimes). record before { shown = xs }) (ap (λ n. take n (before.shown ++ (task, times_shown opening_row) ∷ [])) step ∙ take-append_seam before.shown ((task, times_shown opening_row) ∷ []))
-
--- ---- inside
-
--- the histograms of these parts
-abbrev pub timing_of : Bool → List TaskTimes → Telling PollTimes → List TimesSight → TimingView
-timing_of reads shown telling readers = record { reads = reads; shown = shown; told = with_rows (told_as times_with) shown telling.rows; readers = readers }
-
--- those that were told are the first ones
-pub told_begin : (shown : List TaskTimes) (rows : List (Option PollTimes)) → length rows ≤ length shown → BeginWith times_kind (with_rows (told_as times_with) shown rows) shown
-told_begin shown [] le = tt
-told_begin [] (r ∷ rows) le = absurd (omega (arith, le))
-told_begin (x ∷ shown) (r ∷ rows) le = (keeps_told times_id times_with (λ t times. refl) x r, told_begin shown rows (omega (arith, le)))
-
--- as many as there are rows
-pub told_count : (shown : List TaskTimes) (rows : List (Option PollTimes)) → length rows ≤ length shown → length (with_rows (told_as times_with) shown rows) ≡ length rows
-told_count shown [] le = refl
-told_count [] (r ∷ rows) le = absurd (omega (arith, le))
-told_count (x ∷ shown) (r ∷ rows) le = ap suc (told_count shown rows (omega (arith, le)))
-
--- so of the first ones the same was told
-pub told_front : (n : ℕ) (shown : List TaskTimes) (rows : List (Option PollTimes)) → length rows ≤ n → with_rows (told_as times_with) (take n shown) rows ≡ with_rows (told_as times_with) shown rows
-told_front n shown [] le = refl
-told_front zero shown (r ∷ rows) le = absurd (omega (arith, le))
-told_front (suc n) [] (r ∷ rows) le = refl
-told_front (suc n) (x ∷ shown) (r ∷ rows) le = ap (λ xs. told_as times_with x r ∷ xs) (told_front n shown rows (omega (arith, le)))
-
--- no more stay than there were
-pub fewer_stay : (gone : List ℕ) (shown : List TaskTimes) (room : ℕ) → length shown ≤ room → length (staying times_id gone shown) ≤ room
-fewer_stay gone shown room le =
-    let stay : TaskTimes → Bool = λ t. not (is_among gone (times_id t)) in
-    let a = length-filter stay shown in
-    let b = count_by-le-length stay shown in
-    omega (arith, a, b, le)

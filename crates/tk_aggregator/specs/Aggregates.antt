@@ -1,5 +1,5 @@
 -- What an aggregator is, and what its calls make of it.
-use Rattle.std.specs.Prelude.{◌≡◌, ℕ, ◌+◌, ◌^◌, ◌<◌, ◌≤◌, List, [], ◌∷◌, ◌++◌, map, length, Bool, true, false, if◌then◌else◌, Option, Some, None, is_some, IfSome, IfNone}
+use Rattle.std.specs.Prelude.{◌≡◌, ℕ, ◌+◌, ◌^◌, ◌<◌, ◌≤◌, List, [], ◌∷◌, ◌++◌, map, length, Bool, true, false, if◌then◌else◌, MatchBool, Option, Some, None, is_some, IfSome, IfNone}
 use Rattle.std.specs.Io.KnownBytes.{Appends}
 use Rattle.crossbeam_queue.specs.Fifo.{Held}
 use Rattle.tk_core.specs.declared.op.row.OpRow.{OpRow}
@@ -142,9 +142,8 @@ pub record IsSameStream (old new : Aggregating) : Type 0 where
 abbrev pub TakesTimes : ℕ → Option KnownTimes → TimingView → TimingView → Type 0
 TakesTimes id None old new = new ≡ old
 TakesTimes id (Some known) old new =
-    if old.reads then ((row : TimesRow) × (read : TimesSight) × Reads times_ledger (sight id known) row read
-        × (new ≡ record old { shown = old.shown ++ (id, times_shown row) ∷ []; readers = old.readers ++ read ∷ [] }))
-    else (new ≡ old)
+    MatchBool old.reads ((row : TimesRow) × (read : TimesSight) × Reads times_ledger (sight id known) row read
+    × (new ≡ record old { shown = old.shown ++ (id, times_shown row) ∷ []; readers = old.readers ++ read ∷ [] })) (new ≡ old)
 
 -- a new item goes last, with the row that its handle then reads, and a task with its histogram. One whose id is there changes nothing.
 -- A poll operation is counted

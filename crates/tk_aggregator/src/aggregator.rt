@@ -19,9 +19,9 @@ ghost use Rattle.tk_events.specs.declared.event.Event.TheVariants as events;
 ghost use Rattle.tk_events.specs.Items.{Agrees};
 ghost use Rattle.tk_aggregator.specs.Absorbing.{infos_of};
 ghost use Rattle.tk_aggregator.specs.Finished.{HoldKept};
-ghost use Rattle.tk_aggregator.specs.Aggregates.{new_aggregating, new_timed, IsSound, ReadsHistograms, TakesTimes, leaving_at, untimed_at, IsLaterOf, IsSameStream, Refreshes, ReadsTasks, ReadsResources, ReadsOps, TakesIn, Collects, RunsOut, TookMore, FollowsTaker, GathersUpTo, Comes, TellsTotals, WasEmpty, dropped_in, without, line_at, sending_at, having_told, after_line, MayGoOn, IsDue, Refuses};
+ghost use Rattle.tk_aggregator.specs.Aggregates.{new_aggregating, new_timed, IsSound, ReadsHistograms, leaving_at, untimed_at, IsLaterOf, IsSameStream, Refreshes, ReadsTasks, ReadsResources, ReadsOps, TakesIn, Collects, RunsOut, TookMore, FollowsTaker, GathersUpTo, Comes, TellsTotals, WasEmpty, dropped_in, without, line_at, sending_at, having_told, after_line, MayGoOn, IsDue, Refuses};
 ghost use Rattle.tk_aggregator.specs.Publishing.{Publishes, StopsBefore, IsTimedStreamTo};
-ghost use Rattle.tk_aggregator.specs.Timing.{no_timing, TimingView};
+ghost use Rattle.tk_aggregator.specs.Timing.{no_timing};
 ghost use Rattle.tk_events.specs.Handles.{Taking};
 ghost use Rattle.tk_ledgers.specs.Handles.{sight_with};
 ghost use Rattle.tk_stream.specs.Lines.{none_gone};
@@ -381,6 +381,7 @@ impl Aggregator {
         ensures err { OnErr result (self.new ≡ self.old) }
         ensures returned { IfErr result (λ e. (e.0 ≡ info) × (e.1 ≡ sight_with handle.id handle.token (Some reader.token))) }
     {
+        self.timing.see();
         let Ok(()) = self.timing.open(info.id) else {
             return Err((info, handle.with_times(reader)));
         };

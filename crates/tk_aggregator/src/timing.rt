@@ -64,6 +64,22 @@ fn keep_readers(readers: &mut Vec<TimesInspector>, leaving: &Leaving)
     readers.retain(|reader| !leaving.has_task(reader.task()));
 }
 
+/// Removes the histograms of the tasks that leave, if any do, and lets their readers go.
+fn remove(
+    leaving: &Option<Leaving>,
+    times: &mut Table<(TaskId, PollTimes)>,
+    readers: &mut Vec<TimesInspector>,
+)
+    ensures times { times.new ≡ staying times_id (unwrap_or leaving.now none_gone).tasks times.old }
+    ensures readers { readers.new.items ≡ staying (λ (s : TimesSight). s.id) (unwrap_or leaving.now none_gone).tasks readers.old.items }
+    ensures seats { vec_capacity readers.new ≡ vec_capacity readers.old }
+{
+    if let Some(leaving) = leaving {
+        leaving.remove_times(times);
+        keep_readers(readers, leaving);
+    }
+}
+
 impl Timing {
     /// None. They are read and told, or neither.
     pub(crate) fn new(alloc: Global, reads: bool) -> Timing
@@ -117,10 +133,10 @@ impl Timing {
         self.told.make_room(self.times.len())?;
         self.readers.reserve(1)?;
         let nothing = PollTimes::of(&TimesRow::opening());
-        match self.times.push((task, nothing)) {
-            Ok(()) => Ok(()),
-            Err(_) => Err(AllocError),
-        }
+        let Ok(()) = self.times.push((task, nothing)) else {
+            return Err(AllocError);
+        };
+        Ok(())
     }
 
     /// The reader of the entry that was opened reads, stands last among the readers, and the entry shows what it read.
@@ -135,8 +151,7 @@ impl Timing {
         let mut reader = reader;
         let row = reader.read(rt);
         let place = self.readers.len();
-        self.told
-            .set(&mut self.times, place, &PollTimes::of(&row));
+        self.told.set(&mut self.times, place, &PollTimes::of(&row));
         match self.readers.push(reader) {
             Ok(()) => {}
             Err(_) => unreachable!(),
@@ -156,12 +171,7 @@ impl Timing {
         requires { length self.old.readers ≡ length self.old.shown }
         ensures { ReadsTimes self.old self.new }
     {
-        refresh_all(
-            rt,
-            &mut self.times,
-            &mut self.told,
-            &mut self.readers,
-        );
+        refresh_all(rt, &mut self.times, &mut self.told, &mut self.readers);
     }
 
     /// The line as one that tells histograms, where these are read: those that are new since they were told, or others now, but for
@@ -193,10 +203,7 @@ impl Timing {
     pub(crate) fn tell(&mut self, leaving: &Option<Leaving>)
         ensures { self.new ≡ timing_told (unwrap_or leaving.now none_gone).tasks self.old }
     {
-        if let Some(leaving) = leaving {
-            leaving.remove_times(&mut self.times);
-            keep_readers(&mut self.readers, leaving);
-        }
+        remove(leaving, &mut self.times, &mut self.readers);
         self.told.tell(&self.times);
     }
 }

@@ -4,31 +4,12 @@ ghost use Rattle.std.specs.Option.{option_map_or};
 ghost use Rattle.tk_report.specs.Behind.{Puts};
 ghost use Rattle.tk_report.specs.Report as spec;
 
-use crate::lines::{put_heading, put_op, put_resource, put_task, put_warning};
+use crate::lines::{put_op, put_resource};
+use crate::timed::timed_report_with;
 use std::alloc::{AllocError, Global};
-use tk_client::{Lints, Warning, warnings_in};
+use tk_client::{Lints, all_warnings_in};
 use tk_fault::AppFault;
-use tk_stream::Tables;
-
-fn put_task_at(out: &mut String, tables: &Tables, place: usize) -> Result<(), AllocError>
-    ensures { OnOk result (Puts (string_bytes out.old) (string_bytes out.new)
-        (option_map_or spec.task_line (slice_get tables.now.tasks place) [])) }
-{
-    match tables.task_at(place) {
-        Some(task) => put_task(out, task),
-        None => Ok(()),
-    }
-}
-
-fn put_tasks(out: &mut String, tables: &Tables) -> Result<(), AllocError>
-    ensures { OnOk result (Puts (string_bytes out.old) (string_bytes out.new)
-        (flat_map spec.task_line tables.now.tasks)) }
-{
-    for place in 0..tables.task_count() {
-        put_task_at(out, tables, place)?;
-    }
-    Ok(())
-}
+use tk_stream::{Table, Tables};
 
 fn put_resource_at(out: &mut String, tables: &Tables, place: usize) -> Result<(), AllocError>
     ensures { OnOk result (Puts (string_bytes out.old) (string_bytes out.new)
@@ -72,37 +53,6 @@ pub(crate) fn put_ops(out: &mut String, tables: &Tables) -> Result<(), AllocErro
     Ok(())
 }
 
-fn put_warnings(out: &mut String, tables: &Tables, warnings: &[Warning]) -> Result<(), AllocError>
-    ensures { OnOk result (Puts (string_bytes out.old) (string_bytes out.new)
-        (spec.warn_lines tables.now warnings.now)) }
-{
-    for warning in warnings {
-        put_warning(out, tables, warning)?;
-    }
-    Ok(())
-}
-
-fn put_report(out: &mut String, tables: &Tables, warnings: &[Warning]) -> Result<(), AllocError>
-    ensures { OnOk result (Puts (string_bytes out.old) (string_bytes out.new)
-        (spec.report_with tables.now warnings.now)) }
-{
-    put_heading(out, tables)?;
-    put_tasks(out, tables)?;
-    put_resources(out, tables)?;
-    put_ops(out, tables)?;
-    put_warnings(out, tables, warnings)?;
-    Ok(())
-}
-
-// The report of tables with these warnings.
-fn report_with(alloc: Global, tables: &Tables, warnings: &[Warning]) -> Result<Vec<u8>, AllocError>
-    ensures { IfOk result (λ text. text.items ≡ spec.report_with tables.now warnings.now) }
-{
-    let mut out = String::new(alloc);
-    put_report(&mut out, tables, warnings)?;
-    Ok(out.into_bytes())
-}
-
 /// The report of tables: a line with the moment and what was dropped; a line for each task; for each resource and each async
 /// operation a line, and one for each of its attributes; and a line for each warning. `docs/FORMATS.md` has their words.
 ///
@@ -111,10 +61,11 @@ pub fn report(alloc: Global, tables: &Tables, lints: &Lints) -> Result<Vec<u8>, 
     ensures ok { IfOk result (λ text. text.items ≡ spec.report_of lints.now tables.now) }
     ensures memory { IfErr result (λ fault. fault ≡ AppFault.Memory) }
 {
-    let Ok(warnings) = warnings_in(alloc, tables, lints) else {
+    let times = Table::new(alloc);
+    let Ok(warnings) = all_warnings_in(alloc, tables, &times, lints, None) else {
         return Err(AppFault::Memory);
     };
-    match report_with(alloc, tables, warnings.as_slice()) {
+    match timed_report_with(alloc, tables, &times, false, warnings.as_slice()) {
         Ok(text) => Ok(text),
         Err(_) => Err(AppFault::Memory),
     }

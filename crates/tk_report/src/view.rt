@@ -1,16 +1,16 @@
 //! Views of a stream: what its tables show, once it was read to its end.
-ghost use Rattle.std.specs.Prelude.{◌≡◌, ◌≤◌, ◌<◌, ◌+◌, ◌^◌, ◌++◌, ℕ, List, length, IfOk, IfErr};
+ghost use Rattle.std.specs.Prelude.{◌≡◌, ◌≤◌, ◌<◌, ◌+◌, ◌^◌, ◌++◌, ℕ, List, length, map, IfOk, IfErr};
 ghost use Rattle.tk_report.specs.Taken.{HasTaken, Takes, TakesAll, first, stop_of};
 ghost use Rattle.tk_report.specs.Timed.{timed_text_of, warned_of};
 ghost use Rattle.tk_report.specs.TimedViews.{ViewsTimed};
 ghost use Rattle.tk_report.specs.Views as shown;
-ghost use Rattle.tk_client.specs.Warnings.{LintsView};
+ghost use Rattle.tk_client.specs.Warnings.{LintsView, warnings_in};
 
 use crate::options::TimesOptions;
 use crate::timed::{lines_of_any_warnings, timed_report_with};
 use std::alloc::{AllocError, Global};
 use std::io::{Read, Write};
-use tk_client::{AnyWarning, Client, Fault, FeedError, Lints, all_warnings_in};
+use tk_client::{AnyWarning, Client, Fault, FeedError, Lints, Warning, all_warnings_in};
 use tk_fault::AppFault;
 use tk_ids::TaskId;
 use tk_stream::{PollTimes, Table, Tables, send};
@@ -92,6 +92,27 @@ fn text_of(
     }
 }
 
+// Each of these warnings, as one of any.
+fn usual(alloc: Global, warnings: &[Warning]) -> Result<Vec<AnyWarning>, AllocError>
+    ensures { IfOk result (λ list. list.items ≡ map AnyWarning.Usual warnings.now) }
+{
+    let mut list = Vec::new(alloc);
+    for warning in warnings {
+        list.push(AnyWarning::Usual(*warning))?;
+    }
+    Ok(list)
+}
+
+// The warnings of a client's tables where no long polls are asked for. A client finds them without a walk through all tasks.
+fn usual_by(alloc: Global, client: &Client, lints: &Lints) -> Result<Vec<AnyWarning>, AllocError>
+    ensures { IfOk result (λ list. list.items ≡ map AnyWarning.Usual (warnings_in lints.now client.now.start.tables)) }
+{
+    match client.warnings(lints) {
+        Ok(warnings) => usual(alloc, warnings.as_slice()),
+        Err(_) => Err(AllocError),
+    }
+}
+
 // The warnings of a client's tables, long polls among them where they are asked for.
 fn warned_by(
     alloc: Global,
@@ -101,13 +122,16 @@ fn warned_by(
 ) -> Result<Vec<AnyWarning>, AllocError>
     ensures { IfOk result (λ list. list.items ≡ warned_of lints.now options.now client.now.start.tables client.now.start.times) }
 {
-    all_warnings_in(
-        alloc,
-        client.tables(),
-        client.times(),
-        lints,
-        options.long_poll,
-    )
+    match options.long_poll {
+        Some(_) => all_warnings_in(
+            alloc,
+            client.tables(),
+            client.times(),
+            lints,
+            options.long_poll,
+        ),
+        None => usual_by(alloc, client, lints),
+    }
 }
 
 // What `view_stream_with` does by a new client.

@@ -4,4 +4,5 @@ mod given;
 mod many;
 mod readers;
 mod reports;
+mod timed;
 mod writers;

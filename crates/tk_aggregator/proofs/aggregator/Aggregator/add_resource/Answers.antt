@@ -10,10 +10,9 @@ use Rattle.tk_aggregator.proofs.aggregator.Aggregator.add_resource.Goals as goal
 pub invariant_of-self-2 : goal.invariant_of-self-2
 invariant_of-self-2 g c =
     let a = c.self.inside in
-    let k = c.in_ok-put_resource.ensures.ok in
-    (
+    let k = c.in_ok-put_resource.ensures.ok in (
       resource_put_stands a.tables a.told a.tasks.items a.resources.items a.ops.items a.held a.last c.self.invariant.0 c.put_resource.new.told.resources.room c.put_resource.new.tables c.put_resource.new.told c.put_resource.new.handles.items c.put_resource.ensures.told
-      c.args.info c.args.handle k.0 k.1 c.requires k.2 k.3 k.4 c.in_ok-put_resource.ensures.room,
+          c.args.info c.args.handle k.0 k.1 c.requires k.2 k.3 k.4 c.in_ok-put_resource.ensures.room,
       subst (λ (t : TablesView). TimesStand t.tasks a.timing) (sym k.3) c.self.invariant.1,
     )
 

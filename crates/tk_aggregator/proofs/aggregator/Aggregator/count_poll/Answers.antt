@@ -10,10 +10,9 @@ use Rattle.tk_aggregator.proofs.aggregator.Aggregator.count_poll.Goals as goal
 pub invariant_of-self-2 : goal.invariant_of-self-2
 invariant_of-self-2 c =
     let a = c.self.inside in
-    let k = c.put_poll.ensures in
-    (
+    let k = c.put_poll.ensures in (
       poll_stands a.tables a.told a.tasks.items a.resources.items a.ops.items a.held a.last c.self.invariant.0 c.put_poll.new.tables c.put_poll.new.told
-      (counted c.args.resource c.args.ready a.tables.counts) c.in_ok-put_poll.ensures.ok k.alone k.fit k.room k.told,
+          (counted c.args.resource c.args.ready a.tables.counts) c.in_ok-put_poll.ensures.ok k.alone k.fit k.room k.told,
       subst (λ (t : TablesView). TimesStand t.tasks a.timing) (sym c.in_ok-put_poll.ensures.ok) c.self.invariant.1,
     )
 
@@ -29,9 +28,8 @@ returns-clause-ok c =
 pub invariant_of-self : goal.invariant_of-self
 invariant_of-self c =
     let a = c.self.inside in
-    let k = c.put_poll.ensures in
-    (
+    let k = c.put_poll.ensures in (
       poll_stands a.tables a.told a.tasks.items a.resources.items a.ops.items a.held a.last c.self.invariant.0 c.put_poll.new.tables c.put_poll.new.told
-      a.tables.counts c.in_err-put_poll.ensures.err k.alone k.fit k.room k.told,
+          a.tables.counts c.in_err-put_poll.ensures.err k.alone k.fit k.room k.told,
       subst (λ (t : TablesView). TimesStand t.tasks a.timing) (sym c.in_err-put_poll.ensures.err) c.self.invariant.1,
     )

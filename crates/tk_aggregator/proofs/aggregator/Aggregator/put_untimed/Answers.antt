@@ -9,10 +9,9 @@ use Rattle.tk_aggregator.proofs.aggregator.Aggregator.put_untimed.Goals as goal
 pub invariant_of-self-2 : goal.invariant_of-self-2
 invariant_of-self-2 g c =
     let a = c.self.inside in
-    let k = c.in_ok-put_task.ensures.ok in
-    (
+    let k = c.in_ok-put_task.ensures.ok in (
       task_put_stands a.tables a.told a.tasks.items a.resources.items a.ops.items a.held a.last c.self.invariant.0 c.put_task.new.told.tasks.room c.put_task.new.tables c.put_task.new.told c.put_task.new.handles.items c.put_task.ensures.told
-      c.args.info c.args.handle k.0 k.1 c.requires.agrees k.2 k.3 k.4 c.in_ok-put_task.ensures.room,
+          c.args.info c.args.handle k.0 k.1 c.requires.agrees k.2 k.3 k.4 c.in_ok-put_task.ensures.room,
       times_after_task a.tables c.args.info k.0 c.put_task.new.tables k.3 a.timing c.self.invariant.1,
     )
 

@@ -13,10 +13,9 @@ read_ops-requires g c = pairs-count ReadOp _ _ c.self.invariant.0.ops
 pub invariant_of-self : goal.invariant_of-self
 invariant_of-self g c =
     let a = c.self.inside in
-    let k = c.read_ops.ensures in
-    (
+    let k = c.read_ops.ensures in (
       ops_standing a.tables a.told a.tasks.items a.resources.items a.ops.items a.held a.last c.self.invariant.0 c.read_ops.new.tables c.read_ops.new.told
-    k.reads.0 c.read_ops.new.handles.items k.reads.1 k.reads.2 k.alone k.told,
+          k.reads.0 c.read_ops.new.handles.items k.reads.1 k.reads.2 k.alone k.told,
       subst (λ (t : TablesView). TimesStand t.tasks a.timing) (sym k.reads.2) c.self.invariant.1,
     )
 

@@ -11,10 +11,9 @@ read_tasks-requires g c = pairs-count ReadTask _ _ c.self.invariant.0.tasks
 pub invariant_of-self : goal.invariant_of-self
 invariant_of-self g c =
     let a = c.self.inside in
-    let k = c.read_tasks.ensures in
-    (
+    let k = c.read_tasks.ensures in (
       tasks_standing a.tables a.told a.tasks.items a.resources.items a.ops.items a.held a.last c.self.invariant.0 c.read_tasks.new.tables c.read_tasks.new.told
-    k.reads.0 c.read_tasks.new.handles.items k.reads.1 k.reads.2 k.alone k.told,
+          k.reads.0 c.read_tasks.new.handles.items k.reads.1 k.reads.2 k.alone k.told,
       tasks_times a.tables c.read_tasks.new.tables a.tasks.items k.reads.0 c.read_tasks.new.handles.items c.self.invariant.0.tasks k.reads.1 k.reads.2 a.timing c.self.invariant.1,
     )
 

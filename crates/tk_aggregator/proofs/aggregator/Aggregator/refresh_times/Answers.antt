@@ -1,9 +1,6 @@
-use Rattle.std.proofs.Common.{subst}
-use Rattle.tk_aggregator.specs.Aggregates.{ReadsHistograms}
 use Rattle.tk_aggregator.specs.Timing.{ReadTimes}
 use Rattle.tk_aggregator.proofs.HandledLemmas.{pairs-count}
 use Rattle.tk_aggregator.proofs.RefreshLemmas.{times_read}
-use Rattle.tk_aggregator.proofs.StandingLemmas.{whole}
 use Rattle.tk_aggregator.proofs.aggregator.Aggregator.refresh_times.Goals as goal
 
 pub refresh-requires : goal.refresh-requires

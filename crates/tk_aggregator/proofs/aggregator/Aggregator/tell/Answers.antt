@@ -18,11 +18,10 @@ pub invariant_of-self : goal.invariant_of-self
 invariant_of-self c =
     let a = c.self.inside in
     let gone = unwrap_or c.args.leaving.now none_gone in
-    let is = told_of a.tables gone c.args.now c.remove.new.tables c.dropped-dropped.result c.set_totals.new.self c.remove.ensures.tables c.dropped-dropped.ensures c.set_totals.ensures in
-    (
+    let is = told_of a.tables gone c.args.now c.remove.new.tables c.dropped-dropped.result c.set_totals.new.self c.remove.ensures.tables c.dropped-dropped.ensures c.set_totals.ensures in (
       told_stands a.tables a.told a.tasks.items a.resources.items a.ops.items a.held a.last c.self.invariant.0 gone c.args.now c.set_totals.new.self is
-      c.remove.new.tasks.items c.remove.new.resources.items c.remove.new.ops.items c.remove.ensures.tasks c.remove.ensures.resources c.remove.ensures.ops c.tell.new.self
-      c.tell.ensures.fits c.tell.ensures.room (subst (λ (x : Aggregating). x.last < 2 ^ 63) (sym c.self.view_is) c.requires),
+          c.remove.new.tasks.items c.remove.new.resources.items c.remove.new.ops.items c.remove.ensures.tasks c.remove.ensures.resources c.remove.ensures.ops c.tell.new.self
+          c.tell.ensures.fits c.tell.ensures.room (subst (λ (x : Aggregating). x.last < 2 ^ 63) (sym c.self.view_is) c.requires),
       times_left a.tables gone c.args.now c.set_totals.new.self is a.timing c.tell-2.new.self c.tell-2.ensures c.self.invariant.1,
     )
 

@@ -1,9 +1,0 @@
-use Rattle.std.proofs.Common.{take}
-use Rattle.std.specs.Prelude.{flat_map, string_bytes}
-use Rattle.tk_report.specs.Behind.{Puts}
-use Rattle.tk_report.specs.Report.{task_line}
-use Rattle.tk_report.proofs.reporting.put_tasks.Given as goal
-
--- the lines of the items so far
-abbrev pub invariant-loop-place : goal.invariant-loop-place
-invariant-loop-place l = Puts (string_bytes l.initial.out) (string_bytes l.out) (flat_map task_line (take l.place l.tables.tasks))

@@ -1,0 +1,8 @@
+use Rattle.std.proofs.Common.{◌≡◌, take}
+use Rattle.std.specs.Prelude.{map}
+use Rattle.tk_client.specs.declared.long_polls.AnyWarning.TheVariants.{Usual}
+use Rattle.tk_report.proofs.view.usual.Given as goal
+
+-- the warnings so far were added
+abbrev pub invariant-loop-warning : goal.invariant-loop-warning
+invariant-loop-warning l = l.list.items ≡ map Usual (take l.warning-index l.warnings)
