@@ -11,10 +11,8 @@ use Rattle.tk_events.specs.declared.event.Shown.{Shown}
 use Rattle.tk_events.specs.declared.item.Offer.{Offer}
 use Rattle.tk_events.specs.declared.recorder.Recorded.{Recorded}
 use Rattle.tk_events.specs.declared.recorder.Recorded.TheVariants.{Kept, DroppedFull}
-use Rattle.tk_core.specs.declared.times.row.TimesRow.{TimesRow}
 use Rattle.tk_ids.specs.declared.info.TaskInfo.{TaskInfo}
-use Rattle.tk_ledgers.specs.Handles.{KnownTimes, sight}
-use Rattle.tk_ledgers.specs.Times.{TimesSight}
+use Rattle.tk_ledgers.specs.Handles.{KnownTimes}
 use Rattle.tk_stream.specs.Applied.{BeginWith, times_kind}
 use Rattle.tk_stream.specs.Fronts.{with_rows}
 use Rattle.tk_stream.specs.Lines.{is_told, told_times}
@@ -27,9 +25,8 @@ use Rattle.tk_stream.specs.declared.times.PollTimes.{PollTimes}
 use Rattle.tk_stream.proofs.LinesLemmas.{map-same}
 use Rattle.tk_aggregator.specs.Absorbing.{Infos, infos_of}
 use Rattle.tk_aggregator.specs.Aggregates.{Aggregating, Gathers, TakesIn, TakesAllIn, TakesTimes, IsSound, Pairs, after_line, free, held_events, leaving_at, sending_at}
-use Rattle.tk_aggregator.specs.Readings.{Reads}
-use Rattle.tk_aggregator.specs.Timing.{TimingView, ReadTimes, ReadsTimes, times_ledger}
-use Rattle.tk_aggregator.proofs.FollowLemmas.{by_case}
+use Rattle.tk_aggregator.specs.Timing.{TimingView, ReadTimes, ReadsTimes}
+use Rattle.tk_aggregator.proofs.FollowLemmas.{TakesWhere, by_case}
 use Rattle.tk_aggregator.proofs.LeaveLemmas.{left_is}
 use Rattle.tk_aggregator.proofs.SendLemmas.{leads_on}
 use Rattle.tk_live.specs.Ran.{AreTimesOf, TellsTimes}
@@ -88,12 +85,7 @@ takes_times : (id : ℕ) (times : Option KnownTimes) (old new : TimingView) → 
 takes_times id None old new has reads takes = absurd cc
 takes_times id (Some known) old new has reads takes = by old.reads reads takes
   where
-    Takes : Bool → Type 0
-    Takes b = if b then ((row : TimesRow) × (read : TimesSight) × Reads times_ledger (sight id known) row read
-        × (new ≡ record old { shown = old.shown ++ (id, times_shown row) ∷ []; readers = old.readers ++ read ∷ [] })) else (new ≡ old)
-
-    by : (b : Bool) → b ≡ true → Takes b → (new.reads ≡ true) × (map times_id new.shown ≡ map times_id old.shown ++ id ∷ [])
-    unfolding Takes
+    by : (b : Bool) → b ≡ true → TakesWhere id known old new b → (new.reads ≡ true) × (map times_id new.shown ≡ map times_id old.shown ++ id ∷ [])
     by true e t = (ap (λ (x : TimingView). x.reads) t.3 ∙ reads, ap (λ (x : TimingView). map times_id x.shown) t.3 ∙ map-append times_id old.shown ((id, times_shown t.0) ∷ []))
     by false e t = absurd cc
 

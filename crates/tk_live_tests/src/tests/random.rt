@@ -144,21 +144,24 @@ fn call_of(random: &mut Pcg32, calls: &[Call]) -> Call {
     }
 }
 
-// A moment below one of these, so that polls run for times of each bucket.
-fn late_moment(random: &mut Pcg32) -> u64 {
+// A moment, at times the greatest.
+fn moment(random: &mut Pcg32) -> u64 {
+    if happens(random, 32) {
+        u64::MAX
+    } else {
+        below(random, 1000)
+    }
+}
+
+// A moment of a call of a task. Half of the ends are late, below one of these, so that polls run for times of each bucket.
+fn moment_of(random: &mut Pcg32, call: Call) -> u64 {
+    if call != Call::End || happens(random, 2) {
+        return moment(random);
+    }
     let at = below(random, 7) as usize;
     match LATEST.get(at) {
         Some(latest) => below(random, *latest),
         None => 0,
-    }
-}
-
-// A moment, at times the greatest.
-fn moment(random: &mut Pcg32) -> u64 {
-    match below(random, 32) {
-        0 => u64::MAX,
-        1..=10 => late_moment(random),
-        _ => below(random, 1000),
     }
 }
 
@@ -221,7 +224,7 @@ fn call_task(random: &mut Pcg32, made: &mut Made, out: &mut String) -> Result<()
         made.wakers.push(true)?;
         return Ok(());
     }
-    put(out, call.word(true), &[task, moment(random)], "")
+    put(out, call.word(true), &[task, moment_of(random, call)], "")
 }
 
 fn call_waker(random: &mut Pcg32, made: &mut Made, out: &mut String) -> Result<(), AllocError> {
@@ -433,7 +436,7 @@ fn nothing(alloc: Global) -> Made {
     }
 }
 
-/// A script of some lines, one in four with a small capacity of its own, one in four with a retention and half of them with histograms,
+/// A script of some lines, one in four with a small capacity of its own, one in three with a retention and half of them with histograms,
 /// that ends with a line of the stream.
 pub(super) fn script_of(alloc: Global, random: &mut Pcg32) -> Result<String, AllocError> {
     let mut out = String::new(alloc);
@@ -446,7 +449,7 @@ pub(super) fn script_of(alloc: Global, random: &mut Pcg32) -> Result<String, All
             "",
         )?;
     }
-    if happens(random, 4) {
+    if happens(random, 3) {
         put(&mut out, "retention", &[below(random, 100)], "")?;
     }
     if happens(random, 2) {
