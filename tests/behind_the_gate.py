@@ -5,6 +5,7 @@ The libraries that it left fit one another alone, and `rt check` and `rt lib` wo
 
 import importlib.machinery
 import importlib.util
+import inspect
 import os
 import shutil
 import sys
@@ -41,10 +42,19 @@ def rt_command():
     return rt
 
 
+def crates_in(rt):
+    """The repository's crates, as this kit's rt has them. Where crates_of() also sets aside what `rt ci` left, they are those that it makes."""
+    if "aside" not in inspect.signature(rt.crates_of).parameters:
+        return rt.crates_of(ROOT)
+    rt.Crate.allowed = rt.handles_of(ROOT)
+    rt.rtlib.Crate = rt.Crate
+    return rt.rtlib.crates_below(ROOT)
+
+
 def crates():
     """The crates by name.
 
-    All that these scripts take of rt's inside they take in this file: the file of `rt` as a module, its crates_of(), a crate's words(),
+    All that these scripts take of rt's inside they take in this file: the file of `rt` as a module, its crates, a crate's words(),
     where the kit is, and the libraries that it has kept.
     """
     try:
@@ -56,7 +66,7 @@ def crates():
                 crate.words(["--jobs", "1"], keeps=False),
                 os.path.join(rt.KIT, "toolchain"),
             )
-            for crate in rt.crates_of(ROOT)
+            for crate in crates_in(rt)
         }
     except (AttributeError, ImportError, OSError, SyntaxError, TypeError, ValueError) as changed:
         sys.exit(
@@ -71,7 +81,7 @@ def give_kept(name):
     if not hasattr(rt, "Kept"):
         sys.exit(f"this kit's rt ci keeps no libraries for other runs: run rt check in crates/{name}")
     rt.Crate.allowed = rt.handles_of(ROOT)
-    crates = {crate.name: crate for crate in rt.crates_of(ROOT)}
+    crates = {crate.name: crate for crate in crates_in(rt)}
     kept = rt.Kept(list(crates.values()))
     for crate in crates[name].below():
         key = kept.key(crate)
