@@ -11,8 +11,14 @@ use Rattle.tk_live.specs.Runs.{numbers_of, Keeps}
 use Rattle.tk_live.proofs.Making.{op_offered}
 use Rattle.tk_live.proofs.Places.{told_made}
 use Rattle.tk_live.proofs.Recording.{unspent, spent, op_id_is}
-use Rattle.tk_live.proofs.Standing.{rests, new_owner, is_there}
+use Rattle.tk_live.proofs.Standing.{rests, new_owner, is_there, isnt_there}
 use Rattle.tk_live.proofs.interpreter.Interpreter.make_op.Goals as goal
+
+pub returns-then-not-is_made : goal.returns-then-not-is_made
+returns-then-not-is_made g c line settings k kept sent stands =
+    let i = c.args.self.now in
+    let r_is = told_made owner_of c.args.resource i.resources.items k.names.resources stands.holds.resources_are ∙ sym c.if-not-is_made.ensures.made in
+    (inl (isnt_there _ _ r_is), rests i settings k line (said.op c.args.created c.args.resource c.args.source.now c.args.attrs) kept sent stands.keeps)
 
 pub returns-in-Ok-async_op : goal.returns-in-Ok-async_op
 returns-in-Ok-async_op g c line settings k kept sent stands =
