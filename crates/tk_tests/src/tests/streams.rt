@@ -10,7 +10,8 @@ use std::test::*;
 use std::thread::Threads;
 use tk_app::{Open, run_script};
 use tk_client::{Client, Lints, Warning, WarningKind};
-use tk_stream::{Line, Tables};
+use tk_ids::TaskId;
+use tk_stream::{Line, PollTimes, Table, Tables, ToldRows};
 
 // Each helper owns one of these at most, and lends it to the next: so their proofs stay short.
 
@@ -51,11 +52,28 @@ fn end_with_line(bytes: &[u8], line: &Line) -> bool {
     }
 }
 
+// Whether they end with the line as one of version 2, or of version 3 with these histograms.
+fn end_with_later(
+    alloc: Global,
+    bytes: &[u8],
+    line: Line,
+    times: &Table<(TaskId, PollTimes)>,
+) -> bool {
+    let line = line.removing_nothing();
+    if end_with_line(bytes, &line) {
+        return true;
+    }
+    match line.telling(&ToldRows::new(alloc), times, None) {
+        Ok(line) => end_with_line(bytes, &line),
+        Err(_) => false,
+    }
+}
+
 fn end_with_snapshot(
     alloc: Global,
     bytes: &[u8],
     none: &Tables,
-    tables: &Tables,
+    client: &Client,
     number: u64,
 ) -> bool
     requires { none.now ≡ empty_tables }
@@ -63,26 +81,25 @@ fn end_with_snapshot(
     if number < 1 || number > 100 {
         return false;
     }
-    match Line::between(alloc, none, tables, number, true) {
+    match Line::between(alloc, none, client.tables(), number, true) {
         Ok(line) => {
-            end_with_line(bytes, &line) || end_with_line(bytes, &line.removing_nothing())
+            end_with_line(bytes, &line) || end_with_later(alloc, bytes, line, client.times())
         }
         Err(_) => false,
     }
 }
 
-// Whether the bytes end with the snapshot line of tables that has this number, in either version.
-fn end_with(alloc: Global, bytes: &[u8], tables: &Tables, number: u64) -> bool {
+// Whether the bytes end with the snapshot line that has this number of a client's tables and histograms, in any version.
+fn end_with(alloc: Global, bytes: &[u8], client: &Client, number: u64) -> bool {
     match Tables::new(alloc) {
-        Ok(none) => end_with_snapshot(alloc, bytes, &none, tables, number),
+        Ok(none) => end_with_snapshot(alloc, bytes, &none, client, number),
         Err(_) => false,
     }
 }
 
-// Whether a client takes the stream in pieces of a size: all of its lines, of which the last is the snapshot of its tables.
+// Whether a client takes the stream in pieces of a size: all of its lines, of which the last is the snapshot of what it holds.
 fn is_taken_by(client: &mut Client, alloc: Global, bytes: &[u8], size: usize, lines: u64) -> bool {
-    lines_taken(client, bytes, size) == Some(lines)
-        && end_with(alloc, bytes, client.tables(), lines)
+    lines_taken(client, bytes, size) == Some(lines) && end_with(alloc, bytes, client, lines)
 }
 
 fn is_taken_by_size(alloc: Global, bytes: &[u8], size: usize, lines: u64) -> bool {
