@@ -1,6 +1,6 @@
 -- Histograms of how long polls ran: each task that is shown has one, where each that was taken has.
 use Rattle.std.proofs.Common.{◌≡◌, ℕ, Bool, true, false, cond, List, [], ◌∷◌, ◌++◌, Option, Some, None, refl, sym, ap, ◌∙◌, subst}
-use Rattle.std.specs.Prelude.{map, filter, not, is_some, IsSome, if◌then◌else◌}
+use Rattle.std.specs.Prelude.{map, filter, not, IsSome, if◌then◌else◌}
 use Rattle.std.specs.List.{AllByRecursion}
 use Rattle.std.proofs.lemmas.List.{map-append}
 use Rattle.tk_events.specs.Handles.{Recording, Taking, next_offer, with_kept, with_refused}
@@ -106,8 +106,8 @@ takes_one old (events.Task info handle) new p has is =
     by_case (task_with info.id old.tables.tasks) _ _ (IsTimed new) (λ q. Unit {0}) p.0 p.1
     (λ x there q. subst IsTimed (sym q) is)
     (λ none q.
-        let t = takes_times info.id handle.times old.timing new.timing (has_known handle.times has) is.0 q.4 in
-        (t.0, t.1 ∙ ap (λ ids. ids ++ info.id ∷ []) is.1 ∙ sym (ap (λ (a : Aggregating). map task_id a.tables.tasks) q.3 ∙ map-append task_id old.tables.tasks (record { info = info; row = q.0 } ∷ []))))
+    let t = takes_times info.id handle.times old.timing new.timing (has_known handle.times has) is.0 q.4 in
+    (t.0, t.1 ∙ ap (λ ids. ids ++ info.id ∷ []) is.1 ∙ sym (ap (λ (a : Aggregating). map task_id a.tables.tasks) q.3 ∙ map-append task_id old.tables.tasks (record { info = info; row = q.0 } ∷ []))))
     tt
 takes_one old (events.Resource info handle) new p has is =
     by_case (resource_with info.id old.tables.resources) _ _ (IsTimed new) (λ q. Unit {0}) p.0 p.1
