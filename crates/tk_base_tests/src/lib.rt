@@ -4,7 +4,6 @@
 //! - [`uses`]: proved callers of `tk_core`, to copy.
 #![tactic(auto)]
 
-pub mod uses;
-
 #[cfg(test)]
 mod tests;
+pub mod uses;

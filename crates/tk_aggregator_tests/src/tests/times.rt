@@ -51,8 +51,7 @@ fn polls_twice<R: Wait>(rt: &R, owner: &mut TaskOwner) -> bool {
 }
 
 fn has_same_times(client: &Client, aggregator: &Aggregator) -> bool {
-    client.times().len() == 1
-        && client.times().at(0).copied() == aggregator.times().at(0).copied()
+    client.times().len() == 1 && client.times().at(0).copied() == aggregator.times().at(0).copied()
 }
 
 fn holds_times(client: &mut Client, bytes: &[u8], aggregator: &Aggregator) -> bool {
@@ -137,9 +136,7 @@ fn closes_and_leaves<R: Wait>(
     taker: &mut Taker,
 ) -> bool {
     match record_and_collect(rt, alloc, aggregator, recorders, taker) {
-        Some(owner) => {
-            owner.close(rt, 5).is_ok() && is_told_and_leaves(rt, alloc, aggregator)
-        }
+        Some(owner) => { owner.close(rt, 5).is_ok() && is_told_and_leaves(rt, alloc, aggregator) }
         None => false,
     }
 }
