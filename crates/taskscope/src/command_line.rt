@@ -114,6 +114,9 @@ A script has one command a line, its words between single spaces:
   start TASK MOMENT      starts a poll of the task
   selfwake TASK MOMENT   wakes the task from within its poll
   end TASK MOMENT        ends its poll
+  polls TASK COUNT MOMENT RUN EVERY
+                         polls the task so often, 1 to 1000000: the first poll starts at the moment, each
+                         runs for RUN nanoseconds, and each further one starts EVERY nanoseconds later
   close TASK MOMENT      closes the task
   clone TASK             draws a waker from the task
   again WAKER            draws a waker from a waker

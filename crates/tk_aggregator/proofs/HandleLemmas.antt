@@ -1,5 +1,5 @@
 -- What a reading leaves: the row is the fold of a legal history, and has the kinds that its ledger began with.
-use Rattle.std.proofs.Common.{◌≡◌, List, [], ◌∷◌, ◌++◌, Some, refl, sym, ap, ◌∙◌, subst, append_assoc, append-nil}
+use Rattle.std.proofs.Common.{◌≡◌, ℕ, List, [], ◌∷◌, ◌++◌, Option, Some, None, refl, sym, ap, ◌∙◌, subst, append_assoc, append-nil, ⊎_elim}
 use Rattle.std.proofs.lemmas.Option.{same_Some}
 use Rattle.tk_core.specs.Fold.{fold_of, row_after, reply_after}
 use Rattle.tk_core.specs.History.{calls_of}
@@ -14,11 +14,18 @@ use Rattle.tk_core.specs.declared.op.row.OpRow.{OpRow}
 use Rattle.tk_core.specs.declared.reply.Reply.{Reply}
 use Rattle.tk_core.specs.declared.reply.Reply.TheVariants.{Shown}
 use Rattle.tk_core.specs.declared.resource.row.ResourceRow.{ResourceRow}
+use Rattle.tk_cell.specs.declared.view.View.{View}
 use Rattle.tk_cell.specs.Calls.{entry}
+use Rattle.tk_cell.specs.Ours.{ours}
+use Rattle.tk_cell.specs.Views.{list_of}
+use Rattle.tk_cell.proofs.ListLemmas.{snoc_cases}
+use Rattle.tk_cell.proofs.OursLemmas.{calls_in_order}
+use Rattle.tk_events.specs.Items.{inspector_view}
+use Rattle.tk_ledgers.specs.Beside.{AllRead}
 use Rattle.tk_ledgers.specs.Handles.{Sight}
 use Rattle.tk_ledgers.specs.Ops.{OpSight}
 use Rattle.tk_ledgers.specs.Resources.{ResourceSight}
-use Rattle.tk_aggregator.specs.Readings.{Ledger, task_ledger, resource_ledger, op_ledger, Reads, IsRead, IsLater, AreLater, ReadAll}
+use Rattle.tk_aggregator.specs.Readings.{Ledger, task_ledger, resource_ledger, op_ledger, Reads, IsRead, OnlyReads, IsLater, AreLater, ReadAll}
 use Rattle.tk_ids.specs.declared.attr.AttrInfo.{AttrInfo}
 use Rattle.tk_ids.specs.Attributes.{kinds_of, HaveKinds}
 use Rattle.tk_aggregator.proofs.KindLemmas.{resource_kinds, op_kinds}
@@ -49,6 +56,34 @@ module _ {Row C : Type 0} (l : Ledger Row C) where
         legal = k.legal;
         fold = shown_same r (fold_of l.kind k.opening h) (reply ∙ replies k.opening h (front_legal k.opening h (last ∷ []) (subst (IsLegal l.meaning k.opening) k.grows k.legal)));
       }
+
+  -- a reading draws nothing
+  abbrev pub DrawsNone : Type 0
+  DrawsNone = (row : Row) → l.meaning.number (Shown row) ≡ None
+
+  -- who has only read does so after a reading
+  pub still_reads : DrawsNone → (s : Sight Row C (Reply Row)) (r : Row) (t : Sight Row C (Reply Row)) → OnlyReads l s → Reads l s r t → OnlyReads l t
+  still_reads none s r t only reading =
+      let k = reading.entry in
+      let last : Entry C (Reply Row) = entry s.token.view.caller l.read (Shown r) in
+      record {
+        held = k.now_held ∙ (ap (λ (o : Option ℕ). s.token.view.held ++ list_of o) (none r) ∙ (append-nil s.token.view.held ∙ only.held));
+        reads = λ before later e cut. ⊎_elim
+            (λ (x : (before ≡ ours s.token.view) × (e ≡ last)). ap (λ (y : Entry C (Reply Row)). y.call) x.1)
+            (λ (x : (rest : List (Entry C (Reply Row))) × (before ++ e ∷ rest ≡ ours s.token.view)). only.reads before x.0 e x.1)
+            (snoc_cases before later (ours s.token.view) e last (cut ∙ calls_in_order l.meaning s.token.view t.token.view l.read (Shown r) k));
+      }
+
+  none_stand : (before after : List (Entry C (Reply Row))) (e : Entry C (Reply Row)) → before ++ e ∷ after ≡ [] → ⊥
+  none_stand [] after e cut = cc
+  none_stand (x ∷ before) after e cut = cc
+
+  -- a new inspector has made no call
+  pub new_reads : (enlist : C) (row : Row) (s : Sight Row C (Reply Row)) → s.token.view ≡ inspector_view enlist row → OnlyReads l s
+  new_reads enlist row s is = record {
+    held = ap (λ (v : View Row C (Reply Row)). v.held) is;
+    reads = subst (λ (v : View Row C (Reply Row)). AllRead l.meaning l.read (ours v)) (sym is) (λ before after e cut. absurd (none_stand before after e cut));
+  }
 
   pub reads_later : (s : Sight Row C (Reply Row)) (r : Row) (t : Sight Row C (Reply Row)) → Reads l s r t → IsLater s t
   reads_later s r t reading = record {
@@ -81,6 +116,15 @@ resource_reads opening h legal = ap Shown (sym (resource_laws.legal_fold opening
 pub op_reads : ReadsFold op_ledger
 unfolding reply_after row_after
 op_reads opening h legal = ap Shown (sym (op_laws.legal_fold opening h legal))
+
+pub task_draws_none : DrawsNone task_ledger
+task_draws_none row = refl
+
+pub resource_draws_none : DrawsNone resource_ledger
+resource_draws_none row = refl
+
+pub op_draws_none : DrawsNone op_ledger
+op_draws_none row = refl
 
 -- ---- kinds
 

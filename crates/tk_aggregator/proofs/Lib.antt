@@ -19,3 +19,6 @@ pub mod HoldLemmas
 pub mod PublishLemmas
 pub mod TimedLemmas
 pub mod TimingLemmas
+pub mod BesideLemmas
+pub mod ReadAtLemmas
+pub mod CollectLemmas

@@ -19,7 +19,7 @@ use Rattle.tk_stream.specs.Tables.{TablesView}
 use Rattle.tk_stream.specs.declared.op.Op.{Op}
 use Rattle.tk_stream.specs.declared.resource.Resource.{Resource}
 use Rattle.tk_stream.specs.declared.task.Task.{Task}
-use Rattle.tk_aggregator.proofs.HandleLemmas.{reads_read, task_reads, resource_reads, op_reads, all_later}
+use Rattle.tk_aggregator.proofs.HandleLemmas.{reads_read, task_reads, resource_reads, op_reads, still_reads, task_draws_none, resource_draws_none, op_draws_none, all_later}
 use Rattle.tk_aggregator.proofs.HandledLemmas.{Both, TasksStand, ResourcesStand, OpsStand, pairs-count, rows-count, holds_read, tasks_handled, resources_handled, ops_handled, tasks_stand, resources_stand, ops_stand}
 use Rattle.tk_aggregator.proofs.StandingLemmas.{whole}
 use Rattle.tk_aggregator.specs.Timing.{TimingView, times_ledger, ReadTimes, ReadsTimes}
@@ -52,7 +52,7 @@ module _ (shown : TablesView) (telling : ToldView) (tasks : List TaskSight) (res
     tasks_now : TasksStand shown telling tasks resources ops held last (with_rows task_at shown.tasks rows) view.tasks read
     tasks_now =
         holds_read task_at ReadTask shown.tasks telling.tasks tasks (tasks_handled shown telling tasks resources ops held last stands) (TasksStand shown telling tasks resources ops held last) (tasks_stand shown telling tasks resources ops held last stands)
-        (Reads task_ledger) (λ x s r t p q. (q.id ∙ p.0, reads_read task_ledger task_reads s r t q)) rows read view.tasks each (subst (λ (t : TablesView). TellsSame task_at shown.tasks telling.tasks t.tasks view.tasks) e alike)
+        (Reads task_ledger) (λ x s r t p q. (q.id ∙ p.0, reads_read task_ledger task_reads s r t q, still_reads task_ledger task_draws_none s r t p.2 q)) rows read view.tasks each (subst (λ (t : TablesView). TellsSame task_at shown.tasks telling.tasks t.tasks view.tasks) e alike)
 
     pub tasks_standing : IsStanding now view read resources ops held last
     tasks_standing =
@@ -67,7 +67,7 @@ module _ (shown : TablesView) (telling : ToldView) (tasks : List TaskSight) (res
     resources_now : ResourcesStand shown telling tasks resources ops held last (with_rows resource_at shown.resources rows) view.resources read
     resources_now =
         holds_read resource_at (Both ReadResource ResourceFits) shown.resources telling.resources resources (resources_handled shown telling tasks resources ops held last stands) (ResourcesStand shown telling tasks resources ops held last) (resources_stand shown telling tasks resources ops held last stands)
-        (Reads resource_ledger) (λ x s r t p q. ((q.id ∙ p.0.0, reads_read resource_ledger resource_reads s r t q), (q.id ∙ p.1.0, (p.1.1.0, q.entry.same_opening ∙ p.1.1.1, p.1.1.2)))) rows read view.resources each (subst (λ (t : TablesView). TellsSame resource_at shown.resources telling.resources t.resources view.resources) e alike)
+        (Reads resource_ledger) (λ x s r t p q. ((q.id ∙ p.0.0, reads_read resource_ledger resource_reads s r t q, still_reads resource_ledger resource_draws_none s r t p.0.2 q), (q.id ∙ p.1.0, (p.1.1.0, q.entry.same_opening ∙ p.1.1.1, p.1.1.2)))) rows read view.resources each (subst (λ (t : TablesView). TellsSame resource_at shown.resources telling.resources t.resources view.resources) e alike)
 
     pub resources_standing : IsStanding now view tasks read ops held last
     resources_standing =
@@ -82,7 +82,7 @@ module _ (shown : TablesView) (telling : ToldView) (tasks : List TaskSight) (res
     ops_now : OpsStand shown telling tasks resources ops held last (with_rows op_at shown.ops rows) view.ops read
     ops_now =
         holds_read op_at (Both ReadOp OpFits) shown.ops telling.ops ops (ops_handled shown telling tasks resources ops held last stands) (OpsStand shown telling tasks resources ops held last) (ops_stand shown telling tasks resources ops held last stands)
-        (Reads op_ledger) (λ x s r t p q. ((q.id ∙ p.0.0, reads_read op_ledger op_reads s r t q), (q.id ∙ p.1.0, (p.1.1.0, q.entry.same_opening ∙ p.1.1.1, p.1.1.2)))) rows read view.ops each (subst (λ (t : TablesView). TellsSame op_at shown.ops telling.ops t.ops view.ops) e alike)
+        (Reads op_ledger) (λ x s r t p q. ((q.id ∙ p.0.0, reads_read op_ledger op_reads s r t q, still_reads op_ledger op_draws_none s r t p.0.2 q), (q.id ∙ p.1.0, (p.1.1.0, q.entry.same_opening ∙ p.1.1.1, p.1.1.2)))) rows read view.ops each (subst (λ (t : TablesView). TellsSame op_at shown.ops telling.ops t.ops view.ops) e alike)
 
     pub ops_standing : IsStanding now view tasks resources read held last
     ops_standing =

@@ -4,7 +4,13 @@ use Rattle.std.specs.Prelude.{◌⊎◌, Option, IfSome, IfNone, is_some, not, m
 use Rattle.std.specs.List.{position_or_len}
 use Rattle.std.proofs.lemmas.List.Quantifiers.{position-Some}
 use Rattle.std.proofs.lemmas.Bool.{eqb-true}
+use Rattle.tk_core.specs.declared.op.call.OpCall.{OpCall}
+use Rattle.tk_core.specs.declared.op.call.OpCall.TheVariants as op_calls
+use Rattle.tk_core.specs.declared.resource.call.ResourceCall.TheVariants as resource_calls
+use Rattle.tk_core.specs.declared.task.call.TaskCall.TheVariants as task_calls
 use Rattle.tk_core.specs.declared.op.row.OpRow.{OpRow}
+use Rattle.tk_core.specs.declared.reply.Reply.{Reply}
+use Rattle.tk_core.specs.declared.resource.call.ResourceCall.{ResourceCall}
 use Rattle.tk_core.specs.declared.resource.row.ResourceRow.{ResourceRow}
 use Rattle.tk_core.specs.declared.task.row.TaskRow.{TaskRow}
 use Rattle.tk_events.specs.Items.{Agrees}
@@ -23,7 +29,7 @@ use Rattle.tk_aggregator.specs.Readings.{Reads, task_ledger, resource_ledger, op
 use Rattle.tk_aggregator.specs.Standing.{IsStanding, TimesStand, ResourceFits, OpFits, told_list}
 use Rattle.tk_aggregator.proofs.TimingLemmas.{begin_more, known_later, known_more, readers_more}
 use Rattle.tk_stream.specs.Tables.{TablesView, PollCounts, counts_id, changed_at, put_item, task_with, with_task, resource_with, with_resource, op_with, with_op}
-use Rattle.tk_aggregator.proofs.HandleLemmas.{reads_read, task_reads, resource_reads, op_reads}
+use Rattle.tk_aggregator.proofs.HandleLemmas.{reads_read, task_reads, resource_reads, op_reads, still_reads, new_reads, task_draws_none, resource_draws_none, op_draws_none}
 use Rattle.tk_aggregator.proofs.HandledLemmas.{Both, TasksStand, ResourcesStand, OpsStand, holds_more, holds_roomier, tasks_handled, resources_handled, ops_handled, tasks_stand, resources_stand, ops_stand, counts_stand}
 use Rattle.tk_aggregator.proofs.FollowLemmas.{TakesWhere}
 use Rattle.tk_aggregator.proofs.StandingLemmas.{whole}
@@ -37,6 +43,7 @@ use Rattle.tk_core.specs.declared.times.row.TimesRow.{TimesRow}
 use Rattle.tk_core.specs.declared.times.call.TimesCall.TheVariants.{Read}
 use Rattle.tk_core.specs.declared.reply.Reply.TheVariants.{Shown}
 use Rattle.tk_core.specs.TimesMeaning.{times_meaning}
+use Rattle.tk_cell.specs.declared.view.View.{View}
 use Rattle.tk_cell.specs.Calls.{Calls}
 
 -- what holds of three values holds of others that are the same
@@ -58,7 +65,7 @@ module _ (shown : TablesView) (telling : ToldView) (tasks : List TaskSight) (res
     task_put : TasksStand shown telling tasks resources ops held last (with_task shown info row).tasks (with_task_room telling room).tasks (tasks ++ read ∷ [])
     task_put =
         holds_more task_at ReadTask shown.tasks telling.tasks tasks (tasks_handled shown telling tasks resources ops held last stands) (TasksStand shown telling tasks resources ops held last) (tasks_stand shown telling tasks resources ops held last stands)
-        (record { info = info; row = row }) read room (reading.id ∙ fit, reads_read task_ledger task_reads handle row read reading) (subst (λ (t : TablesView). length t.tasks ≤ room) e_now near)
+        (record { info = info; row = row }) read room (reading.id ∙ fit.0, reads_read task_ledger task_reads handle row read reading, still_reads task_ledger task_draws_none handle row read (new_reads task_ledger task_calls.Enlist fit.1.0 handle fit.1.1) reading) (subst (λ (t : TablesView). length t.tasks ≤ room) e_now near)
 
     pub task_put_stands : IsStanding now tells handles resources ops held last
     task_put_stands = moved (λ (t : TablesView) (u : ToldView) (hs : List TaskSight). IsStanding t u hs resources ops held last) now (with_task shown info row) tells (with_task_room telling room) handles (tasks ++ read ∷ []) e_now e_tells e_handles task_put.0
@@ -168,7 +175,7 @@ module _ (shown : TablesView) (telling : ToldView) (tasks : List TaskSight) (res
     resource_put : ResourcesStand shown telling tasks resources ops held last (with_resource shown info row).resources (with_resource_room telling room).resources (resources ++ read ∷ [])
     resource_put =
         holds_more resource_at (Both ReadResource ResourceFits) shown.resources telling.resources resources (resources_handled shown telling tasks resources ops held last stands) (ResourcesStand shown telling tasks resources ops held last) (resources_stand shown telling tasks resources ops held last stands)
-        (record { info = info; row = row }) read room ((reading.id ∙ fit.0, reads_read resource_ledger resource_reads handle row read reading), (reading.id ∙ fit.0, (fit.1.0, reading.entry.same_opening ∙ fit.1.1, fit.1.2))) (subst (λ (t : TablesView). length t.resources ≤ room) e_now near)
+        (record { info = info; row = row }) read room ((reading.id ∙ fit.0, reads_read resource_ledger resource_reads handle row read reading, still_reads resource_ledger resource_draws_none handle row read (new_reads resource_ledger resource_calls.Enlist fit.1.0 handle fit.1.1) reading), (reading.id ∙ fit.0, (fit.1.0, reading.entry.same_opening ∙ ap (λ (v : View ResourceRow ResourceCall (Reply ResourceRow)). v.opening) fit.1.1, fit.1.2))) (subst (λ (t : TablesView). length t.resources ≤ room) e_now near)
 
     pub resource_put_stands : IsStanding now tells tasks handles ops held last
     resource_put_stands = moved (λ (t : TablesView) (u : ToldView) (hs : List ResourceSight). IsStanding t u tasks hs ops held last) now (with_resource shown info row) tells (with_resource_room telling room) handles (resources ++ read ∷ []) e_now e_tells e_handles resource_put.0
@@ -210,7 +217,7 @@ module _ (shown : TablesView) (telling : ToldView) (tasks : List TaskSight) (res
     op_put : OpsStand shown telling tasks resources ops held last (with_op shown info row).ops (with_op_room telling room).ops (ops ++ read ∷ [])
     op_put =
         holds_more op_at (Both ReadOp OpFits) shown.ops telling.ops ops (ops_handled shown telling tasks resources ops held last stands) (OpsStand shown telling tasks resources ops held last) (ops_stand shown telling tasks resources ops held last stands)
-        (record { info = info; row = row }) read room ((reading.id ∙ fit.0, reads_read op_ledger op_reads handle row read reading), (reading.id ∙ fit.0, (fit.1.0, reading.entry.same_opening ∙ fit.1.1, fit.1.2))) (subst (λ (t : TablesView). length t.ops ≤ room) e_now near)
+        (record { info = info; row = row }) read room ((reading.id ∙ fit.0, reads_read op_ledger op_reads handle row read reading, still_reads op_ledger op_draws_none handle row read (new_reads op_ledger op_calls.Enlist fit.1.0 handle fit.1.1) reading), (reading.id ∙ fit.0, (fit.1.0, reading.entry.same_opening ∙ ap (λ (v : View OpRow OpCall (Reply OpRow)). v.opening) fit.1.1, fit.1.2))) (subst (λ (t : TablesView). length t.ops ≤ room) e_now near)
 
     pub op_put_stands : IsStanding now tells tasks resources handles held last
     op_put_stands = moved (λ (t : TablesView) (u : ToldView) (hs : List OpSight). IsStanding t u tasks resources hs held last) now (with_op shown info row) tells (with_op_room telling room) handles (ops ++ read ∷ []) e_now e_tells e_handles op_put.0

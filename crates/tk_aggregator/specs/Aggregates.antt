@@ -27,7 +27,7 @@ use Rattle.tk_stream.specs.Applied.{GoOn, BeginWith, times_kind, without_gone}
 use Rattle.tk_stream.specs.Fronts.{with_rows, task_at, resource_at, op_at}
 use Rattle.tk_stream.specs.Lines.{LineView, GoneView, none_gone}
 use Rattle.tk_stream.specs.Polls.{counted}
-use Rattle.tk_aggregator.specs.Readings.{task_ledger, resource_ledger, op_ledger, Reads, IsRead, ReadAll, AreLater}
+use Rattle.tk_aggregator.specs.Readings.{task_ledger, resource_ledger, op_ledger, Reads, IsRead, OnlyReads, ReadAll, AreLater}
 use Rattle.tk_stream.specs.Retention.{due_of}
 use Rattle.tk_stream.specs.Spelling.{sent_text}
 use Rattle.tk_stream.specs.Streams.{AreInRange, AreToldOf, Sending, line_sent, line_untimed}
@@ -85,17 +85,17 @@ Pairs P (x ∷ xs) (s ∷ ss) = P x s × Pairs P xs ss
 Pairs P [] (s ∷ ss) = ⊥
 Pairs P (x ∷ xs) [] = ⊥
 
--- a handle is of the task, and read its row last
+-- a handle is of the task, and read its row last, and has done nothing but read
 abbrev pub ReadTask : Task → TaskSight → Type 0
-ReadTask t s = (s.id ≡ t.info.id) × IsRead task_ledger s t.row
+ReadTask t s = (s.id ≡ t.info.id) × IsRead task_ledger s t.row × OnlyReads task_ledger s
 
 -- the same of a resource
 abbrev pub ReadResource : Resource → ResourceSight → Type 0
-ReadResource r s = (s.id ≡ r.info.id) × IsRead resource_ledger s r.row
+ReadResource r s = (s.id ≡ r.info.id) × IsRead resource_ledger s r.row × OnlyReads resource_ledger s
 
 -- the same of an async operation
 abbrev pub ReadOp : Op → OpSight → Type 0
-ReadOp o s = (s.id ≡ o.info.id) × IsRead op_ledger s o.row
+ReadOp o s = (s.id ≡ o.info.id) × IsRead op_ledger s o.row × OnlyReads op_ledger s
 
 -- each row and each histogram is the fold of a legal history of its ledger; the tables are fit, in range, and begin with those of the
 -- last line; histograms are of their tasks, and begin with those that were told

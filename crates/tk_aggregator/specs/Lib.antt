@@ -4,6 +4,7 @@ pub mod Absorbing
 pub mod Finished
 pub mod Timing
 pub mod Aggregates
+pub mod Beside
 pub mod StreamErrors
 pub mod Standing
 pub mod Publishing

@@ -23,6 +23,8 @@ use Rattle.tk_core.specs.ResourceMeaning.{resource_meaning}
 use Rattle.tk_core.specs.Task.{task_kind}
 use Rattle.tk_core.specs.TaskMeaning.{task_meaning}
 use Rattle.tk_cell.specs.Calls.{Calls, entry}
+use Rattle.tk_cell.specs.Ours.{ours}
+use Rattle.tk_ledgers.specs.Beside.{AllRead}
 use Rattle.tk_ledgers.specs.Handles.{Sight}
 
 -- how an item's ledger is read: what its histories mean, and the call that reads
@@ -64,6 +66,11 @@ module _ {Row C : Type 0} (l : Ledger Row C) where
     pub seen : handle.token.view.seen ≡ history ++ entry handle.token.view.caller l.read (Shown row) ∷ []
     pub legal : IsLegal l.meaning opening handle.token.view.seen
     pub fold : row ≡ fold_of l.kind opening history
+
+  -- a handle that has only read: it is the first that was drawn of its ledger, and holds no other's number
+  pub record OnlyReads (handle : Sight Row C (Reply Row)) : Type 0 where
+    pub held : handle.token.view.held ≡ 1 ∷ []
+    pub reads : AllRead l.meaning l.read (ours handle.token.view)
 
   -- readings of all handles, each with its row
   abbrev pub ReadAll : List (Sight Row C (Reply Row)) → List Row → List (Sight Row C (Reply Row)) → Type 0

@@ -13,26 +13,35 @@
 //! says so. Where histograms of poll times are read, lines tell them too (`timing.rt`).
 //!
 //! `specs/Aggregates.antt` says what each call makes of it.
-ghost use Rattle.std.specs.Prelude.{◌≡◌, ◌≤◌, ◌<◌, ◌+◌, ◌^◌, ◌++◌, ℕ, List, Some, None, unwrap_or, false, true, OnOk, OnErr, IfOk, IfErr, IfSome, IfNone, ◌⊎◌};
+ghost use Rattle.std.specs.Prelude.{◌≡◌, ◌≤◌, ◌<◌, ◌+◌, ◌^◌, ◌++◌, ℕ, List, length, slice_get, Some, None, unwrap_or, false, true, OnOk, OnErr, IfOk, IfErr, IfSome, IfNone, ◌⊎◌};
 ghost use Rattle.std.specs.Io.KnownBytes.{Appends};
 ghost use Rattle.tk_events.specs.declared.event.Event.TheVariants as events;
 ghost use Rattle.tk_events.specs.Items.{Agrees};
 ghost use Rattle.tk_aggregator.specs.Absorbing.{infos_of};
 ghost use Rattle.tk_aggregator.specs.Finished.{HoldKept};
 ghost use Rattle.tk_aggregator.specs.Aggregates.{new_aggregating, new_timed, IsSound, ReadsHistograms, leaving_at, untimed_at, IsLaterOf, IsSameStream, Refreshes, ReadsTasks, ReadsResources, ReadsOps, TakesIn, Collects, RunsOut, TookMore, FollowsTaker, GathersUpTo, Comes, TellsTotals, WasEmpty, dropped_in, without, line_at, sending_at, having_told, after_line, MayGoOn, IsDue, Refuses};
+ghost use Rattle.tk_aggregator.specs.Beside.{AreOf, TookAll, GathersUpToBeside, CollectsBeside, StaysHand, ReadsTaskBeside, ReadsResourceBeside, ReadsOpBeside};
 ghost use Rattle.tk_aggregator.specs.Publishing.{Publishes, StopsBefore, IsTimedStreamTo};
 ghost use Rattle.tk_aggregator.specs.Timing.{no_timing};
 ghost use Rattle.tk_events.specs.Handles.{Taking};
+ghost use Rattle.tk_core.specs.OpMeaning.{op_meaning};
+ghost use Rattle.tk_core.specs.ResourceMeaning.{resource_meaning};
+ghost use Rattle.tk_core.specs.TaskMeaning.{task_meaning};
 ghost use Rattle.tk_ledgers.specs.Handles.{sight_with};
+ghost use Rattle.tk_ledgers.specs.Ops.{OpSight};
+ghost use Rattle.tk_ledgers.specs.Resources.{ResourceSight};
+ghost use Rattle.tk_ledgers.specs.Tasks.{TaskSight};
+ghost use Rattle.tk_stream.specs.Places.{place_with};
 ghost use Rattle.tk_stream.specs.Lines.{none_gone};
-ghost use Rattle.tk_stream.specs.Tables.{task_with};
+ghost use Rattle.tk_stream.specs.Tables.{task_id, resource_id, op_id, task_with};
 ghost use Rattle.tk_stream.specs.Polls.{counted};
 ghost use Rattle.tk_stream.specs.Spelling.{sent_text};
 ghost use Rattle.tk_stream.specs.Streams.{IsStreamTo, MaySend};
 ghost use Rattle.tk_aggregator.specs.declared.stream_error.StreamError.TheVariants.{Memory};
 
 use crate::ledgered::{
-    put_op, put_poll, put_resource, put_task, read_ops, read_resources, read_tasks,
+    put_op, put_poll, put_resource, put_task, read_op_at, read_ops, read_resource_at,
+    read_resources, read_task_at, read_tasks,
 };
 use crate::published::Published;
 use crate::removal::remove;
@@ -42,9 +51,12 @@ use std::alloc::{AllocError, Global};
 use std::io::Write;
 use std::marker::Model;
 use std::sync::Wait;
-use tk_events::{Event, Taker};
+use tk_events::{Event, Recorder, Taker};
 use tk_ids::{OpInfo, ResourceId, ResourceInfo, TaskId, TaskInfo};
-use tk_ledgers::{OpInspector, ResourceInspector, TaskInspector, TimesInspector};
+use tk_ledgers::{
+    OpCallers, OpInspector, ResourceCallers, ResourceInspector, TaskCallers, TaskInspector,
+    TimesInspector,
+};
 use tk_stream::{Leaving, Line, LineError, PollTimes, Table, Tables, ToldTables, send};
 
 /// Takes events, reads the ledgers of their items, and writes the lines of a stream.
@@ -207,6 +219,99 @@ impl Aggregator {
         self.refresh_times(rt);
     }
 
+    /// Reads a task beside the hand that holds its other callers: where the tables have it, its row is that after just the calls of the
+    /// hand, and nothing else changes; where they don't, nothing does. It takes no memory. Readers with the hand's id have to be of
+    /// its ledger.
+    pub fn read_task_beside<R: Wait>(&mut self, rt: &R, callers: &mut TaskCallers)
+        requires { AreOf task_meaning callers.old self.old.tasks }
+        ensures reads { ReadsTaskBeside callers.old self.old self.new (place_with task_id callers.old.id self.old.tables.tasks) }
+        ensures hand { StaysHand task_meaning callers.old callers.new }
+    {
+        self.tables();
+        if let Some(place) = self.tables.task_place(callers.id()) {
+            self.read_task_at(rt, place, callers);
+        }
+    }
+
+    // Reads the one at a place.
+    fn read_task_at<R: Wait>(&mut self, rt: &R, place: usize, callers: &mut TaskCallers)
+        requires place { place < length self.old.tables.tasks }
+        requires of { (reader : TaskSight) → slice_get self.old.tasks place ≡ Some reader → reader.token.ledger ≡ callers.old.token.ledger }
+        ensures reads { ReadsTaskBeside callers.old self.old self.new (Some place) }
+        ensures hand { StaysHand task_meaning callers.old callers.new }
+    {
+        read_task_at(
+            rt,
+            &mut self.tables,
+            &mut self.told,
+            &mut self.tasks,
+            place,
+            callers,
+        );
+    }
+
+    /// Reads a resource beside the hand that holds its other callers: where the tables have it, its row is that after just the calls of the
+    /// hand, and nothing else changes; where they don't, nothing does. It takes no memory. Readers with the hand's id have to be of
+    /// its ledger.
+    pub fn read_resource_beside<R: Wait>(&mut self, rt: &R, callers: &mut ResourceCallers)
+        requires { AreOf resource_meaning callers.old self.old.resources }
+        ensures reads { ReadsResourceBeside callers.old self.old self.new (place_with resource_id callers.old.id self.old.tables.resources) }
+        ensures hand { StaysHand resource_meaning callers.old callers.new }
+    {
+        self.tables();
+        if let Some(place) = self.tables.resource_place(callers.id()) {
+            self.read_resource_at(rt, place, callers);
+        }
+    }
+
+    // Reads the one at a place.
+    fn read_resource_at<R: Wait>(&mut self, rt: &R, place: usize, callers: &mut ResourceCallers)
+        requires place { place < length self.old.tables.resources }
+        requires of { (reader : ResourceSight) → slice_get self.old.resources place ≡ Some reader → reader.token.ledger ≡ callers.old.token.ledger }
+        ensures reads { ReadsResourceBeside callers.old self.old self.new (Some place) }
+        ensures hand { StaysHand resource_meaning callers.old callers.new }
+    {
+        read_resource_at(
+            rt,
+            &mut self.tables,
+            &mut self.told,
+            &mut self.resources,
+            place,
+            callers,
+        );
+    }
+
+    /// Reads an async operation beside the hand that holds its other callers: where the tables have it, its row is that after just the calls of the
+    /// hand, and nothing else changes; where they don't, nothing does. It takes no memory. Readers with the hand's id have to be of
+    /// its ledger.
+    pub fn read_op_beside<R: Wait>(&mut self, rt: &R, callers: &mut OpCallers)
+        requires { AreOf op_meaning callers.old self.old.ops }
+        ensures reads { ReadsOpBeside callers.old self.old self.new (place_with op_id callers.old.id self.old.tables.ops) }
+        ensures hand { StaysHand op_meaning callers.old callers.new }
+    {
+        self.tables();
+        if let Some(place) = self.tables.op_place(callers.id()) {
+            self.read_op_at(rt, place, callers);
+        }
+    }
+
+    // Reads the one at a place.
+    fn read_op_at<R: Wait>(&mut self, rt: &R, place: usize, callers: &mut OpCallers)
+        requires place { place < length self.old.tables.ops }
+        requires of { (reader : OpSight) → slice_get self.old.ops place ≡ Some reader → reader.token.ledger ≡ callers.old.token.ledger }
+        ensures reads { ReadsOpBeside callers.old self.old self.new (Some place) }
+        ensures hand { StaysHand op_meaning callers.old callers.new }
+    {
+        read_op_at(
+            rt,
+            &mut self.tables,
+            &mut self.told,
+            &mut self.ops,
+            place,
+            callers,
+        );
+    }
+
     /// Takes up to `limit` events, a held one first, and stops at the first empty answer of the taker. Each is taken in: a
     /// new item goes last, with the row that its handle then reads; one that is there changes nothing; a poll operation is
     /// counted. The totals of dropped events become the taker's. It answers how many were taken in.
@@ -235,6 +340,81 @@ impl Aggregator {
         let count = self.gather(rt, taker, limit)?;
         self.take_totals(taker);
         Ok(count)
+    }
+
+    /// Takes events in as [`Aggregator::collect`] does, beside a recorder of the taker's console, which stays as it is. An answer below
+    /// `limit` says that all that this recorder kept by then was taken. The taker isn't finished.
+    ///
+    /// Its one error is that of `collect`.
+    pub fn collect_beside<R: Wait>(
+        &mut self,
+        rt: &R,
+        taker: &mut Taker,
+        recorder: &mut Recorder,
+        limit: u64,
+    ) -> Result<u64, StreamError>
+        requires console { recorder.old.console ≡ taker.old.console }
+        requires recorders { recorder.old.recorders ≡ taker.old.recorders }
+        requires unfinished { taker.old.finished ≡ false }
+        ensures same { recorder.new ≡ recorder.old }
+        ensures ok { IfOk result (λ count. CollectsBeside recorder.old self.old taker.old limit count self.new taker.new) }
+        ensures err { IfErr result (λ e. (e ≡ Memory) × RunsOut self.old taker.old limit self.new taker.new) }
+        ensures took { TookMore taker.old taker.new }
+        ensures later { IsLaterOf self.old self.new }
+        ensures stays { IsSameStream self.old self.new }
+    {
+        let count = self.gather_beside(rt, taker, recorder, limit)?;
+        self.take_totals(taker);
+        Ok(count)
+    }
+
+    // Takes events in beside a recorder, and leaves the totals.
+    fn gather_beside<R: Wait>(
+        &mut self,
+        rt: &R,
+        taker: &mut Taker,
+        recorder: &mut Recorder,
+        limit: u64,
+    ) -> Result<u64, StreamError>
+        requires console { recorder.old.console ≡ taker.old.console }
+        requires recorders { recorder.old.recorders ≡ taker.old.recorders }
+        requires unfinished { taker.old.finished ≡ false }
+        ensures same { recorder.new ≡ recorder.old }
+        ensures ok { IfOk result (λ count. GathersUpToBeside recorder.old self.old taker.old limit count self.new taker.new) }
+        ensures err { IfErr result (λ e. (e ≡ Memory) × RunsOut self.old taker.old limit self.new taker.new) }
+    {
+        for count in 0..limit {
+            let Some(event) = self.next_beside(rt, taker, recorder) else {
+                return Ok(count);
+            };
+            if let Err(event) = self.take_in(rt, event) {
+                self.held = Some(event);
+                return Err(StreamError::Memory);
+            }
+        }
+        Ok(limit)
+    }
+
+    // The held event, or the next one of the taker, beside a recorder.
+    fn next_beside<R: Wait>(
+        &mut self,
+        rt: &R,
+        taker: &mut Taker,
+        recorder: &mut Recorder,
+    ) -> Option<Event>
+        requires console { recorder.old.console ≡ taker.old.console }
+        requires recorders { recorder.old.recorders ≡ taker.old.recorders }
+        requires unfinished { taker.old.finished ≡ false }
+        ensures same { recorder.new ≡ recorder.old }
+        ensures some { IfSome result (λ event. Comes self.old taker.old event self.new taker.new) }
+        ensures agrees { IfSome result (λ event. Agrees event) }
+        ensures none { IfNone result ((self.new ≡ self.old) × (self.old.held ≡ None) × (taker.new ≡ taker.old) × TookAll recorder.old taker.new) }
+    {
+        if let Some(event) = self.held.take() {
+            return Some(event);
+        }
+        let event = taker.take_beside(rt, recorder)?;
+        Some(event)
     }
 
     // The totals of dropped events become the taker's.
@@ -373,7 +553,7 @@ impl Aggregator {
         handle: TaskInspector,
         reader: TimesInspector,
     ) -> Result<(), (TaskInfo, TaskInspector)>
-        requires agrees { handle.id ≡ info.id }
+        requires agrees { Agrees (events.Task info handle) }
         requires task { reader.id ≡ info.id }
         requires absent { task_with info.id self.old.tables.tasks ≡ None }
         requires reads { self.old.timing.reads ≡ true }
@@ -483,7 +663,8 @@ impl Aggregator {
         read_ops(rt, &mut self.tables, &mut self.told, &mut self.ops);
     }
 
-    fn refresh_times<R: Wait>(&mut self, rt: &R)
+    /// Reads each histogram once, where they are read. It takes no memory, and nothing else changes.
+    pub fn refresh_times<R: Wait>(&mut self, rt: &R)
         ensures { ReadsHistograms self.old self.new }
     {
         self.timing.refresh(rt);

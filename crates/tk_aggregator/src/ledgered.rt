@@ -1,23 +1,27 @@
 //! Items whose rows are read from their ledgers.
-ghost use Rattle.std.specs.Prelude.{◌≡◌, ◌≤◌, ◌<◌, ◌++◌, ◌∷◌, [], List, length, vec_capacity, None, OnOk, OnErr, IfErr};
+ghost use Rattle.std.specs.Prelude.{◌≡◌, ◌≤◌, ◌<◌, ◌++◌, ◌∷◌, [], List, length, slice_get, slice_set, vec_capacity, Some, None, OnOk, OnErr, IfErr};
 ghost use Rattle.tk_core.specs.declared.op.row.OpRow.{OpRow};
 ghost use Rattle.tk_core.specs.declared.resource.row.ResourceRow.{ResourceRow};
 ghost use Rattle.tk_core.specs.declared.task.row.TaskRow.{TaskRow};
 ghost use Rattle.tk_stream.specs.Fronts.{with_rows, task_at, resource_at, op_at, counts_at};
 ghost use Rattle.tk_aggregator.specs.Standing.{TellsSame, told_list};
+ghost use Rattle.tk_aggregator.specs.Beside.{ReadsBeside};
 ghost use Rattle.tk_aggregator.specs.Readings.{EachReads, ReadAll, Reads, task_ledger, resource_ledger, op_ledger};
 ghost use Rattle.tk_ledgers.specs.Ops.{OpSight};
 ghost use Rattle.tk_ledgers.specs.Resources.{ResourceSight};
 ghost use Rattle.tk_ledgers.specs.Tasks.{TaskSight};
 ghost use Rattle.tk_stream.specs.Polls as polls;
 ghost use Rattle.tk_stream.specs.Polls.{counted};
-ghost use Rattle.tk_stream.specs.Tables.{item_with, task_with, with_task, resource_with, with_resource, op_with, with_op};
+ghost use Rattle.tk_stream.specs.Tables.{changed_at, item_with, task_with, with_task, resource_with, with_resource, op_with, with_op};
 
 use std::alloc::AllocError;
 use std::sync::Wait;
 use tk_core::{OpRow, ResourceRow, TaskRow};
 use tk_ids::{OpInfo, ResourceId, ResourceInfo, TaskId, TaskInfo};
-use tk_ledgers::{OpInspector, ResourceInspector, TaskInspector, TimesInspector};
+use tk_ledgers::{
+    OpCallers, OpInspector, ResourceCallers, ResourceInspector, TaskCallers, TaskInspector,
+    TimesInspector,
+};
 use tk_stream::{Op, PollTimes, Resource, Table, Tables, Task, Told, ToldRows, ToldTables};
 
 /// An item that has a handle of its ledger.
@@ -77,6 +81,93 @@ impl Ledgered for (TaskId, PollTimes) {
     fn read<R: Wait>(handle: &mut TimesInspector, rt: &R) -> PollTimes {
         PollTimes::of(&handle.read(rt))
     }
+}
+
+/// An item whose handle reads beside the hand that holds its other callers.
+pub(crate) trait Handed: Ledgered {
+    type Hand: Drop;
+
+    // The handle is of the hand's ledger.
+    ghost of: { Self.Hand → Self.Handle → Type 0 };
+
+    // Hand and handle before a reading, the row that it read, and both after it.
+    ghost beside: { Self.Hand → Self.Handle → Self.Row → Self.Hand → Self.Handle → Type 0 };
+
+    fn read_beside<R: Wait>(hand: &mut Self::Hand, handle: &mut Self::Handle, rt: &R) -> Self::Row
+        requires { of hand.old handle.old }
+        ensures { beside hand.old handle.old result hand.new handle.new };
+}
+
+impl Handed for Task {
+    ghost use Rattle.std.specs.Prelude.{◌≡◌};
+    ghost use Rattle.tk_aggregator.specs.Beside.{ReadsBeside};
+    ghost use Rattle.tk_aggregator.specs.Readings.{task_ledger};
+
+    type Hand = TaskCallers;
+
+    ghost of = { λ hand handle. handle.token.ledger ≡ hand.token.ledger };
+
+    ghost beside = { ReadsBeside task_ledger };
+
+    fn read_beside<R: Wait>(hand: &mut TaskCallers, handle: &mut TaskInspector, rt: &R) -> TaskRow {
+        hand.read_beside(rt, handle)
+    }
+}
+
+impl Handed for Resource {
+    ghost use Rattle.std.specs.Prelude.{◌≡◌};
+    ghost use Rattle.tk_aggregator.specs.Beside.{ReadsBeside};
+    ghost use Rattle.tk_aggregator.specs.Readings.{resource_ledger};
+
+    type Hand = ResourceCallers;
+
+    ghost of = { λ hand handle. handle.token.ledger ≡ hand.token.ledger };
+
+    ghost beside = { ReadsBeside resource_ledger };
+
+    fn read_beside<R: Wait>(
+        hand: &mut ResourceCallers,
+        handle: &mut ResourceInspector,
+        rt: &R,
+    ) -> ResourceRow {
+        hand.read_beside(rt, handle)
+    }
+}
+
+impl Handed for Op {
+    ghost use Rattle.std.specs.Prelude.{◌≡◌};
+    ghost use Rattle.tk_aggregator.specs.Beside.{ReadsBeside};
+    ghost use Rattle.tk_aggregator.specs.Readings.{op_ledger};
+
+    type Hand = OpCallers;
+
+    ghost of = { λ hand handle. handle.token.ledger ≡ hand.token.ledger };
+
+    ghost beside = { ReadsBeside op_ledger };
+
+    fn read_beside<R: Wait>(hand: &mut OpCallers, handle: &mut OpInspector, rt: &R) -> OpRow {
+        hand.read_beside(rt, handle)
+    }
+}
+
+/// The handle at a place reads beside a hand, and the row of its item is what it read. A row that is the same is not written.
+pub(crate) fn read_at<T: Handed, R: Wait>(
+    rt: &R,
+    table: &mut Table<T>,
+    told: &mut ToldRows<T>,
+    handles: &mut Vec<T::Handle>,
+    place: usize,
+    hand: &mut T::Hand,
+)
+    requires place { place < length table.old }
+    requires handles { length handles.old.items ≡ length table.old }
+    requires of { (handle : T.Handle) → slice_get handles.old.items place ≡ Some handle → T.of hand.old handle }
+    ensures reads { (handle : T.Handle) × (read : T.Handle) × (row : T.Row) × (slice_get handles.old.items place ≡ Some handle) × T.beside hand.old handle row hand.new read
+        × (handles.new.items ≡ slice_set handles.old.items place read) × (table.new ≡ changed_at (λ item. T.with_row item row) table.old place) }
+    ensures told { TellsSame T.with_row table.old told.old table.new told.new }
+{
+    let row = T::read_beside(hand, &mut handles[place], rt);
+    told.set(table, place, &row);
 }
 
 /// Each handle reads once, and the row of its item is what it read. A row that is the same is not written.
@@ -325,4 +416,74 @@ pub(crate) fn put_poll(
             Ok(())
         }
     }
+}
+
+/// The handle of a task at a place reads beside its hand.
+pub(crate) fn read_task_at<R: Wait>(
+    rt: &R,
+    tables: &mut Tables,
+    told: &mut ToldTables,
+    handles: &mut Vec<TaskInspector>,
+    place: usize,
+    hand: &mut TaskCallers,
+)
+    requires place { place < length tables.old.tasks }
+    requires handles { length handles.old.items ≡ length tables.old.tasks }
+    requires of { (handle : TaskSight) → slice_get handles.old.items place ≡ Some handle → handle.token.ledger ≡ hand.old.token.ledger }
+    ensures reads { (handle : TaskSight) × (read : TaskSight) × (row : TaskRow) × (slice_get handles.old.items place ≡ Some handle) × ReadsBeside task_ledger hand.old handle row hand.new read
+        × (handles.new.items ≡ slice_set handles.old.items place read)
+        × (tables.new ≡ record tables.old { tasks = changed_at (λ item. task_at item row) tables.old.tasks place }) }
+    ensures alone { told.new ≡ record told.old { tasks = told.new.tasks } }
+    ensures told { TellsSame task_at tables.old.tasks told.old.tasks tables.new.tasks told.new.tasks }
+{
+    read_at(rt, &mut tables.tasks, &mut told.tasks, handles, place, hand);
+}
+
+/// The handle of a resource at a place reads beside its hand.
+pub(crate) fn read_resource_at<R: Wait>(
+    rt: &R,
+    tables: &mut Tables,
+    told: &mut ToldTables,
+    handles: &mut Vec<ResourceInspector>,
+    place: usize,
+    hand: &mut ResourceCallers,
+)
+    requires place { place < length tables.old.resources }
+    requires handles { length handles.old.items ≡ length tables.old.resources }
+    requires of { (handle : ResourceSight) → slice_get handles.old.items place ≡ Some handle → handle.token.ledger ≡ hand.old.token.ledger }
+    ensures reads { (handle : ResourceSight) × (read : ResourceSight) × (row : ResourceRow) × (slice_get handles.old.items place ≡ Some handle) × ReadsBeside resource_ledger hand.old handle row hand.new read
+        × (handles.new.items ≡ slice_set handles.old.items place read)
+        × (tables.new ≡ record tables.old { resources = changed_at (λ item. resource_at item row) tables.old.resources place }) }
+    ensures alone { told.new ≡ record told.old { resources = told.new.resources } }
+    ensures told { TellsSame resource_at tables.old.resources told.old.resources tables.new.resources told.new.resources }
+{
+    read_at(
+        rt,
+        &mut tables.resources,
+        &mut told.resources,
+        handles,
+        place,
+        hand,
+    );
+}
+
+/// The handle of an async operation at a place reads beside its hand.
+pub(crate) fn read_op_at<R: Wait>(
+    rt: &R,
+    tables: &mut Tables,
+    told: &mut ToldTables,
+    handles: &mut Vec<OpInspector>,
+    place: usize,
+    hand: &mut OpCallers,
+)
+    requires place { place < length tables.old.ops }
+    requires handles { length handles.old.items ≡ length tables.old.ops }
+    requires of { (handle : OpSight) → slice_get handles.old.items place ≡ Some handle → handle.token.ledger ≡ hand.old.token.ledger }
+    ensures reads { (handle : OpSight) × (read : OpSight) × (row : OpRow) × (slice_get handles.old.items place ≡ Some handle) × ReadsBeside op_ledger hand.old handle row hand.new read
+        × (handles.new.items ≡ slice_set handles.old.items place read)
+        × (tables.new ≡ record tables.old { ops = changed_at (λ item. op_at item row) tables.old.ops place }) }
+    ensures alone { told.new ≡ record told.old { ops = told.new.ops } }
+    ensures told { TellsSame op_at tables.old.ops told.old.ops tables.new.ops told.new.ops }
+{
+    read_at(rt, &mut tables.ops, &mut told.ops, handles, place, hand);
 }

@@ -1,5 +1,6 @@
 //! What an aggregator tells, what it refuses, when closed items leave, and what it does beside threads: a test for each, of checks named as sentences.
 
+mod beside;
 mod errors;
 mod given;
 mod items;
@@ -22,6 +23,7 @@ fn tells_what_was_recorded(rt: HostRuntime) {
     assert!(rt; tasks::tells_of_a_dropped_task(&rt, alloc));
     assert!(rt; tasks::tells_in_one_call(&rt, alloc));
     assert!(rt; items::tells_of_each_kind(&rt, alloc));
+    assert!(rt; beside::takes_in_beside_its_recorder(&rt, alloc));
 }
 
 #[test]

@@ -10,10 +10,14 @@ use Rattle.tk_ids.specs.declared.spec.OpSpec.{OpSpec}
 use Rattle.tk_ids.specs.declared.spec.ResourceSpec.{ResourceSpec}
 use Rattle.tk_ids.specs.declared.spec.TaskSpec.{TaskSpec}
 use Rattle.tk_ids.specs.Attributes.{kind_of, HaveKinds}
+use Rattle.tk_core.specs.declared.op.call.OpCall.TheVariants as op_calls
 use Rattle.tk_core.specs.declared.op.row.OpRow.{OpRow}
 use Rattle.tk_core.specs.declared.reply.Reply.{Reply}
 use Rattle.tk_core.specs.declared.reply.Reply.TheVariants.{Number}
+use Rattle.tk_core.specs.declared.resource.call.ResourceCall.TheVariants as resource_calls
 use Rattle.tk_core.specs.declared.resource.row.ResourceRow.{ResourceRow}
+use Rattle.tk_core.specs.declared.task.call.TaskCall.TheVariants as task_calls
+use Rattle.tk_core.specs.declared.task.row.TaskRow.{TaskRow}
 use Rattle.tk_core.specs.declared.times.call.TimesCall.TheVariants.{Enlist}
 use Rattle.tk_core.specs.Times.{opening_row}
 use Rattle.tk_cell.specs.declared.view.View.{View}
@@ -63,9 +67,10 @@ HasNewTimes times = (t : KnownTimes) × (times ≡ Some t) × (t.view ≡ owner_
 abbrev pub InspectsNewTimes : Option KnownTimes → Option KnownTimes → Type 0
 InspectsNewTimes owned times = (mine : KnownTimes) × (theirs : KnownTimes) × (owned ≡ Some mine) × (times ≡ Some theirs) × (theirs.ledger ≡ mine.ledger) × (theirs.view ≡ inspector_view Enlist opening_row)
 
--- info and ledger agree in the id, and in number and kinds of the attributes that the ledger began with
+-- info and ledger agree in the id, and in number and kinds of the attributes that the ledger began with; and the inspector has made no
+-- call: it was drawn by the first one of the owner
 abbrev pub Agrees : Event → Type 0
-Agrees (Task info inspector) = inspector.id ≡ info.id
-Agrees (Resource info inspector) = (inspector.id ≡ info.id) × ((row : ResourceRow) × (inspector.token.view.opening ≡ Some row) × HaveKinds info.attrs row.attrs)
-Agrees (Op info inspector) = (inspector.id ≡ info.id) × ((row : OpRow) × (inspector.token.view.opening ≡ Some row) × HaveKinds info.attrs row.attrs)
+Agrees (Task info inspector) = (inspector.id ≡ info.id) × ((row : TaskRow) × (inspector.token.view ≡ inspector_view task_calls.Enlist row))
+Agrees (Resource info inspector) = (inspector.id ≡ info.id) × ((row : ResourceRow) × (inspector.token.view ≡ inspector_view resource_calls.Enlist row) × HaveKinds info.attrs row.attrs)
+Agrees (Op info inspector) = (inspector.id ≡ info.id) × ((row : OpRow) × (inspector.token.view ≡ inspector_view op_calls.Enlist row) × HaveKinds info.attrs row.attrs)
 Agrees (Poll op) = ⊤

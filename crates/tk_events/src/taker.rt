@@ -147,6 +147,7 @@ impl Taker {
         ensures some { IfSome result (λ event. (recorder number : ℕ) × (self.new ≡ with_taken self.old (record { recorder = recorder; number = number; event = shown event }))) }
         ensures agrees { IfSome result (λ event. Agrees event) }
         ensures none { IfNone result (self.new ≡ self.old) }
+        ensures named { All (IsNamed self.new.recorders) self.new.taken }
         ensures front { (left : List Offer) × (by recorder.old.number (self.new.taken ++ left) ≡ recorder.old.kept) }
         ensures all_taken { IfNone result (by recorder.old.number self.old.taken ≡ recorder.old.kept) }
     {

@@ -21,3 +21,4 @@ pub mod CallersLemmas
 pub mod HandLemmas
 pub mod HeldLemmas
 pub mod ToldLemmas
+pub mod CalledLemmas

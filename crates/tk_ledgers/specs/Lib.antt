@@ -9,6 +9,7 @@ pub mod Scopes
 pub mod Times
 pub mod Beside
 pub mod Callers
+pub mod Called
 -- Inner: what an owner keeps of a histogram, and what is kept of the callers in one hand
 pub mod Timed
 pub mod Hands

@@ -10,6 +10,7 @@ ghost use Rattle.tk_core.specs.declared.op.call.OpCall.TheVariants as op_calls;
 ghost use Rattle.tk_core.specs.declared.resource.call.ResourceCall.TheVariants as resource_calls;
 ghost use Rattle.tk_core.specs.declared.task.call.TaskCall.TheVariants as task_calls;
 ghost use Rattle.tk_ledgers.specs.Beside.{ShowsTheirCalls};
+ghost use Rattle.tk_ledgers.specs.Called.{CallsAreCalled, ReadingsShowCalled, TasksTellCalled, ResourcesTellCalled, OpsTellCalled};
 ghost use Rattle.tk_ledgers.specs.Callers.{CallsKeepAll, HandingOutKeepsAll, TakingBackKeepsAll, BesideKeepsAll, CallsKeepOnly, CallsKeepLive, DrawnIsNew, HandingOutKeepsLive, HandlesStayLive, TakingBackKeepsLive};
 ghost use Rattle.tk_ledgers.specs.Handles.{DrawsAlone};
 ghost use Rattle.tk_ledgers.specs.Ops.{OpsTellPolls};
@@ -19,7 +20,7 @@ ghost use Rattle.tk_ledgers.specs.Tasks.{TaskEntries, TasksTellPolls};
 ghost use Rattle.tk_ledgers.specs.Times.{ShowsFirstPolls, ShowsFirstBefore, ShowsAllPolls};
 ghost use Rattle.tk_ledgers.specs.Wakers.{ClonesLessDropsAreLive, wakers};
 
-use tk_core::Sequential;
+use tk_core::{Reply, Sequential};
 
 /// In a legal history of a task each waker has a number of its own, and clones minus drops is the number of live wakers:
 /// of those that made no wake by value and no release.
@@ -66,6 +67,20 @@ pub fn a_hand_tells_of_its_polls()
     ensures tasks { TasksTellPolls }
     ensures resources { ResourcesTellCloses }
     ensures ops { OpsTellPolls }
+{}
+
+/// What a hand called, from the row that its ledger opened with: each call that is accepted is one more, and a reading beside the hand shows the
+/// row after just these calls, and leaves them.
+pub fn a_hand_shows_what_it_called<O: Sequential<Reply = Reply<O>>>(read: O::Call)
+    ensures calls { CallsAreCalled O.meaning }
+    ensures readings { ReadingsShowCalled O.meaning read }
+{}
+
+/// Whether a poll is open, and whether the item is closed, is told by what its hand called.
+pub fn what_a_hand_called_tells_of_its_polls()
+    ensures tasks { TasksTellCalled }
+    ensures resources { ResourcesTellCalled }
+    ensures ops { OpsTellCalled }
 {}
 
 /// An owner that holds its own number alone, as one that was just made, does so after it made wakers, users and inspectors.

@@ -1,21 +1,23 @@
--- Blocks: what stands behind their lines.
+-- Blocks: what stands after their lines.
 use Rattle.std.proofs.Common.{◌≡◌, ℕ, ◌⊎◌, Bool, true, false, List, [], ◌∷◌, ◌++◌, Option, Some, None, Result, Ok, Err, inl, inr, refl, sym, ap, ◌∙◌, subst, ◌≢◌, true≢false}
 use Rattle.std.proofs.KnownBytes.{Appends-nil}
-use Rattle.std.specs.Prelude.{codes, option_and_then, option_map, is_some, ◌&&◌, if◌then◌else◌, OnOk, IfErr}
-use Rattle.std.proofs.lemmas.Bool.{cases_eq}
+use Rattle.std.specs.Prelude.{codes, option_and_then, option_map, is_some, ◌&&◌, ◌||◌, ◌==◌, if◌then◌else◌, OnOk, IfErr}
+use Rattle.std.proofs.lemmas.Bool.{cases_eq, ne_eqb}
+use Rattle.std.proofs.lemmas.List.Folds.{list_any-append}
 use Rattle.std.specs.Option.{option_map_or}
 use Rattle.std.specs.Str.{bytes_eq}
 use Rattle.tk_ids.specs.Names.{is_name}
 use Rattle.tk_stream.specs.Streams.{Sending}
-use Rattle.tk_live.specs.Blocks.{Block, Wakers, no_lines, is_named, with_line, lines_of_worker, lines_of_other}
+use Rattle.tk_live.specs.Blocks.{Block, no_lines, is_named, spends, with_line, lines_of_worker, lines_of_other}
+use Rattle.tk_live.specs.Named.{live_item}
 use Rattle.tk_script.specs.Commands.{Said, Line, says, bad, skipped, joins, works, is_skipped, block_said, block_line, line_of, declares, resource_by, op_by, said_by}
 use Rattle.tk_script.specs.Commands as said
 use Rattle.tk_script.specs.Attributes.{attrs_by}
 use Rattle.tk_script.specs.Words.{moment}
 use Rattle.tk_live.specs.Course.{Course, start_of_all, step, step_on, joined, line_after}
-use Rattle.tk_live.specs.Runs.{StandsFor, Stays, Keeps, IsOpen, Came, BlockCame, LineCame, block_of}
+use Rattle.tk_live.specs.Runs.{StandsFor, IsOpen, Came, BlockCame, LineCame, block_of}
 use Rattle.tk_live.specs.Script.{Fronts}
-use Rattle.tk_live.specs.Stops.{Stops, line_stop, stop_inside, stop_outside, LineStops, LineLeaves, LineMayFail, MayFailWhere, MayFailInside, MayFailOutside, Closes, EndsIn, TakesMemory, work_stop}
+use Rattle.tk_live.specs.Stops.{Stops, line_stop, stop_inside, stop_outside, LineStops, LineMayFail, MayFailWhere, MayFailInside, MayFailOutside, Closes, EndsIn, TakesMemory, if_there, work_stop}
 use Rattle.tk_live.specs.Threads.{Apart}
 use Rattle.tk_script.specs.declared.block.BlockSaid.{BlockSaid}
 use Rattle.tk_script.specs.declared.block.BlockSaid.TheVariants as blocks
@@ -27,50 +29,66 @@ use Rattle.tk_live.specs.declared.interpreter.Interpreter.{Interpreter}
 use Rattle.tk_script.specs.declared.stop.Stop.{Stop}
 use Rattle.tk_script.specs.declared.stop.Stop.TheVariants.{BadCommand, Memory, WriteFault}
 use Rattle.tk_script.specs.declared.settings.Settings.{Settings}
-use Rattle.tk_live.proofs.Lines.{unsent, no_front}
-use Rattle.tk_live.proofs.Moving.{named_before}
-use Rattle.tk_live.proofs.Standing.{unmarked, rests}
-use Rattle.tk_live.proofs.Working.{goes_alone}
+use Rattle.tk_live.proofs.Lines.{unsent, unmarked, no_front}
+
+or-false : (b : Bool) → (b || false) ≡ b
+or-false true = refl
+or-false false = refl
+
+named_more : (w : ℕ) (ls : List WorkerLine) (l : WorkerLine) → is_named w (ls ++ l ∷ []) ≡ (is_named w ls || (l.waker == w))
+named_more w ls l = list_any-append (λ (k : WorkerLine). k.waker == w) ls (l ∷ []) ∙ ap (λ (b : Bool). is_named w ls || b) (or-false (l.waker == w))
+
+-- a line of another waker names none more
+named_before : (w : ℕ) (ls : List WorkerLine) (l : WorkerLine) → w ≢ l.waker → is_named w (ls ++ l ∷ []) ≡ is_named w ls
+named_before w ls l isnt = named_more w ls l ∙ (ap (λ (b : Bool). is_named w ls || b) (ne_eqb l.waker w (λ e. isnt (sym e))) ∙ or-false (is_named w ls))
+
+some_none : {X : Type 0} {x : X} → Some x ≡ None → ⊥
+some_none e = cc
+
+-- a line that goes on has a waker that no line of the other worker names
+goes_alone : (own others : List WorkerLine) (ws : List (Option ℕ)) (l : WorkerLine) → work_stop own others ws l ≡ None → is_named l.waker others ≡ false
+goes_alone own others ws l e = go (is_named l.waker others) e
+  where
+    go : (b : Bool) → (if b then Some BadCommand else if_there (if spends l.waker own then None else live_item l.waker ws) None) ≡ None → b ≡ false
+    go true h = absurd (some_none h)
+    go false h = refl
 
 -- a block that opens or closes changes nothing else
 pub with_block : (i : Interpreter) (settings : Settings) (c : Course) (kept : List Bool) (sent : List Sending) (b : Option Block) → StandsFor i settings c kept sent → StandsFor i settings (record c { block = b }) kept sent
 with_block i settings c kept sent b stands = record {
-  keeps = record { offered = stands.keeps.offered; takes = stands.keeps.takes; timed = stands.keeps.timed; are = stands.keeps.are };
+  came = stands.came;
+  rise = stands.rise;
+  offered = stands.offered;
+  takes = stands.takes;
+  taken = stands.taken;
+  has_told = stands.has_told;
+  timed = stands.timed;
   holds = stands.holds;
+  linked = stands.linked;
   capacity_said = stands.capacity_said;
   retention_said = stands.retention_said;
   times_said = stands.times_said;
   begun = stands.begun;
-  capacity_is = stands.capacity_is;
   times_is = stands.times_is;
-  least = stands.least;
-  moment = stands.moment;
-  numbers = stands.numbers;
-  going = stands.going;
 }
 
 pub opened : (i new : Interpreter) (settings : Settings) (c : Course) (kept : List Bool) (sent : List Sending) → StandsFor i settings c kept sent → new ≡ record i { begun = true }
     → StandsFor new settings (record c { begun = true; block = Some no_lines }) kept sent
 opened i new settings c kept sent stands is = subst (λ (n : Interpreter). StandsFor n settings (record c { begun = true; block = Some no_lines }) kept sent) (sym is) (record {
-  keeps = record { offered = stands.keeps.offered; takes = stands.keeps.takes; timed = stands.keeps.timed; are = stands.keeps.are };
-  holds = record {
-    tasks_are = stands.holds.tasks_are;
-    owners = stands.holds.owners;
-    wakers_are = stands.holds.wakers_are;
-    resources_are = stands.holds.resources_are;
-    users_are = stands.holds.users_are;
-    ops_are = stands.holds.ops_are;
-  };
+  came = stands.came;
+  rise = stands.rise;
+  offered = stands.offered;
+  takes = stands.takes;
+  taken = stands.taken;
+  has_told = stands.has_told;
+  timed = stands.timed;
+  holds = stands.holds;
+  linked = stands.linked;
   capacity_said = stands.capacity_said;
   retention_said = stands.retention_said;
   times_said = stands.times_said;
   begun = refl;
-  capacity_is = stands.capacity_is;
   times_is = stands.times_is;
-  least = stands.least;
-  moment = stands.moment;
-  numbers = stands.numbers;
-  going = stands.going;
 })
 
 -- no command opens or closes a block
@@ -78,6 +96,7 @@ pub step_block : (c : Course) (line : ℕ) (s : Said) → (step c line s).block 
 step_block c line (said.task at kind name) = refl
 step_block c line (said.start n m) = refl
 step_block c line (said.finish n m) = refl
+step_block c line (said.polls n count m run every) = refl
 step_block c line (said.close n m) = refl
 step_block c line (said.self_wake n m) = refl
 step_block c line (said.clone n) = refl
@@ -149,11 +168,6 @@ memory_is_no_write e = cc
 some_same : {X : Type 0} (a b : X) → Some a ≡ Some b → a ≡ b
 some_same a b e = cc
 
--- what an interpreter kept whose recorder, taker and aggregator are as they were
-stays_same : (i new : Interpreter) (settings : Settings) (c : Course) (kept : List Bool) (sent : List Sending) → (new.recorder ≡ i.recorder) × (new.taker ≡ i.taker) × (new.aggregator ≡ i.aggregator) → Stays i settings c kept sent → Stays new settings c kept sent
-stays_same i new settings c kept sent same keeps =
-    subst (λ r. Keeps r new.taker new.aggregator settings c kept sent) (sym same.0) (subst (λ t. Keeps i.recorder t new.aggregator settings c kept sent) (sym same.1) (subst (λ a. Keeps i.recorder i.taker a settings c kept sent) (sym same.2) keeps))
-
 -- one line more, of a waker that the other worker's lines don't name
 still_apart : (k : Worker) (l : WorkerLine) (b : Block) → Apart b.first b.second → is_named l.waker (lines_of_other k b) ≡ false → Apart (with_line k l b).first (with_line k l b).second
 still_apart One l b apart un n named = by_number (cases_eq n l.waker)
@@ -168,11 +182,11 @@ still_apart Two l b apart un n named = by_number (cases_eq n l.waker)
     by_number (inr isnt) = named_before n b.second l isnt ∙ apart n named
 
 -- a line that says a command, where no block is open
-pub said_came : (answers : ℕ → Bool → Type 0) (n : ℕ) (settings : Settings) (c : Course) (kept : List Bool) (sent : List Sending) (s : Said) (new : Interpreter) (block : Option OpenBlock) (result : Result (Unit {0}) Stop) (before behind : Option (List ℕ))
-    → c.block ≡ None → IsOpen block c → Came step_on settings c kept sent n s new result before behind → LineCame answers settings c kept sent n (says s) new block result before behind
-said_came answers n settings c kept sent s new block (Ok done) before behind none was h =
+pub said_came : (answers : ℕ → Bool → Type 0) (n : ℕ) (settings : Settings) (c : Course) (kept : List Bool) (sent : List Sending) (s : Said) (new : Interpreter) (block : Option OpenBlock) (result : Result (Unit {0}) Stop) (before after : Option (List ℕ))
+    → c.block ≡ None → IsOpen block c → Came step_on settings c kept sent n s new result before after → LineCame answers settings c kept sent n (says s) new block result before after
+said_came answers n settings c kept sent s new block (Ok done) before after none was h =
     (outside c (says s) none ∙ h.0, h.1, h.2, h.3, open_same block c (step_on c n s) was (step_block c n s), h.4)
-said_came answers n settings c kept sent s new block (Err stop) before behind none was h = (by_cause h.0, h.1, h.2, h.3, h.4)
+said_came answers n settings c kept sent s new block (Err stop) before after none was h = (by_cause h.0, h.1, h.2, h.3)
   where
     by_cause : Stops c s stop → LineStops answers c (says s) stop
     by_cause (inl e) = inl (outside c (says s) none ∙ e)
@@ -184,18 +198,13 @@ quiet sent blocks.Opens stop = refl
 quiet sent blocks.Joins stop = refl
 quiet sent (blocks.Works k l) stop = refl
 
-leaves : (c : Course) (n : ℕ) (said : BlockSaid) → LineLeaves c (n, block_line said) c
-leaves c n blocks.Opens = refl
-leaves c n blocks.Joins = refl
-leaves c n (blocks.Works k l) = refl
-
 pub block_came : (answers : ℕ → Bool → Type 0) (n : ℕ) (settings : Settings) (c : Course) (kept : List Bool) (sent : List Sending) (said : BlockSaid) (new : Interpreter) (block : Option OpenBlock) (result : Result (Unit {0}) Stop) (bytes : Option (List ℕ))
     → BlockCame answers settings c kept sent n (block_line said) new block result → LineCame answers settings c kept sent n (block_line said) new block result bytes bytes
 block_came answers n settings c kept sent said new block (Ok done) bytes h =
     let k = line_after c (n, block_line said) in
     (h.0, [], [], unsent new settings k (kept ++ []) sent (unmarked new settings k kept sent h.1), h.2, Appends-nil bytes)
 block_came answers n settings c kept sent said new block (Err stop) bytes h =
-    (h.0, record { left = c; is_left = leaves c n said; kept = kept; keeps = h.1 }, [], quiet sent said stop, Appends-nil bytes)
+    (h, [], quiet sent said stop, Appends-nil bytes)
 
 -- a line that is skipped
 pub skipped_came : (answers : ℕ → Bool → Type 0) (n : ℕ) (settings : Settings) (c : Course) (kept : List Bool) (sent : List Sending) (i : Interpreter) (block : Option OpenBlock) (bytes : Option (List ℕ)) → StandsFor i settings c kept sent → IsOpen block c
@@ -209,9 +218,8 @@ skipped_came answers n settings c kept sent i block bytes stands was = (goes c.b
 -- a line that says a command or none, where a block is open
 pub refused : (answers : ℕ → Bool → Type 0) (n : ℕ) (settings : Settings) (c : Course) (kept : List Bool) (sent : List Sending) (i : Interpreter) (block : Option OpenBlock) (bytes : Option (List ℕ)) (b : Block) (o : Option Said)
     → c.block ≡ Some b → StandsFor i settings c kept sent → LineCame answers settings c kept sent n (option_map_or says o bad) i block (Err BadCommand) bytes bytes
-refused answers n settings c kept sent i block bytes b None e stands = (inl (inside c bad b e), record { left = c; is_left = refl; kept = kept; keeps = stands.keeps }, [], refl, Appends-nil bytes)
-refused answers n settings c kept sent i block bytes b (Some s) e stands =
-    (inl (inside c (says s) b e), rests i settings c n s kept sent stands.keeps, [], no_front sent s BadCommand (λ w. bad_is_no_write w), Appends-nil bytes)
+refused answers n settings c kept sent i block bytes b None e stands = (inl (inside c bad b e), [], refl, Appends-nil bytes)
+refused answers n settings c kept sent i block bytes b (Some s) e stands = (inl (inside c (says s) b e), [], no_front sent s BadCommand (λ w. bad_is_no_write w), Appends-nil bytes)
 
 -- what a declaring line says takes memory
 module _ where
@@ -253,14 +261,13 @@ module _ where
 -- a line that memory is lacking for, before it is known what it says
 pub lacked : (answers : ℕ → Bool → Type 0) (n : ℕ) (settings : Settings) (c : Course) (kept : List Bool) (sent : List Sending) (i : Interpreter) (block : Option OpenBlock) (bytes : Option (List ℕ)) (o : Option Said) → ((s : Said) → o ≡ Some s → TakesMemory s)
     → c.block ≡ None → StandsFor i settings c kept sent → LineCame answers settings c kept sent n (option_map_or says o bad) i block (Err Memory) bytes bytes
-lacked answers n settings c kept sent i block bytes None takes e stands = (inr (fails_outside c bad answers Memory e tt), record { left = c; is_left = refl; kept = kept; keeps = stands.keeps }, [], refl, Appends-nil bytes)
-lacked answers n settings c kept sent i block bytes (Some s) takes e stands =
-    (inr (fails_outside c (says s) answers Memory e (takes s refl)), rests i settings c n s kept sent stands.keeps, [], no_front sent s Memory (λ w. memory_is_no_write w), Appends-nil bytes)
+lacked answers n settings c kept sent i block bytes None takes e stands = (inr (fails_outside c bad answers Memory e tt), [], refl, Appends-nil bytes)
+lacked answers n settings c kept sent i block bytes (Some s) takes e stands = (inr (fails_outside c (says s) answers Memory e (takes s refl)), [], no_front sent s Memory (λ w. memory_is_no_write w), Appends-nil bytes)
 
 -- a line that says no command
 pub bad_came : (answers : ℕ → Bool → Type 0) (n : ℕ) (settings : Settings) (c : Course) (kept : List Bool) (sent : List Sending) (i : Interpreter) (block : Option OpenBlock) (bytes : Option (List ℕ)) → c.block ≡ None → StandsFor i settings c kept sent
     → LineCame answers settings c kept sent n bad i block (Err BadCommand) bytes bytes
-bad_came answers n settings c kept sent i block bytes e stands = (inl (outside c bad e), record { left = c; is_left = refl; kept = kept; keeps = stands.keeps }, [], refl, Appends-nil bytes)
+bad_came answers n settings c kept sent i block bytes e stands = (inl (outside c bad e), [], refl, Appends-nil bytes)
 
 -- what a line is that isn't skipped
 pub line_is_block : (text : List ℕ) (l : Line) → is_skipped text ≡ false → block_said text ≡ Some l → line_of text ≡ l
@@ -279,36 +286,33 @@ open_new b c new = record { is = ap (λ k. Some k) new; apart = λ k e n named. 
 -- its threads are joined, or they aren't
 pub join_came : (answers : ℕ → Bool → Type 0) (n : ℕ) (settings : Settings) (c : Course) (kept : List Bool) (sent : List Sending) (i new : Interpreter) (b : Block) (result : Result (Unit {0}) Stop) → c.block ≡ Some b → Apart b.first b.second → StandsFor i settings c kept sent
     → OnOk result ((settings : Settings) (c : Course) (kept : List Bool) (sent : List Sending) → Apart b.first b.second → StandsFor i settings c kept sent → StandsFor new settings (joined c b) kept sent)
-    → (new.recorder ≡ i.recorder) × (new.taker ≡ i.taker) × (new.aggregator ≡ i.aggregator) → IfErr result (EndsIn (Closes answers b)) → BlockCame answers settings c kept sent n joins new None result
-join_came answers n settings c kept sent i new b (Ok done) is apart stands ran same ends =
+    → IfErr result (EndsIn (Closes answers b)) → BlockCame answers settings c kept sent n joins new None result
+join_came answers n settings c kept sent i new b (Ok done) is apart stands ran ends =
     let closed : line_after c (n, joins) ≡ joined c b = ap (λ o. option_map_or (joined c) o c) is in (
       inside c joins b is,
       subst (λ (k : Course). StandsFor new settings k kept sent) (sym closed) (ran settings c kept sent apart stands),
       subst (λ (k : Course). IsOpen None k) (sym closed) (record { is = refl; apart = λ k e. absurd (none_some e) }),
     )
-join_came answers n settings c kept sent i new b (Err stop) is apart stands ran same ends = (
-  inr (fails_inside c joins answers stop b is ends),
-  stays_same i new settings c kept sent same stands.keeps,
-)
+join_came answers n settings c kept sent i new b (Err stop) is apart stands ran ends = inr (fails_inside c joins answers stop b is ends)
 
 -- a worker's line goes on, or it doesn't
-pub work_came : (answers : ℕ → Bool → Type 0) (n : ℕ) (settings : Settings) (c : Course) (kept : List Bool) (sent : List Sending) (i : Interpreter) (old new : OpenBlock) (k : Worker) (l : WorkerLine) (ws : Wakers) (result : Result (Unit {0}) Stop)
-    → c.block ≡ Some (block_of old) → Apart old.first old.second → StandsFor i settings c kept sent → ws ≡ c.names.wakers
+pub work_came : (answers : ℕ → Bool → Type 0) (n : ℕ) (settings : Settings) (c : Course) (kept : List Bool) (sent : List Sending) (i : Interpreter) (old new : OpenBlock) (k : Worker) (l : WorkerLine) (ws : List (Option ℕ)) (result : Result (Unit {0}) Stop)
+    → c.block ≡ Some (block_of old) → Apart old.first old.second → StandsFor i settings c kept sent → ws ≡ c.pasts.wakers
     → OnOk result (work_stop (lines_of_worker k (block_of old)) (lines_of_other k (block_of old)) ws l ≡ None)
     → OnOk result (block_of new ≡ with_line k l (block_of old))
     → IfErr result (λ stop. (work_stop (lines_of_worker k (block_of old)) (lines_of_other k (block_of old)) ws l ≡ Some stop) ⊎ (stop ≡ Memory)) → BlockCame answers settings c kept sent n (works k l) i (Some new) result
 work_came answers n settings c kept sent i old new k l ws (Ok done) is apart stands are goes more fails =
     let b = block_of old in
-    let line : work_stop (lines_of_worker k b) (lines_of_other k b) c.names.wakers l ≡ None = ap (λ vs. work_stop (lines_of_worker k b) (lines_of_other k b) vs l) (sym are) ∙ goes in
-    let behind : option_map (with_line k l) c.block ≡ Some (with_line k l b) = ap (option_map (with_line k l)) is in (
+    let line : work_stop (lines_of_worker k b) (lines_of_other k b) c.pasts.wakers l ≡ None = ap (λ vs. work_stop (lines_of_worker k b) (lines_of_other k b) vs l) (sym are) ∙ goes in
+    let after : option_map (with_line k l) c.block ≡ Some (with_line k l b) = ap (option_map (with_line k l)) is in (
       inside c (works k l) b is ∙ line,
       with_block i settings c kept sent (option_map (with_line k l) c.block) stands,
       record {
-        is = ap (λ m. Some m) more ∙ sym behind;
-        apart = λ m e. subst (λ (m : Block). Apart m.first m.second) (some_same (with_line k l b) m (sym behind ∙ e)) (still_apart k l b apart (goes_alone (lines_of_worker k b) (lines_of_other k b) ws l goes));
+        is = ap (λ m. Some m) more ∙ sym after;
+        apart = λ m e. subst (λ (m : Block). Apart m.first m.second) (some_same (with_line k l b) m (sym after ∙ e)) (still_apart k l b apart (goes_alone (lines_of_worker k b) (lines_of_other k b) ws l goes));
       },
     )
-work_came answers n settings c kept sent i old new k l ws (Err stop) is apart stands are goes more fails = (by_cause fails, stands.keeps)
+work_came answers n settings c kept sent i old new k l ws (Err stop) is apart stands are goes more fails = by_cause fails
   where
     by_cause : (work_stop (lines_of_worker k (block_of old)) (lines_of_other k (block_of old)) ws l ≡ Some stop) ⊎ (stop ≡ Memory) → LineStops answers c (works k l) stop
     by_cause (inl e) = let b = block_of old in inl (inside c (works k l) b is ∙ (ap (λ vs. work_stop (lines_of_worker k b) (lines_of_other k b) vs l) (sym are) ∙ e))

@@ -3,76 +3,57 @@ use Rattle.std.proofs.Common.{◌≡◌, ℕ, Bool, true, false, cond, List, [],
 use Rattle.std.specs.Prelude.{map, filter, not, IsSome, if◌then◌else◌}
 use Rattle.std.specs.List.{AllByRecursion}
 use Rattle.std.proofs.lemmas.List.{map-append}
-use Rattle.tk_events.specs.Handles.{Recording, Taking, next_offer, with_kept, with_refused}
+use Rattle.tk_events.specs.Handles.{Taking}
 use Rattle.tk_events.specs.Offers.{shown, times_ledger as histogram_of}
 use Rattle.tk_events.specs.declared.event.Event.{Event}
 use Rattle.tk_events.specs.declared.event.Event.TheVariants as events
 use Rattle.tk_events.specs.declared.event.Shown.{Shown}
 use Rattle.tk_events.specs.declared.item.Offer.{Offer}
-use Rattle.tk_events.specs.declared.recorder.Recorded.{Recorded}
-use Rattle.tk_events.specs.declared.recorder.Recorded.TheVariants.{Kept, DroppedFull}
-use Rattle.tk_ids.specs.declared.info.TaskInfo.{TaskInfo}
+use Rattle.tk_core.specs.declared.times.row.TimesRow.{TimesRow}
 use Rattle.tk_ledgers.specs.Handles.{KnownTimes}
-use Rattle.tk_stream.specs.Applied.{BeginWith, times_kind}
+use Rattle.tk_ledgers.specs.Times.{TimesSight}
 use Rattle.tk_stream.specs.Fronts.{with_rows}
 use Rattle.tk_stream.specs.Lines.{is_told, told_times}
 use Rattle.tk_stream.specs.Retention.{stats_without}
 use Rattle.tk_stream.specs.Streams.{Sending}
 use Rattle.tk_stream.specs.Tables.{is_among, staying, task_id, task_with, resource_with, op_with}
 use Rattle.tk_stream.specs.Times.{TaskTimes, times_id, times_shown, times_with, same_times}
-use Rattle.tk_stream.specs.declared.task.Task.{Task}
-use Rattle.tk_stream.specs.declared.times.PollTimes.{PollTimes}
 use Rattle.tk_stream.proofs.LinesLemmas.{map-same}
-use Rattle.tk_aggregator.specs.Absorbing.{Infos, infos_of}
 use Rattle.tk_aggregator.specs.Aggregates.{Aggregating, Gathers, TakesIn, TakesAllIn, TakesTimes, IsSound, Pairs, after_line, free, held_events, leaving_at, sending_at}
-use Rattle.tk_aggregator.specs.Timing.{TimingView, ReadTimes, ReadsTimes}
+use Rattle.tk_aggregator.specs.Readings.{ReadAll}
+use Rattle.tk_aggregator.specs.Timing.{TimingView, ReadTimes, ReadsTimes, times_ledger}
 use Rattle.tk_aggregator.proofs.FollowLemmas.{TakesWhere, by_case}
 use Rattle.tk_aggregator.proofs.LeaveLemmas.{left_is}
 use Rattle.tk_aggregator.proofs.SendLemmas.{leads_on}
 use Rattle.tk_live.specs.Ran.{AreTimesOf, TellsTimes}
-use Rattle.tk_live.specs.Runs.{HasTimes, HaveTimes, ShowsTimes}
+use Rattle.tk_live.specs.Runs.{HasTimes, HaveTimes}
 
 -- ---- of all of two lists
 
 module _ {X : Type 0} (P : X → Type 0) where
-  all_both : (xs ys : List X) → AllByRecursion P xs → AllByRecursion P ys → AllByRecursion P (xs ++ ys)
-  all_both [] ys a b = b
-  all_both (x ∷ xs) ys a b = (a.0, all_both xs ys a.1 b)
-
-  all_first : (xs ys : List X) → AllByRecursion P (xs ++ ys) → AllByRecursion P xs
+  pub all_first : (xs ys : List X) → AllByRecursion P (xs ++ ys) → AllByRecursion P xs
   all_first [] ys a = tt
   all_first (x ∷ xs) ys a = (a.0, all_first xs ys a.1)
 
-  all_last : (xs ys : List X) → AllByRecursion P (xs ++ ys) → AllByRecursion P ys
+  pub all_last : (xs ys : List X) → AllByRecursion P (xs ++ ys) → AllByRecursion P ys
   all_last [] ys a = a
   all_last (x ∷ xs) ys a = all_last xs ys a.1
 
 module _ {X Y : Type 0} (f : X → Y) (P : Y → Type 0) where
-  all_mapped : (xs : List X) → AllByRecursion (λ x. P (f x)) xs → AllByRecursion P (map f xs)
+  pub all_mapped : (xs : List X) → AllByRecursion (λ x. P (f x)) xs → AllByRecursion P (map f xs)
   all_mapped [] a = tt
   all_mapped (x ∷ xs) a = (a.0, all_mapped xs a.1)
 
-  mapped_all : (xs : List X) → AllByRecursion P (map f xs) → AllByRecursion (λ x. P (f x)) xs
+  pub mapped_all : (xs : List X) → AllByRecursion P (map f xs) → AllByRecursion (λ x. P (f x)) xs
   mapped_all [] a = tt
   mapped_all (x ∷ xs) a = (a.0, mapped_all xs a.1)
 
 -- ---- offers
 
--- what was taken first has histograms where all of it has
-pub first_have : (os more : List Offer) → HaveTimes (os ++ more) → HaveTimes os
-first_have os more all = all_first (λ (o : Offer). HasTimes o.event) os more all
-
 -- events have what their offers have
 of_offers : (os : List Offer) (es : List Event) → map (λ (o : Offer). o.event) os ≡ map shown es → HaveTimes os → AllByRecursion (λ e. HasTimes (shown e)) es
 of_offers os es same all =
     mapped_all shown HasTimes es (subst (λ (l : List Shown). AllByRecursion HasTimes l) same (all_mapped (λ (o : Offer). o.event) HasTimes os all))
-
--- one more offer, whatever became of it
-pub offers_more : (r new : Recording) (event : Shown) (became : Recorded) → HasTimes event → (became ≡ Kept → new ≡ with_kept r (next_offer r event)) → (became ≡ DroppedFull → new ≡ with_refused r (next_offer r event))
-    → HaveTimes r.kept → HaveTimes new.kept
-offers_more r new event Kept has keeps drops all =
-    subst (λ (x : Recording). HaveTimes x.kept) (sym (keeps refl)) (all_both (λ (o : Offer). HasTimes o.event) r.kept (next_offer r event ∷ []) all (has, tt))
-offers_more r new event DroppedFull has keeps drops all = subst (λ (x : Recording). HaveTimes x.kept) (sym (drops refl)) all
 
 -- ---- events that are taken in
 
@@ -125,43 +106,31 @@ takes_all : (old : Aggregating) (es : List Event) (new : Aggregating) → TakesA
 takes_all old [] new all have is = subst IsTimed (sym all) is
 takes_all old (e ∷ es) new all have is = takes_all all.0 es new all.2 have.1 (takes_one old e all.0 all.1 have.0 is)
 
--- whatever was taken, each task that is shown has a histogram where each that was taken has
-pub gathered_times : (a b : Aggregating) (t u : Taking) (taken : List Event) → Gathers a t taken b u → a.timing.reads ≡ true → (HaveTimes t.taken → ShowsTimes a) → HaveTimes u.taken → ShowsTimes b
-gathered_times a b t u taken g reads shows all =
+-- whatever was taken in by one that held no event, each task that is shown has a histogram where each that was taken has
+pub gathered_times : (a b : Aggregating) (t u : Taking) (taken : List Event) → Gathers a t taken b u → a.held ≡ None → a.timing.reads ≡ true → map times_id a.timing.shown ≡ map task_id a.tables.tasks → HaveTimes u.taken
+    → map times_id b.timing.shown ≡ map task_id b.tables.tasks
+gathered_times a b t u taken g none reads each all =
     let both : HaveTimes (t.taken ++ g.offers) = subst (λ (x : Taking). HaveTimes x.taken) g.taker all in
-    let before : ShowsTimes a = shows (first_have t.taken g.offers both) in
     let came = of_offers g.offers g.came g.are_offered (all_last (λ (o : Offer). HasTimes o.event) t.taken g.offers both) in
     let Has : Event → Type 0 = λ e. HasTimes (shown e) in
-    let have : AllByRecursion Has (taken ++ held_events b.held) = subst (λ (l : List Event). AllByRecursion Has l) g.in_order (all_both Has (held_events a.held) g.came before.held came) in
-    record {
-      one_each = (takes_all (free a) taken (free b) g.taken_in (all_first Has taken (held_events b.held) have) (reads, before.one_each)).1;
-      held = all_last Has taken (held_events b.held) have;
-    }
+    let in_order : g.came ≡ taken ++ held_events b.held = ap (λ h. held_events h ++ g.came) (sym none) ∙ g.in_order in
+    let have : AllByRecursion Has (taken ++ held_events b.held) = subst (λ (l : List Event). AllByRecursion Has l) in_order came in
+    (takes_all (free a) taken (free b) g.taken_in (all_first Has taken (held_events b.held) have) (reads, each)).1
 
 -- ---- readings
 
-rows_ids : (xs : List TaskTimes) (rows : List PollTimes) → BeginWith times_kind xs (with_rows times_with xs rows) → map times_id (with_rows times_with xs rows) ≡ map times_id xs
-rows_ids [] [] begin = refl
-rows_ids [] (r ∷ rows) begin = refl
-rows_ids (x ∷ xs) [] begin = absurd begin
-rows_ids (x ∷ xs) (r ∷ rows) begin = ap (λ ids. x.0 ∷ ids) (rows_ids xs rows begin.1)
-
-task_ids : (tasks : List Task) → map (λ (i : TaskInfo). i.id) (map (λ (t : Task). t.info) tasks) ≡ map task_id tasks
-task_ids [] = refl
-task_ids (t ∷ tasks) = ap (λ ids. t.info.id ∷ ids) (task_ids tasks)
+rows_ids : (xs : List TaskTimes) (ss : List TimesSight) (rows : List TimesRow) (ts : List TimesSight) → Pairs ReadTimes xs ss → ReadAll times_ledger ss rows ts → map times_id (with_rows times_with xs (map times_shown rows)) ≡ map times_id xs
+rows_ids [] ss [] ts pairs all = refl
+rows_ids [] ss (r ∷ rows) ts pairs all = refl
+rows_ids (x ∷ xs) [] rows ts pairs all = absurd pairs
+rows_ids (x ∷ xs) (s ∷ ss) [] [] pairs all = absurd all
+rows_ids (x ∷ xs) (s ∷ ss) [] (t ∷ ts) pairs all = absurd all
+rows_ids (x ∷ xs) (s ∷ ss) (r ∷ rows) [] pairs all = absurd all
+rows_ids (x ∷ xs) (s ∷ ss) (r ∷ rows) (t ∷ ts) pairs all = ap (λ ids. x.0 ∷ ids) (rows_ids xs ss rows ts pairs.1 all.1)
 
 -- reading keeps tasks and histograms
-pub refreshed_times : (a b : Aggregating) → ReadsTimes a.timing b.timing → BeginWith times_kind a.timing.shown b.timing.shown → infos_of b.tables ≡ infos_of a.tables → b.held ≡ a.held → ShowsTimes a → ShowsTimes b
-refreshed_times a b reads begin infos held shows =
-    let rows = map times_shown reads.0 in
-    let are : b.timing.shown ≡ with_rows times_with a.timing.shown rows = ap (λ (t : TimingView). t.shown) reads.2 in
-    record {
-      one_each =
-          ap (map times_id) are ∙ rows_ids a.timing.shown rows (subst (λ (xs : List TaskTimes). BeginWith times_kind a.timing.shown xs) are begin)
-          ∙ shows.one_each
-          ∙ sym (task_ids a.tables.tasks) ∙ ap (λ (i : Infos). map (λ (t : TaskInfo). t.id) i.tasks) (sym infos) ∙ task_ids b.tables.tasks;
-      held = subst (λ h. AllByRecursion (λ e. HasTimes (shown e)) (held_events h)) (sym held) shows.held;
-    }
+pub read_times : (a b : Aggregating) → ReadsTimes a.timing b.timing → Pairs ReadTimes a.timing.shown a.timing.readers → map times_id b.timing.shown ≡ map times_id a.timing.shown
+read_times a b reads pairs = ap (λ (t : TimingView). map times_id t.shown) reads.2 ∙ rows_ids a.timing.shown a.timing.readers reads.0 b.timing.readers pairs reads.1
 
 -- ---- a line
 
@@ -198,17 +167,11 @@ stay_shown : (whole : Bool) (a : Aggregating) (now : ℕ) → staying times_id (
 stay_shown whole a now = ap (λ (x : Aggregating). x.timing.shown) (left_is whole a now)
 
 -- one of each task that stays
-line_one_each : (whole : Bool) (a : Aggregating) (now : ℕ) → map times_id a.timing.shown ≡ map task_id a.tables.tasks → map times_id (after_line whole a now).timing.shown ≡ map task_id (after_line whole a now).tables.tasks
+pub line_one_each : (whole : Bool) (a : Aggregating) (now : ℕ) → map times_id a.timing.shown ≡ map task_id a.tables.tasks → map times_id (after_line whole a now).timing.shown ≡ map task_id (after_line whole a now).tables.tasks
 line_one_each whole a now each =
     let gone = (leaving_at whole a now).tasks in
     sym (ap (map times_id) (stay_shown whole a now)) ∙ stay_ids times_id gone a.timing.shown ∙ ap (filter (λ id. not (is_among gone id))) each ∙ sym (stay_ids task_id gone a.tables.tasks)
     ∙ ap (λ (x : Aggregating). map task_id x.tables.tasks) (left_is whole a now)
-
-pub line_times : (whole : Bool) (a : Aggregating) (now : ℕ) → (after_line whole a now).held ≡ a.held → ShowsTimes a → ShowsTimes (after_line whole a now)
-line_times whole a now held shows = record {
-  one_each = line_one_each whole a now shows.one_each;
-  held = subst (λ h. AllByRecursion (λ e. HasTimes (shown e)) (held_events h)) (sym held) shows.held;
-}
 
 -- the line tells the histograms of its tasks, where these are read
 module _ (whole : Bool) (a : Aggregating) (now : ℕ) (sound : IsSound a) (later : IsSound (after_line whole a now)) where

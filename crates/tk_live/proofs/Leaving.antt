@@ -1,5 +1,5 @@
 -- What a line tells behind another, and what leaves with it.
-use Rattle.std.proofs.Common.{◌≡◌, ℕ, Bool, true, false, List, [], ◌∷◌, ◌++◌, Option, Some, None, refl, sym, ap}
+use Rattle.std.proofs.Common.{◌≡◌, ℕ, Bool, true, false, List, [], ◌∷◌, ◌++◌, Option, Some, None, refl, sym, ap, ◌∙◌, arith}
 use Rattle.std.specs.Prelude.{map, is_some}
 use Rattle.tk_events.specs.declared.event.Shown.{Shown}
 use Rattle.tk_ids.specs.declared.info.OpInfo.{OpInfo}
@@ -17,7 +17,8 @@ use Rattle.tk_aggregator.specs.Aggregates.{Aggregating, IsSound, pruned, tables_
 use Rattle.tk_aggregator.specs.Told.{Told, tells}
 use Rattle.tk_aggregator.proofs.FollowLemmas.{infos_left}
 use Rattle.tk_live.specs.Course.{Due}
-use Rattle.tk_live.specs.Ran.{infos_with, leaving, times_behind, IsLineOf, EachIsLine}
+use Rattle.tk_live.specs.Ran.{infos_with, leaving, times_behind, kept_between, IsLineOf, AreLinesOf}
+use Rattle.tk_live.specs.Runs.{RiseTo, recorded_by}
 use Rattle.tk_script.specs.declared.settings.Settings.{Settings}
 
 -- events add to infos and counts what they tell
@@ -64,11 +65,17 @@ just_due false a now sound removes = by a.retention removes
 
 -- ---- one line more
 
-pub each_line_push : (settings : Settings) (t : TablesView) (had : List TaskTimes) (news : List (List Told)) (due : List Due) (sent : List Sending) (since : List Told) (d : Due) (s : Sending) → EachIsLine settings t had news due sent
-    → IsLineOf settings (tables_sent t sent) (times_sent had t sent) since d s → EachIsLine settings t had (news ++ since ∷ []) (due ++ d ∷ []) (sent ++ s ∷ [])
-each_line_push settings t had [] [] [] since d s each line = (line, tt)
-each_line_push settings t had [] [] (y ∷ ys) since d s each line = absurd each
-each_line_push settings t had [] (e ∷ es) ys since d s each line = absurd each
-each_line_push settings t had (n ∷ ns) [] ys since d s each line = absurd each
-each_line_push settings t had (n ∷ ns) (e ∷ es) [] since d s each line = absurd each
-each_line_push settings t had (n ∷ ns) (e ∷ es) (y ∷ ys) since d s each line = (each.0, each_line_push settings y.tables (times_behind had t y) ns es ys since d s each.1 line)
+pub lines_push : (settings : Settings) (kept : List Bool) (told : List Told) (t : TablesView) (had : List TaskTimes) (from : ℕ) (due : List Due) (sent : List Sending) (d : Due) (s : Sending) → AreLinesOf settings kept told t had from due sent
+    → IsLineOf settings (tables_sent t sent) (times_sent had t sent) (kept_between kept told (recorded_by from due) d.recorded) d s → AreLinesOf settings kept told t had from (due ++ d ∷ []) (sent ++ s ∷ [])
+lines_push settings kept told t had from [] [] d s each line = (line, tt)
+lines_push settings kept told t had from [] (y ∷ ys) d s each line = absurd each
+lines_push settings kept told t had from (e ∷ es) [] d s each line = absurd each
+lines_push settings kept told t had from (e ∷ es) (y ∷ ys) d s each line = (each.0, lines_push settings kept told y.tables (times_behind had t y) e.recorded es ys d s each.1 line)
+
+pub recorded_push : (from : ℕ) (due : List Due) (d : Due) → recorded_by from (due ++ d ∷ []) ≡ d.recorded
+recorded_push from [] d = refl
+recorded_push from (e ∷ es) d = recorded_push e.recorded es d
+
+pub rise_push : (all from : ℕ) (due : List Due) (d : Due) → d.recorded ≡ all → RiseTo all from due → RiseTo all from (due ++ d ∷ [])
+rise_push all from [] d is rise = ((rise.0, rise.1 ∙ sym is), (0, omega (arith, is)))
+rise_push all from (e ∷ es) d is rise = (rise.0, rise_push all e.recorded es d is rise.1)

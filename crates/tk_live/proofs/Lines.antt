@@ -23,39 +23,37 @@ use Rattle.tk_script.specs.declared.settings.Settings.{Settings}
 pub unsent : (i : Interpreter) (settings : Settings) (k : Course) (kept : List Bool) (sent : List Sending) → StandsFor i settings k kept sent → StandsFor i settings k kept (sent ++ [])
 unsent i settings k kept sent stands = subst (λ (m : List Sending). StandsFor i settings k kept m) (sym (append-nil sent)) stands
 
+-- nothing was recorded
+pub unmarked : (i : Interpreter) (settings : Settings) (k : Course) (kept : List Bool) (sent : List Sending) → StandsFor i settings k kept sent → StandsFor i settings k (kept ++ []) sent
+unmarked i settings k kept sent stands = subst (λ (m : List Bool). StandsFor i settings k m sent) (sym (append-nil kept)) stands
+
 -- a command that writes nothing
 pub quietly : (line : ℕ) (s : Said) (old new : Interpreter) (result : Result (Unit {0}) Stop) (before : Option (List ℕ)) → Does line s old new result → ((sent : List Sending) (stop : Stop) → FrontOf sent s stop []) → Comes step line s old new result before before
 quietly line s old new (Ok done) before does fronts settings c kept sent stands =
     let d = does settings c kept sent stands in
     (d.0, d.1, [], unsent new settings (step c line s) (kept ++ d.1) sent d.2, Appends-nil before)
 quietly line s old new (Err stop) before does fronts settings c kept sent stands =
-    let d = does settings c kept sent stands in
-    (d.0, d.1, [], fronts sent stop, Appends-nil before)
+    (does settings c kept sent stands, [], fronts sent stop, Appends-nil before)
 
 -- a command is begun
 pub begun : (i new : Interpreter) (settings : Settings) (c : Course) (line : ℕ) (s : Said) (kept : List Bool) (sent : List Sending) → StandsFor i settings (step c line s) kept sent
     → (b : Bool) → new ≡ record i { begun = b } → b ≡ (not (is_setting s) || c.begun)
     → StandsFor new settings (step_on c line s) kept sent
 begun i new settings c line s kept sent stands b is same = subst (λ (n : Interpreter). StandsFor n settings (step_on c line s) kept sent) (sym is) (record {
-  keeps = record { offered = stands.keeps.offered; takes = stands.keeps.takes; timed = stands.keeps.timed; are = stands.keeps.are };
-  holds = record {
-    tasks_are = stands.holds.tasks_are;
-    owners = stands.holds.owners;
-    wakers_are = stands.holds.wakers_are;
-    resources_are = stands.holds.resources_are;
-    users_are = stands.holds.users_are;
-    ops_are = stands.holds.ops_are;
-  };
+  came = stands.came;
+  rise = stands.rise;
+  offered = stands.offered;
+  takes = stands.takes;
+  taken = stands.taken;
+  has_told = stands.has_told;
+  timed = stands.timed;
+  holds = stands.holds;
+  linked = stands.linked;
   capacity_said = stands.capacity_said;
   retention_said = stands.retention_said;
   times_said = stands.times_said;
   begun = same;
-  capacity_is = stands.capacity_is;
   times_is = stands.times_is;
-  least = stands.least;
-  moment = stands.moment;
-  numbers = stands.numbers;
-  going = stands.going;
 })
 
 -- nothing goes out of a command that stops, but at a fault of the writer
@@ -75,6 +73,7 @@ pub no_front : (sent : List Sending) (s : Said) (stop : Stop) → (stop ≡ Writ
 no_front sent (said.task at kind name) stop ne = refl
 no_front sent (said.start n m) stop ne = refl
 no_front sent (said.finish n m) stop ne = refl
+no_front sent (said.polls n count m run every) stop ne = refl
 no_front sent (said.close n m) stop ne = refl
 no_front sent (said.self_wake n m) stop ne = refl
 no_front sent (said.clone n) stop ne = refl

@@ -3,12 +3,12 @@ use Rattle.std.proofs.Common.{◌≡◌, ℕ, ◌==◌, ◌||◌, ◌&&◌, Bool
 use Rattle.std.specs.Prelude.{nat_eq, if◌then◌else◌}
 use Rattle.std.proofs.lemmas.Option.{none-some}
 use Rattle.std.specs.HashMap.{HashMap, get}
-use Rattle.tk_live.specs.Blocks.{is_named, is_last}
-use Rattle.tk_live.specs.Threads.{spends, AreMarked}
+use Rattle.tk_live.specs.Blocks.{is_named, is_last, spends}
+use Rattle.tk_live.specs.Threads.{AreMarked}
 use Rattle.tk_script.specs.declared.block.WorkerLine.{WorkerLine}
 
 -- lines that don't name a waker don't spend it
-unspent : (n : ℕ) (ls : List WorkerLine) → is_named n ls ≡ false → spends n ls ≡ false
+pub unspent : (n : ℕ) (ls : List WorkerLine) → is_named n ls ≡ false → spends n ls ≡ false
 unspent n [] e = refl
 unspent n (l ∷ ls) e = go (l.waker == n) (is_named n ls) e (unspent n ls)
   where

@@ -1,270 +1,155 @@
--- What an interpreter stands for behind a call on a handle.
-use Rattle.std.proofs.Common.{◌≡◌, ℕ, Bool, true, false, List, [], ◌∷◌, ◌++◌, Option, Some, None, inl, refl, sym, ap, ◌∙◌, subst}
-use Rattle.std.specs.Prelude.{not, map, filter, option_and_then, option_map, is_some}
-use Rattle.std.proofs.lemmas.List.{append-nil, map-append}
-use Rattle.std.proofs.lemmas.List.Elements.{filter-append}
-use Rattle.tk_core.specs.declared.history.Entry.{Entry}
-use Rattle.tk_core.specs.declared.reply.Refusal.{Refusal}
-use Rattle.tk_core.specs.declared.reply.Refusal.TheVariants.{Closed}
-use Rattle.tk_core.specs.declared.reply.Reply.{Reply}
-use Rattle.tk_core.specs.declared.reply.Reply.TheVariants.{Number, Refused}
-use Rattle.tk_core.specs.Fold.{is_accepted}
-use Rattle.tk_core.specs.History.{accepted}
-use Rattle.tk_core.specs.Legal.{IsLegal, own}
-use Rattle.tk_core.specs.Meaning.{Meaning}
-use Rattle.tk_cell.specs.declared.view.View.{View}
-use Rattle.tk_cell.specs.Calls.{Calls, entry}
-use Rattle.tk_cell.specs.Views.{Known}
-use Rattle.tk_events.specs.Items.{owner_view}
-use Rattle.tk_ledgers.specs.Handles.{Sight, sight, Drew}
+-- What an interpreter stands for behind a command that calls on one item.
+use Rattle.std.proofs.Common.{◌≡◌, ◌⊎◌, ℕ, ◌-◌, Bool, true, false, cond, List, [], ◌∷◌, ◌++◌, length, Option, Some, None, inl, inr, refl, sym, ap, ◌∙◌, subst}
+use Rattle.std.specs.Prelude.{is_some}
+use Rattle.std.specs.List.{AllByRecursion}
+use Rattle.std.specs.Option.{option_map_or}
+use Rattle.std.proofs.lemmas.List.{append-nil}
+use Rattle.atomic_table.specs.Seated.{TableId}
+use Rattle.tk_events.specs.declared.event.Shown.{Shown}
+use Rattle.tk_events.specs.declared.event.Shown.TheVariants.{MadeTask, MadeResource, MadeOp}
+use Rattle.tk_events.specs.declared.item.Offer.{Offer}
+use Rattle.tk_ledgers.specs.Ops.{OpSight}
+use Rattle.tk_ledgers.specs.Resources.{ResourceSight}
+use Rattle.tk_ledgers.specs.Tasks.{TaskSight}
+use Rattle.tk_aggregator.specs.Aggregates.{Aggregating}
+use Rattle.tk_aggregator.specs.Told.{Told}
 use Rattle.tk_stream.specs.Streams.{Sending}
-use Rattle.tk_script.specs.Commands.{Said}
-use Rattle.tk_script.specs.Commands as said
-use Rattle.tk_live.specs.Course.{Names, Course}
-use Rattle.tk_live.specs.Known.{Handled, and_call, drawn_from, owner_of, caller_of}
-use Rattle.tk_live.specs.Named.{live_item}
-use Rattle.tk_live.specs.Runs.{Numbers, numbers_of, Holds, Keeps, Stays, StandsFor, Rests}
-use Rattle.tk_live.specs.Stops.{IsReply, Leaves, if_there, unless_closed}
+use Rattle.tk_live.specs.Course.{Course}
+use Rattle.tk_live.specs.Items.{EachFrom, Holds}
+use Rattle.tk_live.specs.Named.{made_item, with_item}
+use Rattle.tk_live.specs.Pasts.{Past, Pasts, and_called, called_at, unless_closed}
+use Rattle.tk_live.specs.Runs.{Numbers, numbers_of, Offered, IsTaskLedger, IsResourceLedger, IsOpLedger, OffersLedger, AreLinked, StandsFor}
+use Rattle.tk_live.specs.Stops.{if_there}
 use Rattle.tk_live.specs.declared.interpreter.Interpreter.{Interpreter}
-use Rattle.tk_script.specs.declared.stop.Stop.{Stop}
-use Rattle.tk_script.specs.declared.stop.Stop.TheVariants.{Call, NoSuchItem}
+use Rattle.tk_live.specs.declared.items.OpItem.{OpItem}
+use Rattle.tk_live.specs.declared.items.ResourceItem.{ResourceItem}
+use Rattle.tk_live.specs.declared.items.TaskItem.{TaskItem}
 use Rattle.tk_script.specs.declared.settings.Settings.{Settings}
-use Rattle.tk_live.proofs.Places.{live_item-map}
+use Rattle.tk_script.specs.declared.stop.Stop.{Stop}
+use Rattle.tk_script.specs.declared.stop.Stop.TheVariants.{NoSuchItem}
+use Rattle.tk_live.proofs.Places.{length-set, each_made, each_unmade}
 
-pub from_not : (b : Bool) → true ≡ not b → b ≡ false
-from_not true e = absurd cc
-from_not false e = refl
+-- ---- what the text calls on the item of a number
 
-pub to_not : (b : Bool) → false ≡ not b → b ≡ true
-to_not true e = refl
-to_not false e = absurd cc
+pub called_put : {Row C : Type 0} (n : ℕ) (calls : List C) (ps : List (Past Row C)) (p : Past Row C) → made_item n ps ≡ Some p → called_at n calls ps ≡ with_item n (and_called calls p) ps
+called_put {Row} {C} n calls ps p is = ap (λ (o : Option (Past Row C)). option_map_or (λ q. with_item n (and_called calls q) ps) o ps) is
 
--- nothing was recorded
-pub unmarked : (i : Interpreter) (settings : Settings) (k : Course) (kept : List Bool) (sent : List Sending) → StandsFor i settings k kept sent → StandsFor i settings k (kept ++ []) sent
-unmarked i settings k kept sent stands = subst (λ (m : List Bool). StandsFor i settings k m sent) (sym (append-nil kept)) stands
-
--- a setting was said
-pub capacity_told : (i new : Interpreter) (settings : Settings) (k : Course) (kept : List Bool) (sent : List Sending) → StandsFor i settings k kept sent → new ≡ record i { capacity_said = true }
-    → StandsFor new settings (record k { capacity_said = true }) (kept ++ []) sent
-capacity_told i new settings k kept sent stands is = unmarked new settings (record k { capacity_said = true }) kept sent (subst (λ (n : Interpreter). StandsFor n settings (record k { capacity_said = true }) kept sent) (sym is) (record {
-  keeps = record { offered = stands.keeps.offered; takes = stands.keeps.takes; timed = stands.keeps.timed; are = stands.keeps.are };
-  holds = stands_holds stands.holds;
-  capacity_said = refl;
-  retention_said = stands.retention_said;
-  times_said = stands.times_said;
-  begun = stands.begun;
-  capacity_is = stands.capacity_is;
-  times_is = stands.times_is;
-  least = stands.least;
-  moment = stands.moment;
-  numbers = stands.numbers;
-  going = stands.going;
-}))
+pub length_called : {Row C : Type 0} (n : ℕ) (calls : List C) (ps : List (Past Row C)) → length (called_at n calls ps) ≡ length ps
+length_called {Row} {C} n calls ps = go (made_item n ps)
   where
-    stands_holds : Holds i k.names → Holds (record i { capacity_said = true }) k.names
-    stands_holds h = record { tasks_are = h.tasks_are; owners = h.owners; wakers_are = h.wakers_are; resources_are = h.resources_are; users_are = h.users_are; ops_are = h.ops_are }
+    go : (o : Option (Past Row C)) → length (option_map_or (λ q. with_item n (and_called calls q) ps) o ps) ≡ length ps
+    go None = refl
+    go (Some q) = length-set ps (n - 1) (and_called calls q)
 
-pub retention_told : (i new : Interpreter) (settings : Settings) (k : Course) (kept : List Bool) (sent : List Sending) → StandsFor i settings k kept sent → new ≡ record i { retention_said = true }
-    → StandsFor new settings (record k { retention_said = true }) (kept ++ []) sent
-retention_told i new settings k kept sent stands is = unmarked new settings (record k { retention_said = true }) kept sent (subst (λ (n : Interpreter). StandsFor n settings (record k { retention_said = true }) kept sent) (sym is) (record {
-  keeps = record { offered = stands.keeps.offered; takes = stands.keeps.takes; timed = stands.keeps.timed; are = stands.keeps.are };
-  holds = stands_holds stands.holds;
-  capacity_said = stands.capacity_said;
-  retention_said = refl;
-  times_said = stands.times_said;
-  begun = stands.begun;
-  capacity_is = stands.capacity_is;
-  times_is = stands.times_is;
-  least = stands.least;
-  moment = stands.moment;
-  numbers = stands.numbers;
-  going = stands.going;
-}))
-  where
-    stands_holds : Holds i k.names → Holds (record i { retention_said = true }) k.names
-    stands_holds h = record { tasks_are = h.tasks_are; owners = h.owners; wakers_are = h.wakers_are; resources_are = h.resources_are; users_are = h.users_are; ops_are = h.ops_are }
+-- ---- items that were made, and whether they are closed
 
-pub times_told : (i new : Interpreter) (settings : Settings) (k : Course) (kept : List Bool) (sent : List Sending) → StandsFor i settings k kept sent → new ≡ record i { times_said = true }
-    → StandsFor new settings (record k { times_said = true }) (kept ++ []) sent
-times_told i new settings k kept sent stands is = unmarked new settings (record k { times_said = true }) kept sent (subst (λ (n : Interpreter). StandsFor n settings (record k { times_said = true }) kept sent) (sym is) (record {
-  keeps = record { offered = stands.keeps.offered; takes = stands.keeps.takes; timed = stands.keeps.timed; are = stands.keeps.are };
-  holds = stands_holds stands.holds;
-  capacity_said = stands.capacity_said;
-  retention_said = stands.retention_said;
-  times_said = refl;
-  begun = stands.begun;
-  capacity_is = stands.capacity_is;
-  times_is = stands.times_is;
-  least = stands.least;
-  moment = stands.moment;
-  numbers = stands.numbers;
-  going = stands.going;
-}))
-  where
-    stands_holds : Holds i k.names → Holds (record i { times_said = true }) k.names
-    stands_holds h = record { tasks_are = h.tasks_are; owners = h.owners; wakers_are = h.wakers_are; resources_are = h.resources_are; users_are = h.users_are; ops_are = h.ops_are }
+module _ {P X : Type 0} (R : ℕ → P → X → Type 0) (shut : P → Bool) (closed : X → Bool) (same : (n : ℕ) (p : P) (x : X) → R n p x → closed x ≡ shut p) where
+  -- what is kept open is open in the text
+  pub open_there : (ps : List P) (xs : List X) (n : ℕ) (x : X) → EachFrom R 1 ps xs → made_item n xs ≡ Some x → closed x ≡ false → (p : P) × (made_item n ps ≡ Some p) × R n p x × (unless_closed shut (made_item n ps) ≡ Some p)
+  open_there ps xs n x each made unshut =
+      let there = each_made R ps xs n x each made in
+      let open_is : shut there.0 ≡ false = sym (same n there.0 x there.2) ∙ unshut in
+      (there.0, there.1, there.2, ap (unless_closed shut) there.1 ∙ ap (λ (b : Bool). cond b None (Some there.0)) open_is)
 
--- handles went on, as the text tells of them
-pub went_on : (i new : Interpreter) (settings : Settings) (k : Course) (names : Names) (kept : List Bool) (sent : List Sending) → StandsFor i settings k kept sent
-    → new ≡ record i { tasks = new.tasks; wakers = new.wakers; resources = new.resources; users = new.users; ops = new.ops } → Holds new names → numbers_of names ≡ numbers_of k.names
-    → StandsFor new settings (record k { names = names }) kept sent
-went_on i new settings k names kept sent stands is holds same =
-    subst (λ (n : Interpreter). Holds n names → StandsFor n settings (record k { names = names }) kept sent) (sym is) (λ h. record {
-      keeps = record { offered = subst (λ (n : Numbers). Rattle.tk_live.specs.Runs.Offered i.recorder settings.capacity n k.told kept) (sym same) stands.keeps.offered; takes = stands.keeps.takes; timed = stands.keeps.timed; are = stands.keeps.are };
-      holds = h;
-      capacity_said = stands.capacity_said;
-      retention_said = stands.retention_said;
-      times_said = stands.times_said;
-      begun = stands.begun;
-      capacity_is = stands.capacity_is;
-      times_is = stands.times_is;
-      least = stands.least;
-      moment = stands.moment;
-      numbers = stands.numbers;
-      going = stands.going;
-    }) holds
+  -- what wasn't made, or is closed, isn't open there
+  pub none_open : (ps : List P) (xs : List X) (n : ℕ) → EachFrom R 1 ps xs → (made_item n xs ≡ None) ⊎ ((x : X) × (made_item n xs ≡ Some x) × (closed x ≡ true)) → unless_closed shut (made_item n ps) ≡ None
+  none_open ps xs n each (inl none) = ap (unless_closed shut) (each_unmade R ps xs n each none)
+  none_open ps xs n each (inr found) =
+      let there = each_made R ps xs n found.0 each found.1 in
+      ap (unless_closed shut) there.1 ∙ ap (λ (b : Bool). cond b None (Some there.0)) (sym (same n there.0 found.0 there.2) ∙ found.2)
 
--- and nothing was recorded
-pub on_handles : (i new : Interpreter) (settings : Settings) (k : Course) (names : Names) (kept : List Bool) (sent : List Sending) → StandsFor i settings k kept sent
-    → new ≡ record i { tasks = new.tasks; wakers = new.wakers; resources = new.resources; users = new.users; ops = new.ops } → Holds new names → numbers_of names ≡ numbers_of k.names
-    → StandsFor new settings (record k { names = names }) (kept ++ []) sent
-on_handles i new settings k names kept sent stands is holds same =
-    unmarked new settings (record k { names = names }) kept sent (went_on i new settings k names kept sent stands is holds same)
-
--- what was there may be left
-pub leaves_same : (k : Course) (line : ℕ) (s : Said) → Leaves k line s k
-leaves_same k line (said.task at kind name) = refl
-leaves_same k line (said.start n m) = refl
-leaves_same k line (said.finish n m) = refl
-leaves_same k line (said.close n m) = refl
-leaves_same k line (said.self_wake n m) = refl
-leaves_same k line (said.clone n) = refl
-leaves_same k line (said.again n) = refl
-leaves_same k line (said.wake_ref n m) = refl
-leaves_same k line (said.wake n m) = refl
-leaves_same k line (said.release n) = refl
-leaves_same k line (said.resource at kind concrete attrs) = inl refl
-leaves_same k line (said.close_resource n m) = refl
-leaves_same k line (said.change_resource n i change) = refl
-leaves_same k line (said.op at r source attrs) = refl
-leaves_same k line (said.op_task n t) = refl
-leaves_same k line (said.start_op n m) = refl
-leaves_same k line (said.finish_op n m) = refl
-leaves_same k line (said.close_op n m) = refl
-leaves_same k line (said.change_op n i change) = refl
-leaves_same k line (said.poll_op r o t name ready) = refl
-leaves_same k line (said.capacity n) = refl
-leaves_same k line (said.retention n) = refl
-leaves_same k line said.times = refl
-leaves_same k line (said.publish m whole) = refl
-
--- what was there stays
-pub rests : (i : Interpreter) (settings : Settings) (k : Course) (line : ℕ) (s : Said) (kept : List Bool) (sent : List Sending) → Stays i settings k kept sent → Rests i settings (Leaves k line s) sent
-rests i settings k line s kept sent keeps = record { left = k; is_left = leaves_same k line s; kept = kept; keeps = keeps }
-
--- what is told of a number's handle
-pub told_of : {H X : Type 0} (f : H → X) (n : ℕ) (seats : List (Option H)) (names : List (Option X)) (found : Option H) → map (option_map f) seats ≡ names → found ≡ live_item n seats → live_item n names ≡ option_map f found
-told_of f n seats names found are taken = ap (live_item n) (sym are) ∙ (live_item-map f n seats ∙ ap (option_map f) (sym taken))
-
-pub told_live : {H X : Type 0} (f : H → X) (n : ℕ) (seats : List (Option H)) (names : List (Option X)) (found : Option H) (h : H) → map (option_map f) seats ≡ names → found ≡ live_item n seats → found ≡ Some h → live_item n names ≡ Some (f h)
-told_live f n seats names found h are taken is = told_of f n seats names found are taken ∙ ap (option_map f) is
-
--- what is there stops nothing
+-- what is there stops nothing, and what isn't does
 pub is_there : {X : Type 0} (o : Option X) (stop : Option Stop) → is_some o ≡ true → if_there o stop ≡ stop
 is_there None stop e = absurd cc
 is_there (Some x) stop e = refl
 
--- and what isn't does
 pub isnt_there : {X : Type 0} (o : Option X) (stop : Option Stop) → is_some o ≡ false → if_there o stop ≡ Some NoSuchItem
 isnt_there None stop e = refl
 isnt_there (Some x) stop e = absurd cc
 
--- the user of a number that names no resource
-pub user_unmade : {X : Type 0} (o : Option (Option X)) → is_some o ≡ false → unless_closed o ≡ Some NoSuchItem
-user_unmade None e = refl
-user_unmade (Some user) e = absurd cc
+-- ---- whose ledgers are read
 
--- and of one that is closed
-pub user_gone : {X : Type 0} (o : Option (Option X)) → is_some o ≡ true → option_and_then (λ u. u) o ≡ None → unless_closed o ≡ Some (Call Closed)
-user_gone None e none = absurd cc
-user_gone (Some None) e none = refl
-user_gone (Some (Some user)) e none = absurd cc
+-- each item stays at its number, of the same ledger
+abbrev pub TasksStay : List TaskItem → List TaskItem → Type 0
+TasksStay old new = (n : ℕ) (t : TaskItem) → made_item n old ≡ Some t → (u : TaskItem) × (made_item n new ≡ Some u) × (u.callers.token.ledger ≡ t.callers.token.ledger)
 
-module _ {Row C : Type 0} where
-  -- an accepted call is one more
-  accepted_push : (h : List (Entry C (Reply Row))) (e : Entry C (Reply Row)) → is_accepted e.reply ≡ true → accepted is_accepted (h ++ e ∷ []) ≡ accepted is_accepted h ++ e.call ∷ []
-  unfolding accepted
-  accepted_push h e is =
-      let one : filter (λ (x : Entry C (Reply Row)). is_accepted x.reply) (e ∷ []) ≡ e ∷ [] = rw is refl in
-      ap (map (λ (x : Entry C (Reply Row)). x.call)) (filter-append (λ (x : Entry C (Reply Row)). is_accepted x.reply) h (e ∷ []) ∙ ap (λ l. filter (λ (x : Entry C (Reply Row)). is_accepted x.reply) h ++ l) one)
-      ∙ map-append (λ (x : Entry C (Reply Row)). x.call) (filter (λ (x : Entry C (Reply Row)). is_accepted x.reply) h) (e ∷ [])
+abbrev pub ResourcesStay : List ResourceItem → List ResourceItem → Type 0
+ResourcesStay old new = (n : ℕ) (t : ResourceItem) → made_item n old ≡ Some t → (u : ResourceItem) × (made_item n new ≡ Some u) × (u.callers.token.ledger ≡ t.callers.token.ledger)
 
-  none_accepted : (h : List (Entry C (Reply Row))) → h ≡ [] → accepted is_accepted h ≡ []
-  unfolding accepted
-  none_accepted h none = ap (accepted is_accepted) none
+abbrev pub OpsStay : List OpItem → List OpItem → Type 0
+OpsStay old new = (n : ℕ) (t : OpItem) → made_item n old ≡ Some t → (u : OpItem) × (made_item n new ≡ Some u) × (u.callers.token.ledger ≡ t.callers.token.ledger)
 
-module _ {Row C : Type 0} (m : Meaning Row C (Reply Row)) (old new : Sight Row C (Reply Row)) (id : new.id ≡ old.id) (call : C) where
-  -- a call of an owner, and of another handle
-  pub owner_called : (reply : Reply Row) → old.token.view.caller ≡ 0 → Calls m old.token.view call reply new.token.view → is_accepted reply ≡ true → owner_of new ≡ and_call call (owner_of old)
-  owner_called reply caller calls is =
-      let mine : own 0 new.token.view.seen ≡ own 0 old.token.view.seen ++ entry 0 call reply ∷ [] =
-      subst (λ (n : ℕ). own n new.token.view.seen ≡ own n old.token.view.seen ++ entry n call reply ∷ []) caller calls.mine in
-      let calls_are = ap (accepted is_accepted) mine ∙ accepted_push (own 0 old.token.view.seen) (entry 0 call reply) is in
-      λ i. record { id = id i; opening = calls.same_opening i; calls = calls_are i }
+pub tasks_rest : (tasks : List TaskItem) → TasksStay tasks tasks
+tasks_rest tasks n t made = (t, made, refl)
 
-  pub caller_called : (reply : Reply Row) → Calls m old.token.view call reply new.token.view → is_accepted reply ≡ true → caller_of new ≡ and_call call (caller_of old)
-  caller_called reply calls is =
-      let mine : own new.token.view.caller new.token.view.seen ≡ own old.token.view.caller old.token.view.seen ++ entry old.token.view.caller call reply ∷ [] =
-      ap (λ (n : ℕ). own n new.token.view.seen) calls.same_caller ∙ calls.mine in
-      let calls_are = ap (accepted is_accepted) mine ∙ accepted_push (own old.token.view.caller old.token.view.seen) (entry old.token.view.caller call reply) is in
-      λ i. record { id = id i; opening = calls.same_opening i; calls = calls_are i }
+pub resources_rest : (resources : List ResourceItem) → ResourcesStay resources resources
+resources_rest resources n t made = (t, made, refl)
 
-  -- the handle after a draw, before its caller was split off
-  abbrev undivided : View Row C (Reply Row) → Sight Row C (Reply Row)
-  undivided v = sight new.id (record { ledger = old.token.ledger; view = v })
+pub ops_rest : (ops : List OpItem) → OpsStay ops ops
+ops_rest ops n t made = (t, made, refl)
 
-module _ {Row C : Type 0} (m : Meaning Row C (Reply Row)) (old new made : Sight Row C (Reply Row)) (id : new.id ≡ old.id) (call : C) (drew : Drew m old.token call new.token made.token) where
-  -- a handle was drawn: it is a call of the handle that drew it
-  pub owner_drew : old.token.view.caller ≡ 0 → owner_of new ≡ and_call call (owner_of old)
-  owner_drew caller =
-      let mid = undivided m old new id call drew.view in
-      ap (λ (t : Known Row C (Reply Row)). owner_of (sight new.id t)) drew.kept ∙ owner_called m old mid id call (Number drew.number) caller drew.entry refl
+all_on : {X : Type 0} (P Q : X → Type 0) → ((x : X) → P x → Q x) → (xs : List X) → AllByRecursion P xs → AllByRecursion Q xs
+all_on P Q f [] all = tt
+all_on P Q f (x ∷ xs) all = (f x all.0, all_on P Q f xs all.1)
 
-  pub caller_drew : caller_of new ≡ and_call call (caller_of old)
-  caller_drew =
-      let mid = undivided m old new id call drew.view in
-      ap (λ (t : Known Row C (Reply Row)). caller_of (sight new.id t)) drew.kept ∙ caller_called m old mid id call (Number drew.number) drew.entry refl
+module _ (tasks tasks_now : List TaskItem) (resources resources_now : List ResourceItem) (ops ops_now : List OpItem)
+    (tasks_stay : TasksStay tasks tasks_now) (resources_stay : ResourcesStay resources resources_now) (ops_stay : OpsStay ops ops_now) where
+  task_on : (id : ℕ) (ledger : TableId) → IsTaskLedger tasks id ledger → IsTaskLedger tasks_now id ledger
+  task_on id ledger h = let there = tasks_stay h.0 h.1 h.3 in (h.0, there.0, h.2, there.1, there.2 ∙ h.4)
 
-  -- and the new one has made no call
-  pub drawn_calls : m.number (Number drew.number) ≡ Some drew.number → accepted is_accepted (own made.token.view.caller made.token.view.seen) ≡ []
-  drawn_calls number =
-      ap (λ (t : Known Row C (Reply Row)). accepted is_accepted (own t.view.caller t.view.seen)) drew.given ∙ none_accepted (own drew.number drew.view.seen) (drew.entry.drawn drew.number number)
+  resource_on : (id : ℕ) (ledger : TableId) → IsResourceLedger resources id ledger → IsResourceLedger resources_now id ledger
+  resource_on id ledger h = let there = resources_stay h.0 h.1 h.3 in (h.0, there.0, h.2, there.1, there.2 ∙ h.4)
 
-  pub drawn_opening : made.token.view.opening ≡ old.token.view.opening
-  drawn_opening = ap (λ (t : Known Row C (Reply Row)). t.view.opening) drew.given ∙ drew.entry.same_opening
+  op_on : (id : ℕ) (ledger : TableId) → IsOpLedger ops id ledger → IsOpLedger ops_now id ledger
+  op_on id ledger h = let there = ops_stay h.0 h.1 h.3 in (h.0, there.0, h.2, there.1, there.2 ∙ h.4)
 
-  pub drawn_by_owner : m.number (Number drew.number) ≡ Some drew.number → made.id ≡ old.id → caller_of made ≡ drawn_from (owner_of old)
-  drawn_by_owner number same = let calls = drawn_calls number in λ i. record { id = same i; opening = drawn_opening i; calls = calls i }
+  offer_on : (event : Shown) → OffersLedger tasks resources ops event → OffersLedger tasks_now resources_now ops_now event
+  offer_on (MadeTask info ledger caller times) h = task_on info.id ledger h
+  offer_on (MadeResource info ledger caller) h = resource_on info.id ledger h
+  offer_on (MadeOp info ledger caller) h = op_on info.id ledger h
+  offer_on event h = h
 
-  pub drawn_by_caller : m.number (Number drew.number) ≡ Some drew.number → made.id ≡ old.id → caller_of made ≡ drawn_from (caller_of old)
-  drawn_by_caller number same = let calls = drawn_calls number in λ i. record { id = same i; opening = drawn_opening i; calls = calls i }
-
-module _ {Row C : Type 0} where
-  -- the owner of a new item has drawn an inspector
-  pub new_owner : (h : Sight Row C (Reply Row)) (id : ℕ) (enlist : C) (row : Row) → h.id ≡ id → h.token.view ≡ owner_view enlist row → owner_of h ≡ record { id = id; opening = Some row; calls = enlist ∷ [] }
-  unfolding accepted
-  new_owner h id enlist row same is = λ i. record { id = same i; opening = (is i).opening; calls = accepted is_accepted (own 0 (is i).seen) }
-
-  -- a refused call is a ledger's reply
-  pub reply_to : (m : Meaning Row C (Reply Row)) (v w : View Row C (Reply Row)) (handle : Option (Handled Row C)) (on : Handled Row C) (call : C) (refusal : Refusal) → handle ≡ Some on → on.opening ≡ v.opening → Calls m v call (Refused refusal) w
-      → IsReply m handle call refusal
-  reply_to m v w handle on call refusal is opening calls = record {
-    on = on;
-    is_on = is;
-    opening = calls.opening;
-    opened = opening ∙ calls.opened;
-    opens = calls.opens;
-    caller = v.caller;
-    history = v.seen ++ calls.between;
-    legal = subst (λ h. IsLegal m calls.opening h) calls.grows calls.legal;
+  -- what is linked stays so
+  pub linked_on : (kept : List Offer) (a : Aggregating) → AreLinked tasks resources ops kept a → AreLinked tasks_now resources_now ops_now kept a
+  linked_on kept a linked = record {
+    offers = all_on (λ (o : Offer). OffersLedger tasks resources ops o.event) (λ (o : Offer). OffersLedger tasks_now resources_now ops_now o.event) (λ o h. offer_on o.event h) kept linked.offers;
+    task_readers = all_on (λ (s : TaskSight). IsTaskLedger tasks s.id s.token.ledger) (λ (s : TaskSight). IsTaskLedger tasks_now s.id s.token.ledger) (λ s h. task_on s.id s.token.ledger h) a.tasks linked.task_readers;
+    resource_readers = all_on (λ (s : ResourceSight). IsResourceLedger resources s.id s.token.ledger) (λ (s : ResourceSight). IsResourceLedger resources_now s.id s.token.ledger) (λ s h. resource_on s.id s.token.ledger h) a.resources linked.resource_readers;
+    op_readers = all_on (λ (s : OpSight). IsOpLedger ops s.id s.token.ledger) (λ (s : OpSight). IsOpLedger ops_now s.id s.token.ledger) (λ s h. op_on s.id s.token.ledger h) a.ops linked.op_readers;
   }
+
+-- ---- an interpreter whose items went on
+
+-- nothing was recorded
+pub unmarked : (i : Interpreter) (settings : Settings) (c : Course) (kept : List Bool) (sent : List Sending) → StandsFor i settings c kept sent → StandsFor i settings c (kept ++ []) sent
+unmarked i settings c kept sent stands = subst (λ (m : List Bool). StandsFor i settings c m sent) (sym (append-nil kept)) stands
+
+-- and nothing told
+pub untold : (i : Interpreter) (settings : Settings) (c : Course) (kept : List Bool) (sent : List Sending) → StandsFor i settings c kept sent → StandsFor i settings (record c { told = c.told ++ [] }) (kept ++ []) sent
+untold i settings c kept sent stands = subst (λ (told : List Told). StandsFor i settings (record c { told = told }) (kept ++ []) sent) (sym (append-nil c.told)) (unmarked i settings c kept sent stands)
+
+-- items went on, as the text tells of them
+pub went_on : (i new : Interpreter) (settings : Settings) (c : Course) (ps : Pasts) (kept : List Bool) (sent : List Sending) → StandsFor i settings c kept sent
+    → Holds new.tasks.items new.wakers.items new.resources.items new.ops.items ps → TasksStay i.tasks.items new.tasks.items → ResourcesStay i.resources.items new.resources.items → OpsStay i.ops.items new.ops.items
+    → numbers_of ps ≡ numbers_of c.pasts
+    → StandsFor (record i { tasks = new.tasks; wakers = new.wakers; resources = new.resources; ops = new.ops }) settings (record c { pasts = ps }) kept sent
+went_on i new settings c ps kept sent stands holds tasks_stay resources_stay ops_stay same = record {
+  came = stands.came;
+  rise = stands.rise;
+  offered = subst (λ (n : Numbers). Offered i.recorder settings.capacity n c.told kept) (sym same) stands.offered;
+  takes = stands.takes;
+  taken = stands.taken;
+  has_told = stands.has_told;
+  timed = stands.timed;
+  holds = holds;
+  linked = linked_on i.tasks.items new.tasks.items i.resources.items new.resources.items i.ops.items new.ops.items tasks_stay resources_stay ops_stay i.recorder.kept i.aggregator stands.linked;
+  capacity_said = stands.capacity_said;
+  retention_said = stands.retention_said;
+  times_said = stands.times_said;
+  begun = stands.begun;
+  times_is = stands.times_is;
+}
+
+-- what is behind commands that call on one item: what the text calls on items, and nothing more
+abbrev pub calling : Course → Pasts → Course
+calling c ps = record c { pasts = ps; told = c.told ++ [] }

@@ -1,11 +1,11 @@
 -- Streams with one line more.
-use Rattle.std.proofs.Common.{◌≡◌, ℕ, ◌+◌, List, [], ◌∷◌, ◌++◌, refl, sym, ap, ◌∙◌, subst, append_assoc}
+use Rattle.std.proofs.Common.{◌≡◌, ℕ, ◌+◌, List, [], ◌∷◌, ◌++◌, refl, ap, ◌∙◌}
 use Rattle.std.proofs.lemmas.Grind.{flat_map-append}
 use Rattle.tk_stream.specs.Spelling.{sent_text}
 use Rattle.tk_stream.specs.Tables.{TablesView, empty_tables}
 use Rattle.tk_stream.specs.Streams.{Sending, MaySend, GoesOn, lines_sent, bytes_sent, tables_sent, last_sent}
 use Rattle.tk_live.specs.Ran.{written_by}
-use Rattle.tk_live.specs.Runs.{bytes_behind}
+use Rattle.tk_live.specs.Runs.{bytes_after}
 
 pub lines_append : (t : TablesView) (ss more : List Sending) → lines_sent t (ss ++ more) ≡ lines_sent t ss ++ lines_sent (tables_sent t ss) more
 lines_append t [] more = refl
@@ -25,10 +25,5 @@ goes_push t n [] s on seq may = (seq, may, tt)
 goes_push t n (r ∷ rs) s on seq may = (on.0, on.1, goes_push r.tables r.seq rs s on.2 seq may)
 
 -- the bytes of more lines stand behind those of the lines before
-pub written_append : (sent more : List Sending) → written_by (sent ++ more) ≡ written_by sent ++ bytes_behind sent more
+pub written_append : (sent more : List Sending) → written_by (sent ++ more) ≡ written_by sent ++ bytes_after sent more
 written_append sent more = ap bytes_sent (lines_append empty_tables sent more) ∙ flat_map-append sent_text (lines_sent empty_tables sent) (lines_sent (tables_sent empty_tables sent) more)
-
--- there are as many lines as the last one's number says
-pub last_counts : (t : TablesView) (n : ℕ) (ss : List Sending) → GoesOn t n ss → last_sent n ss ≡ n + Rattle.std.proofs.Common.length ss
-last_counts t n [] on = omega Rattle.std.proofs.Common.arith
-last_counts t n (s ∷ ss) on = let e = last_counts s.tables s.seq ss on.2 in omega (Rattle.std.proofs.Common.arith, e, on.0)

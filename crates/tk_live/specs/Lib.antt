@@ -1,6 +1,7 @@
--- What a script's handles are
-pub mod Known
+-- What a script's numbers name
 pub mod Named
+-- What it calls on each item
+pub mod Pasts
 pub mod Blocks
 -- What its lines come to
 pub mod Course
@@ -11,4 +12,7 @@ pub mod Transfer
 pub mod Script
 -- Inner: no public clause cites these
 pub mod Threads
+pub mod Items
+pub mod Handed
 pub mod Runs
+pub mod Read

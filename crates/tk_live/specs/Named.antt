@@ -1,6 +1,5 @@
 -- What a script names by a number, from 1.
-use Rattle.std.specs.Prelude.{ℕ, ◌-◌, List, [], ◌∷◌, Option, Some, None, if◌then◌else◌, nat_lt, slice_get, slice_set, option_and_then}
-use Rattle.std.specs.Option.{option_map_or}
+use Rattle.std.specs.Prelude.{ℕ, ◌-◌, List, Option, None, if◌then◌else◌, nat_lt, slice_get, slice_set, option_and_then}
 
 -- what a number names, if it was made
 abbrev pub made_item : {X : Type 0} → ℕ → List X → Option X
@@ -13,13 +12,3 @@ live_item n seats = option_and_then (λ o. o) (made_item n seats)
 -- the items with another in the place of the one of a number
 abbrev pub with_item : {X : Type 0} → ℕ → X → List X → List X
 with_item n x made = slice_set made (n - 1) x
-
--- what is live has a property
-abbrev pub EachLive : {X : Type 0} → (X → Type 0) → List (Option X) → Type 0
-EachLive P [] = Unit {0}
-EachLive P (Some x ∷ seats) = P x × EachLive P seats
-EachLive P (None ∷ seats) = EachLive P seats
-
--- the items with that of a number changed, if it isn't spent
-abbrev pub with_change : {X : Type 0} → ℕ → (X → X) → List (Option X) → List (Option X)
-with_change n change seats = option_map_or (λ x. with_item n (Some (change x)) seats) (live_item n seats) seats

@@ -1,9 +1,7 @@
 -- What came of commands.
-use Rattle.std.specs.Prelude.{◌≡◌, ℕ, ◌<◌, List, [], ◌∷◌, ◌++◌, length, map, slice_get, fold, Bool, true, false, if◌then◌else◌, Option, Some, None, is_some}
-use Rattle.std.specs.List.{enumerate_from, flat_map}
-use Rattle.tk_ledgers.specs.Ops.{OpSight}
-use Rattle.tk_ledgers.specs.Resources.{ResourceSight}
-use Rattle.tk_ledgers.specs.Tasks.{TaskSight}
+use Rattle.std.specs.Prelude.{◌≡◌, ℕ, ◌<◌, List, [], ◌∷◌, length, map, slice_get, fold, Bool, true, false, if◌then◌else◌, Option, Some, None, is_some}
+use Rattle.std.specs.List.{AllByRecursion, enumerate_from, between, items_where_true}
+use Rattle.tk_ids.specs.Ids.{id_of}
 use Rattle.tk_ledgers.specs.Times.{TimesSight}
 use Rattle.tk_stream.specs.Applied.{times_after}
 use Rattle.tk_stream.specs.Streams.{Sending, GoesOn, gone_by, line_sent, lines_sent, bytes_sent}
@@ -11,11 +9,16 @@ use Rattle.tk_stream.specs.Lines.{GoneView, none_gone, told_times}
 use Rattle.tk_stream.specs.Retention.{due_of}
 use Rattle.tk_stream.specs.Tables.{TablesView, empty_tables, task_id}
 use Rattle.tk_stream.specs.Times.{TaskTimes, times_id}
+use Rattle.tk_stream.specs.declared.op.Op.{Op}
+use Rattle.tk_stream.specs.declared.resource.Resource.{Resource}
+use Rattle.tk_stream.specs.declared.task.Task.{Task}
 use Rattle.tk_aggregator.specs.Absorbing.{Infos, infos_of, with_told, infos_without}
-use Rattle.tk_aggregator.specs.Aggregates.{Pairs, ReadTask, ReadResource, ReadOp}
+use Rattle.tk_aggregator.specs.Aggregates.{Pairs}
 use Rattle.tk_aggregator.specs.Timing.{ReadTimes}
 use Rattle.tk_aggregator.specs.Told.{Told}
 use Rattle.tk_live.specs.Course.{Due, Course, start_of_all, course_of}
+use Rattle.tk_live.specs.Named.{made_item}
+use Rattle.tk_live.specs.Pasts.{TaskPast, ResourcePast, OpPast, Pasts, IsTaskRow, IsResourceRow, IsOpRow}
 use Rattle.tk_live.specs.Stops.{AllGo}
 use Rattle.tk_script.specs.Commands.{Line}
 use Rattle.tk_script.specs.declared.settings.Settings.{Settings}
@@ -24,22 +27,37 @@ use Rattle.tk_script.specs.declared.settings.Settings.{Settings}
 abbrev pub infos_with : Infos → List Told → Infos
 infos_with infos told = fold with_told infos told
 
--- those of a list that are marked, in order
-abbrev pub picked : {X : Type 0} → List Bool → List X → List X
-picked [] xs = []
-picked (b ∷ bs) [] = []
-picked (b ∷ bs) (x ∷ xs) = if b then x ∷ picked bs xs else picked bs xs
+-- a task of a table is the one of its id's number, and its row is that of what was called on it
+pub record IsCalledTask (ps : Pasts) (t : Task) : Type 0 where
+  pub number : ℕ
+  pub id : t.info.id ≡ id_of 1 number
+  pub past : TaskPast
+  pub is_past : made_item number ps.tasks ≡ Some past
+  pub row : IsTaskRow past t.row
 
--- each row is what a handle of its item read: the fold of a legal history of that item's ledger
-pub record AreReadings (tables : TablesView) : Type 0 where
-  pub tasks : List TaskSight
-  pub resources : List ResourceSight
-  pub ops : List OpSight
-  pub tasks_are : Pairs ReadTask tables.tasks tasks
-  pub resources_are : Pairs ReadResource tables.resources resources
-  pub ops_are : Pairs ReadOp tables.ops ops
+-- the same of a resource
+pub record IsCalledResource (ps : Pasts) (r : Resource) : Type 0 where
+  pub number : ℕ
+  pub id : r.info.id ≡ id_of 1 number
+  pub past : ResourcePast
+  pub is_past : made_item number ps.resources ≡ Some past
+  pub row : IsResourceRow past r.row
 
--- what leaves with a line behind these tables: with a retention, what they show closed for long enough. With a snapshot nothing
+-- the same of an async operation
+pub record IsCalledOp (ps : Pasts) (o : Op) : Type 0 where
+  pub number : ℕ
+  pub id : o.info.id ≡ id_of 1 number
+  pub past : OpPast
+  pub is_past : made_item number ps.ops ≡ Some past
+  pub row : IsOpRow past o.row
+
+-- each row of tables is that of what was called on its item
+pub record AreCalled (ps : Pasts) (tables : TablesView) : Type 0 where
+  pub tasks : AllByRecursion (IsCalledTask ps) tables.tasks
+  pub resources : AllByRecursion (IsCalledResource ps) tables.resources
+  pub ops : AllByRecursion (IsCalledOp ps) tables.ops
+
+-- what leaves with a line after these tables: with a retention, what they show closed for long enough. With a snapshot nothing
 -- leaves
 abbrev pub leaving : Option ℕ → TablesView → Sending → GoneView
 leaving None before s = none_gone
@@ -67,44 +85,47 @@ TellsTimes true before had s = AreTimesOf before had s
 TellsTimes false before had s = s.told ≡ None
 
 -- a line is one that was due: at its moment, a snapshot or not, one that says what is gone where closed items leave, and with histograms
--- where tasks have such. After the tables of the line before it has their infos and poll counts and those that were told since, but
--- for the items that leave, and where it says what is gone, it says just these. Its rows are readings
+-- where tasks have such. After the tables of the line before it has their infos and poll counts and those of all that was recorded and
+-- kept since, but for the items that leave, and where it says what is gone, it says just these. Each row is that of the calls that the
+-- text makes before the line
 pub record IsLineOf (settings : Settings) (before : TablesView) (had : List TaskTimes) (since : List Told) (d : Due) (s : Sending) : Type 0 where
   pub moment : s.tables.now ≡ d.moment
   pub snapshot : s.snapshot ≡ d.whole
   pub removes : s.removes ≡ is_some settings.retention
   pub infos : infos_of s.tables ≡ infos_without (leaving settings.retention before s) (infos_with (infos_of before) since)
   pub gone : s.removes ≡ true → gone_by before s ≡ leaving settings.retention before s
-  pub readings : AreReadings s.tables
+  pub rows : AreCalled d.pasts s.tables
   pub times : TellsTimes settings.times before had s
 
--- lines one after the other, from tables and histograms on: one for each that was due, with what was told since the line before
-abbrev pub EachIsLine : Settings → TablesView → List TaskTimes → List (List Told) → List Due → List Sending → Type 0
-EachIsLine settings before had [] [] [] = Unit {0}
-EachIsLine settings before had (since ∷ news) (d ∷ due) (s ∷ sent) = IsLineOf settings before had since d s × EachIsLine settings s.tables (times_behind had before s) news due sent
-EachIsLine settings before had _ _ _ = ⊥
+-- what was kept of the recordings from one number of them to another. `kept` says of each whether its event was kept
+abbrev pub kept_between : List Bool → List Told → ℕ → ℕ → List Told
+kept_between kept told from to = items_where_true (between from to kept) (between from to told)
 
--- the lines that were sent, one for each that was due, in order. What is told for one after the other is a front of what was kept
-pub record AreLinesOf (settings : Settings) (kept : List Told) (due : List Due) (sent : List Sending) : Type 0 where
-  pub news : List (List Told)
-  pub behind : List Told
-  pub is_front : kept ≡ flat_map (λ told. told) news ++ behind
-  pub each : EachIsLine settings empty_tables [] news due sent
+-- the lines that were sent, one for each that was due, in order, after these tables and histograms, and as many recordings
+abbrev pub AreLinesOf : Settings → List Bool → List Told → TablesView → List TaskTimes → ℕ → List Due → List Sending → Type 0
+AreLinesOf settings kept told before had from [] [] = Unit {0}
+AreLinesOf settings kept told before had from (d ∷ due) (s ∷ sent) =
+    IsLineOf settings before had (kept_between kept told from d.recorded) d s × AreLinesOf settings kept told s.tables (times_behind had before s) d.recorded due sent
+AreLinesOf settings kept told before had from _ _ = ⊥
 
--- what came of commands: of each recording one whether its event was kept, as each of the first was that the console holds; and
--- the lines that were sent, an uninterrupted stream from number 1
-pub record CameOf (settings : Settings) (c : Course) (sent : List Sending) : Type 0 where
-  pub kept : List Bool
-  pub one_each : length kept ≡ length c.told
+-- the lines that were sent tell of what was recorded, where `kept` says of each recording whether its event was kept, as each of the first
+-- was that the console holds; and they are an uninterrupted stream from number 1
+pub record TellOf (settings : Settings) (told : List Told) (due : List Due) (kept : List Bool) (sent : List Sending) : Type 0 where
+  pub one_each : length kept ≡ length told
   pub first : (i : ℕ) → i < length kept → i < settings.capacity → slice_get kept i ≡ Some true
-  pub lines : AreLinesOf settings (picked kept c.told) c.due sent
+  pub lines : AreLinesOf settings kept told empty_tables [] 0 due sent
   pub stream : GoesOn empty_tables 0 sent
 
--- the text stops none of the lines, no block is open behind them, and this came of them
+-- what came of commands
+abbrev pub CameOf : Settings → Course → List Bool → List Sending → Type 0
+CameOf settings c kept sent = TellOf settings c.told c.due kept sent
+
+-- the text stops none of the lines, no block is open after them, and this came of them
 pub record Ran (settings : Settings) (ls : List Line) (sent : List Sending) : Type 0 where
   pub goes : AllGo start_of_all (enumerate_from 1 ls)
   pub closed : (course_of ls).block ≡ None
-  pub came : CameOf settings (course_of ls) sent
+  pub kept : List Bool
+  pub came : CameOf settings (course_of ls) kept sent
 
 -- the bytes of lines from number 1
 abbrev pub written_by : List Sending → List ℕ

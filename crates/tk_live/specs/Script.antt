@@ -9,10 +9,10 @@ use Rattle.tk_stream.specs.Spelling.{sent_text}
 use Rattle.tk_stream.specs.Tables.{empty_tables}
 use Rattle.tk_live.specs.Blocks.{Block}
 use Rattle.tk_script.specs.Commands.{Said, Line, says, publish, lines_of, last_line, settings_of}
-use Rattle.tk_live.specs.Course.{Course, start_of_all, course_of}
+use Rattle.tk_live.specs.Course.{start_of_all, course_of}
 use Rattle.tk_live.specs.Ran.{Ran, CameOf, written_by}
 use Rattle.tk_script.specs.Refusals.{stop_name}
-use Rattle.tk_live.specs.Stops.{AllGo, LineStops, LineLeaves}
+use Rattle.tk_live.specs.Stops.{AllGo, LineStops}
 use Rattle.tk_live.specs.Transfer.{IsScript}
 use Rattle.tk_script.specs.declared.stop.Stop.{Stop}
 use Rattle.tk_script.specs.declared.stop.Stop.TheVariants.{BadCommand, WriteFault}
@@ -33,16 +33,14 @@ Fronts sent line stop front = front ≡ []
 pub record StopsAt (answers : ℕ → Bool → Type 0) (ls : List Line) (number : ℕ) (name : List ℕ) (written : List ℕ) : Type 0 where
   pub before : List Line
   pub line : Line
-  pub behind : List Line
-  pub lines : ls ≡ before ++ line ∷ behind
+  pub after : List Line
+  pub lines : ls ≡ before ++ line ∷ after
   pub counted : number ≡ length before + 1
-  -- the text stops none of the lines before it
+  -- the text stops none of the lines before it, and what came of these
   pub goes : AllGo start_of_all (enumerate_from 1 before)
-  -- what they and the line left, and what came of that
-  pub left : Course
-  pub leaves : LineLeaves (course_of before) (number, line) left
+  pub kept : List Bool
   pub sent : List Sending
-  pub came : CameOf (settings_of ls) left sent
+  pub came : CameOf (settings_of ls) (course_of before) kept sent
   -- and how it stops
   pub stop : Stop
   pub stops : LineStops answers (course_of before) line stop
@@ -51,15 +49,16 @@ pub record StopsAt (answers : ℕ → Bool → Type 0) (ls : List Line) (number 
   pub fronts : Fronts sent line stop front
   pub all : written ≡ written_by sent ++ front
 
--- no line stops, and a block is open behind the last, which has this number
+-- no line stops, and a block is open after the last, which has this number
 pub record StaysOpen (ls : List Line) (last number : ℕ) (name : List ℕ) (written : List ℕ) : Type 0 where
   pub counted : number ≡ last
   pub goes : AllGo start_of_all (enumerate_from 1 ls)
   pub block : Block
   pub is_open : (course_of ls).block ≡ Some block
   pub named : name ≡ stop_name BadCommand
+  pub kept : List Bool
   pub sent : List Sending
-  pub came : CameOf (settings_of ls) (course_of ls) sent
+  pub came : CameOf (settings_of ls) (course_of ls) kept sent
   pub all : written ≡ written_by sent
 
 -- what the run of lines has written at its end, of which the last has this number, with what the gate may answer to each worker.

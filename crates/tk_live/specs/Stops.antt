@@ -1,5 +1,5 @@
 -- Why a command stops a script.
-use Rattle.std.specs.Prelude.{◌≡◌, ℕ, ◌+◌, ◌^◌, ◌⊎◌, ◌==◌, ◌||◌, ◌<◌, List, [], ◌∷◌, ◌++◌, length, nat_lt, nat_le, Bool, true, false, Option, Some, None, option_map, if◌then◌else◌}
+use Rattle.std.specs.Prelude.{◌≡◌, ℕ, ◌^◌, ◌⊎◌, ◌==◌, ◌||◌, ◌<◌, List, [], ◌∷◌, ◌++◌, length, nat_lt, nat_le, Bool, true, false, Option, Some, None, option_map, if◌then◌else◌}
 use Rattle.std.specs.Option.{option_map_or}
 use Rattle.tk_ids.specs.IdBlocks.{last_number}
 use Rattle.tk_core.specs.declared.history.Entry.{Entry}
@@ -12,29 +12,18 @@ use Rattle.tk_core.specs.declared.op.call.OpCall.TheVariants as op_calls
 use Rattle.tk_core.specs.declared.resource.call.ResourceCall.TheVariants as resource_calls
 use Rattle.tk_core.specs.Legal.{IsLegal}
 use Rattle.tk_core.specs.Meaning.{Meaning}
-use Rattle.tk_core.specs.Polls.{is_polling}
-use Rattle.tk_core.specs.Task.{start_at, end_at}
-use Rattle.tk_core.specs.Op as op_rules
 use Rattle.tk_core.specs.OpMeaning.{op_meaning}
 use Rattle.tk_core.specs.ResourceMeaning.{resource_meaning}
 use Rattle.tk_core.specs.TaskMeaning.{task_meaning}
 use Rattle.tk_cell.specs.Calls.{entry}
-use Rattle.tk_live.specs.Blocks.{Block, Wakers, after_lines, is_named, lines_of_worker, lines_of_other}
-use Rattle.tk_script.specs.Commands.{Said, Line, skipped, bad, says, opens, joins, works, task, start, finish, close, self_wake, clone, again, wake_ref, wake, release, resource, close_resource, change_resource, op, op_task, start_op, finish_op, close_op, change_op, poll_op, capacity, retention, times, publish}
-use Rattle.tk_live.specs.Course.{Course, TaskHandled, OpHandled, new_resource, step, line_after}
-use Rattle.tk_live.specs.Known.{Handled}
+use Rattle.tk_live.specs.Blocks.{Block, is_named, spends, lines_of_worker, lines_of_other}
+use Rattle.tk_script.specs.Commands.{Said, Line, skipped, bad, says, opens, joins, works, task, start, finish, polls, close, self_wake, clone, again, wake_ref, wake, release, resource, close_resource, change_resource, op, op_task, start_op, finish_op, close_op, change_op, poll_op, capacity, retention, times, publish}
+use Rattle.tk_live.specs.Course.{Course, line_after}
 use Rattle.tk_live.specs.Named.{made_item, live_item}
+use Rattle.tk_live.specs.Pasts.{Past, TaskPast, ResourcePast, Pasts, is_polled, is_polled_op, is_closed_resource, open_task, open_resource, open_op, new_resource}
 use Rattle.tk_script.specs.declared.stop.Stop.{Stop}
 use Rattle.tk_script.specs.declared.stop.Stop.TheVariants.{BadCommand, NoSuchItem, Call, OffersSpent, Clock, NumbersSpent, Memory, WriteFault, NoThread, Stopped}
 use Rattle.tk_script.specs.declared.block.WorkerLine.{WorkerLine}
-
--- a poll of a task is open, by the calls of its owner
-abbrev pub is_polled : TaskHandled → Bool
-is_polled h = is_polling start_at end_at h.calls
-
--- a poll of an async operation is open, by the calls of its owner
-abbrev pub is_polled_op : OpHandled → Bool
-is_polled_op h = is_polling op_rules.start_at op_rules.end_at h.calls
 
 -- a call that is made where no poll is open, of what is there
 abbrev pub unless_polled : Option Bool → Option Stop
@@ -53,11 +42,10 @@ abbrev pub if_there : {X : Type 0} → Option X → Option Stop → Option Stop
 if_there None stop = Some NoSuchItem
 if_there (Some x) stop = stop
 
--- a change by the user of a resource, of what the resource's number names: the user is gone once the resource is closed
-abbrev pub unless_closed : {X : Type 0} → Option (Option X) → Option Stop
-unless_closed None = Some NoSuchItem
-unless_closed (Some None) = Some (Call Closed)
-unless_closed (Some (Some user)) = None
+-- a change by the user of a resource: the user is gone once the resource is closed
+abbrev pub while_there : Option ResourcePast → Option Stop
+while_there None = Some NoSuchItem
+while_there (Some p) = if is_closed_resource p then Some (Call Closed) else None
 
 -- a recorder makes so many offers, and no more
 abbrev pub offer_stop : Course → Option Stop
@@ -66,26 +54,27 @@ offer_stop c = if length c.told == last_number then Some OffersSpent else None
 -- the stop that the text tells of a command, if it tells one
 abbrev pub stop_of : Course → Said → Option Stop
 stop_of c (task at kind name) = offer_stop c
-stop_of c (start n moment) = unless_polled (option_map is_polled (live_item n c.names.tasks))
-stop_of c (finish n moment) = while_polled (option_map is_polled (live_item n c.names.tasks))
-stop_of c (close n moment) = unless_polled (option_map is_polled (live_item n c.names.tasks))
-stop_of c (self_wake n moment) = while_polled (option_map is_polled (live_item n c.names.tasks))
-stop_of c (clone n) = if_there (live_item n c.names.tasks) None
-stop_of c (again n) = if_there (live_item n c.names.wakers) None
-stop_of c (wake_ref n moment) = if_there (live_item n c.names.wakers) None
-stop_of c (wake n moment) = if_there (live_item n c.names.wakers) None
-stop_of c (release n) = if_there (live_item n c.names.wakers) None
+stop_of c (start n moment) = unless_polled (option_map is_polled (open_task n c.pasts))
+stop_of c (finish n moment) = while_polled (option_map is_polled (open_task n c.pasts))
+stop_of c (polls n count moment run every) = unless_polled (option_map is_polled (open_task n c.pasts))
+stop_of c (close n moment) = unless_polled (option_map is_polled (open_task n c.pasts))
+stop_of c (self_wake n moment) = while_polled (option_map is_polled (open_task n c.pasts))
+stop_of c (clone n) = if_there (open_task n c.pasts) None
+stop_of c (again w) = if_there (live_item w c.pasts.wakers) None
+stop_of c (wake_ref w moment) = if_there (live_item w c.pasts.wakers) None
+stop_of c (wake w moment) = if_there (live_item w c.pasts.wakers) None
+stop_of c (release w) = if_there (live_item w c.pasts.wakers) None
 stop_of c (resource at kind concrete attrs) = offer_stop c
-stop_of c (close_resource n moment) = if_there (live_item n c.names.resources) None
-stop_of c (change_resource n index change) = unless_closed (made_item n c.names.users)
-stop_of c (op at r source attrs) = if_there (made_item r c.names.resources) (offer_stop c)
-stop_of c (op_task n t) = if_there (made_item t c.names.tasks) (if_there (live_item n c.names.ops) None)
-stop_of c (start_op n moment) = unless_polled (option_map is_polled_op (live_item n c.names.ops))
-stop_of c (finish_op n moment) = while_polled (option_map is_polled_op (live_item n c.names.ops))
-stop_of c (close_op n moment) = unless_polled (option_map is_polled_op (live_item n c.names.ops))
-stop_of c (change_op n index change) = if_there (live_item n c.names.ops) None
+stop_of c (close_resource n moment) = if_there (open_resource n c.pasts) None
+stop_of c (change_resource n index change) = while_there (made_item n c.pasts.resources)
+stop_of c (op at r source attrs) = if_there (made_item r c.pasts.resources) (offer_stop c)
+stop_of c (op_task n t) = if_there (made_item t c.pasts.tasks) (if_there (open_op n c.pasts) None)
+stop_of c (start_op n moment) = unless_polled (option_map is_polled_op (open_op n c.pasts))
+stop_of c (finish_op n moment) = while_polled (option_map is_polled_op (open_op n c.pasts))
+stop_of c (close_op n moment) = unless_polled (option_map is_polled_op (open_op n c.pasts))
+stop_of c (change_op n index change) = if_there (open_op n c.pasts) None
 stop_of c (poll_op r o t name ready) =
-    if_there (made_item r c.names.resources) (if_there (made_item o c.names.ops) (if_there (made_item t c.names.tasks) (offer_stop c)))
+    if_there (made_item r c.pasts.resources) (if_there (made_item o c.pasts.ops) (if_there (made_item t c.pasts.tasks) (offer_stop c)))
 stop_of c (capacity n) = if c.begun || c.capacity_said then Some BadCommand else None
 stop_of c (retention n) = if c.begun || c.retention_said then Some BadCommand else None
 stop_of c times = if c.begun || c.times_said then Some BadCommand else None
@@ -93,17 +82,22 @@ stop_of c (publish moment whole) =
     if nat_lt moment c.now then Some Clock else
     (if nat_le (2 ^ 63) (length c.due) then Some NumbersSpent else None)
 
--- a ledger's own reply to a call on this handle: in some legal history, from the row that the ledger began with, the call is
--- refused so
-pub record IsReply {Row C : Type 0} (m : Meaning Row C (Reply Row)) (handle : Option (Handled Row C)) (call : C) (refusal : Refusal) : Type 0 where
-  pub on : Handled Row C
-  pub is_on : handle ≡ Some on
-  pub opening : Row
-  pub opened : on.opening ≡ Some opening
-  pub opens : m.IsOpening opening
+-- a ledger's own reply to a call on an item: in some legal history, from the row that its command opens it with, the call is refused so
+pub record IsReply {Row C : Type 0} (m : Meaning Row C (Reply Row)) (opening : Option Row) (call : C) (refusal : Refusal) : Type 0 where
+  pub row : Row
+  pub is_row : opening ≡ Some row
+  pub opens : m.IsOpening row
   pub caller : ℕ
   pub history : List (Entry C (Reply Row))
-  pub legal : IsLegal m opening (history ++ entry caller call (Refused refusal) ∷ [])
+  pub legal : IsLegal m row (history ++ entry caller call (Refused refusal) ∷ [])
+
+-- the row that an item was opened with, if it is there
+abbrev pub opening_of : {Row C : Type 0} → Option (Past Row C) → Option Row
+opening_of item = option_map (λ p. p.opening) item
+
+-- the task of a waker that isn't spent
+abbrev pub woken_task : ℕ → Pasts → Option TaskPast
+woken_task w ps = option_map_or (λ n. made_item n ps.tasks) (live_item w ps.wakers) None
 
 -- a command that takes memory: it makes a task, a resource, an operation or a waker, records a poll, or writes a line. Where a task
 -- that is named would have a number that no id has, the answer is the same
@@ -122,26 +116,20 @@ TakesMemory s = ⊥
 abbrev pub MayFail : Course → Said → Stop → Type 0
 MayFail c s Memory = TakesMemory s
 MayFail c (publish moment whole) WriteFault = Unit {0}
-MayFail c (clone n) (Call HandlesSpent) = IsReply task_meaning (live_item n c.names.tasks) CloneWaker HandlesSpent
-MayFail c (again n) (Call HandlesSpent) = IsReply task_meaning (live_item n c.names.wakers) CloneWaker HandlesSpent
-MayFail c (resource at kind concrete attrs) (Call HandlesSpent) = IsReply resource_meaning (Some (new_resource (length c.names.resources + 1) at attrs)) resource_calls.Enlist HandlesSpent
-MayFail c (change_resource n index change) (Call refusal) = IsReply resource_meaning (live_item n c.names.users) (resource_calls.Attr index change) refusal
-MayFail c (change_op n index change) (Call refusal) = IsReply op_meaning (live_item n c.names.ops) (op_calls.Attr index change) refusal
+MayFail c (clone n) (Call HandlesSpent) = IsReply task_meaning (opening_of (open_task n c.pasts)) CloneWaker HandlesSpent
+MayFail c (again w) (Call HandlesSpent) = IsReply task_meaning (opening_of (woken_task w c.pasts)) CloneWaker HandlesSpent
+MayFail c (resource at kind concrete attrs) (Call HandlesSpent) = IsReply resource_meaning (opening_of (Some (new_resource at attrs))) resource_calls.Enlist HandlesSpent
+MayFail c (change_resource n index change) (Call refusal) = IsReply resource_meaning (opening_of (open_resource n c.pasts)) (resource_calls.Attr index change) refusal
+MayFail c (change_op n index change) (Call refusal) = IsReply op_meaning (opening_of (open_op n c.pasts)) (op_calls.Attr index change) refusal
 MayFail c s stop = ⊥
 
 -- why a command stops: by what the text tells, or else where it may fail
 abbrev pub Stops : Course → Said → Stop → Type 0
 Stops c s stop = (stop_of c s ≡ Some stop) ⊎ MayFail c s stop
 
--- what a command leaves that stops, on a line of this number: what was there before it; or, where a resource was made and its
--- user was not drawn, what is there with the resource
-abbrev pub Leaves : Course → ℕ → Said → Course → Type 0
-Leaves c line (resource at kind concrete attrs) left = (left ≡ c) ⊎ (left ≡ step c line (resource at kind concrete attrs))
-Leaves c line s left = left ≡ c
-
 -- the stop that the text tells of a worker's line: its waker has lines of the other worker, or isn't there behind the worker's own
-abbrev pub work_stop : List WorkerLine → List WorkerLine → Wakers → WorkerLine → Option Stop
-work_stop own others wakers l = if is_named l.waker others then Some BadCommand else if_there (live_item l.waker (after_lines own wakers)) None
+abbrev pub work_stop : List WorkerLine → List WorkerLine → List (Option ℕ) → WorkerLine → Option Stop
+work_stop own others wakers l = if is_named l.waker others then Some BadCommand else if_there (if spends l.waker own then None else live_item l.waker wakers) None
 
 -- the stop that the text tells of a line outside blocks
 abbrev pub stop_outside : Course → Line → Option Stop
@@ -159,7 +147,7 @@ stop_inside c b bad = Some BadCommand
 stop_inside c b (says s) = Some BadCommand
 stop_inside c b opens = Some BadCommand
 stop_inside c b joins = None
-stop_inside c b (works k l) = work_stop (lines_of_worker k b) (lines_of_other k b) c.names.wakers l
+stop_inside c b (works k l) = work_stop (lines_of_worker k b) (lines_of_other k b) c.pasts.wakers l
 
 -- the stop that the text tells of a line, if it tells one
 abbrev pub line_stop : Course → Line → Option Stop
@@ -204,11 +192,6 @@ MayFailWhere answers c (Some b) line stop = MayFailInside answers b line stop
 abbrev pub LineMayFail : (ℕ → Bool → Type 0) → Course → Line → Stop → Type 0
 LineMayFail answers c line stop = MayFailWhere answers c c.block line stop
 
--- why a line stops, behind lines that come to this: by what the text tells, or else where it may fail
+-- why a line stops, after lines that come to this: by what the text tells, or else where it may fail
 abbrev pub LineStops : (ℕ → Bool → Type 0) → Course → Line → Stop → Type 0
 LineStops answers c line stop = (line_stop c line ≡ Some stop) ⊎ LineMayFail answers c line stop
-
--- what a line leaves that stops
-abbrev pub LineLeaves : Course → ℕ × Line → Course → Type 0
-LineLeaves c (n, says s) left = Leaves c n s left
-LineLeaves c (n, _) left = left ≡ c

@@ -10,28 +10,26 @@ mod resources;
 mod tasks;
 mod wakers;
 
+use crate::items::{OpItem, ResourceItem, TaskItem, WakerItem};
 use std::alloc::Global;
 use std::io::Write;
 use std::sync::Wait;
 use tk_aggregator::{Aggregator, StreamError};
-use tk_events::{Console, Limits, Recorder, RetiredRecorder, Taker};
-use tk_ledgers::{OpOwner, ResourceOwner, ResourceUser, TaskOwner, WakerHandle};
+use tk_events::{Console, Limits, Recorder, Taker};
 use tk_script::{Command, Settings, Stop};
 
-/// The recorder, the taker and the aggregator of a script, and the handles that its numbers name.
+/// The recorder, the taker and the aggregator of a script, and what is kept of its items, each at its number.
 #[derive(Drop)]
 pub(crate) struct Interpreter {
     pub(crate) recorder: Recorder,
     pub(crate) taker: Taker,
     pub(crate) aggregator: Aggregator,
-    pub(crate) capacity: u64,
     // Whether each task gets a histogram of how long its polls ran.
     pub(crate) times: bool,
-    pub(crate) tasks: Vec<Option<TaskOwner>>,
-    pub(crate) wakers: Vec<Option<WakerHandle>>,
-    pub(crate) resources: Vec<Option<ResourceOwner>>,
-    pub(crate) users: Vec<Option<ResourceUser>>,
-    pub(crate) ops: Vec<Option<OpOwner>>,
+    pub(crate) tasks: Vec<TaskItem>,
+    pub(crate) wakers: Vec<Option<WakerItem>>,
+    pub(crate) resources: Vec<ResourceItem>,
+    pub(crate) ops: Vec<OpItem>,
     // Which settings were said, and whether there was any other command.
     pub(crate) capacity_said: bool,
     pub(crate) retention_said: bool,
@@ -53,14 +51,10 @@ fn aggregator_for(alloc: Global, settings: Settings) -> Result<Aggregator, Strea
 }
 
 impl Interpreter {
-    ghost use Rattle.std.specs.Prelude.{◌≡◌, ◌≤◌, ◌||◌, not, ℕ, List, [], Bool, IfOk};
-    ghost use Rattle.std.specs.Vec.{vec_capacity};
-    ghost use Rattle.tk_stream.specs.Streams.{Sending};
+    ghost use Rattle.std.specs.Prelude.{◌≡◌, ◌≤◌, ◌||◌, not, ℕ, [], IfOk};
     ghost use Rattle.tk_script.specs.Commands.{view, IsGood, capacity, retention, times, is_setting};
-    ghost use Rattle.tk_live.specs.Course.{Course, step, step_on, start_of_all};
-    ghost use Rattle.tk_live.specs.Ran.{picked, AreLinesOf};
-    ghost use Rattle.tk_live.specs.Runs.{StandsFor, Stays, Comes, Does};
-    ghost use Rattle.tk_script.specs.declared.settings.Settings.{Settings};
+    ghost use Rattle.tk_live.specs.Course.{step, step_on, start_of_all};
+    ghost use Rattle.tk_live.specs.Runs.{StandsFor, Stands, Comes, Does};
 
     pub(crate) fn new(alloc: Global, settings: Settings) -> Result<Interpreter, Stop>
         requires { (1 ≤ settings.capacity) × (settings.capacity ≤ 65536) }
@@ -84,38 +78,16 @@ impl Interpreter {
             recorder,
             taker,
             aggregator,
-            capacity: settings.capacity,
             times: settings.times,
             tasks: Vec::new(alloc),
             wakers: Vec::new(alloc),
             resources: Vec::new(alloc),
-            users: Vec::new(alloc),
             ops: Vec::new(alloc),
             capacity_said: false,
             retention_said: false,
             times_said: false,
             begun: false,
         })
-    }
-
-    /// Retires the recorder and finishes the taker, without taking what is left.
-    pub(crate) fn finish(self, room: Vec<RetiredRecorder>)
-        requires room { (room.items ≡ []) × (1 ≤ vec_capacity room) }
-        requires keeps { (settings : Settings) × (c : Course) × (kept : List Bool) × (sent : List Sending) × Stays self settings c kept sent }
-        ensures { (settings : Settings) (c : Course) (kept : List Bool) (sent : List Sending) → Stays self settings c kept sent
-            → AreLinesOf settings (picked kept c.told) c.due sent }
-    {
-        let Interpreter {
-            recorder,
-            mut taker,
-            ..
-        } = self;
-        let mut retired = room;
-        retired.push_reserved(recorder.retire());
-        match taker.finish(retired) {
-            Ok(()) => {}
-            Err(_) => unreachable!(),
-        }
     }
 
     /// What comes of a command, on a line of this number, and that no setting may stand after it if it is none.
@@ -128,6 +100,7 @@ impl Interpreter {
         writer: &mut W,
     ) -> Result<(), Stop>
         requires good { IsGood (view command) }
+        requires stands { Stands self.old }
         ensures { Comes step_on line (view command.entry) self.old self.new result
             (W.contents writer.old) (W.contents writer.new) }
     {
@@ -158,6 +131,7 @@ impl Interpreter {
         writer: &mut W,
     ) -> Result<(), Stop>
         requires good { IsGood (view command) }
+        requires stands { Stands self.old }
         ensures { Comes step line (view command.entry) self.old self.new result
             (W.contents writer.old) (W.contents writer.new) }
     {
@@ -167,6 +141,13 @@ impl Interpreter {
             }
             Command::Start { task, moment } => self.start(rt, task, moment),
             Command::End { task, moment } => self.end(rt, task, moment),
+            Command::Polls {
+                task,
+                count,
+                moment,
+                run,
+                every,
+            } => self.polls(rt, task, count, moment, run, every),
             Command::Close { task, moment } => self.close(rt, task, moment),
             Command::SelfWake { task, moment } => self.self_wake(rt, task, moment),
             Command::CloneWaker { task } => self.clone_waker(rt, task),

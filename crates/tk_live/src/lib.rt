@@ -1,5 +1,5 @@
-//! A script, and its run over live ledgers: one recorder, one taker and the aggregator, and the handles that the script's
-//! numbers name.
+//! A script, and its run over live ledgers: one recorder, one taker and the aggregator, and of each item that the script's numbers
+//! name the hand that makes its calls.
 //!
 //! - [`run_script`]: reads a script, runs it line by line, and writes the stream that it publishes.
 //! - [`Gate`]: what a script's threads ask before each of their commands.
@@ -7,7 +7,9 @@
 
 mod block;
 mod gate;
+mod handed;
 mod interpreter;
+mod items;
 mod join;
 mod script;
 mod seats;

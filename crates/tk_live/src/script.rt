@@ -7,7 +7,7 @@ ghost use Rattle.std.specs.Io.KnownBytes.{Appends};
 ghost use Rattle.tk_script.specs.Commands.{ends_line, last_line, block_line, line_of, lines_of, settings_of};
 ghost use Rattle.tk_live.specs.Course.{start_of_all};
 ghost use Rattle.tk_script.specs.Pieces.{pieces_at};
-ghost use Rattle.tk_live.specs.Runs.{StandsFor, BlockComes, LineComes, LinesCame};
+ghost use Rattle.tk_live.specs.Runs.{StandsFor, Stands, BlockComes, LineComes, LinesCame};
 ghost use Rattle.tk_live.specs.Script.{RunWrites, ReadsAndRuns};
 
 use crate::block::OpenBlock;
@@ -30,6 +30,7 @@ fn run_block_line<R: Threads + Wait + Sync, G: Gate + Sync>(
     block: &mut Option<OpenBlock>,
     said: BlockSaid,
 ) -> Result<(), Stop>
+    requires stands { Stands interpreter.old }
     ensures { (number : ℕ) → BlockComes (G.answers gate.now) number (block_line said) interpreter.old block.old interpreter.new block.new result }
 {
     match said {
@@ -63,6 +64,7 @@ fn run_line<R: Threads + Wait + Sync, W: Write, G: Gate + Sync>(
     line: &[u8],
     writer: &mut W,
 ) -> Result<(), Stop>
+    requires stands { Stands interpreter.old }
     ensures { LineComes (G.answers gate.now) number (line_of line.now) interpreter.old block.old interpreter.new block.new result
         (W.contents writer.old) (W.contents writer.new) }
 {
@@ -114,7 +116,7 @@ fn run_lines<R: Threads + Wait + Sync, W: Write, G: Gate + Sync>(
 ) -> Result<(), AppFault>
     requires short { length script.now ≤ MAX_SCRIPT }
     requires fresh { StandsFor interpreter.old (settings_of (lines_of script.now)) start_of_all [] [] }
-    ensures { (text : List ℕ) × LinesCame (G.answers gate.now) (last_line script.now) (lines_of script.now) (settings_of (lines_of script.now)) interpreter.new result text
+    ensures { (text : List ℕ) × LinesCame (G.answers gate.now) (last_line script.now) (lines_of script.now) (settings_of (lines_of script.now)) result text
         × Appends (W.contents writer.old) (W.contents writer.new) text }
 {
     let mut block = None;
@@ -146,7 +148,7 @@ fn run_lines<R: Threads + Wait + Sync, W: Write, G: Gate + Sync>(
     Ok(())
 }
 
-// A script that was read. At its end, be it a fault, the recorder is retired and the taker finished.
+// A script that was read.
 fn run<R: Threads + Wait + Sync, W: Write, G: Gate + Sync>(
     rt: &R,
     alloc: Global,
@@ -164,12 +166,7 @@ fn run<R: Threads + Wait + Sync, W: Write, G: Gate + Sync>(
     let Ok(mut interpreter) = Interpreter::new(alloc, settings) else {
         return Err(AppFault::Memory);
     };
-    let Ok(room) = Vec::with_capacity(alloc, 1) else {
-        return Err(AppFault::Memory);
-    };
-    let done = run_lines(rt, alloc, gate, &mut interpreter, script, writer);
-    interpreter.finish(room);
-    done
+    run_lines(rt, alloc, gate, &mut interpreter, script, writer)
 }
 
 /// Reads a script, runs it over live ledgers, and writes the stream that it publishes.

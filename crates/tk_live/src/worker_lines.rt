@@ -26,20 +26,20 @@ pub(crate) struct WorkerLines {
 
 impl Model for WorkerLines {
     ghost use Rattle.std.specs.Prelude.{List};
-    ghost use Rattle.tk_live.specs.Threads.{AreMarked};
+    ghost use Rattle.tk_live.specs.Threads.{AreMarked, LastsAreLast};
     ghost use Rattle.tk_script.specs.declared.block.WorkerLine.{WorkerLine};
 
     ghost Value = { List WorkerLine };
 
     ghost view = { λ w. w.lines.items };
 
-    ghost invariant = { λ w. AreMarked w.lines.items w.spent };
+    ghost invariant = { λ w. AreMarked w.lines.items w.spent × LastsAreLast w.lines.items };
 }
 
 impl WorkerLines {
-    ghost use Rattle.std.specs.Prelude.{◌≡◌, ◌++◌, ◌∷◌, [], OnOk, OnErr};
+    ghost use Rattle.std.specs.Prelude.{◌≡◌, ◌++◌, ◌∷◌, [], false, OnOk, OnErr};
     ghost use Rattle.tk_live.specs.Blocks as blocks;
-    ghost use Rattle.tk_live.specs.Threads as threads;
+    ghost use Rattle.tk_live.specs.Threads.{LastsAreLast};
 
     pub(crate) fn new(alloc: Global) -> WorkerLines
         ensures { result ≡ [] }
@@ -51,7 +51,8 @@ impl WorkerLines {
     }
 
     pub(crate) fn as_slice(&self) -> &[WorkerLine]
-        ensures { result.now ≡ self.now }
+        ensures lines { result.now ≡ self.now }
+        ensures lasts { LastsAreLast self.now }
     {
         self.lines.as_slice()
     }
@@ -65,7 +66,7 @@ impl WorkerLines {
 
     /// Whether lines have the last call of a waker.
     pub(crate) fn spends(&self, waker: u64) -> bool
-        ensures { result ≡ threads.spends waker self.now }
+        ensures { result ≡ blocks.spends waker self.now }
     {
         match self.spent.get(&waker) {
             Some(spent) => *spent,
@@ -73,8 +74,9 @@ impl WorkerLines {
         }
     }
 
-    /// One line more.
+    /// One line more, whose waker's last call no line has.
     pub(crate) fn push(&mut self, line: WorkerLine) -> Result<(), AllocError>
+        requires { blocks.spends line.waker self.old ≡ false }
         ensures ok { OnOk result (self.new ≡ self.old ++ line ∷ []) }
         ensures err { OnErr result (self.new ≡ self.old) }
     {

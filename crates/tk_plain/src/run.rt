@@ -109,6 +109,13 @@ impl Plain {
         let done = match command {
             Command::Start { task, moment } => self.call_task(*task, TaskCall::PollStart(*moment)),
             Command::End { task, moment } => self.end_poll(*task, *moment),
+            Command::Polls {
+                task,
+                count,
+                moment,
+                run,
+                every,
+            } => self.poll_task(*task, *count, *moment, *run, *every),
             Command::Close { task, moment } => self.call_task(*task, TaskCall::Close(*moment)),
             Command::SelfWake { task, moment } => self.wake_itself(*task, *moment),
             Command::CloneWaker { task } => self.clone_waker(*task),

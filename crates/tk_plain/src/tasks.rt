@@ -145,6 +145,24 @@ impl Plain {
         Ok(())
     }
 
+    /// Its owner polls a task so many times. Each poll runs so long, and each further one starts so much later.
+    pub(crate) fn poll_task(
+        &mut self,
+        number: u64,
+        count: u64,
+        moment: u64,
+        run: u64,
+        every: u64,
+    ) -> Result<(), Stop> {
+        let mut start = moment;
+        for _ in 0..count {
+            self.call_task(number, TaskCall::PollStart(start))?;
+            self.end_poll(number, start.saturating_add(run))?;
+            start = start.saturating_add(every);
+        }
+        Ok(())
+    }
+
     /// A task wakes itself in its open poll.
     pub(crate) fn wake_itself(&mut self, number: u64, moment: u64) -> Result<(), Stop> {
         let place = self.open_task(number)?;

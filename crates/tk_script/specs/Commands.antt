@@ -1,5 +1,5 @@
 -- What a line of a script says.
-use Rattle.std.specs.Prelude.{◌≡◌, ℕ, ◌-◌, ◌≤◌, List, [], ◌∷◌, length, map, if◌then◌else◌, Option, Some, None, option_map, option_and_then, codes, Bool, true, false, ◌==◌, ◌&&◌, nat_le}
+use Rattle.std.specs.Prelude.{◌≡◌, ℕ, ◌+◌, ◌-◌, ◌*◌, ◌^◌, ◌<◌, ◌≤◌, List, [], ◌∷◌, length, map, if◌then◌else◌, Option, Some, None, option_map, option_and_then, codes, Bool, true, false, ◌==◌, ◌&&◌, nat_le, nat_lt}
 use Rattle.std.specs.List.{ends_with}
 use Rattle.std.specs.Option.{option_or, option_map_or}
 use Rattle.std.specs.Str.{bytes_eq}
@@ -11,7 +11,7 @@ use Rattle.tk_core.specs.declared.attrs.AttrOp.{AttrOp}
 use Rattle.tk_core.specs.declared.attrs.AttrOp.TheVariants.{Add, Sub, Override}
 use Rattle.tk_script.specs.Attributes.{attrs_by, value_of}
 use Rattle.tk_script.specs.Pieces.{pieces_at}
-use Rattle.tk_script.specs.Words.{moment, kind, readiness, one_number, two_numbers}
+use Rattle.tk_script.specs.Words.{moment, kind, readiness, one_number, two_numbers, five_numbers}
 use Rattle.tk_script.specs.declared.block.BlockSaid.{BlockSaid}
 use Rattle.tk_script.specs.declared.block.BlockSaid.TheVariants as blocks
 use Rattle.tk_script.specs.declared.block.WakerCall.{WakerCall}
@@ -30,6 +30,8 @@ pub data Said : Type 0 where
   -- calls of the owner of a task
   start : ℕ → ℕ → Said
   finish : ℕ → ℕ → Said
+  -- polls of a task, one after the other: how many, when the first starts, how long each runs, and how far apart they start
+  polls : ℕ → ℕ → ℕ → ℕ → ℕ → Said
   close : ℕ → ℕ → Said
   self_wake : ℕ → ℕ → Said
   clone : ℕ → Said
@@ -68,6 +70,7 @@ abbrev pub view : Command → Said
 view (commands.Task moment kind name) = task moment kind name.now
 view (commands.Start number moment) = start number moment
 view (commands.End number moment) = finish number moment
+view (commands.Polls number count moment run every) = polls number count moment run every
 view (commands.Close number moment) = close number moment
 view (commands.SelfWake number moment) = self_wake number moment
 view (commands.CloneWaker number) = clone number
@@ -90,9 +93,10 @@ view (commands.Retention span) = retention span
 view commands.Times = times
 view (commands.Publish moment whole) = publish moment whole
 
--- what a command names is a name, and a capacity is in range
+-- what a command names is a name, a capacity is in range, and so are polls: 1 to 1,000,000, whose moments 64 bits hold
 abbrev pub IsGood : Said → Type 0
 IsGood (task at kind name) = is_name name ≡ true
+IsGood (polls number count at run every) = (1 ≤ count) × (count ≤ 1000000) × (at + count * every + run < 2 ^ 64)
 IsGood (resource at kind concrete attrs) = (is_name kind ≡ true) × (is_name concrete ≡ true)
 IsGood (op at r source attrs) = is_name source ≡ true
 IsGood (poll_op r o t name ready) = is_name name ≡ true
@@ -106,15 +110,24 @@ abbrev pub task_by : List (List ℕ) → Option Said
 task_by (m ∷ k ∷ n ∷ []) = option_and_then (λ at. option_and_then (λ of. if is_name n then Some (task at of n) else None) (kind k)) (moment m)
 task_by _ = None
 
--- a task, or a call of its owner
+-- whether so many polls can be: 1 to 1,000,000, whose moments 64 bits hold
+abbrev pub are_polls : ℕ → ℕ → ℕ → ℕ → Bool
+are_polls count at run every = nat_le 1 count && (nat_le count 1000000 && nat_lt (at + count * every + run) (2 ^ 64))
+
+-- polls of a task by its owner: its number, how many, when the first starts, how long each runs, and how far apart they start
+abbrev pub polls_by : List (List ℕ) → Option Said
+polls_by words = option_and_then (λ p. if are_polls p.1 p.2 p.3 p.4 then Some (polls p.0 p.1 p.2 p.3 p.4) else None) (five_numbers words)
+
+-- a task, or calls of its owner
 abbrev pub task_said : List ℕ → List (List ℕ) → Option Said
 task_said w words =
     if bytes_eq w (codes "task") then task_by words else
     (if bytes_eq w (codes "start") then option_map (λ p. start p.0 p.1) (two_numbers words) else
     (if bytes_eq w (codes "end") then option_map (λ p. finish p.0 p.1) (two_numbers words) else
+    (if bytes_eq w (codes "polls") then polls_by words else
     (if bytes_eq w (codes "close") then option_map (λ p. close p.0 p.1) (two_numbers words) else
     (if bytes_eq w (codes "selfwake") then option_map (λ p. self_wake p.0 p.1) (two_numbers words) else
-    (if bytes_eq w (codes "clone") then option_map (λ n. clone n) (one_number words) else None)))))
+    (if bytes_eq w (codes "clone") then option_map (λ n. clone n) (one_number words) else None))))))
 
 -- a call of a waker
 abbrev pub waker_said : List ℕ → List (List ℕ) → Option Said

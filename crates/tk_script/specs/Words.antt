@@ -44,3 +44,9 @@ one_number _ = None
 abbrev pub two_numbers : List (List ℕ) → Option (ℕ × ℕ)
 two_numbers (m ∷ n ∷ []) = option_and_then (λ a. option_map (λ b. (a, b)) (moment n)) (moment m)
 two_numbers _ = None
+
+-- five words, which are numbers
+abbrev pub five_numbers : List (List ℕ) → Option (ℕ × ℕ × ℕ × ℕ × ℕ)
+five_numbers (m ∷ n ∷ o ∷ p ∷ q ∷ []) =
+    option_and_then (λ a. option_and_then (λ b. option_and_then (λ c. option_and_then (λ d. option_map (λ e. (a, b, c, d, e)) (moment q)) (moment p)) (moment o)) (moment n)) (moment m)
+five_numbers _ = None

@@ -1,17 +1,20 @@
 //! What a line of a script says.
-ghost use Rattle.std.specs.Prelude.{◌≡◌, IfErr, IfOk, IfSome, option_map, true};
+ghost use Rattle.std.specs.Prelude.{◌≡◌, ◌+◌, ◌*◌, ◌^◌, IfErr, IfOk, IfSome, option_map, nat_lt, true};
 ghost use Rattle.tk_script.specs.Pieces.{pieces_left};
 ghost use Rattle.tk_script.specs.Commands as spec;
 
 use crate::attributes::{attributes_of, value_of};
 use crate::pieces::Pieces;
-use crate::words::{kind_of, moment_of, one_number, readiness_of, two_numbers};
+use crate::words::{five_numbers, kind_of, moment_of, one_number, readiness_of, two_numbers};
 use std::alloc::{AllocError, Global};
 use tk_core::AttrOp;
 use tk_ids::{AttrValue, Attrs, TaskKind, is_name};
 
 /// The most events that a script's console may hold.
 const MAX_CAPACITY: u64 = 65_536;
+
+/// The most polls that one command makes.
+const MAX_POLLS: u64 = 1_000_000;
 
 /// What a line of a script says. It names items by their numbers from 1, and moments are in nanoseconds.
 #[derive(Drop)]
@@ -31,6 +34,14 @@ pub enum Command<'a> {
     End {
         task: u64,
         moment: u64,
+    },
+    /// Its owner polls a task so many times. The first poll starts at a moment, each runs so long, and each further one starts so much later.
+    Polls {
+        task: u64,
+        count: u64,
+        moment: u64,
+        run: u64,
+        every: u64,
     },
     /// Its owner closes a task, and is spent.
     Close {
@@ -171,7 +182,38 @@ fn task_of(words: Pieces<'_>) -> Option<Command<'_>>
     Some(Command::Task { moment, kind, name })
 }
 
-// A task, or a call of its owner.
+// Whether 64 bits hold the moments of so many polls.
+fn have_moments(count: u64, moment: u64, run: u64, every: u64) -> bool
+    ensures { result ≡ nat_lt (moment + count * every + run) (2 ^ 64) }
+{
+    let Some(span) = count.checked_mul(every) else {
+        return false;
+    };
+    let Some(last) = moment.checked_add(span) else {
+        return false;
+    };
+    last.checked_add(run).is_some()
+}
+
+// Polls of a task by its owner, from 1 to 1,000,000 of them.
+fn polls_of(words: Pieces<'_>) -> Option<Command<'_>>
+    ensures said { option_map spec.view result ≡ spec.polls_by (pieces_left words.entry) }
+    ensures good { IfSome result (λ c. spec.IsGood (spec.view c)) }
+{
+    let (task, count, moment, run, every) = five_numbers(words)?;
+    if count == 0 || count > MAX_POLLS || !have_moments(count, moment, run, every) {
+        return None;
+    }
+    Some(Command::Polls {
+        task,
+        count,
+        moment,
+        run,
+        every,
+    })
+}
+
+// A task, or calls of its owner.
 fn task_command<'a>(word: &[u8], words: Pieces<'a>) -> Option<Command<'a>>
     ensures said { option_map spec.view result ≡ spec.task_said word.now (pieces_left words.entry) }
     ensures good { IfSome result (λ c. spec.IsGood (spec.view c)) }
@@ -182,6 +224,8 @@ fn task_command<'a>(word: &[u8], words: Pieces<'a>) -> Option<Command<'a>>
         two_numbers(words).map(|(task, moment)| Command::Start { task, moment })
     } else if word == b"end".as_slice() {
         two_numbers(words).map(|(task, moment)| Command::End { task, moment })
+    } else if word == b"polls".as_slice() {
+        polls_of(words)
     } else if word == b"close".as_slice() {
         two_numbers(words).map(|(task, moment)| Command::Close { task, moment })
     } else if word == b"selfwake".as_slice() {

@@ -90,3 +90,25 @@ pub(crate) fn two_numbers(words: Pieces<'_>) -> Option<(u64, u64)>
     }
     Some((moment_of(first)?, moment_of(second)?))
 }
+
+/// The five numbers that the words are.
+pub(crate) fn five_numbers(words: Pieces<'_>) -> Option<(u64, u64, u64, u64, u64)>
+    ensures { result ≡ spec.five_numbers (pieces_left words.entry) }
+{
+    let mut words = words;
+    let first = words.next()?;
+    let second = words.next()?;
+    let third = words.next()?;
+    let fourth = words.next()?;
+    let fifth = words.next()?;
+    if words.next().is_some() {
+        return None;
+    }
+    Some((
+        moment_of(first)?,
+        moment_of(second)?,
+        moment_of(third)?,
+        moment_of(fourth)?,
+        moment_of(fifth)?,
+    ))
+}

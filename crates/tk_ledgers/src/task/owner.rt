@@ -8,16 +8,16 @@ ghost use Rattle.tk_core.specs.Task.{opening_row, start_at, end_at};
 ghost use Rattle.tk_core.specs.TaskMeaning.{task_meaning};
 ghost use Rattle.tk_cell.specs.Views.{opened};
 ghost use Rattle.tk_cell.specs.Calls.{Calls};
-ghost use Rattle.tk_ledgers.specs.Handles.{Drew, NotDrawn};
+ghost use Rattle.tk_ledgers.specs.Handles.{Drew, NotDrawn, sight};
 ghost use Rattle.tk_ledgers.specs.Tasks.{is_polling, names, owner_calls};
-ghost use Rattle.tk_ledgers.specs.Times.{IsTimed, IsNewHistogram, AddsTime, InspectsTimes, IsSameHistogram, IsOfHistogram};
+ghost use Rattle.tk_ledgers.specs.Times.{IsOfTask, IsTimed, IsNewHistogram, known_times, AddsTime, InspectsTimes, IsSameHistogram, IsOfHistogram};
 ghost use Rattle.tk_core.specs.declared.reply.Refusal.TheVariants.{AlreadyPolling, NotPolling};
 
 use crate::handle::Handle;
 use crate::role::{Enlisted, Owning, Waking};
 use crate::task::timed::{self, Timed};
 use crate::task::{Origin, PollScope, TaskCallers, TaskInspector, TaskReceipt, WakerHandle};
-use crate::times::TimesInspector;
+use crate::times::{TimesInspector, TimesOwner};
 use std::alloc::{AllocError, Global};
 use std::marker::Model;
 use std::sync::Wait;
@@ -105,6 +105,17 @@ impl TaskOwner {
         ensures { result ≡ self }
     {
         TaskCallers::new(self.id, self.polling, self.handle.into_callers())
+    }
+
+    /// Takes the owner of the histogram. `None` where there is none. No entry is made. The polls of the task are added to it no more, but by
+    /// whom it was taken.
+    pub fn take_times(&mut self) -> Option<TimesOwner>
+        ensures taken { known_times result ≡ self.old.times }
+        ensures task { IsOfTask self.old.id result }
+        ensures left { self.new ≡ sight self.old.id self.old.token }
+    {
+        let timed = self.timed.take()?;
+        Some(timed.into_times())
     }
 
     /// The task.

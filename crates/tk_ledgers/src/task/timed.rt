@@ -61,6 +61,14 @@ impl Timed {
         self.times.inspect(rt)
     }
 
+    /// Its owner.
+    pub fn into_times(self) -> TimesOwner
+        ensures id { result.id ≡ self.id }
+        ensures token { result.token ≡ self.times }
+    {
+        self.times
+    }
+
     fn retire(self) -> TimesReceipt
         ensures id { result.id ≡ self.id }
         ensures token { result.token ≡ self.times }

@@ -1,15 +1,52 @@
 //! The lines of the stream.
-ghost use Rattle.std.specs.Prelude.{◌≡◌, OnOk, IfErr};
+ghost use Rattle.std.specs.Prelude.{◌≡◌, false, List, length, OnOk, IfErr};
+ghost use Rattle.std.specs.List.{AllByRecursion};
 ghost use Rattle.std.specs.Io.KnownBytes.{Appends};
 ghost use Rattle.tk_stream.specs.Spelling.{sent_text};
 ghost use Rattle.tk_stream.specs.Streams.{MaySend};
-ghost use Rattle.tk_aggregator.specs.Aggregates.{IsDue, IsSound, Refuses, after_line, line_at, sending_at};
+ghost use Rattle.tk_ledgers.specs.Ops.{OpSight};
+ghost use Rattle.tk_ledgers.specs.Resources.{ResourceSight};
+ghost use Rattle.tk_ledgers.specs.Tasks.{TaskSight};
+ghost use Rattle.tk_live.specs.Items.{EachFrom, IsTask, IsResource, IsOp};
+ghost use Rattle.tk_live.specs.Pasts.{TaskPast, ResourcePast, OpPast};
+ghost use Rattle.tk_live.specs.Read.{CollectsAll, AreTasksRead, AreResourcesRead, AreOpsRead};
+ghost use Rattle.tk_live.specs.Runs.{IsTaskLedger, IsResourceLedger, IsOpLedger};
+ghost use Rattle.tk_aggregator.specs.Aggregates.{IsDue, IsSound, Refuses, TookMore, after_line, line_at, sending_at};
 
 use super::Interpreter;
+use crate::items::{OpItem, ResourceItem, TaskItem};
 use std::io::Write;
 use std::sync::Wait;
 use tk_aggregator::{Aggregator, StreamError};
+use tk_events::{Recorder, Taker};
 use tk_script::Stop;
+
+// Takes in all that was recorded and kept by then, of an aggregator that is sound before it and after it.
+fn collect<R: Wait>(
+    aggregator: &mut Aggregator,
+    rt: &R,
+    taker: &mut Taker,
+    recorder: &mut Recorder,
+) -> Result<(), StreamError>
+    requires console { recorder.old.console ≡ taker.old.console }
+    requires recorders { recorder.old.recorders ≡ taker.old.recorders }
+    requires unfinished { taker.old.finished ≡ false }
+    ensures same { recorder.new ≡ recorder.old }
+    ensures ok { OnOk result (CollectsAll recorder.old aggregator.old taker.old aggregator.new taker.new) }
+    ensures took { TookMore taker.old taker.new }
+    ensures sound { IsSound aggregator.old }
+    ensures stays_sound { IsSound aggregator.new }
+{
+    aggregator.tables();
+    let collected = aggregator.collect_beside(rt, taker, recorder, u64::MAX);
+    aggregator.tables();
+    match collected {
+        // No recorder makes so many offers, so this is never answered.
+        Ok(u64::MAX) => Err(StreamError::Memory),
+        Ok(_) => Ok(()),
+        Err(error) => Err(error),
+    }
+}
 
 // The next line, as a snapshot or not.
 fn write_line<W: Write>(
@@ -52,13 +89,62 @@ fn send<W: Write>(
     sent
 }
 
+// Reads each task beside the hand that makes its calls.
+fn read_tasks<R: Wait>(aggregator: &mut Aggregator, rt: &R, tasks: &mut Vec<TaskItem>)
+    requires known { (ps : List TaskPast) × EachFrom IsTask 1 ps tasks.old.items }
+    requires linked { AllByRecursion (λ (s : TaskSight). IsTaskLedger tasks.old.items s.id s.token.ledger) aggregator.old.tasks }
+    ensures { AreTasksRead (length tasks.old.items) aggregator.old tasks.old.items aggregator.new tasks.new.items }
+{
+    aggregator.tables();
+    for i in 0..tasks.len() {
+        aggregator.read_task_beside(rt, &mut tasks[i].callers);
+    }
+}
+
+// Reads each resource so.
+fn read_resources<R: Wait>(aggregator: &mut Aggregator, rt: &R, resources: &mut Vec<ResourceItem>)
+    requires known { (ps : List ResourcePast) × EachFrom IsResource 1 ps resources.old.items }
+    requires linked { AllByRecursion (λ (s : ResourceSight). IsResourceLedger resources.old.items s.id s.token.ledger) aggregator.old.resources }
+    ensures { AreResourcesRead (length resources.old.items) aggregator.old resources.old.items aggregator.new resources.new.items }
+{
+    aggregator.tables();
+    for i in 0..resources.len() {
+        aggregator.read_resource_beside(rt, &mut resources[i].callers);
+    }
+}
+
+// Reads each async operation so.
+fn read_ops<R: Wait>(aggregator: &mut Aggregator, rt: &R, ops: &mut Vec<OpItem>)
+    requires known { (ps : List OpPast) × EachFrom IsOp 1 ps ops.old.items }
+    requires linked { AllByRecursion (λ (s : OpSight). IsOpLedger ops.old.items s.id s.token.ledger) aggregator.old.ops }
+    ensures { AreOpsRead (length ops.old.items) aggregator.old ops.old.items aggregator.new ops.new.items }
+{
+    aggregator.tables();
+    for i in 0..ops.len() {
+        aggregator.read_op_beside(rt, &mut ops[i].callers);
+    }
+}
+
 impl Interpreter {
     ghost use Rattle.std.specs.Prelude.{ℕ};
     ghost use Rattle.tk_script.specs.Commands as said;
     ghost use Rattle.tk_live.specs.Course.{step};
-    ghost use Rattle.tk_live.specs.Runs.{Comes};
+    ghost use Rattle.tk_live.specs.Read.{MayRead, AreItemsRead};
+    ghost use Rattle.tk_live.specs.Runs.{Comes, Stands};
 
-    // A line of the stream, as a snapshot or not: of what was taken by then and of rows as they are now.
+    // Reads each item beside the hand that makes its calls, and then the histograms.
+    fn read_items<R: Wait>(&mut self, rt: &R)
+        requires { MayRead self.old }
+        ensures { AreItemsRead self.old self.new }
+    {
+        read_tasks(&mut self.aggregator, rt, &mut self.tasks);
+        read_resources(&mut self.aggregator, rt, &mut self.resources);
+        read_ops(&mut self.aggregator, rt, &mut self.ops);
+        self.aggregator.tables();
+        self.aggregator.refresh_times(rt);
+    }
+
+    // A line of the stream, as a snapshot or not: of all that was recorded and kept by then, and of rows as they are now.
     pub(super) fn publish<R: Wait, W: Write>(
         &mut self,
         rt: &R,
@@ -66,13 +152,19 @@ impl Interpreter {
         whole: bool,
         writer: &mut W,
     ) -> Result<(), Stop>
+        requires { Stands self.old }
         ensures { (line : ℕ) → Comes step line (said.publish moment whole) self.old self.new result
             (W.contents writer.old) (W.contents writer.new) }
     {
-        if let Err(_) = self.aggregator.collect(rt, &mut self.taker, self.capacity) {
+        if let Err(_) = collect(
+            &mut self.aggregator,
+            rt,
+            &mut self.taker,
+            &mut self.recorder,
+        ) {
             return Err(Stop::Memory);
         }
-        self.aggregator.refresh(rt);
+        self.read_items(rt);
         match send(&mut self.aggregator, moment, whole, writer) {
             Ok(_) => Ok(()),
             Err(StreamError::Clock) => Err(Stop::Clock),

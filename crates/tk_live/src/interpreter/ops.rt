@@ -1,18 +1,14 @@
 //! Async operations, and the calls of their owners.
-ghost use Rattle.std.specs.Prelude.{◌≡◌, ◌<◌, ◌≤◌, IfOk, IfErr, OnOk, None};
+ghost use Rattle.std.specs.Prelude.{◌≡◌, ◌<◌, ◌≤◌, ◌∷◌, [], IfOk, IfErr, None, false};
 ghost use Rattle.tk_ids.specs.Ids.{id_of};
 ghost use Rattle.tk_ids.specs.IdBlocks.{last_number};
-ghost use Rattle.tk_core.specs.declared.op.call.OpCall.TheVariants.{Attr};
-ghost use Rattle.tk_core.specs.declared.reply.Reply.TheVariants.{Done};
-ghost use Rattle.tk_core.specs.declared.reply.Reply.TheVariants.{Refused as NotDone};
-ghost use Rattle.tk_core.specs.OpMeaning.{op_meaning};
-ghost use Rattle.tk_cell.specs.Calls.{Calls};
 
 use super::Interpreter;
-use crate::seats::{is_made, put_seat, take_seat};
+use crate::items::OpItem;
+use crate::seats::{is_made, open_op};
 use std::alloc::Global;
 use std::sync::Wait;
-use tk_core::{AttrOp, Refusal};
+use tk_core::AttrOp;
 use tk_events::RecordError;
 use tk_ids::{Attrs, IdBlock, IdError, Name, OpSpec, ResourceId, TaskId};
 use tk_ledgers::OpOwner;
@@ -50,17 +46,16 @@ fn spec_of(alloc: Global, resource: u64, source: &[u8], attrs: Attrs) -> Result<
     })
 }
 
-// Its owner changes the attribute of an index.
-fn change<R: Wait>(rt: &R, owner: &mut OpOwner, index: u64, op: AttrOp) -> Result<(), Refusal>
-    ensures id { owner.new.id ≡ owner.old.id }
-    ensures caller { owner.old.token.view.caller ≡ 0 }
-    ensures ok { OnOk result (Calls op_meaning owner.old.token.view (Attr index op) Done owner.new.token.view) }
-    ensures err { IfErr result (λ refusal. Calls op_meaning owner.old.token.view (Attr index op) (NotDone refusal) owner.new.token.view) }
+// What is kept of a new operation.
+fn item_of(owner: OpOwner) -> OpItem
+    requires { owner.token.view.held ≡ 0 ∷ [] }
+    ensures id { result.callers.id ≡ owner.id }
+    ensures token { result.callers.token ≡ owner.token }
+    ensures open { result.closed ≡ false }
 {
-    match op {
-        AttrOp::Add(value) => owner.add(rt, index, value),
-        AttrOp::Sub(value) => owner.sub(rt, index, value),
-        AttrOp::Override(value) => owner.set(rt, index, value),
+    OpItem {
+        callers: owner.into_callers(),
+        closed: false,
     }
 }
 
@@ -94,7 +89,7 @@ impl Interpreter {
         }
         match self.recorder.async_op(rt, alloc, spec, created) {
             Ok((owner, _became)) => {
-                self.ops.push_reserved(Some(owner));
+                self.ops.push_reserved(item_of(owner));
                 Ok(())
             }
             Err((RecordError::OffersSpent, _)) => Err(Stop::OffersSpent),
@@ -109,30 +104,22 @@ impl Interpreter {
         if !is_made(&self.tasks, task) {
             return Err(Stop::NoSuchItem);
         }
-        let Some(mut owner) = take_seat(&mut self.ops, op) else {
+        let Some(place) = open_op(&self.ops, op) else {
             return Err(Stop::NoSuchItem);
         };
-        let Ok(id) = task_id(task) else {
-            return Err(Stop::Memory);
-        };
-        owner.set_task(rt, id);
-        put_seat(&mut self.ops, op, owner);
-        Ok(())
+        match task_id(task) {
+            Ok(id) => self.ops[place].set_task(rt, id),
+            Err(_) => Err(Stop::Memory),
+        }
     }
 
     // A poll of an operation starts.
     pub(super) fn start_op<R: Wait>(&mut self, rt: &R, op: u64, moment: u64) -> Result<(), Stop>
         ensures { (line : ℕ) → Does line (said.start_op op moment) self.old self.new result }
     {
-        let Some(mut owner) = take_seat(&mut self.ops, op) else {
-            return Err(Stop::NoSuchItem);
-        };
-        match owner.start_poll(rt, moment) {
-            Ok(()) => {
-                put_seat(&mut self.ops, op, owner);
-                Ok(())
-            }
-            Err(refusal) => Err(Stop::Call(refusal)),
+        match open_op(&self.ops, op) {
+            Some(place) => self.ops[place].start(rt, moment),
+            None => Err(Stop::NoSuchItem),
         }
     }
 
@@ -140,28 +127,19 @@ impl Interpreter {
     pub(super) fn end_op<R: Wait>(&mut self, rt: &R, op: u64, moment: u64) -> Result<(), Stop>
         ensures { (line : ℕ) → Does line (said.finish_op op moment) self.old self.new result }
     {
-        let Some(mut owner) = take_seat(&mut self.ops, op) else {
-            return Err(Stop::NoSuchItem);
-        };
-        match owner.end_poll(rt, moment) {
-            Ok(()) => {
-                put_seat(&mut self.ops, op, owner);
-                Ok(())
-            }
-            Err(refusal) => Err(Stop::Call(refusal)),
+        match open_op(&self.ops, op) {
+            Some(place) => self.ops[place].end(rt, moment),
+            None => Err(Stop::NoSuchItem),
         }
     }
 
-    // An operation is closed, which spends its owner.
+    // An operation is closed.
     pub(super) fn close_op<R: Wait>(&mut self, rt: &R, op: u64, moment: u64) -> Result<(), Stop>
         ensures { (line : ℕ) → Does line (said.close_op op moment) self.old self.new result }
     {
-        let Some(owner) = take_seat(&mut self.ops, op) else {
-            return Err(Stop::NoSuchItem);
-        };
-        match owner.close(rt, moment) {
-            Ok(_receipt) => Ok(()),
-            Err((refusal, _)) => Err(Stop::Call(refusal)),
+        match open_op(&self.ops, op) {
+            Some(place) => self.ops[place].close(rt, moment),
+            None => Err(Stop::NoSuchItem),
         }
     }
 
@@ -175,15 +153,9 @@ impl Interpreter {
     ) -> Result<(), Stop>
         ensures { (line : ℕ) → Does line (said.change_op number index op) self.old self.new result }
     {
-        let Some(mut owner) = take_seat(&mut self.ops, number) else {
-            return Err(Stop::NoSuchItem);
-        };
-        match change(rt, &mut owner, index, op) {
-            Ok(()) => {
-                put_seat(&mut self.ops, number, owner);
-                Ok(())
-            }
-            Err(refusal) => Err(Stop::Call(refusal)),
+        match open_op(&self.ops, number) {
+            Some(place) => self.ops[place].change(rt, index, op),
+            None => Err(Stop::NoSuchItem),
         }
     }
 }

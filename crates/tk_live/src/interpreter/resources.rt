@@ -1,21 +1,26 @@
 //! Resources, and the calls of their owners and users.
-ghost use Rattle.std.specs.Prelude.{◌≡◌, IfOk, IfErr, OnOk, None};
-ghost use Rattle.tk_core.specs.declared.resource.call.ResourceCall.TheVariants.{Attr};
-ghost use Rattle.tk_core.specs.declared.reply.Reply.TheVariants.{Done};
-ghost use Rattle.tk_core.specs.declared.reply.Reply.TheVariants.{Refused as NotDone};
+ghost use Rattle.std.specs.Prelude.{◌≡◌, ◌∷◌, [], IfOk, IfErr, None, Some, false};
+ghost use Rattle.tk_core.specs.declared.resource.call.ResourceCall.TheVariants.{Enlist};
 ghost use Rattle.tk_core.specs.ResourceMeaning.{resource_meaning};
-ghost use Rattle.tk_cell.specs.Calls.{Calls};
+ghost use Rattle.tk_events.specs.Items.{owner_view};
+ghost use Rattle.tk_core.specs.declared.resource.row.ResourceRow.{ResourceRow};
+ghost use Rattle.tk_ledgers.specs.Called.{HasCalled};
+ghost use Rattle.tk_ledgers.specs.Callers.{IsLive};
 ghost use Rattle.tk_live.specs.Course as course;
+ghost use Rattle.tk_live.specs.Stops.{IsReply};
+ghost use Rattle.tk_core.specs.declared.reply.Refusal.TheVariants.{HandlesSpent};
+ghost use Rattle.tk_script.specs.declared.stop.Stop.TheVariants.{Call};
 
 use super::Interpreter;
 use super::tasks::place_of;
-use crate::seats::{empty_seat, is_made, put_seat, take_seat};
+use crate::items::ResourceItem;
+use crate::seats::{is_made, open_resource};
 use std::alloc::Global;
 use std::sync::Wait;
 use tk_core::{AttrOp, Refusal};
 use tk_events::RecordError;
 use tk_ids::{Attrs, IdError, Name, ResourceSpec};
-use tk_ledgers::ResourceUser;
+use tk_ledgers::ResourceOwner;
 use tk_script::Stop;
 
 // What is told of a resource on a line of the script.
@@ -41,16 +46,24 @@ fn spec_of(
     })
 }
 
-// A user changes the attribute of an index.
-fn change<R: Wait>(rt: &R, user: &mut ResourceUser, index: u64, op: AttrOp) -> Result<(), Refusal>
-    ensures id { user.new.id ≡ user.old.id }
-    ensures ok { OnOk result (Calls resource_meaning user.old.token.view (Attr index op) Done user.new.token.view) }
-    ensures err { IfErr result (λ refusal. Calls resource_meaning user.old.token.view (Attr index op) (NotDone refusal) user.new.token.view) }
+// What is kept of a new resource, with a user.
+fn item_of<R: Wait>(rt: &R, owner: ResourceOwner) -> Result<ResourceItem, Stop>
+    requires { (row : ResourceRow) × (owner.token.view ≡ owner_view Enlist row) }
+    ensures id { IfOk result (λ item. item.callers.id ≡ owner.id) }
+    ensures ledger { IfOk result (λ item. item.callers.token.ledger ≡ owner.token.ledger) }
+    ensures open { IfOk result (λ item. item.closed ≡ false) }
+    ensures called { IfOk result (λ item. (row : ResourceRow) → owner.token.view ≡ owner_view Enlist row → HasCalled resource_meaning (1 ∷ []) row (Enlist ∷ Enlist ∷ []) item.callers.token.view) }
+    ensures user { IfOk result (λ item. IsLive resource_meaning item.callers.token.view item.user) }
+    ensures err { IfErr result (λ stop. (stop ≡ Call HandlesSpent) × ((row : ResourceRow) → owner.token.view ≡ owner_view Enlist row → IsReply resource_meaning (Some row) Enlist HandlesSpent)) }
 {
-    match op {
-        AttrOp::Add(value) => user.add(rt, index, value),
-        AttrOp::Sub(value) => user.sub(rt, index, value),
-        AttrOp::Override(value) => user.set(rt, index, value),
+    let mut callers = owner.into_callers();
+    match callers.user(rt) {
+        Ok(user) => Ok(ResourceItem {
+            callers,
+            user,
+            closed: false,
+        }),
+        Err(refusal) => Err(Stop::Call(refusal)),
     }
 }
 
@@ -58,7 +71,7 @@ impl Interpreter {
     ghost use Rattle.std.specs.Prelude.{◌≡◌, ℕ, true};
     ghost use Rattle.tk_ids.specs.Names.{is_name};
     ghost use Rattle.tk_script.specs.Commands as said;
-    ghost use Rattle.tk_live.specs.Runs.{Does};
+    ghost use Rattle.tk_live.specs.Runs.{Does, Stands};
 
     // A resource and a user of it, on a line of this number.
     pub(super) fn make_resource<R: Wait>(
@@ -80,26 +93,18 @@ impl Interpreter {
         if let Err(_) = self.resources.reserve(1) {
             return Err(Stop::Memory);
         }
-        if let Err(_) = self.users.reserve(1) {
-            return Err(Stop::Memory);
-        }
-        let mut owner = match self.recorder.resource(rt, alloc, spec, created) {
-            Ok((owner, _became)) => owner,
-            Err((RecordError::OffersSpent, _)) => return Err(Stop::OffersSpent),
-            Err((RecordError::Memory, _)) => return Err(Stop::Memory),
-        };
-        match owner.user(rt) {
-            Ok(user) => {
-                self.resources.push_reserved(Some(owner));
-                self.users.push_reserved(Some(user));
+        match self.recorder.resource(rt, alloc, spec, created) {
+            Ok((owner, _became)) => {
+                let item = item_of(rt, owner)?;
+                self.resources.push_reserved(item);
                 Ok(())
             }
-            Err(Refusal::HandlesSpent) => Err(Stop::Call(Refusal::HandlesSpent)),
-            Err(_) => Err(Stop::Memory),
+            Err((RecordError::OffersSpent, _)) => Err(Stop::OffersSpent),
+            Err((RecordError::Memory, _)) => Err(Stop::Memory),
         }
     }
 
-    // A resource is closed, which spends its owner. Its user makes no call from then on, and is let go.
+    // A resource is closed. Its user makes no call from then on.
     pub(super) fn close_resource<R: Wait>(
         &mut self,
         rt: &R,
@@ -108,12 +113,10 @@ impl Interpreter {
     ) -> Result<(), Stop>
         ensures { (line : ℕ) → Does line (said.close_resource resource moment) self.old self.new result }
     {
-        let Some(owner) = take_seat(&mut self.resources, resource) else {
-            return Err(Stop::NoSuchItem);
-        };
-        owner.close(rt, moment);
-        empty_seat(&mut self.users, resource);
-        Ok(())
+        match open_resource(&self.resources, resource) {
+            Some(place) => self.resources[place].close(rt, moment),
+            None => Err(Stop::NoSuchItem),
+        }
     }
 
     // The user of a resource changes an attribute.
@@ -124,20 +127,15 @@ impl Interpreter {
         index: u64,
         op: AttrOp,
     ) -> Result<(), Stop>
+        requires { Stands self.old }
         ensures { (line : ℕ) → Does line (said.change_resource resource index op) self.old self.new result }
     {
-        if !is_made(&self.users, resource) {
+        if !is_made(&self.resources, resource) {
             return Err(Stop::NoSuchItem);
         }
-        let Some(mut user) = take_seat(&mut self.users, resource) else {
-            return Err(Stop::Call(Refusal::Closed));
-        };
-        match change(rt, &mut user, index, op) {
-            Ok(()) => {
-                put_seat(&mut self.users, resource, user);
-                Ok(())
-            }
-            Err(refusal) => Err(Stop::Call(refusal)),
+        match open_resource(&self.resources, resource) {
+            Some(place) => self.resources[place].change(rt, index, op),
+            None => Err(Stop::Call(Refusal::Closed)),
         }
     }
 }

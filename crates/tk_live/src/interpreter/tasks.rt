@@ -1,5 +1,5 @@
 //! Tasks, and the calls of their owners.
-ghost use Rattle.std.specs.Prelude.{◌≡◌, ◌≤◌, ◌↔◌, Err, IfErr, IfOk, is_some, length};
+ghost use Rattle.std.specs.Prelude.{◌≡◌, ◌≤◌, ◌↔◌, ◌∷◌, [], Err, IfErr, IfOk, false, is_some, length};
 ghost use Rattle.tk_core.specs.Task.{opening_row};
 ghost use Rattle.tk_core.specs.declared.task.call.TaskCall.TheVariants.{Enlist};
 ghost use Rattle.tk_events.specs.Handles.{IsSameRecorder, next_offer, next_task_id, offers_made, with_kept, with_refused};
@@ -9,7 +9,8 @@ ghost use Rattle.tk_events.specs.declared.event.Shown.TheVariants.{MadeTask};
 ghost use Rattle.tk_live.specs.Course as course;
 
 use super::Interpreter;
-use crate::seats::{put_seat, take_seat};
+use crate::items::TaskItem;
+use crate::seats::open_task;
 use std::alloc::Global;
 use std::sync::Wait;
 use tk_events::{RecordError, Recorded, Recorder};
@@ -70,8 +71,25 @@ fn record_task<R: Wait>(
     }
 }
 
+// What is kept of a new task.
+fn item_of(owner: TaskOwner) -> TaskItem
+    requires { owner.token.view.held ≡ 0 ∷ [] }
+    ensures id { result.callers.id ≡ owner.id }
+    ensures token { result.callers.token ≡ owner.token }
+    ensures open { result.closed ≡ false }
+{
+    let mut owner = owner;
+    let times = owner.take_times();
+    TaskItem {
+        callers: owner.into_callers(),
+        times,
+        started: 0,
+        closed: false,
+    }
+}
+
 impl Interpreter {
-    ghost use Rattle.std.specs.Prelude.{◌≡◌, ℕ, true};
+    ghost use Rattle.std.specs.Prelude.{◌≡◌, ◌+◌, ◌*◌, ◌^◌, ◌<◌, ◌≤◌, ℕ, true};
     ghost use Rattle.tk_ids.specs.Names.{is_name};
     ghost use Rattle.tk_script.specs.Commands as said;
     ghost use Rattle.tk_live.specs.Runs.{Does};
@@ -97,7 +115,7 @@ impl Interpreter {
         }
         match record_task(&mut self.recorder, rt, alloc, spec, created, self.times) {
             Ok((owner, _became)) => {
-                self.tasks.push_reserved(Some(owner));
+                self.tasks.push_reserved(item_of(owner));
                 Ok(())
             }
             Err((RecordError::OffersSpent, _)) => Err(Stop::OffersSpent),
@@ -109,15 +127,9 @@ impl Interpreter {
     pub(super) fn start<R: Wait>(&mut self, rt: &R, task: u64, moment: u64) -> Result<(), Stop>
         ensures { (line : ℕ) → Does line (said.start task moment) self.old self.new result }
     {
-        let Some(mut owner) = take_seat(&mut self.tasks, task) else {
-            return Err(Stop::NoSuchItem);
-        };
-        match owner.start_poll(rt, moment) {
-            Ok(()) => {
-                put_seat(&mut self.tasks, task, owner);
-                Ok(())
-            }
-            Err(refusal) => Err(Stop::Call(refusal)),
+        match open_task(&self.tasks, task) {
+            Some(place) => self.tasks[place].start(rt, moment),
+            None => Err(Stop::NoSuchItem),
         }
     }
 
@@ -125,28 +137,39 @@ impl Interpreter {
     pub(super) fn end<R: Wait>(&mut self, rt: &R, task: u64, moment: u64) -> Result<(), Stop>
         ensures { (line : ℕ) → Does line (said.finish task moment) self.old self.new result }
     {
-        let Some(mut owner) = take_seat(&mut self.tasks, task) else {
-            return Err(Stop::NoSuchItem);
-        };
-        match owner.end_poll(rt, moment) {
-            Ok(()) => {
-                put_seat(&mut self.tasks, task, owner);
-                Ok(())
-            }
-            Err(refusal) => Err(Stop::Call(refusal)),
+        match open_task(&self.tasks, task) {
+            Some(place) => self.tasks[place].end(rt, moment),
+            None => Err(Stop::NoSuchItem),
         }
     }
 
-    // A task is closed, which spends its owner.
+    // A task is polled so many times.
+    pub(super) fn polls<R: Wait>(
+        &mut self,
+        rt: &R,
+        task: u64,
+        count: u64,
+        moment: u64,
+        run: u64,
+        every: u64,
+    ) -> Result<(), Stop>
+        requires some { 1 ≤ count }
+        requires fits { moment + count * every + run < 2 ^ 64 }
+        ensures { (line : ℕ) → Does line (said.polls task count moment run every) self.old self.new result }
+    {
+        match open_task(&self.tasks, task) {
+            Some(place) => self.tasks[place].polls(rt, count, moment, run, every),
+            None => Err(Stop::NoSuchItem),
+        }
+    }
+
+    // A task is closed.
     pub(super) fn close<R: Wait>(&mut self, rt: &R, task: u64, moment: u64) -> Result<(), Stop>
         ensures { (line : ℕ) → Does line (said.close task moment) self.old self.new result }
     {
-        let Some(owner) = take_seat(&mut self.tasks, task) else {
-            return Err(Stop::NoSuchItem);
-        };
-        match owner.close(rt, moment) {
-            Ok(_receipt) => Ok(()),
-            Err((refusal, _)) => Err(Stop::Call(refusal)),
+        match open_task(&self.tasks, task) {
+            Some(place) => self.tasks[place].close(rt, moment),
+            None => Err(Stop::NoSuchItem),
         }
     }
 
@@ -154,15 +177,9 @@ impl Interpreter {
     pub(super) fn self_wake<R: Wait>(&mut self, rt: &R, task: u64, moment: u64) -> Result<(), Stop>
         ensures { (line : ℕ) → Does line (said.self_wake task moment) self.old self.new result }
     {
-        let Some(owner) = take_seat(&mut self.tasks, task) else {
-            return Err(Stop::NoSuchItem);
-        };
-        let mut scope = match owner.scope(moment) {
-            Ok(scope) => scope,
-            Err((refusal, _)) => return Err(Stop::Call(refusal)),
-        };
-        scope.wake_by_ref(rt, moment);
-        put_seat(&mut self.tasks, task, scope.finish());
-        Ok(())
+        match open_task(&self.tasks, task) {
+            Some(place) => self.tasks[place].self_wake(rt, moment),
+            None => Err(Stop::NoSuchItem),
+        }
     }
 }

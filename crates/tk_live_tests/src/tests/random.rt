@@ -227,6 +227,42 @@ fn call_task(random: &mut Pcg32, made: &mut Made, out: &mut String) -> Result<()
     put(out, call.word(true), &[task, moment_of(random, call)], "")
 }
 
+// How long each of many polls runs: mostly for a short time, else below one of those times.
+fn run_of(random: &mut Pcg32) -> u64 {
+    if happens(random, 2) {
+        return below(random, 1000);
+    }
+    moment_of(random, Call::End)
+}
+
+// Polls of an idle task by one command: a few, at times none or too many, or such as no clock has room for.
+fn poll_many(random: &mut Pcg32, made: &mut Made, out: &mut String) -> Result<(), AllocError> {
+    let task = number(random, made.tasks.len());
+    let wild = is_wild(random);
+    let is_idle = match made.tasks.get(place_of(task)) {
+        Some(stage) => *stage == Stage::Idle,
+        None => false,
+    };
+    if !is_idle && !wild {
+        return Ok(());
+    }
+    let count = if !wild {
+        below(random, 20).saturating_add(1)
+    } else if happens(random, 2) {
+        1_000_001
+    } else {
+        0
+    };
+    let numbers = [
+        task,
+        count,
+        below(random, 1000),
+        run_of(random),
+        below(random, 1000),
+    ];
+    put(out, "polls", numbers.as_slice(), "")
+}
+
 fn call_waker(random: &mut Pcg32, made: &mut Made, out: &mut String) -> Result<(), AllocError> {
     let waker = number(random, made.wakers.len());
     let wild = is_wild(random);
@@ -414,7 +450,8 @@ fn other(random: &mut Pcg32, out: &mut String) -> Result<(), AllocError> {
 fn add_line(random: &mut Pcg32, made: &mut Made, out: &mut String) -> Result<(), AllocError> {
     match below(random, 32) {
         0..=3 => add_task(random, made, out),
-        4..=11 => call_task(random, made, out),
+        4..=10 => call_task(random, made, out),
+        11 => poll_many(random, made, out),
         12..=15 => call_waker(random, made, out),
         16 => add_resource(random, made, out),
         17..=19 => call_resource(random, made, out),

@@ -6,6 +6,7 @@ mod commands;
 mod faults;
 mod given;
 mod items;
+mod many_polls;
 mod ops;
 mod polls;
 mod readers;

@@ -1,12 +1,8 @@
-use Rattle.std.proofs.Common.{◌≡◌, List, ap, sym, ◌∙◌, subst}
+use Rattle.std.proofs.Common.{◌≡◌, List, sym, ◌∙◌, subst}
 use Rattle.tk_ids.specs.Attributes.{HaveKinds}
 use Rattle.tk_ids.specs.declared.attr.AttrInfo.{AttrInfo}
 use Rattle.tk_ids.specs.declared.attr.AttrValue.{AttrValue}
-use Rattle.tk_core.specs.declared.op.call.OpCall.{OpCall}
-use Rattle.tk_core.specs.declared.op.row.OpRow.{OpRow}
-use Rattle.tk_core.specs.declared.reply.Reply.{Reply}
 use Rattle.tk_core.specs.Op.{opening_row}
-use Rattle.tk_cell.specs.declared.view.View.{View}
 use Rattle.tk_events.specs.Items.{first_values, infos_of}
 use Rattle.tk_events.proofs.AttrLemmas.{same_kinds}
 use Rattle.tk_events.proofs.new_item.new_op.Goals as goal
@@ -18,7 +14,7 @@ returns-clause-agrees g c =
       c.in-Some-op_ledger.ensures.ids.1,
       (
         row,
-        ap (λ (v : View OpRow OpCall (Reply OpRow)). v.opening) c.in-Some-op_ledger.ensures.inspector,
+        c.in-Some-op_ledger.ensures.inspector,
         subst (λ (l : List AttrInfo). HaveKinds l row.attrs) (sym c.in-Some.ensures.infos) (subst (λ (l : List AttrValue). HaveKinds (infos_of c.args.spec.attrs) l) (sym values) (same_kinds c.args.spec.attrs)),
       ),
     )

@@ -1,12 +1,8 @@
-use Rattle.std.proofs.Common.{◌≡◌, List, ap, sym, ◌∙◌, subst}
+use Rattle.std.proofs.Common.{◌≡◌, List, sym, ◌∙◌, subst}
 use Rattle.tk_ids.specs.Attributes.{HaveKinds}
 use Rattle.tk_ids.specs.declared.attr.AttrInfo.{AttrInfo}
 use Rattle.tk_ids.specs.declared.attr.AttrValue.{AttrValue}
-use Rattle.tk_core.specs.declared.resource.call.ResourceCall.{ResourceCall}
-use Rattle.tk_core.specs.declared.resource.row.ResourceRow.{ResourceRow}
-use Rattle.tk_core.specs.declared.reply.Reply.{Reply}
 use Rattle.tk_core.specs.Resource.{opening_row}
-use Rattle.tk_cell.specs.declared.view.View.{View}
 use Rattle.tk_events.specs.Items.{first_values, infos_of}
 use Rattle.tk_events.proofs.AttrLemmas.{same_kinds}
 use Rattle.tk_events.proofs.new_item.new_resource.Goals as goal
@@ -18,7 +14,7 @@ returns-clause-agrees g c =
       c.in-Some-resource_ledger.ensures.ids.1,
       (
         row,
-        ap (λ (v : View ResourceRow ResourceCall (Reply ResourceRow)). v.opening) c.in-Some-resource_ledger.ensures.inspector,
+        c.in-Some-resource_ledger.ensures.inspector,
         subst (λ (l : List AttrInfo). HaveKinds l row.attrs) (sym c.in-Some.ensures.infos) (subst (λ (l : List AttrValue). HaveKinds (infos_of c.args.spec.attrs) l) (sym values) (same_kinds c.args.spec.attrs)),
       ),
     )

@@ -6,8 +6,8 @@ use Rattle.std.proofs.lemmas.List.{map-append, length-map}
 use Rattle.tk_script.specs.Commands.{Line, line_of, lines_of, settings_of}
 use Rattle.tk_live.specs.Course.{Course, start_of_all, course_of}
 use Rattle.tk_script.specs.Pieces.{pieces_at, pieces_left}
-use Rattle.tk_live.specs.Ran.{written_by}
-use Rattle.tk_live.specs.Runs.{StandsFor, Stays, IsOpen}
+use Rattle.tk_live.specs.Ran.{CameOf, written_by}
+use Rattle.tk_live.specs.Runs.{StandsFor, IsOpen}
 use Rattle.tk_live.specs.Stops.{AllGo}
 use Rattle.tk_live.proofs.Blocks.{none_open, open_none, open_some}
 use Rattle.tk_live.proofs.Lines.{course_push, goes_more, few_lines}
@@ -36,24 +36,25 @@ returns-in-Err g c =
     let cut : pieces_at 10 script ≡ texts ++ text ∷ more = c.loop-line.invariant.cut ∙ ap (λ p. texts ++ p) c.in-Some.ensures.steps in
     let did = c.loop-line.invariant.came in
     let h = c.in-Err.ensures (settings_of (lines_of script)) (course_of before) did.0 did.1 did.2 did.3 in (
-      written_by did.1 ++ h.2,
+      written_by did.1 ++ h.1,
       inl (record {
         before = before;
         line = line_of text;
-        behind = map line_of more;
+        after = map line_of more;
         lines = ap (map line_of) cut ∙ map-append line_of texts (text ∷ more);
         counted = omega (arith, c.loop-line.invariant.counted, length-map c.loop-line.yielded (λ x. x.now), length-map texts line_of);
-        sent = did.1;
         goes = c.loop-line.invariant.goes;
-        rests = h.1;
+        kept = did.0;
+        sent = did.1;
+        came = did.2.came;
         stop = c.in-Err.stop;
         stops = h.0;
         named = c.name.ensures;
-        front = h.2;
-        fronts = h.3;
+        front = h.1;
+        fronts = h.2;
         all = refl;
       }),
-      Appends-trans _ _ _ (written_by did.1) h.2 did.4 h.4,
+      Appends-trans _ _ _ (written_by did.1) h.1 did.4 h.3,
     )
 
 pub loop-line-preserved : goal.loop-line-preserved
@@ -106,7 +107,7 @@ returns-then-is_some g c =
         named = c.name-then-is_some.ensures;
         kept = did.0;
         sent = did.1;
-        keeps = subst (λ ls. Stays c.loop-line.interpreter (settings_of (lines_of script)) (course_of ls) did.0 did.1) (sym whole) did.2.keeps;
+        came = subst (λ ls. CameOf (settings_of (lines_of script)) (course_of ls) did.0 did.1) (sym whole) did.2.came;
         all = refl;
       }),
       did.4,
@@ -124,8 +125,13 @@ returns g c =
         subst (λ ls. (course_of ls).block ≡ None) (sym whole) (open_none c.loop-line.block (course_of (map line_of texts)) did.3 c.if-is_some.ensures),
         did.0,
         did.1,
-        subst (λ ls. StandsFor c.loop-line.interpreter (settings_of (lines_of script)) (course_of ls) did.0 did.1) (sym whole) did.2,
+        subst (λ ls. CameOf (settings_of (lines_of script)) (course_of ls) did.0 did.1) (sym whole) did.2.came,
         refl,
       ),
       did.4,
     )
+
+pub run_line-requires-clause-stands : goal.run_line-requires-clause-stands
+run_line-requires-clause-stands g c = λ κs outlives.
+    let did = c.loop-line.invariant.came in
+    (settings_of (lines_of c.args.script.now), course_of (map line_of (map (λ x. x.now) c.loop-line.yielded)), did.0, did.1, did.2)

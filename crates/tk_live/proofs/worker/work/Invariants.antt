@@ -1,8 +1,7 @@
-use Rattle.std.proofs.Common.{◌≡◌, ◌≤◌, ◌<◌, true, length, take}
-use Rattle.tk_live.specs.Blocks.{after_lines}
-use Rattle.tk_live.specs.Threads.{callers}
+use Rattle.std.proofs.Common.{◌≤◌, ◌<◌, true, length, take}
+use Rattle.tk_live.specs.Handed.{RanAll}
 use Rattle.tk_live.proofs.worker.work.Given as goal
 
--- the lines so far
+-- the lines so far were run
 abbrev pub invariant-loop-i : goal.invariant-loop-i
-invariant-loop-i g l = (callers l.wakers.items ≡ after_lines (take l.i l.lines) (callers l.initial.wakers.items)) × (l.i ≤ length l.lines) × (0 < l.i → g.G.Gate.answers l.gate l.k true)
+invariant-loop-i g l = RanAll (take l.i l.lines) l.initial.wakers.items l.wakers.items × (l.i ≤ length l.lines) × (0 < l.i → g.G.Gate.answers l.gate l.k true)

@@ -11,9 +11,10 @@ const UNKNOWN: [&[u8]; 7] = [
 
 // Too few words and too many.
 #[rattlefmt::skip]
-const WRONG_NUMBER_OF_WORDS: [&[u8]; 34] = [
+const WRONG_NUMBER_OF_WORDS: [&[u8]; 38] = [
     b"task", b"task 1", b"task 1 spawn", b"task 1 spawn a b",
     b"start", b"start 1", b"start 1 2 3", b"end", b"end 1", b"end 1 2 3", b"close", b"close 1", b"close 1 2 3",
+    b"polls", b"polls 1 2 3", b"polls 1 2 3 4", b"polls 1 2 3 4 5 6",
     b"publish", b"publish 1 2", b"publish 1 main", b"snapshot", b"snapshot 1 2",
     b"selfwake", b"selfwake 1", b"selfwake 1 2 3", b"clone", b"clone 1 2", b"again", b"again 1 2",
     b"wakeref", b"wakeref 1", b"wakeref 1 2 3", b"wake", b"wake 1", b"wake 1 2 3", b"release", b"release 1 2", b"release 1 x",
@@ -27,11 +28,12 @@ fn words_are_known_and_counted(rt: HostRuntime) {
 
 // 2^64, signs, 21 digits, and words that are no number.
 #[rattlefmt::skip]
-const NUMBERS: [&[u8]; 20] = [
+const NUMBERS: [&[u8]; 22] = [
     b"publish 18446744073709551616", b"publish 99999999999999999999", b"publish -1", b"publish +1",
     b"publish 000000000000000000001", b"publish 1a", b"publish 0x1", b"publish 1_000", b"publish 1.0", b"publish \xd9\xa1",
     b"task -1 spawn a", b"start one 5", b"end 1 five", b"close 18446744073709551616 5",
     b"snapshot -1", b"selfwake 1 -1", b"clone one", b"again 0x1", b"wake 1 18446744073709551616", b"release +1",
+    b"polls 1 2 3 4 -1", b"polls 1 2 3 4 18446744073709551616",
 ];
 
 // Words that are no kind, and names that are empty or have a byte outside 0x20 to 0x7E.

@@ -94,3 +94,7 @@ returns-in-CloseOp g c =
 pub returns-in-ChangeOp : goal.returns-in-ChangeOp
 returns-in-ChangeOp g c =
     rw c.in-ChangeOp.is (quietly c.args.line (said.change_op c.in-ChangeOp.op c.in-ChangeOp.index c.in-ChangeOp.change) c.args.self.now c.change_op.new.self c.change_op.result (g.W.Write.contents c.args.writer.now) (c.change_op.ensures c.args.line) (λ sent stop. refl {A = List ℕ} {a = []}))
+
+pub returns-in-Polls : goal.returns-in-Polls
+returns-in-Polls g c =
+    rw c.in-Polls.is (quietly c.args.line (said.polls c.in-Polls.task c.in-Polls.count c.in-Polls.moment c.in-Polls.run' c.in-Polls.every) c.args.self.now c.polls.new.self c.polls.result (g.W.Write.contents c.args.writer.now) (c.polls.ensures c.args.line) (λ sent stop. refl {A = List ℕ} {a = []}))

@@ -1,45 +1,23 @@
-use Rattle.std.proofs.Common.{◌≡◌, ◌∷◌, ◌++◌, [], true, false, Some, None, inl, inr, refl, ap, sym, ◌∙◌, subst}
-use Rattle.tk_core.specs.declared.op.call.OpCall.TheVariants.{PollStart, PollEnd, SetTask}
-use Rattle.tk_core.specs.declared.op.call.OpCall.TheVariants as op_calls
-use Rattle.tk_core.specs.declared.reply.Reply.TheVariants.{Done}
+use Rattle.std.proofs.Common.{◌≡◌, false, None, Some, refl, ap, sym, subst}
 use Rattle.tk_core.specs.OpMeaning.{op_meaning}
+use Rattle.tk_core.specs.declared.op.call.OpCall.TheVariants.{Attr}
+use Rattle.tk_core.specs.declared.reply.Refusal.{Refusal}
 use Rattle.tk_script.specs.Commands as said
-use Rattle.tk_live.specs.Course.{op_called}
-use Rattle.tk_live.specs.Known.{and_call, owner_of}
-use Rattle.tk_live.specs.Named.{live_item}
-use Rattle.tk_live.specs.Stops.{if_there}
-use Rattle.tk_live.proofs.Places.{put_changed, place_left, length_change}
-use Rattle.tk_live.proofs.Standing.{on_handles, rests, told_live, owner_called, reply_to}
+use Rattle.tk_script.specs.declared.stop.Stop.TheVariants.{Call}
+use Rattle.tk_live.specs.Stops.{IsReply, MayFail, if_there, opening_of}
+use Rattle.tk_live.proofs.Places.{item_read}
+use Rattle.tk_live.proofs.OnOps.{op_may, no_op}
 use Rattle.tk_live.proofs.interpreter.Interpreter.change_op.Goals as goal
 
-pub returns-in-Ok : goal.returns-in-Ok
-returns-in-Ok g c line settings k kept sent stands =
+pub returns-in-Some : goal.returns-in-Some
+returns-in-Some g c line =
     let i = c.args.self.now in
     let n = c.args.number in
-    let owner = c.in-Some.owner in
-    let e = c.in-Ok.ensures in
-    let told : live_item n k.names.ops ≡ Some (owner_of owner) = told_live owner_of n i.ops.items k.names.ops c.take_seat.result owner stands.holds.ops_are c.take_seat.ensures.taken c.in-Some.is in (
-      ap (λ o. if_there o None) told,
-      [],
-      on_handles i _ settings k (op_called n (op_calls.Attr c.args.index c.args.op) k.names) kept sent stands refl (record {
-        tasks_are = stands.holds.tasks_are;
-        owners = stands.holds.owners;
-        wakers_are = stands.holds.wakers_are;
-        resources_are = stands.holds.resources_are;
-        users_are = stands.holds.users_are;
-        ops_are = put_changed owner_of (and_call (op_calls.Attr c.args.index c.args.op)) n i.ops.items c.take_seat.new.seats.items c.put_seat.new.seats.items k.names.ops owner c.change.new.owner stands.holds.ops_are told c.in-Some.ensures.left c.put_seat.ensures (owner_called op_meaning owner c.change.new.owner e.id (op_calls.Attr c.args.index c.args.op) Done e.caller e.ok refl);
-      }) (ap (λ l. record { tasks = Rattle.std.proofs.Common.length k.names.tasks; resources = Rattle.std.proofs.Common.length k.names.resources; ops = l }) (length_change n (and_call (op_calls.Attr c.args.index c.args.op)) k.names.ops)),
-    )
+    let call = Attr c.args.index c.args.op in
+    let at = item_read (λ o. o.closed ≡ false) i.ops.items n c.in-Some.place c.index_mut.result.now c.in-Some.ensures.some c.index_mut.ensures.value in
+    op_may i _ line n c.in-Some.place (said.change_op n c.args.index c.args.op) call (λ p stop. (refusal : Refusal) × (stop ≡ Call refusal) × IsReply op_meaning (Some p.opening) call refusal) c.index_mut.result.now c.change.new.self c.change.result
+    at.0 c.in-Some.ensures.some.0 at.1 refl c.change.ensures.same c.change.ensures.did
+    (λ k p e. (ap (λ o. if_there o None) e, λ why refused. subst (λ w. MayFail k (said.change_op n c.args.index c.args.op) w) (sym refused.1) (subst (λ o. IsReply op_meaning (opening_of o) call refused.0) (sym e) refused.2))) (λ k. refl) refl
 
-pub returns-in-Err : goal.returns-in-Err
-returns-in-Err g c line settings k kept sent stands =
-    let i = c.args.self.now in
-    let n = c.args.number in
-    let owner = c.in-Some.owner in
-    let told : live_item n k.names.ops ≡ Some (owner_of owner) = told_live owner_of n i.ops.items k.names.ops c.take_seat.result owner stands.holds.ops_are c.take_seat.ensures.taken c.in-Some.is in (
-      inr (reply_to op_meaning _ _ (live_item n k.names.ops) (owner_of owner) (op_calls.Attr c.args.index c.args.op) c.in-Err.refusal told refl c.in-Err.ensures.err),
-      rests _ settings k line (said.change_op n c.args.index c.args.op) kept sent stands.keeps,
-    )
-
-pub put_seat-requires : goal.put_seat-requires
-put_seat-requires g c = place_left c.args.number c.args.self.now.ops.items c.take_seat.new.seats.items c.in-Some.owner (sym c.take_seat.ensures.taken ∙ c.in-Some.is) c.in-Some.ensures.left
+pub returns-in-None : goal.returns-in-None
+returns-in-None g c line = no_op c.args.self.now line c.args.number (said.change_op c.args.number c.args.index c.args.op) c.in-None.ensures.none (λ settings k kept sent stands e. ap (λ o. if_there o None) e)

@@ -1,60 +1,41 @@
-use Rattle.std.proofs.Common.{◌≡◌, [], Some, None, inl, inr, refl, ap, sym, ◌∙◌}
-use Rattle.std.specs.Prelude.{option_map}
-use Rattle.tk_core.specs.declared.resource.call.ResourceCall.TheVariants as resource_calls
-use Rattle.tk_core.specs.declared.reply.Reply.TheVariants.{Done}
+use Rattle.std.proofs.Common.{◌≡◌, false, None, Some, inl, refl, ap, sym, subst, ◌∙◌}
+use Rattle.std.proofs.Common.{cond}
+use Rattle.tk_core.specs.declared.resource.call.ResourceCall.TheVariants.{Attr}
+use Rattle.tk_core.specs.declared.reply.Refusal.{Refusal}
+use Rattle.tk_core.specs.declared.reply.Refusal.TheVariants.{Closed}
 use Rattle.tk_core.specs.ResourceMeaning.{resource_meaning}
 use Rattle.tk_script.specs.Commands as said
-use Rattle.tk_live.specs.Course.{user_called}
-use Rattle.tk_live.specs.Known.{and_call, caller_of}
-use Rattle.tk_live.specs.Named.{live_item}
-use Rattle.tk_live.specs.Stops.{unless_closed}
-use Rattle.tk_live.proofs.Places.{live_made, put_changed, place_left, told_made}
-use Rattle.tk_live.proofs.Standing.{on_handles, rests, told_live, told_of, caller_called, reply_to, user_gone, user_unmade}
+use Rattle.tk_script.specs.declared.stop.Stop.TheVariants.{Call}
+use Rattle.tk_live.specs.Items.{IsResource}
+use Rattle.tk_live.specs.Stops.{IsReply, MayFail, while_there, opening_of}
+use Rattle.tk_live.proofs.Places.{at_place, each_made, each_there, item_read}
+use Rattle.tk_live.proofs.OnResources.{change_unmade, change_shut, resource_did, no_resource}
 use Rattle.tk_live.proofs.interpreter.Interpreter.change_resource.Goals as goal
 
-pub returns-in-Ok : goal.returns-in-Ok
-returns-in-Ok g c line settings k kept sent stands =
+pub change-requires : goal.change-requires
+change-requires g c =
     let i = c.args.self.now in
     let n = c.args.resource in
-    let user = c.in-Some.user in
-    let e = c.in-Ok.ensures in
-    let told : live_item n k.names.users ≡ Some (caller_of user) = told_live caller_of n i.users.items k.names.users c.take_seat.result user stands.holds.users_are c.take_seat.ensures.taken c.in-Some.is in (
-      ap unless_closed (live_made n k.names.users (caller_of user) told),
-      [],
-      on_handles i _ settings k (user_called n (resource_calls.Attr c.args.index c.args.op) k.names) kept sent stands refl (record {
-        tasks_are = stands.holds.tasks_are;
-        owners = stands.holds.owners;
-        wakers_are = stands.holds.wakers_are;
-        resources_are = stands.holds.resources_are;
-        users_are = put_changed caller_of (and_call (resource_calls.Attr c.args.index c.args.op)) n i.users.items c.take_seat.new.seats.items c.put_seat.new.seats.items k.names.users user c.change.new.user stands.holds.users_are told c.in-Some.ensures.left c.put_seat.ensures (caller_called resource_meaning user c.change.new.user e.id (resource_calls.Attr c.args.index c.args.op) Done e.ok refl);
-        ops_are = stands.holds.ops_are;
-      }) refl,
-    )
+    let at = item_read (λ r. r.closed ≡ false) i.resources.items n c.in-Some.place c.index_mut.result.now c.in-Some.ensures.some c.index_mut.ensures.value in
+    (each_made IsResource c.requires.1.pasts.resources i.resources.items n c.index_mut.result.now c.requires.4.holds.resources_are (at_place n c.in-Some.place i.resources.items c.in-Some.ensures.some.0 ∙ at.0)).2.user
 
-pub returns-in-Err : goal.returns-in-Err
-returns-in-Err g c line settings k kept sent stands =
+pub returns-in-Some : goal.returns-in-Some
+returns-in-Some g c line =
     let i = c.args.self.now in
     let n = c.args.resource in
-    let user = c.in-Some.user in
-    let told : live_item n k.names.users ≡ Some (caller_of user) = told_live caller_of n i.users.items k.names.users c.take_seat.result user stands.holds.users_are c.take_seat.ensures.taken c.in-Some.is in (
-      inr (reply_to resource_meaning _ _ (live_item n k.names.users) (caller_of user) (resource_calls.Attr c.args.index c.args.op) c.in-Err.refusal told refl c.in-Err.ensures.err),
-      rests _ settings k line (said.change_resource n c.args.index c.args.op) kept sent stands.keeps,
-    )
-
-pub put_seat-requires : goal.put_seat-requires
-put_seat-requires g c = place_left c.args.resource c.args.self.now.users.items c.take_seat.new.seats.items c.in-Some.user (sym c.take_seat.ensures.taken ∙ c.in-Some.is) c.in-Some.ensures.left
+    let call = Attr c.args.index c.args.op in
+    let at = item_read (λ r. r.closed ≡ false) i.resources.items n c.in-Some.place c.index_mut.result.now c.in-Some.ensures.some c.index_mut.ensures.value in
+    resource_did i _ line n c.in-Some.place (said.change_resource n c.args.index c.args.op) call (λ p stop. (refusal : Refusal) × (stop ≡ Call refusal) × IsReply resource_meaning (Some p.opening) call refusal)
+    c.index_mut.result.now c.change.new.self c.change.result at.0 c.in-Some.ensures.some.0 at.1 refl c.change.ensures.same c.change.ensures.did
+    (λ k p made unshut there. (
+      ap while_there made ∙ ap (λ b. cond b (Some (Call Closed)) None) unshut,
+      refl,
+      λ why refused. subst (λ w. MayFail k (said.change_resource n c.args.index c.args.op) w) (sym refused.1) (subst (λ o. IsReply resource_meaning (opening_of o) call refused.0) (sym there) refused.2),
+    )) refl
 
 pub returns-then-not-is_made : goal.returns-then-not-is_made
 returns-then-not-is_made g c line settings k kept sent stands =
-    let i = c.args.self.now in
-    let n = c.args.resource in
-    let made = told_made caller_of n i.users.items k.names.users stands.holds.users_are ∙ sym c.if-not-is_made.ensures.made in
-    (inl (user_unmade _ made), rests i settings k line (said.change_resource n c.args.index c.args.op) kept sent stands.keeps)
+    inl (change_unmade _ (each_there IsResource k.pasts.resources c.args.self.now.resources.items c.args.resource stands.holds.resources_are ∙ sym c.if-not-is_made.ensures.made))
 
-pub returns-in_default : goal.returns-in_default
-returns-in_default g c line settings k kept sent stands =
-    let i = c.args.self.now in
-    let n = c.args.resource in
-    let made = told_made caller_of n i.users.items k.names.users stands.holds.users_are ∙ sym c.if-not-is_made.ensures.made in
-    let told : live_item n k.names.users ≡ None = told_of caller_of n i.users.items k.names.users c.take_seat.result stands.holds.users_are c.take_seat.ensures.taken ∙ ap (option_map caller_of) c.in_default.is in
-    (inl (user_gone _ made told), rests _ settings k line (said.change_resource n c.args.index c.args.op) kept sent stands.keeps)
+pub returns-in-None : goal.returns-in-None
+returns-in-None g c line = no_resource c.args.self.now line c.args.resource (said.change_resource c.args.resource c.args.index c.args.op) (Call Closed) c.in-None.ensures.none (λ k same e. change_shut _ (same ∙ sym c.if-not-is_made.ensures.made) e)

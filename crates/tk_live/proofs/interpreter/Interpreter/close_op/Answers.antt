@@ -1,42 +1,22 @@
-use Rattle.std.proofs.Common.{◌≡◌, ◌∷◌, ◌++◌, [], true, false, Some, None, inl, inr, refl, ap, sym, ◌∙◌, subst}
+use Rattle.std.proofs.Common.{◌≡◌, false, Some, refl, ap}
 use Rattle.std.specs.Prelude.{option_map}
-use Rattle.tk_ledgers.specs.Ops.{is_polling}
+use Rattle.tk_core.specs.declared.op.call.OpCall.TheVariants.{Close}
 use Rattle.tk_script.specs.Commands as said
-use Rattle.tk_live.specs.Known.{owner_of}
-use Rattle.tk_live.specs.Named.{live_item, with_item}
-use Rattle.tk_live.specs.Stops.{unless_polled, is_polled_op}
-use Rattle.tk_script.specs.declared.stop.Stop.TheVariants.{Call}
-use Rattle.tk_live.proofs.Places.{used_up, length-set}
-use Rattle.tk_live.proofs.Standing.{from_not, to_not, on_handles, rests, told_live}
+use Rattle.tk_live.specs.Pasts.{is_polled_op}
+use Rattle.tk_live.specs.Stops.{unless_polled}
+use Rattle.tk_live.proofs.Places.{item_read}
+use Rattle.tk_live.proofs.OnOps.{op_did, no_op}
 use Rattle.tk_live.proofs.interpreter.Interpreter.close_op.Goals as goal
 
-pub returns-in-Ok : goal.returns-in-Ok
-returns-in-Ok g c line settings k kept sent stands =
-    let i = c.args.self.now in
-    let n = c.args.op in
-    let owner = c.in-Some.owner in
-    let told : live_item n k.names.ops ≡ Some (owner_of owner) = told_live owner_of n i.ops.items k.names.ops c.take_seat.result owner stands.holds.ops_are c.take_seat.ensures.taken c.in-Some.is in
-    let open_is : is_polling owner ≡ false = from_not (is_polling owner) c.in-Ok.ensures.exact in (
-      ap (λ o. unless_polled (option_map is_polled_op o)) told ∙ ap (λ b. unless_polled (Some b)) open_is,
-      [],
-      on_handles i _ settings k (record k.names { ops = with_item n None k.names.ops }) kept sent stands refl (record {
-        tasks_are = stands.holds.tasks_are;
-        owners = stands.holds.owners;
-        wakers_are = stands.holds.wakers_are;
-        resources_are = stands.holds.resources_are;
-        users_are = stands.holds.users_are;
-        ops_are = used_up owner_of n i.ops.items c.take_seat.new.seats.items c.in-Some.ensures.left ∙ ap (with_item n None) stands.holds.ops_are;
-      }) (ap (λ l. record { tasks = Rattle.std.proofs.Common.length k.names.tasks; resources = Rattle.std.proofs.Common.length k.names.resources; ops = l }) (length-set k.names.ops _ None)),
-    )
+pub close-requires : goal.close-requires
+close-requires g c = (item_read (λ o. o.closed ≡ false) c.args.self.now.ops.items c.args.op c.in-Some.place c.index_mut.result.now c.in-Some.ensures.some c.index_mut.ensures.value).1
 
-pub returns : goal.returns
-returns g c line settings k kept sent stands =
+pub returns-in-Some : goal.returns-in-Some
+returns-in-Some g c line =
     let i = c.args.self.now in
-    let n = c.args.op in
-    let owner = c.in-Some.owner in
-    let e = c.in-Err.ensures in
-    let told : live_item n k.names.ops ≡ Some (owner_of owner) = told_live owner_of n i.ops.items k.names.ops c.take_seat.result owner stands.holds.ops_are c.take_seat.ensures.taken c.in-Some.is in
-    let open_is : is_polling owner ≡ true = to_not (is_polling owner) e.exact in (
-      inl (ap (λ o. unless_polled (option_map is_polled_op o)) told ∙ (ap (λ b. unless_polled (Some b)) open_is ∙ ap (λ r. Some (Call r)) (sym e.already_polling.0))),
-      rests _ settings k line (said.close_op n c.args.moment) kept sent stands.keeps,
-    )
+    let at = item_read (λ o. o.closed ≡ false) i.ops.items c.args.op c.in-Some.place c.index_mut.result.now c.in-Some.ensures.some c.index_mut.ensures.value in
+    op_did i _ line c.args.op c.in-Some.place (said.close_op c.args.op c.args.moment) (Close c.args.moment) (λ p. unless_polled (Some (is_polled_op p))) c.index_mut.result.now c.close.new.self c.close.result
+    at.0 c.in-Some.ensures.some.0 at.1 refl c.close.ensures.same c.close.ensures.did (λ settings k kept sent p stands e. ap (λ o. unless_polled (option_map is_polled_op o)) e) (λ k. refl) refl
+
+pub returns-in-None : goal.returns-in-None
+returns-in-None g c line = no_op c.args.self.now line c.args.op (said.close_op c.args.op c.args.moment) c.in-None.ensures.none (λ settings k kept sent stands e. ap (λ o. unless_polled (option_map is_polled_op o)) e)

@@ -1,52 +1,22 @@
-use Rattle.std.proofs.Common.{◌≡◌, ◌∷◌, ◌++◌, [], true, false, Some, None, inl, inr, refl, ap, sym, ◌∙◌, subst}
+use Rattle.std.proofs.Common.{◌≡◌, ◌∷◌, [], false, Some, refl, ap}
 use Rattle.std.specs.Prelude.{option_map}
 use Rattle.tk_core.specs.declared.task.call.TaskCall.TheVariants.{PollEnd}
-use Rattle.tk_core.specs.declared.reply.Reply.TheVariants.{Done}
-use Rattle.tk_core.specs.TaskMeaning.{task_meaning}
-use Rattle.tk_ledgers.specs.Tasks.{is_polling}
 use Rattle.tk_script.specs.Commands as said
-use Rattle.tk_live.specs.Course.{Names, task_called}
-use Rattle.tk_live.specs.Known.{and_call, owner_of}
-use Rattle.tk_live.specs.Named.{live_item}
-use Rattle.tk_live.specs.Runs.{IsOwner}
-use Rattle.tk_live.specs.Stops.{while_polled, is_polled}
-use Rattle.tk_live.proofs.Places.{each_back, put_changed, place_left, length_change}
-use Rattle.tk_live.proofs.Standing.{on_handles, rests, told_live, owner_called}
+use Rattle.tk_live.specs.Pasts.{is_polled}
+use Rattle.tk_live.specs.Stops.{while_polled}
+use Rattle.tk_live.proofs.Places.{item_read}
+use Rattle.tk_live.proofs.OnTasks.{task_did, no_task}
 use Rattle.tk_live.proofs.interpreter.Interpreter.end.Goals as goal
 
-pub returns-in-Ok : goal.returns-in-Ok
-returns-in-Ok g c line settings k kept sent stands =
-    let i = c.args.self.now in
-    let n = c.args.task in
-    let owner = c.in-Some.owner in
-    let e = c.in-Ok.ensures in
-    let told : live_item n k.names.tasks ≡ Some (owner_of owner) = told_live owner_of n i.tasks.items k.names.tasks c.take_seat.result owner stands.holds.tasks_are c.take_seat.ensures.taken c.in-Some.is in
-    let open_is : is_polling owner ≡ true = sym e.exact in
-    let names : Names = task_called n (PollEnd c.args.moment) k.names in (
-      ap (λ o. while_polled (option_map is_polled o)) told ∙ ap (λ b. while_polled (Some b)) open_is,
-      [],
-      on_handles i _ settings k names kept sent stands refl (record {
-        tasks_are = put_changed owner_of (and_call (PollEnd c.args.moment)) n i.tasks.items c.take_seat.new.seats.items c.put_seat.new.seats.items k.names.tasks owner c.end_poll.new.self stands.holds.tasks_are told c.in-Some.ensures.left
-            c.put_seat.ensures (owner_called task_meaning owner c.end_poll.new.self e.id (PollEnd c.args.moment) Done e.caller e.ok refl);
-        owners = each_back IsOwner n i.tasks.items c.take_seat.new.seats.items c.put_seat.new.seats.items c.end_poll.new.self c.in-Some.ensures.left c.put_seat.ensures (e.ok.same_caller ∙ e.caller) stands.holds.owners;
-        wakers_are = stands.holds.wakers_are;
-        resources_are = stands.holds.resources_are;
-        users_are = stands.holds.users_are;
-        ops_are = stands.holds.ops_are;
-      }) (ap (λ l. record { tasks = l; resources = Rattle.std.proofs.Common.length k.names.resources; ops = Rattle.std.proofs.Common.length k.names.ops }) (length_change n (and_call (PollEnd c.args.moment)) k.names.tasks)),
-    )
+pub end-requires : goal.end-requires
+end-requires g c = (item_read (λ t. t.closed ≡ false) c.args.self.now.tasks.items c.args.task c.in-Some.place c.index_mut.result.now c.in-Some.ensures.some c.index_mut.ensures.value).1
 
-pub returns-in-Err : goal.returns-in-Err
-returns-in-Err g c line settings k kept sent stands =
+pub returns-in-Some : goal.returns-in-Some
+returns-in-Some g c line =
     let i = c.args.self.now in
-    let n = c.args.task in
-    let owner = c.in-Some.owner in
-    let e = c.in-Err.ensures in
-    let told : live_item n k.names.tasks ≡ Some (owner_of owner) = told_live owner_of n i.tasks.items k.names.tasks c.take_seat.result owner stands.holds.tasks_are c.take_seat.ensures.taken c.in-Some.is in
-    let open_is : is_polling owner ≡ false = sym e.exact in (
-      inl (ap (λ o. while_polled (option_map is_polled o)) told ∙ (ap (λ b. while_polled (Some b)) open_is ∙ ap (λ r. Some (Rattle.tk_script.specs.declared.stop.Stop.TheVariants.Call r)) (sym e.not_polling.0))),
-      rests _ settings k line (said.finish n c.args.moment) kept sent stands.keeps,
-    )
+    let at = item_read (λ t. t.closed ≡ false) i.tasks.items c.args.task c.in-Some.place c.index_mut.result.now c.in-Some.ensures.some c.index_mut.ensures.value in
+    task_did i _ line c.args.task c.in-Some.place (said.finish c.args.task c.args.moment) (PollEnd c.args.moment ∷ []) (λ p. while_polled (Some (is_polled p))) c.index_mut.result.now c.end.new.self c.end.result
+    at.0 c.in-Some.ensures.some.0 at.1 refl c.end.ensures.same c.end.ensures.did (λ k p e. ap (λ o. while_polled (option_map is_polled o)) e) (λ k. refl) refl
 
-pub put_seat-requires : goal.put_seat-requires
-put_seat-requires g c = place_left c.args.task c.args.self.now.tasks.items c.take_seat.new.seats.items c.in-Some.owner (sym c.take_seat.ensures.taken ∙ c.in-Some.is) c.in-Some.ensures.left
+pub returns-in-None : goal.returns-in-None
+returns-in-None g c line = no_task c.args.self.now line c.args.task (said.finish c.args.task c.args.moment) c.in-None.ensures.none (λ k e. ap (λ o. while_polled (option_map is_polled o)) e)

@@ -1,29 +1,27 @@
-use Rattle.std.proofs.Common.{rules, ◌≡◌, [], ap, sym, subst, refl}
-use Rattle.tk_events.specs.Handles.{Taking}
-use Rattle.tk_live.specs.Runs.{Sent}
-use Rattle.tk_live.proofs.Publishing.{begins}
+use Rattle.std.proofs.Common.{rules, ◌≡◌, ◌+◌, [], length, refl, ap, sym, ◌∙◌, subst, arith}
+use Rattle.std.specs.Prelude.{map}
+use Rattle.tk_events.specs.Handles.{Recording, Taking}
+use Rattle.tk_aggregator.specs.Aggregates.{Aggregating}
+use Rattle.tk_live.specs.Runs.{offer_tells}
+use Rattle.tk_live.proofs.Beginning.{tells_nothing, has_told_nothing, holds_nothing, links_nothing}
 use Rattle.tk_live.proofs.interpreter.Interpreter.new.Goals as goal
 
 pub returns : goal.returns
 returns c =
-    let t = c.in-Ok.taker in
-    let none : t.taken ≡ [] = ap (λ (x : Taking). x.taken) c.in-Ok.ensures.taker in
+    let a = c.in-Ok-aggregator_for.ensures in
     record {
-      keeps = record {
-        offered = search rules;
-        takes = search rules;
-        timed = search rules;
-        are = subst (λ a. Sent a t c.args.settings [] []) (sym c.in-Ok-aggregator_for.ensures) (begins t c.args.settings none);
-      };
-      holds = search rules;
+      came = tells_nothing c.args.settings;
+      rise = (0, refl);
+      offered = search rules;
+      takes = search rules;
+      taken = ap (λ (t : Taking). map offer_tells t.taken) c.in-Ok.ensures.taker;
+      has_told = has_told_nothing c.args.settings _ a;
+      timed = search rules;
+      holds = holds_nothing _ _ _ _ c.new.ensures.items c.new-2.ensures.items c.new-3.ensures.items c.new-4.ensures.items;
+      linked = links_nothing _ _ _ _ c.args.settings _ (search rules) a;
       capacity_said = refl;
       retention_said = refl;
       times_said = refl;
       begun = refl;
-      capacity_is = refl;
       times_is = refl;
-      least = search rules;
-      moment = ap (λ a. a.tables.now) c.in-Ok-aggregator_for.ensures;
-      numbers = ap (λ a. a.last) c.in-Ok-aggregator_for.ensures;
-      going = ap (λ a. a.broken) c.in-Ok-aggregator_for.ensures;
     }

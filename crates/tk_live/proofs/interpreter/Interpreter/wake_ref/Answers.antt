@@ -1,37 +1,29 @@
-use Rattle.std.proofs.Common.{◌≡◌, [], false, Some, None, refl, ap, sym, ◌∙◌, subst}
+use Rattle.std.proofs.Common.{false, None, refl, ap, sym, ◌∙◌, arith}
 use Rattle.tk_core.specs.declared.task.call.TaskCall.TheVariants.{WakeRef}
-use Rattle.tk_core.specs.declared.reply.Reply.TheVariants.{Woken}
-use Rattle.tk_core.specs.TaskMeaning.{task_meaning}
-use Rattle.tk_ledgers.specs.Tasks.{is_polling}
-use Rattle.tk_live.specs.Course.{waker_called}
-use Rattle.tk_live.specs.Known.{and_call, caller_of}
-use Rattle.tk_live.specs.Named.{live_item}
+use Rattle.tk_script.specs.Commands as said
 use Rattle.tk_live.specs.Stops.{if_there}
-use Rattle.tk_live.proofs.Places.{put_changed, place_left}
-use Rattle.tk_live.proofs.Standing.{on_handles, told_live, caller_called}
+use Rattle.tk_live.proofs.OnWakers.{waker_did, no_waker, waker_at, waker_read}
 use Rattle.tk_live.proofs.interpreter.Interpreter.wake_ref.Goals as goal
 
-pub put_seat-requires : goal.put_seat-requires
-put_seat-requires g c = place_left c.args.number c.args.self.now.wakers.items c.take_seat.new.seats.items c.in-Some.waker (sym c.take_seat.ensures.taken ∙ c.in-Some.is) c.in-Some.ensures.left
-
 pub returns : goal.returns
-returns g c line settings k kept sent stands =
+returns g c line =
     let i = c.args.self.now in
-    let n = c.args.number in
-    let m = c.args.moment in
-    let waker = c.in-Some.waker in
-    let e = c.wake_by_ref.ensures in
-    let told : live_item n k.names.wakers ≡ Some (caller_of waker) = told_live caller_of n i.wakers.items k.names.wakers c.take_seat.result waker stands.holds.wakers_are c.take_seat.ensures.taken c.in-Some.is in (
-      ap (λ o. if_there o None) told,
-      [],
-      on_handles i _ settings k (waker_called n (WakeRef m false) k.names) kept sent stands refl (record {
-        tasks_are = stands.holds.tasks_are;
-        owners = stands.holds.owners;
-        wakers_are = put_changed caller_of (and_call (WakeRef m false)) n i.wakers.items c.take_seat.new.seats.items c.put_seat.new.seats.items k.names.wakers waker c.wake_by_ref.new.self stands.holds.wakers_are told c.in-Some.ensures.left
-            c.put_seat.ensures (caller_called task_meaning waker c.wake_by_ref.new.self e.id (WakeRef m false) (Woken c.wake_by_ref.result)
-            (subst (λ o. Rattle.tk_cell.specs.Calls.Calls task_meaning waker.token.view (WakeRef m (Rattle.tk_ledgers.specs.Tasks.names o waker.id)) (Woken c.wake_by_ref.result) c.wake_by_ref.new.self.token.view) c.outside.ensures e.entry) refl);
-        resources_are = stands.holds.resources_are;
-        users_are = stands.holds.users_are;
-        ops_are = stands.holds.ops_are;
-      }) refl,
-    )
+    let w = c.args.number in
+    let a = c.in-Some.waker in
+    let live = sym c.live_waker.ensures ∙ c.in-Some.is in
+    let at = waker_at i c.requires w a live in
+    let read = waker_read i.tasks.items a c.index_mut.result.now at c.index_mut.ensures.value in
+    waker_did i _ line w _ a (said.wake_ref w c.args.moment) (WakeRef c.args.moment false) c.index_mut.result.now c.wake_by_ref.new.self read.0 live at.is refl c.wake_by_ref.ensures.same c.wake_by_ref.ensures.did (λ k e. ap (λ o. if_there o None) e) (λ k. refl) refl
+
+pub returns-in_default : goal.returns-in_default
+returns-in_default g c line = no_waker c.args.self.now line c.args.number (said.wake_ref c.args.number c.args.moment) (sym c.live_waker.ensures ∙ c.in_default.is) (λ k e. ap (λ o. if_there o None) e)
+
+pub index_mut-requires : goal.index_mut-requires
+index_mut-requires g c =
+    let at = waker_at c.args.self.now c.requires c.args.number c.in-Some.waker (sym c.live_waker.ensures ∙ c.in-Some.is) in
+    omega (arith, at.within, c.args.self.now.tasks.ok.0)
+
+pub wake_by_ref-requires : goal.wake_by_ref-requires
+wake_by_ref-requires g c =
+    let at = waker_at c.args.self.now c.requires c.args.number c.in-Some.waker (sym c.live_waker.ensures ∙ c.in-Some.is) in
+    (waker_read c.args.self.now.tasks.items c.in-Some.waker c.index_mut.result.now at c.index_mut.ensures.value).1

@@ -1,0 +1,81 @@
+-- What came of commands, where more is recorded then.
+use Rattle.std.proofs.Common.{◌≡◌, ℕ, ◌+◌, ◌-◌, ◌<◌, ◌≤◌, Bool, true, false, List, [], ◌∷◌, ◌++◌, length, take, drop, refl, sym, ap, ◌∙◌, subst, arith, leb, leb-true, leb-false, length-append, length-drop}
+use Rattle.std.specs.List.{items_where_true, between}
+use Rattle.std.proofs.lemmas.List.{take-append-le, drop-append-le}
+use Rattle.tk_stream.specs.Streams.{Sending}
+use Rattle.tk_stream.specs.Tables.{TablesView, empty_tables}
+use Rattle.tk_stream.specs.Times.{TaskTimes}
+use Rattle.tk_aggregator.specs.Told.{Told}
+use Rattle.tk_live.specs.Course.{Due}
+use Rattle.tk_live.specs.Ran.{AreLinesOf, IsLineOf, TellOf, kept_between, times_behind}
+use Rattle.tk_live.specs.Runs.{RiseTo, recorded_by}
+use Rattle.tk_script.specs.declared.settings.Settings.{Settings}
+use Rattle.tk_live.proofs.Lists.{first_push}
+
+-- ---- elements of a list that has more behind them
+
+pub between_still : {X : Type 0} (from to : ℕ) (xs more : List X) → to ≤ length xs → between from to (xs ++ more) ≡ between from to xs
+between_still {X} from to xs more le = by (leb from to) refl
+  where
+    by : (b : Bool) → leb from to ≡ b → between from to (xs ++ more) ≡ between from to xs
+    by true is =
+        let low : from ≤ to = leb-true from to is in
+        let rest : to - from ≤ length (drop from xs) = omega (arith, length-drop from xs, low, le) in
+        ap (take (to - from)) (drop-append-le from xs more (omega (arith, low, le))) ∙ take-append-le (to - from) (drop from xs) more rest
+    by false is =
+        let high : to < from = leb-false from to is in
+        let none : to - from ≡ 0 = omega (arith, high) in
+        ap (λ n. take n (drop from (xs ++ more))) none ∙ sym (ap (λ n. take n (drop from xs)) none)
+
+-- ---- lines that are due
+
+-- none was due after more recordings than there are
+pub rise_low : (all from : ℕ) (due : List Due) → RiseTo all from due → from ≤ all
+rise_low all from [] rise = let e = rise.1 in omega (arith, e)
+rise_low all from (d ∷ due) rise = let e = rise.0.1 in let le = rise_low all d.recorded due rise.1 in omega (arith, e, le)
+
+-- nor is one where there are more
+pub rise_more : (all more from : ℕ) (due : List Due) → RiseTo all from due → RiseTo (all + more) from due
+rise_more all more from [] rise = (rise.0 + more, let e = rise.1 in omega (arith, e))
+rise_more all more from (d ∷ due) rise = (rise.0, rise_more all more d.recorded due rise.1)
+
+-- the last was due after so many at most
+pub recorded_low : (all from : ℕ) (due : List Due) → RiseTo all from due → recorded_by from due ≤ all
+recorded_low all from [] rise = rise_low all from [] rise
+recorded_low all from (d ∷ due) rise = recorded_low all d.recorded due rise.1
+
+-- ---- what came of commands, where more is recorded then
+
+module _ (settings : Settings) (kept ks : List Bool) (told ts : List Told) (one_each : length kept ≡ length told) where
+  -- between two numbers of recordings of before
+  between_kept : (from to : ℕ) → to ≤ length told → kept_between (kept ++ ks) (told ++ ts) from to ≡ kept_between kept told from to
+  between_kept from to le =
+      let low : to ≤ length kept = omega (arith, one_each, le) in
+      λ i. items_where_true (between_still from to kept ks low i) (between_still from to told ts le i)
+
+  -- and of the first ones
+  pub first_kept : (n : ℕ) → n ≤ length told → items_where_true (take n (kept ++ ks)) (take n (told ++ ts)) ≡ items_where_true (take n kept) (take n told)
+  first_kept n le =
+      let low : n ≤ length kept = omega (arith, one_each, le) in
+      λ i. items_where_true (take-append-le n kept ks low i) (take-append-le n told ts le i)
+
+  -- the lines that were sent are those that were due before
+  pub lines_still : (before : TablesView) (had : List TaskTimes) (from : ℕ) (due : List Due) (sent : List Sending) → RiseTo (length told) from due → AreLinesOf settings kept told before had from due sent
+      → AreLinesOf settings (kept ++ ks) (told ++ ts) before had from due sent
+  lines_still before had from [] [] rise lines = tt
+  lines_still before had from [] (s ∷ sent) rise lines = absurd lines
+  lines_still before had from (d ∷ due) [] rise lines = absurd lines
+  lines_still before had from (d ∷ due) (s ∷ sent) rise lines = (
+    subst (λ (since : List Told). IsLineOf settings before had since d s) (sym (between_kept from d.recorded (rise_low (length told) d.recorded due rise.1))) lines.0,
+    lines_still s.tables (times_behind had before s) d.recorded due sent rise.1 lines.1,
+  )
+
+-- one recording more, which was kept or not: the lines tell of what was recorded as before
+pub tells_more : (settings : Settings) (told : List Told) (due : List Due) (kept : List Bool) (sent : List Sending) (mark : Bool) (tells : Told) → TellOf settings told due kept sent → RiseTo (length told) 0 due → (mark ≡ false → settings.capacity ≤ length kept)
+    → TellOf settings (told ++ tells ∷ []) due (kept ++ mark ∷ []) sent
+tells_more settings told due kept sent mark tells came rise late = record {
+  one_each = omega (arith, came.one_each, length-append kept (mark ∷ []), length-append told (tells ∷ []));
+  first = first_push kept mark settings.capacity came.first late;
+  lines = lines_still settings kept (mark ∷ []) told (tells ∷ []) came.one_each empty_tables [] 0 due sent rise came.lines;
+  stream = came.stream;
+}

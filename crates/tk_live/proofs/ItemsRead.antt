@@ -1,0 +1,174 @@
+-- What stands after all items were read.
+use Rattle.std.proofs.Common.{◌≡◌, ℕ, List, [], ◌∷◌, length, Option, Some, sym, ap, ◌∙◌, subst}
+use Rattle.std.specs.Prelude.{map}
+use Rattle.std.specs.List.{AllByRecursion}
+use Rattle.atomic_table.specs.Seated.{TableId}
+use Rattle.tk_ids.specs.Ids.{id_of}
+use Rattle.tk_events.specs.declared.event.Shown.{Shown}
+use Rattle.tk_events.specs.declared.event.Shown.TheVariants.{MadeTask, MadeResource, MadeOp, Polled}
+use Rattle.tk_events.specs.declared.item.Offer.{Offer}
+use Rattle.tk_ledgers.specs.Ops.{OpSight}
+use Rattle.tk_ledgers.specs.Resources.{ResourceSight}
+use Rattle.tk_ledgers.specs.Tasks.{TaskSight}
+use Rattle.tk_stream.specs.Lines.{task_info, resource_info, op_info}
+use Rattle.tk_stream.specs.Tables.{task_id, resource_id, op_id}
+use Rattle.tk_stream.specs.Times.{times_id}
+use Rattle.tk_stream.specs.declared.op.Op.{Op}
+use Rattle.tk_stream.specs.declared.resource.Resource.{Resource}
+use Rattle.tk_stream.specs.declared.task.Task.{Task}
+use Rattle.tk_aggregator.specs.Absorbing.{infos_of}
+use Rattle.tk_aggregator.specs.Aggregates.{Aggregating, IsSound, IsSameStream, Pairs, ReadTask, ReadResource, ReadOp}
+use Rattle.tk_live.specs.Items.{Holds, AreWakers, IsTask, IsResource, IsOp, IsSameTask, IsSameResource, IsSameOp}
+use Rattle.tk_live.specs.Named.{made_item}
+use Rattle.tk_live.specs.Pasts.{Pasts, IsTaskRow, IsResourceRow, IsOpRow}
+use Rattle.tk_live.specs.Ran.{IsCalledTask, IsCalledResource, IsCalledOp, AreCalled}
+use Rattle.tk_live.specs.Read.{AreReadTo, AreItemsRead}
+use Rattle.tk_live.specs.Runs.{IsTaskLedger, IsResourceLedger, IsOpLedger, OffersLedger, AreLinked}
+use Rattle.tk_live.specs.declared.interpreter.Interpreter.{Interpreter}
+use Rattle.tk_live.specs.declared.items.OpItem.{OpItem}
+use Rattle.tk_live.specs.declared.items.ResourceItem.{ResourceItem}
+use Rattle.tk_live.specs.declared.items.TaskItem.{TaskItem}
+use Rattle.tk_live.specs.declared.items.WakerItem.{WakerItem}
+use Rattle.tk_live.proofs.Histograms.{read_times}
+use Rattle.tk_live.proofs.Reading.{same_task_ids}
+use Rattle.tk_live.proofs.Rows.{all_read, all_so, still_of}
+
+-- what is shown of an item that a reader is of, is of an item of the script
+module _ {T S X : Type 0} (id : T → ℕ) (reader_id : S → ℕ) (ledger : S → TableId) (ledger_of : X → TableId) (Read : T → S → Type 0) (reads_id : (t : T) (s : S) → Read t s → reader_id s ≡ id t) (xs : List X) where
+  of_items : (ts : List T) (ss : List S) → Pairs Read ts ss → AllByRecursion (λ (s : S). (n : ℕ) × (x : X) × (reader_id s ≡ id_of 1 n) × (made_item n xs ≡ Some x) × (ledger_of x ≡ ledger s)) ss
+      → AllByRecursion (λ (t : T). (n : ℕ) × (x : X) × (id t ≡ id_of 1 n) × (made_item n xs ≡ Some x)) ts
+  of_items [] [] pairs all = tt
+  of_items [] (s ∷ ss) pairs all = absurd pairs
+  of_items (t ∷ ts) [] pairs all = absurd pairs
+  of_items (t ∷ ts) (s ∷ ss) pairs all = ((all.0.0, all.0.1, sym (reads_id t s pairs.0) ∙ all.0.2, all.0.3), of_items ts ss pairs.1 all.1)
+
+module _ (i m : Interpreter) (read : AreItemsRead i m) where
+  abbrev a : Aggregating
+  a = i.aggregator
+
+  abbrev b : Aggregating
+  b = m.aggregator
+
+  -- each kind of items is as it was read
+  tasks_shown : b.tables.tasks ≡ read.tasks_then.tables.tasks
+  tasks_shown = ap (λ (x : Aggregating). x.tables.tasks) read.times.1 ∙ (ap (λ (x : Aggregating). x.tables.tasks) read.ops.rest ∙ (ap (λ (x : Aggregating). x.tables.tasks) read.resources.rest))
+
+  resources_shown : b.tables.resources ≡ read.resources_then.tables.resources
+  resources_shown = ap (λ (x : Aggregating). x.tables.resources) read.times.1 ∙ (ap (λ (x : Aggregating). x.tables.resources) read.ops.rest)
+
+  ops_shown : b.tables.ops ≡ read.ops_then.tables.ops
+  ops_shown = ap (λ (x : Aggregating). x.tables.ops) read.times.1
+
+  tasks_read : b.tasks ≡ read.tasks_then.tasks
+  tasks_read = ap (λ (x : Aggregating). x.tasks) read.times.1 ∙ (ap (λ (x : Aggregating). x.tasks) read.ops.rest ∙ (ap (λ (x : Aggregating). x.tasks) read.resources.rest))
+
+  resources_read : b.resources ≡ read.resources_then.resources
+  resources_read = ap (λ (x : Aggregating). x.resources) read.times.1 ∙ (ap (λ (x : Aggregating). x.resources) read.ops.rest)
+
+  ops_read : b.ops ≡ read.ops_then.ops
+  ops_read = ap (λ (x : Aggregating). x.ops) read.times.1
+
+  -- and nothing else changed
+  pub stream_stays : IsSameStream a b
+  stream_stays = record {
+    told = ap (λ (x : Aggregating). x.told) read.times.1 ∙ (ap (λ (x : Aggregating). x.told) read.ops.rest ∙ (ap (λ (x : Aggregating). x.told) read.resources.rest ∙ (ap (λ (x : Aggregating). x.told) read.tasks.rest)));
+    last = ap (λ (x : Aggregating). x.last) read.times.1 ∙ (ap (λ (x : Aggregating). x.last) read.ops.rest ∙ (ap (λ (x : Aggregating). x.last) read.resources.rest ∙ (ap (λ (x : Aggregating). x.last) read.tasks.rest)));
+    broken = ap (λ (x : Aggregating). x.broken) read.times.1 ∙ (ap (λ (x : Aggregating). x.broken) read.ops.rest ∙ (ap (λ (x : Aggregating). x.broken) read.resources.rest ∙ (ap (λ (x : Aggregating). x.broken) read.tasks.rest)));
+    now = ap (λ (x : Aggregating). x.tables.now) read.times.1 ∙ (ap (λ (x : Aggregating). x.tables.now) read.ops.rest ∙ (ap (λ (x : Aggregating). x.tables.now) read.resources.rest ∙ (ap (λ (x : Aggregating). x.tables.now) read.tasks.rest)));
+    retention = ap (λ (x : Aggregating). x.retention) read.times.1 ∙ (ap (λ (x : Aggregating). x.retention) read.ops.rest ∙ (ap (λ (x : Aggregating). x.retention) read.resources.rest ∙ (ap (λ (x : Aggregating). x.retention) read.tasks.rest)));
+    reads = ap (λ t. t.reads) read.times.0.2 ∙ (ap (λ (x : Aggregating). x.timing.reads) read.ops.rest ∙ (ap (λ (x : Aggregating). x.timing.reads) read.resources.rest ∙ (ap (λ (x : Aggregating). x.timing.reads) read.tasks.rest)));
+    times_told = ap (λ t. t.told) read.times.0.2 ∙ (ap (λ (x : Aggregating). x.timing.told) read.ops.rest ∙ (ap (λ (x : Aggregating). x.timing.told) read.resources.rest ∙ (ap (λ (x : Aggregating). x.timing.told) read.tasks.rest)));
+  }
+
+  pub held_stays : b.held ≡ a.held
+  held_stays = ap (λ (x : Aggregating). x.held) read.times.1 ∙ (ap (λ (x : Aggregating). x.held) read.ops.rest ∙ (ap (λ (x : Aggregating). x.held) read.resources.rest ∙ (ap (λ (x : Aggregating). x.held) read.tasks.rest)))
+
+  task_infos_stay : map task_info b.tables.tasks ≡ map task_info a.tables.tasks
+  task_infos_stay = ap (map task_info) tasks_shown ∙ read.tasks.infos
+
+  pub infos_stay : infos_of b.tables ≡ infos_of a.tables
+  infos_stay =
+      let resources = ap (map resource_info) resources_shown ∙ (read.resources.infos ∙ ap (λ (x : Aggregating). map resource_info x.tables.resources) read.tasks.rest) in
+      let ops = ap (map op_info) ops_shown ∙ (read.ops.infos ∙ (ap (λ (x : Aggregating). map op_info x.tables.ops) read.resources.rest ∙ ap (λ (x : Aggregating). map op_info x.tables.ops) read.tasks.rest)) in
+      let counts = ap (λ (x : Aggregating). x.tables.counts) read.times.1 ∙ (ap (λ (x : Aggregating). x.tables.counts) read.ops.rest ∙ (ap (λ (x : Aggregating). x.tables.counts) read.resources.rest ∙ (ap (λ (x : Aggregating). x.tables.counts) read.tasks.rest))) in
+      λ k. record { tasks = task_infos_stay k; resources = resources k; ops = ops k; counts = counts k }
+
+  pub times_stay : map times_id a.timing.shown ≡ map task_id a.tables.tasks → map times_id b.timing.shown ≡ map task_id b.tables.tasks
+  times_stay each =
+      read_times read.ops_then b read.times.0 read.paired
+      ∙ ((ap (λ (x : Aggregating). map times_id x.timing.shown) read.ops.rest ∙ (ap (λ (x : Aggregating). map times_id x.timing.shown) read.resources.rest ∙ (ap (λ (x : Aggregating). map times_id x.timing.shown) read.tasks.rest)))
+      ∙ (each ∙ sym (same_task_ids a.tables.tasks b.tables.tasks task_infos_stay)))
+
+  -- who reads is of the items
+  tasks_are_of : AllByRecursion (λ (s : TaskSight). IsTaskLedger m.tasks.items s.id s.token.ledger) b.tasks
+  tasks_are_of = subst (λ (ss : List TaskSight). AllByRecursion (λ (s : TaskSight). IsTaskLedger m.tasks.items s.id s.token.ledger) ss) (sym tasks_read) read.tasks.readers
+
+  resources_are_of : AllByRecursion (λ (s : ResourceSight). IsResourceLedger m.resources.items s.id s.token.ledger) b.resources
+  resources_are_of = subst (λ (ss : List ResourceSight). AllByRecursion (λ (s : ResourceSight). IsResourceLedger m.resources.items s.id s.token.ledger) ss) (sym resources_read) read.resources.readers
+
+  ops_are_of : AllByRecursion (λ (s : OpSight). IsOpLedger m.ops.items s.id s.token.ledger) b.ops
+  ops_are_of = subst (λ (ss : List OpSight). AllByRecursion (λ (s : OpSight). IsOpLedger m.ops.items s.id s.token.ledger) ss) (sym ops_read) read.ops.readers
+
+  -- each row is that of what was called on its item
+  tasks_are_called : (ps : Pasts) → Holds i.tasks.items i.wakers.items i.resources.items i.ops.items ps → IsSound b → AllByRecursion (IsCalledTask ps) b.tables.tasks
+  tasks_are_called ps holds sound =
+      let each = holds.tasks_are.tasks_are in
+      let rows = subst (λ (ts : List Task). AreReadTo task_id (λ p t. IsTaskRow p t.row) (length m.tasks.items) ps.tasks ts) (sym tasks_shown)
+      (subst (λ (n : ℕ). AreReadTo task_id (λ p t. IsTaskRow p t.row) n ps.tasks read.tasks_then.tables.tasks) (sym read.tasks.many) (read.tasks.rows ps.tasks each)) in
+      let of = of_items task_id (λ (s : TaskSight). s.id) (λ (s : TaskSight). s.token.ledger) (λ (x : TaskItem). x.callers.token.ledger) ReadTask (λ t s p. p.0) m.tasks.items b.tables.tasks b.tasks sound.tasks tasks_are_of in
+      all_read task_id (λ p t. IsTaskRow p t.row) (IsCalledTask ps) ps.tasks m.tasks.items IsTask (read.tasks.hands ps.tasks each) (λ t n p id past row. record { number = n; id = id; past = p; is_past = past; row = row }) b.tables.tasks of rows
+
+  resources_are_called : (ps : Pasts) → Holds i.tasks.items i.wakers.items i.resources.items i.ops.items ps → IsSound b → AllByRecursion (IsCalledResource ps) b.tables.resources
+  resources_are_called ps holds sound =
+      let each = holds.resources_are in
+      let rows = subst (λ (ts : List Resource). AreReadTo resource_id (λ p t. IsResourceRow p t.row) (length m.resources.items) ps.resources ts) (sym resources_shown)
+      (subst (λ (n : ℕ). AreReadTo resource_id (λ p t. IsResourceRow p t.row) n ps.resources read.resources_then.tables.resources) (sym read.resources.many) (read.resources.rows ps.resources each)) in
+      let of = of_items resource_id (λ (s : ResourceSight). s.id) (λ (s : ResourceSight). s.token.ledger) (λ (x : ResourceItem). x.callers.token.ledger) ReadResource (λ t s p. p.0) m.resources.items b.tables.resources b.resources sound.resources resources_are_of in
+      all_read resource_id (λ p t. IsResourceRow p t.row) (IsCalledResource ps) ps.resources m.resources.items IsResource (read.resources.hands ps.resources each) (λ t n p id past row. record { number = n; id = id; past = p; is_past = past; row = row }) b.tables.resources of rows
+
+  ops_are_called : (ps : Pasts) → Holds i.tasks.items i.wakers.items i.resources.items i.ops.items ps → IsSound b → AllByRecursion (IsCalledOp ps) b.tables.ops
+  ops_are_called ps holds sound =
+      let each = holds.ops_are in
+      let rows = subst (λ (ts : List Op). AreReadTo op_id (λ p t. IsOpRow p t.row) (length m.ops.items) ps.ops ts) (sym ops_shown)
+      (subst (λ (n : ℕ). AreReadTo op_id (λ p t. IsOpRow p t.row) n ps.ops read.ops_then.tables.ops) (sym read.ops.many) (read.ops.rows ps.ops each)) in
+      let of = of_items op_id (λ (s : OpSight). s.id) (λ (s : OpSight). s.token.ledger) (λ (x : OpItem). x.callers.token.ledger) ReadOp (λ t s p. p.0) m.ops.items b.tables.ops b.ops sound.ops ops_are_of in
+      all_read op_id (λ p t. IsOpRow p t.row) (IsCalledOp ps) ps.ops m.ops.items IsOp (read.ops.hands ps.ops each) (λ t n p id past row. record { number = n; id = id; past = p; is_past = past; row = row }) b.tables.ops of rows
+
+  pub are_called : (ps : Pasts) → Holds i.tasks.items i.wakers.items i.resources.items i.ops.items ps → IsSound b → AreCalled ps b.tables
+  are_called ps holds sound = record { tasks = tasks_are_called ps holds sound; resources = resources_are_called ps holds sound; ops = ops_are_called ps holds sound }
+
+  -- the hands are kept of the same items
+  wakers_stay : (wakers : List (Option WakerItem)) → AreWakers i.tasks.items wakers → AreWakers m.tasks.items wakers
+  wakers_stay wakers are = record {
+    live = λ w x named.
+        let there = are.live w x named in
+        let now = read.tasks.same x.task there.0 there.1 in
+        (now.0, now.1, now.2.live x.number there.2);
+    apart = are.apart;
+  }
+
+  pub still_holds : (ps : Pasts) → Holds i.tasks.items i.wakers.items i.resources.items i.ops.items ps → Holds m.tasks.items i.wakers.items m.resources.items m.ops.items ps
+  still_holds ps holds = record {
+    tasks_are = record {
+      tasks_are = read.tasks.hands ps.tasks holds.tasks_are.tasks_are;
+      wakers_are = holds.tasks_are.wakers_are;
+      are_live = wakers_stay i.wakers.items holds.tasks_are.are_live;
+    };
+    resources_are = read.resources.hands ps.resources holds.resources_are;
+    ops_are = read.ops.hands ps.ops holds.ops_are;
+  }
+
+  -- and offers and readers are of them
+  offer_stays : (e : Shown) → OffersLedger i.tasks.items i.resources.items i.ops.items e → OffersLedger m.tasks.items m.resources.items m.ops.items e
+  offer_stays (MadeTask info ledger caller times) is = still_of (λ (x : TaskItem). x.callers.token.ledger) IsSameTask (λ x y same. same.ledger) i.tasks.items m.tasks.items read.tasks.same info.id ledger is
+  offer_stays (MadeResource info ledger caller) is = still_of (λ (x : ResourceItem). x.callers.token.ledger) IsSameResource (λ x y same. same.ledger) i.resources.items m.resources.items read.resources.same info.id ledger is
+  offer_stays (MadeOp info ledger caller) is = still_of (λ (x : OpItem). x.callers.token.ledger) IsSameOp (λ x y same. same.ledger) i.ops.items m.ops.items read.ops.same info.id ledger is
+  offer_stays (Polled op) is = tt
+
+  pub still_linked : (kept : List Offer) → AllByRecursion (λ (o : Offer). OffersLedger i.tasks.items i.resources.items i.ops.items o.event) kept → AreLinked m.tasks.items m.resources.items m.ops.items kept b
+  still_linked kept offers = record {
+    offers = all_so (λ (o : Offer). OffersLedger i.tasks.items i.resources.items i.ops.items o.event) (λ (o : Offer). OffersLedger m.tasks.items m.resources.items m.ops.items o.event) (λ o is. offer_stays o.event is) kept offers;
+    task_readers = tasks_are_of;
+    resource_readers = resources_are_of;
+    op_readers = ops_are_of;
+  }

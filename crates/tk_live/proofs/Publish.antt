@@ -1,0 +1,98 @@
+-- A line that is published: from what an interpreter stood for to what it stands for.
+use Rattle.std.proofs.Common.{◌≡◌, ℕ, Bool, List, [], ◌∷◌, ◌++◌, length, take, None, refl, sym, ap, ◌∙◌, subst}
+use Rattle.std.specs.Prelude.{map}
+use Rattle.std.specs.List.{AllByRecursion, items_where_true}
+use Rattle.std.proofs.lemmas.List.{map-append}
+use Rattle.tk_events.specs.Handles.{Taking}
+use Rattle.tk_events.specs.declared.item.Offer.{Offer}
+use Rattle.tk_ledgers.specs.Ops.{OpSight}
+use Rattle.tk_ledgers.specs.Resources.{ResourceSight}
+use Rattle.tk_ledgers.specs.Tasks.{TaskSight}
+use Rattle.tk_stream.specs.Streams.{Sending, MaySend}
+use Rattle.tk_aggregator.specs.Aggregates.{Aggregating, TookMore, IsSound, dropped_in, after_line, sending_at}
+use Rattle.tk_aggregator.specs.Told.{Told}
+use Rattle.tk_script.specs.Commands.{publish}
+use Rattle.tk_script.specs.declared.settings.Settings.{Settings}
+use Rattle.tk_live.specs.Course.{Course, due_at, step}
+use Rattle.tk_live.specs.Ran.{kept_between}
+use Rattle.tk_live.specs.Read.{CollectsAll, MayRead, AreItemsRead}
+use Rattle.tk_live.specs.Runs.{HaveTimes, StandsFor, IsTaskLedger, IsResourceLedger, IsOpLedger, OffersLedger, AreLinked, offer_tells, recorded_by}
+use Rattle.tk_live.specs.declared.interpreter.Interpreter.{Interpreter}
+use Rattle.tk_live.proofs.Between.{kept_behind, kept_all}
+use Rattle.tk_live.proofs.ItemsRead.{are_called, held_stays, infos_stay, still_holds, still_linked, stream_stays, times_stay}
+use Rattle.tk_live.proofs.Leaving.{recorded_push, rise_push}
+use Rattle.tk_live.proofs.Linking.{AreReaders, gathered_readers}
+use Rattle.tk_live.proofs.Publishing.{HasGathered, came_line, gathered, readers_stay, still_gathered, told_line, told_totals, took_all, took_more}
+
+module _ (i : Interpreter) (settings : Settings) (c : Course) (kept : List Bool) (sent : List Sending) (stands : StandsFor i settings c kept sent) (a : Aggregating) (u : Taking) (took : TookMore i.taker u) (all : CollectsAll i.recorder i.aggregator i.taker a u) where
+  -- all was taken that was kept
+  took_kept : u.taken ≡ i.recorder.kept
+  took_kept = took_all i.recorder settings.capacity _ c.told kept stands.offered i.taker u stands.takes took all.named all.all
+
+  same_taken : all.taker.taken ≡ i.recorder.kept
+  same_taken = sym (ap (λ (x : Taking). x.taken) all.totals.same) ∙ took_kept
+
+  none_held : all.gathered.held ≡ None
+  none_held = sym (ap (λ (x : Aggregating). x.held) all.now) ∙ all.none_held
+
+  abbrev since : List Told
+  since = kept_between kept c.told (recorded_by 0 c.due) (length c.told)
+
+  pub collected : HasGathered a settings c.now (length c.due) sent since
+  collected =
+      let told : map offer_tells i.taker.taken ++ map offer_tells all.gathers.offers ≡ items_where_true kept c.told =
+      sym (map-append offer_tells i.taker.taken all.gathers.offers) ∙ (ap (map offer_tells) (sym (ap (λ (x : Taking). x.taken) all.gathers.taker) ∙ same_taken) ∙ stands.offered.picks) in
+      let came : map offer_tells all.gathers.offers ≡ since = kept_behind (recorded_by 0 c.due) kept c.told (map offer_tells all.gathers.offers) (map offer_tells i.taker.taken) stands.came.one_each stands.taken told in
+      subst (λ (x : Aggregating). HasGathered x settings c.now (length c.due) sent since) (sym all.now)
+      (told_totals all.gathered (dropped_in u.last) settings c.now (length c.due) sent since
+      (gathered i.aggregator all.gathered i.taker all.taker all.taken settings c.now (length c.due) sent since stands.has_told all.gathers none_held came (λ timed. subst HaveTimes (sym same_taken) (stands.timed timed))))
+
+  -- the items may be read
+  module _ (sound : IsSound i.aggregator) (later : IsSound a) where
+    readers : AreReaders i.tasks.items i.resources.items i.ops.items a
+    readers =
+        let now : IsSound (record all.gathered { tables = record all.gathered.tables { dropped = dropped_in u.last } }) = subst (λ (x : Aggregating). IsSound x) all.now later in
+        subst (λ (x : Aggregating). AreReaders i.tasks.items i.resources.items i.ops.items x) (sym all.now)
+        (gathered_readers i.tasks.items i.resources.items i.ops.items i.aggregator all.gathered i.taker all.taker all.taken all.gathers stands.has_told.none_held sound now.tasks now.resources now.ops
+        (subst (λ (os : List Offer). AllByRecursion (λ (o : Offer). OffersLedger i.tasks.items i.resources.items i.ops.items o.event) os) (sym same_taken) stands.linked.offers) (stands.linked.task_readers, stands.linked.resource_readers, stands.linked.op_readers))
+
+    pub may_read : MayRead (record i { taker = u; aggregator = a })
+    may_read = record { pasts = c.pasts; holds = stands.holds; tasks = readers.0; resources = readers.1; ops = readers.2 }
+
+  -- all items were read, and a line was sent
+  module _ (m : Interpreter) (read : AreItemsRead (record i { taker = u; aggregator = a }) m) where
+    pub now_gathered : HasGathered m.aggregator settings c.now (length c.due) sent since
+    now_gathered = still_gathered a m.aggregator settings c.now (length c.due) sent since
+        (stream_stays (record i { taker = u; aggregator = a }) m read) (infos_stay (record i { taker = u; aggregator = a }) m read) (held_stays (record i { taker = u; aggregator = a }) m read) (times_stay (record i { taker = u; aggregator = a }) m read) collected
+
+    module _ (line now : ℕ) (whole : Bool) (sound : IsSound m.aggregator) (may : MaySend m.aggregator.told (sending_at whole m.aggregator now)) (later : IsSound (after_line whole m.aggregator now)) where
+      now_linked : AreLinked m.tasks.items m.resources.items m.ops.items i.recorder.kept (after_line whole m.aggregator now)
+      now_linked =
+          let linked = still_linked (record i { taker = u; aggregator = a }) m read i.recorder.kept stands.linked.offers in
+          let readers = readers_stay (λ (s : TaskSight). IsTaskLedger m.tasks.items s.id s.token.ledger) (λ (s : ResourceSight). IsResourceLedger m.resources.items s.id s.token.ledger) (λ (s : OpSight). IsOpLedger m.ops.items s.id s.token.ledger)
+          whole m.aggregator now (linked.task_readers, linked.resource_readers, linked.op_readers) in
+          record { offers = linked.offers; task_readers = readers.0; resource_readers = readers.1; op_readers = readers.2 }
+
+      after_is : (z : Aggregating) → z ≡ after_line whole m.aggregator now → record m { aggregator = z } ≡ record i { taker = u; aggregator = after_line whole m.aggregator now; tasks = m.tasks; resources = m.resources; ops = m.ops }
+      after_is z is =
+          ap (λ (x : Interpreter). record x { aggregator = z }) read.rest
+          ∙ ap (λ (x : Aggregating). record i { taker = u; aggregator = x; tasks = m.tasks; resources = m.resources; ops = m.ops }) is
+
+      pub published : (z : Aggregating) → z ≡ after_line whole m.aggregator now → StandsFor (record m { aggregator = z }) settings (step c line (publish now whole)) kept (sent ++ sending_at whole m.aggregator now ∷ [])
+      published z is = subst (λ (x : Interpreter). StandsFor x settings (step c line (publish now whole)) kept (sent ++ sending_at whole m.aggregator now ∷ [])) (sym (after_is z is)) (record {
+        came = came_line m.aggregator settings c kept sent now whole now_gathered sound may later stands.came (are_called (record i { taker = u; aggregator = a }) m read c.pasts stands.holds sound);
+        rise = rise_push (length c.told) 0 c.due (due_at c now whole) refl stands.rise;
+        offered = stands.offered;
+        takes = took_more i.recorder i.taker u stands.takes took;
+        taken = ap (map offer_tells) took_kept ∙ (stands.offered.picks ∙ (sym (kept_all kept c.told stands.came.one_each)
+            ∙ (λ k. items_where_true (take (sym (recorded_push 0 c.due (due_at c now whole)) k) kept) (take (sym (recorded_push 0 c.due (due_at c now whole)) k) c.told))));
+        has_told = told_line m.aggregator settings c kept sent now whole now_gathered sound may later;
+        timed = stands.timed;
+        holds = still_holds (record i { taker = u; aggregator = a }) m read c.pasts stands.holds;
+        linked = now_linked;
+        capacity_said = stands.capacity_said;
+        retention_said = stands.retention_said;
+        times_said = stands.times_said;
+        begun = stands.begun;
+        times_is = stands.times_is;
+      })

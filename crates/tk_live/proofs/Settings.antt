@@ -1,0 +1,40 @@
+-- A setting is said.
+use Rattle.std.proofs.Common.{◌≡◌, Bool, true, List, [], ◌++◌, refl, sym, subst}
+use Rattle.std.proofs.lemmas.List.{append-nil}
+use Rattle.tk_stream.specs.Streams.{Sending}
+use Rattle.tk_live.specs.Course.{Course}
+use Rattle.tk_live.specs.Runs.{StandsFor}
+use Rattle.tk_live.specs.declared.interpreter.Interpreter.{Interpreter}
+use Rattle.tk_script.specs.declared.settings.Settings.{Settings}
+
+module _ (i : Interpreter) (settings : Settings) (c : Course) (kept : List Bool) (sent : List Sending) (stands : StandsFor i settings c kept sent) where
+  -- which settings were said
+  said_so : (new : Interpreter) (d : Course) (capacity retention times : Bool) → new ≡ record i { capacity_said = capacity; retention_said = retention; times_said = times }
+      → d ≡ record c { capacity_said = capacity; retention_said = retention; times_said = times } → StandsFor new settings d (kept ++ []) sent
+  said_so new d capacity retention times is so =
+      let now : StandsFor (record i { capacity_said = capacity; retention_said = retention; times_said = times }) settings (record c { capacity_said = capacity; retention_said = retention; times_said = times }) kept sent = record {
+        came = stands.came;
+        rise = stands.rise;
+        offered = stands.offered;
+        takes = stands.takes;
+        taken = stands.taken;
+        has_told = stands.has_told;
+        timed = stands.timed;
+        holds = stands.holds;
+        linked = stands.linked;
+        capacity_said = refl;
+        retention_said = refl;
+        times_said = refl;
+        begun = stands.begun;
+        times_is = stands.times_is;
+      } in
+      subst (λ (p : Interpreter × Course × List Bool). StandsFor p.0 settings p.1 p.2 sent) (λ j. (sym is j, sym so j, sym (append-nil kept) j)) now
+
+  pub capacity_told : StandsFor (record i { capacity_said = true }) settings (record c { capacity_said = true }) (kept ++ []) sent
+  capacity_told = said_so _ _ true c.retention_said c.times_said (λ j. record i { capacity_said = true; retention_said = stands.retention_said j; times_said = stands.times_said j }) refl
+
+  pub retention_told : StandsFor (record i { retention_said = true }) settings (record c { retention_said = true }) (kept ++ []) sent
+  retention_told = said_so _ _ c.capacity_said true c.times_said (λ j. record i { capacity_said = stands.capacity_said j; retention_said = true; times_said = stands.times_said j }) refl
+
+  pub times_told : StandsFor (record i { times_said = true }) settings (record c { times_said = true }) (kept ++ []) sent
+  times_told = said_so _ _ c.capacity_said c.retention_said true (λ j. record i { capacity_said = stands.capacity_said j; retention_said = stands.retention_said j; times_said = true }) refl

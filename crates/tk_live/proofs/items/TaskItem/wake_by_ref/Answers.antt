@@ -1,0 +1,11 @@
+use Rattle.std.proofs.Common.{false, refl}
+use Rattle.tk_core.specs.declared.reply.Reply.TheVariants.{Woken}
+use Rattle.tk_core.specs.declared.task.call.TaskCall.TheVariants.{WakeRef}
+use Rattle.tk_live.specs.declared.items.TaskItem.{TaskItem}
+use Rattle.tk_live.proofs.Calling.{task_called}
+use Rattle.tk_live.proofs.items.TaskItem.wake_by_ref.Goals as goal
+
+pub returns-clause-did : goal.returns-clause-did
+returns-clause-did g c =
+    let old : TaskItem = c.args.self.now in
+    task_called old (record old { callers = c.wake_by_ref.new.self }) c.args.waker (WakeRef c.args.moment false) (Woken c.wake_by_ref.result) c.wake_by_ref.ensures.entry refl c.wake_by_ref.ensures.id refl

@@ -1,0 +1,99 @@
+-- What readings before a line leave. Inner: no public clause cites it.
+use Rattle.std.specs.Prelude.{◌≡◌, ℕ, ◌≤◌, List, map, length, Some, None, All}
+use Rattle.std.specs.List.{AllByRecursion}
+use Rattle.tk_ids.specs.Ids.{id_of}
+use Rattle.tk_events.specs.Buffer.{IsNamed}
+use Rattle.tk_events.specs.Handles.{Recording, Taking}
+use Rattle.tk_events.specs.Offers.{by}
+use Rattle.tk_events.specs.declared.event.Event.{Event}
+use Rattle.tk_ledgers.specs.Ops.{OpSight}
+use Rattle.tk_ledgers.specs.Resources.{ResourceSight}
+use Rattle.tk_ledgers.specs.Tasks.{TaskSight}
+use Rattle.tk_stream.specs.Lines.{task_info, resource_info, op_info}
+use Rattle.tk_stream.specs.Tables.{task_id, resource_id, op_id}
+use Rattle.tk_aggregator.specs.Aggregates.{Aggregating, Gathers, Pairs, TellsTotals, ReadsHistograms, dropped_in}
+use Rattle.tk_aggregator.specs.Timing.{ReadTimes}
+use Rattle.tk_live.specs.Items.{EachFrom, Holds, IsTask, IsResource, IsOp, IsSameTask, IsSameResource, IsSameOp}
+use Rattle.tk_live.specs.Named.{made_item}
+use Rattle.tk_live.specs.Pasts.{TaskPast, ResourcePast, OpPast, Pasts, IsTaskRow, IsResourceRow, IsOpRow}
+use Rattle.tk_live.specs.Runs.{IsTaskLedger, IsResourceLedger, IsOpLedger}
+use Rattle.tk_live.specs.declared.interpreter.Interpreter.{Interpreter}
+use Rattle.tk_live.specs.declared.items.OpItem.{OpItem}
+use Rattle.tk_live.specs.declared.items.ResourceItem.{ResourceItem}
+use Rattle.tk_live.specs.declared.items.TaskItem.{TaskItem}
+
+-- all was taken in that the recorder had kept
+pub record CollectsAll (r : Recording) (old : Aggregating) (before : Taking) (new : Aggregating) (after : Taking) : Type 0 where
+  pub taken : List Event
+  pub gathered : Aggregating
+  pub taker : Taking
+  pub gathers : Gathers old before taken gathered taker
+  pub all : by r.number after.taken ≡ r.kept
+  pub named : All (IsNamed after.recorders) after.taken
+  pub none_held : new.held ≡ None
+  pub totals : TellsTotals taker after
+  pub now : new ≡ record gathered { tables = record gathered.tables { dropped = dropped_in after.last } }
+
+-- what each number names is the same item, now or later
+abbrev pub AreSame : {X : Type 0} → (X → X → Type 0) → List X → List X → Type 0
+AreSame {X} R old new = (n : ℕ) (x : X) → made_item n old ≡ Some x → (y : X) × (made_item n new ≡ Some y) × R x y
+
+module _ {T P : Type 0} (id : T → ℕ) (HasRow : P → T → Type 0) where
+  -- an item of a table has the row of what was called on the one of its number, if this is among the first
+  abbrev pub IsReadTo : ℕ → List P → T → Type 0
+  IsReadTo count ps t = (n : ℕ) (p : P) → id t ≡ id_of 1 n → n ≤ count → made_item n ps ≡ Some p → HasRow p t
+
+  -- so have all items of a table
+  abbrev pub AreReadTo : ℕ → List P → List T → Type 0
+  AreReadTo count ps ts = AllByRecursion (IsReadTo count ps) ts
+
+-- the first so many tasks were read, each beside its hand: they are the same tasks, of which the hands made the same calls, and so are the
+-- tasks of the aggregator and who reads them
+pub record AreTasksRead (count : ℕ) (a : Aggregating) (tasks : List TaskItem) (b : Aggregating) (new : List TaskItem) : Type 0 where
+  pub same : AreSame IsSameTask tasks new
+  pub many : length new ≡ length tasks
+  pub hands : (ps : List TaskPast) → EachFrom IsTask 1 ps tasks → EachFrom IsTask 1 ps new
+  pub rows : (ps : List TaskPast) → EachFrom IsTask 1 ps tasks → AreReadTo task_id (λ p t. IsTaskRow p t.row) count ps b.tables.tasks
+  pub infos : map task_info b.tables.tasks ≡ map task_info a.tables.tasks
+  pub readers : AllByRecursion (λ (s : TaskSight). IsTaskLedger new s.id s.token.ledger) b.tasks
+  pub rest : b ≡ record a { tables = record a.tables { tasks = b.tables.tasks }; tasks = b.tasks }
+
+-- the same of resources
+pub record AreResourcesRead (count : ℕ) (a : Aggregating) (resources : List ResourceItem) (b : Aggregating) (new : List ResourceItem) : Type 0 where
+  pub same : AreSame IsSameResource resources new
+  pub many : length new ≡ length resources
+  pub hands : (ps : List ResourcePast) → EachFrom IsResource 1 ps resources → EachFrom IsResource 1 ps new
+  pub rows : (ps : List ResourcePast) → EachFrom IsResource 1 ps resources → AreReadTo resource_id (λ p r. IsResourceRow p r.row) count ps b.tables.resources
+  pub infos : map resource_info b.tables.resources ≡ map resource_info a.tables.resources
+  pub readers : AllByRecursion (λ (s : ResourceSight). IsResourceLedger new s.id s.token.ledger) b.resources
+  pub rest : b ≡ record a { tables = record a.tables { resources = b.tables.resources }; resources = b.resources }
+
+-- and of async operations
+pub record AreOpsRead (count : ℕ) (a : Aggregating) (ops : List OpItem) (b : Aggregating) (new : List OpItem) : Type 0 where
+  pub same : AreSame IsSameOp ops new
+  pub many : length new ≡ length ops
+  pub hands : (ps : List OpPast) → EachFrom IsOp 1 ps ops → EachFrom IsOp 1 ps new
+  pub rows : (ps : List OpPast) → EachFrom IsOp 1 ps ops → AreReadTo op_id (λ p o. IsOpRow p o.row) count ps b.tables.ops
+  pub infos : map op_info b.tables.ops ≡ map op_info a.tables.ops
+  pub readers : AllByRecursion (λ (s : OpSight). IsOpLedger new s.id s.token.ledger) b.ops
+  pub rest : b ≡ record a { tables = record a.tables { ops = b.tables.ops }; ops = b.ops }
+
+-- each item may be read beside its hand: it is kept of the number that it has, and the aggregator's readers are of such items
+pub record MayRead (i : Interpreter) : Type 0 where
+  pub pasts : Pasts
+  pub holds : Holds i.tasks.items i.wakers.items i.resources.items i.ops.items pasts
+  pub tasks : AllByRecursion (λ (s : TaskSight). IsTaskLedger i.tasks.items s.id s.token.ledger) i.aggregator.tasks
+  pub resources : AllByRecursion (λ (s : ResourceSight). IsResourceLedger i.resources.items s.id s.token.ledger) i.aggregator.resources
+  pub ops : AllByRecursion (λ (s : OpSight). IsOpLedger i.ops.items s.id s.token.ledger) i.aggregator.ops
+
+-- all items were read, one kind after the other, and then the histograms
+pub record AreItemsRead (old new : Interpreter) : Type 0 where
+  pub tasks_then : Aggregating
+  pub resources_then : Aggregating
+  pub ops_then : Aggregating
+  pub tasks : AreTasksRead (length old.tasks.items) old.aggregator old.tasks.items tasks_then new.tasks.items
+  pub resources : AreResourcesRead (length old.resources.items) tasks_then old.resources.items resources_then new.resources.items
+  pub ops : AreOpsRead (length old.ops.items) resources_then old.ops.items ops_then new.ops.items
+  pub times : ReadsHistograms ops_then new.aggregator
+  pub paired : Pairs ReadTimes ops_then.timing.shown ops_then.timing.readers
+  pub rest : new ≡ record old { aggregator = new.aggregator; tasks = new.tasks; resources = new.resources; ops = new.ops }
