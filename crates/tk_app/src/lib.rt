@@ -1,8 +1,9 @@
 //! What the program does: a script is run, and its stream is written; a stream is read, and its tables are shown; and a demo,
-//! which shows how the layers are used together.
+//! which shows how the layers are used together. [`laws`] joins the first two: what a script writes is viewed.
 #![tactic(auto)]
 
 mod demonstration;
+pub mod laws;
 
 pub use demonstration::demo;
 pub use tk_live::{Gate, Open, run_script};
