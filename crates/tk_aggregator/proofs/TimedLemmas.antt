@@ -12,7 +12,7 @@ use Rattle.tk_stream.specs.Lines.{LineView, GoneView, none_gone, told_times, wit
 use Rattle.tk_stream.specs.Retention.{stats_without, times_staying}
 use Rattle.tk_stream.specs.Tables.{is_among, staying}
 use Rattle.tk_stream.specs.Times.{TaskTimes, times_id, times_shown, times_with}
-use Rattle.tk_stream.specs.declared.times.PollTimes.{PollTimes}
+use Rattle.tk_stream.specs.declared.tables.times.PollTimes.{PollTimes}
 use Rattle.tk_stream.proofs.FrontLemmas.{keeps_told, all_told}
 use Rattle.tk_stream.proofs.GoneLemmas.{staying_all}
 use Rattle.tk_aggregator.specs.Readings.{ReadAll, EachReads}

@@ -19,9 +19,9 @@ use Rattle.tk_ledgers.specs.Tasks.{TaskSight}
 use Rattle.tk_ledgers.specs.Times.{TimesSight}
 use Rattle.tk_aggregator.specs.declared.stream_error.StreamError.{StreamError}
 use Rattle.tk_aggregator.specs.declared.stream_error.StreamError.TheVariants as errors
-use Rattle.tk_stream.specs.declared.op.Op.{Op}
-use Rattle.tk_stream.specs.declared.resource.Resource.{Resource}
-use Rattle.tk_stream.specs.declared.task.Task.{Task}
+use Rattle.tk_stream.specs.declared.tables.op.Op.{Op}
+use Rattle.tk_stream.specs.declared.tables.resource.Resource.{Resource}
+use Rattle.tk_stream.specs.declared.tables.task.Task.{Task}
 use Rattle.tk_aggregator.specs.Absorbing.{Step, infos_of, no_infos, absorb, infos_after, events_taken}
 use Rattle.tk_stream.specs.Applied.{GoOn, BeginWith, times_kind, without_gone}
 use Rattle.tk_stream.specs.Fronts.{with_rows, task_at, resource_at, op_at}

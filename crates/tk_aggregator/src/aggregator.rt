@@ -2,7 +2,7 @@
 //!
 //! Beside the tables it keeps what the last whole line told of them, where that is another now: rows and counts by place, since
 //! items only ever go last. So a line is made without a copy of the tables, and what did not change is compared once, when it is
-//! read (`told_rows.rt`).
+//! read (`told/rows.rt` of `tk_stream`).
 //!
 //! | stream | `publish` | `snapshot` |
 //! |---|---|---|

@@ -4,7 +4,7 @@ use Rattle.std.specs.Prelude.{flat_map, ◌&&◌, ◌||◌}
 use Rattle.std.specs.Option.{option_map_or}
 use Rattle.std.proofs.lemmas.Bool.{or_parts, le-ltb}
 use Rattle.tk_core.specs.declared.task.row.TaskRow.{TaskRow}
-use Rattle.tk_stream.specs.declared.task.Task.{Task}
+use Rattle.tk_stream.specs.declared.tables.task.Task.{Task}
 use Rattle.tk_client.specs.declared.warning.Warning.{Warning}
 use Rattle.tk_client.specs.declared.warning.WarningKind.TheVariants.{SelfWakes, LostWaker, NeverYielded}
 use Rattle.tk_client.specs.Warnings.{LintsView, wakes_itself, has_lost_waker, has_never_yielded, is_spawn, warning_if, warnings_of}

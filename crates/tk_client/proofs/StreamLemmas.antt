@@ -11,8 +11,8 @@ use Rattle.tk_ids.specs.declared.attr.AttrInfo.{AttrInfo}
 use Rattle.tk_ids.specs.declared.attr.AttrKind.{AttrKind}
 use Rattle.tk_ids.specs.declared.attr.AttrKind.TheVariants as kinds
 use Rattle.tk_ids.specs.declared.attr.AttrValue.{AttrValue}
-use Rattle.tk_stream.specs.declared.op.Op.{Op}
-use Rattle.tk_stream.specs.declared.resource.Resource.{Resource}
+use Rattle.tk_stream.specs.declared.tables.op.Op.{Op}
+use Rattle.tk_stream.specs.declared.tables.resource.Resource.{Resource}
 use Rattle.tk_stream.specs.Applied.{Kind, task_kind, resource_kind, op_kind, tables_after, times_after, GoOn, what_stays}
 use Rattle.tk_stream.specs.Lines.{LineView, GoneView, none_gone, gone_ids, gone_between, with_gone, with_times, is_seq, is_new, new_infos, told_stats, line_between, snapshot_of, task_stats_of, resource_stats_of, op_stats_of, all_counts, have_same_row, have_same_resource_row, have_same_op_row, task_info, resource_info, op_info}
 use Rattle.tk_stream.specs.Ranges.{IsLine, IsGone, IsId, AreTold}

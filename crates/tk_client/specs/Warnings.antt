@@ -5,7 +5,7 @@ use Rattle.std.specs.Option.{option_map_or}
 use Rattle.tk_core.specs.declared.task.row.TaskRow.{TaskRow}
 use Rattle.tk_ids.specs.declared.spec.TaskKind.{TaskKind}
 use Rattle.tk_ids.specs.declared.spec.TaskKind.TheVariants.{Spawn, Blocking}
-use Rattle.tk_stream.specs.declared.task.Task.{Task}
+use Rattle.tk_stream.specs.declared.tables.task.Task.{Task}
 use Rattle.tk_stream.specs.Tables.{TablesView}
 use Rattle.tk_client.specs.declared.warning.Warning.{Warning}
 use Rattle.tk_client.specs.declared.warning.WarningKind.{WarningKind}

@@ -3,7 +3,7 @@ use Rattle.std.specs.Prelude.{◌==◌, ◌-◌, ℕ, List, [], ◌∷◌, ◌++
 use Rattle.std.specs.Option.{option_map_or}
 use Rattle.tk_ids.specs.Ids.{id_text}
 use Rattle.tk_core.specs.declared.task.row.TaskRow.{TaskRow}
-use Rattle.tk_stream.specs.declared.task.Task.{Task}
+use Rattle.tk_stream.specs.declared.tables.task.Task.{Task}
 use Rattle.tk_stream.specs.Tables.{TablesView, task_with}
 use Rattle.tk_client.specs.declared.warning.Warning.{Warning}
 use Rattle.tk_report.specs.Report.{kind_word, task_state}

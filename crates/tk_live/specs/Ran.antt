@@ -9,9 +9,9 @@ use Rattle.tk_stream.specs.Lines.{GoneView, none_gone, told_times}
 use Rattle.tk_stream.specs.Retention.{due_of}
 use Rattle.tk_stream.specs.Tables.{TablesView, empty_tables, task_id}
 use Rattle.tk_stream.specs.Times.{TaskTimes, times_id}
-use Rattle.tk_stream.specs.declared.op.Op.{Op}
-use Rattle.tk_stream.specs.declared.resource.Resource.{Resource}
-use Rattle.tk_stream.specs.declared.task.Task.{Task}
+use Rattle.tk_stream.specs.declared.tables.op.Op.{Op}
+use Rattle.tk_stream.specs.declared.tables.resource.Resource.{Resource}
+use Rattle.tk_stream.specs.declared.tables.task.Task.{Task}
 use Rattle.tk_aggregator.specs.Absorbing.{Infos, infos_of, with_told, infos_without}
 use Rattle.tk_aggregator.specs.Aggregates.{Pairs}
 use Rattle.tk_aggregator.specs.Timing.{ReadTimes}

@@ -5,8 +5,8 @@ use Rattle.tk_core.specs.declared.task.row.TaskRow.{TaskRow}
 use Rattle.tk_ids.specs.Ids.{id_text}
 use Rattle.tk_report.specs.Report.{kind_word}
 use Rattle.tk_stream.specs.Tables.{PollCounts, counts_of}
-use Rattle.tk_stream.specs.declared.resource.Resource.{Resource}
-use Rattle.tk_stream.specs.declared.task.Task.{Task}
+use Rattle.tk_stream.specs.declared.tables.resource.Resource.{Resource}
+use Rattle.tk_stream.specs.declared.tables.task.Task.{Task}
 use Rattle.tk_metrics.specs.Samples.{label, with_label}
 use Rattle.tk_metrics.specs.declared.by.By.{By}
 use Rattle.tk_metrics.specs.declared.by.By.TheVariants.{Name, Id}

@@ -19,7 +19,7 @@ use Rattle.std.specs.Set.{is_member}
 use Rattle.indexmap.specs.IndexMap.{get}
 use Rattle.tk_core.specs.Lists.{capped}
 use Rattle.tk_stream.specs.Tables.{TablesView, empty_tables, task_id, task_with}
-use Rattle.tk_stream.specs.declared.task.Task.{Task}
+use Rattle.tk_stream.specs.declared.tables.task.Task.{Task}
 use Rattle.tk_paper.specs.Courses.{CourseView, IsCourse}
 use Rattle.tk_page.specs.Courses.{AreKept, TellOf, courses_of}
 use Rattle.tk_page.specs.Kept.{FollowsAt, StandsAt, Tells, come_to, first_of, gain_of, gone_from, gone_of, has_task, is_fresh, kept_at, last_of, latest, left_in, run_of, sample_in, samples_more, samples_of, total_more, total_of, totals_from, totals_of}

@@ -9,9 +9,9 @@ use Rattle.tk_ids.specs.Ids.{recorder_of, number_of}
 use Rattle.tk_ids.specs.declared.attr.AttrInfo.{AttrInfo}
 use Rattle.tk_ids.specs.declared.attr.AttrValue.{AttrValue}
 use Rattle.tk_ids.specs.declared.attr.AttrValue.TheVariants.{U64, Bool as Flag, I64}
-use Rattle.tk_stream.specs.declared.op.Op.{Op}
-use Rattle.tk_stream.specs.declared.resource.Resource.{Resource}
-use Rattle.tk_stream.specs.declared.task.Task.{Task}
+use Rattle.tk_stream.specs.declared.tables.op.Op.{Op}
+use Rattle.tk_stream.specs.declared.tables.resource.Resource.{Resource}
+use Rattle.tk_stream.specs.declared.tables.task.Task.{Task}
 use Rattle.tk_stream.specs.Tables.{TablesView, counts_of, task_with}
 use Rattle.tk_paper.specs.Parts.{Bit, text, number, span, opens, ends, close, start, class, having, having_number}
 use Rattle.tk_paper.specs.declared.marks.Attr.TheVariants as with

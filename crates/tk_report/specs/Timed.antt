@@ -4,8 +4,8 @@ use Rattle.std.specs.List.{flat_map, position_from}
 use Rattle.std.specs.Option.{option_map_or}
 use Rattle.tk_ids.specs.Ids.{id_text}
 use Rattle.tk_core.specs.Percentiles.{begin_of, end_of, total_of}
-use Rattle.tk_stream.specs.declared.task.Task.{Task}
-use Rattle.tk_stream.specs.declared.times.PollTimes.{PollTimes}
+use Rattle.tk_stream.specs.declared.tables.task.Task.{Task}
+use Rattle.tk_stream.specs.declared.tables.times.PollTimes.{PollTimes}
 use Rattle.tk_stream.specs.Tables.{TablesView, item_with}
 use Rattle.tk_stream.specs.Times.{TaskTimes, times_id}
 use Rattle.tk_client.specs.declared.long_polls.AnyWarning.{AnyWarning}

@@ -6,7 +6,7 @@ ghost use Rattle.tk_fault.specs.declared.fault.AppFault.{AppFault};
 ghost use Rattle.tk_report.specs.declared.view.View.{View};
 ghost use Rattle.tk_report.specs.Uninterrupted.{ShowsTables};
 ghost use Rattle.tk_report.specs.Views.{Views};
-ghost use Rattle.tk_stream.specs.declared.task.Task.{Task};
+ghost use Rattle.tk_stream.specs.declared.tables.task.Task.{Task};
 ghost use Rattle.tk_stream.specs.Tables.{AreDistinct, TablesView, empty_tables};
 ghost use Rattle.tk_client.specs.Warnings.{LintsView, warnings_of};
 ghost use Rattle.tk_report.specs.Report.{lint_of, warn_line_of};

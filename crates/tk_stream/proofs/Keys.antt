@@ -26,9 +26,9 @@ use Rattle.tk_json.specs.Values.{value_read, members_read, rest}
 use Rattle.tk_json.proofs.Growing.{longer}
 use Rattle.tk_json.proofs.Steps.{object_read}
 use Rattle.tk_stream.proofs.Listing.{passed_unseen}
-use Rattle.tk_stream.specs.declared.reading.Numbers.{Numbers}
-use Rattle.tk_stream.specs.declared.reading.Version.{Version}
-use Rattle.tk_stream.specs.declared.reading.Version.TheVariants.{One, Two, Three}
+use Rattle.tk_stream.specs.declared.text.read_json.numbers.Numbers.{Numbers}
+use Rattle.tk_stream.specs.declared.text.read_json.numbers.Version.{Version}
+use Rattle.tk_stream.specs.declared.text.read_json.numbers.Version.TheVariants.{One, Two, Three}
 use Rattle.tk_stream.specs.Lines.{LineView, GoneView}
 use Rattle.tk_stream.specs.Times.{TaskTimes}
 use Rattle.tk_stream.specs.Reading.{◌>>=◌, number_of, values_of, list_of, each_of, id_of, number_at, flag_at, list_at, seq_at, dropped_in, has_members, op_of, resource_of, info_of, op_stats_of, counts_of, resource_stats_of, stats_of, times_of, GoneParts, gone_lists, ids_gone, SaidParts, SaidView, nothing_said, gone_said, both_said, said_at, said_of_parts, PartsView, parts_of, line_of}

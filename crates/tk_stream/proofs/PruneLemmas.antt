@@ -4,9 +4,9 @@ use Rattle.std.specs.Prelude.{map, filter, not, is_none, option_map, IsSome}
 use Rattle.std.specs.List.{AllByRecursion, IsDistinct}
 use Rattle.std.proofs.lemmas.Bool.{eqb-true, eq-eqb}
 use Rattle.std.proofs.lemmas.Option.{same_Some}
-use Rattle.tk_stream.specs.declared.op.Op.{Op}
-use Rattle.tk_stream.specs.declared.resource.Resource.{Resource}
-use Rattle.tk_stream.specs.declared.task.Task.{Task}
+use Rattle.tk_stream.specs.declared.tables.op.Op.{Op}
+use Rattle.tk_stream.specs.declared.tables.resource.Resource.{Resource}
+use Rattle.tk_stream.specs.declared.tables.task.Task.{Task}
 use Rattle.tk_stream.specs.Applied.{Kind, task_kind, resource_kind, op_kind, counts_kind, BeginWith, GoOn, still_there, what_stays, without_gone}
 use Rattle.tk_stream.specs.Fronts.{ToldView, told_item, with_rows, task_at, resource_at, op_at, counts_at, told_tables, FitsIn}
 use Rattle.tk_stream.specs.Kept.{kept}

@@ -7,9 +7,9 @@ use Rattle.tk_core.specs.declared.task.row.TaskRow.{TaskRow}
 use Rattle.tk_ids.specs.declared.info.OpInfo.{OpInfo}
 use Rattle.tk_ids.specs.declared.info.ResourceInfo.{ResourceInfo}
 use Rattle.tk_ids.specs.declared.info.TaskInfo.{TaskInfo}
-use Rattle.tk_stream.specs.declared.op.Op.{Op}
-use Rattle.tk_stream.specs.declared.resource.Resource.{Resource}
-use Rattle.tk_stream.specs.declared.task.Task.{Task}
+use Rattle.tk_stream.specs.declared.tables.op.Op.{Op}
+use Rattle.tk_stream.specs.declared.tables.resource.Resource.{Resource}
+use Rattle.tk_stream.specs.declared.tables.task.Task.{Task}
 use Rattle.tk_stream.specs.Tables.{TablesView, PollCounts, task_id, resource_id, op_id, counts_id, item_with, staying}
 use Rattle.tk_stream.specs.Times.{TaskTimes, times_id}
 use Rattle.tk_stream.specs.Lines.{LineView, GoneView, gone_of, times_of, is_new, task_info, resource_info, op_info}

@@ -1,7 +1,10 @@
 //! What lines tell of the items of tables.
 ghost use Rattle.std.specs.Prelude.{◌≡◌, ℕ, Bool, true, IfOk, Option};
 
-use crate::item::Item;
+pub(crate) mod rows;
+pub(crate) mod tables;
+
+use crate::tables::item::Item;
 use std::alloc::AllocError;
 
 /// An item of which a line tells what changes.

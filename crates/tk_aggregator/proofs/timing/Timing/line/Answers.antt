@@ -2,7 +2,7 @@ use Rattle.std.proofs.Common.{[], List, sym, ap, ◌∙◌}
 use Rattle.std.specs.Prelude.{if◌then◌else◌, option_map}
 use Rattle.tk_stream.specs.Fronts.{Telling, told_item, with_rows}
 use Rattle.tk_stream.specs.Times.{TaskTimes, times_with}
-use Rattle.tk_stream.specs.declared.times.PollTimes.{PollTimes}
+use Rattle.tk_stream.specs.declared.tables.times.PollTimes.{PollTimes}
 use Rattle.tk_aggregator.proofs.TimedLemmas.{line_told}
 use Rattle.tk_aggregator.proofs.timing.Timing.line.Goals as goal
 
