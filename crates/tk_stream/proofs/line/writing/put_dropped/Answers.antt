@@ -1,6 +1,6 @@
 use Rattle.json.specs.Print.{escape_byte}
 use Rattle.tk_stream.proofs.Behind.{taken, short_put}
-use Rattle.tk_stream.proofs.line.put_dropped.Goals as goal
+use Rattle.tk_stream.proofs.line.writing.put_dropped.Goals as goal
 
 pub returns : goal.returns
 unfolding escape_byte

@@ -1,6 +1,6 @@
 use Rattle.json.specs.Print.{escape_byte}
 use Rattle.tk_stream.proofs.Behind.{taken}
-use Rattle.tk_stream.proofs.line.take_dropped.Goals as goal
+use Rattle.tk_stream.proofs.line.reading.take_dropped.Goals as goal
 
 pub returns : goal.returns
 unfolding escape_byte
