@@ -13,7 +13,7 @@ use Rattle.clap.specs.declared.builder.action.ArgAction.TheVariants.{SetTrue}
 use Rattle.clap.specs.declared.builder.value_parser.ValueParser.TheVariants as vp
 use Rattle.clap.specs.declared.error.kind.ErrorKind.{ErrorKind}
 use Rattle.clap.specs.declared.error.kind.ErrorKind.TheVariants as kind
-use Rattle.tk_client.specs.Warnings.{LintsView}
+use Rattle.tk_client.specs.Warnings.{LintsView, default_lints}
 use Rattle.tk_report.specs.declared.options.TimesOptions.{TimesOptions}
 use Rattle.tk_report.specs.declared.view.View.{View}
 use Rattle.tk_report.specs.declared.view.View.TheVariants.{Report, Lint}
@@ -176,12 +176,9 @@ page_with options = option_and_then (λ lints. Some (Page lints)) (lints_in opti
 abbrev pub number_or : ℕ → Text → List Row → ℕ
 number_or other name options = unwrap_or (number_at name options) other
 
--- the lints where no option is given
-abbrev pub plain_lints : LintsView
-plain_lints = record { self_wake_percent = 50; never_yielded_ns = 1000000000 }
-
+-- the lints of options, or those where none is given
 abbrev pub lints_or_plain : List Row → LintsView
-lints_or_plain options = unwrap_or (lints_in options) plain_lints
+lints_or_plain options = unwrap_or (lints_in options) default_lints
 
 -- the column of a name
 abbrev pub column_named : Text → Option Column
@@ -325,12 +322,12 @@ plain_watch = record {
   keys = false;
   every = 100;
   follow = false;
-  lints = plain_lints;
+  lints = default_lints;
 }
 
 -- which numbers are asked for where no option is given
 abbrev pub plain_metrics : MetricsOptions
-plain_metrics = record { by = Name; every = 10; follow = false; lints = plain_lints }
+plain_metrics = record { by = Name; every = 10; follow = false; lints = default_lints }
 
 -- the watch at keys that is asked for, if one is
 abbrev pub at_keys : Request → Option WatchOptions

@@ -3,8 +3,9 @@ ghost use Rattle.std.specs.Prelude.{◌≡◌, ◌≢◌, ◌≤◌, ◌⊎◌, 
 ghost use Rattle.std.specs.Option.{option_map};
 ghost use Rattle.clap.specs.Values.{kind_of};
 ghost use Rattle.tk_report.specs.Timed.{no_times};
+ghost use Rattle.tk_client.specs.Warnings.{default_lints};
 ghost use Rattle.taskscope.specs.Requests as spec;
-ghost use Rattle.taskscope.specs.Requests.{AsksForFile, AsksForHelp, AsksForInput, AsksForVersion, IsMistake, IsPlain, asked, filter_of, is_mistake, plain_lints, plain_metrics, plain_watch, refusals, texts, to_of};
+ghost use Rattle.taskscope.specs.Requests.{AsksForFile, AsksForHelp, AsksForInput, AsksForVersion, IsMistake, IsPlain, asked, filter_of, is_mistake, plain_metrics, plain_watch, refusals, texts, to_of};
 ghost use Rattle.taskscope.specs.Program.{Does, DoesOfFile, KeepsStream, WatchesAtKeys, WatchesStream, filter_text, page_status, screen_by, status_at, status_of, view_status};
 
 use crate::command_line::{Call, MetricsOptions, Request, WatchOptions, call_of};
@@ -455,9 +456,9 @@ where
     ensures kept { refusals (texts words.now) ≡ [] → to_of (texts words.now) ≡ None → place.new ≡ place.old }
     // A command alone asks for it of the input, with the lints of its defaults, and for nothing of poll times.
     ensures run { IsPlain (codes "run") (texts words.now) → AsksForInput Request.Run (texts words.now) }
-    ensures view { IsPlain (codes "view") (texts words.now) → AsksForInput (Request.Show View.Report plain_lints no_times) (texts words.now) }
-    ensures lint { IsPlain (codes "lint") (texts words.now) → AsksForInput (Request.Show View.Lint plain_lints no_times) (texts words.now) }
-    ensures page { IsPlain (codes "page") (texts words.now) → AsksForInput (Request.Page plain_lints) (texts words.now) }
+    ensures view { IsPlain (codes "view") (texts words.now) → AsksForInput (Request.Show View.Report default_lints no_times) (texts words.now) }
+    ensures lint { IsPlain (codes "lint") (texts words.now) → AsksForInput (Request.Show View.Lint default_lints no_times) (texts words.now) }
+    ensures page { IsPlain (codes "page") (texts words.now) → AsksForInput (Request.Page default_lints) (texts words.now) }
     ensures watch { IsPlain (codes "watch") (texts words.now) → AsksForInput (Request.Watch plain_watch) (texts words.now) }
     ensures metrics { IsPlain (codes "metrics") (texts words.now) → AsksForInput (Request.Metrics plain_metrics) (texts words.now) }
     ensures demo { IsPlain (codes "demo") (texts words.now) → AsksForInput Request.Demo (texts words.now) }

@@ -24,6 +24,10 @@ pub record Start : Type 0 where
 abbrev pub empty_start : Start
 empty_start = record { tables = empty_tables; last = None; part = []; times = [] }
 
+-- how many bytes a line has at most for a view, a page, a watch and metrics
+abbrev pub greatest_line : ℕ
+greatest_line = 268435456
+
 -- what bytes come to: they go on to a start, after so many lines, or stop at tables, after so many lines, by a fault, through
 -- so many of the bytes
 pub data Outcome : Type 0 where

@@ -16,6 +16,10 @@ pub record LintsView : Type 0 where
   pub self_wake_percent : ℕ
   pub never_yielded_ns : ℕ
 
+-- the lints where nothing is said
+abbrev pub default_lints : LintsView
+default_lints = record { self_wake_percent = 50; never_yielded_ns = 1000000000 }
+
 -- more than so many of a hundred wakes came from within the task. It takes at least one wake
 abbrev pub wakes_itself : ℕ → TaskRow → Bool
 wakes_itself percent x = nat_lt 0 x.wakes && nat_lt (percent * x.wakes) (100 * x.self_wakes)

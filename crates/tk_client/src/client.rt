@@ -4,7 +4,7 @@
 ghost use Rattle.std.specs.Prelude.{◌≡◌, ◌+◌, ◌≤◌, ◌<◌, ◌^◌, ◌==◌, IfOk, IfErr, OnErr, IfSome, IfNone, Ok, Err, length, take, true, false, Some, [], ◌∷◌, ◌++◌, position};
 ghost use Rattle.tk_stream.specs.Spelling.{line_end, is_one_line};
 ghost use Rattle.tk_client.specs.Meaning as spec;
-ghost use Rattle.tk_client.specs.Feeding.{Took, Stopped};
+ghost use Rattle.tk_client.specs.Feeding.{Took, Stopped, Steps};
 ghost use Rattle.tk_client.specs.Told.{Answers, Ended, EndedWhole};
 
 use crate::fault::{Fault, FeedError};
@@ -253,11 +253,7 @@ impl Client {
         requires short { end ≤ self.old.max_line }
         requires before { is_one_line (take end bytes.now) ≡ true }
         requires through { take (end + 1) bytes.now ≡ take end bytes.now ++ line_end ∷ [] }
-        ensures some { IfOk result (λ p. 0 < p.1) }
-        ensures within { IfOk result (λ p. p.1 ≤ length bytes.now) }
-        ensures few { IfOk result (λ p. p.0 ≤ p.1) }
-        ensures took { IfOk result (λ p. Took self.old (take p.1 bytes.now) p.0 self.new) }
-        ensures stopped { IfErr result (λ e. Stopped self.old bytes.now e self.new) }
+        ensures step { Steps self.old bytes.now result self.new }
         ensures limit { self.new.max_line ≡ self.old.max_line }
     {
         match self.take_whole(&bytes[..end]) {
@@ -282,11 +278,7 @@ impl Client {
         requires inside { end < length bytes.now }
         requires before { is_one_line (take end bytes.now) ≡ true }
         requires through { take (end + 1) bytes.now ≡ take end bytes.now ++ line_end ∷ [] }
-        ensures some { IfOk result (λ p. 0 < p.1) }
-        ensures within { IfOk result (λ p. p.1 ≤ length bytes.now) }
-        ensures few { IfOk result (λ p. p.0 ≤ p.1) }
-        ensures took { IfOk result (λ p. Took self.old (take p.1 bytes.now) p.0 self.new) }
-        ensures stopped { IfErr result (λ e. Stopped self.old bytes.now e self.new) }
+        ensures step { Steps self.old bytes.now result self.new }
         ensures limit { self.new.max_line ≡ self.old.max_line }
     {
         self.hold(&bytes[..end])?;
@@ -310,11 +302,7 @@ impl Client {
     fn step(&mut self, bytes: &[u8]) -> Result<(u64, usize), FeedError>
         requires some { 0 < length bytes.now }
         requires sound { self.old.has_failed ≡ false }
-        ensures some { IfOk result (λ p. 0 < p.1) }
-        ensures within { IfOk result (λ p. p.1 ≤ length bytes.now) }
-        ensures few { IfOk result (λ p. p.0 ≤ p.1) }
-        ensures took { IfOk result (λ p. Took self.old (take p.1 bytes.now) p.0 self.new) }
-        ensures stopped { IfErr result (λ e. Stopped self.old bytes.now e self.new) }
+        ensures step { Steps self.old bytes.now result self.new }
         ensures limit { self.new.max_line ≡ self.old.max_line }
     {
         let Some(end) = first_end(bytes) else {

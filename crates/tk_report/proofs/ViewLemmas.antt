@@ -8,7 +8,7 @@ use Rattle.tk_client.specs.declared.fault.Fault.{Fault}
 use Rattle.tk_client.specs.declared.fault.Fault.TheVariants as client
 use Rattle.tk_client.specs.declared.fault.FeedError.{FeedError}
 use Rattle.tk_client.specs.Feeding.{ClientView, Took, Stopped, StoppedBy}
-use Rattle.tk_client.specs.Meaning.{empty_start, stops, meaning, after}
+use Rattle.tk_client.specs.Meaning.{empty_start, stops, meaning, after, greatest_line}
 use Rattle.tk_client.proofs.FeedLemmas.{goes-then}
 use Rattle.tk_client.proofs.Pieces.{meaning-append, stops-append}
 use Rattle.tk_fault.specs.declared.fault.AppFault.{AppFault}
@@ -25,7 +25,7 @@ pub takes_more : (front piece : List ℕ) (lines more : ℕ) (old new : ClientVi
     → HasTaken (front ++ piece) (lines + more) new
 takes_more front piece lines more old new h fed limit = record {
   took = record {
-    came = goes-then 268435456 empty_start old.start new.start front piece lines more h.took.came (ap (λ k. meaning k old.start piece) (sym h.limit) ∙ fed.came);
+    came = goes-then greatest_line empty_start old.start new.start front piece lines more h.took.came (ap (λ k. meaning k old.start piece) (sym h.limit) ∙ fed.came);
     sound = fed.sound;
   };
   limit = limit ∙ h.limit;
@@ -38,10 +38,10 @@ module _ (front piece : List ℕ) (lines : ℕ) (old new : ClientView) (e : Feed
   stops_there fault o =
       let part = take e.used piece in
       let there : outcome_of (front ++ part) ≡ stops new.start.tables (lines + e.lines) fault (length front + e.used) =
-      meaning-append 268435456 empty_start old.start front part lines h.took.came
+      meaning-append greatest_line empty_start old.start front part lines h.took.came
       ∙ ap (after lines (length front)) (ap (λ k. meaning k old.start part) (sym h.limit) ∙ o) in
       ap outcome_of (ap (λ xs. front ++ xs) (sym (take-append-drop e.used piece)) ∙ sym (append_assoc front part (drop e.used piece)))
-      ∙ stops-append 268435456 empty_start (front ++ part) (drop e.used piece) new.start.tables (lines + e.lines) (length front + e.used) fault there
+      ∙ stops-append greatest_line empty_start (front ++ part) (drop e.used piece) new.start.tables (lines + e.lines) (length front + e.used) fault there
 
   stops_by : (fault : Fault) → StoppedBy fault (meaning old.max_line old.start (take e.used piece)) e new → Takes (front ++ piece) (Err (stop_of (lines + e.lines) fault)) new
   stops_by client.Memory by = tt
