@@ -81,7 +81,7 @@ pub(crate) fn infos_behind<T: Described>(
     new: &Table<T>,
 ) -> Result<Vec<T::Info>, AllocError>
     requires { length told.now.rows ≤ length new.now }
-    ensures { IfOk result (λ v. v.items ≡ lines.new_infos T.id_of T.info_of (fronts.with_rows (fronts.told_item T.with_row) new.now told.now.rows) new.now) }
+    ensures { IfOk result (λ v. v.items ≡ lines.new_infos T.id_of T.info_of (fronts.with_rows (fronts.as_told T.with_row) new.now told.now.rows) new.now) }
 {
     let mut list = Vec::new(alloc);
     for i in told.count()..new.len() {
@@ -96,7 +96,7 @@ pub(crate) fn stats_beside<T: Told>(
     told: &ToldRows<T>,
     new: &Table<T>,
 ) -> Result<Vec<T::Stats>, AllocError>
-    ensures { IfOk result (λ v. v.items ≡ lines.told_stats T.id_of T.same T.stats_of (fronts.with_rows (fronts.told_item T.with_row) new.now told.now.rows) new.now) }
+    ensures { IfOk result (λ v. v.items ≡ lines.told_stats T.id_of T.same T.stats_of (fronts.with_rows (fronts.as_told T.with_row) new.now told.now.rows) new.now) }
 {
     let mut list = Vec::new(alloc);
     for i in 0..new.len() {

@@ -2,7 +2,7 @@
 //!
 //! `specs/Retention.antt` says when an item is due.
 ghost use Rattle.std.specs.Prelude.{◌≡◌, ◌≤◌, ◌++◌, length, map, filter, not, false, IfOk, OnOk};
-ghost use Rattle.tk_stream.specs.Fronts.{told_item, told_tables, with_rows, FitsIn};
+ghost use Rattle.tk_stream.specs.Fronts.{as_told, told_tables, with_rows, FitsIn};
 ghost use Rattle.tk_stream.specs.Kept.{kept};
 ghost use Rattle.tk_stream.specs.Retention as retentions;
 ghost use Rattle.tk_stream.specs.Tables.{is_among, staying};
@@ -104,9 +104,9 @@ fn due_ids<T: Closes>(
 ) -> Result<(Vec<T::Id>, IndexSet<u64>), AllocError>
     requires { length told.now.rows ≤ length table.now }
     ensures ids { IfOk result (λ due. due.0.items ≡ map T.typed_id (filter (λ item. retentions.is_due retention now (T.closed_in (T.row_of item)))
-        (with_rows (told_item T.with_row) table.now told.now.rows))) }
+        (with_rows (as_told T.with_row) table.now told.now.rows))) }
     ensures keys { IfOk result (λ due. due.1.keys ≡ retentions.due_ids T.id_of (λ item. T.closed_in (T.row_of item)) retention now
-        (with_rows (told_item T.with_row) table.now told.now.rows)) }
+        (with_rows (as_told T.with_row) table.now told.now.rows)) }
 {
     let mut ids = Vec::new(alloc);
     let mut keys = IndexSet::new(alloc);

@@ -1,7 +1,7 @@
 //! Lines made of tables, and of what was told of them.
 ghost use Rattle.std.specs.Prelude.{◌≡◌, ◌≤◌, true, length, option_map, IfOk, IfSome, IsSome, if◌then◌else◌, IsTrue};
 ghost use Rattle.std.specs.List.{AllByRecursion};
-ghost use Rattle.tk_stream.specs.Fronts.{told_item, with_rows};
+ghost use Rattle.tk_stream.specs.Fronts.{as_told, with_rows};
 ghost use Rattle.tk_stream.specs.Lines as lines;
 ghost use Rattle.tk_stream.specs.Ranges as ranges;
 ghost use Rattle.tk_stream.specs.Retention.{due_of, prune, line_pruned, told_without, times_staying};
@@ -245,7 +245,7 @@ impl Line {
     ) -> Result<Line, LineError>
         requires fits { length told.now.rows ≤ length times.now }
         ensures ok { IfOk result (λ line. line ≡ lines.with_times (times_staying (option_map (λ l. l.now) leaving.entry)
-            (lines.told_times (with_rows (told_item times_with) times.now told.now.rows) times.now)) self) }
+            (lines.told_times (with_rows (as_told times_with) times.now told.now.rows) times.now)) self) }
         ensures memory { IfErr result (λ e. e ≡ LineError.Memory) }
     {
         let alloc = *self.new_tasks.allocator();

@@ -1,6 +1,6 @@
 //! What the last whole line told of the rows of a table.
 ghost use Rattle.std.specs.Prelude.{◌≡◌, ◌≤◌, ◌<◌, length, map, false, None, is_some, get_or, slice_get, OnOk};
-ghost use Rattle.tk_stream.specs.Fronts.{no_telling, told_item, is_told_beside, with_rows};
+ghost use Rattle.tk_stream.specs.Fronts.{no_telling, as_told, is_told_beside, with_rows};
 ghost use Rattle.tk_stream.specs.Tables.{changed_at};
 
 use crate::tables::item::Item;
@@ -95,7 +95,7 @@ impl<T: Item> ToldRows<T> {
 impl<T: Told> ToldRows<T> {
     /// Whether a line tells what changes of the item at a place.
     pub(crate) fn differs(&self, i: usize, item: &T) -> bool
-        ensures { result ≡ is_told_beside (told_item T.with_row) T.same (slice_get self.now.rows i) item.now }
+        ensures { result ≡ is_told_beside (as_told T.with_row) T.same (slice_get self.now.rows i) item.now }
     {
         if i >= self.count {
             return true;
@@ -117,7 +117,7 @@ impl<T: Told> ToldRows<T> {
     pub fn set(&mut self, table: &mut Table<T>, i: usize, row: &T::Row)
         requires { i < length table.old }
         ensures table { table.new ≡ changed_at (λ item. T.with_row item row.now) table.old i }
-        ensures told { with_rows (told_item T.with_row) table.new self.new.rows ≡ with_rows (told_item T.with_row) table.old self.old.rows }
+        ensures told { with_rows (as_told T.with_row) table.new self.new.rows ≡ with_rows (as_told T.with_row) table.old self.old.rows }
         ensures count { length self.new.rows ≡ length self.old.rows }
         ensures room { self.new.room ≡ self.old.room }
     {
@@ -138,7 +138,7 @@ impl<T: Closes> ToldRows<T> {
     /// When the item at a place was closed, by the row that was told of it.
     pub(crate) fn closed(&self, i: usize, item: &T) -> Option<u64>
         requires { i < length self.now.rows }
-        ensures { result ≡ T.closed_in (T.row_of (told_item T.with_row item.now (get_or self.now.rows i None))) }
+        ensures { result ≡ T.closed_in (T.row_of (as_told T.with_row item.now (get_or self.now.rows i None))) }
     {
         match &self.rows[i] {
             Some(row) => T::closed(row),

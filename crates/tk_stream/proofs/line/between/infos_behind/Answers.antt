@@ -1,6 +1,6 @@
 use Rattle.std.proofs.Common.{◌≡◌, ◌++◌, ◌∷◌, [], map, drop, ◌+◌, Some, slice_get, ap, sym, ◌∙◌, arith}
 use Rattle.std.specs.Prelude.{option_map}
-use Rattle.tk_stream.specs.Fronts.{told_item}
+use Rattle.tk_stream.specs.Fronts.{as_told}
 use Rattle.tk_stream.proofs.FrontLemmas.{keeps_told, goes_on_infos, infos_done, infos_are}
 use Rattle.tk_stream.proofs.line.between.infos_behind.Goals as goal
 
@@ -16,4 +16,4 @@ loop-i-preserved g c =
 pub returns : goal.returns
 returns g c =
     infos_done g.T.Described.info_of c.loop-i.list.items c.args.new.now c.loop-i.i _ (omega (arith, c.loop-i-test.false, c.len-i-end.ensures.count)) c.loop-i.invariant.1
-    ∙ infos_are g.T.Item.id_of (told_item g.T.Item.with_row) (keeps_told g.T.Item.id_of g.T.Item.with_row g.met.T.Item.keeps_id) g.T.Described.info_of c.args.new.now c.args.told.now.rows c.len-i-end.ensures.distinct
+    ∙ infos_are g.T.Item.id_of (as_told g.T.Item.with_row) (keeps_told g.T.Item.id_of g.T.Item.with_row g.met.T.Item.keeps_id) g.T.Described.info_of c.args.new.now c.args.told.now.rows c.len-i-end.ensures.distinct

@@ -1,6 +1,6 @@
 use Rattle.std.proofs.Common.{◌≡◌, ◌++◌, drop, ◌+◌, Some, slice_get, ap, sym, ◌∙◌, arith}
 use Rattle.std.specs.Prelude.{option_map}
-use Rattle.tk_stream.specs.Fronts.{told_item, stats_beside}
+use Rattle.tk_stream.specs.Fronts.{as_told, stats_beside}
 use Rattle.tk_stream.specs.Kept.{kept}
 use Rattle.tk_stream.proofs.FrontLemmas.{keeps_told, goes_on_stats, stats_done, stats_are}
 use Rattle.tk_stream.proofs.line.between.stats_beside.Goals as goal
@@ -9,7 +9,7 @@ pub loop-i-preserved : goal.loop-i-preserved
 loop-i-preserved g c =
     let xs = c.args.new.now in
     let rs = c.args.told.now.rows in
-    let with_row = told_item g.T.Item.with_row in
+    let with_row = as_told g.T.Item.with_row in
     let same = g.T.Told.same in
     let stats_of = g.T.Told.stats_of in
     let item = c.unwrap-item.result.now in
@@ -22,5 +22,5 @@ loop-i-preserved g c =
 
 pub returns : goal.returns
 returns g c =
-    stats_done (told_item g.T.Item.with_row) g.T.Told.same g.T.Told.stats_of c.loop-i.list.items c.args.told.now.rows c.args.new.now c.loop-i.i _ (omega (arith, c.loop-i-test.false, c.len-i-end.ensures.count)) c.loop-i.invariant.1
-    ∙ stats_are g.T.Item.id_of (told_item g.T.Item.with_row) (keeps_told g.T.Item.id_of g.T.Item.with_row g.met.T.Item.keeps_id) g.T.Told.same g.T.Told.stats_of c.args.new.now c.args.told.now.rows c.len-i-end.ensures.distinct
+    stats_done (as_told g.T.Item.with_row) g.T.Told.same g.T.Told.stats_of c.loop-i.list.items c.args.told.now.rows c.args.new.now c.loop-i.i _ (omega (arith, c.loop-i-test.false, c.len-i-end.ensures.count)) c.loop-i.invariant.1
+    ∙ stats_are g.T.Item.id_of (as_told g.T.Item.with_row) (keeps_told g.T.Item.id_of g.T.Item.with_row g.met.T.Item.keeps_id) g.T.Told.same g.T.Told.stats_of c.args.new.now c.args.told.now.rows c.len-i-end.ensures.distinct

@@ -1,7 +1,7 @@
 use Rattle.std.proofs.Common.{◌≡◌, ◌++◌, false, Some, None, map, filter, take, get_or, slice_get, add-one, ap, ap₂, sym, subst, ◌∙◌, arith}
 use Rattle.std.specs.Prelude.{option_map}
 use Rattle.std.proofs.lemmas.List.{take_all}
-use Rattle.tk_stream.specs.Fronts.{told_item, with_rows}
+use Rattle.tk_stream.specs.Fronts.{as_told, with_rows}
 use Rattle.tk_stream.specs.Kept.{kept}
 use Rattle.tk_stream.specs.Retention.{is_due}
 use Rattle.tk_stream.specs.Tables.{is_among}
@@ -19,11 +19,11 @@ keep_key-requires g c =
     let keeps = keeps_told g.T.Item.id_of g.T.Item.with_row g.met.T.Item.keeps_id in
     let rows = c.args.told.now.rows in
     let i = c.loop-i.i in
-    let o = told_item g.T.Item.with_row item (get_or rows i None) in
-    let told = with_rows (told_item g.T.Item.with_row) c.args.table.now rows in
+    let o = as_told g.T.Item.with_row item (get_or rows i None) in
+    let told = with_rows (as_told g.T.Item.with_row) c.args.table.now rows in
     let at : Some item ≡ slice_get c.args.table.now i = sym (ap (option_map (λ t. t.now)) c.unwrap-item.ensures) ∙ c.at.ensures in
     let there = told_there g.T.Item.with_row c.args.table.now rows i item at (omega (arith, c.loop-i-test.true, c.count-i-end.ensures.count)) in
-    let once = distinct_old g.T.Item.id_of (told_item g.T.Item.with_row) keeps c.args.table.now rows c.len.ensures.distinct in
+    let once = distinct_old g.T.Item.id_of (as_told g.T.Item.with_row) keeps c.args.table.now rows c.len.ensures.distinct in
     ap (λ ks. is_among ks (g.T.Item.id_of item)) c.loop-i.invariant.keys
     ∙ subst (λ id. is_among (map g.T.Item.id_of (filter (λ x. is_due c.args.retention c.args.now (g.T.Closes.closed_in (g.T.Item.row_of x))) (take i told))) id ≡ false) (keeps item (get_or rows i None))
     (once_front g.T.Item.id_of (λ x. is_due c.args.retention c.args.now (g.T.Closes.closed_in (g.T.Item.row_of x))) told i o once there)
@@ -34,8 +34,8 @@ loop-i-preserved g c =
     let rows = c.args.told.now.rows in
     let i = c.loop-i.i in
     let row = get_or rows i None in
-    let o = told_item g.T.Item.with_row item row in
-    let told = with_rows (told_item g.T.Item.with_row) c.args.table.now rows in
+    let o = as_told g.T.Item.with_row item row in
+    let told = with_rows (as_told g.T.Item.with_row) c.args.table.now rows in
     let at : Some item ≡ slice_get c.args.table.now i = sym (ap (option_map (λ t. t.now)) c.unwrap-item.ensures) ∙ c.at.ensures in
     let there = told_there g.T.Item.with_row c.args.table.now rows i item at (omega (arith, c.loop-i-test.true, c.count-i-end.ensures.count)) in
     let leaves = c.is_due-leaves.ensures ∙ ap (is_due c.args.retention c.args.now) c.closed.ensures in
@@ -50,12 +50,12 @@ loop-i-preserved g c =
 
 pub returns-clause-ids : goal.returns-clause-ids
 returns-clause-ids g c =
-    let all = take_all c.loop-i.i (with_rows (told_item g.T.Item.with_row) c.args.table.now c.args.told.now.rows)
-    (omega (arith, c.loop-i-test.false, c.count-i-end.ensures.count, few_told (told_item g.T.Item.with_row) c.args.table.now c.args.told.now.rows)) in
+    let all = take_all c.loop-i.i (with_rows (as_told g.T.Item.with_row) c.args.table.now c.args.told.now.rows)
+    (omega (arith, c.loop-i-test.false, c.count-i-end.ensures.count, few_told (as_told g.T.Item.with_row) c.args.table.now c.args.told.now.rows)) in
     c.loop-i.invariant.ids ∙ ap (λ xs. map g.T.Closes.typed_id (filter (λ item. is_due c.args.retention c.args.now (g.T.Closes.closed_in (g.T.Item.row_of item))) xs)) all
 
 pub returns-clause-keys : goal.returns-clause-keys
 returns-clause-keys g c =
-    let all = take_all c.loop-i.i (with_rows (told_item g.T.Item.with_row) c.args.table.now c.args.told.now.rows)
-    (omega (arith, c.loop-i-test.false, c.count-i-end.ensures.count, few_told (told_item g.T.Item.with_row) c.args.table.now c.args.told.now.rows)) in
+    let all = take_all c.loop-i.i (with_rows (as_told g.T.Item.with_row) c.args.table.now c.args.told.now.rows)
+    (omega (arith, c.loop-i-test.false, c.count-i-end.ensures.count, few_told (as_told g.T.Item.with_row) c.args.table.now c.args.told.now.rows)) in
     c.loop-i.invariant.keys ∙ ap (λ xs. map g.T.Item.id_of (filter (λ item. is_due c.args.retention c.args.now (g.T.Closes.closed_in (g.T.Item.row_of item))) xs)) all

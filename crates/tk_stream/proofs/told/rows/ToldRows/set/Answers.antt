@@ -1,7 +1,7 @@
 use Rattle.std.proofs.Common.{◌≡◌, ◌≤◌, None, Some, true, take, set, slice_get, refl, sym, ap, ◌∙◌, subst, arith}
 use Rattle.std.proofs.lemmas.List.{length-set}
 use Rattle.std.specs.Prelude.{option_map}
-use Rattle.tk_stream.specs.Fronts.{told_item, with_rows}
+use Rattle.tk_stream.specs.Fronts.{as_told, with_rows}
 use Rattle.tk_stream.proofs.FrontLemmas.{same_row_again, stays_told, kept_where_marked, nothing_past, kept_now_in, marked, marks_stay}
 use Rattle.tk_stream.proofs.told.rows.ToldRows.set.Goals.{else-i-self-via-then-i-self+else-not-index, else-i-self-via-else-i-self}
 use Rattle.tk_stream.proofs.told.rows.ToldRows.set.Goals as goal
@@ -16,12 +16,12 @@ returns-then-not-index-clause-told g c =
     let t = c.self.inside in
     let item = c.unwrap-item.result.now in
     let kept = c.index_mut.result.now in
-    ap (λ xs. with_rows (told_item w) xs (take t.count (set t.rows.items c.args.i (Some c.row-before.result)))) c.set.ensures
+    ap (λ xs. with_rows (as_told w) xs (take t.count (set t.rows.items c.args.i (Some c.row-before.result)))) c.set.ensures
     ∙ kept_now_in w c.args.row.now g.met.T.Item.last_row c.args.table.now t.rows.items t.count c.args.i item c.row-before.result kept
     (sym (ap (option_map (λ t. t.now)) c.unwrap-item.ensures) ∙ c.at.ensures) (subst (λ r. w item r ≡ item) (sym c.row-before.ensures) (g.met.T.Item.own_row item))
     c.self.invariant.0 c.if-i-self.true c.index_mut.ensures.value
     (sym (marked t.rows.items t.marks.items c.args.i c.index.result.now kept c.self.invariant.1 (omega (arith, c.if-i-self.true, c.self.invariant.0)) c.index.ensures c.index_mut.ensures.value) ∙ c.if-not-index.true)
-    ∙ ap (λ v. with_rows (told_item w) c.args.table.now v.rows) c.self.view_is
+    ∙ ap (λ v. with_rows (as_told w) c.args.table.now v.rows) c.self.view_is
 
 pub invariant_of-self : goal.invariant_of-self
 invariant_of-self g c =
@@ -39,5 +39,5 @@ returns-else-i-self-clause-told g c =
       | else-i-self-via-then-i-self+else-not-index w ↦ kept_where_marked g.T.Item.with_row c.args.row.now t.rows.items t.marks.items t.count c.args.i w.index.result.now c.self.invariant.0 w.if-i-self.true c.self.invariant.1 w.index.ensures w.if-not-index.false
       | else-i-self-via-else-i-self w ↦ nothing_past g.T.Item.with_row c.args.row.now t.rows.items t.count c.args.i c.self.invariant.0 w.if-i-self.false
     ]) in
-    ap (λ xs. with_rows (told_item g.T.Item.with_row) xs c.args.self.now.rows) c.set.ensures
+    ap (λ xs. with_rows (as_told g.T.Item.with_row) xs c.args.self.now.rows) c.set.ensures
     ∙ stays_told g.T.Item.with_row c.args.row.now g.met.T.Item.last_row c.args.table.now c.args.self.now.rows c.args.i free
