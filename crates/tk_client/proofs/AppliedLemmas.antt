@@ -13,7 +13,7 @@ use Rattle.tk_client.specs.Taking.{has_twice, are_fitting, fitting, repeats_told
 use Rattle.tk_client.specs.Told.{stats_id_by, told_part}
 use Rattle.tk_client.proofs.LineLemmas.{tells-once}
 
--- tasks that were there, each with what is told of it, and behind them new ones
+-- tasks that were there, each with what is told of it, and after them new ones
 pub record Follow (old : TablesView) (l : LineView) (t : TablesView) : Type 0 where
   pub items : List Task
   pub are : new_items task_kind l.task_stats l.new_tasks ≡ Some items

@@ -50,7 +50,7 @@ module _ (lints : LintsView) (now : ℕ) where
   abbrev at : List Task → ℕ → List Warning
   at tasks i = option_map_or (warnings_of lints now) (slice_get tasks i) []
 
-  -- behind some tasks
+  -- after some tasks
   listed-from : (front tasks all : List Task) → all ≡ front ++ tasks → flat_map (at all) (places_by can_warn (length front) tasks) ≡ flat_map (warnings_of lints now) tasks
   listed-from front [] all e = refl
   listed-from front (t ∷ ts) all e =

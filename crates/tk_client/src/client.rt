@@ -189,7 +189,7 @@ impl Client {
         Ok(())
     }
 
-    // Takes a line end behind the part line.
+    // Takes a line end after the part line.
     fn end_line(&mut self) -> Result<(), Fault>
         requires { self.old.has_failed ≡ false }
         ensures ended { Ended self.old result self.new }
@@ -272,7 +272,7 @@ impl Client {
         }
     }
 
-    // Takes the rest of a line behind its part, and its end.
+    // Takes the rest of a line after its part, and its end.
     fn step_rest(&mut self, bytes: &[u8], end: usize) -> Result<(u64, usize), FeedError>
         requires sound { self.old.has_failed ≡ false }
         requires inside { end < length bytes.now }
@@ -325,7 +325,7 @@ impl Client {
     /// fault is applied in no part: `TooLong` at the first byte too many; `BadJson`, `BadShape`; `Gap`; `Repeated`
     /// and `UnknownId` of histograms; `Repeated`; `UnknownId`; `Misfit`. `used` counts the bytes through the fault.
     ///
-    /// - `Memory`: the first `used` bytes were taken, and those behind them may be fed again. A whole line that found no
+    /// - `Memory`: the first `used` bytes were taken, and those after them may be fed again. A whole line that found no
     ///   memory is applied in no part: where all of it lies in the piece, `used` ends before the line, and where its front
     ///   came with an earlier piece, before its line end.
     /// - `Failed`: the client has failed before, by any fault but `Memory`. Nothing changes, with `lines` 0 and `used` 0,

@@ -21,7 +21,7 @@ pub fn pieces_join()
         → meaning max s (a ++ b) ≡ after lines (length a) (meaning max t b) }
 {}
 
-/// What stands behind a fault changes nothing.
+/// What stands after a fault changes nothing.
 pub fn faults_stay()
     ensures { (max : ℕ) (s : Start) (a b : List ℕ) (tables : TablesView) (lines used : ℕ) (fault : Fault)
         → meaning max s a ≡ stops tables lines fault used → meaning max s (a ++ b) ≡ stops tables lines fault used }

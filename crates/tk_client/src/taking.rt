@@ -1,6 +1,6 @@
 //! What a line makes of tables, in place.
 //!
-//! A line is checked in the order of its faults. Then its new items and counts go in behind the others, which may want memory;
+//! A line is checked in the order of its faults. Then its new items and counts go in after the others, which may want memory;
 //! then rows and counts that are there are replaced, which wants none. What went in is cut off again where the line isn't taken.
 //! What the line says is gone is left in the tables here: it leaves them last.
 ghost use Rattle.std.specs.Prelude.{◌≡◌, ◌||◌, Ok, IfOk, OnOk, OnErr, map, true, false};
@@ -355,7 +355,7 @@ fn tell_line(tables: &mut Tables, line: &Line)
     tables.set_totals(line.dropped(), line.now());
 }
 
-// What goes in behind the others, where the line then has no fault.
+// What goes in after the others, where the line then has no fault.
 fn grow_fitting(alloc: Global, tables: &mut Tables, line: &mut Line) -> Result<(), Fault>
     requires once { spec.repeats_told tables.old line.old ≡ false }
     requires known { spec.strange_told tables.old line.old ≡ false }

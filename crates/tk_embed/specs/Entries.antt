@@ -161,7 +161,7 @@ pub record AreTables (now : Bool) (head : Head) (given : Given) (tables : Tables
 
 -- ---- what a call makes of tables
 
--- these tasks stand behind those that were there, and nothing else changed
+-- these tasks stand after those that were there, and nothing else changed
 pub record AddTasks (text : List ℕ) (now : Bool) (entries : List TaskEntry) (old new : TablesView) : Type 0 where
   pub tasks : map task_shown new.tasks ≡ map task_shown old.tasks ++ map (task_entry_shown text now) entries
   pub resources : new.resources ≡ old.resources

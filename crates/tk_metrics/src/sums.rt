@@ -1,7 +1,7 @@
 //! What is added up of tasks, and of resources.
 ghost use Rattle.std.specs.Prelude.{◌≡◌, ◌++◌, ℕ, List, IfOk, OnOk, map, slice_get};
 ghost use Rattle.std.specs.Option.{option_map_or};
-ghost use Rattle.tk_report.specs.Behind.{Puts};
+ghost use Rattle.tk_report.specs.Pieces.{Puts};
 ghost use Rattle.tk_metrics.specs.Series.{series_of, with_value};
 ghost use Rattle.tk_metrics.specs.Sums as spec;
 ghost use Rattle.tk_report.specs.Report as report;

@@ -3,7 +3,7 @@ ghost use Rattle.std.specs.Prelude.{◌≡◌, [], OnOk, IfOk, codes, length, ma
 ghost use Rattle.std.specs.Option.{option_map_or};
 ghost use Rattle.tk_page.specs.Items as spec;
 ghost use Rattle.tk_page.specs.Places as places;
-ghost use Rattle.tk_paper.specs.Behind.{Writes};
+ghost use Rattle.tk_paper.specs.Pieces.{Writes};
 
 use crate::cards::start_section;
 use crate::figures::{count, front};

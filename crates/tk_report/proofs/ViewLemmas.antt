@@ -1,4 +1,4 @@
--- What pieces of a stream come to, one behind the other.
+-- What pieces of a stream come to, one after the other.
 use Rattle.std.proofs.Common.{◌≡◌, ℕ, ◌+◌, List, [], ◌∷◌, ◌++◌, length, take, drop, Option, Some, None, Ok, Err, refl, ap, sym, ◌∙◌, append_assoc, append-nil, take-append-drop, subst}
 use Rattle.std.specs.Io.KnownBytes.{Appends, Consumes, IsAtEnd}
 use Rattle.tk_stream.specs.Sent.{IsCut}
@@ -91,7 +91,7 @@ stops_all given left new piece lines old now faults.Memory r read h = tt
 stops_all given left new piece lines old now faults.Read r read h = tt
 stops_all given left new piece lines old now faults.Write r read h = absurd h
 stops_all given left new piece lines old now (faults.Script line name) r read h = absurd h
-stops_all given left new piece lines old now (faults.Stream behind fault) r read h = record {
+stops_all given left new piece lines old now (faults.Stream before fault) r read h = record {
   bytes = r.bytes ++ piece;
   read = Consumes-trans given left new r.bytes piece r.read read;
   tables = h.0;

@@ -14,7 +14,7 @@ use Rattle.tk_report.specs.Views.{AreAll, HaveFault, outcome_of}
 abbrev pub first : ClientView
 first = record { start = empty_start; has_failed = false; max_line = greatest_line }
 
--- what a client's fault behind so many lines is to the view
+-- what a client's fault after so many lines is to the view
 abbrev pub stop_of : ℕ → Fault → AppFault
 stop_of lines client.Memory = faults.Memory
 stop_of lines fault = faults.Stream lines fault

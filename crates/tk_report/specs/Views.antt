@@ -29,7 +29,7 @@ pub record LeadTo (given : Option (List ℕ)) (tables : TablesView) : Type 0 whe
   pub come : outcome_of bytes ≡ goes start lines
   pub shows : start.tables ≡ tables
 
--- the bytes that were read have this fault, behind so many lines that are applied
+-- the bytes that were read have this fault, after so many lines that are applied
 pub record HaveFault (given left : Option (List ℕ)) (lines : ℕ) (fault : Fault) : Type 0 where
   pub bytes : List ℕ
   pub read : Consumes given left bytes

@@ -1,6 +1,6 @@
-//! The lines of a report, each put behind what is written.
+//! The lines of a report, each put after what is written.
 ghost use Rattle.std.specs.Prelude.{◌≡◌, ◌++◌, ◌∷◌, [], codes, decimal, OnOk, IfSome, string_bytes};
-ghost use Rattle.tk_report.specs.Behind.{Puts};
+ghost use Rattle.tk_report.specs.Pieces.{Puts};
 ghost use Rattle.tk_report.specs.Report as spec;
 
 use std::alloc::AllocError;
@@ -20,7 +20,7 @@ pub(crate) fn put<T: Display>(out: &mut String, before: &str, value: &T) -> Resu
 
 /// Ends a line.
 pub(crate) fn put_end(out: &mut String) -> Result<(), AllocError>
-    ensures { OnOk result (Puts (string_bytes out.old) (string_bytes out.new) (spec.behind [])) }
+    ensures { OnOk result (Puts (string_bytes out.old) (string_bytes out.new) (spec.rest_of_line [])) }
 {
     out.push_str("\n")
 }
@@ -93,7 +93,7 @@ fn put_value(out: &mut String, value: AttrValue) -> Result<(), AllocError>
 }
 
 fn put_unit(out: &mut String, unit: &Option<Name>) -> Result<(), AllocError>
-    ensures { OnOk result (Puts (string_bytes out.old) (string_bytes out.new) (spec.behind (spec.unit_words unit.now))) }
+    ensures { OnOk result (Puts (string_bytes out.old) (string_bytes out.new) (spec.rest_of_line (spec.unit_words unit.now))) }
 {
     match unit {
         Some(unit) => writeln!(out, " {unit}"),
@@ -234,7 +234,7 @@ fn run_time(now: u64, started: Option<u64>) -> u64
 
 fn put_run_time(out: &mut String, time: u64) -> Result<(), AllocError>
     ensures { OnOk result (Puts (string_bytes out.old) (string_bytes out.new)
-        (spec.behind (codes "never-yielded" ∷ decimal time ∷ []))) }
+        (spec.rest_of_line (codes "never-yielded" ∷ decimal time ∷ []))) }
 {
     writeln!(out, " never-yielded {time}")
 }
@@ -245,7 +245,7 @@ fn put_oddity(
     row: &TaskRow,
     kind: WarningKind,
 ) -> Result<(), AllocError>
-    ensures { OnOk result (Puts (string_bytes out.old) (string_bytes out.new) (spec.behind (spec.oddity now row.now kind))) }
+    ensures { OnOk result (Puts (string_bytes out.old) (string_bytes out.new) (spec.rest_of_line (spec.oddity now row.now kind))) }
 {
     match kind {
         WarningKind::SelfWakes => {

@@ -212,7 +212,7 @@ line_from p = do
   task_stats ← each_of stats_of p.task_stats
   Some (record { dropped = p.dropped; gone = said.gone; new_ops = new_ops; new_resources = new_resources; new_tasks = new_tasks; now = p.now; op_stats = op_stats; poll_counts = poll_counts; resource_stats = resource_stats; seq = p.seq; snapshot = p.snapshot; task_stats = task_stats; task_times = said.times })
 
--- the same, each list at once, behind the numbers
+-- the same, each list at once, after the numbers
 abbrev line_last : Dropped → ℕ → ℕ → Bool → Option SaidView → (new_ops new_resources new_tasks op_stats poll_counts resource_stats task_stats : Option (List Data)) → Option LineView
 line_last dropped now seq snapshot said new_ops new_resources new_tasks op_stats poll_counts resource_stats task_stats = do
   said ← said

@@ -19,7 +19,7 @@ pub trait Told: Item {
     fn is_same(&self, other: &Self) -> bool
         ensures { result ≡ same self.now other.now };
 
-    /// The same, beside itself with this row: that is its own then.
+    /// Whether it is the same as itself with this row: that is its own then.
     fn has_row(&self, row: &Self::Row) -> bool
         ensures same { result ≡ same (Self.Item.with_row self.now row.now) self.now }
         ensures own { result ≡ true → Self.Item.with_row self.now row.now ≡ self.now };

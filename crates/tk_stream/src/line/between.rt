@@ -74,8 +74,8 @@ pub(crate) fn told_stats<T: Told>(
     Ok(list)
 }
 
-/// What stays of the items behind the first so many.
-pub(crate) fn infos_behind<T: Described>(
+/// What stays of the items after the first so many.
+pub(crate) fn infos_after<T: Described>(
     alloc: Global,
     told: &ToldRows<T>,
     new: &Table<T>,

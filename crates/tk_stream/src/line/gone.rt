@@ -2,7 +2,7 @@
 ghost use Rattle.std.specs.Prelude.{◌≡◌, ◌++◌, option_map, IfOk, IfSome, OnOk};
 ghost use Rattle.serde_json.specs.View.{view};
 ghost use Rattle.serde_json.specs.Written.{compact_text, comma_if};
-ghost use Rattle.tk_stream.specs.Behind.{Puts, Takes};
+ghost use Rattle.tk_stream.specs.Pieces.{Puts, Takes};
 ghost use Rattle.tk_stream.specs.Ranges as ranges;
 ghost use Rattle.tk_stream.specs.Spelled as spelled;
 ghost use Rattle.tk_stream.specs.Spelling as spec;
@@ -206,13 +206,13 @@ pub(crate) fn see_gone(gone: &Option<Gone>)
     }
 }
 
-/// The lists of what is gone, where a line says it, behind another member.
+/// The lists of what is gone, where a line says it, after another member.
 pub(crate) fn put_gone(
     out: &mut Vec<u8>,
     scratch: &mut [u8; ROOM],
     gone: &Option<Gone>,
 ) -> Result<(), AllocError>
-    ensures { OnOk result (Puts out.old.items out.new.items (spec.behind_text (spec.gone_members gone.now))) }
+    ensures { OnOk result (Puts out.old.items out.new.items (spec.text_after (spec.gone_members gone.now))) }
 {
     match gone {
         Some(gone) => put_lists(out, scratch, gone),
@@ -221,7 +221,7 @@ pub(crate) fn put_gone(
 }
 
 fn put_lists(out: &mut Vec<u8>, scratch: &mut [u8; ROOM], gone: &Gone) -> Result<(), AllocError>
-    ensures { OnOk result (Puts out.old.items out.new.items (spec.behind_text (spec.gone_fields gone.now))) }
+    ensures { OnOk result (Puts out.old.items out.new.items (spec.text_after (spec.gone_fields gone.now))) }
 {
     put_open(out, scratch, b",\"gone_ops\":[", gone.ops.as_slice())?;
     put_open(
@@ -240,7 +240,7 @@ pub(crate) fn take_gone(
     alloc: Global,
     bytes: &[u8],
 ) -> Result<Option<(Option<Gone>, &[u8])>, AllocError>
-    ensures { IfOk result (λ o. IfSome o (λ x. Takes bytes.now (spec.behind_text (spec.gone_members x.0)) x.1.now)) }
+    ensures { IfOk result (λ o. IfSome o (λ x. Takes bytes.now (spec.text_after (spec.gone_members x.0)) x.1.now)) }
 {
     if take_text(bytes, b",\"gone_ops\":").is_none() {
         return Ok(Some((None, bytes)));
@@ -250,7 +250,7 @@ pub(crate) fn take_gone(
 }
 
 fn take_lists(alloc: Global, bytes: &[u8]) -> Result<Option<(Gone, &[u8])>, AllocError>
-    ensures { IfOk result (λ o. IfSome o (λ x. Takes bytes.now (spec.behind_text (spec.gone_fields x.0)) x.1.now)) }
+    ensures { IfOk result (λ o. IfSome o (λ x. Takes bytes.now (spec.text_after (spec.gone_fields x.0)) x.1.now)) }
 {
     let (ops, rest) = some_of!(take_list(alloc, bytes, b",\"gone_ops\":[")?);
     let (resources, rest) = some_of!(take_list(alloc, rest, b",\"gone_resources\":[")?);

@@ -9,7 +9,7 @@ ghost use Rattle.tk_stream.specs.Times.{times_with};
 
 use super::Line;
 use crate::error::LineError;
-use crate::line::between::{infos_behind, new_infos, stats_beside, told_stats};
+use crate::line::between::{infos_after, new_infos, stats_beside, told_stats};
 use crate::line::gone::{Gone, see_gone};
 use crate::line::leaving::{Leaving, due, leave_out, leave_times_out};
 use crate::tables::Tables;
@@ -159,9 +159,9 @@ impl Line {
         ensures memory { IfErr result (λ e. e ≡ LineError.Memory) }
     {
         let dropped = tables.dropped();
-        let new_ops = infos_behind(alloc, &told.ops, &tables.ops)?;
-        let new_resources = infos_behind(alloc, &told.resources, &tables.resources)?;
-        let new_tasks = infos_behind(alloc, &told.tasks, &tables.tasks)?;
+        let new_ops = infos_after(alloc, &told.ops, &tables.ops)?;
+        let new_resources = infos_after(alloc, &told.resources, &tables.resources)?;
+        let new_tasks = infos_after(alloc, &told.tasks, &tables.tasks)?;
         let op_stats = stats_beside(alloc, &told.ops, &tables.ops)?;
         let poll_counts = stats_beside(alloc, &told.counts, &tables.counts)?;
         let resource_stats = stats_beside(alloc, &told.resources, &tables.resources)?;
@@ -287,7 +287,7 @@ fn see_numbers(dropped: Dropped, now: u64)
     see_number(now);
 }
 
-// So are the infos of a line.
+// The infos of a line are in their ranges.
 fn see_new_items(ops: &Vec<OpInfo>, resources: &Vec<ResourceInfo>, tasks: &Vec<TaskInfo>)
     ensures ops { AllByRecursion ranges.IsOpInfo ops.now.items }
     ensures resources { AllByRecursion ranges.IsResourceInfo resources.now.items }
@@ -298,7 +298,7 @@ fn see_new_items(ops: &Vec<OpInfo>, resources: &Vec<ResourceInfo>, tasks: &Vec<T
     see_all(tasks);
 }
 
-// And so are its rows and counts.
+// The rows and counts of a line are in their ranges.
 fn see_stats(
     ops: &Vec<(AsyncOpId, OpRow)>,
     counts: &Vec<(ResourceId, u64, u64)>,

@@ -2,7 +2,7 @@
 ghost use Rattle.std.specs.Prelude.{◌≡◌, ◌++◌, [], IfOk, IfSome};
 ghost use Rattle.serde_json.specs.View.{view};
 ghost use Rattle.serde_json.specs.Written.{compact_text};
-ghost use Rattle.tk_stream.specs.Behind.{Takes};
+ghost use Rattle.tk_stream.specs.Pieces.{Takes};
 ghost use Rattle.tk_stream.specs.Lines as lines;
 ghost use Rattle.tk_stream.specs.Outcome.{Answers};
 ghost use Rattle.tk_stream.specs.Spelled.{line_of_lists};

@@ -1,7 +1,7 @@
 //! The text of a line.
 ghost use Rattle.std.specs.Prelude.{◌≡◌, ◌++◌, true, codes, IfOk, OnOk};
 ghost use Rattle.serde_json.specs.Written.{compact_text};
-ghost use Rattle.tk_stream.specs.Behind.{Puts};
+ghost use Rattle.tk_stream.specs.Pieces.{Puts};
 ghost use Rattle.tk_stream.specs.Spelling as spec;
 
 use super::Line;

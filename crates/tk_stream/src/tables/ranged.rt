@@ -30,7 +30,7 @@ pub(crate) fn see_each<T: Ranged>(list: &[T])
     }
 }
 
-/// The same of a whole list.
+/// Each value of a vector is in its range.
 pub(crate) fn see_all<T: Ranged>(list: &Vec<T>)
     ensures { AllByRecursion T.in_range list.now.items }
 {

@@ -65,7 +65,7 @@ fn empty_before_slot(empty: &[usize], slot: usize) -> usize
     requires { spec.AreRising empty.now }
     ensures within { result ≤ length empty.now }
     ensures before { (j : ℕ) → j < result → slice_index empty.now j < slot }
-    ensures behind { (j : ℕ) → result ≤ j → j < length empty.now → slot ≤ slice_index empty.now j }
+    ensures after { (j : ℕ) → result ≤ j → j < length empty.now → slot ≤ slice_index empty.now j }
 {
     empty.partition_point(|other| *other < slot)
 }
@@ -133,7 +133,7 @@ impl<T: Item> Slots<T> {
         }
     }
 
-    /// Puts an item into a slot behind the others, or gives it back.
+    /// Puts an item into a slot after the others, or gives it back.
     pub(crate) fn push(&mut self, item: T) -> Result<(), T>
         requires { spec.slot_with T.id_of (T.id_of item) self.old ≡ None }
         ensures ok { OnOk result (self.new ≡ self.old ++ Some item ∷ []) }

@@ -14,7 +14,7 @@ use std::marker::Model;
 #[derive(Drop)]
 pub struct ToldRows<T: Item> {
     rows: Vec<Option<T::Row>>,
-    // Whether a row is kept at each place. A row lies a hundred bytes and more behind the last, and marks side by side.
+    // Whether a row is kept at each place. A row lies a hundred bytes and more after the last, and marks side by side.
     marks: Vec<bool>,
     // How many items were told of.
     count: usize,

@@ -45,7 +45,7 @@ fn read_item<T: Shaped>(
     item_of(alloc, &value)
 }
 
-// The items of an array that are left, if each is of the shape. Behind one that isn't, the rest is passed.
+// The items of an array that are left, if each is of the shape. After one that isn't, the rest is passed.
 fn read_items<T: Shaped>(
     alloc: Global,
     reader: &mut Reader<'_>,

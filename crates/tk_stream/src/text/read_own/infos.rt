@@ -3,7 +3,7 @@ ghost use Rattle.std.specs.Prelude.{◌++◌, false, map, IfSome, IfOk};
 ghost use Rattle.json.specs.Print.{quoted};
 ghost use Rattle.serde_json.specs.View.{items_of};
 ghost use Rattle.serde_json.specs.Written.{compact_text, items_text};
-ghost use Rattle.tk_stream.specs.Behind.{Takes};
+ghost use Rattle.tk_stream.specs.Pieces.{Takes};
 ghost use Rattle.tk_stream.specs.Spelling as spec;
 
 use crate::text::read_own::pieces::{

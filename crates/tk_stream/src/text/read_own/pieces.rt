@@ -8,7 +8,7 @@ ghost use Rattle.json.specs.Print.{escape, escape_byte};
 ghost use Rattle.serde_json.specs.Data.{boolean};
 ghost use Rattle.serde_json.specs.Written.{compact_text};
 ghost use Rattle.tk_ids.specs.Names.{is_name, is_printable};
-ghost use Rattle.tk_stream.specs.Behind.{Takes, is_escaped, is_plain};
+ghost use Rattle.tk_stream.specs.Pieces.{Takes, is_escaped, is_plain};
 ghost use Rattle.tk_stream.specs.Spelling as spec;
 
 use crate::text::write::short::is_escaped;
@@ -113,18 +113,18 @@ fn take_signed_decimal(bytes: &[u8]) -> Option<(i64, &[u8])>
 pub(crate) fn take_signed<'a>(
     bytes: &'a [u8],
     before: &[u8],
-    behind: &[u8],
+    after: &[u8],
 ) -> Option<(i64, &'a [u8])>
     ensures { IfSome result (λ x. Takes bytes.now
-        (before.now ++ (compact_text (spec.signed_data x.0) ++ behind.now)) x.1.now) }
+        (before.now ++ (compact_text (spec.signed_data x.0) ++ after.now)) x.1.now) }
 {
     let rest = take_text(bytes, before)?;
     let (n, rest) = take_signed_decimal(rest)?;
-    let rest = take_text(rest, behind)?;
+    let rest = take_text(rest, after)?;
     Some((n, rest))
 }
 
-/// The same of a number or `null`.
+/// What stands before a number or `null`, and that.
 #[inline(always)]
 pub(crate) fn take_optional<'a>(bytes: &'a [u8], before: &[u8]) -> Option<(Option<u64>, &'a [u8])>
     ensures { IfSome result (λ x. Takes bytes.now
@@ -138,7 +138,7 @@ pub(crate) fn take_optional<'a>(bytes: &'a [u8], before: &[u8]) -> Option<(Optio
     Some((Some(n), rest))
 }
 
-/// The same of a flag.
+/// What stands before a flag, and the flag.
 #[inline(always)]
 pub(crate) fn take_flag<'a>(bytes: &'a [u8], before: &[u8]) -> Option<(bool, &'a [u8])>
     ensures { IfSome result (λ x. Takes bytes.now

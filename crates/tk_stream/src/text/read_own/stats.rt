@@ -1,7 +1,7 @@
 //! Statistics and poll counts, taken from the front of a line's text.
 ghost use Rattle.std.specs.Prelude.{◌≡◌, IfSome};
 ghost use Rattle.serde_json.specs.Written.{compact_text};
-ghost use Rattle.tk_stream.specs.Behind.{Takes};
+ghost use Rattle.tk_stream.specs.Pieces.{Takes};
 ghost use Rattle.tk_stream.specs.Spelling as spec;
 
 use crate::text::read_own::pieces::{

@@ -3,7 +3,7 @@ ghost use Rattle.std.specs.Prelude.{◌++◌, false, map, IfSome, IfOk};
 ghost use Rattle.serde_json.specs.Data.{Data};
 ghost use Rattle.serde_json.specs.View.{items_of};
 ghost use Rattle.serde_json.specs.Written.{compact_text, items_text};
-ghost use Rattle.tk_stream.specs.Behind.{Takes};
+ghost use Rattle.tk_stream.specs.Pieces.{Takes};
 
 use crate::text::read_own::pieces::take_text;
 use std::alloc::{AllocError, Global};

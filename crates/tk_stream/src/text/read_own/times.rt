@@ -1,6 +1,6 @@
 //! Histograms of poll times, taken from the front of a line's text.
 ghost use Rattle.std.specs.Prelude.{IfOk, IfSome, option_map};
-ghost use Rattle.tk_stream.specs.Behind.{Takes};
+ghost use Rattle.tk_stream.specs.Pieces.{Takes};
 ghost use Rattle.tk_stream.specs.Spelling as spec;
 
 use crate::tables::times::{PollTimes, counts_of};
@@ -51,7 +51,7 @@ pub(crate) fn take_times(
     alloc: Global,
     bytes: &[u8],
 ) -> Result<Option<(Option<Vec<(TaskId, PollTimes)>>, &[u8])>, AllocError>
-    ensures { IfOk result (λ o. IfSome o (λ x. Takes bytes.now (spec.behind_text (spec.times_fields (option_map (λ v. v.items) x.0))) x.1.now)) }
+    ensures { IfOk result (λ o. IfSome o (λ x. Takes bytes.now (spec.text_after (spec.times_fields (option_map (λ v. v.items) x.0))) x.1.now)) }
 {
     if take_text(bytes, b",\"task_times\":").is_none() {
         return Ok(Some((None, bytes)));

@@ -4,7 +4,7 @@ ghost use Rattle.std.specs.Prelude.{◌≡◌, ◌+◌, ◌≤◌, ◌∷◌, �
 ghost use Rattle.json.specs.Print.{quoted};
 ghost use Rattle.serde_json.specs.View.{items_of};
 ghost use Rattle.serde_json.specs.Written.{compact_text, items_text, members_text, comma_if};
-ghost use Rattle.tk_stream.specs.Behind.{Puts, PutsOpen, Takes, unit_length, resource_behind, op_behind};
+ghost use Rattle.tk_stream.specs.Pieces.{Puts, PutsOpen, Takes, unit_length, resource_after_attrs, op_after_attrs};
 ghost use Rattle.tk_stream.specs.Spelling as spec;
 
 use crate::text::write::pieces::put_opening;
@@ -45,7 +45,7 @@ fn kind_before<const N: usize>(bytes: &mut [u8; N], at: usize, text: &[u8], kind
     text_before(bytes, start, text)
 }
 
-// What a location has behind the name of its file.
+// What a location has after the name of its file.
 #[inline(always)]
 fn place_before<const N: usize>(bytes: &mut [u8; N], at: usize, location: &Location) -> usize
     requires { (44 ≤ at) × (at ≤ N) }
@@ -235,7 +235,7 @@ fn op_parent(parent: Option<AsyncOpId>) -> Option<u64>
     }
 }
 
-// What stands behind a resource's attributes, with the bracket that closes them.
+// What stands after a resource's attributes, with the bracket that closes them.
 #[inline(always)]
 fn put_resource_in<const N: usize>(
     out: &mut Vec<u8>,
@@ -245,7 +245,7 @@ fn put_resource_in<const N: usize>(
     requires { length info.now.kind + length info.now.kind
         + (length info.now.location.file + length info.now.location.file
         + (length info.now.concrete + length info.now.concrete + 136)) ≤ N }
-    ensures { OnOk result (Puts out.old.items out.new.items (93 ∷ members_text true (resource_behind info.now))) }
+    ensures { OnOk result (Puts out.old.items out.new.items (93 ∷ members_text true (resource_after_attrs info.now))) }
 {
     let at = text_before(bytes, N, b"\"}");
     let at = name_before(bytes, at, &info.concrete);
@@ -265,7 +265,7 @@ fn put_resource_in<const N: usize>(
 #[inline(never)]
 fn put_long_resource(out: &mut Vec<u8>, info: &ResourceInfo) -> Result<(), AllocError>
     requires { (length info.now.kind ≤ 1024) × (length info.now.location.file ≤ 1024) × (length info.now.concrete ≤ 1024) }
-    ensures { OnOk result (Puts out.old.items out.new.items (93 ∷ members_text true (resource_behind info.now))) }
+    ensures { OnOk result (Puts out.old.items out.new.items (93 ∷ members_text true (resource_after_attrs info.now))) }
 {
     put_resource_in(out, &mut [0; LONG_ROOM], info)
 }
@@ -276,7 +276,7 @@ fn put_resource(
     scratch: &mut [u8; ROOM],
     info: &ResourceInfo,
 ) -> Result<(), AllocError>
-    ensures { OnOk result (Puts out.old.items out.new.items (93 ∷ members_text true (resource_behind info.now))) }
+    ensures { OnOk result (Puts out.old.items out.new.items (93 ∷ members_text true (resource_after_attrs info.now))) }
 {
     let (kind, file) = (name_length(&info.kind), name_length(&info.location.file));
     let concrete = name_length(&info.concrete);
@@ -304,7 +304,7 @@ impl Written for ResourceInfo {
     }
 }
 
-// What stands behind an operation's attributes, with the bracket that closes them.
+// What stands after an operation's attributes, with the bracket that closes them.
 #[inline(always)]
 fn put_op_in<const N: usize>(
     out: &mut Vec<u8>,
@@ -312,7 +312,7 @@ fn put_op_in<const N: usize>(
     info: &OpInfo,
 ) -> Result<(), AllocError>
     requires { length info.now.source + length info.now.source + 136 ≤ N }
-    ensures { OnOk result (Puts out.old.items out.new.items (93 ∷ members_text true (op_behind info.now))) }
+    ensures { OnOk result (Puts out.old.items out.new.items (93 ∷ members_text true (op_after_attrs info.now))) }
 {
     let at = text_before(bytes, N, b"\"}");
     let at = name_before(bytes, at, &info.source);
@@ -328,14 +328,14 @@ fn put_op_in<const N: usize>(
 #[inline(never)]
 fn put_long_op(out: &mut Vec<u8>, info: &OpInfo) -> Result<(), AllocError>
     requires { length info.now.source ≤ 1024 }
-    ensures { OnOk result (Puts out.old.items out.new.items (93 ∷ members_text true (op_behind info.now))) }
+    ensures { OnOk result (Puts out.old.items out.new.items (93 ∷ members_text true (op_after_attrs info.now))) }
 {
     put_op_in(out, &mut [0; LONG_ROOM], info)
 }
 
 #[inline(always)]
 fn put_op(out: &mut Vec<u8>, scratch: &mut [u8; ROOM], info: &OpInfo) -> Result<(), AllocError>
-    ensures { OnOk result (Puts out.old.items out.new.items (93 ∷ members_text true (op_behind info.now))) }
+    ensures { OnOk result (Puts out.old.items out.new.items (93 ∷ members_text true (op_after_attrs info.now))) }
 {
     if name_length(&info.source) <= SHORT {
         put_op_in(out, scratch, info)

@@ -1,7 +1,7 @@
-//! Pieces of a line's text, each put behind what is written so far.
+//! Pieces of a line's text, each put after what is written so far.
 ghost use Rattle.std.specs.Prelude.{◌≡◌, ◌∷◌, ◌++◌, OnOk};
 ghost use Rattle.serde_json.specs.Written.{comma_if};
-ghost use Rattle.tk_stream.specs.Behind.{Puts};
+ghost use Rattle.tk_stream.specs.Pieces.{Puts};
 
 use std::alloc::AllocError;
 
@@ -19,13 +19,13 @@ pub(crate) fn put_opening(
     out: &mut Vec<u8>,
     later: bool,
     text: &[u8],
-    behind_comma: &[u8],
+    with_comma: &[u8],
 ) -> Result<(), AllocError>
-    requires { behind_comma.now ≡ 44 ∷ text.now }
+    requires { with_comma.now ≡ 44 ∷ text.now }
     ensures { OnOk result (Puts out.old.items out.new.items (comma_if later ++ text.now)) }
 {
     if later {
-        put_text(out, behind_comma)
+        put_text(out, with_comma)
     } else {
         put_text(out, text)
     }

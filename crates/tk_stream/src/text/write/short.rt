@@ -1,4 +1,4 @@
-//! A short text, written from its end to its front: so come the digits of a number, and the whole goes behind a line's
+//! A short text, written from its end to its front: so come the digits of a number, and the whole goes after a line's
 //! text in one step. The members of an object are therefore written from the last to the first.
 ghost use Rattle.std.specs.Prelude.{◌≡◌, ◌+◌, ◌≤◌, ◌++◌, true, length, take, drop, OnOk};
 ghost use Rattle.std.specs.List.{list_all};
@@ -6,7 +6,7 @@ ghost use Rattle.json.specs.Print.{escape, escape_byte};
 ghost use Rattle.serde_json.specs.Data.{boolean};
 ghost use Rattle.serde_json.specs.Written.{compact_text, comma_if};
 ghost use Rattle.tk_ids.specs.Names.{is_printable};
-ghost use Rattle.tk_stream.specs.Behind.{Puts, Takes, is_escaped};
+ghost use Rattle.tk_stream.specs.Pieces.{Puts, Takes, is_escaped};
 ghost use Rattle.tk_stream.specs.Spelling as spec;
 
 use crate::text::write::pieces::put_text;
@@ -110,7 +110,7 @@ pub(crate) fn number_before<const N: usize>(
     text_before(bytes, start, text)
 }
 
-/// The same of a number or `null`.
+/// A number or `null`, with a text before it.
 #[inline(always)]
 pub(crate) fn optional_before<const N: usize>(
     bytes: &mut [u8; N],
@@ -131,7 +131,7 @@ pub(crate) fn optional_before<const N: usize>(
     }
 }
 
-/// The same of a flag.
+/// A flag, with a text before it.
 #[inline(always)]
 pub(crate) fn flag_before<const N: usize>(
     bytes: &mut [u8; N],
@@ -151,7 +151,7 @@ pub(crate) fn flag_before<const N: usize>(
     text_before(bytes, start, text)
 }
 
-/// The same of a signed number.
+/// A signed number, with a text before it.
 pub(crate) fn signed_before<const N: usize>(
     bytes: &mut [u8; N],
     at: usize,
@@ -221,7 +221,7 @@ pub(crate) fn is_escaped(byte: u8) -> bool
     byte == b'"' || byte == b'\\'
 }
 
-/// What begins at a place, put behind what is written.
+/// What begins at a place, put after what is written.
 #[inline(always)]
 pub(crate) fn put_short<const N: usize>(
     out: &mut Vec<u8>,

@@ -2,7 +2,7 @@
 ghost use Rattle.std.specs.Prelude.{◌≡◌, ◌+◌, ◌≤◌, ◌++◌, false, map, drop, OnOk};
 ghost use Rattle.serde_json.specs.View.{items_of};
 ghost use Rattle.serde_json.specs.Written.{compact_text, items_text, comma_if};
-ghost use Rattle.tk_stream.specs.Behind.{Puts, Takes};
+ghost use Rattle.tk_stream.specs.Pieces.{Puts, Takes};
 ghost use Rattle.tk_stream.specs.Spelling as spec;
 
 use crate::text::write::short::{
@@ -78,7 +78,7 @@ fn value_before<const N: usize>(bytes: &mut [u8; N], at: usize, value: AttrValue
     }
 }
 
-// The values of at most six attributes, from the last to the first, with the closing bracket behind them.
+// The values of at most six attributes, from the last to the first, with the closing bracket after them.
 fn values_before<const N: usize>(bytes: &mut [u8; N], at: usize, values: &AttrValues) -> usize
     requires { (139 ≤ at) × (at ≤ N) }
     ensures text { Takes (drop result bytes.new) (items_text false (items_of (map spec.value_data values.now))) (drop at bytes.old) }

@@ -2,7 +2,7 @@
 ghost use Rattle.std.specs.Prelude.{◌+◌, ◌≤◌, ◌++◌, false, map, drop, option_map, Some, OnOk};
 ghost use Rattle.serde_json.specs.View.{items_of};
 ghost use Rattle.serde_json.specs.Written.{compact_text, items_text, comma_if};
-ghost use Rattle.tk_stream.specs.Behind.{Puts, Takes};
+ghost use Rattle.tk_stream.specs.Pieces.{Puts, Takes};
 ghost use Rattle.tk_stream.specs.Spelling as spec;
 ghost use Rattle.tk_stream.specs.Times.{filled_from};
 
@@ -23,7 +23,7 @@ fn bucket_before<const N: usize>(bytes: &mut [u8; N], at: usize, bucket: u64, co
     number_before(bytes, start, b"[", bucket)
 }
 
-// The buckets that aren't empty, from the last to the first, with the closing bracket behind them.
+// The buckets that aren't empty, from the last to the first, with the closing bracket after them.
 fn buckets_before<const N: usize>(bytes: &mut [u8; N], at: usize, counts: &[u64; 14]) -> usize
     requires { (617 ≤ at) × (at ≤ N) }
     ensures text { Takes (drop result bytes.new) (items_text false (items_of (map spec.filled_data (filled_from 0 counts.now)))) (drop at bytes.old) }
@@ -79,13 +79,13 @@ impl Written for (TaskId, PollTimes) {
     }
 }
 
-/// The histograms that a line tells, where it tells some, behind another member.
+/// The histograms that a line tells, where it tells some, after another member.
 pub(crate) fn put_times(
     out: &mut Vec<u8>,
     scratch: &mut [u8; ROOM],
     times: &Option<Vec<(TaskId, PollTimes)>>,
 ) -> Result<(), AllocError>
-    ensures { OnOk result (Puts out.old.items out.new.items (spec.behind_text (spec.times_fields (option_map (λ v. v.items) times.now)))) }
+    ensures { OnOk result (Puts out.old.items out.new.items (spec.text_after (spec.times_fields (option_map (λ v. v.items) times.now)))) }
 {
     match times {
         Some(times) => put_list(out, scratch, times.as_slice()),
@@ -98,7 +98,7 @@ fn put_list(
     scratch: &mut [u8; ROOM],
     times: &[(TaskId, PollTimes)],
 ) -> Result<(), AllocError>
-    ensures { OnOk result (Puts out.old.items out.new.items (spec.behind_text (spec.times_fields (Some times.now)))) }
+    ensures { OnOk result (Puts out.old.items out.new.items (spec.text_after (spec.times_fields (Some times.now)))) }
 {
     put_open(out, scratch, b",\"task_times\":[", times)?;
     put_text(out, b"]")?;

@@ -3,7 +3,7 @@ ghost use Rattle.std.specs.Prelude.{◌++◌, false, map, OnOk};
 ghost use Rattle.serde_json.specs.Data.{Data};
 ghost use Rattle.serde_json.specs.View.{items_of};
 ghost use Rattle.serde_json.specs.Written.{compact_text, items_text, comma_if};
-ghost use Rattle.tk_stream.specs.Behind.{Puts, PutsOpen};
+ghost use Rattle.tk_stream.specs.Pieces.{Puts, PutsOpen};
 
 use crate::text::write::pieces::put_text;
 use crate::text::write::short::ROOM;
@@ -14,8 +14,8 @@ pub(crate) trait Written {
     /// The JSON value that stands for it.
     ghost spelling: { Self → Data };
 
-    /// Puts the value's text behind what is written, with a comma before it where another value of its list stands there.
-    /// Short texts are written in `scratch` first; what it holds before and behind the call means nothing.
+    /// Puts the value's text after what is written, with a comma before it where another value of its list stands there.
+    /// Short texts are written in `scratch` first; what it holds before and after the call means nothing.
     fn write(
         &self,
         out: &mut Vec<u8>,

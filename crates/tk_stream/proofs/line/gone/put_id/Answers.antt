@@ -1,4 +1,4 @@
-use Rattle.tk_stream.proofs.Behind.{taken, short_put}
+use Rattle.tk_stream.proofs.Pieces.{taken, short_put}
 use Rattle.tk_stream.proofs.line.gone.put_id.Goals as goal
 
 pub returns : goal.returns

@@ -1,5 +1,5 @@
 use Rattle.json.specs.Print.{escape_byte}
-use Rattle.tk_stream.proofs.Behind.{closes}
+use Rattle.tk_stream.proofs.Pieces.{closes}
 use Rattle.tk_stream.proofs.line.gone.put_lists.Goals as goal
 
 pub returns : goal.returns

@@ -1,5 +1,5 @@
 use Rattle.json.specs.Print.{escape_byte}
-use Rattle.tk_stream.proofs.Behind.{taken, taken_last}
+use Rattle.tk_stream.proofs.Pieces.{taken, taken_last}
 use Rattle.tk_stream.proofs.line.gone.take_lists.Goals as goal
 
 pub returns : goal.returns

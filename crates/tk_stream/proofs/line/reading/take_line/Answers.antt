@@ -2,7 +2,7 @@ use Rattle.std.proofs.Common.{arith}
 use Rattle.std.proofs.lemmas.List.{nil_from_length}
 use Rattle.std.specs.Fmt.{digits}
 use Rattle.json.specs.Print.{escape_byte}
-use Rattle.tk_stream.proofs.Behind.{taken, all_taken, line_split}
+use Rattle.tk_stream.proofs.Pieces.{taken, all_taken, line_split}
 use Rattle.tk_stream.proofs.line.reading.take_line.Goals as goal
 
 pub returns : goal.returns

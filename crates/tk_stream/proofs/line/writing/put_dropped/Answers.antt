@@ -1,5 +1,5 @@
 use Rattle.json.specs.Print.{escape_byte}
-use Rattle.tk_stream.proofs.Behind.{taken, short_put}
+use Rattle.tk_stream.proofs.Pieces.{taken, short_put}
 use Rattle.tk_stream.proofs.line.writing.put_dropped.Goals as goal
 
 pub returns : goal.returns

@@ -15,5 +15,5 @@ parted c =
 pub returns-clause-before : goal.returns-clause-before
 returns-clause-before c j lt = ltb-true (get_or c.args.empty.now j 0) c.args.slot ((parted c).0 j 0 (omega arith) lt)
 
-pub returns-clause-behind : goal.returns-clause-behind
-returns-clause-behind c j le lt = ltb-false (get_or c.args.empty.now j 0) c.args.slot ((parted c).1 j 0 le lt)
+pub returns-clause-after : goal.returns-clause-after
+returns-clause-after c j le lt = ltb-false (get_or c.args.empty.now j 0) c.args.slot ((parted c).1 j 0 le lt)

@@ -8,7 +8,7 @@ pub empty_before_slot-requires : goal.empty_before_slot-requires
 empty_before_slot-requires g c = subst AreRising (sym c.requires.listed) (rising 0 c.args.self.now)
 
 stands : (g : Over) (c : goal.After-empty_before_slot g) → Stands c.args.empty.now c.args.slot c.empty_before_slot.result
-stands g c = stands_at c.args.self.now c.args.empty.now c.args.slot c.empty_before_slot.result c.requires.listed c.requires.there c.empty_before_slot.ensures.within c.empty_before_slot.ensures.before c.empty_before_slot.ensures.behind
+stands g c = stands_at c.args.self.now c.args.empty.now c.args.slot c.empty_before_slot.result c.requires.listed c.requires.there c.empty_before_slot.ensures.within c.empty_before_slot.ensures.before c.empty_before_slot.ensures.after
 
 few : (g : Over) (c : goal.After-empty_before_slot g) → c.empty_before_slot.result ≤ c.args.slot
 few g c =

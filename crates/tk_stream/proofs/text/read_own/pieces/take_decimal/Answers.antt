@@ -1,4 +1,4 @@
-use Rattle.tk_stream.proofs.Behind.{first_taken, zero_taken, first_one}
+use Rattle.tk_stream.proofs.Pieces.{first_taken, zero_taken, first_one}
 use Rattle.tk_stream.proofs.text.read_own.pieces.take_decimal.Goals as goal
 
 pub returns-then-first-eq0 : goal.returns-then-first-eq0

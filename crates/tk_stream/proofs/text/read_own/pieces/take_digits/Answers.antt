@@ -1,5 +1,5 @@
 use Rattle.std.proofs.Common.{arith}
-use Rattle.tk_stream.proofs.Behind.{digit_taken}
+use Rattle.tk_stream.proofs.Pieces.{digit_taken}
 use Rattle.tk_stream.proofs.text.read_own.pieces.take_digits.Goals as goal
 
 pub loop-at-preserved : goal.loop-at-preserved

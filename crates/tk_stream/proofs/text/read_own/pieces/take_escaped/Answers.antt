@@ -1,4 +1,4 @@
-use Rattle.tk_stream.proofs.Behind.{unescapes_more, unescapes_all}
+use Rattle.tk_stream.proofs.Pieces.{unescapes_more, unescapes_all}
 use Rattle.tk_stream.proofs.text.read_own.pieces.take_escaped.Goals as goal
 
 pub returns-in-Some : goal.returns-in-Some

@@ -1,4 +1,4 @@
-use Rattle.tk_stream.proofs.Behind.{Unescapes}
+use Rattle.tk_stream.proofs.Pieces.{Unescapes}
 use Rattle.tk_stream.proofs.text.read_own.pieces.take_escaped.Given as goal
 
 abbrev pub invariant-loop : goal.invariant-loop

@@ -1,4 +1,4 @@
-use Rattle.tk_stream.proofs.Behind.{taken, name_taken}
+use Rattle.tk_stream.proofs.Pieces.{taken, name_taken}
 use Rattle.tk_stream.proofs.text.read_own.pieces.take_name.Goals as goal
 
 pub returns-in-Some-take_content : goal.returns-in-Some-take_content

@@ -1,4 +1,4 @@
-use Rattle.tk_stream.proofs.Behind.{text_taken}
+use Rattle.tk_stream.proofs.Pieces.{text_taken}
 use Rattle.tk_stream.proofs.text.read_own.pieces.take_text.Goals as goal
 
 pub returns-then-eq : goal.returns-then-eq

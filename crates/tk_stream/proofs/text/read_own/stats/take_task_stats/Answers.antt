@@ -1,5 +1,5 @@
 use Rattle.json.specs.Print.{escape_byte}
-use Rattle.tk_stream.proofs.Behind.{taken}
+use Rattle.tk_stream.proofs.Pieces.{taken}
 use Rattle.tk_stream.proofs.text.read_own.stats.take_task_stats.Goals as goal
 
 pub returns : goal.returns

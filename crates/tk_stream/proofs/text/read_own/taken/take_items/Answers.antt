@@ -1,4 +1,4 @@
-use Rattle.tk_stream.proofs.Behind.{goes_further, goes_out}
+use Rattle.tk_stream.proofs.Pieces.{goes_further, goes_out}
 use Rattle.tk_stream.proofs.text.read_own.taken.take_items.Goals as goal
 
 pub returns-in-Some-take_text : goal.returns-in-Some-take_text

@@ -1,4 +1,4 @@
-use Rattle.tk_stream.proofs.Behind.{GoesOn}
+use Rattle.tk_stream.proofs.Pieces.{GoesOn}
 use Rattle.tk_stream.proofs.text.read_own.taken.take_items.Given as goal
 
 abbrev pub invariant-loop : goal.invariant-loop

@@ -1,5 +1,5 @@
 use Rattle.json.specs.Print.{escape_byte}
-use Rattle.tk_stream.proofs.Behind.{taken_last}
+use Rattle.tk_stream.proofs.Pieces.{taken_last}
 use Rattle.tk_stream.proofs.text.read_own.times.take_times.Goals as goal
 
 pub returns : goal.returns

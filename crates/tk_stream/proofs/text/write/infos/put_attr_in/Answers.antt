@@ -1,6 +1,6 @@
 use Rattle.std.proofs.Common.{◌++◌, ap}
 use Rattle.serde_json.specs.Written.{comma_if}
-use Rattle.tk_stream.proofs.Behind.{taken, short_put, put_as}
+use Rattle.tk_stream.proofs.Pieces.{taken, short_put, put_as}
 use Rattle.tk_stream.proofs.InfoTexts.{attr_text}
 use Rattle.tk_stream.proofs.text.write.infos.put_attr_in.Goals as goal
 

@@ -1,6 +1,6 @@
 use Rattle.std.proofs.Common.{codes}
 use Rattle.serde_json.specs.Written.{comma_if}
-use Rattle.tk_stream.proofs.Behind.{open_item}
+use Rattle.tk_stream.proofs.Pieces.{open_item}
 use Rattle.tk_stream.proofs.text.write.infos.put_attrs.Goals as goal
 
 pub returns : goal.returns

@@ -1,5 +1,5 @@
 use Rattle.std.proofs.Common.{◌∷◌, ap}
-use Rattle.tk_stream.proofs.Behind.{taken, short_put, put_as}
+use Rattle.tk_stream.proofs.Pieces.{taken, short_put, put_as}
 use Rattle.tk_stream.proofs.InfoTexts.{op_text}
 use Rattle.tk_stream.proofs.text.write.infos.put_op_in.Goals as goal
 

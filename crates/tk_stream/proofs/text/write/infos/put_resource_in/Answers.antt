@@ -1,5 +1,5 @@
 use Rattle.std.proofs.Common.{◌∷◌, ap, decimal}
-use Rattle.tk_stream.proofs.Behind.{taken, short_put, put_as}
+use Rattle.tk_stream.proofs.Pieces.{taken, short_put, put_as}
 use Rattle.tk_stream.proofs.InfoTexts.{taken_place, resource_text}
 use Rattle.tk_stream.proofs.text.write.infos.put_resource_in.Goals as goal
 

@@ -1,4 +1,4 @@
-use Rattle.tk_stream.proofs.Behind.{special_before, usual_before}
+use Rattle.tk_stream.proofs.Pieces.{special_before, usual_before}
 use Rattle.tk_stream.proofs.text.write.short.byte_before.Goals as goal
 
 pub returns-then-is_escaped-clause-text : goal.returns-then-is_escaped-clause-text

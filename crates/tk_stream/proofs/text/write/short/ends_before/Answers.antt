@@ -1,4 +1,4 @@
-use Rattle.tk_stream.proofs.Behind.{ends_joined}
+use Rattle.tk_stream.proofs.Pieces.{ends_joined}
 use Rattle.tk_stream.proofs.text.write.short.ends_before.Goals as goal
 
 pub returns-clause-text : goal.returns-clause-text

@@ -1,6 +1,6 @@
 use Rattle.std.proofs.Common.{◌+◌, ◌-◌, ◌≤◌, drop, length}
 use Rattle.json.specs.Print.{escape}
-use Rattle.tk_stream.specs.Behind.{Takes}
+use Rattle.tk_stream.specs.Pieces.{Takes}
 use Rattle.tk_stream.proofs.text.write.short.escaped_before.Given as goal
 
 -- the bytes from `left` on are written

@@ -1,5 +1,5 @@
 use Rattle.std.proofs.Common.{◌-◌, take, arith, length-take-le}
-use Rattle.tk_stream.proofs.Behind.{stored_before}
+use Rattle.tk_stream.proofs.Pieces.{stored_before}
 use Rattle.tk_stream.proofs.text.write.short.front_before.Goals as goal
 
 pub returns-clause-text : goal.returns-clause-text

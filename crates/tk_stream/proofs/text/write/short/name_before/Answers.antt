@@ -1,4 +1,4 @@
-use Rattle.tk_stream.proofs.Behind.{plain_before}
+use Rattle.tk_stream.proofs.Pieces.{plain_before}
 use Rattle.tk_stream.proofs.text.write.short.name_before.Goals as goal
 
 pub returns-then-is_plain-clause-text : goal.returns-then-is_plain-clause-text

@@ -6,9 +6,9 @@ use Rattle.std.proofs.lemmas.Option.{slice_get_within, get_or_from_slice_get}
 use Rattle.serde_json.specs.View.{items_of}
 use Rattle.serde_json.specs.Written.{compact_text, items_text}
 use Rattle.tk_ids.specs.declared.attr.AttrValue.{AttrValue}
-use Rattle.tk_stream.specs.Behind.{Takes}
+use Rattle.tk_stream.specs.Pieces.{Takes}
 use Rattle.tk_stream.specs.Spelling.{value_data}
-use Rattle.tk_stream.proofs.Behind.{taken_from}
+use Rattle.tk_stream.proofs.Pieces.{taken_from}
 use Rattle.tk_stream.proofs.text.write.stats.values_before.Goals as goal
 
 first_put : (old new : List ℕ) (at start left : ℕ) (values : List AttrValue) → length values ≤ left → start + 1 ≡ at → Takes (drop start new) (93 ∷ []) (drop at old)
@@ -24,10 +24,10 @@ loop-left-init g c =
     (omega (arith, c.len-left.ensures.length), omega arith, omega (arith, c.len-left.ensures.length), first_put c.args.bytes.now c.text_before-start.new.bytes c.args.at c.text_before-start.result c.len-left.result c.args.values.now (omega (arith, c.len-left.ensures.length)) c.text_before-start.ensures.place c.text_before-start.ensures.text)
 
 -- a value and the comma before it, where others come before
-value_put : {bytes middle behind rest : List ℕ} (left : ℕ) (value : AttrValue) (values : List AttrValue) → 0 < left - 1 → slice_get values (left - 1) ≡ Some value
-    → Takes bytes (44 ∷ []) middle → Takes middle (compact_text (value_data value)) behind → Takes behind (items_text (nat_lt 0 left) (items_of (map value_data (drop left values)))) rest
+value_put : {bytes middle after rest : List ℕ} (left : ℕ) (value : AttrValue) (values : List AttrValue) → 0 < left - 1 → slice_get values (left - 1) ≡ Some value
+    → Takes bytes (44 ∷ []) middle → Takes middle (compact_text (value_data value)) after → Takes after (items_text (nat_lt 0 left) (items_of (map value_data (drop left values)))) rest
     → Takes bytes (items_text (nat_lt 0 (left - 1)) (items_of (map value_data (drop (left - 1) values)))) rest
-value_put {bytes} {middle} {behind} {rest} left value values more is comma text others =
+value_put {bytes} {middle} {after} {rest} left value values more is comma text others =
     let next : left - 1 + 1 ≡ left = omega arith in
     let split : drop (left - 1) values ≡ value ∷ drop left values =
     drop_more values (left - 1) value (slice_get_within values (left - 1) value is)

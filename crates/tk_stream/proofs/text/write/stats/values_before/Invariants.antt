@@ -2,7 +2,7 @@ use Rattle.std.proofs.Common.{◌+◌, ◌*◌, ◌-◌, ◌≤◌, drop, length
 use Rattle.std.specs.Prelude.{map, nat_lt}
 use Rattle.serde_json.specs.View.{items_of}
 use Rattle.serde_json.specs.Written.{items_text}
-use Rattle.tk_stream.specs.Behind.{Takes}
+use Rattle.tk_stream.specs.Pieces.{Takes}
 use Rattle.tk_stream.specs.Spelling.{value_data}
 use Rattle.tk_stream.proofs.text.write.stats.values_before.Given as goal
 

@@ -1,4 +1,4 @@
-use Rattle.tk_stream.proofs.Behind.{taken, short_put}
+use Rattle.tk_stream.proofs.Pieces.{taken, short_put}
 use Rattle.tk_stream.proofs.text.write.stats.write_counts.Goals as goal
 
 pub returns : goal.returns

@@ -3,10 +3,10 @@ use Rattle.std.specs.Prelude.{map, false}
 use Rattle.std.proofs.lemmas.List.{drop_all}
 use Rattle.serde_json.specs.View.{items_of}
 use Rattle.serde_json.specs.Written.{items_text}
-use Rattle.tk_stream.specs.Behind.{Takes}
+use Rattle.tk_stream.specs.Pieces.{Takes}
 use Rattle.tk_stream.specs.Spelling.{filled_data}
 use Rattle.tk_stream.specs.Times.{filled_from}
-use Rattle.tk_stream.proofs.Behind.{taken_from}
+use Rattle.tk_stream.proofs.Pieces.{taken_from}
 use Rattle.tk_stream.proofs.TimesLemmas.{has_some}
 use Rattle.tk_stream.proofs.text.write.times.buckets_before.Goals as goal
 

@@ -2,7 +2,7 @@ use Rattle.std.proofs.Common.{◌≡◌, ◌+◌, ◌*◌, ◌-◌, ◌≤◌, d
 use Rattle.std.specs.Prelude.{map}
 use Rattle.serde_json.specs.View.{items_of}
 use Rattle.serde_json.specs.Written.{items_text}
-use Rattle.tk_stream.specs.Behind.{Takes}
+use Rattle.tk_stream.specs.Pieces.{Takes}
 use Rattle.tk_stream.specs.Spelling.{filled_data}
 use Rattle.tk_stream.specs.Times.{filled_from}
 use Rattle.tk_stream.proofs.TimesLemmas.{has_some}

@@ -1,4 +1,4 @@
-use Rattle.tk_stream.proofs.Behind.{item_put, items_open}
+use Rattle.tk_stream.proofs.Pieces.{item_put, items_open}
 use Rattle.tk_stream.proofs.text.write.written.put_items.Goals as goal
 
 pub loop-item-preserved : goal.loop-item-preserved

@@ -1,7 +1,7 @@
 use Rattle.std.proofs.Common.{◌≡◌, sym, ap, ◌∙◌}
 use Rattle.json.specs.Print.{escape_byte}
 use Rattle.tk_stream.specs.Times.{filled_from, counts_from}
-use Rattle.tk_stream.proofs.Behind.{taken}
+use Rattle.tk_stream.proofs.Pieces.{taken}
 use Rattle.tk_stream.proofs.TimesLemmas.{all_of_filled}
 use Rattle.tk_stream.proofs.text.read_own.times.Tuple2TaskIdPollTimesTaken.take.Goals as goal
 

@@ -1,6 +1,6 @@
 use Rattle.std.proofs.Common.{◌++◌, ap}
 use Rattle.serde_json.specs.Written.{comma_if}
-use Rattle.tk_stream.proofs.Behind.{closes_item, put_as}
+use Rattle.tk_stream.proofs.Pieces.{closes_item, put_as}
 use Rattle.tk_stream.proofs.InfoTexts.{resource_split}
 use Rattle.tk_stream.proofs.text.write.infos.ResourceInfoWritten.write.Goals as goal
 

@@ -2,7 +2,7 @@ use Rattle.std.proofs.Common.{◌≡◌, ◌++◌, ◌∷◌, [], map, drop, ◌
 use Rattle.std.specs.Prelude.{option_map}
 use Rattle.tk_stream.specs.Fronts.{as_told}
 use Rattle.tk_stream.proofs.FrontLemmas.{keeps_told, goes_on_infos, infos_done, infos_are}
-use Rattle.tk_stream.proofs.line.between.infos_behind.Goals as goal
+use Rattle.tk_stream.proofs.line.between.infos_after.Goals as goal
 
 pub loop-i-preserved : goal.loop-i-preserved
 loop-i-preserved g c =

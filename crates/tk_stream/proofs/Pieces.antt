@@ -1,4 +1,4 @@
--- Pieces of a text, one behind the other.
+-- Pieces of a text, one after the other.
 use Rattle.std.proofs.Common.{◌≡◌, ℕ, ◌+◌, ◌-◌, ◌*◌, ◌/◌, ◌%◌, ◌^◌, ◌<◌, ◌≤◌, decimal, List, [], ◌∷◌, ◌++◌, length, drop, take, get_or, Bool, true, false, refl, sym, ap, ◌∙◌, append_assoc, append-nil, codes, inl, inr, arith, true≢false}
 use Rattle.std.specs.Prelude.{map, ◌&&◌, nat_le}
 use Rattle.std.specs.Bool.{OnTrue}
@@ -20,29 +20,29 @@ use Rattle.serde_json.specs.Data.{Data}
 use Rattle.serde_json.specs.View.{items_of}
 use Rattle.serde_json.specs.Written.{compact_text, items_text, members_text, comma_if}
 use Rattle.tk_ids.specs.Names.{is_name, is_printable}
-use Rattle.tk_stream.specs.Behind.{Puts, PutsOpen, Takes, is_escaped, is_plain}
+use Rattle.tk_stream.specs.Pieces.{Puts, PutsOpen, Takes, is_escaped, is_plain}
 use Rattle.tk_stream.specs.Lines.{LineView, version}
-use Rattle.tk_stream.specs.Spelling.{members_in, behind_text, gone_members, members_between, times_fields, number_data, dropped_data, line_data, line_text}
+use Rattle.tk_stream.specs.Spelling.{members_in, text_after, gone_members, members_between, times_fields, number_data, dropped_data, line_data, line_text}
 
 -- ---- writing
 
 -- a piece was put, and more is to come
-pub behind : {old new piece : List ℕ} → Puts old new piece → (more : List ℕ) → new ++ more ≡ old ++ (piece ++ more)
-behind {old} {new} {piece} h more = ap (λ xs. xs ++ more) h.is ∙ append_assoc old piece more
+pub puts_more : {old new piece : List ℕ} → Puts old new piece → (more : List ℕ) → new ++ more ≡ old ++ (piece ++ more)
+puts_more {old} {new} {piece} h more = ap (λ xs. xs ++ more) h.is ∙ append_assoc old piece more
 
 -- the last piece was put
 pub last : {old new piece : List ℕ} → Puts old new piece → new ≡ old ++ (piece ++ [])
-last {old} {new} {piece} h = sym (append-nil new) ∙ behind h []
+last {old} {new} {piece} h = sym (append-nil new) ∙ puts_more h []
 
 -- two pieces were put
 pub both : {a b c p q : List ℕ} → Puts a b p → Puts b c q → Puts a c (p ++ q)
-both {a} {b} {c} {p} {q} g h = record { is = h.is ∙ behind g q }
+both {a} {b} {c} {p} {q} g h = record { is = h.is ∙ puts_more g q }
 
 -- the last of some pieces was put
 pub at_end : {old new piece : List ℕ} → Puts old new piece → Puts old new (piece ++ [])
 at_end {old} {new} {piece} h = record { is = h.is ∙ ap (λ xs. old ++ xs) (sym (append-nil piece)) }
 
--- a text was written before the end of an array, and put behind what was written
+-- a text was written before the end of an array, and put after what was written
 pub short_put : {old new bytes text : List ℕ} {n : ℕ} (array : List ℕ) → length array ≡ n → Puts old new bytes → Takes bytes text (drop n array) → Puts old new text
 short_put {old} {new} {bytes} {text} {n} array is put took =
     record { is = put.is ∙ ap (λ xs. old ++ xs) (took.is ∙ ap (λ xs. text ++ xs) (drop_all n array (omega arith)) ∙ append-nil text) }
@@ -52,7 +52,7 @@ pub taken_from : (start at : ℕ) (piece old new : List ℕ) → start + length 
 taken_from start at piece old new place took =
     ap (λ n. drop n new) (sym place) ∙ sym (drop-drop (length piece) start new) ∙ ap (λ xs. drop (length piece) xs) took.is ∙ drop-append_seam piece (drop at old)
 
--- what was written and what is put behind it are the text
+-- what was written and what is put after it are the text
 pub record Joined (bytes more text : List ℕ) : Type 0 where
   pub is : bytes ++ more ≡ text
 
@@ -67,21 +67,21 @@ before {bytes} {piece} {rest} {more} {text} took joined =
 -- these pieces were put, and then more
 pub short_both : {old middle new bytes more text : List ℕ} → Puts old middle bytes → Joined bytes more text → Puts middle new more → Puts old new text
 short_both {old} {middle} {new} {bytes} {more} {text} put joined later =
-    record { is = later.is ∙ behind put more ∙ ap (λ xs. old ++ xs) joined.is }
+    record { is = later.is ∙ puts_more put more ∙ ap (λ xs. old ++ xs) joined.is }
 
 -- a text that is spelled in other pieces
 pub put_as : {old new text pieces : List ℕ} → text ≡ pieces → Puts old new pieces → Puts old new text
 put_as {old} is put = record { is = put.is ∙ ap (λ xs. old ++ xs) (sym is) }
 
--- a text was put with what a value begins with, and a list behind it
-pub open_behind : {old middle new before text : List ℕ} → Puts old middle before → PutsOpen middle new text → PutsOpen old new (before ++ text)
-open_behind {old} {middle} {new} {before} {text} put opened =
+-- a text was put with what a value begins with, and a list after it
+pub open_after : {old middle new before text : List ℕ} → Puts old middle before → PutsOpen middle new text → PutsOpen old new (before ++ text)
+open_after {old} {middle} {new} {before} {text} put opened =
     record { is = opened.is ∙ ap (λ xs. xs ++ text) put.is ∙ append_assoc old before text }
 
 -- the same, where a comma may stand before both
 pub open_item : {old middle new text : List ℕ} (comma before : List ℕ) → Puts old middle (comma ++ before) → PutsOpen middle new text → PutsOpen old new (comma ++ (before ++ text))
 open_item {old} {middle} {new} {text} comma before put opened =
-    record { is = (open_behind put opened).is ∙ ap (λ xs. old ++ xs) (append_assoc comma before text) }
+    record { is = (open_after put opened).is ∙ ap (λ xs. old ++ xs) (append_assoc comma before text) }
 
 -- the next text closes the list
 pub closes : {old middle new text more : List ℕ} → PutsOpen old middle text → Puts middle new (93 ∷ more) → Puts old new (text ++ more)
@@ -98,7 +98,7 @@ pub item_put : {A : Type 0} (f : A → Data) (list : List A) (i : ℕ) (later : 
     → out ++ items_text later (items_of (map f (drop i list))) ≡ total
     → next ++ items_text true (items_of (map f (drop (i + 1) list))) ≡ total
 item_put f list i later item out next total lt is put so_far =
-    behind put _
+    puts_more put _
     ∙ ap (λ xs. out ++ xs) (append_assoc (comma_if later) (compact_text (f item)) _)
     ∙ sym (ap (λ xs. out ++ items_text later (items_of (map f xs))) (drop_more list i item lt ∙ ap (λ x. x ∷ drop (i + 1) list) (sym is)))
     ∙ so_far
@@ -109,15 +109,15 @@ pub items_open : {A : Type 0} (f : A → Data) (list : List A) (i : ℕ) (later 
 items_open f list i later out total past so_far =
     sym (ap (λ xs. out ++ items_text later (items_of (map f xs))) (drop_all i list past)) ∙ so_far
 
--- members that stand behind others
-pub behind_members : (fs gs : List (List ℕ × Data)) → members_text true (members_in (fs ++ gs)) ≡ behind_text fs ++ members_text true (members_in gs)
-behind_members [] gs = refl
-behind_members (f ∷ fs) gs =
-    ap (λ xs. 44 ∷ (quoted f.0 ++ 58 ∷ (compact_text f.1 ++ xs))) (behind_members fs gs)
-    ∙ ap (λ xs. 44 ∷ (quoted f.0 ++ 58 ∷ xs)) (sym (append_assoc (compact_text f.1) (behind_text fs) (members_text true (members_in gs))))
-    ∙ ap (λ xs. 44 ∷ xs) (sym (append_assoc (quoted f.0) (58 ∷ (compact_text f.1 ++ behind_text fs)) (members_text true (members_in gs))))
+-- members that stand after others
+pub members_after : (fs gs : List (List ℕ × Data)) → members_text true (members_in (fs ++ gs)) ≡ text_after fs ++ members_text true (members_in gs)
+members_after [] gs = refl
+members_after (f ∷ fs) gs =
+    ap (λ xs. 44 ∷ (quoted f.0 ++ 58 ∷ (compact_text f.1 ++ xs))) (members_after fs gs)
+    ∙ ap (λ xs. 44 ∷ (quoted f.0 ++ 58 ∷ xs)) (sym (append_assoc (compact_text f.1) (text_after fs) (members_text true (members_in gs))))
+    ∙ ap (λ xs. 44 ∷ xs) (sym (append_assoc (quoted f.0) (58 ∷ (compact_text f.1 ++ text_after fs)) (members_text true (members_in gs))))
 
--- members and what stands behind them
+-- members and what stands after them
 abbrev pub members_then : List (List ℕ × Data) → List ℕ → List ℕ
 members_then [] more = more
 members_then (f ∷ fs) more = 44 ∷ (quoted f.0 ++ 58 ∷ (compact_text f.1 ++ members_then fs more))
@@ -132,14 +132,14 @@ last_members l = times_fields l.task_times ++ (codes "v", number_data (version l
 
 -- the text of a line: its first member, what is gone, what each version has, the histograms, and the version
 pub line_split : (l : LineView) → line_text l
-    ≡ codes "{\"dropped\":" ++ (compact_text (dropped_data l.dropped) ++ (behind_text (gone_members l.gone)
-    ++ members_then (members_between l) (behind_text (times_fields l.task_times) ++ members_text true (members_in ((codes "v", number_data (version l)) ∷ [])))))
+    ≡ codes "{\"dropped\":" ++ (compact_text (dropped_data l.dropped) ++ (text_after (gone_members l.gone)
+    ++ members_then (members_between l) (text_after (times_fields l.task_times) ++ members_text true (members_in ((codes "v", number_data (version l)) ∷ [])))))
 unfolding line_text line_data escape_byte
 line_split l =
     ap (λ xs. codes "{\"dropped\":" ++ (compact_text (dropped_data l.dropped) ++ xs))
-    (behind_members (gone_members l.gone) (members_between l ++ last_members l)
-    ∙ ap (λ xs. behind_text (gone_members l.gone) ++ xs) (then_members (members_between l) (last_members l)
-    ∙ ap (members_then (members_between l)) (behind_members (times_fields l.task_times) ((codes "v", number_data (version l)) ∷ []))))
+    (members_after (gone_members l.gone) (members_between l ++ last_members l)
+    ∙ ap (λ xs. text_after (gone_members l.gone) ++ xs) (then_members (members_between l) (last_members l)
+    ∙ ap (members_then (members_between l)) (members_after (times_fields l.task_times) ((codes "v", number_data (version l)) ∷ []))))
 
 -- two pieces were taken
 pub taken : {a b c p q : List ℕ} → Takes a p b → Takes b q c → Takes a (p ++ q) c
