@@ -117,15 +117,15 @@ pub record TellOf (settings : Settings) (told : List Told) (due : List Due) (kep
   pub stream : GoesOn empty_tables 0 sent
 
 -- what came of commands
-abbrev pub CameOf : Settings → Course → List Bool → List Sending → Type 0
-CameOf settings c kept sent = TellOf settings c.told c.due kept sent
+abbrev pub IsStreamOf : Settings → Course → List Bool → List Sending → Type 0
+IsStreamOf settings c kept sent = TellOf settings c.told c.due kept sent
 
 -- the text stops none of the lines, no block is open after them, and this came of them
-pub record Ran (settings : Settings) (ls : List Line) (sent : List Sending) : Type 0 where
+pub record RunsThrough (settings : Settings) (ls : List Line) (sent : List Sending) : Type 0 where
   pub goes : AllGo start_of_all (enumerate_from 1 ls)
   pub closed : (course_of ls).block ≡ None
   pub kept : List Bool
-  pub came : CameOf settings (course_of ls) kept sent
+  pub came : IsStreamOf settings (course_of ls) kept sent
 
 -- the bytes of lines from number 1
 abbrev pub written_by : List Sending → List ℕ
