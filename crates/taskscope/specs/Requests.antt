@@ -75,9 +75,21 @@ long_poll_option = record (new_rule (codes "long-poll")) {
 abbrev pub polls_command : Text → App
 polls_command name = with_rule (view_command name) long_poll_option
 
+-- a command that explains a fault where it is asked to
+abbrev pub explaining : App → App
+explaining command = with_rule command (flag_option (codes "explain"))
+
+-- the command that runs a script
+abbrev pub run_command : App
+run_command = explaining (reading_command (codes "run"))
+
 -- the command that writes the report, with histograms where they are asked for
 abbrev pub report_command : App
-report_command = with_rule (polls_command (codes "view")) (flag_option (codes "times"))
+report_command = explaining (with_rule (polls_command (codes "view")) (flag_option (codes "times")))
+
+-- the command that writes the warnings
+abbrev pub lint_command : App
+lint_command = explaining (polls_command (codes "lint"))
 
 -- the command that watches a stream, with the options of what its screens show
 abbrev pub shows_command : App
@@ -117,9 +129,9 @@ bare = requiring (versioned (new_app (codes "taskscope")))
 -- `run`, `view` and `lint`
 abbrev pub first_words : App
 first_words =
-    let runs = with_subcommand bare (reading_command (codes "run")).top in
+    let runs = with_subcommand bare run_command.top in
     let views = with_subcommand runs report_command.top in
-    with_subcommand views (polls_command (codes "lint")).top
+    with_subcommand views lint_command.top
 
 -- the program as a parse of its words reads it: these, `page`, `watch`, `metrics` and `demo`
 abbrev pub program : App
@@ -278,6 +290,13 @@ to_in = option_and_then (λ command. text_at (codes "to") command.1)
 
 abbrev pub to_of : List Text → Option Text
 to_of words = to_in (subcommand_of program words)
+
+-- the words ask that a fault is explained
+abbrev pub explains_in : Option (Text × List Row) → Bool
+explains_in command = option_map_or (λ c. flag_at (codes "explain") c.1) command false
+
+abbrev pub explains : List Text → Bool
+explains words = explains_in (subcommand_of program words)
 
 -- what the words read
 abbrev pub texts : {Z : Type 0} → List (String Z) → List (List ℕ)
