@@ -317,7 +317,7 @@ const FOLLOW_INTO_HELP: &str =
 const EXPLAIN: &str = "explain";
 
 const EXPLAIN_HELP: &str =
-    "Tells below a fault the line, and the rule that it breaks, and what an output without lines lacks";
+    "Tells below a fault its line and the rule that this breaks, and else what was left out";
 
 const FILE: &str = "FILE";
 

@@ -42,17 +42,17 @@ fn explain_silence<W: Write>(script: &[u8], out: &mut W) -> io::Result<()> {
     }
     writeln!(
         out,
-        "  {commands} commands, and no publish or snapshot: nothing was written"
+        "  commands: {commands}, of which none is `publish` or `snapshot`: nothing was written"
     )
 }
 
 // The rule of a line that only blocks have.
 fn block_rule(said: BlockSaid, in_block: bool, is_last: bool) -> &'static str {
     match said {
-        BlockSaid::Opens if in_block => "a block is open: join closes it",
+        BlockSaid::Opens if in_block => "a block is open: `join` closes it",
         BlockSaid::Opens => "the block is not joined",
-        BlockSaid::Joins => "no block is open: par opens one",
-        BlockSaid::Works(_, _) if !in_block => "no block is open: par opens one",
+        BlockSaid::Joins => "no block is open: `par` opens one",
+        BlockSaid::Works(_, _) if !in_block => "no block is open: `par` opens one",
         BlockSaid::Works(_, _) if is_last => {
             "the block is not joined, or the waker has lines of the other thread"
         }
@@ -64,10 +64,9 @@ fn block_rule(said: BlockSaid, in_block: bool, is_last: bool) -> &'static str {
 fn tell_no_command<W: Write>(alloc: Global, line: &[u8], out: &mut W) -> io::Result<()> {
     let word = word_of(line);
     let Some(shape) = shape_of(word) else {
-        return writeln!(
-            out,
-            "  its first word is no command: taskscope run --help has them"
-        );
+        write!(out, "  `")?;
+        show_line(Pieces::new(line, b' ').next().unwrap_or(line), out)?;
+        return writeln!(out, "` is no command: `taskscope run --help` has them all");
     };
     match command_of(alloc, line) {
         Ok(Some(_)) => writeln!(
@@ -98,7 +97,7 @@ fn tell_bad_command<W: Write>(
     }
     writeln!(
         out,
-        "  in a block stand lines of its threads, as 1 wake WAKER MOMENT, and join"
+        "  in a block stand lines of its threads, as `1 wake WAKER MOMENT`, and `join`"
     )
 }
 

@@ -27,7 +27,7 @@ fn explain_rest<R, W: Write>(stream: &Kept<R>, out: &mut W) -> io::Result<()> {
     if rest > 0 {
         return writeln!(
             out,
-            "  the last {rest} bytes have no line end, and were left out"
+            "  bytes after the last line end, which were left out: {rest}"
         );
     }
     if stream.lines_before() == 0 {
@@ -57,7 +57,7 @@ fn explain_fault<R, W: Write>(
     let rule = fault_rule(fault, lines);
     writeln!(out, "  {rule}")?;
     if fault == Fault::BadJson && is_of_script(line) {
-        return writeln!(out, "  it looks like a script, which taskscope run takes");
+        return writeln!(out, "  it looks like a script, which `taskscope run` takes");
     }
     Ok(())
 }
