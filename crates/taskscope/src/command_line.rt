@@ -444,7 +444,8 @@ fn run_command<'a>(alloc: Global) -> Result<Command<'a>, Error>
     ensures err { IfErr result (λ e. kind_of e ≡ ErrorKind.OutOfMemory) }
 {
     let explain = flag_arg(alloc, EXPLAIN, EXPLAIN_HELP);
-    Ok(reading_command(alloc, "run", RUN_ABOUT, RUN_LONG_ABOUT)?.arg(explain)?)
+    let run = reading_command(alloc, "run", RUN_ABOUT, RUN_LONG_ABOUT)?;
+    Ok(run.arg(explain)?)
 }
 
 // The report, with histograms where they are asked for.
@@ -469,7 +470,8 @@ fn lint_command<'a>(alloc: Global) -> Result<Command<'a>, Error>
     ensures err { IfErr result (λ e. kind_of e ≡ ErrorKind.OutOfMemory) }
 {
     let explain = flag_arg(alloc, EXPLAIN, EXPLAIN_HELP);
-    Ok(polls_command(alloc, "lint", LINT_ABOUT, LINT_LONG_ABOUT)?.arg(explain)?)
+    let lint = polls_command(alloc, "lint", LINT_ABOUT, LINT_LONG_ABOUT)?;
+    Ok(lint.arg(explain)?)
 }
 
 // What a screen shows.

@@ -8,10 +8,10 @@ use Rattle.tk_ids.specs.declared.attr.AttrInfo.{AttrInfo}
 use Rattle.tk_ids.specs.declared.attr.AttrValue.{AttrValue}
 use Rattle.tk_ids.specs.declared.attr.AttrValue.TheVariants.{U64, Bool as Flag, I64}
 use Rattle.tk_ids.specs.declared.spec.TaskKind.{TaskKind}
-use Rattle.tk_ids.specs.declared.spec.TaskKind.TheVariants.{Spawn, Blocking}
 use Rattle.tk_core.specs.declared.op.row.OpRow.{OpRow}
 use Rattle.tk_core.specs.declared.resource.row.ResourceRow.{ResourceRow}
 use Rattle.tk_core.specs.declared.task.row.TaskRow.{TaskRow}
+use Rattle.tk_stream.specs.Spelling.{kind_text}
 use Rattle.tk_stream.specs.declared.tables.op.Op.{Op}
 use Rattle.tk_stream.specs.declared.tables.resource.Resource.{Resource}
 use Rattle.tk_stream.specs.declared.tables.task.Task.{Task}
@@ -41,11 +41,6 @@ heading tables = line (codes "now") (decimal tables.now
 
 -- ---- tasks
 
--- the kind of a task
-abbrev pub kind_word : TaskKind → List ℕ
-kind_word Spawn = codes "spawn"
-kind_word Blocking = codes "blocking"
-
 -- the first that holds of a task: it is closed, being polled, scheduled; else it is idle
 abbrev pub task_state : TaskRow → List ℕ
 task_state x =
@@ -55,7 +50,7 @@ task_state x =
 
 -- the line of a task
 abbrev pub task_line : Task → List ℕ
-task_line t = line (codes "task") (id_text t.info.id ∷ kind_word t.info.kind ∷ task_state t.row
+task_line t = line (codes "task") (id_text t.info.id ∷ kind_text t.info.kind ∷ task_state t.row
     ∷ codes "polls" ∷ decimal t.row.polls
     ∷ codes "wakes" ∷ decimal t.row.wakes
     ∷ codes "self" ∷ decimal t.row.self_wakes

@@ -3,11 +3,12 @@ ghost use Rattle.std.specs.Prelude.{◌≡◌, ◌++◌, ◌∷◌, [], codes, d
 ghost use Rattle.tk_report.specs.Pieces.{Puts};
 ghost use Rattle.tk_report.specs.Report as spec;
 
+use crate::words::{kind_word, op_state, run_time, task_state};
 use std::alloc::AllocError;
 use std::fmt::{Display, Write};
 use tk_client::{Warning, WarningKind};
-use tk_core::{OpRow, ResourceRow, TaskRow};
-use tk_ids::{AttrInfo, AttrValue, Dropped, Name, TaskId, TaskKind};
+use tk_core::{ResourceRow, TaskRow};
+use tk_ids::{AttrInfo, AttrValue, Dropped, Name, TaskId};
 use tk_stream::{Op, Resource, Tables, Task};
 
 /// Puts a text and a value.
@@ -36,29 +37,6 @@ pub(crate) fn put_heading(out: &mut String, tables: &Tables) -> Result<(), Alloc
         ops,
     } = tables.dropped();
     writeln!(out, "now {now} dropped {tasks} {resources} {ops}")
-}
-
-fn kind_word(kind: TaskKind) -> &'static str
-    ensures { result.now ≡ spec.kind_word kind }
-{
-    match kind {
-        TaskKind::Spawn => "spawn",
-        TaskKind::Blocking => "blocking",
-    }
-}
-
-fn task_state(row: &TaskRow) -> &'static str
-    ensures { result.now ≡ spec.task_state row.now }
-{
-    if row.dropped.is_some() {
-        "closed"
-    } else if row.polling {
-        "polling"
-    } else if row.scheduled {
-        "scheduled"
-    } else {
-        "idle"
-    }
 }
 
 /// The line of a task.
@@ -173,18 +151,6 @@ fn put_resource_line(
     Ok(())
 }
 
-fn op_state(row: &OpRow) -> &'static str
-    ensures { result.now ≡ spec.op_state row.now }
-{
-    if row.dropped.is_some() {
-        "closed"
-    } else if row.polling {
-        "polling"
-    } else {
-        "idle"
-    }
-}
-
 fn put_polled_by(out: &mut String, task: Option<TaskId>) -> Result<(), AllocError>
     ensures { OnOk result (Puts (string_bytes out.old) (string_bytes out.new) (codes " task " ++ spec.polled_by task)) }
 {
@@ -220,16 +186,6 @@ fn put_op_line(out: &mut String, op: &Op) -> Result<(), AllocError>
     put(out, " source ", &info.source)?;
     put_end(out)?;
     Ok(())
-}
-
-// For how long a poll has run, where one started.
-fn run_time(now: u64, started: Option<u64>) -> u64
-    ensures { result ≡ spec.run_time now started }
-{
-    match started {
-        Some(started) => now.saturating_sub(started),
-        None => 0,
-    }
 }
 
 fn put_run_time(out: &mut String, time: u64) -> Result<(), AllocError>
