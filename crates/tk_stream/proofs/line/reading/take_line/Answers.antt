@@ -7,7 +7,7 @@ use Rattle.tk_stream.proofs.line.reading.take_line.Goals as goal
 
 pub returns : goal.returns
 unfolding escape_byte digits
-returns c = rw line_split (all_taken (
+returns c = rw (c.of_parts.ensures, line_split) (all_taken (
     (taken c.in-Some.ensures
     (taken (rw c.in-Some-2.is at c.in_ok-value.ensures)
     (taken (rw c.in-Some-3.is at c.in_ok-value-2.ensures)
