@@ -195,26 +195,28 @@ sound_long_poll again values rows good none =
     rw one.1 (good_at (codes "long-poll") (more_values CommandLine (one.0 ∷ [])) (new_row (codes "long-poll") CommandLine one.0 ∷ []) (without (codes "long-poll") rows)
     (good_at (codes "long-poll") (λ _. []) [] rows good (λ r g. tt) tt) (good_more CommandLine (one.0 ∷ [])) (new_long_poll one.0, tt))
 
-abbrev times_rule : Rule
-times_rule = with_index 1 (filled (flag_option (codes "times")))
-
 -- where no value is wanted, one is too many
 no_values : (n : ℕ) → range_kinds 0 0 (suc n) ≡ WrongNumberOfValues ∷ []
 no_values n = rw (ne_eqb 0 (suc n) (λ e. omega (arith, e))) refl
 
--- a use of a flag has no value
-times_use : (again : Bool) (values : List Text) (rows : List Row) → use_fault again times_rule values rows ≡ [] → values ≡ []
-times_use again [] rows none = refl
-times_use again (v ∷ vs) rows none = absurd (some_kind _ _ (sym (no_values (length vs)) ∙ first_none _ _ none))
+-- a flag is no option of lints
+module _ (name : Text) (no_percent : bytes_eq name percent_id ≡ false) (no_limit : bytes_eq name limit_id ≡ false) where
+  abbrev flag_rule : Rule
+  flag_rule = with_index 1 (filled (flag_option name))
 
-new_times : (s : ValueSource) (v : Text) → IsGood (new_row (codes "times") s v)
-new_times s v = (λ is. absurd (true≢false (sym is)), λ is. absurd (true≢false (sym is)))
+  -- a use of it has no value
+  flag_use : (again : Bool) (values : List Text) (rows : List Row) → use_fault again flag_rule values rows ≡ [] → values ≡ []
+  flag_use again [] rows none = refl
+  flag_use again (v ∷ vs) rows none = absurd (some_kind _ _ (sym (no_values (length vs)) ∙ first_none _ _ none))
 
-sound_times : Sound times_rule
-sound_times again values rows good none =
-    let there : List Text = codes "true" ∷ [] in
-    rw (times_use again values rows none) (good_at (codes "times") (more_values CommandLine there) (new_row (codes "times") CommandLine (codes "true") ∷ [])
-    (without (codes "times") rows) (good_at (codes "times") (λ _. []) [] rows good (λ r g. tt) tt) (good_more CommandLine there) (new_times CommandLine (codes "true"), tt))
+  new_flag : (s : ValueSource) (v : Text) → IsGood (new_row name s v)
+  new_flag s v = (λ is. absurd (true≢false (sym is ∙ no_percent)), λ is. absurd (true≢false (sym is ∙ no_limit)))
+
+  sound_flag : Sound flag_rule
+  sound_flag again values rows good none =
+      let there : List Text = codes "true" ∷ [] in
+      rw (flag_use again values rows none) (good_at name (more_values CommandLine there) (new_row name CommandLine (codes "true") ∷ [])
+      (without name rows) (good_at name (λ _. []) [] rows good (λ r g. tt) tt) (good_more CommandLine there) (new_flag CommandLine (codes "true"), tt))
 
 -- the arguments of a command that has lints, and others
 abbrev ruled_by : List Rule → List Rule
@@ -230,11 +232,17 @@ sound_rules more sound = (
 abbrev page_rules : List Rule
 page_rules = with_index 1 (filled help_rule) ∷ []
 
+abbrev times_rule : Rule
+times_rule = flag_rule (codes "times") refl refl
+
+abbrev explain_rule : Rule
+explain_rule = flag_rule (codes "explain") refl refl
+
 abbrev lint_rules : List Rule
-lint_rules = long_poll_rule ∷ page_rules
+lint_rules = long_poll_rule ∷ explain_rule ∷ page_rules
 
 abbrev view_rules : List Rule
-view_rules = long_poll_rule ∷ times_rule ∷ page_rules
+view_rules = long_poll_rule ∷ times_rule ∷ explain_rule ∷ page_rules
 
 -- ---- the walk keeps rows good
 
@@ -464,22 +472,28 @@ all_keep (a ∷ more) keep rows numbers = all_keep more keep.1 (with_default row
 keeps_without : (id : Text) (rows : List Row) → HaveNumbers rows → HaveNumbers (cond (has_row id rows) rows rows)
 keeps_without id rows = subst HaveNumbers (sym (no_default id rows))
 
-keeps_times : Keeps times_rule
+keeps_flag : (name : Text) (no_percent : bytes_eq name percent_id ≡ false) (no_limit : bytes_eq name limit_id ≡ false) → Keeps (flag_rule name no_percent no_limit)
 unfolding HaveNumbers
-keeps_times rows numbers = (
-  default_good (codes "times") (codes "false") rows numbers.0 (new_times DefaultValue (codes "false")),
-  default_keeps (codes "times") (codes "false") percent_id rows numbers.1,
-  default_keeps (codes "times") (codes "false") limit_id rows numbers.2,
+keeps_flag name no_percent no_limit rows numbers = (
+  default_good name (codes "false") rows numbers.0 (new_flag name no_percent no_limit DefaultValue (codes "false")),
+  default_keeps name (codes "false") percent_id rows numbers.1,
+  default_keeps name (codes "false") limit_id rows numbers.2,
 )
+
+keeps_times : Keeps times_rule
+keeps_times = keeps_flag (codes "times") refl refl
+
+keeps_explain : Keeps explain_rule
+keeps_explain = keeps_flag (codes "explain") refl refl
 
 page_keeps : AllKeep page_rules
 page_keeps = (keeps_without (codes "help"), tt)
 
 lint_keeps : AllKeep lint_rules
-lint_keeps = (keeps_without (codes "long-poll"), page_keeps)
+lint_keeps = (keeps_without (codes "long-poll"), (keeps_explain, page_keeps))
 
 view_keeps : AllKeep view_rules
-view_keeps = (keeps_without (codes "long-poll"), (keeps_times, page_keeps))
+view_keeps = (keeps_without (codes "long-poll"), (keeps_times, (keeps_explain, page_keeps)))
 
 both_defaults : (rows : List Row) → AreGood rows → HaveNumbers (defaulted limit_id (codes "1000000000") (defaulted percent_id (codes "50") rows))
 unfolding HaveNumbers
@@ -695,12 +709,12 @@ options_in (Some command) = command.1
 show_asks : (words : List Text) → TakenAsks (codes "view") words
 show_asks words none named =
     view_asks Report (times_in (options_in (entered there (Some (codes "view", words))))) _
-    (lints_there _ (numbers_there view_rules (sound_long_poll, (sound_times, (sound_help, tt))) view_keeps _ words refl none))
+    (lints_there _ (numbers_there view_rules (sound_long_poll, (sound_flag (codes "times") refl refl, (sound_flag (codes "explain") refl refl, (sound_help, tt)))) view_keeps _ words refl none))
 
 lint_asks : (words : List Text) → TakenAsks (codes "lint") words
 lint_asks words none named =
     view_asks Lint (times_in (options_in (entered there (Some (codes "lint", words))))) _
-    (lints_there _ (numbers_there lint_rules (sound_long_poll, (sound_help, tt)) lint_keeps _ words refl none))
+    (lints_there _ (numbers_there lint_rules (sound_long_poll, (sound_flag (codes "explain") refl refl, (sound_help, tt))) lint_keeps _ words refl none))
 
 page_asks : (words : List Text) → TakenAsks (codes "page") words
 page_asks words none named = page_asks_of _ (lints_there _ (numbers_there page_rules (sound_help, tt) page_keeps _ words refl none))

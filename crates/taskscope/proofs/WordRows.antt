@@ -5,10 +5,11 @@ use Rattle.clap.specs.declared.error.kind.ErrorKind.TheVariants.{ArgumentConflic
 use Rattle.clap.proofs.OnLiterals.{clap_on_literals}
 use Rattle.tk_report.specs.Timed.{no_times}
 use Rattle.tk_report.specs.declared.view.View.TheVariants.{Report, Lint}
+use Rattle.tk_client.specs.Warnings.{default_lints}
 use Rattle.taskscope.specs.declared.command_line.Request.TheVariants.{Demo, Metrics, Page, Run, Show, Watch}
 use Rattle.tk_frame.specs.declared.query.Column.TheVariants.{Sched}
 use Rattle.tk_metrics.specs.declared.by.By.TheVariants.{Id}
-use Rattle.taskscope.specs.Requests.{AsksFor, AsksForHelp, AsksForInput, AsksForVersion, IsMistake, file_of, filter_of, plain_lints, plain_metrics, plain_watch, refusals, to_of}
+use Rattle.taskscope.specs.Requests.{AsksFor, AsksForHelp, AsksForInput, AsksForVersion, IsMistake, file_of, filter_of, plain_metrics, plain_watch, refusals, to_of}
 
 -- the program is called by some name
 module _ (name : List ℕ) where
@@ -16,15 +17,15 @@ module _ (name : List ℕ) where
   unfolding clap_on_literals
   run = ((refl, refl), refl)
 
-  pub view : AsksForInput (Show Report plain_lints no_times) (name ∷ codes "view" ∷ [])
+  pub view : AsksForInput (Show Report default_lints no_times) (name ∷ codes "view" ∷ [])
   unfolding clap_on_literals
   view = ((refl, refl), refl)
 
-  pub lint : AsksForInput (Show Lint plain_lints no_times) (name ∷ codes "lint" ∷ [])
+  pub lint : AsksForInput (Show Lint default_lints no_times) (name ∷ codes "lint" ∷ [])
   unfolding clap_on_literals
   lint = ((refl, refl), refl)
 
-  pub page : AsksForInput (Page plain_lints) (name ∷ codes "page" ∷ [])
+  pub page : AsksForInput (Page default_lints) (name ∷ codes "page" ∷ [])
   unfolding clap_on_literals
   page = ((refl, refl), refl)
 
@@ -40,7 +41,7 @@ module _ (name : List ℕ) where
   unfolding clap_on_literals
   demo = ((refl, refl), refl)
 
-  a_file : AsksFor (Show Report plain_lints no_times) (name ∷ codes "view" ∷ codes "a.stream" ∷ [])
+  a_file : AsksFor (Show Report default_lints no_times) (name ∷ codes "view" ∷ codes "a.stream" ∷ [])
   unfolding clap_on_literals
   a_file = (refl, refl)
 
@@ -57,12 +58,12 @@ module _ (name : List ℕ) where
   unfolding clap_on_literals
   all_wakes = (refl, refl)
 
-  histograms_and_long_polls : AsksFor (Show Report plain_lints (record { times = true; long_poll = Some 5 }))
+  histograms_and_long_polls : AsksFor (Show Report default_lints (record { times = true; long_poll = Some 5 }))
       (name ∷ codes "view" ∷ codes "--times" ∷ codes "--long-poll" ∷ codes "5" ∷ [])
   unfolding clap_on_literals
   histograms_and_long_polls = (refl, refl)
 
-  long_polls_alone : AsksFor (Show Lint plain_lints (record { times = false; long_poll = Some 100 })) (name ∷ codes "lint" ∷ codes "--long-poll=100" ∷ [])
+  long_polls_alone : AsksFor (Show Lint default_lints (record { times = false; long_poll = Some 100 })) (name ∷ codes "lint" ∷ codes "--long-poll=100" ∷ [])
   unfolding clap_on_literals
   long_polls_alone = (refl, refl)
 

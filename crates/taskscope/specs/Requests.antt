@@ -13,7 +13,7 @@ use Rattle.clap.specs.declared.builder.action.ArgAction.TheVariants.{SetTrue}
 use Rattle.clap.specs.declared.builder.value_parser.ValueParser.TheVariants as vp
 use Rattle.clap.specs.declared.error.kind.ErrorKind.{ErrorKind}
 use Rattle.clap.specs.declared.error.kind.ErrorKind.TheVariants as kind
-use Rattle.tk_client.specs.Warnings.{LintsView}
+use Rattle.tk_client.specs.Warnings.{LintsView, default_lints}
 use Rattle.tk_report.specs.declared.options.TimesOptions.{TimesOptions}
 use Rattle.tk_report.specs.declared.view.View.{View}
 use Rattle.tk_report.specs.declared.view.View.TheVariants.{Report, Lint}
@@ -75,9 +75,21 @@ long_poll_option = record (new_rule (codes "long-poll")) {
 abbrev pub polls_command : Text → App
 polls_command name = with_rule (view_command name) long_poll_option
 
+-- a command that explains a fault where it is asked to
+abbrev pub explaining : App → App
+explaining command = with_rule command (flag_option (codes "explain"))
+
+-- the command that runs a script
+abbrev pub run_command : App
+run_command = explaining (reading_command (codes "run"))
+
 -- the command that writes the report, with histograms where they are asked for
 abbrev pub report_command : App
-report_command = with_rule (polls_command (codes "view")) (flag_option (codes "times"))
+report_command = explaining (with_rule (polls_command (codes "view")) (flag_option (codes "times")))
+
+-- the command that writes the warnings
+abbrev pub lint_command : App
+lint_command = explaining (polls_command (codes "lint"))
 
 -- the command that watches a stream, with the options of what its screens show
 abbrev pub shows_command : App
@@ -117,9 +129,9 @@ bare = requiring (versioned (new_app (codes "taskscope")))
 -- `run`, `view` and `lint`
 abbrev pub first_words : App
 first_words =
-    let runs = with_subcommand bare (reading_command (codes "run")).top in
+    let runs = with_subcommand bare run_command.top in
     let views = with_subcommand runs report_command.top in
-    with_subcommand views (polls_command (codes "lint")).top
+    with_subcommand views lint_command.top
 
 -- the program as a parse of its words reads it: these, `page`, `watch`, `metrics` and `demo`
 abbrev pub program : App
@@ -176,12 +188,9 @@ page_with options = option_and_then (λ lints. Some (Page lints)) (lints_in opti
 abbrev pub number_or : ℕ → Text → List Row → ℕ
 number_or other name options = unwrap_or (number_at name options) other
 
--- the lints where no option is given
-abbrev pub plain_lints : LintsView
-plain_lints = record { self_wake_percent = 50; never_yielded_ns = 1000000000 }
-
+-- the lints of options, or those where none is given
 abbrev pub lints_or_plain : List Row → LintsView
-lints_or_plain options = unwrap_or (lints_in options) plain_lints
+lints_or_plain options = unwrap_or (lints_in options) default_lints
 
 -- the column of a name
 abbrev pub column_named : Text → Option Column
@@ -282,6 +291,13 @@ to_in = option_and_then (λ command. text_at (codes "to") command.1)
 abbrev pub to_of : List Text → Option Text
 to_of words = to_in (subcommand_of program words)
 
+-- the words ask that a fault is explained
+abbrev pub explains_in : Option (Text × List Row) → Bool
+explains_in command = option_map_or (λ c. flag_at (codes "explain") c.1) command false
+
+abbrev pub explains : List Text → Bool
+explains words = explains_in (subcommand_of program words)
+
 -- what the words read
 abbrev pub texts : {Z : Type 0} → List (String Z) → List (List ℕ)
 texts = map (λ w. w.bytes.items)
@@ -325,12 +341,12 @@ plain_watch = record {
   keys = false;
   every = 100;
   follow = false;
-  lints = plain_lints;
+  lints = default_lints;
 }
 
 -- which numbers are asked for where no option is given
 abbrev pub plain_metrics : MetricsOptions
-plain_metrics = record { by = Name; every = 10; follow = false; lints = plain_lints }
+plain_metrics = record { by = Name; every = 10; follow = false; lints = default_lints }
 
 -- the watch at keys that is asked for, if one is
 abbrev pub at_keys : Request → Option WatchOptions

@@ -28,6 +28,8 @@ pub(crate) struct Call<'a> {
     pub filter: Option<&'a str>,
     /// The file that numbers are kept in, where they aren't written to standard output.
     pub to: Option<&'a str>,
+    /// Whether a fault is explained.
+    pub explains: bool,
 }
 
 /// What the words of a command line ask for.
@@ -312,6 +314,11 @@ const EVERY_SECONDS_HELP: &str = "Writes that file anew at most once in so many 
 const FOLLOW_INTO_HELP: &str =
     "Goes on at the end of the stream, as a file grows, where numbers are kept in a file";
 
+const EXPLAIN: &str = "explain";
+
+const EXPLAIN_HELP: &str =
+    "Tells below a fault its line and the rule that this breaks, and else what was left out";
+
 const FILE: &str = "FILE";
 
 const FILE_HELP: &str = "Reads this file in place of standard input";
@@ -430,6 +437,17 @@ fn polls_command<'a>(
     Ok(view_command(alloc, name, about, long_about)?.arg(long_poll)?)
 }
 
+// The run of a script.
+fn run_command<'a>(alloc: Global) -> Result<Command<'a>, Error>
+    ensures ok { IfOk result (λ c. app_of c ≡ spec.run_command) }
+    ensures local { IfOk result (λ c. (fields_of c).has_globals ≡ false) }
+    ensures err { IfErr result (λ e. kind_of e ≡ ErrorKind.OutOfMemory) }
+{
+    let explain = flag_arg(alloc, EXPLAIN, EXPLAIN_HELP);
+    let run = reading_command(alloc, "run", RUN_ABOUT, RUN_LONG_ABOUT)?;
+    Ok(run.arg(explain)?)
+}
+
 // The report, with histograms where they are asked for.
 fn report_command<'a>(alloc: Global) -> Result<Command<'a>, Error>
     ensures ok { IfOk result (λ c. app_of c ≡ spec.report_command) }
@@ -437,7 +455,23 @@ fn report_command<'a>(alloc: Global) -> Result<Command<'a>, Error>
     ensures err { IfErr result (λ e. kind_of e ≡ ErrorKind.OutOfMemory) }
 {
     let times = flag_arg(alloc, TIMES, TIMES_HELP);
-    Ok(polls_command(alloc, "view", VIEW_ABOUT, VIEW_LONG_ABOUT)?.arg(times)?)
+    let explain = flag_arg(alloc, EXPLAIN, EXPLAIN_HELP);
+    Ok(
+        polls_command(alloc, "view", VIEW_ABOUT, VIEW_LONG_ABOUT)?
+            .arg(times)?
+            .arg(explain)?,
+    )
+}
+
+// The warnings alone.
+fn lint_command<'a>(alloc: Global) -> Result<Command<'a>, Error>
+    ensures ok { IfOk result (λ c. app_of c ≡ spec.lint_command) }
+    ensures local { IfOk result (λ c. (fields_of c).has_globals ≡ false) }
+    ensures err { IfErr result (λ e. kind_of e ≡ ErrorKind.OutOfMemory) }
+{
+    let explain = flag_arg(alloc, EXPLAIN, EXPLAIN_HELP);
+    let lint = polls_command(alloc, "lint", LINT_ABOUT, LINT_LONG_ABOUT)?;
+    Ok(lint.arg(explain)?)
 }
 
 // What a screen shows.
@@ -519,9 +553,9 @@ fn first_words<'a>(alloc: Global) -> Result<Command<'a>, Error>
     ensures ok { IfOk result (λ c. app_of c ≡ spec.first_words) }
     ensures err { IfErr result (λ e. kind_of e ≡ ErrorKind.OutOfMemory) }
 {
-    let run = reading_command(alloc, "run", RUN_ABOUT, RUN_LONG_ABOUT)?;
+    let run = run_command(alloc)?;
     let view = report_command(alloc)?;
-    let lint = polls_command(alloc, "lint", LINT_ABOUT, LINT_LONG_ABOUT)?;
+    let lint = lint_command(alloc)?;
     Ok(
         top_command(alloc)?
             .subcommand(run)?
@@ -765,6 +799,15 @@ fn to_in<'a>(matches: &ArgMatches<'a>) -> Option<&'a str>
     }
 }
 
+fn explains_in(matches: &ArgMatches) -> bool
+    ensures { result ≡ spec.explains_in (subcommand_rows_of matches.now) }
+{
+    match matches.subcommand() {
+        Some((_, options)) => flag_at(options, EXPLAIN),
+        None => false,
+    }
+}
+
 // Whether an option names nothing that there is.
 fn names_nothing(matches: &ArgMatches) -> bool
     ensures { result ≡ spec.names_nothing (subcommand_rows_of matches.now) }
@@ -842,6 +885,7 @@ pub(crate) fn call_of<'a>(alloc: Global, words: &'a [String]) -> Result<Call<'a>
     ensures file { IfOk result (λ call. spec.file_of (texts words.now) ≡ option_map (λ file. file.now) call.file) }
     ensures filter { IfOk result (λ call. spec.filter_of (texts words.now) ≡ option_map (λ filter. filter.now) call.filter) }
     ensures to { IfOk result (λ call. spec.to_of (texts words.now) ≡ option_map (λ to. to.now) call.to) }
+    ensures explains { IfOk result (λ call. spec.explains (texts words.now) ≡ call.explains) }
 {
     let matches = matches_of(alloc, words)?;
     // A command is required, and the parse has checked its numbers.
@@ -851,5 +895,6 @@ pub(crate) fn call_of<'a>(alloc: Global, words: &'a [String]) -> Result<Call<'a>
         file: file_in(&matches),
         filter: filter_in(&matches),
         to: to_in(&matches),
+        explains: explains_in(&matches),
     })
 }

@@ -3,9 +3,10 @@ ghost use Rattle.std.specs.Prelude.{◌≡◌, ◌≢◌, ◌≤◌, ◌⊎◌, 
 ghost use Rattle.std.specs.Option.{option_map};
 ghost use Rattle.clap.specs.Values.{kind_of};
 ghost use Rattle.tk_report.specs.Timed.{no_times};
+ghost use Rattle.tk_client.specs.Warnings.{default_lints};
 ghost use Rattle.taskscope.specs.Requests as spec;
-ghost use Rattle.taskscope.specs.Requests.{AsksForFile, AsksForHelp, AsksForInput, AsksForVersion, IsMistake, IsPlain, asked, filter_of, is_mistake, plain_lints, plain_metrics, plain_watch, refusals, texts, to_of};
-ghost use Rattle.taskscope.specs.Program.{Does, DoesOfFile, KeepsStream, WatchesAtKeys, WatchesStream, filter_text, page_status, screen_by, status_at, status_of, view_status};
+ghost use Rattle.taskscope.specs.Requests.{AsksForFile, AsksForHelp, AsksForInput, AsksForVersion, IsMistake, IsPlain, asked, filter_of, is_mistake, plain_metrics, plain_watch, refusals, texts, to_of};
+ghost use Rattle.taskscope.specs.Program.{Does, DoesOfFile, KeepsStream, RunsScript, ViewsStream, WatchesAtKeys, WatchesStream, filter_text, page_status, screen_by, status_at, status_of, view_status};
 
 use crate::command_line::{Call, MetricsOptions, Request, WatchOptions, call_of};
 use clap::Error;
@@ -18,7 +19,9 @@ use std::sync::Wait;
 use std::thread::Threads;
 use std::time::Clock;
 use std::{fs, io};
-use tk_app::{AppFault, Open, View, demo, run_script, view_stream_with};
+use tk_app::{AppFault, Open, TimesOptions, View, demo, run_script, view_stream_with};
+use tk_client::Lints;
+use tk_explain::{Kept, explain_script, explain_stream};
 use tk_frame::Query;
 use tk_keys::watch_terminal;
 use tk_metrics::{Place, keep_metrics, metrics_stream};
@@ -85,6 +88,69 @@ fn tell_view<E: Write>(view: View, outcome: Result<u64, AppFault>, faults: &mut 
         Ok(warnings) => status_at(view, warnings),
         Err(stop) => tell_fault(stop, faults),
     }
+}
+
+// Runs a script, and answers the status. What is explained of a fault stands below it.
+fn run<R: Threads + Wait + Sync, I: Read, O: Write, E: Write>(
+    rt: &R,
+    alloc: Global,
+    input: &mut I,
+    output: &mut O,
+    explains: bool,
+    faults: &mut E,
+) -> u8
+    ensures does { RunsScript (I.remaining input.old) (O.contents output.old) (O.contents output.new) result }
+    ensures status { result ≤ FAULT }
+{
+    if !explains {
+        return tell_outcome(run_script(rt, alloc, input, output, &Open), faults);
+    }
+    let mut script = Kept::all(alloc, input);
+    let outcome = run_script(rt, alloc, &mut script, output, &Open);
+    let status = tell_outcome(outcome, faults);
+    let _ = explain_script(alloc, &script, outcome, faults);
+    status
+}
+
+// Views a stream, and answers what that came to, and the status.
+fn view<I: Read, O: Write, E: Write>(
+    alloc: Global,
+    view: View,
+    lints: &Lints,
+    times: &TimesOptions,
+    input: &mut I,
+    output: &mut O,
+    faults: &mut E,
+) -> (Result<u64, AppFault>, u8)
+    ensures does { ViewsStream view lints.now times.now (I.remaining input.old) (I.remaining input.new) (O.contents output.old) (O.contents output.new) result.1 }
+    ensures status { (result.1 ≤ FAULT) ⊎ (result.1 ≡ WARNED) }
+{
+    let outcome = view_stream_with(alloc, input, output, view, lints, times);
+    (outcome, tell_view(view, outcome, faults))
+}
+
+// Views a stream, and answers the status. What is explained of a fault stands below it.
+fn show<I: Read, O: Write, E: Write>(
+    alloc: Global,
+    shown: View,
+    lints: &Lints,
+    times: &TimesOptions,
+    input: &mut I,
+    output: &mut O,
+    explains: bool,
+    faults: &mut E,
+) -> u8
+    ensures does { ViewsStream shown lints.now times.now (I.remaining input.old) (I.remaining input.new) (O.contents output.old) (O.contents output.new) result }
+    ensures status { (result ≤ FAULT) ⊎ (result ≡ WARNED) }
+{
+    if !explains {
+        let (_, status) = view(alloc, shown, lints, times, input, output, faults);
+        return status;
+    }
+    let mut stream = Kept::last_lines(alloc, input);
+    let (outcome, status) = view(alloc, shown, lints, times, &mut stream, output, faults);
+    let _ = explain_stream(&stream, outcome, faults);
+    status
 }
 
 // The status of a stream's page.
@@ -243,6 +309,7 @@ fn fulfil<
     filter: Option<&str>,
     to: Option<&str>,
     terminal: Canvas,
+    explains: bool,
     input: &mut I,
     output: &mut O,
     place: &mut P,
@@ -255,11 +322,9 @@ fn fulfil<
     ensures status { (result ≤ FAULT) ⊎ (result ≡ WARNED) }
 {
     match request {
-        Request::Run => tell_outcome(run_script(rt, alloc, input, output, &Open), faults),
-        Request::Show { view, lints, times } => tell_view(
-            view,
-            view_stream_with(alloc, input, output, view, &lints, &times),
-            faults,
+        Request::Run => run(rt, alloc, input, output, explains, faults),
+        Request::Show { view, lints, times } => show(
+            alloc, view, &lints, &times, input, output, explains, faults,
         ),
         Request::Page { lints } => tell_page(view_page(alloc, input, output, &lints), faults),
         Request::Watch(options) => {
@@ -301,6 +366,7 @@ fn fulfil_of_input<
     filter: Option<&str>,
     to: Option<&str>,
     terminal: Canvas,
+    explains: bool,
     input: &mut I,
     output: &mut O,
     place: &mut P,
@@ -319,7 +385,7 @@ where
             watch_at_keys(rt, alloc, &options, text, terminal, *input, output, faults)
         }
         None => fulfil(
-            rt, alloc, request, filter, to, terminal, input, output, place, faults,
+            rt, alloc, request, filter, to, terminal, explains, input, output, place, faults,
         ),
     }
 }
@@ -347,6 +413,7 @@ fn fulfil_of_file<
     filter: Option<&str>,
     to: Option<&str>,
     terminal: Canvas,
+    explains: bool,
     path: &str,
     output: &mut O,
     place: &mut P,
@@ -369,7 +436,7 @@ where
             watch_at_keys(rt, alloc, &options, text, terminal, file, output, faults)
         }
         None => fulfil(
-            rt, alloc, request, filter, to, terminal, &mut file, output, place, faults,
+            rt, alloc, request, filter, to, terminal, explains, &mut file, output, place, faults,
         ),
     }
 }
@@ -455,9 +522,9 @@ where
     ensures kept { refusals (texts words.now) ≡ [] → to_of (texts words.now) ≡ None → place.new ≡ place.old }
     // A command alone asks for it of the input, with the lints of its defaults, and for nothing of poll times.
     ensures run { IsPlain (codes "run") (texts words.now) → AsksForInput Request.Run (texts words.now) }
-    ensures view { IsPlain (codes "view") (texts words.now) → AsksForInput (Request.Show View.Report plain_lints no_times) (texts words.now) }
-    ensures lint { IsPlain (codes "lint") (texts words.now) → AsksForInput (Request.Show View.Lint plain_lints no_times) (texts words.now) }
-    ensures page { IsPlain (codes "page") (texts words.now) → AsksForInput (Request.Page plain_lints) (texts words.now) }
+    ensures view { IsPlain (codes "view") (texts words.now) → AsksForInput (Request.Show View.Report default_lints no_times) (texts words.now) }
+    ensures lint { IsPlain (codes "lint") (texts words.now) → AsksForInput (Request.Show View.Lint default_lints no_times) (texts words.now) }
+    ensures page { IsPlain (codes "page") (texts words.now) → AsksForInput (Request.Page default_lints) (texts words.now) }
     ensures watch { IsPlain (codes "watch") (texts words.now) → AsksForInput (Request.Watch plain_watch) (texts words.now) }
     ensures metrics { IsPlain (codes "metrics") (texts words.now) → AsksForInput (Request.Metrics plain_metrics) (texts words.now) }
     ensures demo { IsPlain (codes "demo") (texts words.now) → AsksForInput Request.Demo (texts words.now) }
@@ -480,16 +547,17 @@ where
         file,
         filter,
         to,
+        explains,
     } = match call_of(alloc, words) {
         Ok(call) => call,
         Err(error) => return answer(error, output, faults),
     };
     match file {
         Some(path) => fulfil_of_file(
-            rt, alloc, request, filter, to, terminal, path, output, place, faults,
+            rt, alloc, request, filter, to, terminal, explains, path, output, place, faults,
         ),
         None => fulfil_of_input(
-            rt, alloc, request, filter, to, terminal, input, output, place, faults,
+            rt, alloc, request, filter, to, terminal, explains, input, output, place, faults,
         ),
     }
 }

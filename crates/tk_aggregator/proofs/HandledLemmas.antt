@@ -9,11 +9,11 @@ use Rattle.tk_events.specs.declared.event.Event.{Event}
 use Rattle.tk_ledgers.specs.Ops.{OpSight}
 use Rattle.tk_ledgers.specs.Resources.{ResourceSight}
 use Rattle.tk_ledgers.specs.Tasks.{TaskSight}
-use Rattle.tk_stream.specs.Fronts.{Telling, ToldView, told_item, with_rows, task_at, resource_at, op_at, counts_at, told_tables}
+use Rattle.tk_stream.specs.Fronts.{Telling, ToldView, as_told, with_rows, task_at, resource_at, op_at, counts_at, told_tables}
 use Rattle.tk_stream.specs.Tables.{TablesView, PollCounts}
-use Rattle.tk_stream.specs.declared.op.Op.{Op}
-use Rattle.tk_stream.specs.declared.resource.Resource.{Resource}
-use Rattle.tk_stream.specs.declared.task.Task.{Task}
+use Rattle.tk_stream.specs.declared.tables.op.Op.{Op}
+use Rattle.tk_stream.specs.declared.tables.resource.Resource.{Resource}
+use Rattle.tk_stream.specs.declared.tables.task.Task.{Task}
 use Rattle.tk_aggregator.specs.Aggregates.{Pairs, ReadTask, ReadResource, ReadOp}
 use Rattle.tk_aggregator.specs.Readings.{EachReads}
 use Rattle.tk_aggregator.specs.Standing.{IsStanding, ResourceFits, OpFits, TellsSame, told_list}
@@ -84,7 +84,7 @@ module _ {Item Row Handle : Type 0} (with_row : Item → Row → Item) (P : Item
   holds_more x s room p near =
       holds (items ++ x ∷ []) (record telling { room = room }) (handles ++ s ∷ [])
       (record { pairs = pair_more P items handles x s was.pairs p; told = omega (arith, length-append items (x ∷ []), was.told); room = near })
-      (with_rows-more (told_item with_row) items (x ∷ []) telling.rows was.told)
+      (with_rows-more (as_told with_row) items (x ∷ []) telling.rows was.told)
 
   -- more room
   pub holds_roomier : (room : ℕ) → telling.room ≤ room → Holds items (record telling { room = room }) handles

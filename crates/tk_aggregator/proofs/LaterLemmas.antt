@@ -1,4 +1,4 @@
--- Items stay: what is taken in goes behind them.
+-- Items stay: what is taken in goes after them.
 use Rattle.std.proofs.Common.{◌≡◌, ℕ, List, [], ◌∷◌, ◌++◌, Bool, true, false, cond, nat_eq, refl, sym, ap, ◌∙◌, subst, append_assoc, append-nil}
 use Rattle.std.proofs.lemmas.Bool.{eqb-true}
 use Rattle.tk_core.specs.declared.reply.Reply.{Reply}
@@ -87,7 +87,7 @@ then_later a b c p q = record {
   readers = all_then a.timing.readers b.timing.readers c.timing.readers p.readers q.readers;
 }
 
--- a task's histogram goes behind those that are there
+-- a task's histogram goes after those that are there
 times_later : (id : ℕ) (known : Option KnownTimes) (old new : TimingView) → TakesTimes id known old new → BeginWith times_kind old.shown new.shown × AreLater old.readers new.readers
 times_later id None old new p = subst (λ (t : TimingView). BeginWith times_kind old.shown t.shown × AreLater old.readers t.readers) (sym p) (begins_itself times_kind old.shown, all_same old.readers)
 times_later id (Some known) old new p = by old.reads p

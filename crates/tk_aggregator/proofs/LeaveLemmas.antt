@@ -30,7 +30,7 @@ fewer p xs room le =
     let b = count_by-le-length p xs in
     omega (arith, a, b, le)
 
--- ---- behind a line
+-- ---- after a line
 
 -- the tables that are told
 pub told_of : (shown : TablesView) (gone : GoneView) (moment : ℕ) (removed : TablesView) (dropped : Dropped) (now : TablesView) → removed ≡ without_gone shown gone → dropped ≡ removed.dropped → now ≡ record removed { dropped = dropped; now = moment }

@@ -33,7 +33,7 @@ line_held a now = by a.retention
     by None = refl
     by (Some retention) = refl
 
--- what was kept is there behind the line of what was collected and read
+-- what was kept is there after the line of what was collected and read
 pub line_kept : (a : Aggregating) (t : Taking) (limit count : ℕ) (b : Aggregating) (u : Taking) → Collects a t limit count b u → t.finished ≡ true → count < limit
     → (c : Aggregating) → c.held ≡ b.held → (now : ℕ) (d : Aggregating) → d ≡ after_line false c now → FollowsTaker d u → HoldKept d.retention (infos_of d.tables) u.known
 line_kept a t limit count b u k finished below c held now d is follows =

@@ -14,9 +14,9 @@ use Rattle.tk_ledgers.specs.Tasks.{TaskSight}
 use Rattle.tk_stream.specs.Applied.{Kind, task_kind, BeginWith}
 use Rattle.tk_stream.specs.Fronts.{ToldView, task_at, resource_at, op_at, told_tables}
 use Rattle.tk_stream.specs.Tables.{TablesView, changed_at}
-use Rattle.tk_stream.specs.declared.op.Op.{Op}
-use Rattle.tk_stream.specs.declared.resource.Resource.{Resource}
-use Rattle.tk_stream.specs.declared.task.Task.{Task}
+use Rattle.tk_stream.specs.declared.tables.op.Op.{Op}
+use Rattle.tk_stream.specs.declared.tables.resource.Resource.{Resource}
+use Rattle.tk_stream.specs.declared.tables.task.Task.{Task}
 use Rattle.tk_aggregator.specs.Aggregates.{Pairs, Aggregating, ReadTask, ReadResource, ReadOp}
 use Rattle.tk_aggregator.specs.Beside.{IsAfter, ReadsBeside, ReadsTaskBeside, ReadsResourceBeside, ReadsOpBeside, StaysHand}
 use Rattle.tk_aggregator.specs.Readings.{Reads, OnlyReads, task_ledger, resource_ledger, op_ledger}

@@ -46,7 +46,7 @@ module _ {Item Row : Type 0} (with_row : Item → Row → Item) where
   length-with_rows (y ∷ xs) [] e = absurd (omega (arith, e))
   length-with_rows (y ∷ xs) (q ∷ rs) e = ap suc (length-with_rows xs rs (omega (arith, e)))
 
-  -- more items behind those that were told change nothing
+  -- more items after those that were told change nothing
   pub with_rows-more : (xs more : List Item) (rs : List Row) → length rs ≤ length xs → with_rows with_row (xs ++ more) rs ≡ with_rows with_row xs rs
   with_rows-more xs more [] le = refl
   with_rows-more [] more (r ∷ rs) le = absurd (omega (arith, le))

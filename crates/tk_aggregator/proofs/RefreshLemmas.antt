@@ -16,9 +16,9 @@ use Rattle.tk_stream.specs.Fronts.{ToldView, with_rows, task_at, resource_at, op
 use Rattle.tk_aggregator.specs.Readings.{ReadAll, Reads, task_ledger, resource_ledger, op_ledger}
 use Rattle.tk_aggregator.specs.Standing.{IsStanding, ResourceFits, OpFits, TellsSame, TimesStand}
 use Rattle.tk_stream.specs.Tables.{TablesView}
-use Rattle.tk_stream.specs.declared.op.Op.{Op}
-use Rattle.tk_stream.specs.declared.resource.Resource.{Resource}
-use Rattle.tk_stream.specs.declared.task.Task.{Task}
+use Rattle.tk_stream.specs.declared.tables.op.Op.{Op}
+use Rattle.tk_stream.specs.declared.tables.resource.Resource.{Resource}
+use Rattle.tk_stream.specs.declared.tables.task.Task.{Task}
 use Rattle.tk_aggregator.proofs.HandleLemmas.{reads_read, task_reads, resource_reads, op_reads, still_reads, task_draws_none, resource_draws_none, op_draws_none, all_later}
 use Rattle.tk_aggregator.proofs.HandledLemmas.{Both, TasksStand, ResourcesStand, OpsStand, pairs-count, rows-count, holds_read, tasks_handled, resources_handled, ops_handled, tasks_stand, resources_stand, ops_stand}
 use Rattle.tk_aggregator.proofs.StandingLemmas.{whole}

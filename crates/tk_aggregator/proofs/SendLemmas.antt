@@ -69,15 +69,15 @@ goes_on_to bytes told last s stream may next number is = record {
 abbrev whole_sending : TablesView → ℕ → Bool → Option (List TaskTimes) → Sending
 whole_sending tables seq removes told = record { tables = tables; seq = seq; snapshot = true; removes = removes; told = told }
 
-behind_none : (tables : TablesView) (removes : Bool) → GoOn (if removes && false then what_stays empty_tables tables else empty_tables) tables
-behind_none tables true = record { tasks = tt; resources = tt; ops = tt; counts = tt }
-behind_none tables false = record { tasks = tt; resources = tt; ops = tt; counts = tt }
+after_none : (tables : TablesView) (removes : Bool) → GoOn (if removes && false then what_stays empty_tables tables else empty_tables) tables
+after_none tables true = record { tasks = tt; resources = tt; ops = tt; counts = tt }
+after_none tables false = record { tasks = tt; resources = tt; ops = tt; counts = tt }
 
 pub opens_at : (told : TablesView) (tables : TablesView) (seq : ℕ) (removes : Bool) (times : Option (List TaskTimes)) → MaySend told (whole_sending tables seq removes times)
     → IsStreamTo (sent_text (line_sent told (whole_sending tables seq removes times))) tables seq
 opens_at told tables seq removes times may = record {
   sent = whole_sending tables seq removes times ∷ [];
-  uninterrupted = (refl, record { fit = may.fit; in_range = may.in_range; numbered = may.numbered; on = behind_none tables removes; told = may.told }, tt);
+  uninterrupted = (refl, record { fit = may.fit; in_range = may.in_range; numbered = may.numbered; on = after_none tables removes; told = may.told }, tt);
   bytes_are = sym (append-nil (sent_text (line_sent empty_tables (whole_sending tables seq removes times))));
   tables_are = refl;
   last_is = refl;

@@ -68,7 +68,7 @@ module _ {Info : Type 0} (id : Info → ℕ) (told : Told → List Info) (cases 
   abbrev add : List Info → Info → List Info
   add infos info = with_info id info infos
 
-  -- a course behind which no id is told of twice
+  -- a course after which no id is told of twice
   some_after : (steps : List Step) (infos : Infos) (all : List Info) → AreSomeOf (get infos) all → IsDistinct nat_eq (map id (all ++ flat_map made (events_taken steps)))
       → AreSomeOf (get (fold stepped infos steps)) (all ++ flat_map made (events_taken steps))
   some_after [] infos all some once = subst (λ l. AreSomeOf (get infos) l) (sym (append-nil all)) some

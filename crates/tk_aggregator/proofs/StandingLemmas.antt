@@ -12,8 +12,8 @@ use Rattle.tk_aggregator.specs.Standing.{IsStanding, TimesStand, ResourceFits, O
 use Rattle.tk_stream.specs.Streams.{AreInRange}
 use Rattle.tk_ids.specs.Attributes.{HaveKinds}
 use Rattle.tk_stream.specs.Tables.{TablesView, AreDistinct}
-use Rattle.tk_stream.specs.declared.op.Op.{Op}
-use Rattle.tk_stream.specs.declared.resource.Resource.{Resource}
+use Rattle.tk_stream.specs.declared.tables.op.Op.{Op}
+use Rattle.tk_stream.specs.declared.tables.resource.Resource.{Resource}
 use Rattle.tk_stream.proofs.PruneLemmas.{told_begin}
 use Rattle.tk_aggregator.proofs.HandleLemmas.{resource_fits, op_fits}
 use Rattle.tk_aggregator.specs.Timing.{TimingView, no_timing, ReadTimes}

@@ -7,12 +7,12 @@ use Rattle.std.proofs.lemmas.List.Sums.{length-filter, count_by-le-length}
 use Rattle.tk_core.specs.declared.times.row.TimesRow.{TimesRow}
 use Rattle.tk_ledgers.specs.Times.{TimesSight}
 use Rattle.tk_stream.specs.Applied.{times_kind, BeginWith}
-use Rattle.tk_stream.specs.Fronts.{Telling, told_item, with_rows}
+use Rattle.tk_stream.specs.Fronts.{Telling, as_told, with_rows}
 use Rattle.tk_stream.specs.Lines.{LineView, GoneView, none_gone, told_times, with_times}
 use Rattle.tk_stream.specs.Retention.{stats_without, times_staying}
 use Rattle.tk_stream.specs.Tables.{is_among, staying}
 use Rattle.tk_stream.specs.Times.{TaskTimes, times_id, times_shown, times_with}
-use Rattle.tk_stream.specs.declared.times.PollTimes.{PollTimes}
+use Rattle.tk_stream.specs.declared.tables.times.PollTimes.{PollTimes}
 use Rattle.tk_stream.proofs.FrontLemmas.{keeps_told, all_told}
 use Rattle.tk_stream.proofs.GoneLemmas.{staying_all}
 use Rattle.tk_aggregator.specs.Readings.{ReadAll, EachReads}
@@ -23,28 +23,28 @@ use Rattle.tk_aggregator.proofs.ReadingLemmas.{length-with_rows}
 
 -- the histograms of these parts
 abbrev pub timing_of : Bool → List TaskTimes → Telling PollTimes → List TimesSight → TimingView
-timing_of reads shown telling readers = record { reads = reads; shown = shown; told = with_rows (told_item times_with) shown telling.rows; readers = readers }
+timing_of reads shown telling readers = record { reads = reads; shown = shown; told = with_rows (as_told times_with) shown telling.rows; readers = readers }
 
 -- ---- those that were told
 
 -- they are the first ones
-pub told_begin : (shown : List TaskTimes) (rows : List (Option PollTimes)) → length rows ≤ length shown → BeginWith times_kind (with_rows (told_item times_with) shown rows) shown
+pub told_begin : (shown : List TaskTimes) (rows : List (Option PollTimes)) → length rows ≤ length shown → BeginWith times_kind (with_rows (as_told times_with) shown rows) shown
 told_begin shown [] le = tt
 told_begin [] (r ∷ rows) le = absurd (omega (arith, le))
 told_begin (x ∷ shown) (r ∷ rows) le = (keeps_told times_id times_with (λ t times. refl) x r, told_begin shown rows (omega (arith, le)))
 
 -- as many as there are rows
-pub told_count : (shown : List TaskTimes) (rows : List (Option PollTimes)) → length rows ≤ length shown → length (with_rows (told_item times_with) shown rows) ≡ length rows
+pub told_count : (shown : List TaskTimes) (rows : List (Option PollTimes)) → length rows ≤ length shown → length (with_rows (as_told times_with) shown rows) ≡ length rows
 told_count shown [] le = refl
 told_count [] (r ∷ rows) le = absurd (omega (arith, le))
 told_count (x ∷ shown) (r ∷ rows) le = ap suc (told_count shown rows (omega (arith, le)))
 
 -- so they are told of the first ones alone, as many as were told of or more
-pub told_front : (n : ℕ) (shown : List TaskTimes) (rows : List (Option PollTimes)) → length rows ≤ n → with_rows (told_item times_with) (take n shown) rows ≡ with_rows (told_item times_with) shown rows
+pub told_front : (n : ℕ) (shown : List TaskTimes) (rows : List (Option PollTimes)) → length rows ≤ n → with_rows (as_told times_with) (take n shown) rows ≡ with_rows (as_told times_with) shown rows
 told_front n shown [] le = refl
 told_front zero shown (r ∷ rows) le = absurd (omega (arith, le))
 told_front (suc n) [] (r ∷ rows) le = refl
-told_front (suc n) (x ∷ shown) (r ∷ rows) le = ap (λ xs. told_item times_with x r ∷ xs) (told_front n shown rows (omega (arith, le)))
+told_front (suc n) (x ∷ shown) (r ∷ rows) le = ap (λ xs. as_told times_with x r ∷ xs) (told_front n shown rows (omega (arith, le)))
 
 -- ---- what holds inside
 
@@ -129,7 +129,7 @@ all_stay (Some gone) times = refl
 
 -- the line that tells histograms beside none, or beside those that were told
 module _ (reads : Bool) (shown : List TaskTimes) (telling : Telling PollTimes) (readers : List TimesSight) (snapshot : Bool) (leaving : Option GoneView) (line : LineView) (told : List TaskTimes)
-    (is_read : reads ≡ true) (is_told : told ≡ (if snapshot then [] else with_rows (told_item times_with) shown telling.rows)) where
+    (is_read : reads ≡ true) (is_told : told ≡ (if snapshot then [] else with_rows (as_told times_with) shown telling.rows)) where
   abbrev timing : TimingView
   timing = timing_of reads shown telling readers
 
@@ -155,6 +155,6 @@ module _ (reads : Bool) (shown : List TaskTimes) (telling : Telling PollTimes) (
   all_are_told is all left = λ i. record {
     reads = reads;
     shown = is i;
-    told = (ap (λ (t : Telling PollTimes). with_rows (told_item times_with) now t.rows) all ∙ all_told times_with now ∙ is) i;
+    told = (ap (λ (t : Telling PollTimes). with_rows (as_told times_with) now t.rows) all ∙ all_told times_with now ∙ is) i;
     readers = left i;
   }

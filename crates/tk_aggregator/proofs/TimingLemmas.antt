@@ -22,8 +22,8 @@ use Rattle.tk_stream.specs.Retention.{stats_without}
 use Rattle.tk_stream.specs.Streams.{Sending, AreToldOf, line_sent, line_untimed, tables_sent, times_sent}
 use Rattle.tk_stream.specs.Tables.{TablesView, task_id, task_with, item_with, changed_at, is_among, staying}
 use Rattle.tk_stream.specs.Times.{TaskTimes, times_id, times_shown, times_with, same_times, all_times}
-use Rattle.tk_stream.specs.declared.task.Task.{Task}
-use Rattle.tk_stream.specs.declared.times.PollTimes.{PollTimes}
+use Rattle.tk_stream.specs.declared.tables.task.Task.{Task}
+use Rattle.tk_stream.specs.declared.tables.times.PollTimes.{PollTimes}
 use Rattle.tk_stream.proofs.AppliedLemmas.{IsKind, leads}
 use Rattle.tk_stream.proofs.GoneLemmas.{once_kept}
 use Rattle.tk_stream.proofs.LinesLemmas.{IsFound, each_found, map-same}

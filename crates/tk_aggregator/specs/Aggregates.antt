@@ -19,9 +19,9 @@ use Rattle.tk_ledgers.specs.Tasks.{TaskSight}
 use Rattle.tk_ledgers.specs.Times.{TimesSight}
 use Rattle.tk_aggregator.specs.declared.stream_error.StreamError.{StreamError}
 use Rattle.tk_aggregator.specs.declared.stream_error.StreamError.TheVariants as errors
-use Rattle.tk_stream.specs.declared.op.Op.{Op}
-use Rattle.tk_stream.specs.declared.resource.Resource.{Resource}
-use Rattle.tk_stream.specs.declared.task.Task.{Task}
+use Rattle.tk_stream.specs.declared.tables.op.Op.{Op}
+use Rattle.tk_stream.specs.declared.tables.resource.Resource.{Resource}
+use Rattle.tk_stream.specs.declared.tables.task.Task.{Task}
 use Rattle.tk_aggregator.specs.Absorbing.{Step, infos_of, no_infos, absorb, infos_after, events_taken}
 use Rattle.tk_stream.specs.Applied.{GoOn, BeginWith, times_kind, without_gone}
 use Rattle.tk_stream.specs.Fronts.{with_rows, task_at, resource_at, op_at}
@@ -48,7 +48,7 @@ pub record Aggregating : Type 0 where
   pub ops : List OpSight
   -- an event that was taken, and found no memory
   pub held : Option Event
-  -- the number of the last line, or the number that it goes on behind
+  -- the number of the last line, or the number that it goes on after
   pub last : ℕ
   -- the last line was cut off, and only a snapshot goes on
   pub broken : Bool
@@ -57,7 +57,7 @@ pub record Aggregating : Type 0 where
   -- the histograms of poll times that it shows, has told and reads, where it does
   pub timing : TimingView
 
--- one that has told nothing, whose next line has the number behind this one
+-- one that has told nothing, whose next line has the number after this one
 abbrev pub new_aggregating : ℕ → Option ℕ → Aggregating
 new_aggregating after retention = record {
   tables = empty_tables;
@@ -117,7 +117,7 @@ pub record IsSound (a : Aggregating) : Type 0 where
   -- where no histogram is read there is none
   pub untimed : a.timing.reads ≡ false → a.timing ≡ no_timing false
 
--- the items of one aggregator are those of the other, now or later, and others may stand behind them
+-- the items of one aggregator are those of the other, now or later, and others may stand after them
 pub record IsLaterOf (old new : Aggregating) : Type 0 where
   pub items : GoOn old.tables new.tables
   pub tasks : AreLater old.tasks new.tasks
@@ -357,7 +357,7 @@ untimed_at snapshot a now = line_untimed a.told (sending_at snapshot a now)
 abbrev pub having_told : Aggregating → ℕ → Aggregating
 having_told a now = record a { tables = record a.tables { now = now }; told = record a.tables { now = now }; last = a.last + 1; broken = false; timing = record a.timing { told = a.timing.shown } }
 
--- what stands behind the line of this moment
+-- what stands after the line of this moment
 abbrev pub after_line : Bool → Aggregating → ℕ → Aggregating
 after_line snapshot a now = having_told (left_at snapshot a now) now
 

@@ -9,11 +9,11 @@ use Rattle.tk_ids.specs.Attributes.{HaveKinds}
 use Rattle.tk_ledgers.specs.Ops.{OpSight}
 use Rattle.tk_ledgers.specs.Resources.{ResourceSight}
 use Rattle.tk_ledgers.specs.Tasks.{TaskSight}
-use Rattle.tk_stream.specs.declared.op.Op.{Op}
-use Rattle.tk_stream.specs.declared.resource.Resource.{Resource}
-use Rattle.tk_stream.specs.declared.task.Task.{Task}
+use Rattle.tk_stream.specs.declared.tables.op.Op.{Op}
+use Rattle.tk_stream.specs.declared.tables.resource.Resource.{Resource}
+use Rattle.tk_stream.specs.declared.tables.task.Task.{Task}
 use Rattle.tk_aggregator.specs.Aggregates.{Pairs, ReadTask, ReadResource, ReadOp}
-use Rattle.tk_stream.specs.Fronts.{Telling, ToldView, told_item, with_rows, told_tables, FitsIn, HaveRoom}
+use Rattle.tk_stream.specs.Fronts.{Telling, ToldView, as_told, with_rows, told_tables, FitsIn, HaveRoom}
 use Rattle.tk_stream.specs.Tables.{TablesView, empty_tables, task_with}
 use Rattle.tk_stream.specs.Times.{TaskTimes}
 use Rattle.tk_aggregator.specs.Timing.{TimingView, ReadTimes}
@@ -32,7 +32,7 @@ OpFits o s = (s.id ≡ o.info.id) × ((row : OpRow) × (s.token.view.opening ≡
 
 -- items as they were told
 abbrev pub told_list : {Item Row : Type 0} → (Item → Row → Item) → List Item → Telling Row → List Item
-told_list with_row items telling = with_rows (told_item with_row) items telling.rows
+told_list with_row items telling = with_rows (as_told with_row) items telling.rows
 
 -- the same was told of items that have other rows now, and the room is the same
 pub record TellsSame {Item Row : Type 0} (with_row : Item → Row → Item) (items : List Item) (telling : Telling Row) (now : List Item) (tells : Telling Row) : Type 0 where

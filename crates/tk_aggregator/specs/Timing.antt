@@ -6,7 +6,7 @@ use Rattle.tk_core.specs.declared.times.call.TimesCall.TheVariants.{Read}
 use Rattle.tk_core.specs.Times.{times_kind, opening_row}
 use Rattle.tk_core.specs.TimesMeaning.{times_meaning}
 use Rattle.tk_ledgers.specs.Times.{TimesSight}
-use Rattle.tk_stream.specs.declared.times.PollTimes.{PollTimes}
+use Rattle.tk_stream.specs.declared.tables.times.PollTimes.{PollTimes}
 use Rattle.tk_stream.specs.Fronts.{Telling, with_rows}
 use Rattle.tk_stream.specs.Lines.{told_times}
 use Rattle.tk_stream.specs.Retention.{stats_without}

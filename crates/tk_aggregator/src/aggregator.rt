@@ -2,14 +2,14 @@
 //!
 //! Beside the tables it keeps what the last whole line told of them, where that is another now: rows and counts by place, since
 //! items only ever go last. So a line is made without a copy of the tables, and what did not change is compared once, when it is
-//! read (`told_rows.rt`).
+//! read (`told/rows.rt` of `tk_stream`).
 //!
 //! | stream | `publish` | `snapshot` |
 //! |---|---|---|
 //! | whole | writes what differs from the last whole line | writes all |
 //! | broken: the last line was cut off | `Broken` | writes all, and mends the stream |
 //!
-//! With a retention, closed items leave behind it, as tokio-console lets closed tasks go: behind a line that goes on, and that
+//! With a retention, closed items leave after it, as tokio-console lets closed tasks go: after a line that goes on, and that
 //! says so. Where histograms of poll times are read, lines tell them too (`timing.rt`).
 //!
 //! `specs/Aggregates.antt` says what each call makes of it.
@@ -584,7 +584,7 @@ impl Aggregator {
         }
     }
 
-    // The same of a resource.
+    // Puts a resource last where its id isn't there. At want of memory info and handle come back.
     fn add_resource<R: Wait>(
         &mut self,
         rt: &R,
@@ -610,7 +610,7 @@ impl Aggregator {
         Ok(())
     }
 
-    // The same of an async operation.
+    // Puts an async operation last where its id isn't there. At want of memory info and handle come back.
     fn add_op<R: Wait>(
         &mut self,
         rt: &R,
@@ -800,7 +800,7 @@ impl Aggregator {
     /// that left are let go. A row that was read since then doesn't count, so each closed item was told as closed before it
     /// leaves. Poll counts stay.
     ///
-    /// The first of these that applies; at none an item leaves, and behind the first four nothing has changed and nothing was
+    /// The first of these that applies; at none an item leaves, and after the first four nothing has changed and nothing was
     /// written.
     /// - `Broken`: the last line was cut off, and only a snapshot goes on.
     /// - `Clock`: the moment is below the last whole line's.
@@ -864,7 +864,7 @@ impl Aggregator {
         }
     }
 
-    /// Writes the next line as one that tells of the tables as a whole, and a line end, and answers its number. Behind a line
+    /// Writes the next line as one that tells of the tables as a whole, and a line end, and answers its number. After a line
     /// that was cut off the writer has to be that of a new stream; the stream is broken no more. No item leaves.
     ///
     /// The refusals are those of `publish` but for `Broken`.

@@ -40,7 +40,7 @@ pub(crate) struct Timing {
 
 impl Model for Timing {
     ghost use Rattle.std.specs.Prelude.{vec_capacity};
-    ghost use Rattle.tk_stream.specs.Fronts.{told_item, with_rows};
+    ghost use Rattle.tk_stream.specs.Fronts.{as_told, with_rows};
     ghost use Rattle.tk_stream.specs.Times.{times_with};
     ghost use Rattle.tk_aggregator.specs.Timing.{TimingView, AreTimed};
 
@@ -49,7 +49,7 @@ impl Model for Timing {
     ghost view = { λ t. record {
       reads = t.reads;
       shown = t.times;
-      told = with_rows (told_item times_with) t.times t.told.rows;
+      told = with_rows (as_told times_with) t.times t.told.rows;
       readers = t.readers.items;
     } };
 

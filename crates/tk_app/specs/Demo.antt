@@ -1,17 +1,13 @@
 -- What the demo writes.
 use Rattle.std.specs.Prelude.{◌≡◌, ℕ, List, Option, Result, Ok, Err}
 use Rattle.std.specs.Io.KnownBytes.{Appends}
-use Rattle.tk_client.specs.Warnings.{LintsView}
+use Rattle.tk_client.specs.Warnings.{default_lints}
 use Rattle.tk_report.specs.Report.{report_of}
 use Rattle.tk_fault.specs.declared.fault.AppFault.{AppFault}
 use Rattle.tk_fault.specs.declared.fault.AppFault.TheVariants as faults
 use Rattle.tk_stream.specs.Sent.{IsCut}
 use Rattle.tk_stream.specs.Streams.{IsStreamTo}
 use Rattle.tk_stream.specs.Tables.{TablesView}
-
--- the lints where nothing is said
-abbrev pub default_lints : LintsView
-default_lints = record { self_wake_percent = 50; never_yielded_ns = 1000000000 }
 
 -- the text is the report of the tables that a stream of one line leads to
 pub record IsReportOfAStream (text : List ℕ) : Type 0 where

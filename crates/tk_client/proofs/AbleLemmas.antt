@@ -89,13 +89,13 @@ module _ {X : Type 0} (test : X → Bool) where
       by false here not_here first = not_here here
 
 -- numbers that are sorted and differ rise
-rise-behind : (b p : ℕ) (ps : List ℕ) → b ≤ p → IsNonDecreasingBy (λ n. n) (p ∷ ps) → IsDistinct nat_eq (p ∷ ps) → RiseFrom b (p ∷ ps)
+rise-after : (b p : ℕ) (ps : List ℕ) → b ≤ p → IsNonDecreasingBy (λ n. n) (p ∷ ps) → IsDistinct nat_eq (p ∷ ps) → RiseFrom b (p ∷ ps)
 unfolding IsDistinct
-rise-behind b p [] le up once = (le, tt)
-rise-behind b p (q ∷ qs) le up once =
+rise-after b p [] le up once = (le, tt)
+rise-after b p (q ∷ qs) le up once =
     let l : p ≤ q = up 0 1 p (omega arith) (omega arith) in
     let apart : nat_eq p q ≡ false = once.0.0 in
-    (le, rise-behind (suc p) q qs (above (nat_lt p q) refl l apart) (λ i j d m lt. up (suc i) (suc j) d (omega arith) (omega arith)) once.1)
+    (le, rise-after (suc p) q qs (above (nat_lt p q) refl l apart) (λ i j d m lt. up (suc i) (suc j) d (omega arith) (omega arith)) once.1)
   where
     above : (t : Bool) → nat_lt p q ≡ t → p ≤ q → nat_eq p q ≡ false → suc p ≤ q
     above true e m apart = let l : p < q = ltb-true p q e in omega arith
@@ -103,7 +103,7 @@ rise-behind b p (q ∷ qs) le up once =
 
 pub rise-sorted : (ps : List ℕ) → IsNonDecreasingBy (λ n. n) ps → IsDistinct nat_eq ps → RiseFrom 0 ps
 rise-sorted [] up once = tt
-rise-sorted (p ∷ ps) up once = rise-behind 0 p ps (omega arith) up once
+rise-sorted (p ∷ ps) up once = rise-after 0 p ps (omega arith) up once
 
 -- ---- the places of items with these ids
 

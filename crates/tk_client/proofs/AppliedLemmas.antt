@@ -1,9 +1,9 @@
 -- The tasks after a line that was applied.
 use Rattle.std.proofs.Common.{◌≡◌, List, [], ◌++◌, Bool, true, false, cond, Option, Some, None, Ok, Err, refl, ap, sym, ◌∙◌}
 use Rattle.std.specs.Prelude.{map, option_map, option_and_then}
-use Rattle.tk_stream.specs.declared.op.Op.{Op}
-use Rattle.tk_stream.specs.declared.resource.Resource.{Resource}
-use Rattle.tk_stream.specs.declared.task.Task.{Task}
+use Rattle.tk_stream.specs.declared.tables.op.Op.{Op}
+use Rattle.tk_stream.specs.declared.tables.resource.Resource.{Resource}
+use Rattle.tk_stream.specs.declared.tables.task.Task.{Task}
 use Rattle.tk_stream.specs.Lines.{LineView}
 use Rattle.tk_stream.specs.Applied.{task_kind, resource_kind, op_kind, told_item, new_items, items_after, counts_after, tables_after}
 use Rattle.tk_stream.specs.Tables.{TablesView, task_id, staying}
@@ -13,7 +13,7 @@ use Rattle.tk_client.specs.Taking.{has_twice, are_fitting, fitting, repeats_told
 use Rattle.tk_client.specs.Told.{stats_id_by, told_part}
 use Rattle.tk_client.proofs.LineLemmas.{tells-once}
 
--- tasks that were there, each with what is told of it, and behind them new ones
+-- tasks that were there, each with what is told of it, and after them new ones
 pub record Follow (old : TablesView) (l : LineView) (t : TablesView) : Type 0 where
   pub items : List Task
   pub are : new_items task_kind l.task_stats l.new_tasks ≡ Some items

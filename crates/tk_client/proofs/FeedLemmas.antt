@@ -13,7 +13,7 @@ use Rattle.tk_client.proofs.Pieces.{meaning-append}
 pub goes-then : (max : ℕ) (s t u : Start) (a b : List ℕ) (m n : ℕ) → meaning max s a ≡ goes t m → meaning max t b ≡ goes u n → meaning max s (a ++ b) ≡ goes u (m + n)
 goes-then max s t u a b m n e f = meaning-append max s t a b m e ∙ ap (after m (length a)) f
 
--- what stopped behind lines and bytes
+-- what stopped after lines and bytes
 abbrev pub later : ℕ → ℕ → FeedError → FeedError
 later m k e = record { lines = m + e.lines; used = k + e.used; fault = e.fault }
 
@@ -51,14 +51,14 @@ ended-stopped Failed mid new other h = stopped_at_end _ mid new _ h
 pub rest_is : (at : ℕ) (piece : List ℕ) → take (length piece - at) (drop at piece) ≡ drop at piece
 rest_is at piece = take_all (length piece - at) (drop at piece) (omega (arith, length-drop at piece))
 
--- bytes that lead on, behind those that were taken
+-- bytes that lead on, after those that were taken
 pub goes_on : (max : ℕ) (s t u : Start) (piece : List ℕ) (at used m n : ℕ) → at ≤ length piece → meaning max s (take at piece) ≡ goes t m
     → meaning max t (take used (take (length piece - at) (drop at piece))) ≡ goes u n → meaning max s (take (at + used) piece) ≡ goes u (m + n)
 goes_on max s t u piece at used m n within e f =
     ap (meaning max s) (take-add at used piece)
     ∙ goes-then max s t u (take at piece) (take used (drop at piece)) m n e (ap (λ rest. meaning max t (take used rest)) (sym (rest_is at piece)) ∙ f)
 
--- a fault behind bytes that were taken
+-- a fault after bytes that were taken
 pub stops_on : (max : ℕ) (s t : Start) (piece : List ℕ) (at m : ℕ) (e : FeedError) (new : ClientView) → at ≤ length piece → meaning max s (take at piece) ≡ goes t m
     → StoppedBy e.fault (meaning max t (take e.used (take (length piece - at) (drop at piece)))) e new
     → StoppedBy e.fault (meaning max s (take (at + e.used) piece)) (later m at e) new

@@ -171,12 +171,12 @@ module _ {X : Type 0} (f : X → ℕ) where
   pub own : (xs : List X) → IsDistinct nat_eq (map f xs) → AllByRecursion (λ x. item_with f (f x) xs ≡ Some x) xs
   unfolding IsDistinct
   own [] d = tt
-  own (x ∷ xs) d = (ap (λ b. cond b (Some x) (item_with f (f x) xs)) (itself (f x)), behind xs (λ y. item_with f (f y) xs ≡ Some y) (λ y e n. ap (λ b. cond b (Some x) (item_with f (f y) xs)) (flipped (f x) (f y) n) ∙ e) (own xs d.1) d.0)
+  own (x ∷ xs) d = (ap (λ b. cond b (Some x) (item_with f (f x) xs)) (itself (f x)), each_later xs (λ y. item_with f (f y) xs ≡ Some y) (λ y e n. ap (λ b. cond b (Some x) (item_with f (f y) xs)) (flipped (f x) (f y) n) ∙ e) (own xs d.1) d.0)
     where
-      behind : (ys : List X) (P : X → Type 0) → ((y : X) → P y → nat_eq (f x) (f y) ≡ false → item_with f (f y) (x ∷ xs) ≡ Some y) → AllByRecursion P ys
+      each_later : (ys : List X) (P : X → Type 0) → ((y : X) → P y → nat_eq (f x) (f y) ≡ false → item_with f (f y) (x ∷ xs) ≡ Some y) → AllByRecursion P ys
           → AllByRecursion (λ n. nat_eq (f x) n ≡ false) (map f ys) → AllByRecursion (λ y. item_with f (f y) (x ∷ xs) ≡ Some y) ys
-      behind [] P h all away = tt
-      behind (y ∷ ys) P h all away = (h y all.0 away.0, behind ys P h all.1 away.1)
+      each_later [] P h all away = tt
+      each_later (y ∷ ys) P h all away = (h y all.0 away.0, each_later ys P h all.1 away.1)
 
   -- what is found has the id
   pub has-the-id : (id : ℕ) (xs : List X) (x : X) → item_with f id xs ≡ Some x → id ≡ f x

@@ -155,7 +155,7 @@ module _ {Item : Type 0} (id_of : Item → ℕ) where
           put_there front c old y distinct away is (filter (is_new id_of old) front)
           ∙ ap (λ cs. map (told (front ++ c ∷ [])) old ++ cs) (sym (append-nil (filter (is_new id_of old) front)) ∙ ap (λ cs. filter (is_new id_of old) front ++ cs) (sym none) ∙ sym (filter-last (is_new id_of old) front c))
 
-  -- a number that stands behind others stands apart from them
+  -- a number that stands after others stands apart from them
   apart_before : (xs : List Item) (y : Item) (more : List Item) → has_twice (map id_of (xs ++ y ∷ more)) ≡ false → IsApart (id_of y) xs
   apart_before [] y more e = refl
   apart_before (x ∷ xs) y more e =
@@ -248,7 +248,7 @@ module _ {Item : Type 0} (id_of : Item → ℕ) where
           by true k rest = refl
           by false k rest = rest k
 
-  -- all that are told are there once new ones stand behind the others
+  -- all that are told are there once new ones stand after the others
   pub are-counted : (old cs : List Item) → AreKeyed id_of (old ++ filter (is_new id_of old) cs) cs
   are-counted old cs = each cs (kept cs)
     where

@@ -1,7 +1,7 @@
 -- All warnings where no long polls are asked for.
 use Rattle.std.proofs.Common.{◌≡◌, ℕ, List, [], ◌∷◌, ◌++◌, None, ap, ap₂, sym, ◌∙◌, append-nil, refl}
 use Rattle.std.specs.Prelude.{flat_map, map}
-use Rattle.tk_stream.specs.declared.task.Task.{Task}
+use Rattle.tk_stream.specs.declared.tables.task.Task.{Task}
 use Rattle.tk_stream.specs.Tables.{TablesView}
 use Rattle.tk_stream.specs.Times.{TaskTimes}
 use Rattle.tk_client.specs.declared.long_polls.AnyWarning.TheVariants.{Usual}

@@ -73,7 +73,7 @@ passed : (b : Bool) (tables : TablesView) (fault : Fault) (used : ℕ) (x y o : 
 passed true tables fault used x y o t n e h = absurd (cc)
 passed false tables fault used x y o t n e h = h refl e
 
--- bytes behind a part line that has them in front
+-- bytes after a part line that has them in front
 held-more : (max : ℕ) (s : Start) (r rest : List ℕ) → length (s.part ++ r) ≤ max → held max s (r ++ rest) ≡ after 0 (length r) (held max (record s { part = s.part ++ r }) rest)
 held-more max s r rest short =
     rw (append_assoc s.part r rest) (by (nat_lt max (length (s.part ++ (r ++ rest)))))
@@ -119,7 +119,7 @@ run-glue max (l ∷ ls) r (m ∷ ms, rest) s t n e =
     (λ short f. ended-after s.tables (length l + 1) (line_taken s.tables s.times s.last (s.part ++ l)) (λ u. run max u ls r) (λ u. run max u (ls ++ (r ++ m) ∷ ms) rest) t n (size ls r) (run max t (m ∷ ms) rest)
     (λ u k h. run-glue max ls r (m ∷ ms, rest) u t k h) f)
 
--- bytes behind bytes without a fault
+-- bytes after bytes without a fault
 pub meaning-append : (max : ℕ) (s t : Start) (a b : List ℕ) (lines : ℕ) → meaning max s a ≡ goes t lines → meaning max s (a ++ b) ≡ after lines (length a) (meaning max t b)
 meaning-append max s t a b lines e =
     ap (λ (c : List (List ℕ) × List ℕ). run max s c.0 c.1) (cut-append a b)
@@ -172,7 +172,7 @@ stops-glue max (l ∷ ls) r (m ∷ ms, rest) s t n fault used e =
     (ended_stops s.tables (length l + 1) (line_taken s.tables s.times s.last (s.part ++ l)) (λ u. run max u ls r) (λ u. run max u (ls ++ (r ++ m) ∷ ms) rest) t n fault used
     (λ u k v h. stops-glue max ls r (m ∷ ms, rest) u t k fault v h)) e
 
--- what stands behind a fault changes nothing
+-- what stands after a fault changes nothing
 pub stops-append : (max : ℕ) (s : Start) (a b : List ℕ) (t : TablesView) (n used : ℕ) (fault : Fault) → meaning max s a ≡ stops t n fault used → meaning max s (a ++ b) ≡ stops t n fault used
 stops-append max s a b t n used fault e =
     ap (λ (c : List (List ℕ) × List ℕ). run max s c.0 c.1) (cut-append a b) ∙ stops-glue max (cut a).0 (cut a).1 (cut b) s t n fault used e

@@ -4,7 +4,7 @@ use Rattle.std.specs.Prelude.{flat_map, ◌&&◌, ◌||◌}
 use Rattle.std.specs.Option.{option_map_or}
 use Rattle.std.proofs.lemmas.Bool.{or_parts, le-ltb}
 use Rattle.tk_core.specs.declared.task.row.TaskRow.{TaskRow}
-use Rattle.tk_stream.specs.declared.task.Task.{Task}
+use Rattle.tk_stream.specs.declared.tables.task.Task.{Task}
 use Rattle.tk_client.specs.declared.warning.Warning.{Warning}
 use Rattle.tk_client.specs.declared.warning.WarningKind.TheVariants.{SelfWakes, LostWaker, NeverYielded}
 use Rattle.tk_client.specs.Warnings.{LintsView, wakes_itself, has_lost_waker, has_never_yielded, is_spawn, warning_if, warnings_of}
@@ -50,7 +50,7 @@ module _ (lints : LintsView) (now : ℕ) where
   abbrev at : List Task → ℕ → List Warning
   at tasks i = option_map_or (warnings_of lints now) (slice_get tasks i) []
 
-  -- behind some tasks
+  -- after some tasks
   listed-from : (front tasks all : List Task) → all ≡ front ++ tasks → flat_map (at all) (places_by can_warn (length front) tasks) ≡ flat_map (warnings_of lints now) tasks
   listed-from front [] all e = refl
   listed-from front (t ∷ ts) all e =

@@ -11,8 +11,8 @@ use Rattle.tk_ids.specs.declared.attr.AttrInfo.{AttrInfo}
 use Rattle.tk_ids.specs.declared.attr.AttrKind.{AttrKind}
 use Rattle.tk_ids.specs.declared.attr.AttrKind.TheVariants as kinds
 use Rattle.tk_ids.specs.declared.attr.AttrValue.{AttrValue}
-use Rattle.tk_stream.specs.declared.op.Op.{Op}
-use Rattle.tk_stream.specs.declared.resource.Resource.{Resource}
+use Rattle.tk_stream.specs.declared.tables.op.Op.{Op}
+use Rattle.tk_stream.specs.declared.tables.resource.Resource.{Resource}
 use Rattle.tk_stream.specs.Applied.{Kind, task_kind, resource_kind, op_kind, tables_after, times_after, GoOn, what_stays}
 use Rattle.tk_stream.specs.Lines.{LineView, GoneView, none_gone, gone_ids, gone_between, with_gone, with_times, is_seq, is_new, new_infos, told_stats, line_between, snapshot_of, task_stats_of, resource_stats_of, op_stats_of, all_counts, have_same_row, have_same_resource_row, have_same_op_row, task_info, resource_info, op_info}
 use Rattle.tk_stream.specs.Ranges.{IsLine, IsGone, IsId, AreTold}
@@ -26,7 +26,7 @@ use Rattle.tk_client.specs.declared.fault.Fault.{Fault}
 use Rattle.tk_client.specs.declared.fault.Fault.TheVariants.{Memory, BadJson, BadShape, Gap, UnknownId, Repeated, TooLong, Misfit, Failed}
 use Rattle.tk_client.specs.declared.fault.FeedError.{FeedError}
 use Rattle.tk_client.specs.Feeding.{ClientView, Took, Stopped, StoppedBy}
-use Rattle.tk_client.specs.Meaning.{Start, Outcome, goes, stops, expected, is_next, base_of, behind_line, line_read, line_taken, times_base, cut, after as lines_before, too_long, ended, run, empty_start, meaning}
+use Rattle.tk_client.specs.Meaning.{Start, Outcome, goes, stops, expected, is_next, base_of, start_after, line_read, line_taken, times_base, cut, after as lines_before, too_long, ended, run, empty_start, meaning}
 use Rattle.tk_client.specs.Streams.{AreShort, HasNoFault}
 use Rattle.tk_stream.specs.Streams.{Sending, line_sent, line_untimed, lines_sent, bytes_sent, tables_sent, times_sent, AreToldOf, AreInRange, MaySend, GoesOn, IsUninterrupted}
 use Rattle.tk_stream.specs.Times.{TaskTimes}
@@ -95,9 +95,9 @@ module _ {Item Info Stats : Type 0} (k : Kind Item Info Stats) (stats_of : Item 
       by true = refl
       by false = e
 
-  shown_behind : (x : Item) (xs us : List Item) → AllByRecursion (IsShown (map k.info_of (filter new xs))) us → AllByRecursion (IsShown (map k.info_of (filter new (x ∷ xs)))) us
-  shown_behind x xs [] all = tt
-  shown_behind x xs (u ∷ us) all = ((λ n. by (new x) (all.0 n)), shown_behind x xs us all.1)
+  shown_after : (x : Item) (xs us : List Item) → AllByRecursion (IsShown (map k.info_of (filter new xs))) us → AllByRecursion (IsShown (map k.info_of (filter new (x ∷ xs)))) us
+  shown_after x xs [] all = tt
+  shown_after x xs (u ∷ us) all = ((λ n. by (new x) (all.0 n)), shown_after x xs us all.1)
     where
       by : (b : Bool) → has_id k.info_id (k.id_of u) (map k.info_of (filter new xs)) ≡ true → has_id k.info_id (k.id_of u) (map k.info_of (cond b (x ∷ filter new xs) (filter new xs))) ≡ true
       by true e = also_shown (k.info_of x) (map k.info_of (filter new xs)) (k.id_of u) e
@@ -110,7 +110,7 @@ module _ {Item Info Stats : Type 0} (k : Kind Item Info Stats) (stats_of : Item 
 
   all_shown : (xs : List Item) → AllByRecursion (IsShown (map k.info_of (filter new xs))) xs
   all_shown [] = tt
-  all_shown (x ∷ xs) = (shown_here x xs, shown_behind x xs xs (all_shown xs))
+  all_shown (x ∷ xs) = (shown_here x xs, shown_after x xs xs (all_shown xs))
 
   known : (infos : List Info) (x : Item) → IsShown infos x → is_strange k old infos (stats_of x) ≡ false
   known infos x shown = ap (λ id. not (has_id k.id_of id old || has_id k.info_id id infos)) (keys x) ∙ by (item_with k.id_of (k.id_of x) old) refl
@@ -360,18 +360,18 @@ cut_line (b ∷ bs) h =
     flipped true e = absurd (cc)
     flipped false e = refl
 
--- where a client stands behind a whole line
-abbrev behind : TablesView → List TaskTimes → Option ℕ → Start
-behind tables times last = record { tables = tables; last = last; part = []; times = times }
+-- where a client stands after a whole line
+abbrev standing : TablesView → List TaskTimes → Option ℕ → Start
+standing tables times last = record { tables = tables; last = last; part = []; times = times }
 
 one_line : (max : ℕ) (tables after : TablesView) (times later : List TaskTimes) (last next : Option ℕ) (text : List ℕ) → is_one_line text ≡ true → length text ≤ max
-    → line_taken tables times last text ≡ Ok (behind after later next)
-    → meaning max (behind tables times last) (text ++ 10 ∷ []) ≡ goes (behind after later next) 1
+    → line_taken tables times last text ≡ Ok (standing after later next)
+    → meaning max (standing tables times last) (text ++ 10 ∷ []) ≡ goes (standing after later next) 1
 one_line max tables after times later last next text whole short taken =
-    ap (λ (c : List (List ℕ) × List ℕ). run max (behind tables times last) c.0 c.1) (cut_line text whole)
-    ∙ ap (λ b. cond b (too_long max (behind tables times last)) (ended tables (length text + 1) (line_taken tables times last text) (λ u. run max u [] []))) (le-ltb max (length text) short)
+    ap (λ (c : List (List ℕ) × List ℕ). run max (standing tables times last) c.0 c.1) (cut_line text whole)
+    ∙ ap (λ b. cond b (too_long max (standing tables times last)) (ended tables (length text + 1) (line_taken tables times last text) (λ u. run max u [] []))) (le-ltb max (length text) short)
     ∙ ap (λ r. ended tables (length text + 1) r (λ u. run max u [] [])) taken
-    ∙ ap (λ b. lines_before 1 (length text + 1) (cond b (too_long max (behind after later next)) (goes (behind after later next) 0))) (le-ltb max 0 (omega arith))
+    ∙ ap (λ b. lines_before 1 (length text + 1) (cond b (too_long max (standing after later next)) (goes (standing after later next) 0))) (le-ltb max 0 (omega arith))
 
 -- a line of any kind: a snapshot or not, which says what is gone or not
 abbrev line_by : Bool → Bool → TablesView → TablesView → ℕ → LineView
@@ -450,10 +450,10 @@ times_by (Some ts) false false before after seq times = refl
 
 -- ---- streams, by the laws of lines
 
--- what a stream comes to, from tables and histograms on and behind a line of that number
+-- what a stream comes to, from tables and histograms on and after a line of that number
 abbrev Comes : ℕ → TablesView → List TaskTimes → Option ℕ → List Sending → Type 0
 Comes max before times last sent =
-    (t : Start) × (meaning max (behind before times last) (bytes_sent (lines_sent before sent)) ≡ goes t (length sent)) × (t.tables ≡ tables_sent before sent) × (t.part ≡ []) × (t.times ≡ times_sent times before sent)
+    (t : Start) × (meaning max (standing before times last) (bytes_sent (lines_sent before sent)) ≡ goes t (length sent)) × (t.tables ≡ tables_sent before sent) × (t.part ≡ []) × (t.times ≡ times_sent times before sent)
 
 module _ (lead : (old after : TablesView) (seq : ℕ) → AreFit old → AreFit after → GoOn old after → tables_after old (line_between old after seq) ≡ Some after)
     (less : (old after : TablesView) (seq : ℕ) → AreFit old → AreFit after → GoOn (what_stays old after) after → tables_after old (with_gone (gone_between old after) (line_between old after seq)) ≡ Some after)
@@ -461,27 +461,27 @@ module _ (lead : (old after : TablesView) (seq : ℕ) → AreFit old → AreFit 
     (read : (l : LineView) → IsLine l → line_of_text (line_text l) ≡ Ok l) where
   -- a line that is read and has no fault is taken
   taken_at : (before after : TablesView) (times : List TaskTimes) (last : Option ℕ) (l : LineView) → IsLine l → is_next last l ≡ true → line_checked (base_of before l) l ≡ Ok after
-      → line_taken before times last (line_text l) ≡ Ok (behind after (times_after (times_base times l) l) (Some l.seq))
+      → line_taken before times last (line_text l) ≡ Ok (standing after (times_after (times_base times l) l) (Some l.seq))
   unfolding line_taken
   taken_at before after times last l in_range next applied =
       ap (line_read before times last) (read l in_range)
-      ∙ ap (λ b. cond b (behind_line l times (line_checked (base_of before l) l)) (Err (Gap (expected last) l.seq))) next
-      ∙ ap (behind_line l times) applied
+      ∙ ap (λ b. cond b (start_after l times (line_checked (base_of before l) l)) (Err (Gap (expected last) l.seq))) next
+      ∙ ap (start_after l times) applied
 
   -- so is one without histograms, with those that are told beside it
   told_at : (told : Option (List TaskTimes)) (before after : TablesView) (times : List TaskTimes) (last : Option ℕ) (l : LineView) → IfSome told (AreToldOf after) → l.task_times ≡ None
       → IsAsTold (base_of before l) after l → IsLine l → is_next last l ≡ true → line_applied (base_of before l) l ≡ Ok after
-      → line_taken before times last (line_text (timed told l)) ≡ Ok (behind after (times_after (times_base times (timed told l)) (timed told l)) (Some l.seq))
+      → line_taken before times last (line_text (timed told l)) ≡ Ok (standing after (times_after (times_base times (timed told l)) (timed told l)) (Some l.seq))
   told_at told before after times last l h none shape in_range next applied =
       taken_at before after times last (timed told l) (timed_in told after l h none in_range) (timed_next told last l next)
       (ap (λ base. line_checked base (timed told l)) (timed_base told before l) ∙ timed_applied told (base_of before l) after l h none shape applied)
-      ∙ ap (λ n. Ok (behind after (times_after (times_base times (timed told l)) (timed told l)) (Some n))) (timed_seq told l)
+      ∙ ap (λ n. Ok (standing after (times_after (times_base times (timed told l)) (timed told l)) (Some n))) (timed_seq told l)
 
   taken_by : (told : Option (List TaskTimes)) (b r : Bool) (before after : TablesView) (times : List TaskTimes) (seq : ℕ) (last : Option ℕ) → IfSome told (AreToldOf after)
       → AreFit before → AreFit after → GoOn (cond (r && not b) (what_stays before after) before) after → AreInRange before → AreInRange after
       → is_seq seq ≡ true → is_next last (line_by b r before after seq) ≡ true
       → line_taken before times last (line_text (timed told (line_by b r before after seq)))
-      ≡ Ok (behind after (times_after (times_base times (timed told (line_by b r before after seq))) (timed told (line_by b r before after seq))) (Some seq))
+      ≡ Ok (standing after (times_after (times_base times (timed told (line_by b r before after seq))) (timed told (line_by b r before after seq))) (Some seq))
   taken_by told true false before after times seq last h old fit on was all numbered next =
       let l : LineView = snapshot_of after seq in
       told_at told before after times last l h refl (record { gone = inl refl; new = refl }) (snapshot_in after seq all numbered) next
@@ -499,7 +499,7 @@ module _ (lead : (old after : TablesView) (seq : ℕ) → AreFit old → AreFit 
       told_at told before after times last l h refl (record { gone = inr refl; new = refl }) (gone_in (gone_between before after) (line_between before after seq) (between_gone before after was) (between_in before after seq all numbered)) next
       (line_fits before l after (no_repeats_less before after seq old.distinct fit.distinct) (no_strangers_less before after seq old.distinct) (ap or_misfit (less before after seq old fit on)) (fits_all after fit))
 
-  -- a line, and what comes behind it
+  -- a line, and what comes after it
   line_first : (max : ℕ) (before : TablesView) (times : List TaskTimes) (last : Option ℕ) (s : Sending) (ss : List Sending) → AreFit before → AreInRange before → MaySend before s
       → is_next last (line_by s.snapshot s.removes before s.tables s.seq) ≡ true
       → length (line_text (line_sent before s)) ≤ max → ((later : List TaskTimes) → Comes max s.tables later (Some s.seq) ss) → Comes max before times last (s ∷ ss)
@@ -507,10 +507,10 @@ module _ (lead : (old after : TablesView) (seq : ℕ) → AreFit old → AreFit 
       let l : LineView = line_sent before s in
       let later : List TaskTimes = times_after (times_base times l) l in
       let more : Comes max s.tables later (Some s.seq) ss = rest later in
-      let taken : line_taken before times last (line_text l) ≡ Ok (behind s.tables later (Some s.seq)) =
+      let taken : line_taken before times last (line_text l) ≡ Ok (standing s.tables later (Some s.seq)) =
       taken_by s.told s.snapshot s.removes before s.tables times s.seq last may.told old may.fit may.on was may.in_range may.numbered next in (
         more.0,
-        goes-then max (behind before times last) (behind s.tables later (Some s.seq)) more.0 (line_text l ++ 10 ∷ []) (bytes_sent (lines_sent s.tables ss)) 1 (length ss)
+        goes-then max (standing before times last) (standing s.tables later (Some s.seq)) more.0 (line_text l ++ 10 ∷ []) (bytes_sent (lines_sent s.tables ss)) 1 (length ss)
             (one_line max before s.tables times later last (Some s.seq) (line_text l) (text_is_one_line l) short taken) more.1
             ∙ ap (goes more.0) (omega arith),
         more.2,
@@ -520,7 +520,7 @@ module _ (lead : (old after : TablesView) (seq : ℕ) → AreFit old → AreFit 
 
   later_lines : (max : ℕ) (before : TablesView) (last : ℕ) (ss : List Sending) → AreFit before → AreInRange before → GoesOn before last ss → AreShort max (lines_sent before ss)
       → (times : List TaskTimes) → Comes max before times (Some last) ss
-  later_lines max before last [] old was on short times = (behind before times (Some last), nothing max (behind before times (Some last)) (omega arith), refl, refl, refl)
+  later_lines max before last [] old was on short times = (standing before times (Some last), nothing max (standing before times (Some last)) (omega arith), refl, refl, refl)
   later_lines max before last (s ∷ ss) old was on short times =
       line_first max before times (Some last) s ss old was on.1 (next_number s.snapshot s.removes before s.tables s.seq last on.0) short.0 (later_lines max s.tables s.seq ss on.1.fit on.1.in_range on.2 short.1)
 
@@ -565,7 +565,7 @@ module _ (lead : (old after : TablesView) (seq : ℕ) → AreFit old → AreFit 
   no_stop max sent n x on short same tables lines fault used e =
       subst HasNoFault (ap (meaning max empty_start) (sym same) ∙ e) (fronts max sent n on short)
 
-  -- a piece of a stream, behind a front of it
+  -- a piece of a stream, after a front of it
   pub fed_piece : (first old new : ClientView) (sent : List Sending) (front piece rest : List ℕ) (lines : ℕ) (e : FeedError) → first.start ≡ empty_start → IsUninterrupted sent
       → AreShort first.max_line (lines_sent empty_tables sent) → bytes_sent (lines_sent empty_tables sent) ≡ front ++ (piece ++ rest) → Took first front lines old → old.max_line ≡ first.max_line
       → Stopped old piece e new → e.fault ≡ Memory

@@ -120,7 +120,7 @@ take-last xs i x lt e = ap (λ n. take n xs) (add-one i) ∙ at xs i lt e
     at (y ∷ ys) zero h e = ap (λ z. z ∷ []) (sym e)
     at (y ∷ ys) (suc j) h e = ap (λ zs. y ∷ zs) (at ys j (omega arith) e)
 
--- an id behind others, none of which stands twice, is apart from them
+-- an id after others, none of which stands twice, is apart from them
 pub apart-at : {X : Type 0} (f : X → ℕ) (xs : List X) (i : ℕ) (x : X) → has_twice (map f xs) ≡ false → i < length xs → x ≡ get_or xs i x → list_any (λ m. nat_eq (f x) m) (map f (take i xs)) ≡ false
 apart-at f [] i x once lt e = absurd (omega arith)
 apart-at f (y ∷ ys) zero x once lt e = refl

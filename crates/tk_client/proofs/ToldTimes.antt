@@ -3,7 +3,7 @@ use Rattle.std.proofs.Common.{◌≡◌, ℕ, List, [], ◌∷◌, Bool, true, f
 use Rattle.std.specs.Prelude.{map, filter, is_none, is_some, IsSome, not, ◌||◌, unwrap_or, ◌⊎◌}
 use Rattle.std.specs.List.{list_any, AllByRecursion, IsDistinct}
 use Rattle.std.proofs.lemmas.Bool.{eqb-true}
-use Rattle.tk_stream.specs.declared.task.Task.{Task}
+use Rattle.tk_stream.specs.declared.tables.task.Task.{Task}
 use Rattle.tk_stream.specs.Lines.{LineView, is_new, gone_ids, gone_of, new_infos, task_info, with_times}
 use Rattle.tk_stream.specs.Streams.{AreToldOf}
 use Rattle.tk_stream.specs.Tables.{TablesView, task_id, task_with, is_among}

@@ -13,7 +13,7 @@ use Rattle.tk_client.proofs.Ends.{holds}
 use Rattle.tk_client.proofs.Pieces.{meaning-append}
 use Rattle.tk_client.proofs.FeedLemmas.{goes-then}
 
--- a line end behind a part line
+-- a line end after a part line
 end-goes : (max : ℕ) (s : Start) (tables : TablesView) (times : List TaskTimes) (n : ℕ) → length s.part ≤ max → line_taken s.tables s.times s.last s.part ≡ Ok (record { tables = tables; last = Some n; part = []; times = times })
     → meaning max s (10 ∷ []) ≡ goes (record { tables = tables; last = Some n; part = []; times = times }) 1
 end-goes max s tables times n fits taken =

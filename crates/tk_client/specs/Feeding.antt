@@ -1,5 +1,5 @@
 -- What a client shows, and what feeding it did.
-use Rattle.std.specs.Prelude.{◌≡◌, ℕ, ◌≤◌, List, take, length, Bool, true, false, Result, Ok, Err}
+use Rattle.std.specs.Prelude.{◌≡◌, ℕ, ◌≤◌, ◌<◌, List, take, length, Bool, true, false, Result, Ok, Err}
 use Rattle.tk_client.specs.declared.fault.Fault.{Fault}
 use Rattle.tk_client.specs.declared.fault.Fault.TheVariants.{Memory}
 use Rattle.tk_client.specs.declared.fault.FeedError.{FeedError}
@@ -28,6 +28,18 @@ pub record Stopped (old : ClientView) (bytes : List ℕ) (e : FeedError) (new : 
 pub record Took (old : ClientView) (bytes : List ℕ) (lines : ℕ) (new : ClientView) : Type 0 where
   pub came : meaning old.max_line old.start bytes ≡ goes new.start lines
   pub sound : new.has_failed ≡ false
+
+-- a front of the bytes that isn't empty was taken: the lines applied and the bytes of it
+pub record StepsOver (old : ClientView) (bytes : List ℕ) (step : ℕ × ℕ) (new : ClientView) : Type 0 where
+  pub some : 0 < step.1
+  pub within : step.1 ≤ length bytes
+  pub few : step.0 ≤ step.1
+  pub took : Took old (take step.1 bytes) step.0 new
+
+-- one step over bytes: a front of them was taken, or feeding stopped among them
+abbrev pub Steps : ClientView → List ℕ → Result (ℕ × ℕ) FeedError → ClientView → Type 0
+Steps old bytes (Ok step) new = StepsOver old bytes step new
+Steps old bytes (Err e) new = Stopped old bytes e new
 
 -- what feeding bytes did to a client that hadn't failed
 abbrev pub Fed : ClientView → List ℕ → Result ℕ FeedError → ClientView → Type 0

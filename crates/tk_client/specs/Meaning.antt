@@ -24,6 +24,10 @@ pub record Start : Type 0 where
 abbrev pub empty_start : Start
 empty_start = record { tables = empty_tables; last = None; part = []; times = [] }
 
+-- how many bytes a line has at most for a view, a page, a watch and metrics
+abbrev pub greatest_line : ℕ
+greatest_line = 268435456
+
 -- what bytes come to: they go on to a start, after so many lines, or stop at tables, after so many lines, by a fault, through
 -- so many of the bytes
 pub data Outcome : Type 0 where
@@ -56,18 +60,18 @@ base_of old l = if l.snapshot then empty_tables else old
 abbrev pub times_base : List TaskTimes → LineView → List TaskTimes
 times_base old l = if l.snapshot then [] else old
 
--- the start behind a line that was applied, where these histograms stood beside the tables
-abbrev pub behind_line : LineView → List TaskTimes → Result TablesView Fault → Result Start Fault
-behind_line l times (Ok tables) = Ok (record { tables = tables; last = Some l.seq; part = []; times = times_after (times_base times l) l })
-behind_line l times (Err fault) = Err fault
+-- the start after a line that was applied, where these histograms stood beside the tables
+abbrev pub start_after : LineView → List TaskTimes → Result TablesView Fault → Result Start Fault
+start_after l times (Ok tables) = Ok (record { tables = tables; last = Some l.seq; part = []; times = times_after (times_base times l) l })
+start_after l times (Err fault) = Err fault
 
 -- a line that was read is taken where it is the next one
 abbrev pub line_read : TablesView → List TaskTimes → Option ℕ → Result LineView LineError → Result Start Fault
 line_read tables times last (Ok l) =
-    if is_next last l then behind_line l times (line_checked (base_of tables l) l) else Err (Gap (expected last) l.seq)
+    if is_next last l then start_after l times (line_checked (base_of tables l) l) else Err (Gap (expected last) l.seq)
 line_read tables times last (Err e) = Err (fault_of e)
 
--- a whole line, without its end, taken behind tables, histograms and the number of the last line
+-- a whole line, without its end, taken at tables, histograms and the number of the last line
 unfoldable pub line_taken : TablesView → List TaskTimes → Option ℕ → List ℕ → Result Start Fault
 line_taken tables times last text = line_read tables times last (line_of_text text)
 
@@ -78,7 +82,7 @@ abbrev pub in_front : ℕ → List (List ℕ) × List ℕ → List (List ℕ) ×
 in_front b ([], rest) = ([], b ∷ rest)
 in_front b (l ∷ ls, rest) = ((b ∷ l) ∷ ls, rest)
 
--- the lines that end in the bytes, without their ends, and what stands behind the last end
+-- the lines that end in the bytes, without their ends, and what stands after the last end
 abbrev pub cut : List ℕ → List (List ℕ) × List ℕ
 cut [] = ([], [])
 cut (b ∷ bs) = if b == line_end then ([] ∷ (cut bs).0, (cut bs).1) else in_front b (cut bs)
@@ -90,7 +94,7 @@ abbrev pub after : ℕ → ℕ → Outcome → Outcome
 after lines bytes (goes s n) = goes s (lines + n)
 after lines bytes (stops tables n fault used) = stops tables (lines + n) fault (bytes + used)
 
--- bytes behind the part line are more than a line may have
+-- bytes after the part line are more than a line may have
 abbrev pub is_too_long : ℕ → Start → List ℕ → Bool
 is_too_long max s bytes = nat_lt max (length (s.part ++ bytes))
 
@@ -102,12 +106,12 @@ too_long max s = stops s.tables 0 TooLong (max + 1 - length s.part)
 abbrev pub held : ℕ → Start → List ℕ → Outcome
 held max s rest = if is_too_long max s rest then too_long max s else goes (record s { part = s.part ++ rest }) 0
 
--- a line of so many bytes that was taken or not, and what comes of the bytes behind it
+-- a line of so many bytes that was taken or not, and what comes of the bytes after it
 abbrev pub ended : TablesView → ℕ → Result Start Fault → (Start → Outcome) → Outcome
 ended tables bytes (Ok s) more = after 1 bytes (more s)
 ended tables bytes (Err fault) more = stops tables 0 fault bytes
 
--- the lines one after the other, the first behind the part line
+-- the lines one after the other, the first after the part line
 abbrev pub run : ℕ → Start → List (List ℕ) → List ℕ → Outcome
 run max s [] rest = held max s rest
 run max s (l ∷ ls) rest =

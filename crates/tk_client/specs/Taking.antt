@@ -6,8 +6,8 @@ use Rattle.tk_ids.specs.declared.attr.AttrInfo.{AttrInfo}
 use Rattle.tk_ids.specs.declared.attr.AttrKind.{AttrKind}
 use Rattle.tk_ids.specs.declared.attr.AttrKind.TheVariants as kinds
 use Rattle.tk_ids.specs.declared.attr.AttrValue.{AttrValue}
-use Rattle.tk_stream.specs.declared.op.Op.{Op}
-use Rattle.tk_stream.specs.declared.resource.Resource.{Resource}
+use Rattle.tk_stream.specs.declared.tables.op.Op.{Op}
+use Rattle.tk_stream.specs.declared.tables.resource.Resource.{Resource}
 use Rattle.tk_ids.specs.declared.info.TaskInfo.{TaskInfo}
 use Rattle.tk_stream.specs.Tables.{TablesView, task_id, counts_id, item_with, is_among}
 use Rattle.tk_stream.specs.Times.{times_id}

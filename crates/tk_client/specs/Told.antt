@@ -97,7 +97,7 @@ abbrev pub retold_at : {Item Info Stats : Type 0} → Kind Item Info Stats → L
 retold_at k items i (Some s) = changed_at (retold k s) items i
 retold_at k items i None = items
 
--- tables with new items behind the old ones, where each of the new has something told of it
+-- tables with new items after the old ones, where each of the new has something told of it
 abbrev pub with_new : {Item : Type 0} → (TablesView → List Item → TablesView) → TablesView → List Item → Option (List Item) → Result TablesView Fault
 with_new put tables old (Some items) = Ok (put tables (old ++ items))
 with_new put tables old None = Err Misfit
@@ -150,11 +150,11 @@ keyed_kind id_of = record {
   item_of = λ id c. c;
 }
 
--- items that are there with what is told of them, and behind them the new ones
+-- items that are there with what is told of them, and after them the new ones
 abbrev pub keyed_after : {Item : Type 0} → (Item → ℕ) → List Item → List Item → List Item
 keyed_after id_of old told = map (told_item (keyed_kind id_of) told) old ++ filter (is_new id_of old) told
 
--- items with this one behind them, where none has its id
+-- items with this one after them, where none has its id
 abbrev pub key_added : {Item : Type 0} → (Item → ℕ) → Item → List Item → List Item
 key_added id_of c items = if is_some (item_with id_of (id_of c) items) then items else items ++ c ∷ []
 
@@ -174,7 +174,7 @@ pub begins_same : {A : Type 0} (xs : List A) → Begins xs xs
 begins_same [] = tt
 begins_same (x ∷ xs) = (refl, begins_same xs)
 
--- tables with more items and counts behind the old ones, and nothing else
+-- tables with more items and counts after the old ones, and nothing else
 pub record Grown (old new : TablesView) : Type 0 where
   pub tasks : Begins old.tasks new.tasks
   pub resources : Begins old.resources new.resources
@@ -183,7 +183,7 @@ pub record Grown (old new : TablesView) : Type 0 where
   pub dropped : new.dropped ≡ old.dropped
   pub now : new.now ≡ old.now
 
--- the tables with the new items of a line behind the old ones, each with what is told of it, and with its new counts
+-- the tables with the new items of a line after the old ones, each with what is told of it, and with its new counts
 abbrev pub tables_grown : TablesView → LineView → Option TablesView
 tables_grown old l =
     option_and_then (λ tasks. option_and_then (λ resources. option_map (λ ops. record old {
@@ -201,7 +201,7 @@ tables_grown old l =
 abbrev pub spent : LineView → LineView
 spent l = record l { new_ops = []; new_resources = []; new_tasks = [] }
 
--- counts with these behind them, where their resource has none
+-- counts with these after them, where their resource has none
 abbrev pub count_added : PollCounts → List PollCounts → List PollCounts
 count_added c counts = if is_some (item_with counts_id c.0 counts) then counts else counts ++ c ∷ []
 

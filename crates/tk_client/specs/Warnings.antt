@@ -5,7 +5,7 @@ use Rattle.std.specs.Option.{option_map_or}
 use Rattle.tk_core.specs.declared.task.row.TaskRow.{TaskRow}
 use Rattle.tk_ids.specs.declared.spec.TaskKind.{TaskKind}
 use Rattle.tk_ids.specs.declared.spec.TaskKind.TheVariants.{Spawn, Blocking}
-use Rattle.tk_stream.specs.declared.task.Task.{Task}
+use Rattle.tk_stream.specs.declared.tables.task.Task.{Task}
 use Rattle.tk_stream.specs.Tables.{TablesView}
 use Rattle.tk_client.specs.declared.warning.Warning.{Warning}
 use Rattle.tk_client.specs.declared.warning.WarningKind.{WarningKind}
@@ -15,6 +15,10 @@ use Rattle.tk_client.specs.declared.warning.WarningKind.TheVariants.{SelfWakes, 
 pub record LintsView : Type 0 where
   pub self_wake_percent : ℕ
   pub never_yielded_ns : ℕ
+
+-- the lints where nothing is said
+abbrev pub default_lints : LintsView
+default_lints = record { self_wake_percent = 50; never_yielded_ns = 1000000000 }
 
 -- more than so many of a hundred wakes came from within the task. It takes at least one wake
 abbrev pub wakes_itself : ℕ → TaskRow → Bool

@@ -1,6 +1,6 @@
 //! The list of the tasks that can be warned of, by their ids.
 //!
-//! Behind a line the tasks are looked at that it told of, and those that are gone leave the list. No other task becomes one that
+//! After a line the tasks are looked at that it told of, and those that are gone leave the list. No other task becomes one that
 //! can be warned of, or ceases to be one.
 ghost use Rattle.std.specs.Prelude.{◌≡◌, ◌+◌, ◌==◌, ◌≤◌, ◌<◌, ◌&&◌, ℕ, length, map, nat_eq, not, IfOk, if◌then◌else◌};
 ghost use Rattle.std.specs.List.{IsDistinct};

@@ -4,7 +4,7 @@
 ghost use Rattle.std.specs.Prelude.{◌≡◌, ◌+◌, ◌≤◌, ◌<◌, ◌^◌, ◌==◌, IfOk, IfErr, OnErr, IfSome, IfNone, Ok, Err, length, take, true, false, Some, [], ◌∷◌, ◌++◌, position};
 ghost use Rattle.tk_stream.specs.Spelling.{line_end, is_one_line};
 ghost use Rattle.tk_client.specs.Meaning as spec;
-ghost use Rattle.tk_client.specs.Feeding.{Took, Stopped};
+ghost use Rattle.tk_client.specs.Feeding.{Took, Stopped, Steps};
 ghost use Rattle.tk_client.specs.Told.{Answers, Ended, EndedWhole};
 
 use crate::fault::{Fault, FeedError};
@@ -189,7 +189,7 @@ impl Client {
         Ok(())
     }
 
-    // Takes a line end behind the part line.
+    // Takes a line end after the part line.
     fn end_line(&mut self) -> Result<(), Fault>
         requires { self.old.has_failed ≡ false }
         ensures ended { Ended self.old result self.new }
@@ -253,11 +253,7 @@ impl Client {
         requires short { end ≤ self.old.max_line }
         requires before { is_one_line (take end bytes.now) ≡ true }
         requires through { take (end + 1) bytes.now ≡ take end bytes.now ++ line_end ∷ [] }
-        ensures some { IfOk result (λ p. 0 < p.1) }
-        ensures within { IfOk result (λ p. p.1 ≤ length bytes.now) }
-        ensures few { IfOk result (λ p. p.0 ≤ p.1) }
-        ensures took { IfOk result (λ p. Took self.old (take p.1 bytes.now) p.0 self.new) }
-        ensures stopped { IfErr result (λ e. Stopped self.old bytes.now e self.new) }
+        ensures step { Steps self.old bytes.now result self.new }
         ensures limit { self.new.max_line ≡ self.old.max_line }
     {
         match self.take_whole(&bytes[..end]) {
@@ -276,17 +272,13 @@ impl Client {
         }
     }
 
-    // Takes the rest of a line behind its part, and its end.
+    // Takes the rest of a line after its part, and its end.
     fn step_rest(&mut self, bytes: &[u8], end: usize) -> Result<(u64, usize), FeedError>
         requires sound { self.old.has_failed ≡ false }
         requires inside { end < length bytes.now }
         requires before { is_one_line (take end bytes.now) ≡ true }
         requires through { take (end + 1) bytes.now ≡ take end bytes.now ++ line_end ∷ [] }
-        ensures some { IfOk result (λ p. 0 < p.1) }
-        ensures within { IfOk result (λ p. p.1 ≤ length bytes.now) }
-        ensures few { IfOk result (λ p. p.0 ≤ p.1) }
-        ensures took { IfOk result (λ p. Took self.old (take p.1 bytes.now) p.0 self.new) }
-        ensures stopped { IfErr result (λ e. Stopped self.old bytes.now e self.new) }
+        ensures step { Steps self.old bytes.now result self.new }
         ensures limit { self.new.max_line ≡ self.old.max_line }
     {
         self.hold(&bytes[..end])?;
@@ -310,11 +302,7 @@ impl Client {
     fn step(&mut self, bytes: &[u8]) -> Result<(u64, usize), FeedError>
         requires some { 0 < length bytes.now }
         requires sound { self.old.has_failed ≡ false }
-        ensures some { IfOk result (λ p. 0 < p.1) }
-        ensures within { IfOk result (λ p. p.1 ≤ length bytes.now) }
-        ensures few { IfOk result (λ p. p.0 ≤ p.1) }
-        ensures took { IfOk result (λ p. Took self.old (take p.1 bytes.now) p.0 self.new) }
-        ensures stopped { IfErr result (λ e. Stopped self.old bytes.now e self.new) }
+        ensures step { Steps self.old bytes.now result self.new }
         ensures limit { self.new.max_line ≡ self.old.max_line }
     {
         let Some(end) = first_end(bytes) else {
@@ -337,7 +325,7 @@ impl Client {
     /// fault is applied in no part: `TooLong` at the first byte too many; `BadJson`, `BadShape`; `Gap`; `Repeated`
     /// and `UnknownId` of histograms; `Repeated`; `UnknownId`; `Misfit`. `used` counts the bytes through the fault.
     ///
-    /// - `Memory`: the first `used` bytes were taken, and those behind them may be fed again. A whole line that found no
+    /// - `Memory`: the first `used` bytes were taken, and those after them may be fed again. A whole line that found no
     ///   memory is applied in no part: where all of it lies in the piece, `used` ends before the line, and where its front
     ///   came with an earlier piece, before its line end.
     /// - `Failed`: the client has failed before, by any fault but `Memory`. Nothing changes, with `lines` 0 and `used` 0,

@@ -10,7 +10,7 @@ use tk_stream::LineError;
 
 /// Why a client takes no more of a stream. A line with a fault is applied in no part.
 ///
-/// Behind all but `Memory` the client has failed: it answers `Failed` until it is restarted.
+/// After all but `Memory` the client has failed: it answers `Failed` until it is restarted.
 #[derive(Clone, Copy, Debug, PartialEq, Eq, Error)]
 pub enum Fault {
     /// There is no memory left. The client goes on from where it stands.
@@ -104,7 +104,7 @@ pub struct FeedError {
     /// How many lines were applied.
     pub lines: u64,
     /// How many bytes of the piece were taken. Where the line has a fault, those through the fault: its line end, or its
-    /// first byte too many. At `Memory` the bytes behind these may be fed again: they end before a line of which all lies in
+    /// first byte too many. At `Memory` the bytes after these may be fed again: they end before a line of which all lies in
     /// the piece, and before the end of a line whose front came with an earlier one.
     pub used: usize,
     /// Why.

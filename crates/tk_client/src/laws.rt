@@ -1,7 +1,7 @@
 //! Laws of the definitions: each is the contract of a function that does nothing.
 ghost use Rattle.std.specs.Prelude.{◌≡◌, ◌+◌, ◌++◌, ℕ, List, [], Some, length, take};
 ghost use Rattle.std.specs.List.{AllByRecursion};
-ghost use Rattle.tk_stream.specs.declared.task.Task.{Task};
+ghost use Rattle.tk_stream.specs.declared.tables.task.Task.{Task};
 ghost use Rattle.tk_stream.specs.Tables.{AreDistinct, TablesView, empty_tables, task_with};
 ghost use Rattle.tk_client.specs.declared.fault.Fault.{Fault};
 ghost use Rattle.tk_client.specs.declared.fault.FeedError.{FeedError};
@@ -21,7 +21,7 @@ pub fn pieces_join()
         → meaning max s (a ++ b) ≡ after lines (length a) (meaning max t b) }
 {}
 
-/// What stands behind a fault changes nothing.
+/// What stands after a fault changes nothing.
 pub fn faults_stay()
     ensures { (max : ℕ) (s : Start) (a b : List ℕ) (tables : TablesView) (lines used : ℕ) (fault : Fault)
         → meaning max s a ≡ stops tables lines fault used → meaning max s (a ++ b) ≡ stops tables lines fault used }

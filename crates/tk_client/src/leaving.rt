@@ -11,13 +11,13 @@ use tk_stream::Line;
 
 /// The ids of the items that leave the tables. None stands twice in its list.
 #[derive(Drop)]
-pub(crate) struct Leaving {
+pub(crate) struct GoneIds {
     pub(crate) tasks: Ids,
     pub(crate) resources: Ids,
     pub(crate) ops: Ids,
 }
 
-impl Model for Leaving {
+impl Model for GoneIds {
     ghost use Rattle.tk_stream.specs.Lines.{GoneView};
 
     ghost Value = { GoneView };
@@ -55,9 +55,9 @@ fn op_ids(alloc: Global, gone: &[AsyncOpId]) -> Result<Vec<u64>, AllocError>
     Ok(ids)
 }
 
-impl Leaving {
+impl GoneIds {
     /// What a line says is gone, or `None` where an id stands twice in one of its lists.
-    pub(crate) fn of(alloc: Global, line: &Line) -> Result<Option<Leaving>, AllocError>
+    pub(crate) fn of(alloc: Global, line: &Line) -> Result<Option<GoneIds>, AllocError>
         ensures some { IfOk result (λ found. IfSome found (λ own. own ≡ gone_of line.now)) }
         ensures none { IfOk result (λ found. IfNone found (spec.repeats_gone line.now ≡ true)) }
     {
@@ -73,7 +73,7 @@ impl Leaving {
         let Some(ops) = Ids::new(alloc, &ops)? else {
             return Ok(None);
         };
-        Ok(Some(Leaving {
+        Ok(Some(GoneIds {
             tasks,
             resources,
             ops,

@@ -1,5 +1,6 @@
 //! How much is too much.
 ghost use Rattle.std.specs.Prelude.{◌≡◌, ◌≤◌, ◌<◌, None, IfSome, IsSome};
+ghost use Rattle.tk_client.specs.Warnings.{default_lints};
 
 use std::marker::Model;
 
@@ -57,7 +58,7 @@ impl Lints {
 }
 
 impl Default for Lints {
-    ghost is_default = { λ lints. lints ≡ record { self_wake_percent = 50; never_yielded_ns = 1000000000 } };
+    ghost is_default = { λ lints. lints ≡ default_lints };
 
     fn default() -> Lints {
         Lints {

@@ -203,7 +203,7 @@ fn warn_of_all_at(
 }
 
 /// All warnings of tables, found by a walk through all tasks: for each task in table order those that
-/// [`warnings_in`](crate::warnings_in) gives, and behind them its long poll, where polls of so many milliseconds are asked for.
+/// [`warnings_in`](crate::warnings_in) gives, and after them its long poll, where polls of so many milliseconds are asked for.
 pub fn all_warnings_in(
     alloc: Global,
     tables: &Tables,

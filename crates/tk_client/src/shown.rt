@@ -11,7 +11,7 @@ ghost use Rattle.tk_client.specs.Warnings.{warnings_in};
 use crate::able::{places_of, relist, unlist};
 use crate::candidates::warnings_of_places;
 use crate::fault::Fault;
-use crate::leaving::Leaving;
+use crate::leaving::GoneIds;
 use crate::lints::Lints;
 use crate::taking::apply_told;
 use crate::warning::Warning;
@@ -77,7 +77,7 @@ impl Shown {
 
     // Applies what a line that is no snapshot tells, where these items are to leave then. Room in the list of tasks that can be
     // warned of is made first.
-    fn tell(&mut self, alloc: Global, line: &mut Line, leaving: &Leaving) -> Result<(), Fault>
+    fn tell(&mut self, alloc: Global, line: &mut Line, leaving: &GoneIds) -> Result<(), Fault>
         requires { leaving.now ≡ gone_of line.old }
         ensures applied { Answers (λ _. without_gone self.new leaving.now) result (line_applied self.old line.old) }
         ensures kept { OnErr result (self.new ≡ self.old) }
@@ -94,7 +94,7 @@ impl Shown {
     }
 
     // Takes items out of the tables.
-    fn leave(&mut self, leaving: &Leaving)
+    fn leave(&mut self, leaving: &GoneIds)
         ensures { self.new ≡ without_gone self.old leaving.now }
     {
         self.tables.remove_gone(
@@ -111,7 +111,7 @@ impl Shown {
         ensures kept { OnErr result (self.new ≡ self.old) }
         ensures spent { OnOk result (line.new ≡ spent line.old) }
     {
-        let Some(leaving) = Leaving::of(alloc, line)? else {
+        let Some(leaving) = GoneIds::of(alloc, line)? else {
             return Err(Fault::Repeated);
         };
         match self.tell(alloc, line, &leaving) {

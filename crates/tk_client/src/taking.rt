@@ -1,6 +1,6 @@
 //! What a line makes of tables, in place.
 //!
-//! A line is checked in the order of its faults. Then its new items and counts go in behind the others, which may want memory;
+//! A line is checked in the order of its faults. Then its new items and counts go in after the others, which may want memory;
 //! then rows and counts that are there are replaced, which wants none. What went in is cut off again where the line isn't taken.
 //! What the line says is gone is left in the tables here: it leaves them last.
 ghost use Rattle.std.specs.Prelude.{◌≡◌, ◌||◌, Ok, IfOk, OnOk, OnErr, map, true, false};
@@ -16,7 +16,7 @@ use crate::attrs::rows_fit;
 use crate::counts::{add_counts, tell_counts};
 use crate::fault::Fault;
 use crate::ids::Ids;
-use crate::leaving::Leaving;
+use crate::leaving::GoneIds;
 use crate::listed::Listed;
 use std::alloc::{AllocError, Global};
 use tk_ids::ResourceId;
@@ -211,7 +211,7 @@ fn look_at_kind<T: Listed>(old: &Tables, gone: &Ids, stats: &[T::Stats]) -> Find
 }
 
 // What is found in what a line says is gone.
-fn look_at_gone(old: &Tables, line: &Line, leaving: &Leaving) -> Finding
+fn look_at_gone(old: &Tables, line: &Line, leaving: &GoneIds) -> Finding
     requires { leaving.now ≡ gone_of line.now }
     ensures { result ≡ inner.finding (spec.repeats_gone line.now) (spec.strange_gone old.now line.now) }
 {
@@ -226,7 +226,7 @@ fn look_at(
     alloc: Global,
     old: &Tables,
     line: &Line,
-    leaving: &Leaving,
+    leaving: &GoneIds,
 ) -> Result<Finding, AllocError>
     requires { leaving.now ≡ gone_of line.now }
     ensures { IfOk result (λ f. f ≡ inner.finding (spec.repeats_id old.now line.now) (spec.has_strange_id old.now line.now)) }
@@ -355,7 +355,7 @@ fn tell_line(tables: &mut Tables, line: &Line)
     tables.set_totals(line.dropped(), line.now());
 }
 
-// What goes in behind the others, where the line then has no fault.
+// What goes in after the others, where the line then has no fault.
 fn grow_fitting(alloc: Global, tables: &mut Tables, line: &mut Line) -> Result<(), Fault>
     requires once { spec.repeats_told tables.old line.old ≡ false }
     requires known { spec.strange_told tables.old line.old ≡ false }
@@ -423,7 +423,7 @@ pub(crate) fn apply_told(
     alloc: Global,
     tables: &mut Tables,
     line: &mut Line,
-    leaving: &Leaving,
+    leaving: &GoneIds,
 ) -> Result<(), Fault>
     requires fit { spec.are_fitting tables.old ≡ true }
     requires gone { leaving.now ≡ gone_of line.old }

@@ -1,6 +1,6 @@
 //! Histograms of poll times, which stand beside a client's tables.
 //!
-//! They are looked at before the line is applied. Then the new ones go in behind the others, which may want memory; once the tables have
+//! They are looked at before the line is applied. Then the new ones go in after the others, which may want memory; once the tables have
 //! taken the line, those of tasks that are gone leave, and what is told of the others is replaced, which wants none.
 ghost use Rattle.std.specs.Prelude.{◌≡◌, ◌++◌, ℕ, map, filter, false, IfOk, OnOk, OnErr, IsSome};
 ghost use Rattle.std.specs.List.{list_any};
@@ -135,7 +135,7 @@ fn add(times: &mut Times, told: &[(TaskId, PollTimes)]) -> Result<(), AllocError
     Ok(())
 }
 
-// Those of tasks that are gone leave.
+// The histograms of tasks that are gone leave.
 fn leave(times: &mut Times, gone: &[TaskId])
     ensures { times.new ≡ staying times_id gone.now times.old }
 {

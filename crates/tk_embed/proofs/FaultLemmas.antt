@@ -8,9 +8,9 @@ use Rattle.tk_ids.specs.Ids.{is_id}
 use Rattle.tk_core.specs.OpWords as op_words
 use Rattle.tk_core.specs.ResourceWords as resource_words
 use Rattle.tk_core.specs.TaskWords as task_words
-use Rattle.tk_stream.specs.declared.op.Op.{Op}
-use Rattle.tk_stream.specs.declared.resource.Resource.{Resource}
-use Rattle.tk_stream.specs.declared.task.Task.{Task}
+use Rattle.tk_stream.specs.declared.tables.op.Op.{Op}
+use Rattle.tk_stream.specs.declared.tables.resource.Resource.{Resource}
+use Rattle.tk_stream.specs.declared.tables.task.Task.{Task}
 use Rattle.tk_stream.specs.Tables.{PollCounts, item_with, task_id, resource_id, op_id, counts_id}
 use Rattle.tk_embed.specs.declared.entries.AttrEntry.{AttrEntry}
 use Rattle.tk_embed.specs.declared.entries.CountEntry.{CountEntry}
@@ -43,9 +43,9 @@ more_front p (x ∷ xs) ys h = by (p x) h (more_front p xs ys)
     by true e rest = refl
     by false e rest = rest e
 
-more_behind : {A : Type 0} (p : A → Bool) (xs ys : List A) → list_any p ys ≡ true → list_any p (xs ++ ys) ≡ true
-more_behind p [] ys h = h
-more_behind p (x ∷ xs) ys h = ap (λ b. p x || b) (more_behind p xs ys h) ∙ or_true (p x)
+more_after : {A : Type 0} (p : A → Bool) (xs ys : List A) → list_any p ys ≡ true → list_any p (xs ++ ys) ≡ true
+more_after p [] ys h = h
+more_after p (x ∷ xs) ys h = ap (λ b. p x || b) (more_after p xs ys h) ∙ or_true (p x)
 
 -- ---- reasons
 
@@ -58,7 +58,7 @@ of_bad P Q step bads.Memory h = h
 any_of_one : {A B : Type 0} (p : B → Bool) (f : A → List B) (xs : List A) (i : ℕ) (x : A) → slice_get xs i ≡ Some x → list_any p (f x) ≡ true → list_any p (flat_map f xs) ≡ true
 any_of_one p f [] i x at h = absurd (cc)
 any_of_one p f (y ∷ ys) zero x at h = more_front p (f y) (flat_map f ys) (ap (λ z. list_any p (f z)) (same_Some y x at) ∙ h)
-any_of_one p f (y ∷ ys) (suc i) x at h = more_behind p (f y) (flat_map f ys) (any_of_one p f ys i x at h)
+any_of_one p f (y ∷ ys) (suc i) x at h = more_after p (f y) (flat_map f ys) (any_of_one p f ys i x at h)
 
 -- the pieces of one of these attributes
 of_one : (text : List ℕ) (entries : List AttrEntry) (i : ℕ) (a : AttrEntry) → slice_get entries i ≡ Some a → (r : Reason) → HasBadPiece text (attr_pieces a) r → HasBadPiece text (flat_map attr_pieces entries) r
@@ -72,7 +72,7 @@ of_one text entries i a at Twice h = h
 pub attr_at : (text : List ℕ) (entries : List AttrEntry) (i : ℕ) (a : AttrEntry) (b : Bad) → i < length entries → OfBad (HasBadPiece text (attr_pieces (get_or entries i a))) b → OfBad (HasBadPiece text (flat_map attr_pieces entries)) b
 attr_at text entries i a b within h = of_bad _ _ (of_one text entries i (get_or entries i a) (slice_get-get_or entries i a within)) b h
 
--- ---- entries behind others
+-- ---- entries after others
 
 module _ {Item Entry Shown : Type 0} (shown : Item → Shown) (shows : Entry → Shown) (id_in : Shown → ℕ) where
   -- an id is there where an entry before has it
@@ -91,8 +91,8 @@ module _ {Item Entry Shown : Type 0} (shown : Item → Shown) (shows : Entry →
       by false rest = rest
 
 -- the same of an entry, whether its id stands before or not
-behind : {R : Type 0} (words_of : R → List ℕ) (words : List ℕ) (s t : Bool) (info : Reason → Type 0) → s ≡ t → (r : Reason) → IsBadEntry words_of words s info r → IsBadEntry words_of words t info r
-behind words_of words s t info same r h = subst (λ (b : Bool). IsBadEntry words_of words b info r) same h
+same_after : {R : Type 0} (words_of : R → List ℕ) (words : List ℕ) (s t : Bool) (info : Reason → Type 0) → s ≡ t → (r : Reason) → IsBadEntry words_of words s info r → IsBadEntry words_of words t info r
+same_after words_of words s t info same r h = subst (λ (b : Bool). IsBadEntry words_of words b info r) same h
 
 pub task_at : (text : List ℕ) (now : Bool) (entries : List TaskEntry) (i : ℕ) (d : TaskEntry) (tasks : List Task) (b : Bad)
     → i < length entries → map task_shown tasks ≡ map (task_entry_shown text now) (take i entries)
@@ -100,7 +100,7 @@ pub task_at : (text : List ℕ) (now : Bool) (entries : List TaskEntry) (i : ℕ
     → OfBad (IsBadAt (IsBadTask text now) entries i) b
 task_at text now entries i d tasks b within same h =
     let e : TaskEntry = get_or entries i d in
-    of_bad _ _ (λ r g. (e, slice_get-get_or entries i d within, behind task_words.words_of (words_at now e.row e.told) _ _ (HasBadTaskInfo text e) (twice task_shown (task_entry_shown text now) (λ s. s.0.id) e.id tasks (take i entries) same) r g)) b h
+    of_bad _ _ (λ r g. (e, slice_get-get_or entries i d within, same_after task_words.words_of (words_at now e.row e.told) _ _ (HasBadTaskInfo text e) (twice task_shown (task_entry_shown text now) (λ s. s.0.id) e.id tasks (take i entries) same) r g)) b h
 
 pub resource_at : (text : List ℕ) (attrs : List AttrEntry) (now : Bool) (entries : List ResourceEntry) (i : ℕ) (d : ResourceEntry) (resources : List Resource) (b : Bad)
     → i < length entries → map resource_shown resources ≡ map (resource_entry_shown text attrs now) (take i entries)
@@ -108,7 +108,7 @@ pub resource_at : (text : List ℕ) (attrs : List AttrEntry) (now : Bool) (entri
     → OfBad (IsBadAt (IsBadResource text attrs now) entries i) b
 resource_at text attrs now entries i d resources b within same h =
     let e : ResourceEntry = get_or entries i d in
-    of_bad _ _ (λ r g. (e, slice_get-get_or entries i d within, behind resource_words.words_of (words_at now e.row e.told) _ _ (HasBadResourceInfo text attrs e) (twice resource_shown (resource_entry_shown text attrs now) (λ s. s.0.id) e.id resources (take i entries) same) r g)) b h
+    of_bad _ _ (λ r g. (e, slice_get-get_or entries i d within, same_after resource_words.words_of (words_at now e.row e.told) _ _ (HasBadResourceInfo text attrs e) (twice resource_shown (resource_entry_shown text attrs now) (λ s. s.0.id) e.id resources (take i entries) same) r g)) b h
 
 pub op_at : (text : List ℕ) (attrs : List AttrEntry) (now : Bool) (entries : List OpEntry) (i : ℕ) (d : OpEntry) (ops : List Op) (b : Bad)
     → i < length entries → map op_shown ops ≡ map (op_entry_shown text attrs now) (take i entries)
@@ -116,7 +116,7 @@ pub op_at : (text : List ℕ) (attrs : List AttrEntry) (now : Bool) (entries : L
     → OfBad (IsBadAt (IsBadOp text attrs now) entries i) b
 op_at text attrs now entries i d ops b within same h =
     let e : OpEntry = get_or entries i d in
-    of_bad _ _ (λ r g. (e, slice_get-get_or entries i d within, behind op_words.words_of (words_at now e.row e.told) _ _ (HasBadOpInfo text attrs e) (twice op_shown (op_entry_shown text attrs now) (λ s. s.0.id) e.id ops (take i entries) same) r g)) b h
+    of_bad _ _ (λ r g. (e, slice_get-get_or entries i d within, same_after op_words.words_of (words_at now e.row e.told) _ _ (HasBadOpInfo text attrs e) (twice op_shown (op_entry_shown text attrs now) (λ s. s.0.id) e.id ops (take i entries) same) r g)) b h
 
 -- poll counts are of their resource, now and as they were told
 counts_before : (now : Bool) (es : List CountEntry) (id : ℕ) → stands_before (λ e. (count_entry_shown now e).0) es id ≡ stands_before (λ (e : CountEntry). e.resource) es id

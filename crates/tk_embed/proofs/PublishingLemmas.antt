@@ -8,9 +8,9 @@ use Rattle.tk_core.specs.Laws.TaskLaws as task_laws
 use Rattle.tk_core.specs.OpWords as op_words
 use Rattle.tk_core.specs.ResourceWords as resource_words
 use Rattle.tk_core.specs.TaskWords as task_words
-use Rattle.tk_stream.specs.declared.op.Op.{Op}
-use Rattle.tk_stream.specs.declared.resource.Resource.{Resource}
-use Rattle.tk_stream.specs.declared.task.Task.{Task}
+use Rattle.tk_stream.specs.declared.tables.op.Op.{Op}
+use Rattle.tk_stream.specs.declared.tables.resource.Resource.{Resource}
+use Rattle.tk_stream.specs.declared.tables.task.Task.{Task}
 use Rattle.tk_stream.specs.Lines.{LineView, line_between, snapshot_of, none_gone, gone_between, with_gone}
 use Rattle.tk_stream.specs.Retention.{line_pruned, prune}
 use Rattle.tk_stream.specs.Spelling.{sent_text}

@@ -13,9 +13,9 @@ use Rattle.tk_ids.specs.declared.location.Location.{Location}
 use Rattle.tk_ids.specs.declared.spec.TaskKind.{TaskKind}
 use Rattle.tk_ids.specs.declared.spec.TaskKind.TheVariants.{Spawn, Blocking}
 use Rattle.tk_stream.specs.Tables.{TablesView, PollCounts}
-use Rattle.tk_stream.specs.declared.op.Op.{Op}
-use Rattle.tk_stream.specs.declared.resource.Resource.{Resource}
-use Rattle.tk_stream.specs.declared.task.Task.{Task}
+use Rattle.tk_stream.specs.declared.tables.op.Op.{Op}
+use Rattle.tk_stream.specs.declared.tables.resource.Resource.{Resource}
+use Rattle.tk_stream.specs.declared.tables.task.Task.{Task}
 use Rattle.tk_embed.specs.declared.entries.AttrEntry.{AttrEntry}
 use Rattle.tk_embed.specs.declared.entries.CountEntry.{CountEntry}
 use Rattle.tk_embed.specs.declared.entries.Head.{Head}
@@ -161,7 +161,7 @@ pub record AreTables (now : Bool) (head : Head) (given : Given) (tables : Tables
 
 -- ---- what a call makes of tables
 
--- these tasks stand behind those that were there, and nothing else changed
+-- these tasks stand after those that were there, and nothing else changed
 pub record AddTasks (text : List ℕ) (now : Bool) (entries : List TaskEntry) (old new : TablesView) : Type 0 where
   pub tasks : map task_shown new.tasks ≡ map task_shown old.tasks ++ map (task_entry_shown text now) entries
   pub resources : new.resources ≡ old.resources

@@ -132,7 +132,7 @@ stands_before id_of before id = list_any (λ e. id == id_of e) before
 abbrev pub words_at : Bool → List ℕ → List ℕ → List ℕ
 words_at now row told = if now then row else told
 
--- ---- entries behind those that stand before them
+-- ---- entries after those that stand before them
 
 -- what a task says of itself once is bad
 abbrev pub HasBadTaskInfo : List ℕ → TaskEntry → Reason → Type 0

@@ -4,7 +4,7 @@ use Rattle.std.specs.Prelude.{filter, fold, is_some, ◌&&◌}
 use Rattle.std.specs.Option.{option_map_or}
 use Rattle.std.proofs.lemmas.List.{take_all}
 use Rattle.tk_core.specs.declared.task.row.TaskRow.{TaskRow}
-use Rattle.tk_stream.specs.declared.task.Task.{Task}
+use Rattle.tk_stream.specs.declared.tables.task.Task.{Task}
 use Rattle.tk_screen.specs.Rankings.{ranked_in, kept}
 use Rattle.tk_screen.specs.declared.top.Ranked.{Ranked}
 use Rattle.tk_screen.proofs.RankLemmas.{kept_is_front}

@@ -3,10 +3,11 @@ use Rattle.std.specs.Prelude.{◌==◌, ◌-◌, ℕ, List, [], ◌∷◌, ◌++
 use Rattle.std.specs.Option.{option_map_or}
 use Rattle.tk_ids.specs.Ids.{id_text}
 use Rattle.tk_core.specs.declared.task.row.TaskRow.{TaskRow}
-use Rattle.tk_stream.specs.declared.task.Task.{Task}
+use Rattle.tk_stream.specs.declared.tables.task.Task.{Task}
 use Rattle.tk_stream.specs.Tables.{TablesView, task_with}
 use Rattle.tk_client.specs.declared.warning.Warning.{Warning}
-use Rattle.tk_report.specs.Report.{kind_word, task_state}
+use Rattle.tk_stream.specs.Spelling.{kind_text}
+use Rattle.tk_report.specs.Report.{task_state}
 use Rattle.tk_screen.specs.Screens.{LineView}
 use Rattle.tk_screen.specs.Texts.{duration_text, share_text}
 use Rattle.tk_frame.specs.Times.{busy_until, sched_until}
@@ -26,7 +27,7 @@ ago_text now (Some moment) = duration_text (now - moment) ++ codes " ago"
 abbrev pub info_part : Task → List LineView
 info_part t = heading (codes "TASK " ++ id_text t.info.id)
     ∷ field (codes "name") t.info.name
-    ∷ field (codes "kind") (kind_word t.info.kind)
+    ∷ field (codes "kind") (kind_text t.info.kind)
     ∷ field (codes "location") (location_text t.info.location)
     ∷ field (codes "state") (task_state t.row) ∷ []
 

@@ -4,13 +4,14 @@ use Rattle.tk_ids.specs.Ids.{id_text}
 use Rattle.tk_ids.specs.declared.info.Dropped.{Dropped}
 use Rattle.tk_ids.specs.declared.location.Location.{Location}
 use Rattle.tk_core.specs.declared.task.row.TaskRow.{TaskRow}
-use Rattle.tk_stream.specs.declared.task.Task.{Task}
-use Rattle.tk_stream.specs.declared.resource.Resource.{Resource}
-use Rattle.tk_stream.specs.declared.op.Op.{Op}
+use Rattle.tk_stream.specs.declared.tables.task.Task.{Task}
+use Rattle.tk_stream.specs.declared.tables.resource.Resource.{Resource}
+use Rattle.tk_stream.specs.declared.tables.op.Op.{Op}
 use Rattle.tk_stream.specs.Tables.{TablesView}
 use Rattle.tk_client.specs.declared.warning.WarningKind.{WarningKind}
 use Rattle.tk_client.specs.declared.warning.WarningKind.TheVariants.{SelfWakes, LostWaker, NeverYielded}
-use Rattle.tk_report.specs.Report.{kind_word, op_state, polled_by, run_time, task_state}
+use Rattle.tk_stream.specs.Spelling.{kind_text}
+use Rattle.tk_report.specs.Report.{op_state, polled_by, run_time, task_state}
 use Rattle.tk_screen.specs.Screens.{LineView}
 use Rattle.tk_screen.specs.Texts.{duration_text, share_text, left, right}
 use Rattle.tk_screen.specs.declared.canvas.Style.TheVariants as styles
@@ -102,7 +103,7 @@ times_text now x = cell 9 (duration_text (busy_until x.busy x.polling x.last_sta
 abbrev pub task_text : ℕ → Task → List ℕ
 task_text now t = cell 7 (id_text t.info.id) ++ (word 9 (task_state t.row)
     ++ (times_text now t.row ++ (cell 7 (decimal t.row.polls) ++ (cell 7 (decimal t.row.wakes) ++ (cell 4 (share_text t.row.self_wakes t.row.wakes)
-    ++ (word 20 t.info.name ++ (word 8 (kind_word t.info.kind) ++ location_text t.info.location)))))))
+    ++ (word 20 t.info.name ++ (word 8 (kind_text t.info.kind) ++ location_text t.info.location)))))))
 
 -- ---- resources and async operations
 

@@ -1,9 +1,9 @@
 -- Which items a screen shows, and in which order.
 use Rattle.std.specs.Prelude.{◌==◌, ◌&&◌, ◌||◌, ℕ, suc, List, [], ◌∷◌, ◌++◌, take, Bool, true, false, is_none, Option, Some, None, if◌then◌else◌}
 use Rattle.tk_core.specs.declared.task.row.TaskRow.{TaskRow}
-use Rattle.tk_stream.specs.declared.task.Task.{Task}
-use Rattle.tk_stream.specs.declared.resource.Resource.{Resource}
-use Rattle.tk_stream.specs.declared.op.Op.{Op}
+use Rattle.tk_stream.specs.declared.tables.task.Task.{Task}
+use Rattle.tk_stream.specs.declared.tables.resource.Resource.{Resource}
+use Rattle.tk_stream.specs.declared.tables.op.Op.{Op}
 use Rattle.tk_stream.specs.Tables.{TablesView, PollCounts, counts_of}
 use Rattle.tk_screen.specs.Rankings.{ranking}
 use Rattle.tk_screen.specs.declared.top.Ranked.{Ranked}

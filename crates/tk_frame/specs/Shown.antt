@@ -1,7 +1,7 @@
 -- The lines of a screen that keys ask for.
 use Rattle.std.specs.Prelude.{◌+◌, ℕ, List, [], ◌∷◌, ◌++◌, length, take, drop, slice_get, flat_map, codes, Bool, true, false, if◌then◌else◌}
 use Rattle.std.specs.Option.{option_map_or}
-use Rattle.tk_stream.specs.declared.task.Task.{Task}
+use Rattle.tk_stream.specs.declared.tables.task.Task.{Task}
 use Rattle.tk_stream.specs.Tables.{TablesView}
 use Rattle.tk_client.specs.declared.warning.Warning.{Warning}
 use Rattle.tk_client.specs.Warnings.{LintsView, warnings_in}

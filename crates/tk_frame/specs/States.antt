@@ -1,6 +1,6 @@
 -- How many tasks there are in each state.
 use Rattle.std.specs.Prelude.{ℕ, List, Bool, ◌&&◌, not, filter, length, is_some}
-use Rattle.tk_stream.specs.declared.task.Task.{Task}
+use Rattle.tk_stream.specs.declared.tables.task.Task.{Task}
 use Rattle.tk_frame.specs.declared.ranks.States.{States}
 
 -- each task is in one state: the first of these that holds of it, closed, polling, scheduled and idle

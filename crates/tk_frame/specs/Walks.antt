@@ -1,7 +1,7 @@
 -- One item more of a walk. Inner: no public clause cites these.
 use Rattle.std.specs.Prelude.{◌+◌, ℕ, List, take, fold, is_some, Option, Some, None, if◌then◌else◌}
 use Rattle.tk_core.specs.declared.task.row.TaskRow.{TaskRow}
-use Rattle.tk_stream.specs.declared.task.Task.{Task}
+use Rattle.tk_stream.specs.declared.tables.task.Task.{Task}
 use Rattle.tk_screen.specs.Rankings.{ranked_in}
 use Rattle.tk_screen.specs.declared.top.Ranked.{Ranked}
 use Rattle.tk_frame.specs.declared.ranks.States.{States}

@@ -6,7 +6,6 @@ ghost use Rattle.tk_frame.specs.Details as spec;
 ghost use Rattle.tk_frame.specs.Lines as texts;
 
 use crate::cells::{put_location, put_word};
-use crate::tasks::{kind_word, task_state};
 use crate::times::{busy_until, sched_until};
 use crate::warnings::push_warning;
 use std::alloc::{AllocError, Global};
@@ -14,6 +13,7 @@ use std::fmt::Write;
 use tk_client::Warning;
 use tk_core::TaskRow;
 use tk_ids::{Location, TaskId};
+use tk_report::{kind_word, task_state};
 use tk_screen::{Line, Style, put_duration, put_share};
 use tk_stream::{Tables, Task};
 

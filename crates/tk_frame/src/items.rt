@@ -1,6 +1,6 @@
 //! The lines of resources and async operations.
 ghost use Rattle.std.specs.Prelude.{◌≡◌, IfOk, OnOk, string_bytes};
-ghost use Rattle.tk_report.specs.Report.{op_state, polled_by};
+ghost use Rattle.tk_report.specs.Report.{polled_by};
 ghost use Rattle.tk_screen.specs.Texts.{Puts};
 ghost use Rattle.tk_frame.specs.Lines as spec;
 
@@ -8,8 +8,8 @@ use crate::cells::{put_cell, put_location, put_time, put_value, put_word};
 use crate::times::busy_until;
 use std::alloc::{AllocError, Global};
 use std::fmt::Write;
-use tk_core::OpRow;
 use tk_ids::{Name, TaskId};
+use tk_report::op_state;
 use tk_screen::{Line, Style};
 use tk_stream::{Op, Resource};
 
@@ -63,18 +63,6 @@ pub(crate) fn op_heading() -> &'static str
     ensures { result.now ≡ spec.op_heading }
 {
     "OPERATION STATE      POLLS      BUSY     TASK RESOURCE SOURCE"
-}
-
-fn op_state(row: &OpRow) -> &'static str
-    ensures { result.now ≡ op_state row.now }
-{
-    if row.dropped.is_some() {
-        "closed"
-    } else if row.polling {
-        "polling"
-    } else {
-        "idle"
-    }
 }
 
 // The task that polls an operation.

@@ -1,16 +1,16 @@
 //! The first line of a screen, and the lines of tasks.
 ghost use Rattle.std.specs.Prelude.{◌≡◌, ◌++◌, codes, decimal, IfOk, OnOk, string_bytes};
-ghost use Rattle.tk_report.specs.Report.{kind_word, task_state};
 ghost use Rattle.tk_screen.specs.Texts.{Puts};
 ghost use Rattle.tk_frame.specs.Lines as spec;
 
-use crate::cells::{put_cell, put_location, put_part, put_time, put_value, put_word};
+use crate::cells::{put_location, put_part, put_time, put_value, put_word};
 use crate::ranks::States;
 use crate::times::{busy_until, sched_until};
 use std::alloc::{AllocError, Global};
 use std::fmt::Write;
 use tk_core::TaskRow;
-use tk_ids::{Dropped, TaskKind};
+use tk_ids::Dropped;
+use tk_report::{kind_word, task_state};
 use tk_screen::{Line, Style, put_duration};
 use tk_stream::{Tables, Task};
 
@@ -101,29 +101,6 @@ pub(crate) fn task_heading() -> &'static str
     ensures { result.now ≡ spec.task_heading }
 {
     "   TASK STATE          BUSY     SCHED   POLLS   WAKES SELF NAME                 KIND     LOCATION"
-}
-
-pub(crate) fn kind_word(kind: TaskKind) -> &'static str
-    ensures { result.now ≡ kind_word kind }
-{
-    match kind {
-        TaskKind::Spawn => "spawn",
-        TaskKind::Blocking => "blocking",
-    }
-}
-
-pub(crate) fn task_state(row: &TaskRow) -> &'static str
-    ensures { result.now ≡ task_state row.now }
-{
-    if row.dropped.is_some() {
-        "closed"
-    } else if row.polling {
-        "polling"
-    } else if row.scheduled {
-        "scheduled"
-    } else {
-        "idle"
-    }
 }
 
 // How long a task has run and waited.

@@ -1,6 +1,5 @@
 //! How long tasks and operations have run and waited up to a moment.
 ghost use Rattle.std.specs.Prelude.{◌≡◌};
-ghost use Rattle.tk_report.specs.Report.{run_time};
 ghost use Rattle.tk_frame.specs.Times as spec;
 
 use tk_core::TaskRow;
@@ -35,14 +34,4 @@ pub(crate) fn sched_until(row: &TaskRow, now: u64) -> u64
         0
     };
     row.sched.saturating_add(open)
-}
-
-/// For how long a poll has run by a moment, where one started.
-pub(crate) fn run_time(now: u64, started: Option<u64>) -> u64
-    ensures { result ≡ run_time now started }
-{
-    match started {
-        Some(started) => now.saturating_sub(started),
-        None => 0,
-    }
 }

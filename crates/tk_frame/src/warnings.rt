@@ -5,12 +5,12 @@ ghost use Rattle.tk_frame.specs.Lines as spec;
 ghost use Rattle.tk_frame.specs.Frames as frames;
 
 use crate::cells::put_location;
-use crate::times::run_time;
 use std::alloc::{AllocError, Global};
 use std::fmt::{Display, Write};
 use tk_client::{Warning, WarningKind};
 use tk_core::TaskRow;
 use tk_ids::Name;
+use tk_report::run_time;
 use tk_screen::{Line, Style, put_duration, put_share};
 use tk_stream::{Tables, Task};
 

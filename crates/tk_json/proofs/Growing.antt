@@ -33,7 +33,7 @@ mapped_some f (Some p) b r e = let same = ap (the (b, r)) e in (p.0, ap (λ q. S
 
 -- ---- items
 
--- these, and the items behind them
+-- these, and the items after them
 abbrev pub before : List Data → Items → Items
 before [] rest = rest
 before (d ∷ ds) rest = item d (before ds rest)

@@ -59,25 +59,25 @@ same_members depth (suc n) (suc m) ts h g =
 pub nothing_read : (depth : ℕ) → value_read depth [] ≡ None
 nothing_read depth = ap (converted of_json) (no_value depth)
 
--- ---- an item, and the items behind it
+-- ---- an item, and the items after it
 
 item_kept : (d : Data) (r : List Token) (o : Option Items) → option_map (λ b. (b, r)) (option_map (item d) o) ≡ parse_map (item d) (option_map (λ b. (b, r)) o)
 item_kept d r None = refl
 item_kept d r (Some ds) = refl
 
-item_behind : (j : json.Json) (r : List Token) (o : Option Data) (more : Option (json.Items × List Token)) (later : List Token → Option (Items × List Token)) → of_json j ≡ o → converted of_items more ≡ later r
+item_after : (j : json.Json) (r : List Token) (o : Option Data) (more : Option (json.Items × List Token)) (later : List Token → Option (Items × List Token)) → of_json j ≡ o → converted of_items more ≡ later r
     → converted of_items (parse_map (json.item j) more) ≡ option_and_then (λ (q : Data × List Token). parse_map (item q.0) (later q.1)) (option_map (λ d. (d, r)) o)
-item_behind j r None None later e h = refl
-item_behind j r (Some d) None later e h = ap (parse_map (item d)) h
-item_behind j r None (Some p) later e h = rw e refl
-item_behind j r (Some d) (Some p) later e h = rw e (item_kept d p.1 (of_items p.0) ∙ ap (parse_map (item d)) h)
+item_after j r None None later e h = refl
+item_after j r (Some d) None later e h = ap (parse_map (item d)) h
+item_after j r None (Some p) later e h = rw e refl
+item_after j r (Some d) (Some p) later e h = rw e (item_kept d p.1 (of_items p.0) ∙ ap (parse_map (item d)) h)
 
 item_then : (depth n : ℕ) (ts : List Token) (o : Option (json.Json × List Token)) → length ts ≤ suc n → value depth ts ≡ o
     → converted of_items (option_and_then (λ q. parse_map (json.item q.0) (items (value depth) n q.1)) o) ≡ option_and_then (λ q. parse_map (item q.0) (items_read depth q.1)) (converted of_json o)
 item_then depth n ts None h e = refl
 item_then depth n ts (Some (j, r)) h e =
     let less = fewer depth ts (j, r) e in
-    ap (λ more. converted of_items (parse_map (json.item j) more)) (same_items depth n (length r) r (omega arith) (omega arith)) ∙ item_behind j r (of_json j) (items (value depth) (length r) r) (items_read depth) refl refl
+    ap (λ more. converted of_items (parse_map (json.item j) more)) (same_items depth n (length r) r (omega arith) (omega arith)) ∙ item_after j r (of_json j) (items (value depth) (length r) r) (items_read depth) refl refl
 
 -- where no bracket closes the array, an item comes next
 pub items_next : (depth : ℕ) (ts : List Token) → after_end_array ts ≡ None
@@ -90,15 +90,15 @@ items_next depth (t ∷ ts) going =
 pub items_over : (depth : ℕ) (ts r : List Token) → after_end_array ts ≡ Some r → items_read depth ts ≡ Some (no_items, r)
 items_over depth ts r e = ap (converted of_items) (items_end (value depth) (length ts) ts r (omega arith) e)
 
--- ---- a member, and the members behind it
+-- ---- a member, and the members after it
 
-member_behind : (k : List ℕ) (j : json.Json) (r : List Token) (held : Members) (o : Option Data) (more : Option (json.Members × List Token)) (later : Members → List Token → Option (Members × List Token)) → of_json j ≡ o
+member_after : (k : List ℕ) (j : json.Json) (r : List Token) (held : Members) (o : Option Data) (more : Option (json.Members × List Token)) (later : Members → List Token → Option (Members × List Token)) → of_json j ≡ o
     → ((now : Members) → converted (λ ms. of_members ms now) more ≡ later now r)
     → converted (λ ms. of_members ms held) (parse_map (json.member k j) more) ≡ option_and_then (λ (q : Data × List Token). later (put k q.0 held) q.1) (option_map (λ d. (d, r)) o)
-member_behind k j r held None None later e h = refl
-member_behind k j r held (Some d) None later e h = h (put k d held)
-member_behind k j r held None (Some p) later e h = rw e refl
-member_behind k j r held (Some d) (Some p) later e h = rw e (h (put k d held))
+member_after k j r held None None later e h = refl
+member_after k j r held (Some d) None later e h = h (put k d held)
+member_after k j r held None (Some p) later e h = rw e refl
+member_after k j r held (Some d) (Some p) later e h = rw e (h (put k d held))
 
 member_then : (depth n : ℕ) (k : List ℕ) (held : Members) (ts : List Token) (o : Option (json.Json × List Token)) → length ts ≤ suc n → value depth ts ≡ o
     → converted (λ ms. of_members ms held) (option_and_then (λ q. parse_map (json.member k q.0) (members (value depth) n q.1)) o)
@@ -107,9 +107,9 @@ member_then depth n k held ts None h e = refl
 member_then depth n k held ts (Some (j, r)) h e =
     let less = fewer depth ts (j, r) e in
     ap (λ more. converted (λ ms. of_members ms held) (parse_map (json.member k j) more)) (same_members depth n (length r) r (omega arith) (omega arith))
-    ∙ member_behind k j r held (of_json j) (members (value depth) (length r) r) (λ now ts. members_read now depth ts) refl (λ now. refl)
+    ∙ member_after k j r held (of_json j) (members (value depth) (length r) r) (λ now ts. members_read now depth ts) refl (λ now. refl)
 
--- behind a key comes its value
+-- after a key comes its value
 pub members_next : (held : Members) (depth : ℕ) (ts : List Token) (k : List ℕ) (s : List Token) → read_key ts ≡ Some (Some k, s)
     → members_read held depth ts ≡ option_and_then (λ q. members_read (put k q.0 held) depth q.1) (value_read depth s)
 unfolding members
@@ -179,7 +179,7 @@ number_read depth all ts s x is e = number_shown depth all ts s is ∙ rw (← e
 pub number_refused : (depth : ℕ) (all ts : List Token) (s : List ℕ) → all ≡ Token.number s ∷ ts → None ≡ number_of s → value_read depth all ≡ None
 number_refused depth all ts s is e = number_shown depth all ts s is ∙ rw (← e) refl
 
--- ---- what is left behind a value
+-- ---- what is left after a value
 
 pub item_passed : (depth : ℕ) (ts r : List Token) → after_end_array ts ≡ None → rest (value_read depth ts) ≡ Some r → rest (items_read depth ts) ≡ rest (items_read depth r)
 item_passed depth ts r going e =

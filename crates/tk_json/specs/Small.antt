@@ -47,7 +47,7 @@ abbrev mutual
   small_members no_members n = no_members
   small_members (member k d ms) n = member k (small d n) (small_members ms n)
 
--- the value that is next, so many levels deep, and the tokens behind it
+-- the value that is next, so many levels deep, and the tokens after it
 abbrev pub small_read : ℕ → ℕ → Parse Data
 small_read levels depth ts = parse_map (λ d. small d levels) (value_read depth ts)
 

@@ -6,7 +6,7 @@ use json::Invalid;
 use std::alloc::{AllocError, AllocFailed};
 use thiserror::Error;
 
-/// Why no value was read. The reader then stands anywhere behind where it stood.
+/// Why no value was read. The reader then stands anywhere further on.
 #[derive(Clone, Copy, Debug, PartialEq, Eq, Error)]
 pub enum JsonFault {
     /// There is no memory left for the value.

@@ -20,7 +20,7 @@ pub(crate) fn number_in(text: &str) -> Option<Number>
     }
 }
 
-// Whether a minus comes first, and what stands behind it.
+// Whether a minus comes first, and what stands after it.
 fn split_sign(bytes: &[u8]) -> (bool, &[u8])
     ensures sign { result.0 ≡ (slice_index bytes.now 0 == minus) }
     ensures rest { result.1.now ≡ if result.0 then drop 1 bytes.now else bytes.now }

@@ -9,7 +9,7 @@ use json::{Invalid, Reader, Token};
 
 /// Passes the value that is next, in which arrays and objects nest no deeper than `depth`. It takes no memory.
 ///
-/// `Invalid` where no such value comes next; the reader then stands anywhere behind where it stood.
+/// `Invalid` where no such value comes next; the reader then stands anywhere further on.
 #[cycle(pass)]
 #[inline(always)]
 pub fn pass(reader: &mut Reader<'_>, depth: usize) -> Result<(), Invalid>
@@ -25,7 +25,7 @@ pub fn pass(reader: &mut Reader<'_>, depth: usize) -> Result<(), Invalid>
 
 /// Passes the rest of the value that a token begins. It takes no memory.
 ///
-/// `Invalid` where no value goes on so; the reader then stands anywhere behind where it stood.
+/// `Invalid` where no value goes on so; the reader then stands anywhere further on.
 #[cycle(pass)]
 pub fn pass_token(reader: &mut Reader<'_>, token: Token<'_>, depth: usize) -> Result<(), Invalid>
     ensures passed { OnOk result (rest (value_read depth (token_of token.entry ∷ reader.old)) ≡ Some reader.new) }
@@ -58,7 +58,7 @@ pub fn pass_token(reader: &mut Reader<'_>, token: Token<'_>, depth: usize) -> Re
 
 /// Passes the items of an array that are left, each nesting no deeper than `depth`, and its bracket. It takes no memory.
 ///
-/// `Invalid` where no array ends so; the reader then stands anywhere behind where it stood.
+/// `Invalid` where no array ends so; the reader then stands anywhere further on.
 #[cycle(pass)]
 #[inline(never)]
 pub fn pass_items(reader: &mut Reader<'_>, depth: usize) -> Result<(), Invalid>
@@ -74,7 +74,7 @@ pub fn pass_items(reader: &mut Reader<'_>, depth: usize) -> Result<(), Invalid>
 
 /// Passes the members of an object that are left, each nesting no deeper than `depth`, and its brace. It takes no memory.
 ///
-/// `Invalid` where no object ends so; the reader then stands anywhere behind where it stood.
+/// `Invalid` where no object ends so; the reader then stands anywhere further on.
 #[cycle(pass)]
 #[inline(never)]
 pub fn pass_members(reader: &mut Reader<'_>, depth: usize) -> Result<(), Invalid>

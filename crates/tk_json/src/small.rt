@@ -33,7 +33,7 @@ fn nothing(alloc: Global) -> Value
 /// - `BadJson`: no such value comes next.
 /// - `Memory`: there is no memory for what is kept.
 ///
-/// The reader then stands anywhere behind where it stood.
+/// The reader then stands anywhere further on.
 #[cycle(small)]
 #[inline(always)]
 pub fn read_small(

@@ -15,9 +15,9 @@ use Rattle.tk_script.specs.Commands as said
 use Rattle.tk_script.specs.Attributes.{attrs_by}
 use Rattle.tk_script.specs.Words.{moment}
 use Rattle.tk_live.specs.Course.{Course, start_of_all, step, step_on, joined, line_after}
-use Rattle.tk_live.specs.Runs.{StandsFor, IsOpen, Came, BlockCame, LineCame, block_of}
+use Rattle.tk_live.specs.Runs.{Represents, IsOpen, CommandResult, BlockLineResult, LineResult, block_of}
 use Rattle.tk_live.specs.Script.{Fronts}
-use Rattle.tk_live.specs.Stops.{Stops, line_stop, stop_inside, stop_outside, LineStops, LineMayFail, MayFailWhere, MayFailInside, MayFailOutside, Closes, EndsIn, TakesMemory, if_there, work_stop}
+use Rattle.tk_live.specs.Stops.{StopReason, line_stop, stop_inside, stop_outside, LineStopReason, LineStopByEnvironment, WhereByEnvironment, InsideByEnvironment, OutsideByEnvironment, GateStops, JoinStop, TakesMemory, if_there, work_stop}
 use Rattle.tk_live.specs.Threads.{Apart}
 use Rattle.tk_script.specs.declared.block.BlockSaid.{BlockSaid}
 use Rattle.tk_script.specs.declared.block.BlockSaid.TheVariants as blocks
@@ -54,7 +54,7 @@ goes_alone own others ws l e = go (is_named l.waker others) e
     go false h = refl
 
 -- a block that opens or closes changes nothing else
-pub with_block : (i : Interpreter) (settings : Settings) (c : Course) (kept : List Bool) (sent : List Sending) (b : Option Block) → StandsFor i settings c kept sent → StandsFor i settings (record c { block = b }) kept sent
+pub with_block : (i : Interpreter) (settings : Settings) (c : Course) (kept : List Bool) (sent : List Sending) (b : Option Block) → Represents i settings c kept sent → Represents i settings (record c { block = b }) kept sent
 with_block i settings c kept sent b stands = record {
   came = stands.came;
   rise = stands.rise;
@@ -72,9 +72,9 @@ with_block i settings c kept sent b stands = record {
   times_is = stands.times_is;
 }
 
-pub opened : (i new : Interpreter) (settings : Settings) (c : Course) (kept : List Bool) (sent : List Sending) → StandsFor i settings c kept sent → new ≡ record i { begun = true }
-    → StandsFor new settings (record c { begun = true; block = Some no_lines }) kept sent
-opened i new settings c kept sent stands is = subst (λ (n : Interpreter). StandsFor n settings (record c { begun = true; block = Some no_lines }) kept sent) (sym is) (record {
+pub opened : (i new : Interpreter) (settings : Settings) (c : Course) (kept : List Bool) (sent : List Sending) → Represents i settings c kept sent → new ≡ record i { begun = true }
+    → Represents new settings (record c { begun = true; block = Some no_lines }) kept sent
+opened i new settings c kept sent stands is = subst (λ (n : Interpreter). Represents n settings (record c { begun = true; block = Some no_lines }) kept sent) (sym is) (record {
   came = stands.came;
   rise = stands.rise;
   offered = stands.offered;
@@ -153,11 +153,11 @@ module _ (c : Course) (line : Line) where
   pub outside : c.block ≡ None → line_stop c line ≡ stop_outside c line
   outside e = ap (λ o. option_map_or (λ k. stop_inside c k line) o (stop_outside c line)) e
 
-  pub fails_inside : (answers : ℕ → Bool → Type 0) (stop : Stop) (b : Block) → c.block ≡ Some b → MayFailInside answers b line stop → LineMayFail answers c line stop
-  fails_inside answers stop b e h = subst (λ (o : Option Block). MayFailWhere answers c o line stop) (sym e) h
+  pub fails_inside : (answers : ℕ → Bool → Type 0) (stop : Stop) (b : Block) → c.block ≡ Some b → InsideByEnvironment answers b line stop → LineStopByEnvironment answers c line stop
+  fails_inside answers stop b e h = subst (λ (o : Option Block). WhereByEnvironment answers c o line stop) (sym e) h
 
-  pub fails_outside : (answers : ℕ → Bool → Type 0) (stop : Stop) → c.block ≡ None → MayFailOutside c line stop → LineMayFail answers c line stop
-  fails_outside answers stop e h = subst (λ (o : Option Block). MayFailWhere answers c o line stop) (sym e) h
+  pub fails_outside : (answers : ℕ → Bool → Type 0) (stop : Stop) → c.block ≡ None → OutsideByEnvironment c line stop → LineStopByEnvironment answers c line stop
+  fails_outside answers stop e h = subst (λ (o : Option Block). WhereByEnvironment answers c o line stop) (sym e) h
 
 bad_is_no_write : BadCommand ≡ WriteFault → ⊥
 bad_is_no_write e = cc
@@ -183,12 +183,12 @@ still_apart Two l b apart un n named = by_number (cases_eq n l.waker)
 
 -- a line that says a command, where no block is open
 pub said_came : (answers : ℕ → Bool → Type 0) (n : ℕ) (settings : Settings) (c : Course) (kept : List Bool) (sent : List Sending) (s : Said) (new : Interpreter) (block : Option OpenBlock) (result : Result (Unit {0}) Stop) (before after : Option (List ℕ))
-    → c.block ≡ None → IsOpen block c → Came step_on settings c kept sent n s new result before after → LineCame answers settings c kept sent n (says s) new block result before after
+    → c.block ≡ None → IsOpen block c → CommandResult step_on settings c kept sent n s new result before after → LineResult answers settings c kept sent n (says s) new block result before after
 said_came answers n settings c kept sent s new block (Ok done) before after none was h =
     (outside c (says s) none ∙ h.0, h.1, h.2, h.3, open_same block c (step_on c n s) was (step_block c n s), h.4)
 said_came answers n settings c kept sent s new block (Err stop) before after none was h = (by_cause h.0, h.1, h.2, h.3)
   where
-    by_cause : Stops c s stop → LineStops answers c (says s) stop
+    by_cause : StopReason c s stop → LineStopReason answers c (says s) stop
     by_cause (inl e) = inl (outside c (says s) none ∙ e)
     by_cause (inr m) = inr (fails_outside c (says s) answers stop none m)
 
@@ -199,7 +199,7 @@ quiet sent blocks.Joins stop = refl
 quiet sent (blocks.Works k l) stop = refl
 
 pub block_came : (answers : ℕ → Bool → Type 0) (n : ℕ) (settings : Settings) (c : Course) (kept : List Bool) (sent : List Sending) (said : BlockSaid) (new : Interpreter) (block : Option OpenBlock) (result : Result (Unit {0}) Stop) (bytes : Option (List ℕ))
-    → BlockCame answers settings c kept sent n (block_line said) new block result → LineCame answers settings c kept sent n (block_line said) new block result bytes bytes
+    → BlockLineResult answers settings c kept sent n (block_line said) new block result → LineResult answers settings c kept sent n (block_line said) new block result bytes bytes
 block_came answers n settings c kept sent said new block (Ok done) bytes h =
     let k = line_after c (n, block_line said) in
     (h.0, [], [], unsent new settings k (kept ++ []) sent (unmarked new settings k kept sent h.1), h.2, Appends-nil bytes)
@@ -207,8 +207,8 @@ block_came answers n settings c kept sent said new block (Err stop) bytes h =
     (h, [], quiet sent said stop, Appends-nil bytes)
 
 -- a line that is skipped
-pub skipped_came : (answers : ℕ → Bool → Type 0) (n : ℕ) (settings : Settings) (c : Course) (kept : List Bool) (sent : List Sending) (i : Interpreter) (block : Option OpenBlock) (bytes : Option (List ℕ)) → StandsFor i settings c kept sent → IsOpen block c
-    → LineCame answers settings c kept sent n skipped i block (Ok tt) bytes bytes
+pub skipped_came : (answers : ℕ → Bool → Type 0) (n : ℕ) (settings : Settings) (c : Course) (kept : List Bool) (sent : List Sending) (i : Interpreter) (block : Option OpenBlock) (bytes : Option (List ℕ)) → Represents i settings c kept sent → IsOpen block c
+    → LineResult answers settings c kept sent n skipped i block (Ok tt) bytes bytes
 skipped_came answers n settings c kept sent i block bytes stands was = (goes c.block, [], [], unsent i settings c (kept ++ []) sent (unmarked i settings c kept sent stands), was, Appends-nil bytes)
   where
     goes : (o : Option Block) → option_map_or (λ b. stop_inside c b skipped) o (stop_outside c skipped) ≡ None
@@ -217,7 +217,7 @@ skipped_came answers n settings c kept sent i block bytes stands was = (goes c.b
 
 -- a line that says a command or none, where a block is open
 pub refused : (answers : ℕ → Bool → Type 0) (n : ℕ) (settings : Settings) (c : Course) (kept : List Bool) (sent : List Sending) (i : Interpreter) (block : Option OpenBlock) (bytes : Option (List ℕ)) (b : Block) (o : Option Said)
-    → c.block ≡ Some b → StandsFor i settings c kept sent → LineCame answers settings c kept sent n (option_map_or says o bad) i block (Err BadCommand) bytes bytes
+    → c.block ≡ Some b → Represents i settings c kept sent → LineResult answers settings c kept sent n (option_map_or says o bad) i block (Err BadCommand) bytes bytes
 refused answers n settings c kept sent i block bytes b None e stands = (inl (inside c bad b e), [], refl, Appends-nil bytes)
 refused answers n settings c kept sent i block bytes b (Some s) e stands = (inl (inside c (says s) b e), [], no_front sent s BadCommand (λ w. bad_is_no_write w), Appends-nil bytes)
 
@@ -260,13 +260,13 @@ module _ where
 
 -- a line that memory is lacking for, before it is known what it says
 pub lacked : (answers : ℕ → Bool → Type 0) (n : ℕ) (settings : Settings) (c : Course) (kept : List Bool) (sent : List Sending) (i : Interpreter) (block : Option OpenBlock) (bytes : Option (List ℕ)) (o : Option Said) → ((s : Said) → o ≡ Some s → TakesMemory s)
-    → c.block ≡ None → StandsFor i settings c kept sent → LineCame answers settings c kept sent n (option_map_or says o bad) i block (Err Memory) bytes bytes
+    → c.block ≡ None → Represents i settings c kept sent → LineResult answers settings c kept sent n (option_map_or says o bad) i block (Err Memory) bytes bytes
 lacked answers n settings c kept sent i block bytes None takes e stands = (inr (fails_outside c bad answers Memory e tt), [], refl, Appends-nil bytes)
 lacked answers n settings c kept sent i block bytes (Some s) takes e stands = (inr (fails_outside c (says s) answers Memory e (takes s refl)), [], no_front sent s Memory (λ w. memory_is_no_write w), Appends-nil bytes)
 
 -- a line that says no command
-pub bad_came : (answers : ℕ → Bool → Type 0) (n : ℕ) (settings : Settings) (c : Course) (kept : List Bool) (sent : List Sending) (i : Interpreter) (block : Option OpenBlock) (bytes : Option (List ℕ)) → c.block ≡ None → StandsFor i settings c kept sent
-    → LineCame answers settings c kept sent n bad i block (Err BadCommand) bytes bytes
+pub bad_came : (answers : ℕ → Bool → Type 0) (n : ℕ) (settings : Settings) (c : Course) (kept : List Bool) (sent : List Sending) (i : Interpreter) (block : Option OpenBlock) (bytes : Option (List ℕ)) → c.block ≡ None → Represents i settings c kept sent
+    → LineResult answers settings c kept sent n bad i block (Err BadCommand) bytes bytes
 bad_came answers n settings c kept sent i block bytes e stands = (inl (outside c bad e), [], refl, Appends-nil bytes)
 
 -- what a line is that isn't skipped
@@ -284,23 +284,23 @@ open_new b c new = record { is = ap (λ k. Some k) new; apart = λ k e n named. 
     refl_apart k e = let same : no_lines ≡ k = some_same no_lines k e in subst (λ (b : Block). Apart b.first b.second) same (λ n named. refl)
 
 -- its threads are joined, or they aren't
-pub join_came : (answers : ℕ → Bool → Type 0) (n : ℕ) (settings : Settings) (c : Course) (kept : List Bool) (sent : List Sending) (i new : Interpreter) (b : Block) (result : Result (Unit {0}) Stop) → c.block ≡ Some b → Apart b.first b.second → StandsFor i settings c kept sent
-    → OnOk result ((settings : Settings) (c : Course) (kept : List Bool) (sent : List Sending) → Apart b.first b.second → StandsFor i settings c kept sent → StandsFor new settings (joined c b) kept sent)
-    → IfErr result (EndsIn (Closes answers b)) → BlockCame answers settings c kept sent n joins new None result
+pub join_came : (answers : ℕ → Bool → Type 0) (n : ℕ) (settings : Settings) (c : Course) (kept : List Bool) (sent : List Sending) (i new : Interpreter) (b : Block) (result : Result (Unit {0}) Stop) → c.block ≡ Some b → Apart b.first b.second → Represents i settings c kept sent
+    → OnOk result ((settings : Settings) (c : Course) (kept : List Bool) (sent : List Sending) → Apart b.first b.second → Represents i settings c kept sent → Represents new settings (joined c b) kept sent)
+    → IfErr result (JoinStop (GateStops answers b)) → BlockLineResult answers settings c kept sent n joins new None result
 join_came answers n settings c kept sent i new b (Ok done) is apart stands ran ends =
     let closed : line_after c (n, joins) ≡ joined c b = ap (λ o. option_map_or (joined c) o c) is in (
       inside c joins b is,
-      subst (λ (k : Course). StandsFor new settings k kept sent) (sym closed) (ran settings c kept sent apart stands),
+      subst (λ (k : Course). Represents new settings k kept sent) (sym closed) (ran settings c kept sent apart stands),
       subst (λ (k : Course). IsOpen None k) (sym closed) (record { is = refl; apart = λ k e. absurd (none_some e) }),
     )
 join_came answers n settings c kept sent i new b (Err stop) is apart stands ran ends = inr (fails_inside c joins answers stop b is ends)
 
 -- a worker's line goes on, or it doesn't
 pub work_came : (answers : ℕ → Bool → Type 0) (n : ℕ) (settings : Settings) (c : Course) (kept : List Bool) (sent : List Sending) (i : Interpreter) (old new : OpenBlock) (k : Worker) (l : WorkerLine) (ws : List (Option ℕ)) (result : Result (Unit {0}) Stop)
-    → c.block ≡ Some (block_of old) → Apart old.first old.second → StandsFor i settings c kept sent → ws ≡ c.pasts.wakers
+    → c.block ≡ Some (block_of old) → Apart old.first old.second → Represents i settings c kept sent → ws ≡ c.pasts.wakers
     → OnOk result (work_stop (lines_of_worker k (block_of old)) (lines_of_other k (block_of old)) ws l ≡ None)
     → OnOk result (block_of new ≡ with_line k l (block_of old))
-    → IfErr result (λ stop. (work_stop (lines_of_worker k (block_of old)) (lines_of_other k (block_of old)) ws l ≡ Some stop) ⊎ (stop ≡ Memory)) → BlockCame answers settings c kept sent n (works k l) i (Some new) result
+    → IfErr result (λ stop. (work_stop (lines_of_worker k (block_of old)) (lines_of_other k (block_of old)) ws l ≡ Some stop) ⊎ (stop ≡ Memory)) → BlockLineResult answers settings c kept sent n (works k l) i (Some new) result
 work_came answers n settings c kept sent i old new k l ws (Ok done) is apart stands are goes more fails =
     let b = block_of old in
     let line : work_stop (lines_of_worker k b) (lines_of_other k b) c.pasts.wakers l ≡ None = ap (λ vs. work_stop (lines_of_worker k b) (lines_of_other k b) vs l) (sym are) ∙ goes in
@@ -314,6 +314,6 @@ work_came answers n settings c kept sent i old new k l ws (Ok done) is apart sta
     )
 work_came answers n settings c kept sent i old new k l ws (Err stop) is apart stands are goes more fails = by_cause fails
   where
-    by_cause : (work_stop (lines_of_worker k (block_of old)) (lines_of_other k (block_of old)) ws l ≡ Some stop) ⊎ (stop ≡ Memory) → LineStops answers c (works k l) stop
+    by_cause : (work_stop (lines_of_worker k (block_of old)) (lines_of_other k (block_of old)) ws l ≡ Some stop) ⊎ (stop ≡ Memory) → LineStopReason answers c (works k l) stop
     by_cause (inl e) = let b = block_of old in inl (inside c (works k l) b is ∙ (ap (λ vs. work_stop (lines_of_worker k b) (lines_of_other k b) vs l) (sym are) ∙ e))
-    by_cause (inr e) = inr (fails_inside c (works k l) answers stop (block_of old) is (subst (λ (s : Stop). MayFailInside answers (block_of old) (works k l) s) (sym e) tt))
+    by_cause (inr e) = inr (fails_inside c (works k l) answers stop (block_of old) is (subst (λ (s : Stop). InsideByEnvironment answers (block_of old) (works k l) s) (sym e) tt))

@@ -13,9 +13,9 @@ use Rattle.tk_ledgers.specs.Tasks.{TaskSight}
 use Rattle.tk_stream.specs.Lines.{task_info, resource_info, op_info}
 use Rattle.tk_stream.specs.Tables.{task_id, resource_id, op_id}
 use Rattle.tk_stream.specs.Times.{times_id}
-use Rattle.tk_stream.specs.declared.op.Op.{Op}
-use Rattle.tk_stream.specs.declared.resource.Resource.{Resource}
-use Rattle.tk_stream.specs.declared.task.Task.{Task}
+use Rattle.tk_stream.specs.declared.tables.op.Op.{Op}
+use Rattle.tk_stream.specs.declared.tables.resource.Resource.{Resource}
+use Rattle.tk_stream.specs.declared.tables.task.Task.{Task}
 use Rattle.tk_aggregator.specs.Absorbing.{infos_of}
 use Rattle.tk_aggregator.specs.Aggregates.{Aggregating, IsSound, IsSameStream, Pairs, ReadTask, ReadResource, ReadOp}
 use Rattle.tk_live.specs.Items.{Holds, AreWakers, IsTask, IsResource, IsOp, IsSameTask, IsSameResource, IsSameOp}

@@ -7,7 +7,7 @@ use Rattle.tk_live.specs.Blocks.{Block, tasks_after, lines_of_both, after_block}
 use Rattle.tk_live.specs.Course.{Course, joined}
 use Rattle.tk_live.specs.Items.{Holds, HoldsTasks}
 use Rattle.tk_live.specs.Pasts.{TaskPast, Pasts}
-use Rattle.tk_live.specs.Runs.{numbers_of, StandsFor}
+use Rattle.tk_live.specs.Runs.{numbers_of, Represents}
 use Rattle.tk_live.specs.Threads.{Apart, AreSameTasks}
 use Rattle.tk_live.specs.declared.interpreter.Interpreter.{Interpreter}
 use Rattle.tk_live.specs.declared.items.TaskItem.{TaskItem}
@@ -36,7 +36,7 @@ after_long n wakers ls [] = refl
 after_long n wakers ls (p ∷ ps) = ap suc (after_long (n + 1) wakers ls ps)
 
 -- which block is open makes no difference
-unblocked : (i : Interpreter) (settings : Settings) (c : Course) (b : Block) (kept : List Bool) (sent : List Sending) → StandsFor i settings (record c { pasts = after_block b c.pasts }) kept sent → StandsFor i settings (joined c b) kept sent
+unblocked : (i : Interpreter) (settings : Settings) (c : Course) (b : Block) (kept : List Bool) (sent : List Sending) → Represents i settings (record c { pasts = after_block b c.pasts }) kept sent → Represents i settings (joined c b) kept sent
 unblocked i settings c b kept sent stands = record {
   came = stands.came;
   rise = stands.rise;
@@ -56,19 +56,19 @@ unblocked i settings c b kept sent stands = record {
 
 module _ (i new : Interpreter) (b : Block) (whole : new ≡ record i { tasks = new.tasks; wakers = new.wakers }) where
   join_went : AreSameTasks i.tasks.items new.tasks.items → ((ps : Pasts) → HoldsTasks i.tasks.items i.wakers.items ps → Apart b.first b.second → HoldsTasks new.tasks.items new.wakers.items (after_block b ps))
-      → (settings : Settings) (c : Course) (kept : List Bool) (sent : List Sending) → Apart b.first b.second → StandsFor i settings c kept sent → StandsFor new settings (joined c b) kept sent
+      → (settings : Settings) (c : Course) (kept : List Bool) (sent : List Sending) → Apart b.first b.second → Represents i settings c kept sent → Represents new settings (joined c b) kept sent
   join_went same ran settings c kept sent apart stands =
       let now = record i { tasks = new.tasks; wakers = new.wakers } in
       let ps = after_block b c.pasts in
       let holds : Holds now.tasks.items now.wakers.items now.resources.items now.ops.items ps =
       record { tasks_are = ran c.pasts stands.holds.tasks_are apart; resources_are = stands.holds.resources_are; ops_are = stands.holds.ops_are } in
       let numbers : numbers_of ps ≡ numbers_of c.pasts = ap (λ (n : ℕ). record (numbers_of c.pasts) { tasks = n }) (after_long 1 c.pasts.wakers (lines_of_both b) c.pasts.tasks) in
-      subst (λ (j : Interpreter). StandsFor j settings (joined c b) kept sent) (sym whole)
+      subst (λ (j : Interpreter). Represents j settings (joined c b) kept sent) (sym whole)
       (unblocked now settings c b kept sent
       (went_on i now settings c ps kept sent stands holds (same_stay i.tasks.items new.tasks.items same) (resources_rest i.resources.items) (ops_rest i.ops.items) numbers))
 
   pub join_goes : (result : Result (Unit {0}) Stop) → OnOk result (AreSameTasks i.tasks.items new.tasks.items)
       → OnOk result ((ps : Pasts) → HoldsTasks i.tasks.items i.wakers.items ps → Apart b.first b.second → HoldsTasks new.tasks.items new.wakers.items (after_block b ps))
-      → OnOk result ((settings : Settings) (c : Course) (kept : List Bool) (sent : List Sending) → Apart b.first b.second → StandsFor i settings c kept sent → StandsFor new settings (joined c b) kept sent)
+      → OnOk result ((settings : Settings) (c : Course) (kept : List Bool) (sent : List Sending) → Apart b.first b.second → Represents i settings c kept sent → Represents new settings (joined c b) kept sent)
   join_goes (Ok done) same ran = join_went same ran
   join_goes (Err stop) same ran = ran

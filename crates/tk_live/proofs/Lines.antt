@@ -11,7 +11,7 @@ use Rattle.tk_script.specs.Commands.{Said, Line, says, bad, is_setting}
 use Rattle.tk_script.specs.Commands as said
 use Rattle.tk_live.specs.Course.{Course, step, step_on, start_of_all, line_after, course_of}
 use Rattle.tk_script.specs.Pieces.{pieces_at}
-use Rattle.tk_live.specs.Runs.{StandsFor, Does, Comes}
+use Rattle.tk_live.specs.Runs.{Represents, SilentSpec, CommandSpec}
 use Rattle.tk_live.specs.Script.{FrontOf}
 use Rattle.tk_live.specs.Stops.{Goes, AllGo}
 use Rattle.tk_live.specs.declared.interpreter.Interpreter.{Interpreter}
@@ -20,15 +20,15 @@ use Rattle.tk_script.specs.declared.stop.Stop.TheVariants.{BadCommand, NoSuchIte
 use Rattle.tk_script.specs.declared.settings.Settings.{Settings}
 
 -- no line was sent
-pub unsent : (i : Interpreter) (settings : Settings) (k : Course) (kept : List Bool) (sent : List Sending) → StandsFor i settings k kept sent → StandsFor i settings k kept (sent ++ [])
-unsent i settings k kept sent stands = subst (λ (m : List Sending). StandsFor i settings k kept m) (sym (append-nil sent)) stands
+pub unsent : (i : Interpreter) (settings : Settings) (k : Course) (kept : List Bool) (sent : List Sending) → Represents i settings k kept sent → Represents i settings k kept (sent ++ [])
+unsent i settings k kept sent stands = subst (λ (m : List Sending). Represents i settings k kept m) (sym (append-nil sent)) stands
 
 -- nothing was recorded
-pub unmarked : (i : Interpreter) (settings : Settings) (k : Course) (kept : List Bool) (sent : List Sending) → StandsFor i settings k kept sent → StandsFor i settings k (kept ++ []) sent
-unmarked i settings k kept sent stands = subst (λ (m : List Bool). StandsFor i settings k m sent) (sym (append-nil kept)) stands
+pub unmarked : (i : Interpreter) (settings : Settings) (k : Course) (kept : List Bool) (sent : List Sending) → Represents i settings k kept sent → Represents i settings k (kept ++ []) sent
+unmarked i settings k kept sent stands = subst (λ (m : List Bool). Represents i settings k m sent) (sym (append-nil kept)) stands
 
 -- a command that writes nothing
-pub quietly : (line : ℕ) (s : Said) (old new : Interpreter) (result : Result (Unit {0}) Stop) (before : Option (List ℕ)) → Does line s old new result → ((sent : List Sending) (stop : Stop) → FrontOf sent s stop []) → Comes step line s old new result before before
+pub quietly : (line : ℕ) (s : Said) (old new : Interpreter) (result : Result (Unit {0}) Stop) (before : Option (List ℕ)) → SilentSpec line s old new result → ((sent : List Sending) (stop : Stop) → FrontOf sent s stop []) → CommandSpec step line s old new result before before
 quietly line s old new (Ok done) before does fronts settings c kept sent stands =
     let d = does settings c kept sent stands in
     (d.0, d.1, [], unsent new settings (step c line s) (kept ++ d.1) sent d.2, Appends-nil before)
@@ -36,10 +36,10 @@ quietly line s old new (Err stop) before does fronts settings c kept sent stands
     (does settings c kept sent stands, [], fronts sent stop, Appends-nil before)
 
 -- a command is begun
-pub begun : (i new : Interpreter) (settings : Settings) (c : Course) (line : ℕ) (s : Said) (kept : List Bool) (sent : List Sending) → StandsFor i settings (step c line s) kept sent
+pub begun : (i new : Interpreter) (settings : Settings) (c : Course) (line : ℕ) (s : Said) (kept : List Bool) (sent : List Sending) → Represents i settings (step c line s) kept sent
     → (b : Bool) → new ≡ record i { begun = b } → b ≡ (not (is_setting s) || c.begun)
-    → StandsFor new settings (step_on c line s) kept sent
-begun i new settings c line s kept sent stands b is same = subst (λ (n : Interpreter). StandsFor n settings (step_on c line s) kept sent) (sym is) (record {
+    → Represents new settings (step_on c line s) kept sent
+begun i new settings c line s kept sent stands b is same = subst (λ (n : Interpreter). Represents n settings (step_on c line s) kept sent) (sym is) (record {
   came = stands.came;
   rise = stands.rise;
   offered = stands.offered;

@@ -12,9 +12,9 @@ use Rattle.tk_ledgers.specs.Ops.{OpSight}
 use Rattle.tk_ledgers.specs.Resources.{ResourceSight}
 use Rattle.tk_ledgers.specs.Tasks.{TaskSight}
 use Rattle.tk_stream.specs.Tables.{task_with, resource_with, op_with}
-use Rattle.tk_stream.specs.declared.op.Op.{Op}
-use Rattle.tk_stream.specs.declared.resource.Resource.{Resource}
-use Rattle.tk_stream.specs.declared.task.Task.{Task}
+use Rattle.tk_stream.specs.declared.tables.op.Op.{Op}
+use Rattle.tk_stream.specs.declared.tables.resource.Resource.{Resource}
+use Rattle.tk_stream.specs.declared.tables.task.Task.{Task}
 use Rattle.tk_aggregator.specs.Aggregates.{Aggregating, Gathers, IsSound, Pairs, ReadTask, ReadResource, ReadOp, TakesIn, TakesAllIn, free, held_events}
 use Rattle.tk_aggregator.proofs.FollowLemmas.{by_case}
 use Rattle.tk_live.specs.Runs.{IsTaskLedger, IsResourceLedger, IsOpLedger, OffersLedger}

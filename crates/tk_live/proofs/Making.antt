@@ -40,11 +40,11 @@ use Rattle.tk_ledgers.specs.Resources.{ResourceSight}
 use Rattle.tk_ledgers.specs.Tasks.{TaskSight}
 use Rattle.tk_stream.specs.Streams.{Sending}
 use Rattle.tk_aggregator.specs.Told.{Told, made_task, made_resource, made_op, polled}
-use Rattle.tk_live.specs.Course.{Course, place, step, task_info, resource_info, op_info}
+use Rattle.tk_live.specs.Course.{Course, place, step, script_task_info, script_resource_info, script_op_info}
 use Rattle.tk_live.specs.Items.{IsTask, IsResource, IsOp, AreWakers, Holds, HoldsTasks}
 use Rattle.tk_live.specs.Named.{made_item}
 use Rattle.tk_live.specs.Pasts.{Pasts, new_task, new_resource, new_op}
-use Rattle.tk_live.specs.Runs.{StandsFor, numbers_of, Offered}
+use Rattle.tk_live.specs.Runs.{Represents, numbers_of, Offered}
 use Rattle.tk_live.specs.declared.interpreter.Interpreter.{Interpreter}
 use Rattle.tk_live.specs.declared.items.OpItem.{OpItem}
 use Rattle.tk_live.specs.declared.items.ResourceItem.{ResourceItem}
@@ -73,15 +73,15 @@ module _ (r : Recording) (capacity : ℕ) (ps : Pasts) (told : List Told) (kept 
 
   -- and the infos of the text's
   pub task_info_is : (spec : TaskSpec) (line : ℕ) (kind : TaskKind) (name : List ℕ) → (spec.kind ≡ kind) × (spec.name ≡ name) × (spec.location ≡ place line)
-      → events.task_info (next_task_id r) spec ≡ task_info (length ps.tasks + 1) line kind name
+      → events.task_info (next_task_id r) spec ≡ script_task_info (length ps.tasks + 1) line kind name
   task_info_is spec line kind name is = λ j. record { id = task_id_is j; kind = is.0 j; name = is.1 j; location = is.2 j }
 
   pub resource_info_is : (spec : ResourceSpec) (line : ℕ) (kind concrete : List ℕ) (attrs : List AttrSpec) → (spec.parent ≡ None) × (spec.concrete ≡ concrete) × (spec.kind ≡ kind) × (spec.location ≡ place line) × (spec.attrs ≡ attrs)
-      → events.resource_info (next_resource_id r) spec ≡ resource_info (length ps.resources + 1) line kind concrete attrs
+      → events.resource_info (next_resource_id r) spec ≡ script_resource_info (length ps.resources + 1) line kind concrete attrs
   resource_info_is spec line kind concrete attrs is = λ j. record { id = resource_id_is j; parent = is.0 j; concrete = is.1 j; kind = is.2 j; location = is.3 j; attrs = events.infos_of (is.4 j) }
 
   pub op_info_is : (spec : OpSpec) (on : ℕ) (source : List ℕ) (attrs : List AttrSpec) → (spec.source ≡ source) × (spec.resource ≡ id_of 1 on) × (spec.parent ≡ None) × (spec.attrs ≡ attrs)
-      → events.op_info (next_op_id r) spec ≡ op_info (length ps.ops + 1) on source attrs
+      → events.op_info (next_op_id r) spec ≡ script_op_info (length ps.ops + 1) on source attrs
   op_info_is spec on source attrs is = λ j. record { id = op_id_is j; source = is.0 j; resource = is.1 j; parent = is.2 j; attrs = events.infos_of (is.3 j) }
 
 -- an owner that has a histogram shows its ledger
@@ -188,7 +188,7 @@ one_longer xs ys z is = λ n x at. ap (made_item n) is ∙ made_still xs z n x a
 -- ---- all that an interpreter stands for
 
 -- what it stood for, and an offer that the recorder made, whatever became of it
-module _ (i new : Interpreter) (settings : Settings) (c : Course) (kept : List Bool) (sent : List Sending) (stands : StandsFor i settings c kept sent) (same : IsSameRecorder i.recorder new.recorder) (left : offers_made i.recorder ≡ i.recorder.limit → ⊥) (became : Recorded)
+module _ (i new : Interpreter) (settings : Settings) (c : Course) (kept : List Bool) (sent : List Sending) (stands : Represents i settings c kept sent) (same : IsSameRecorder i.recorder new.recorder) (left : offers_made i.recorder ≡ i.recorder.limit → ⊥) (became : Recorded)
     (full : became ≡ DroppedFull → i.recorder.recorders ≡ 1 → i.recorder.capacity ≤ length i.recorder.kept) where
   -- it was that of a new task, of which this is kept
   pub task_made : (spec : TaskSpec) (owner : TaskSight) (item : TaskItem) (line created : ℕ) (kind : TaskKind) (name : List ℕ)
@@ -196,7 +196,7 @@ module _ (i new : Interpreter) (settings : Settings) (c : Course) (kept : List B
       → (became ≡ DroppedFull → new.recorder ≡ with_refused i.recorder (next_offer i.recorder (MadeTask (events.task_info (next_task_id i.recorder) spec) owner.token.ledger 1 (times_ledger owner.times))))
       → (spec.kind ≡ kind) × (spec.name ≡ name) × (spec.location ≡ place line) → (settings.times ≡ true → IsSome owner.times) → ((n : ℕ) → owner.id ≡ id_of 1 n → IsTask n (new_task created) item)
       → owner.id ≡ next_task_id i.recorder → item.callers.token.ledger ≡ owner.token.ledger → new ≡ record i { recorder = new.recorder; tasks = new.tasks } → new.tasks.items ≡ i.tasks.items ++ item ∷ []
-      → (mark : Bool) × StandsFor new settings (step c line (said.task created kind name)) (kept ++ mark ∷ []) sent
+      → (mark : Bool) × Represents new settings (step c line (said.task created kind name)) (kept ++ mark ∷ []) sent
   task_made spec owner item line created kind name keeps drops spec_is timed is id ledger rest items =
       let n = length c.pasts.tasks + 1 in
       let ps : Pasts = record c.pasts { tasks = c.pasts.tasks ++ new_task created ∷ [] } in
@@ -205,7 +205,7 @@ module _ (i new : Interpreter) (settings : Settings) (c : Course) (kept : List B
       let resources : new.resources ≡ i.resources = ap (λ (x : Interpreter). x.resources) rest in
       let ops : new.ops ≡ i.ops = ap (λ (x : Interpreter). x.ops) rest in
       let long : length c.pasts.tasks ≡ length i.tasks.items = each_length IsTask 1 c.pasts.tasks i.tasks.items stands.holds.tasks_are.tasks_are in
-      stands_more i new settings c kept sent stands event became ps (made_task (task_info n line kind name)) same left keeps drops full
+      stands_more i new settings c kept sent stands event became ps (made_task (script_task_info n line kind name)) same left keeps drops full
       (rest ∙ (λ j. record i { recorder = new.recorder; tasks = new.tasks; resources = sym resources j; ops = sym ops j }))
       (λ j. record { tasks = sym (length-append c.pasts.tasks (new_task created ∷ [])) j; resources = nothing_more (length c.pasts.resources) j; ops = nothing_more (length c.pasts.ops) j })
       (ap made_task (task_info_is i.recorder settings.capacity c.pasts c.told kept stands.offered spec line kind name spec_is))
@@ -220,7 +220,7 @@ module _ (i new : Interpreter) (settings : Settings) (c : Course) (kept : List B
       → (became ≡ DroppedFull → new.recorder ≡ with_refused i.recorder (next_offer i.recorder (MadeResource (events.resource_info (next_resource_id i.recorder) spec) owner.token.ledger 1)))
       → (spec.parent ≡ None) × (spec.concrete ≡ concrete) × (spec.kind ≡ kind) × (spec.location ≡ place line) × (spec.attrs ≡ attrs) → ((n : ℕ) → owner.id ≡ id_of 1 n → IsResource n (new_resource created attrs) item)
       → owner.id ≡ next_resource_id i.recorder → item.callers.token.ledger ≡ owner.token.ledger → new ≡ record i { recorder = new.recorder; resources = new.resources } → new.resources.items ≡ i.resources.items ++ item ∷ []
-      → (mark : Bool) × StandsFor new settings (step c line (said.resource created kind concrete attrs)) (kept ++ mark ∷ []) sent
+      → (mark : Bool) × Represents new settings (step c line (said.resource created kind concrete attrs)) (kept ++ mark ∷ []) sent
   resource_made spec owner item line created kind concrete attrs keeps drops spec_is is id ledger rest items =
       let n = length c.pasts.resources + 1 in
       let ps : Pasts = record c.pasts { resources = c.pasts.resources ++ new_resource created attrs ∷ [] } in
@@ -229,7 +229,7 @@ module _ (i new : Interpreter) (settings : Settings) (c : Course) (kept : List B
       let tasks : new.tasks ≡ i.tasks = ap (λ (x : Interpreter). x.tasks) rest in
       let ops : new.ops ≡ i.ops = ap (λ (x : Interpreter). x.ops) rest in
       let long : length c.pasts.resources ≡ length i.resources.items = each_length IsResource 1 c.pasts.resources i.resources.items stands.holds.resources_are in
-      stands_more i new settings c kept sent stands event became ps (made_resource (resource_info n line kind concrete attrs)) same left keeps drops full
+      stands_more i new settings c kept sent stands event became ps (made_resource (script_resource_info n line kind concrete attrs)) same left keeps drops full
       (rest ∙ (λ j. record i { recorder = new.recorder; tasks = sym tasks j; resources = new.resources; ops = sym ops j }))
       (λ j. record { tasks = nothing_more (length c.pasts.tasks) j; resources = sym (length-append c.pasts.resources (new_resource created attrs ∷ [])) j; ops = nothing_more (length c.pasts.ops) j })
       (ap made_resource (resource_info_is i.recorder settings.capacity c.pasts c.told kept stands.offered spec line kind concrete attrs spec_is))
@@ -244,7 +244,7 @@ module _ (i new : Interpreter) (settings : Settings) (c : Course) (kept : List B
       → (became ≡ DroppedFull → new.recorder ≡ with_refused i.recorder (next_offer i.recorder (MadeOp (events.op_info (next_op_id i.recorder) spec) owner.token.ledger 1)))
       → (spec.source ≡ source) × (spec.resource ≡ id_of 1 on) × (spec.parent ≡ None) × (spec.attrs ≡ attrs) → ((n : ℕ) → owner.id ≡ id_of 1 n → IsOp n (new_op created attrs) item)
       → owner.id ≡ next_op_id i.recorder → item.callers.token.ledger ≡ owner.token.ledger → new ≡ record i { recorder = new.recorder; ops = new.ops } → new.ops.items ≡ i.ops.items ++ item ∷ []
-      → (mark : Bool) × StandsFor new settings (step c line (said.op created on source attrs)) (kept ++ mark ∷ []) sent
+      → (mark : Bool) × Represents new settings (step c line (said.op created on source attrs)) (kept ++ mark ∷ []) sent
   op_made spec owner item line created on source attrs keeps drops spec_is is id ledger rest items =
       let n = length c.pasts.ops + 1 in
       let ps : Pasts = record c.pasts { ops = c.pasts.ops ++ new_op created attrs ∷ [] } in
@@ -253,7 +253,7 @@ module _ (i new : Interpreter) (settings : Settings) (c : Course) (kept : List B
       let tasks : new.tasks ≡ i.tasks = ap (λ (x : Interpreter). x.tasks) rest in
       let resources : new.resources ≡ i.resources = ap (λ (x : Interpreter). x.resources) rest in
       let long : length c.pasts.ops ≡ length i.ops.items = each_length IsOp 1 c.pasts.ops i.ops.items stands.holds.ops_are in
-      stands_more i new settings c kept sent stands event became ps (made_op (op_info n on source attrs)) same left keeps drops full
+      stands_more i new settings c kept sent stands event became ps (made_op (script_op_info n on source attrs)) same left keeps drops full
       (rest ∙ (λ j. record i { recorder = new.recorder; tasks = sym tasks j; resources = sym resources j; ops = new.ops }))
       (λ j. record { tasks = nothing_more (length c.pasts.tasks) j; resources = nothing_more (length c.pasts.resources) j; ops = sym (length-append c.pasts.ops (new_op created attrs ∷ [])) j })
       (ap made_op (op_info_is i.recorder settings.capacity c.pasts c.told kept stands.offered spec on source attrs spec_is))
@@ -265,7 +265,7 @@ module _ (i new : Interpreter) (settings : Settings) (c : Course) (kept : List B
   -- and of a poll, which makes no item
   pub poll_made : (poll : PollOp) (line r o t : ℕ) (name : List ℕ) (ready : Bool) → (became ≡ Kept → new.recorder ≡ with_kept i.recorder (next_offer i.recorder (Polled poll)))
       → (became ≡ DroppedFull → new.recorder ≡ with_refused i.recorder (next_offer i.recorder (Polled poll))) → (poll.resource ≡ id_of 1 r) × (poll.ready ≡ ready) → new ≡ record i { recorder = new.recorder }
-      → (mark : Bool) × StandsFor new settings (step c line (said.poll_op r o t name ready)) (kept ++ mark ∷ []) sent
+      → (mark : Bool) × Represents new settings (step c line (said.poll_op r o t name ready)) (kept ++ mark ∷ []) sent
   poll_made poll line r o t name ready keeps drops poll_is rest =
       let tasks : new.tasks ≡ i.tasks = ap (λ (x : Interpreter). x.tasks) rest in
       let resources : new.resources ≡ i.resources = ap (λ (x : Interpreter). x.resources) rest in

@@ -8,8 +8,8 @@ use Rattle.tk_live.specs.Course.{Course, step}
 use Rattle.tk_live.specs.Items.{EachFrom, IsOp, Holds, IsSameOp, OpDid, OpMay}
 use Rattle.tk_live.specs.Named.{made_item}
 use Rattle.tk_live.specs.Pasts.{OpPast, Pasts, and_called, called_at, op_called, open_op, is_closed_op}
-use Rattle.tk_live.specs.Runs.{Numbers, numbers_of, StandsFor, Does}
-use Rattle.tk_live.specs.Stops.{MayFail, stop_of}
+use Rattle.tk_live.specs.Runs.{Numbers, numbers_of, Represents, SilentSpec}
+use Rattle.tk_live.specs.Stops.{StopByEnvironment, stop_by_text}
 use Rattle.tk_live.specs.declared.interpreter.Interpreter.{Interpreter}
 use Rattle.tk_live.specs.declared.items.OpItem.{OpItem}
 use Rattle.tk_script.specs.declared.settings.Settings.{Settings}
@@ -22,17 +22,17 @@ pub ops_numbered : (n : ℕ) (call : OpCall) (ps : Pasts) → numbers_of (op_cal
 ops_numbered n call ps = ap {B = Numbers} (λ (l : ℕ). record { tasks = length ps.tasks; resources = length ps.resources; ops = l }) (length_called n (call ∷ []) ps.ops)
 
 -- an operation made this call
-pub op_went : (i new : Interpreter) (settings : Settings) (c : Course) (kept : List Bool) (sent : List Sending) (n place : ℕ) (old next : OpItem) (call : OpCall) → StandsFor i settings c kept sent
+pub op_went : (i new : Interpreter) (settings : Settings) (c : Course) (kept : List Bool) (sent : List Sending) (n place : ℕ) (old next : OpItem) (call : OpCall) → Represents i settings c kept sent
     → slice_get i.ops.items place ≡ Some old → n ≡ place + 1 → new.ops.items ≡ slice_set i.ops.items place next → IsSameOp old next
     → ((p : OpPast) → IsOp n p old → IsOp n (and_called (call ∷ []) p) next)
-    → new ≡ record i { ops = new.ops } → StandsFor new settings (calling c (op_called n call c.pasts)) (kept ++ []) sent
+    → new ≡ record i { ops = new.ops } → Represents new settings (calling c (op_called n call c.pasts)) (kept ++ []) sent
 op_went i new settings c kept sent n place old next call stands stood is put same did whole =
     let now = record i { ops = new.ops } in
     let there = each_made IsOp c.pasts.ops i.ops.items n old stands.holds.ops_are (at_place n place i.ops.items is ∙ stood) in
     let each : EachFrom IsOp 1 (called_at n (call ∷ []) c.pasts.ops) (slice_set i.ops.items place next) =
     subst (λ (l : List OpPast). EachFrom IsOp 1 l (slice_set i.ops.items place next)) (sym (called_put n (call ∷ []) c.pasts.ops there.0 there.1))
     (each_with IsOp c.pasts.ops i.ops.items n place (and_called (call ∷ []) there.0) next stands.holds.ops_are is (did there.0 there.2)) in
-    subst (λ (j : Interpreter). StandsFor j settings (calling c (op_called n call c.pasts)) (kept ++ []) sent) (sym whole)
+    subst (λ (j : Interpreter). Represents j settings (calling c (op_called n call c.pasts)) (kept ++ []) sent) (sym whole)
     (untold now settings (record c { pasts = op_called n call c.pasts }) kept sent
     (went_on i now settings c (op_called n call c.pasts) kept sent stands
     (subst (λ (ops : List OpItem). Holds i.tasks.items i.wakers.items i.resources.items ops (op_called n call c.pasts)) (sym put) (record {
@@ -48,15 +48,15 @@ op_went i new settings c kept sent n place old next call stands stood is put sam
 -- a command that calls on an open operation did what the call did. The text tells so of what the interpreter stands for
 pub op_did : (i new : Interpreter) (line n place : ℕ) (s : Said) (call : OpCall) (stop : OpPast → Option Stop) (old next : OpItem) (result : Result (Unit {0}) Stop)
     → slice_get i.ops.items place ≡ Some old → n ≡ place + 1 → old.closed ≡ false → new.ops.items ≡ slice_set i.ops.items place next → IsSameOp old next → OpDid stop call old next result
-    → ((settings : Settings) (c : Course) (kept : List Bool) (sent : List Sending) (p : OpPast) → StandsFor i settings c kept sent → open_op n c.pasts ≡ Some p → stop_of c s ≡ stop p)
+    → ((settings : Settings) (c : Course) (kept : List Bool) (sent : List Sending) (p : OpPast) → Represents i settings c kept sent → open_op n c.pasts ≡ Some p → stop_by_text c s ≡ stop p)
     → ((c : Course) → step c line s ≡ calling c (op_called n call c.pasts))
-    → new ≡ record i { ops = new.ops } → Does line s i new result
+    → new ≡ record i { ops = new.ops } → SilentSpec line s i new result
 op_did i new line n place s call stop old next (Ok done) stood is unshut put same did stops steps whole settings c kept sent stands =
     let made = at_place n place i.ops.items is ∙ stood in
     let there = open_there IsOp is_closed_op (λ o. o.closed) (λ m p o h. h.is_closed) c.pasts.ops i.ops.items n old stands.holds.ops_are made unshut in (
       stops settings c kept sent there.0 stands there.3 ∙ (did n there.0 there.2).0,
       [],
-      subst (λ (d : Course). StandsFor new settings d (kept ++ []) sent) (sym (steps c))
+      subst (λ (d : Course). Represents new settings d (kept ++ []) sent) (sym (steps c))
           (op_went i new settings c kept sent n place old next call stands stood is put same (λ p h. (did n p h).1) whole),
     )
 op_did i new line n place s call stop old next (Err why) stood is unshut put same did stops steps whole settings c kept sent stands =
@@ -67,14 +67,14 @@ op_did i new line n place s call stop old next (Err why) stood is unshut put sam
 -- so where the operation's ledger may refuse the call
 pub op_may : (i new : Interpreter) (line n place : ℕ) (s : Said) (call : OpCall) (stops : OpPast → Stop → Type 0) (old next : OpItem) (result : Result (Unit {0}) Stop)
     → slice_get i.ops.items place ≡ Some old → n ≡ place + 1 → old.closed ≡ false → new.ops.items ≡ slice_set i.ops.items place next → IsSameOp old next → OpMay stops call old next result
-    → ((c : Course) (p : OpPast) → open_op n c.pasts ≡ Some p → (stop_of c s ≡ None) × ((why : Stop) → stops p why → MayFail c s why)) → ((c : Course) → step c line s ≡ calling c (op_called n call c.pasts))
-    → new ≡ record i { ops = new.ops } → Does line s i new result
+    → ((c : Course) (p : OpPast) → open_op n c.pasts ≡ Some p → (stop_by_text c s ≡ None) × ((why : Stop) → stops p why → StopByEnvironment c s why)) → ((c : Course) → step c line s ≡ calling c (op_called n call c.pasts))
+    → new ≡ record i { ops = new.ops } → SilentSpec line s i new result
 op_may i new line n place s call stops old next (Ok done) stood is unshut put same did tells steps whole settings c kept sent stands =
     let made = at_place n place i.ops.items is ∙ stood in
     let there = open_there IsOp is_closed_op (λ o. o.closed) (λ m p o h. h.is_closed) c.pasts.ops i.ops.items n old stands.holds.ops_are made unshut in (
       (tells c there.0 there.3).0,
       [],
-      subst (λ (d : Course). StandsFor new settings d (kept ++ []) sent) (sym (steps c))
+      subst (λ (d : Course). Represents new settings d (kept ++ []) sent) (sym (steps c))
           (op_went i new settings c kept sent n place old next call stands stood is put same (λ p h. did n p h) whole),
     )
 op_may i new line n place s call stops old next (Err why) stood is unshut put same did tells steps whole settings c kept sent stands =
@@ -84,6 +84,6 @@ op_may i new line n place s call stops old next (Err why) stood is unshut put sa
 
 -- a command on an operation that wasn't made or is closed stops
 pub no_op : (i : Interpreter) (line n : ℕ) (s : Said) → (made_item n i.ops.items ≡ None) ⊎ ((o : OpItem) × (made_item n i.ops.items ≡ Some o) × (o.closed ≡ true))
-    → ((settings : Settings) (c : Course) (kept : List Bool) (sent : List Sending) → StandsFor i settings c kept sent → open_op n c.pasts ≡ None → stop_of c s ≡ Some NoSuchItem) → Does line s i i (Err NoSuchItem)
+    → ((settings : Settings) (c : Course) (kept : List Bool) (sent : List Sending) → Represents i settings c kept sent → open_op n c.pasts ≡ None → stop_by_text c s ≡ Some NoSuchItem) → SilentSpec line s i i (Err NoSuchItem)
 no_op i line n s none stops settings c kept sent stands =
     inl (stops settings c kept sent stands (none_open IsOp is_closed_op (λ o. o.closed) (λ m p o h. h.is_closed) c.pasts.ops i.ops.items n stands.holds.ops_are none))

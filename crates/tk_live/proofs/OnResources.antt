@@ -9,8 +9,8 @@ use Rattle.tk_live.specs.Course.{Course, step}
 use Rattle.tk_live.specs.Items.{EachFrom, IsResource, Holds, IsSameResource, ResourceDid}
 use Rattle.tk_live.specs.Named.{made_item}
 use Rattle.tk_live.specs.Pasts.{ResourcePast, Pasts, and_called, called_at, resource_called, unless_closed, open_resource, is_closed_resource}
-use Rattle.tk_live.specs.Runs.{Numbers, numbers_of, StandsFor, Does}
-use Rattle.tk_live.specs.Stops.{MayFail, while_there, stop_of}
+use Rattle.tk_live.specs.Runs.{Numbers, numbers_of, Represents, SilentSpec}
+use Rattle.tk_live.specs.Stops.{StopByEnvironment, while_there, stop_by_text}
 use Rattle.tk_live.specs.declared.interpreter.Interpreter.{Interpreter}
 use Rattle.tk_live.specs.declared.items.ResourceItem.{ResourceItem}
 use Rattle.tk_script.specs.declared.settings.Settings.{Settings}
@@ -38,17 +38,17 @@ pub resources_numbered : (n : ℕ) (call : ResourceCall) (ps : Pasts) → number
 resources_numbered n call ps = ap {B = Numbers} (λ (l : ℕ). record { tasks = length ps.tasks; resources = l; ops = length ps.ops }) (length_called n (call ∷ []) ps.resources)
 
 -- a resource made this call
-pub resource_went : (i new : Interpreter) (settings : Settings) (c : Course) (kept : List Bool) (sent : List Sending) (n place : ℕ) (old next : ResourceItem) (call : ResourceCall) → StandsFor i settings c kept sent
+pub resource_went : (i new : Interpreter) (settings : Settings) (c : Course) (kept : List Bool) (sent : List Sending) (n place : ℕ) (old next : ResourceItem) (call : ResourceCall) → Represents i settings c kept sent
     → slice_get i.resources.items place ≡ Some old → n ≡ place + 1 → new.resources.items ≡ slice_set i.resources.items place next → IsSameResource old next
     → ((p : ResourcePast) → IsResource n p old → IsResource n (and_called (call ∷ []) p) next)
-    → new ≡ record i { resources = new.resources } → StandsFor new settings (calling c (resource_called n call c.pasts)) (kept ++ []) sent
+    → new ≡ record i { resources = new.resources } → Represents new settings (calling c (resource_called n call c.pasts)) (kept ++ []) sent
 resource_went i new settings c kept sent n place old next call stands stood is put same did whole =
     let now = record i { resources = new.resources } in
     let there = each_made IsResource c.pasts.resources i.resources.items n old stands.holds.resources_are (at_place n place i.resources.items is ∙ stood) in
     let each : EachFrom IsResource 1 (called_at n (call ∷ []) c.pasts.resources) (slice_set i.resources.items place next) =
     subst (λ (l : List ResourcePast). EachFrom IsResource 1 l (slice_set i.resources.items place next)) (sym (called_put n (call ∷ []) c.pasts.resources there.0 there.1))
     (each_with IsResource c.pasts.resources i.resources.items n place (and_called (call ∷ []) there.0) next stands.holds.resources_are is (did there.0 there.2)) in
-    subst (λ (j : Interpreter). StandsFor j settings (calling c (resource_called n call c.pasts)) (kept ++ []) sent) (sym whole)
+    subst (λ (j : Interpreter). Represents j settings (calling c (resource_called n call c.pasts)) (kept ++ []) sent) (sym whole)
     (untold now settings (record c { pasts = resource_called n call c.pasts }) kept sent
     (went_on i now settings c (resource_called n call c.pasts) kept sent stands
     (subst (λ (resources : List ResourceItem). Holds i.tasks.items i.wakers.items resources i.ops.items (resource_called n call c.pasts)) (sym put) (record {
@@ -64,15 +64,15 @@ resource_went i new settings c kept sent n place old next call stands stood is p
 -- a command that calls on an open resource did what the call did, where this is what the text tells of one that is open
 pub resource_did : (i new : Interpreter) (line n place : ℕ) (s : Said) (call : ResourceCall) (stops : ResourcePast → Stop → Type 0) (old next : ResourceItem) (result : Result (Unit {0}) Stop)
     → slice_get i.resources.items place ≡ Some old → n ≡ place + 1 → old.closed ≡ false → new.resources.items ≡ slice_set i.resources.items place next → IsSameResource old next → ResourceDid stops call old next result
-    → ((c : Course) (p : ResourcePast) → made_item n c.pasts.resources ≡ Some p → is_closed_resource p ≡ false → open_resource n c.pasts ≡ Some p → (stop_of c s ≡ None) × (step c line s ≡ calling c (resource_called n call c.pasts)) × ((stop : Stop) → stops p stop → MayFail c s stop))
-    → new ≡ record i { resources = new.resources } → Does line s i new result
+    → ((c : Course) (p : ResourcePast) → made_item n c.pasts.resources ≡ Some p → is_closed_resource p ≡ false → open_resource n c.pasts ≡ Some p → (stop_by_text c s ≡ None) × (step c line s ≡ calling c (resource_called n call c.pasts)) × ((stop : Stop) → stops p stop → StopByEnvironment c s stop))
+    → new ≡ record i { resources = new.resources } → SilentSpec line s i new result
 resource_did i new line n place s call stops old next (Ok done) stood is unshut put same did tells whole settings c kept sent stands =
     let made = at_place n place i.resources.items is ∙ stood in
     let there = open_there IsResource is_closed_resource (λ r. r.closed) (λ m p r h. h.is_closed) c.pasts.resources i.resources.items n old stands.holds.resources_are made unshut in
     let told = tells c there.0 there.1 (sym there.2.is_closed ∙ unshut) there.3 in (
       told.0,
       [],
-      subst (λ (d : Course). StandsFor new settings d (kept ++ []) sent) (sym told.1)
+      subst (λ (d : Course). Represents new settings d (kept ++ []) sent) (sym told.1)
           (resource_went i new settings c kept sent n place old next call stands stood is put same (λ p h. did n p h) whole),
     )
 resource_did i new line n place s call stops old next (Err why) stood is unshut put same did tells whole settings c kept sent stands =
@@ -83,7 +83,7 @@ resource_did i new line n place s call stops old next (Err why) stood is unshut 
 
 -- a command on a resource that wasn't made or is closed stops
 pub no_resource : (i : Interpreter) (line n : ℕ) (s : Said) (why : Stop) → (made_item n i.resources.items ≡ None) ⊎ ((r : ResourceItem) × (made_item n i.resources.items ≡ Some r) × (r.closed ≡ true))
-    → ((c : Course) → is_some (made_item n c.pasts.resources) ≡ is_some (made_item n i.resources.items) → open_resource n c.pasts ≡ None → stop_of c s ≡ Some why) → Does line s i i (Err why)
+    → ((c : Course) → is_some (made_item n c.pasts.resources) ≡ is_some (made_item n i.resources.items) → open_resource n c.pasts ≡ None → stop_by_text c s ≡ Some why) → SilentSpec line s i i (Err why)
 no_resource i line n s why none stops settings c kept sent stands =
     inl (stops c (each_there IsResource c.pasts.resources i.resources.items n stands.holds.resources_are)
     (none_open IsResource is_closed_resource (λ r. r.closed) (λ m p r h. h.is_closed) c.pasts.resources i.resources.items n stands.holds.resources_are none))

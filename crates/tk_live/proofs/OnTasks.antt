@@ -10,8 +10,8 @@ use Rattle.tk_live.specs.Course.{Course, step}
 use Rattle.tk_live.specs.Items.{EachFrom, IsTask, AreWakers, Holds, IsSameTask, TaskDid}
 use Rattle.tk_live.specs.Named.{made_item}
 use Rattle.tk_live.specs.Pasts.{TaskPast, Pasts, Piece, one, and_called, called_at, task_called, open_task, is_closed}
-use Rattle.tk_live.specs.Runs.{Numbers, numbers_of, StandsFor, Does}
-use Rattle.tk_live.specs.Stops.{stop_of}
+use Rattle.tk_live.specs.Runs.{Numbers, numbers_of, Represents, SilentSpec}
+use Rattle.tk_live.specs.Stops.{stop_by_text}
 use Rattle.tk_live.specs.declared.interpreter.Interpreter.{Interpreter}
 use Rattle.tk_live.specs.declared.items.TaskItem.{TaskItem}
 use Rattle.tk_live.specs.declared.items.WakerItem.{WakerItem}
@@ -49,15 +49,15 @@ module _ (tasks : List TaskItem) (place : ℕ) (old next : TaskItem) (stood : sl
       (each_with IsTask ps tasks n place (and_called calls there.0) next each is (did there.0 there.2))
 
 -- a task made these calls
-pub task_went : (i new : Interpreter) (settings : Settings) (c : Course) (kept : List Bool) (sent : List Sending) (n place : ℕ) (old next : TaskItem) (calls : List TaskCall) → StandsFor i settings c kept sent
+pub task_went : (i new : Interpreter) (settings : Settings) (c : Course) (kept : List Bool) (sent : List Sending) (n place : ℕ) (old next : TaskItem) (calls : List TaskCall) → Represents i settings c kept sent
     → slice_get i.tasks.items place ≡ Some old → n ≡ place + 1 → new.tasks.items ≡ slice_set i.tasks.items place next → IsSameTask old next
     → ((p : TaskPast) → IsTask n p old → IsTask n (and_called (map one calls) p) next)
-    → new ≡ record i { tasks = new.tasks } → StandsFor new settings (calling c (task_called n calls c.pasts)) (kept ++ []) sent
+    → new ≡ record i { tasks = new.tasks } → Represents new settings (calling c (task_called n calls c.pasts)) (kept ++ []) sent
 task_went i new settings c kept sent n place old next calls stands stood is put same did whole =
     let now = record i { tasks = new.tasks } in
     let held = stands.holds.tasks_are in
     let holds = λ (tasks : List TaskItem). Holds tasks i.wakers.items i.resources.items i.ops.items (task_called n calls c.pasts) in
-    subst (λ (j : Interpreter). StandsFor j settings (calling c (task_called n calls c.pasts)) (kept ++ []) sent) (sym whole)
+    subst (λ (j : Interpreter). Represents j settings (calling c (task_called n calls c.pasts)) (kept ++ []) sent) (sym whole)
     (untold now settings (record c { pasts = task_called n calls c.pasts }) kept sent
     (went_on i now settings c (task_called n calls c.pasts) kept sent stands
     (subst holds (sym put) (record {
@@ -75,14 +75,14 @@ task_went i new settings c kept sent n place old next calls stands stood is put 
 -- a command by which the owner of an open task calls, did what the call did
 pub task_did : (i new : Interpreter) (line n place : ℕ) (s : Said) (calls : List TaskCall) (stop : TaskPast → Option Stop) (old next : TaskItem) (result : Result (Unit {0}) Stop)
     → slice_get i.tasks.items place ≡ Some old → n ≡ place + 1 → old.closed ≡ false → new.tasks.items ≡ slice_set i.tasks.items place next → IsSameTask old next → TaskDid stop calls old next result
-    → ((c : Course) (p : TaskPast) → open_task n c.pasts ≡ Some p → stop_of c s ≡ stop p) → ((c : Course) → step c line s ≡ calling c (task_called n calls c.pasts))
-    → new ≡ record i { tasks = new.tasks } → Does line s i new result
+    → ((c : Course) (p : TaskPast) → open_task n c.pasts ≡ Some p → stop_by_text c s ≡ stop p) → ((c : Course) → step c line s ≡ calling c (task_called n calls c.pasts))
+    → new ≡ record i { tasks = new.tasks } → SilentSpec line s i new result
 task_did i new line n place s calls stop old next (Ok done) stood is unshut put same did stops steps whole settings c kept sent stands =
     let made = at_place n place i.tasks.items is ∙ stood in
     let there = open_there IsTask is_closed (λ t. t.closed) (λ m p t h. h.is_closed) c.pasts.tasks i.tasks.items n old stands.holds.tasks_are.tasks_are made unshut in (
       stops c there.0 there.3 ∙ (did n there.0 there.2).0,
       [],
-      subst (λ (d : Course). StandsFor new settings d (kept ++ []) sent) (sym (steps c))
+      subst (λ (d : Course). Represents new settings d (kept ++ []) sent) (sym (steps c))
           (task_went i new settings c kept sent n place old next calls stands stood is put same (λ p h. (did n p h).1) whole),
     )
 task_did i new line n place s calls stop old next (Err why) stood is unshut put same did stops steps whole settings c kept sent stands =
@@ -92,6 +92,6 @@ task_did i new line n place s calls stop old next (Err why) stood is unshut put 
 
 -- a command on a task that wasn't made or is closed stops
 pub no_task : (i : Interpreter) (line n : ℕ) (s : Said) → (made_item n i.tasks.items ≡ None) ⊎ ((t : TaskItem) × (made_item n i.tasks.items ≡ Some t) × (t.closed ≡ true))
-    → ((c : Course) → open_task n c.pasts ≡ None → stop_of c s ≡ Some NoSuchItem) → Does line s i i (Err NoSuchItem)
+    → ((c : Course) → open_task n c.pasts ≡ None → stop_by_text c s ≡ Some NoSuchItem) → SilentSpec line s i i (Err NoSuchItem)
 no_task i line n s none stops settings c kept sent stands =
     inl (stops c (none_open IsTask is_closed (λ t. t.closed) (λ m p t h. h.is_closed) c.pasts.tasks i.tasks.items n stands.holds.tasks_are.tasks_are none))

@@ -14,8 +14,8 @@ use Rattle.tk_live.specs.Course.{Course, step}
 use Rattle.tk_live.specs.Items.{IsTask, AreWakers, Holds, IsSameTask, WakerDid, IsSpent, Draws, woken_by}
 use Rattle.tk_live.specs.Named.{made_item, live_item, with_item}
 use Rattle.tk_live.specs.Pasts.{TaskPast, Pasts, one, task_called, waker_called, waker_spent, waker_drawn}
-use Rattle.tk_live.specs.Runs.{StandsFor, DrawsWaker, Stands, Does}
-use Rattle.tk_live.specs.Stops.{IsReply, MayFail, stop_of}
+use Rattle.tk_live.specs.Runs.{Represents, DrawsWaker, RepresentsSome, SilentSpec}
+use Rattle.tk_live.specs.Stops.{IsReply, StopByEnvironment, stop_by_text}
 use Rattle.tk_live.specs.declared.interpreter.Interpreter.{Interpreter}
 use Rattle.tk_live.specs.declared.items.TaskItem.{TaskItem}
 use Rattle.tk_live.specs.declared.items.WakerItem.{WakerItem}
@@ -47,7 +47,7 @@ pub record WakerAt (tasks : List TaskItem) (a : WakerItem) : Type 0 where
   pub stood : slice_get tasks (a.task - 1) ≡ Some task
   pub live : IsLive task_meaning task.callers.token.view a.number
 
-pub waker_at : (i : Interpreter) → Stands i → (w : ℕ) (a : WakerItem) → live_item w i.wakers.items ≡ Some a → WakerAt i.tasks.items a
+pub waker_at : (i : Interpreter) → RepresentsSome i → (w : ℕ) (a : WakerItem) → live_item w i.wakers.items ≡ Some a → WakerAt i.tasks.items a
 waker_at i stands w a live =
     let there = stands.4.holds.tasks_are.are_live.live w a live in
     let at = made_place a.task i.tasks.items there.0 there.1 in
@@ -72,19 +72,19 @@ waker_read tasks a t at read =
 -- a command of a waker that stays did what the call did
 pub waker_did : (i new : Interpreter) (line w place : ℕ) (a : WakerItem) (s : Said) (call : TaskCall) (old next : TaskItem)
     → slice_get i.tasks.items place ≡ Some old → live_item w i.wakers.items ≡ Some a → a.task ≡ place + 1 → new.tasks.items ≡ slice_set i.tasks.items place next → IsSameTask old next → WakerDid call old next
-    → ((c : Course) → live_item w c.pasts.wakers ≡ Some a.task → stop_of c s ≡ None) → ((c : Course) → step c line s ≡ calling c (waker_called w call c.pasts))
-    → new ≡ record i { tasks = new.tasks } → Does line s i new (Ok tt)
+    → ((c : Course) → live_item w c.pasts.wakers ≡ Some a.task → stop_by_text c s ≡ None) → ((c : Course) → step c line s ≡ calling c (waker_called w call c.pasts))
+    → new ≡ record i { tasks = new.tasks } → SilentSpec line s i new (Ok tt)
 waker_did i new line w place a s call old next stood live is put same did stops steps whole settings c kept sent stands =
     let told = woken_told i.wakers.items c.pasts.wakers w a stands.holds.tasks_are.wakers_are live in (
       stops c told,
       [],
-      subst (λ (d : Course). StandsFor new settings d (kept ++ []) sent) (sym (steps c ∙ ap (calling c) (waker_calls w a.task call c.pasts told)))
+      subst (λ (d : Course). Represents new settings d (kept ++ []) sent) (sym (steps c ∙ ap (calling c) (waker_calls w a.task call c.pasts told)))
           (task_went i new settings c kept sent a.task place old next (call ∷ []) stands stood is put same (λ p h. did a.task p h) whole),
     )
 
 -- a command of a waker that is spent or wasn't made stops
 pub no_waker : (i : Interpreter) (line w : ℕ) (s : Said) → live_item w i.wakers.items ≡ None
-    → ((c : Course) → live_item w c.pasts.wakers ≡ None → stop_of c s ≡ Some NoSuchItem) → Does line s i i (Err NoSuchItem)
+    → ((c : Course) → live_item w c.pasts.wakers ≡ None → stop_by_text c s ≡ Some NoSuchItem) → SilentSpec line s i i (Err NoSuchItem)
 no_waker i line w s none stops settings c kept sent stands = inl (stops c (unwoken_told i.wakers.items c.pasts.wakers w stands.holds.tasks_are.wakers_are none))
 
 -- the other wakers stay live where one is spent
@@ -101,18 +101,18 @@ wakers_left tasks place old next wakers w a stood live is spent are = record {
 }
 
 -- a waker made its last call
-pub waker_went : (i new : Interpreter) (settings : Settings) (c : Course) (kept : List Bool) (sent : List Sending) (w place : ℕ) (a : WakerItem) (call : TaskCall) (old next : TaskItem) → StandsFor i settings c kept sent
+pub waker_went : (i new : Interpreter) (settings : Settings) (c : Course) (kept : List Bool) (sent : List Sending) (w place : ℕ) (a : WakerItem) (call : TaskCall) (old next : TaskItem) → Represents i settings c kept sent
     → slice_get i.tasks.items place ≡ Some old → live_item w i.wakers.items ≡ Some a → a.task ≡ place + 1 → new.tasks.items ≡ slice_set i.tasks.items place next → new.wakers.items ≡ with_item w None i.wakers.items
     → IsSpent a.number old next → WakerDid call old next → live_item w c.pasts.wakers ≡ Some a.task
-    → new ≡ record i { tasks = new.tasks; wakers = new.wakers } → StandsFor new settings (calling c (waker_spent w call c.pasts)) (kept ++ []) sent
+    → new ≡ record i { tasks = new.tasks; wakers = new.wakers } → Represents new settings (calling c (waker_spent w call c.pasts)) (kept ++ []) sent
 waker_went i new settings c kept sent w place a call old next stands stood live is put gone spent did told whole =
     let now = record i { tasks = new.tasks; wakers = new.wakers } in
     let held = stands.holds.tasks_are in
     let spent_now : Pasts = record (task_called a.task (call ∷ []) c.pasts) { wakers = with_item w None c.pasts.wakers } in
     let calls : waker_spent w call c.pasts ≡ spent_now = ap (λ (ps : Pasts). record ps { wakers = with_item w None c.pasts.wakers }) (waker_calls w a.task call c.pasts told) in
     let woken : woken_by (with_item w None i.wakers.items) ≡ with_item w None c.pasts.wakers = set-map (option_map (λ (b : WakerItem). b.task)) i.wakers.items (w - 1) None ∙ ap (with_item w None) held.wakers_are in
-    subst (λ (j : Interpreter). StandsFor j settings (calling c (waker_spent w call c.pasts)) (kept ++ []) sent) (sym whole)
-    (subst (λ (ps : Pasts). StandsFor now settings (calling c ps) (kept ++ []) sent) (sym calls)
+    subst (λ (j : Interpreter). Represents j settings (calling c (waker_spent w call c.pasts)) (kept ++ []) sent) (sym whole)
+    (subst (λ (ps : Pasts). Represents now settings (calling c ps) (kept ++ []) sent) (sym calls)
     (untold now settings (record c { pasts = spent_now }) kept sent
     (went_on i now settings c spent_now kept sent stands
     (subst (λ (tasks : List TaskItem). Holds tasks new.wakers.items i.resources.items i.ops.items spent_now) (sym put)
@@ -132,13 +132,13 @@ waker_went i new settings c kept sent w place a call old next stands stood live 
 pub waker_ended : (i new : Interpreter) (line w place : ℕ) (a : WakerItem) (s : Said) (call : TaskCall) (old next : TaskItem)
     → slice_get i.tasks.items place ≡ Some old → live_item w i.wakers.items ≡ Some a → a.task ≡ place + 1 → new.tasks.items ≡ slice_set i.tasks.items place next → new.wakers.items ≡ with_item w None i.wakers.items
     → IsSpent a.number old next → WakerDid call old next
-    → ((c : Course) → live_item w c.pasts.wakers ≡ Some a.task → stop_of c s ≡ None) → ((c : Course) → step c line s ≡ calling c (waker_spent w call c.pasts))
-    → new ≡ record i { tasks = new.tasks; wakers = new.wakers } → Does line s i new (Ok tt)
+    → ((c : Course) → live_item w c.pasts.wakers ≡ Some a.task → stop_by_text c s ≡ None) → ((c : Course) → step c line s ≡ calling c (waker_spent w call c.pasts))
+    → new ≡ record i { tasks = new.tasks; wakers = new.wakers } → SilentSpec line s i new (Ok tt)
 waker_ended i new line w place a s call old next stood live is put gone spent did stops steps whole settings c kept sent stands =
     let told = woken_told i.wakers.items c.pasts.wakers w a stands.holds.tasks_are.wakers_are live in (
       stops c told,
       [],
-      subst (λ (d : Course). StandsFor new settings d (kept ++ []) sent) (sym (steps c))
+      subst (λ (d : Course). Represents new settings d (kept ++ []) sent) (sym (steps c))
           (waker_went i new settings c kept sent w place a call old next stands stood live is put gone spent did told whole),
     )
 
@@ -175,16 +175,16 @@ wakers_drawn tasks place old next wakers a stood is draws are = record {
     apart_now v w b d (inr v_last) (inr w_last) task number = v_last.0 ∙ sym w_last.0
 
 -- a waker was drawn of a task
-pub drawn_went : (i new : Interpreter) (settings : Settings) (c : Course) (kept : List Bool) (sent : List Sending) (n place : ℕ) (old next : TaskItem) (a : WakerItem) → StandsFor i settings c kept sent
+pub drawn_went : (i new : Interpreter) (settings : Settings) (c : Course) (kept : List Bool) (sent : List Sending) (n place : ℕ) (old next : TaskItem) (a : WakerItem) → Represents i settings c kept sent
     → slice_get i.tasks.items place ≡ Some old → n ≡ place + 1 → a.task ≡ place + 1 → Draws a.number old next → new.tasks.items ≡ slice_set i.tasks.items place next → new.wakers.items ≡ i.wakers.items ++ Some a ∷ []
-    → new ≡ record i { tasks = new.tasks; wakers = new.wakers } → StandsFor new settings (calling c (waker_drawn n c.pasts)) (kept ++ []) sent
+    → new ≡ record i { tasks = new.tasks; wakers = new.wakers } → Represents new settings (calling c (waker_drawn n c.pasts)) (kept ++ []) sent
 drawn_went i new settings c kept sent n place old next a stands stood is task draws put more whole =
     let now = record i { tasks = new.tasks; wakers = new.wakers } in
     let held = stands.holds.tasks_are in
     let ps : Pasts = waker_drawn n c.pasts in
     let woken : woken_by (i.wakers.items ++ Some a ∷ []) ≡ c.pasts.wakers ++ Some n ∷ [] =
     map-append (option_map (λ (b : WakerItem). b.task)) i.wakers.items (Some a ∷ []) ∙ (ap (λ l. l ++ Some a.task ∷ []) held.wakers_are ∙ ap (λ (m : ℕ). c.pasts.wakers ++ Some m ∷ []) (task ∙ sym is)) in
-    subst (λ (j : Interpreter). StandsFor j settings (calling c (waker_drawn n c.pasts)) (kept ++ []) sent) (sym whole)
+    subst (λ (j : Interpreter). Represents j settings (calling c (waker_drawn n c.pasts)) (kept ++ []) sent) (sym whole)
     (untold now settings (record c { pasts = ps }) kept sent
     (went_on i now settings c ps kept sent stands
     (subst (λ (tasks : List TaskItem). Holds tasks new.wakers.items i.resources.items i.ops.items ps) (sym put)
@@ -203,29 +203,29 @@ drawn_went i new settings c kept sent n place old next a stands stood is task dr
 -- a command that draws a waker of a task did what the draw did, where this is what the text tells of it
 pub record DrawsAt (i : Interpreter) (line n : ℕ) (s : Said) (c : Course) : Type 0 where
   pub past : TaskPast
-  pub goes : stop_of c s ≡ None
+  pub goes : stop_by_text c s ≡ None
   pub steps : step c line s ≡ calling c (waker_drawn n c.pasts)
-  pub takes_memory : MayFail c s Memory
+  pub takes_memory : StopByEnvironment c s Memory
   pub is : made_item n c.pasts.tasks ≡ Some past
-  pub may_fail : IsReply task_meaning (Some past.opening) CloneWaker HandlesSpent → MayFail c s (Call HandlesSpent)
+  pub may_fail : IsReply task_meaning (Some past.opening) CloneWaker HandlesSpent → StopByEnvironment c s (Call HandlesSpent)
 
 pub draw_did : (i new : Interpreter) (line n place : ℕ) (s : Said) (result : Result (Unit {0}) Stop) → n ≡ place + 1 → DrawsWaker i place new result
-    → ((settings : Settings) (c : Course) (kept : List Bool) (sent : List Sending) → StandsFor i settings c kept sent → DrawsAt i line n s c)
-    → Does line s i new result
+    → ((settings : Settings) (c : Course) (kept : List Bool) (sent : List Sending) → Represents i settings c kept sent → DrawsAt i line n s c)
+    → SilentSpec line s i new result
 draw_did i new line n place s (Ok done) is draws at settings c kept sent stands =
     let told = at settings c kept sent stands in
     let waker : WakerItem = record { task = place + 1; number = draws.2 } in (
       told.goes,
       [],
-      subst (λ (d : Course). StandsFor new settings d (kept ++ []) sent) (sym told.steps)
+      subst (λ (d : Course). Represents new settings d (kept ++ []) sent) (sym told.steps)
           (drawn_went i new settings c kept sent n place draws.0 draws.1 waker stands draws.3 is refl draws.4 draws.6 draws.7 draws.5),
     )
 draw_did i new line n place s (Err why) is (inl memory) at settings c kept sent stands =
-    inr (subst (λ (w : Stop). MayFail c s w) (sym memory) (at settings c kept sent stands).takes_memory)
+    inr (subst (λ (w : Stop). StopByEnvironment c s w) (sym memory) (at settings c kept sent stands).takes_memory)
 draw_did i new line n place s (Err why) is (inr refused) at settings c kept sent stands =
     let told = at settings c kept sent stands in
     let there = each_made IsTask c.pasts.tasks i.tasks.items n refused.1 stands.holds.tasks_are.tasks_are (at_place n place i.tasks.items is ∙ refused.2) in
     let past : Some there.0 ≡ Some told.past = sym there.1 ∙ told.is in
     let opening : there.0.opening ≡ told.past.opening = let same : there.0 ≡ told.past = cc in ap (λ (p : TaskPast). p.opening) same in
-    inr (subst (λ (w : Stop). MayFail c s w) (sym refused.0)
+    inr (subst (λ (w : Stop). StopByEnvironment c s w) (sym refused.0)
     (told.may_fail (subst (λ row. IsReply task_meaning (Some row) CloneWaker HandlesSpent) opening (refused.3 n there.0 there.2))))

@@ -16,7 +16,7 @@ use Rattle.tk_script.specs.declared.settings.Settings.{Settings}
 use Rattle.tk_live.specs.Course.{Course, due_at, step}
 use Rattle.tk_live.specs.Ran.{kept_between}
 use Rattle.tk_live.specs.Read.{CollectsAll, MayRead, AreItemsRead}
-use Rattle.tk_live.specs.Runs.{HaveTimes, StandsFor, IsTaskLedger, IsResourceLedger, IsOpLedger, OffersLedger, AreLinked, offer_tells, recorded_by}
+use Rattle.tk_live.specs.Runs.{HaveTimes, Represents, IsTaskLedger, IsResourceLedger, IsOpLedger, OffersLedger, AreLinked, offer_tells, recorded_by}
 use Rattle.tk_live.specs.declared.interpreter.Interpreter.{Interpreter}
 use Rattle.tk_live.proofs.Between.{kept_behind, kept_all}
 use Rattle.tk_live.proofs.ItemsRead.{are_called, held_stays, infos_stay, still_holds, still_linked, stream_stays, times_stay}
@@ -24,7 +24,7 @@ use Rattle.tk_live.proofs.Leaving.{recorded_push, rise_push}
 use Rattle.tk_live.proofs.Linking.{AreReaders, gathered_readers}
 use Rattle.tk_live.proofs.Publishing.{HasGathered, came_line, gathered, readers_stay, still_gathered, told_line, told_totals, took_all, took_more}
 
-module _ (i : Interpreter) (settings : Settings) (c : Course) (kept : List Bool) (sent : List Sending) (stands : StandsFor i settings c kept sent) (a : Aggregating) (u : Taking) (took : TookMore i.taker u) (all : CollectsAll i.recorder i.aggregator i.taker a u) where
+module _ (i : Interpreter) (settings : Settings) (c : Course) (kept : List Bool) (sent : List Sending) (stands : Represents i settings c kept sent) (a : Aggregating) (u : Taking) (took : TookMore i.taker u) (all : CollectsAll i.recorder i.aggregator i.taker a u) where
   -- all was taken that was kept
   took_kept : u.taken ≡ i.recorder.kept
   took_kept = took_all i.recorder settings.capacity _ c.told kept stands.offered i.taker u stands.takes took all.named all.all
@@ -78,8 +78,8 @@ module _ (i : Interpreter) (settings : Settings) (c : Course) (kept : List Bool)
           ap (λ (x : Interpreter). record x { aggregator = z }) read.rest
           ∙ ap (λ (x : Aggregating). record i { taker = u; aggregator = x; tasks = m.tasks; resources = m.resources; ops = m.ops }) is
 
-      pub published : (z : Aggregating) → z ≡ after_line whole m.aggregator now → StandsFor (record m { aggregator = z }) settings (step c line (publish now whole)) kept (sent ++ sending_at whole m.aggregator now ∷ [])
-      published z is = subst (λ (x : Interpreter). StandsFor x settings (step c line (publish now whole)) kept (sent ++ sending_at whole m.aggregator now ∷ [])) (sym (after_is z is)) (record {
+      pub published : (z : Aggregating) → z ≡ after_line whole m.aggregator now → Represents (record m { aggregator = z }) settings (step c line (publish now whole)) kept (sent ++ sending_at whole m.aggregator now ∷ [])
+      published z is = subst (λ (x : Interpreter). Represents x settings (step c line (publish now whole)) kept (sent ++ sending_at whole m.aggregator now ∷ [])) (sym (after_is z is)) (record {
         came = came_line m.aggregator settings c kept sent now whole now_gathered sound may later stands.came (are_called (record i { taker = u; aggregator = a }) m read c.pasts stands.holds sound);
         rise = rise_push (length c.told) 0 c.due (due_at c now whole) refl stands.rise;
         offered = stands.offered;

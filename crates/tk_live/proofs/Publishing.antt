@@ -29,9 +29,9 @@ use Rattle.tk_script.specs.declared.settings.Settings.{Settings}
 use Rattle.tk_script.specs.declared.stop.Stop.TheVariants.{Clock, NumbersSpent}
 use Rattle.tk_live.specs.Course.{Course, due_at}
 use Rattle.tk_live.specs.Pasts.{Pasts}
-use Rattle.tk_live.specs.Ran.{infos_with, leaving, kept_between, TellsTimes, IsCalledTask, IsCalledResource, IsCalledOp, AreCalled, TellOf, CameOf}
-use Rattle.tk_live.specs.Runs.{Numbers, Offered, Takes, HaveTimes, HasTold, offer_tells, recorded_by, bytes_after}
-use Rattle.tk_live.specs.Stops.{stop_of}
+use Rattle.tk_live.specs.Ran.{infos_with, leaving, kept_between, TellsTimes, IsCalledTask, IsCalledResource, IsCalledOp, AreCalled, TellOf, IsStreamOf}
+use Rattle.tk_live.specs.Runs.{Numbers, Offered, IsTakerOf, HaveTimes, HasTold, offer_tells, recorded_by, bytes_after}
+use Rattle.tk_live.specs.Stops.{stop_by_text}
 use Rattle.tk_live.proofs.Histograms.{gathered_times, line_one_each, line_tells}
 use Rattle.tk_live.proofs.Leaving.{absorb_told, infos_leave, just_due, lines_push}
 use Rattle.tk_live.proofs.Rows.{all_stay}
@@ -46,7 +46,7 @@ by_one (o ∷ os) named =
     let one : o.recorder ≡ 1 = omega (arith, named.0.0, named.0.1) in
     rw (eq-eqb o.recorder 1 one) (ap (λ l. o ∷ l) (by_one os named.1))
 
-module _ (r : Recording) (capacity : ℕ) (numbers : Numbers) (told : List Told) (kept : List Bool) (offered : Offered r capacity numbers told kept) (t u : Taking) (takes : Takes r t) (took : TookMore t u) (named : All (IsNamed u.recorders) u.taken) where
+module _ (r : Recording) (capacity : ℕ) (numbers : Numbers) (told : List Told) (kept : List Bool) (offered : Offered r capacity numbers told kept) (t u : Taking) (takes : IsTakerOf r t) (took : TookMore t u) (named : All (IsNamed u.recorders) u.taken) where
   all_named : AllByRecursion (IsNamed 1) u.taken
   all_named = recursion_from_All (IsNamed 1) u.taken (subst (λ (n : ℕ). All (IsNamed n) u.taken) (took.recorders ∙ takes.recorders) named)
 
@@ -54,7 +54,7 @@ module _ (r : Recording) (capacity : ℕ) (numbers : Numbers) (told : List Told)
   pub took_all : by r.number u.taken ≡ r.kept → u.taken ≡ r.kept
   took_all all = sym (by_one u.taken all_named) ∙ (ap (λ n. by n u.taken) (sym offered.number) ∙ all)
 
-pub took_more : (r : Recording) (t u : Taking) → Takes r t → TookMore t u → Takes r u
+pub took_more : (r : Recording) (t u : Taking) → IsTakerOf r t → TookMore t u → IsTakerOf r u
 took_more r t u takes took = record {
   console = took.console ∙ takes.console;
   recorders = took.recorders ∙ takes.recorders;
@@ -212,7 +212,7 @@ module _ (a : Aggregating) (settings : Settings) (c : Course) (kept : List Bool)
   line = sending_at whole a now
 
   -- it is as the text says it
-  pub came_line : CameOf settings c kept sent → AreCalled c.pasts a.tables → TellOf settings c.told (c.due ++ due_at c now whole ∷ []) kept (sent ++ line ∷ [])
+  pub came_line : IsStreamOf settings c kept sent → AreCalled c.pasts a.tables → TellOf settings c.told (c.due ++ due_at c now whole ∷ []) kept (sent ++ line ∷ [])
   came_line came called = record {
     one_each = came.one_each;
     first = came.first;
@@ -253,12 +253,12 @@ one_line a sent now whole told =
     append-nil (sent_text (line_sent (tables_sent empty_tables sent) (sending_at whole a now))) ∙ ap (λ b. sent_text (line_sent b (sending_at whole a now))) (sym told)
 
 -- the text doesn't stop a line that is due
-pub is_due : (k : Course) (now : ℕ) (whole : Bool) (last moment : ℕ) → moment ≡ k.now → last ≡ length k.due → moment ≤ now → last < 2 ^ 63 → stop_of k (publish now whole) ≡ None
+pub is_due : (k : Course) (now : ℕ) (whole : Bool) (last moment : ℕ) → moment ≡ k.now → last ≡ length k.due → moment ≤ now → last < 2 ^ 63 → stop_by_text k (publish now whole) ≡ None
 is_due k now whole last moment moment_is last_is late left = rw (le-ltb now k.now (omega (arith, moment_is, late)), lt-leb (2 ^ 63) (length k.due) (omega (arith, last_is, left))) refl
 
 -- a moment that is too low, and numbers that are spent
-pub too_low : (k : Course) (now : ℕ) (whole : Bool) (moment : ℕ) → moment ≡ k.now → now < moment → stop_of k (publish now whole) ≡ Some Clock
+pub too_low : (k : Course) (now : ℕ) (whole : Bool) (moment : ℕ) → moment ≡ k.now → now < moment → stop_by_text k (publish now whole) ≡ Some Clock
 too_low k now whole moment moment_is low = rw (lt-ltb now k.now (omega (arith, moment_is, low))) refl
 
-pub none_left : (k : Course) (now : ℕ) (whole : Bool) (last moment : ℕ) → moment ≡ k.now → last ≡ length k.due → moment ≤ now → last ≡ 2 ^ 63 → stop_of k (publish now whole) ≡ Some NumbersSpent
+pub none_left : (k : Course) (now : ℕ) (whole : Bool) (last moment : ℕ) → moment ≡ k.now → last ≡ length k.due → moment ≤ now → last ≡ 2 ^ 63 → stop_by_text k (publish now whole) ≡ Some NumbersSpent
 none_left k now whole last moment moment_is last_is late all = rw (le-ltb now k.now (omega (arith, moment_is, late)), le-leb (2 ^ 63) (length k.due) (omega (arith, last_is, all))) refl

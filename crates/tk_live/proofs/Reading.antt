@@ -18,9 +18,9 @@ use Rattle.tk_stream.specs.Fronts.{task_at, resource_at, op_at}
 use Rattle.tk_stream.specs.Lines.{task_info, resource_info, op_info}
 use Rattle.tk_stream.specs.Places.{place_with}
 use Rattle.tk_stream.specs.Tables.{changed_at, task_id, resource_id, op_id}
-use Rattle.tk_stream.specs.declared.op.Op.{Op}
-use Rattle.tk_stream.specs.declared.resource.Resource.{Resource}
-use Rattle.tk_stream.specs.declared.task.Task.{Task}
+use Rattle.tk_stream.specs.declared.tables.op.Op.{Op}
+use Rattle.tk_stream.specs.declared.tables.resource.Resource.{Resource}
+use Rattle.tk_stream.specs.declared.tables.task.Task.{Task}
 use Rattle.tk_aggregator.specs.Aggregates.{Aggregating}
 use Rattle.tk_aggregator.specs.Beside.{AreOf, StaysHand, ReadsTaskBeside, ReadsResourceBeside, ReadsOpBeside}
 use Rattle.tk_live.specs.Items.{EachFrom, IsTask, IsResource, IsOp, IsSameTask, IsSameResource, IsSameOp}

@@ -21,7 +21,7 @@ use Rattle.tk_live.specs.Course.{Course}
 use Rattle.tk_live.specs.Items.{Holds}
 use Rattle.tk_live.specs.Named.{made_item}
 use Rattle.tk_live.specs.Pasts.{Pasts}
-use Rattle.tk_live.specs.Runs.{StandsFor, Numbers, numbers_of, HasTimes, Offered, Takes, AreLinked, IsTaskLedger, IsResourceLedger, IsOpLedger, OffersLedger, RiseTo, recorded_by}
+use Rattle.tk_live.specs.Runs.{Represents, Numbers, numbers_of, HasTimes, Offered, IsTakerOf, AreLinked, IsTaskLedger, IsResourceLedger, IsOpLedger, OffersLedger, RiseTo, recorded_by}
 use Rattle.tk_live.specs.Stops.{offer_stop, if_there}
 use Rattle.tk_live.specs.declared.interpreter.Interpreter.{Interpreter}
 use Rattle.tk_live.specs.declared.items.OpItem.{OpItem}
@@ -84,19 +84,19 @@ module _ (tasks more_tasks : List TaskItem) (resources more_resources : List Res
 -- ---- one offer more
 
 -- an offer was made, whatever became of it: an interpreter stands for one recording more, of these items
-module _ (i new : Interpreter) (settings : Settings) (c : Course) (kept : List Bool) (sent : List Sending) (stands : StandsFor i settings c kept sent) (event : Shown) (became : Recorded) (ps : Pasts) (told : Told)
+module _ (i new : Interpreter) (settings : Settings) (c : Course) (kept : List Bool) (sent : List Sending) (stands : Represents i settings c kept sent) (event : Shown) (became : Recorded) (ps : Pasts) (told : Told)
     (same : IsSameRecorder i.recorder new.recorder) (left : offers_made i.recorder ≡ i.recorder.limit → ⊥) (keeps : became ≡ Kept → new.recorder ≡ with_kept i.recorder (next_offer i.recorder event)) (drops : became ≡ DroppedFull → new.recorder ≡ with_refused i.recorder (next_offer i.recorder event))
     (full : became ≡ DroppedFull → i.recorder.recorders ≡ 1 → i.recorder.capacity ≤ length i.recorder.kept)
     (rest : new ≡ record i { recorder = new.recorder; tasks = new.tasks; resources = new.resources; ops = new.ops }) where
   pub stands_more : one_more (numbers_of c.pasts) event ≡ numbers_of ps → tells event ≡ told → (settings.times ≡ true → HasTimes event)
       → IsLonger i.tasks.items new.tasks.items × IsLonger i.resources.items new.resources.items × IsLonger i.ops.items new.ops.items
       → Holds new.tasks.items i.wakers.items new.resources.items new.ops.items ps → OffersLedger new.tasks.items new.resources.items new.ops.items event
-      → (mark : Bool) × StandsFor new settings (record c { pasts = ps; told = c.told ++ told ∷ [] }) (kept ++ mark ∷ []) sent
+      → (mark : Bool) × Represents new settings (record c { pasts = ps; told = c.told ++ told ∷ [] }) (kept ++ mark ∷ []) sent
   stands_more numbers told_is has longer holds ledger =
       let one = recorded i.recorder new.recorder settings.capacity (numbers_of c.pasts) c.told kept stands.offered stands.came.one_each same left event became keeps drops full in
       let grown : length c.told + 1 ≡ length (c.told ++ told ∷ []) = sym (length-append c.told (told ∷ [])) in (
         one.0,
-        subst (λ (x : Interpreter). StandsFor x settings (record c { pasts = ps; told = c.told ++ told ∷ [] }) (kept ++ one.0 ∷ []) sent) (sym rest) (record {
+        subst (λ (x : Interpreter). Represents x settings (record c { pasts = ps; told = c.told ++ told ∷ [] }) (kept ++ one.0 ∷ []) sent) (sym rest) (record {
           came = tells_more settings c.told c.due kept sent one.0 told stands.came stands.rise one.2;
           rise = subst (λ n. RiseTo n 0 c.due) grown (rise_more (length c.told) 1 0 c.due stands.rise);
           offered = subst (λ (p : Numbers × Told). Offered new.recorder settings.capacity p.0 (c.told ++ p.1 ∷ []) (kept ++ one.0 ∷ [])) (λ j. (numbers j, told_is j)) one.1;

@@ -3,16 +3,16 @@ use Rattle.std.proofs.Common.{◌≡◌, Bool, true, List, [], ◌++◌, refl, s
 use Rattle.std.proofs.lemmas.List.{append-nil}
 use Rattle.tk_stream.specs.Streams.{Sending}
 use Rattle.tk_live.specs.Course.{Course}
-use Rattle.tk_live.specs.Runs.{StandsFor}
+use Rattle.tk_live.specs.Runs.{Represents}
 use Rattle.tk_live.specs.declared.interpreter.Interpreter.{Interpreter}
 use Rattle.tk_script.specs.declared.settings.Settings.{Settings}
 
-module _ (i : Interpreter) (settings : Settings) (c : Course) (kept : List Bool) (sent : List Sending) (stands : StandsFor i settings c kept sent) where
+module _ (i : Interpreter) (settings : Settings) (c : Course) (kept : List Bool) (sent : List Sending) (stands : Represents i settings c kept sent) where
   -- which settings were said
   said_so : (new : Interpreter) (d : Course) (capacity retention times : Bool) → new ≡ record i { capacity_said = capacity; retention_said = retention; times_said = times }
-      → d ≡ record c { capacity_said = capacity; retention_said = retention; times_said = times } → StandsFor new settings d (kept ++ []) sent
+      → d ≡ record c { capacity_said = capacity; retention_said = retention; times_said = times } → Represents new settings d (kept ++ []) sent
   said_so new d capacity retention times is so =
-      let now : StandsFor (record i { capacity_said = capacity; retention_said = retention; times_said = times }) settings (record c { capacity_said = capacity; retention_said = retention; times_said = times }) kept sent = record {
+      let now : Represents (record i { capacity_said = capacity; retention_said = retention; times_said = times }) settings (record c { capacity_said = capacity; retention_said = retention; times_said = times }) kept sent = record {
         came = stands.came;
         rise = stands.rise;
         offered = stands.offered;
@@ -28,13 +28,13 @@ module _ (i : Interpreter) (settings : Settings) (c : Course) (kept : List Bool)
         begun = stands.begun;
         times_is = stands.times_is;
       } in
-      subst (λ (p : Interpreter × Course × List Bool). StandsFor p.0 settings p.1 p.2 sent) (λ j. (sym is j, sym so j, sym (append-nil kept) j)) now
+      subst (λ (p : Interpreter × Course × List Bool). Represents p.0 settings p.1 p.2 sent) (λ j. (sym is j, sym so j, sym (append-nil kept) j)) now
 
-  pub capacity_told : StandsFor (record i { capacity_said = true }) settings (record c { capacity_said = true }) (kept ++ []) sent
+  pub capacity_told : Represents (record i { capacity_said = true }) settings (record c { capacity_said = true }) (kept ++ []) sent
   capacity_told = said_so _ _ true c.retention_said c.times_said (λ j. record i { capacity_said = true; retention_said = stands.retention_said j; times_said = stands.times_said j }) refl
 
-  pub retention_told : StandsFor (record i { retention_said = true }) settings (record c { retention_said = true }) (kept ++ []) sent
+  pub retention_told : Represents (record i { retention_said = true }) settings (record c { retention_said = true }) (kept ++ []) sent
   retention_told = said_so _ _ c.capacity_said true c.times_said (λ j. record i { capacity_said = stands.capacity_said j; retention_said = true; times_said = stands.times_said j }) refl
 
-  pub times_told : StandsFor (record i { times_said = true }) settings (record c { times_said = true }) (kept ++ []) sent
+  pub times_told : Represents (record i { times_said = true }) settings (record c { times_said = true }) (kept ++ []) sent
   times_told = said_so _ _ c.capacity_said c.retention_said true (λ j. record i { capacity_said = stands.capacity_said j; retention_said = stands.retention_said j; times_said = true }) refl

@@ -18,7 +18,7 @@ use Rattle.tk_live.specs.Course.{Course}
 use Rattle.tk_live.specs.Items.{EachFrom, Holds}
 use Rattle.tk_live.specs.Named.{made_item, with_item}
 use Rattle.tk_live.specs.Pasts.{Past, Pasts, and_called, called_at, unless_closed}
-use Rattle.tk_live.specs.Runs.{Numbers, numbers_of, Offered, IsTaskLedger, IsResourceLedger, IsOpLedger, OffersLedger, AreLinked, StandsFor}
+use Rattle.tk_live.specs.Runs.{Numbers, numbers_of, Offered, IsTaskLedger, IsResourceLedger, IsOpLedger, OffersLedger, AreLinked, Represents}
 use Rattle.tk_live.specs.Stops.{if_there}
 use Rattle.tk_live.specs.declared.interpreter.Interpreter.{Interpreter}
 use Rattle.tk_live.specs.declared.items.OpItem.{OpItem}
@@ -121,18 +121,18 @@ module _ (tasks tasks_now : List TaskItem) (resources resources_now : List Resou
 -- ---- an interpreter whose items went on
 
 -- nothing was recorded
-pub unmarked : (i : Interpreter) (settings : Settings) (c : Course) (kept : List Bool) (sent : List Sending) → StandsFor i settings c kept sent → StandsFor i settings c (kept ++ []) sent
-unmarked i settings c kept sent stands = subst (λ (m : List Bool). StandsFor i settings c m sent) (sym (append-nil kept)) stands
+pub unmarked : (i : Interpreter) (settings : Settings) (c : Course) (kept : List Bool) (sent : List Sending) → Represents i settings c kept sent → Represents i settings c (kept ++ []) sent
+unmarked i settings c kept sent stands = subst (λ (m : List Bool). Represents i settings c m sent) (sym (append-nil kept)) stands
 
 -- and nothing told
-pub untold : (i : Interpreter) (settings : Settings) (c : Course) (kept : List Bool) (sent : List Sending) → StandsFor i settings c kept sent → StandsFor i settings (record c { told = c.told ++ [] }) (kept ++ []) sent
-untold i settings c kept sent stands = subst (λ (told : List Told). StandsFor i settings (record c { told = told }) (kept ++ []) sent) (sym (append-nil c.told)) (unmarked i settings c kept sent stands)
+pub untold : (i : Interpreter) (settings : Settings) (c : Course) (kept : List Bool) (sent : List Sending) → Represents i settings c kept sent → Represents i settings (record c { told = c.told ++ [] }) (kept ++ []) sent
+untold i settings c kept sent stands = subst (λ (told : List Told). Represents i settings (record c { told = told }) (kept ++ []) sent) (sym (append-nil c.told)) (unmarked i settings c kept sent stands)
 
 -- items went on, as the text tells of them
-pub went_on : (i new : Interpreter) (settings : Settings) (c : Course) (ps : Pasts) (kept : List Bool) (sent : List Sending) → StandsFor i settings c kept sent
+pub went_on : (i new : Interpreter) (settings : Settings) (c : Course) (ps : Pasts) (kept : List Bool) (sent : List Sending) → Represents i settings c kept sent
     → Holds new.tasks.items new.wakers.items new.resources.items new.ops.items ps → TasksStay i.tasks.items new.tasks.items → ResourcesStay i.resources.items new.resources.items → OpsStay i.ops.items new.ops.items
     → numbers_of ps ≡ numbers_of c.pasts
-    → StandsFor (record i { tasks = new.tasks; wakers = new.wakers; resources = new.resources; ops = new.ops }) settings (record c { pasts = ps }) kept sent
+    → Represents (record i { tasks = new.tasks; wakers = new.wakers; resources = new.resources; ops = new.ops }) settings (record c { pasts = ps }) kept sent
 went_on i new settings c ps kept sent stands holds tasks_stay resources_stay ops_stay same = record {
   came = stands.came;
   rise = stands.rise;

@@ -5,12 +5,12 @@ use Rattle.std.proofs.KnownBytes.{Appends-nil}
 use Rattle.tk_fault.specs.declared.fault.AppFault.{AppFault}
 use Rattle.tk_fault.specs.declared.fault.AppFault.TheVariants as faults
 use Rattle.tk_script.specs.Commands.{Line, settings_of}
-use Rattle.tk_live.specs.Runs.{LinesCame}
-use Rattle.tk_live.specs.Script.{LinesWrite, RunWrites, ReadsAndRuns}
+use Rattle.tk_live.specs.Runs.{LinesResult}
+use Rattle.tk_live.specs.Script.{LinesWrite, ScriptResult, ReadsAndRuns}
 use Rattle.tk_live.specs.Transfer.{IsReading, IsScript}
 
 -- what was written
-pub writes : (answers : ℕ → Bool → Type 0) (last : ℕ) (script : List Line) (result : Result (Unit {0}) AppFault) (text : List ℕ) → LinesCame answers last script (settings_of script) result text → LinesWrite answers last script result text
+pub writes : (answers : ℕ → Bool → Type 0) (last : ℕ) (script : List Line) (result : Result (Unit {0}) AppFault) (text : List ℕ) → LinesResult answers last script (settings_of script) result text → LinesWrite answers last script result text
 writes answers last script (Ok done) text came = (came.3, record { goes = came.0; closed = came.1; kept = came.2; came = came.4 }, came.5)
 writes answers last script (Err (faults.Script number name)) text (inl came) = inl (record {
   before = came.before;
@@ -54,7 +54,7 @@ read_fails answers known bytes (faults.Script line name) h = absurd h
 read_fails answers known bytes (faults.Stream lines fault) h = absurd h
 
 -- what the run of a script that was read writes
-pub read_runs : (answers : ℕ → Bool → Type 0) (known : Option (List ℕ)) (script : List ℕ) (r : Result (Unit {0}) AppFault) (written : List ℕ) → IsScript known script → RunWrites answers script r written → ReadsAndRuns answers known r written
+pub read_runs : (answers : ℕ → Bool → Type 0) (known : Option (List ℕ)) (script : List ℕ) (r : Result (Unit {0}) AppFault) (written : List ℕ) → IsScript known script → ScriptResult answers script r written → ReadsAndRuns answers known r written
 read_runs answers known script (Ok done) written is h = (script, is, h)
 read_runs answers known script (Err (faults.Script number name)) written is h = (script, is, h)
 read_runs answers known script (Err faults.Memory) written is h = h

@@ -44,22 +44,22 @@ abbrev pub place : ℕ → Location
 place line = record { file = codes "script"; line = line; column = 1 }
 
 -- the info of the n-th task
-abbrev pub task_info : ℕ → ℕ → TaskKind → List ℕ → TaskInfo
-task_info n line kind name = record { id = id_of 1 n; kind = kind; name = name; location = place line }
+abbrev pub script_task_info : ℕ → ℕ → TaskKind → List ℕ → TaskInfo
+script_task_info n line kind name = record { id = id_of 1 n; kind = kind; name = name; location = place line }
 
 -- the info of the n-th resource, which has no parent
-abbrev pub resource_info : ℕ → ℕ → List ℕ → List ℕ → List AttrSpec → ResourceInfo
-resource_info n line kind concrete attrs = record { id = id_of 1 n; parent = None; concrete = concrete; kind = kind; location = place line; attrs = infos_of attrs }
+abbrev pub script_resource_info : ℕ → ℕ → List ℕ → List ℕ → List AttrSpec → ResourceInfo
+script_resource_info n line kind concrete attrs = record { id = id_of 1 n; parent = None; concrete = concrete; kind = kind; location = place line; attrs = infos_of attrs }
 
 -- the info of the n-th async operation, which is on the r-th resource and has no parent
-abbrev pub op_info : ℕ → ℕ → List ℕ → List AttrSpec → OpInfo
-op_info n r source attrs = record { id = id_of 1 n; source = source; resource = id_of 1 r; parent = None; attrs = infos_of attrs }
+abbrev pub script_op_info : ℕ → ℕ → List ℕ → List AttrSpec → OpInfo
+script_op_info n r source attrs = record { id = id_of 1 n; source = source; resource = id_of 1 r; parent = None; attrs = infos_of attrs }
 
 -- what a command on a line of this number records, after what was called before it
 abbrev pub told_by : Pasts → ℕ → Said → List Told
-told_by ps line (task created kind name) = made_task (task_info (length ps.tasks + 1) line kind name) ∷ []
-told_by ps line (resource created kind concrete attrs) = made_resource (resource_info (length ps.resources + 1) line kind concrete attrs) ∷ []
-told_by ps line (op created r source attrs) = made_op (op_info (length ps.ops + 1) r source attrs) ∷ []
+told_by ps line (task created kind name) = made_task (script_task_info (length ps.tasks + 1) line kind name) ∷ []
+told_by ps line (resource created kind concrete attrs) = made_resource (script_resource_info (length ps.resources + 1) line kind concrete attrs) ∷ []
+told_by ps line (op created r source attrs) = made_op (script_op_info (length ps.ops + 1) r source attrs) ∷ []
 told_by ps line (poll_op r o t name ready) = polled (id_of 1 r) ready ∷ []
 told_by ps line s = []
 

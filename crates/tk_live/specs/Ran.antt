@@ -9,9 +9,9 @@ use Rattle.tk_stream.specs.Lines.{GoneView, none_gone, told_times}
 use Rattle.tk_stream.specs.Retention.{due_of}
 use Rattle.tk_stream.specs.Tables.{TablesView, empty_tables, task_id}
 use Rattle.tk_stream.specs.Times.{TaskTimes, times_id}
-use Rattle.tk_stream.specs.declared.op.Op.{Op}
-use Rattle.tk_stream.specs.declared.resource.Resource.{Resource}
-use Rattle.tk_stream.specs.declared.task.Task.{Task}
+use Rattle.tk_stream.specs.declared.tables.op.Op.{Op}
+use Rattle.tk_stream.specs.declared.tables.resource.Resource.{Resource}
+use Rattle.tk_stream.specs.declared.tables.task.Task.{Task}
 use Rattle.tk_aggregator.specs.Absorbing.{Infos, infos_of, with_told, infos_without}
 use Rattle.tk_aggregator.specs.Aggregates.{Pairs}
 use Rattle.tk_aggregator.specs.Timing.{ReadTimes}
@@ -117,15 +117,15 @@ pub record TellOf (settings : Settings) (told : List Told) (due : List Due) (kep
   pub stream : GoesOn empty_tables 0 sent
 
 -- what came of commands
-abbrev pub CameOf : Settings → Course → List Bool → List Sending → Type 0
-CameOf settings c kept sent = TellOf settings c.told c.due kept sent
+abbrev pub IsStreamOf : Settings → Course → List Bool → List Sending → Type 0
+IsStreamOf settings c kept sent = TellOf settings c.told c.due kept sent
 
 -- the text stops none of the lines, no block is open after them, and this came of them
-pub record Ran (settings : Settings) (ls : List Line) (sent : List Sending) : Type 0 where
+pub record RunsThrough (settings : Settings) (ls : List Line) (sent : List Sending) : Type 0 where
   pub goes : AllGo start_of_all (enumerate_from 1 ls)
   pub closed : (course_of ls).block ≡ None
   pub kept : List Bool
-  pub came : CameOf settings (course_of ls) kept sent
+  pub came : IsStreamOf settings (course_of ls) kept sent
 
 -- the bytes of lines from number 1
 abbrev pub written_by : List Sending → List ℕ

@@ -31,10 +31,10 @@ use Rattle.tk_live.specs.Course.{Due, Course, start_of_all, step, line_after, co
 use Rattle.tk_live.specs.Items.{Holds, IsTask, Draws}
 use Rattle.tk_live.specs.Named.{made_item}
 use Rattle.tk_live.specs.Pasts.{TaskPast, Pasts}
-use Rattle.tk_live.specs.Ran.{CameOf, written_by}
+use Rattle.tk_live.specs.Ran.{IsStreamOf, written_by}
 use Rattle.tk_script.specs.Refusals.{stop_name}
 use Rattle.tk_live.specs.Script.{FrontOf, Fronts}
-use Rattle.tk_live.specs.Stops.{IsReply, Stops, stop_of, line_stop, Goes, AllGo, LineStops}
+use Rattle.tk_live.specs.Stops.{IsReply, StopReason, stop_by_text, line_stop, Goes, AllGo, LineStopReason}
 use Rattle.tk_live.specs.Threads.{Apart}
 use Rattle.tk_live.specs.declared.block.OpenBlock.{OpenBlock}
 use Rattle.tk_live.specs.declared.interpreter.Interpreter.{Interpreter}
@@ -75,7 +75,7 @@ pub record Offered (r : Recording) (capacity : ℕ) (numbers : Numbers) (told : 
   pub ops_are : ops_in r.kept + ops_in r.refused ≡ numbers.ops
 
 -- the taker of that console is not finished
-pub record Takes (r : Recording) (t : Taking) : Type 0 where
+pub record IsTakerOf (r : Recording) (t : Taking) : Type 0 where
   pub console : t.console ≡ r.console
   pub recorders : t.recorders ≡ 1
   pub unfinished : t.finished ≡ false
@@ -147,11 +147,11 @@ pub record HasTold (a : Aggregating) (settings : Settings) (now count : ℕ) (se
 -- ---- all of it
 
 -- an interpreter stands for what commands came to
-pub record StandsFor (i : Interpreter) (settings : Settings) (c : Course) (kept : List Bool) (sent : List Sending) : Type 0 where
-  pub came : CameOf settings c kept sent
+pub record Represents (i : Interpreter) (settings : Settings) (c : Course) (kept : List Bool) (sent : List Sending) : Type 0 where
+  pub came : IsStreamOf settings c kept sent
   pub rise : RiseTo (length c.told) 0 c.due
   pub offered : Offered i.recorder settings.capacity (numbers_of c.pasts) c.told kept
-  pub takes : Takes i.recorder i.taker
+  pub takes : IsTakerOf i.recorder i.taker
   pub taken : map offer_tells i.taker.taken ≡ items_where_true (take (recorded_by 0 c.due) kept) (take (recorded_by 0 c.due) c.told)
   pub has_told : HasTold i.aggregator settings c.now (length c.due) sent
   pub timed : settings.times ≡ true → HaveTimes i.recorder.kept
@@ -176,34 +176,34 @@ DrawsWaker old place new (Err stop) = (stop ≡ Memory) ⊎ ((stop ≡ Call Hand
     × ((n : ℕ) (p : TaskPast) → IsTask n p t → IsReply task_meaning (Some p.opening) CloneWaker HandlesSpent))
 
 -- an interpreter stands for some commands
-abbrev pub Stands : Interpreter → Type 0
-Stands i = (settings : Settings) × (c : Course) × (kept : List Bool) × (sent : List Sending) × StandsFor i settings c kept sent
+abbrev pub RepresentsSome : Interpreter → Type 0
+RepresentsSome i = (settings : Settings) × (c : Course) × (kept : List Bool) × (sent : List Sending) × Represents i settings c kept sent
 
 -- the bytes of these lines after those
 abbrev pub bytes_after : List Sending → List Sending → List ℕ
 bytes_after sent more = bytes_sent (lines_sent (tables_sent empty_tables sent) more)
 
 -- a command that writes nothing went on, with marks for what it recorded; or it stopped
-abbrev pub Did : Settings → Course → List Bool → List Sending → ℕ → Said → Interpreter → Result (Unit {0}) Stop → Type 0
-Did settings c kept sent line s new (Ok done) = (stop_of c s ≡ None) × (marks : List Bool) × StandsFor new settings (step c line s) (kept ++ marks) sent
-Did settings c kept sent line s new (Err stop) = Stops c s stop
+abbrev pub SilentResult : Settings → Course → List Bool → List Sending → ℕ → Said → Interpreter → Result (Unit {0}) Stop → Type 0
+SilentResult settings c kept sent line s new (Ok done) = (stop_by_text c s ≡ None) × (marks : List Bool) × Represents new settings (step c line s) (kept ++ marks) sent
+SilentResult settings c kept sent line s new (Err stop) = StopReason c s stop
 
 -- whatever the interpreter stood for, the command that writes nothing did this
-abbrev pub Does : ℕ → Said → Interpreter → Interpreter → Result (Unit {0}) Stop → Type 0
-Does line s old new result =
-    (settings : Settings) (c : Course) (kept : List Bool) (sent : List Sending) → StandsFor old settings c kept sent → Did settings c kept sent line s new result
+abbrev pub SilentSpec : ℕ → Said → Interpreter → Interpreter → Result (Unit {0}) Stop → Type 0
+SilentSpec line s old new result =
+    (settings : Settings) (c : Course) (kept : List Bool) (sent : List Sending) → Represents old settings c kept sent → SilentResult settings c kept sent line s new result
 
 -- a command went on, with marks and lines more; or it stopped, and a front may have gone out
-abbrev pub Came : (Course → ℕ → Said → Course) → Settings → Course → List Bool → List Sending → ℕ → Said → Interpreter → Result (Unit {0}) Stop → Option (List ℕ) → Option (List ℕ) → Type 0
-Came next settings c kept sent line s new (Ok done) before after =
-    (stop_of c s ≡ None) × (marks : List Bool) × (more : List Sending) × StandsFor new settings (next c line s) (kept ++ marks) (sent ++ more) × Appends before after (bytes_after sent more)
-Came next settings c kept sent line s new (Err stop) before after =
-    Stops c s stop × (front : List ℕ) × FrontOf sent s stop front × Appends before after front
+abbrev pub CommandResult : (Course → ℕ → Said → Course) → Settings → Course → List Bool → List Sending → ℕ → Said → Interpreter → Result (Unit {0}) Stop → Option (List ℕ) → Option (List ℕ) → Type 0
+CommandResult next settings c kept sent line s new (Ok done) before after =
+    (stop_by_text c s ≡ None) × (marks : List Bool) × (more : List Sending) × Represents new settings (next c line s) (kept ++ marks) (sent ++ more) × Appends before after (bytes_after sent more)
+CommandResult next settings c kept sent line s new (Err stop) before after =
+    StopReason c s stop × (front : List ℕ) × FrontOf sent s stop front × Appends before after front
 
 -- whatever the interpreter stood for, this came of the command
-abbrev pub Comes : (Course → ℕ → Said → Course) → ℕ → Said → Interpreter → Interpreter → Result (Unit {0}) Stop → Option (List ℕ) → Option (List ℕ) → Type 0
-Comes next line s old new result before after =
-    (settings : Settings) (c : Course) (kept : List Bool) (sent : List Sending) → StandsFor old settings c kept sent → Came next settings c kept sent line s new result before after
+abbrev pub CommandSpec : (Course → ℕ → Said → Course) → ℕ → Said → Interpreter → Interpreter → Result (Unit {0}) Stop → Option (List ℕ) → Option (List ℕ) → Type 0
+CommandSpec next line s old new result before after =
+    (settings : Settings) (c : Course) (kept : List Bool) (sent : List Sending) → Represents old settings c kept sent → CommandResult next settings c kept sent line s new result before after
 
 -- the lines of a block
 abbrev pub block_of : OpenBlock → Block
@@ -215,27 +215,27 @@ pub record IsOpen (block : Option OpenBlock) (c : Course) : Type 0 where
   pub apart : (b : Block) → c.block ≡ Some b → Apart b.first b.second
 
 -- a line that is no command went on, or it stopped
-abbrev pub BlockCame : (ℕ → Bool → Type 0) → Settings → Course → List Bool → List Sending → ℕ → Line → Interpreter → Option OpenBlock → Result (Unit {0}) Stop → Type 0
-BlockCame answers settings c kept sent n line new block (Ok done) = (line_stop c line ≡ None) × StandsFor new settings (line_after c (n, line)) kept sent × IsOpen block (line_after c (n, line))
-BlockCame answers settings c kept sent n line new block (Err stop) = LineStops answers c line stop
+abbrev pub BlockLineResult : (ℕ → Bool → Type 0) → Settings → Course → List Bool → List Sending → ℕ → Line → Interpreter → Option OpenBlock → Result (Unit {0}) Stop → Type 0
+BlockLineResult answers settings c kept sent n line new block (Ok done) = (line_stop c line ≡ None) × Represents new settings (line_after c (n, line)) kept sent × IsOpen block (line_after c (n, line))
+BlockLineResult answers settings c kept sent n line new block (Err stop) = LineStopReason answers c line stop
 
-abbrev pub BlockComes : (ℕ → Bool → Type 0) → ℕ → Line → Interpreter → Option OpenBlock → Interpreter → Option OpenBlock → Result (Unit {0}) Stop → Type 0
-BlockComes answers n line old was new block result =
-    (settings : Settings) (c : Course) (kept : List Bool) (sent : List Sending) → StandsFor old settings c kept sent → IsOpen was c → BlockCame answers settings c kept sent n line new block result
+abbrev pub BlockLineSpec : (ℕ → Bool → Type 0) → ℕ → Line → Interpreter → Option OpenBlock → Interpreter → Option OpenBlock → Result (Unit {0}) Stop → Type 0
+BlockLineSpec answers n line old was new block result =
+    (settings : Settings) (c : Course) (kept : List Bool) (sent : List Sending) → Represents old settings c kept sent → IsOpen was c → BlockLineResult answers settings c kept sent n line new block result
 
 -- whatever the interpreter stood for, this came of a line
-abbrev pub LineCame : (ℕ → Bool → Type 0) → Settings → Course → List Bool → List Sending → ℕ → Line → Interpreter → Option OpenBlock → Result (Unit {0}) Stop → Option (List ℕ) → Option (List ℕ) → Type 0
-LineCame answers settings c kept sent n line new block (Ok done) before after =
-    Goes c (n, line) × (marks : List Bool) × (more : List Sending) × StandsFor new settings (line_after c (n, line)) (kept ++ marks) (sent ++ more) × IsOpen block (line_after c (n, line)) × Appends before after (bytes_after sent more)
-LineCame answers settings c kept sent n line new block (Err stop) before after =
-    LineStops answers c line stop × (front : List ℕ) × Fronts sent line stop front × Appends before after front
+abbrev pub LineResult : (ℕ → Bool → Type 0) → Settings → Course → List Bool → List Sending → ℕ → Line → Interpreter → Option OpenBlock → Result (Unit {0}) Stop → Option (List ℕ) → Option (List ℕ) → Type 0
+LineResult answers settings c kept sent n line new block (Ok done) before after =
+    Goes c (n, line) × (marks : List Bool) × (more : List Sending) × Represents new settings (line_after c (n, line)) (kept ++ marks) (sent ++ more) × IsOpen block (line_after c (n, line)) × Appends before after (bytes_after sent more)
+LineResult answers settings c kept sent n line new block (Err stop) before after =
+    LineStopReason answers c line stop × (front : List ℕ) × Fronts sent line stop front × Appends before after front
 
-abbrev pub LineComes : (ℕ → Bool → Type 0) → ℕ → Line → Interpreter → Option OpenBlock → Interpreter → Option OpenBlock → Result (Unit {0}) Stop → Option (List ℕ) → Option (List ℕ) → Type 0
-LineComes answers n line old was new block result before after =
-    (settings : Settings) (c : Course) (kept : List Bool) (sent : List Sending) → StandsFor old settings c kept sent → IsOpen was c → LineCame answers settings c kept sent n line new block result before after
+abbrev pub LineSpec : (ℕ → Bool → Type 0) → ℕ → Line → Interpreter → Option OpenBlock → Interpreter → Option OpenBlock → Result (Unit {0}) Stop → Option (List ℕ) → Option (List ℕ) → Type 0
+LineSpec answers n line old was new block result before after =
+    (settings : Settings) (c : Course) (kept : List Bool) (sent : List Sending) → Represents old settings c kept sent → IsOpen was c → LineResult answers settings c kept sent n line new block result before after
 
 -- the line of this number stops the lines, by this name
-pub record Halts (answers : ℕ → Bool → Type 0) (ls : List Line) (settings : Settings) (number : ℕ) (name : List ℕ) (text : List ℕ) : Type 0 where
+pub record LinesStop (answers : ℕ → Bool → Type 0) (ls : List Line) (settings : Settings) (number : ℕ) (name : List ℕ) (text : List ℕ) : Type 0 where
   pub before : List Line
   pub line : Line
   pub after : List Line
@@ -244,16 +244,16 @@ pub record Halts (answers : ℕ → Bool → Type 0) (ls : List Line) (settings 
   pub goes : AllGo start_of_all (enumerate_from 1 before)
   pub kept : List Bool
   pub sent : List Sending
-  pub came : CameOf settings (course_of before) kept sent
+  pub came : IsStreamOf settings (course_of before) kept sent
   pub stop : Stop
-  pub stops : LineStops answers (course_of before) line stop
+  pub stops : LineStopReason answers (course_of before) line stop
   pub named : name ≡ stop_name stop
   pub front : List ℕ
   pub fronts : Fronts sent line stop front
   pub all : text ≡ written_by sent ++ front
 
 -- a block is open after the last line
-pub record Unended (ls : List Line) (settings : Settings) (last number : ℕ) (name : List ℕ) (text : List ℕ) : Type 0 where
+pub record LinesStayOpen (ls : List Line) (settings : Settings) (last number : ℕ) (name : List ℕ) (text : List ℕ) : Type 0 where
   pub counted : number ≡ last
   pub goes : AllGo start_of_all (enumerate_from 1 ls)
   pub block : Block
@@ -261,12 +261,12 @@ pub record Unended (ls : List Line) (settings : Settings) (last number : ℕ) (n
   pub named : name ≡ stop_name BadCommand
   pub kept : List Bool
   pub sent : List Sending
-  pub came : CameOf settings (course_of ls) kept sent
+  pub came : IsStreamOf settings (course_of ls) kept sent
   pub all : text ≡ written_by sent
 
 -- this came of lines, of which the last has this number
-abbrev pub LinesCame : (ℕ → Bool → Type 0) → ℕ → List Line → Settings → Result (Unit {0}) AppFault → List ℕ → Type 0
-LinesCame answers last ls settings (Ok done) text =
-    AllGo start_of_all (enumerate_from 1 ls) × ((course_of ls).block ≡ None) × (kept : List Bool) × (sent : List Sending) × CameOf settings (course_of ls) kept sent × (text ≡ written_by sent)
-LinesCame answers last ls settings (Err (faults.Script number name)) text = Halts answers ls settings number name.now text ⊎ Unended ls settings last number name.now text
-LinesCame answers last ls settings (Err other) text = ⊥
+abbrev pub LinesResult : (ℕ → Bool → Type 0) → ℕ → List Line → Settings → Result (Unit {0}) AppFault → List ℕ → Type 0
+LinesResult answers last ls settings (Ok done) text =
+    AllGo start_of_all (enumerate_from 1 ls) × ((course_of ls).block ≡ None) × (kept : List Bool) × (sent : List Sending) × IsStreamOf settings (course_of ls) kept sent × (text ≡ written_by sent)
+LinesResult answers last ls settings (Err (faults.Script number name)) text = LinesStop answers ls settings number name.now text ⊎ LinesStayOpen ls settings last number name.now text
+LinesResult answers last ls settings (Err other) text = ⊥

@@ -10,9 +10,9 @@ use Rattle.tk_stream.specs.Tables.{empty_tables}
 use Rattle.tk_live.specs.Blocks.{Block}
 use Rattle.tk_script.specs.Commands.{Said, Line, says, publish, lines_of, last_line, settings_of}
 use Rattle.tk_live.specs.Course.{start_of_all, course_of}
-use Rattle.tk_live.specs.Ran.{Ran, CameOf, written_by}
+use Rattle.tk_live.specs.Ran.{RunsThrough, IsStreamOf, written_by}
 use Rattle.tk_script.specs.Refusals.{stop_name}
-use Rattle.tk_live.specs.Stops.{AllGo, LineStops}
+use Rattle.tk_live.specs.Stops.{AllGo, LineStopReason}
 use Rattle.tk_live.specs.Transfer.{IsScript}
 use Rattle.tk_script.specs.declared.stop.Stop.{Stop}
 use Rattle.tk_script.specs.declared.stop.Stop.TheVariants.{BadCommand, WriteFault}
@@ -40,10 +40,10 @@ pub record StopsAt (answers : ℕ → Bool → Type 0) (ls : List Line) (number 
   pub goes : AllGo start_of_all (enumerate_from 1 before)
   pub kept : List Bool
   pub sent : List Sending
-  pub came : CameOf (settings_of ls) (course_of before) kept sent
+  pub came : IsStreamOf (settings_of ls) (course_of before) kept sent
   -- and how it stops
   pub stop : Stop
-  pub stops : LineStops answers (course_of before) line stop
+  pub stops : LineStopReason answers (course_of before) line stop
   pub named : name ≡ stop_name stop
   pub front : List ℕ
   pub fronts : Fronts sent line stop front
@@ -58,23 +58,23 @@ pub record StaysOpen (ls : List Line) (last number : ℕ) (name : List ℕ) (wri
   pub named : name ≡ stop_name BadCommand
   pub kept : List Bool
   pub sent : List Sending
-  pub came : CameOf (settings_of ls) (course_of ls) kept sent
+  pub came : IsStreamOf (settings_of ls) (course_of ls) kept sent
   pub all : written ≡ written_by sent
 
 -- what the run of lines has written at its end, of which the last has this number, with what the gate may answer to each worker.
 -- Where there is no memory to begin, it is nothing
 abbrev pub LinesWrite : (ℕ → Bool → Type 0) → ℕ → List Line → Result (Unit {0}) AppFault → List ℕ → Type 0
-LinesWrite answers last ls (Ok done) written = (sent : List Sending) × Ran (settings_of ls) ls sent × (written ≡ written_by sent)
+LinesWrite answers last ls (Ok done) written = (sent : List Sending) × RunsThrough (settings_of ls) ls sent × (written ≡ written_by sent)
 LinesWrite answers last ls (Err (faults.Script number name)) written = StopsAt answers ls number name.now written ⊎ StaysOpen ls last number name.now written
 LinesWrite answers last ls (Err faults.Memory) written = written ≡ []
 LinesWrite answers last ls (Err other) written = ⊥
 
 -- what the run of a script has written at its end
-abbrev pub RunWrites : (ℕ → Bool → Type 0) → List ℕ → Result (Unit {0}) AppFault → List ℕ → Type 0
-RunWrites answers script = LinesWrite answers (last_line script) (lines_of script)
+abbrev pub ScriptResult : (ℕ → Bool → Type 0) → List ℕ → Result (Unit {0}) AppFault → List ℕ → Type 0
+ScriptResult answers script = LinesWrite answers (last_line script) (lines_of script)
 
 -- nothing is written where the script can't be read
 abbrev pub ReadsAndRuns : (ℕ → Bool → Type 0) → Option (List ℕ) → Result (Unit {0}) AppFault → List ℕ → Type 0
 ReadsAndRuns answers known (Err faults.Memory) written = written ≡ []
 ReadsAndRuns answers known (Err faults.Read) written = written ≡ []
-ReadsAndRuns answers known result written = (script : List ℕ) × IsScript known script × RunWrites answers script result written
+ReadsAndRuns answers known result written = (script : List ℕ) × IsScript known script × ScriptResult answers script result written

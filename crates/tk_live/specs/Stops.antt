@@ -52,33 +52,33 @@ abbrev pub offer_stop : Course → Option Stop
 offer_stop c = if length c.told == last_number then Some OffersSpent else None
 
 -- the stop that the text tells of a command, if it tells one
-abbrev pub stop_of : Course → Said → Option Stop
-stop_of c (task at kind name) = offer_stop c
-stop_of c (start n moment) = unless_polled (option_map is_polled (open_task n c.pasts))
-stop_of c (finish n moment) = while_polled (option_map is_polled (open_task n c.pasts))
-stop_of c (polls n count moment run every) = unless_polled (option_map is_polled (open_task n c.pasts))
-stop_of c (close n moment) = unless_polled (option_map is_polled (open_task n c.pasts))
-stop_of c (self_wake n moment) = while_polled (option_map is_polled (open_task n c.pasts))
-stop_of c (clone n) = if_there (open_task n c.pasts) None
-stop_of c (again w) = if_there (live_item w c.pasts.wakers) None
-stop_of c (wake_ref w moment) = if_there (live_item w c.pasts.wakers) None
-stop_of c (wake w moment) = if_there (live_item w c.pasts.wakers) None
-stop_of c (release w) = if_there (live_item w c.pasts.wakers) None
-stop_of c (resource at kind concrete attrs) = offer_stop c
-stop_of c (close_resource n moment) = if_there (open_resource n c.pasts) None
-stop_of c (change_resource n index change) = while_there (made_item n c.pasts.resources)
-stop_of c (op at r source attrs) = if_there (made_item r c.pasts.resources) (offer_stop c)
-stop_of c (op_task n t) = if_there (made_item t c.pasts.tasks) (if_there (open_op n c.pasts) None)
-stop_of c (start_op n moment) = unless_polled (option_map is_polled_op (open_op n c.pasts))
-stop_of c (finish_op n moment) = while_polled (option_map is_polled_op (open_op n c.pasts))
-stop_of c (close_op n moment) = unless_polled (option_map is_polled_op (open_op n c.pasts))
-stop_of c (change_op n index change) = if_there (open_op n c.pasts) None
-stop_of c (poll_op r o t name ready) =
+abbrev pub stop_by_text : Course → Said → Option Stop
+stop_by_text c (task at kind name) = offer_stop c
+stop_by_text c (start n moment) = unless_polled (option_map is_polled (open_task n c.pasts))
+stop_by_text c (finish n moment) = while_polled (option_map is_polled (open_task n c.pasts))
+stop_by_text c (polls n count moment run every) = unless_polled (option_map is_polled (open_task n c.pasts))
+stop_by_text c (close n moment) = unless_polled (option_map is_polled (open_task n c.pasts))
+stop_by_text c (self_wake n moment) = while_polled (option_map is_polled (open_task n c.pasts))
+stop_by_text c (clone n) = if_there (open_task n c.pasts) None
+stop_by_text c (again w) = if_there (live_item w c.pasts.wakers) None
+stop_by_text c (wake_ref w moment) = if_there (live_item w c.pasts.wakers) None
+stop_by_text c (wake w moment) = if_there (live_item w c.pasts.wakers) None
+stop_by_text c (release w) = if_there (live_item w c.pasts.wakers) None
+stop_by_text c (resource at kind concrete attrs) = offer_stop c
+stop_by_text c (close_resource n moment) = if_there (open_resource n c.pasts) None
+stop_by_text c (change_resource n index change) = while_there (made_item n c.pasts.resources)
+stop_by_text c (op at r source attrs) = if_there (made_item r c.pasts.resources) (offer_stop c)
+stop_by_text c (op_task n t) = if_there (made_item t c.pasts.tasks) (if_there (open_op n c.pasts) None)
+stop_by_text c (start_op n moment) = unless_polled (option_map is_polled_op (open_op n c.pasts))
+stop_by_text c (finish_op n moment) = while_polled (option_map is_polled_op (open_op n c.pasts))
+stop_by_text c (close_op n moment) = unless_polled (option_map is_polled_op (open_op n c.pasts))
+stop_by_text c (change_op n index change) = if_there (open_op n c.pasts) None
+stop_by_text c (poll_op r o t name ready) =
     if_there (made_item r c.pasts.resources) (if_there (made_item o c.pasts.ops) (if_there (made_item t c.pasts.tasks) (offer_stop c)))
-stop_of c (capacity n) = if c.begun || c.capacity_said then Some BadCommand else None
-stop_of c (retention n) = if c.begun || c.retention_said then Some BadCommand else None
-stop_of c times = if c.begun || c.times_said then Some BadCommand else None
-stop_of c (publish moment whole) =
+stop_by_text c (capacity n) = if c.begun || c.capacity_said then Some BadCommand else None
+stop_by_text c (retention n) = if c.begun || c.retention_said then Some BadCommand else None
+stop_by_text c times = if c.begun || c.times_said then Some BadCommand else None
+stop_by_text c (publish moment whole) =
     if nat_lt moment c.now then Some Clock else
     (if nat_le (2 ^ 63) (length c.due) then Some NumbersSpent else None)
 
@@ -113,19 +113,19 @@ TakesMemory (publish moment whole) = Unit {0}
 TakesMemory s = ⊥
 
 -- what else may stop a command: its ledger's reply, want of memory where it takes some, or a fault of the writer
-abbrev pub MayFail : Course → Said → Stop → Type 0
-MayFail c s Memory = TakesMemory s
-MayFail c (publish moment whole) WriteFault = Unit {0}
-MayFail c (clone n) (Call HandlesSpent) = IsReply task_meaning (opening_of (open_task n c.pasts)) CloneWaker HandlesSpent
-MayFail c (again w) (Call HandlesSpent) = IsReply task_meaning (opening_of (woken_task w c.pasts)) CloneWaker HandlesSpent
-MayFail c (resource at kind concrete attrs) (Call HandlesSpent) = IsReply resource_meaning (opening_of (Some (new_resource at attrs))) resource_calls.Enlist HandlesSpent
-MayFail c (change_resource n index change) (Call refusal) = IsReply resource_meaning (opening_of (open_resource n c.pasts)) (resource_calls.Attr index change) refusal
-MayFail c (change_op n index change) (Call refusal) = IsReply op_meaning (opening_of (open_op n c.pasts)) (op_calls.Attr index change) refusal
-MayFail c s stop = ⊥
+abbrev pub StopByEnvironment : Course → Said → Stop → Type 0
+StopByEnvironment c s Memory = TakesMemory s
+StopByEnvironment c (publish moment whole) WriteFault = Unit {0}
+StopByEnvironment c (clone n) (Call HandlesSpent) = IsReply task_meaning (opening_of (open_task n c.pasts)) CloneWaker HandlesSpent
+StopByEnvironment c (again w) (Call HandlesSpent) = IsReply task_meaning (opening_of (woken_task w c.pasts)) CloneWaker HandlesSpent
+StopByEnvironment c (resource at kind concrete attrs) (Call HandlesSpent) = IsReply resource_meaning (opening_of (Some (new_resource at attrs))) resource_calls.Enlist HandlesSpent
+StopByEnvironment c (change_resource n index change) (Call refusal) = IsReply resource_meaning (opening_of (open_resource n c.pasts)) (resource_calls.Attr index change) refusal
+StopByEnvironment c (change_op n index change) (Call refusal) = IsReply op_meaning (opening_of (open_op n c.pasts)) (op_calls.Attr index change) refusal
+StopByEnvironment c s stop = ⊥
 
 -- why a command stops: by what the text tells, or else where it may fail
-abbrev pub Stops : Course → Said → Stop → Type 0
-Stops c s stop = (stop_of c s ≡ Some stop) ⊎ MayFail c s stop
+abbrev pub StopReason : Course → Said → Stop → Type 0
+StopReason c s stop = (stop_by_text c s ≡ Some stop) ⊎ StopByEnvironment c s stop
 
 -- the stop that the text tells of a worker's line: its waker has lines of the other worker, or isn't there behind the worker's own
 abbrev pub work_stop : List WorkerLine → List WorkerLine → List (Option ℕ) → WorkerLine → Option Stop
@@ -135,7 +135,7 @@ work_stop own others wakers l = if is_named l.waker others then Some BadCommand 
 abbrev pub stop_outside : Course → Line → Option Stop
 stop_outside c skipped = None
 stop_outside c bad = Some BadCommand
-stop_outside c (says s) = stop_of c s
+stop_outside c (says s) = stop_by_text c s
 stop_outside c opens = None
 stop_outside c joins = Some BadCommand
 stop_outside c (works k l) = Some BadCommand
@@ -163,35 +163,35 @@ AllGo c [] = Unit {0}
 AllGo c (l ∷ ls) = Goes c l × AllGo (line_after c l) ls
 
 -- a gate stopped a worker that has lines
-abbrev pub Closes : (ℕ → Bool → Type 0) → Block → Type 0
-Closes answers b = ((0 < length b.first) × answers 1 false) ⊎ ((0 < length b.second) × answers 2 false)
+abbrev pub GateStops : (ℕ → Bool → Type 0) → Block → Type 0
+GateStops answers b = ((0 < length b.first) × answers 1 false) ⊎ ((0 < length b.second) × answers 2 false)
 
 -- why threads aren't joined: want of memory, one that couldn't be started, or a gate
-abbrev pub EndsIn : Type 0 → Stop → Type 0
-EndsIn Halts Memory = Unit {0}
-EndsIn Halts NoThread = Unit {0}
-EndsIn Halts Stopped = Halts
-EndsIn Halts stop = ⊥
+abbrev pub JoinStop : Type 0 → Stop → Type 0
+JoinStop Gated Memory = Unit {0}
+JoinStop Gated NoThread = Unit {0}
+JoinStop Gated Stopped = Gated
+JoinStop Gated stop = ⊥
 
 -- what else may stop a line outside blocks. What is no command may need memory before that shows
-abbrev pub MayFailOutside : Course → Line → Stop → Type 0
-MayFailOutside c (says s) stop = MayFail c s stop
-MayFailOutside c bad Memory = Unit {0}
-MayFailOutside c line stop = ⊥
+abbrev pub OutsideByEnvironment : Course → Line → Stop → Type 0
+OutsideByEnvironment c (says s) stop = StopByEnvironment c s stop
+OutsideByEnvironment c bad Memory = Unit {0}
+OutsideByEnvironment c line stop = ⊥
 
 -- and one in a block, with what the gate may answer
-abbrev pub MayFailInside : (ℕ → Bool → Type 0) → Block → Line → Stop → Type 0
-MayFailInside answers b joins stop = EndsIn (Closes answers b) stop
-MayFailInside answers b (works k l) Memory = Unit {0}
-MayFailInside answers b line stop = ⊥
+abbrev pub InsideByEnvironment : (ℕ → Bool → Type 0) → Block → Line → Stop → Type 0
+InsideByEnvironment answers b joins stop = JoinStop (GateStops answers b) stop
+InsideByEnvironment answers b (works k l) Memory = Unit {0}
+InsideByEnvironment answers b line stop = ⊥
 
-abbrev pub MayFailWhere : (ℕ → Bool → Type 0) → Course → Option Block → Line → Stop → Type 0
-MayFailWhere answers c None line stop = MayFailOutside c line stop
-MayFailWhere answers c (Some b) line stop = MayFailInside answers b line stop
+abbrev pub WhereByEnvironment : (ℕ → Bool → Type 0) → Course → Option Block → Line → Stop → Type 0
+WhereByEnvironment answers c None line stop = OutsideByEnvironment c line stop
+WhereByEnvironment answers c (Some b) line stop = InsideByEnvironment answers b line stop
 
-abbrev pub LineMayFail : (ℕ → Bool → Type 0) → Course → Line → Stop → Type 0
-LineMayFail answers c line stop = MayFailWhere answers c c.block line stop
+abbrev pub LineStopByEnvironment : (ℕ → Bool → Type 0) → Course → Line → Stop → Type 0
+LineStopByEnvironment answers c line stop = WhereByEnvironment answers c c.block line stop
 
 -- why a line stops, after lines that come to this: by what the text tells, or else where it may fail
-abbrev pub LineStops : (ℕ → Bool → Type 0) → Course → Line → Stop → Type 0
-LineStops answers c line stop = (line_stop c line ≡ Some stop) ⊎ LineMayFail answers c line stop
+abbrev pub LineStopReason : (ℕ → Bool → Type 0) → Course → Line → Stop → Type 0
+LineStopReason answers c line stop = (line_stop c line ≡ Some stop) ⊎ LineStopByEnvironment answers c line stop

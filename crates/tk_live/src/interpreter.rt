@@ -54,11 +54,11 @@ impl Interpreter {
     ghost use Rattle.std.specs.Prelude.{◌≡◌, ◌≤◌, ◌||◌, not, ℕ, [], IfOk};
     ghost use Rattle.tk_script.specs.Commands.{view, IsGood, capacity, retention, times, is_setting};
     ghost use Rattle.tk_live.specs.Course.{step, step_on, start_of_all};
-    ghost use Rattle.tk_live.specs.Runs.{StandsFor, Stands, Comes, Does};
+    ghost use Rattle.tk_live.specs.Runs.{Represents, RepresentsSome, CommandSpec, SilentSpec};
 
     pub(crate) fn new(alloc: Global, settings: Settings) -> Result<Interpreter, Stop>
         requires { (1 ≤ settings.capacity) × (settings.capacity ≤ 65536) }
-        ensures { IfOk result (λ i. StandsFor i settings start_of_all [] []) }
+        ensures { IfOk result (λ i. Represents i settings start_of_all [] []) }
     {
         let limits = Limits {
             recorders: 1,
@@ -100,8 +100,8 @@ impl Interpreter {
         writer: &mut W,
     ) -> Result<(), Stop>
         requires good { IsGood (view command) }
-        requires stands { Stands self.old }
-        ensures { Comes step_on line (view command.entry) self.old self.new result
+        requires stands { RepresentsSome self.old }
+        ensures { CommandSpec step_on line (view command.entry) self.old self.new result
             (W.contents writer.old) (W.contents writer.new) }
     {
         let begun = self.begun_by(&command);
@@ -131,8 +131,8 @@ impl Interpreter {
         writer: &mut W,
     ) -> Result<(), Stop>
         requires good { IsGood (view command) }
-        requires stands { Stands self.old }
-        ensures { Comes step line (view command.entry) self.old self.new result
+        requires stands { RepresentsSome self.old }
+        ensures { CommandSpec step line (view command.entry) self.old self.new result
             (W.contents writer.old) (W.contents writer.new) }
     {
         match command {
@@ -196,7 +196,7 @@ impl Interpreter {
 
     // The capacity, which was looked for before the first line, is said once, before every command that is no setting.
     fn say_capacity(&mut self) -> Result<(), Stop>
-        ensures { (line : ℕ) (n : ℕ) → Does line (capacity n) self.old self.new result }
+        ensures { (line : ℕ) (n : ℕ) → SilentSpec line (capacity n) self.old self.new result }
     {
         if self.begun || self.capacity_said {
             return Err(Stop::BadCommand);
@@ -207,7 +207,7 @@ impl Interpreter {
 
     // The same of the retention.
     fn say_retention(&mut self) -> Result<(), Stop>
-        ensures { (line : ℕ) (n : ℕ) → Does line (retention n) self.old self.new result }
+        ensures { (line : ℕ) (n : ℕ) → SilentSpec line (retention n) self.old self.new result }
     {
         if self.begun || self.retention_said {
             return Err(Stop::BadCommand);
@@ -218,7 +218,7 @@ impl Interpreter {
 
     // And of the histograms.
     fn say_times(&mut self) -> Result<(), Stop>
-        ensures { (line : ℕ) → Does line times self.old self.new result }
+        ensures { (line : ℕ) → SilentSpec line times self.old self.new result }
     {
         if self.begun || self.times_said {
             return Err(Stop::BadCommand);

@@ -8,7 +8,7 @@ ghost use Rattle.tk_live.specs.Named.{live_item};
 ghost use Rattle.tk_live.specs.Pasts.{Pasts};
 ghost use Rattle.tk_live.specs.Threads.{Apart, AreSameTasks, LastsAreLast};
 ghost use Rattle.tk_live.specs.Runs.{block_of};
-ghost use Rattle.tk_live.specs.Stops.{EndsIn, Closes};
+ghost use Rattle.tk_live.specs.Stops.{JoinStop, GateStops};
 ghost use Rattle.tk_live.specs.declared.items.TaskItem.{TaskItem as Task};
 ghost use Rattle.tk_live.specs.declared.items.WakerItem.{WakerItem as Waker};
 ghost use Rattle.tk_script.specs.declared.stop.Stop.TheVariants as stops;
@@ -184,7 +184,7 @@ fn run_alone<R: Threads + Wait + Sync, G: Gate + Sync>(
 ) -> Result<HandedWakers, Stop>
     ensures asked { IfOk result (λ after. 0 < length lines.now → G.answers gate.now k true) }
     ensures made { IfOk result (λ after. RanAll lines.now wakers.items after.items) }
-    ensures err { IfErr result (EndsIn ((0 < length lines.now) × G.answers gate.now k false)) }
+    ensures err { IfErr result (JoinStop ((0 < length lines.now) × G.answers gate.now k false)) }
 {
     if lines.is_empty() {
         return Ok(wakers);
@@ -205,7 +205,7 @@ fn run_workers<R: Threads + Wait + Sync, G: Gate + Sync>(
     ensures first_asked { IfOk result (λ d. 0 < length block.now.first → G.answers gate.now 1 true) }
     ensures second_asked { IfOk result (λ d. 0 < length block.now.second → G.answers gate.now 2 true) }
     ensures lasts { IfOk result (λ d. LastsAreLast block.now.first × LastsAreLast block.now.second) }
-    ensures err { IfErr result (EndsIn (Closes (G.answers gate.now) (block_of block.now))) }
+    ensures err { IfErr result (JoinStop (GateStops (G.answers gate.now) (block_of block.now))) }
 {
     let first = block.first.as_slice();
     let second = block.second.as_slice();
@@ -293,7 +293,7 @@ pub(crate) fn run_block<R: Threads + Wait + Sync, G: Gate + Sync>(
     ensures ok { OnOk result ((ps : Pasts) → HoldsTasks tasks.old.items wakers.old.items ps → Apart block.now.first block.now.second → HoldsTasks tasks.new.items wakers.new.items (after_block (block_of block.now) ps)) }
     ensures first_asked { OnOk result (0 < length block.now.first → G.answers gate.now 1 true) }
     ensures second_asked { OnOk result (0 < length block.now.second → G.answers gate.now 2 true) }
-    ensures err { IfErr result (EndsIn (Closes (G.answers gate.now) (block_of block.now))) }
+    ensures err { IfErr result (JoinStop (GateStops (G.answers gate.now) (block_of block.now))) }
 {
     let (one, two) = hand_out(alloc, tasks, wakers, block)?;
     let (one, two) = run_workers(rt, gate, one, two, block)?;

@@ -7,8 +7,8 @@ ghost use Rattle.std.specs.Io.KnownBytes.{Appends};
 ghost use Rattle.tk_script.specs.Commands.{ends_line, last_line, block_line, line_of, lines_of, settings_of};
 ghost use Rattle.tk_live.specs.Course.{start_of_all};
 ghost use Rattle.tk_script.specs.Pieces.{pieces_at};
-ghost use Rattle.tk_live.specs.Runs.{StandsFor, Stands, BlockComes, LineComes, LinesCame};
-ghost use Rattle.tk_live.specs.Script.{RunWrites, ReadsAndRuns};
+ghost use Rattle.tk_live.specs.Runs.{Represents, RepresentsSome, BlockLineSpec, LineSpec, LinesResult};
+ghost use Rattle.tk_live.specs.Script.{ScriptResult, ReadsAndRuns};
 
 use crate::block::OpenBlock;
 use crate::gate::Gate;
@@ -30,8 +30,8 @@ fn run_block_line<R: Threads + Wait + Sync, G: Gate + Sync>(
     block: &mut Option<OpenBlock>,
     said: BlockSaid,
 ) -> Result<(), Stop>
-    requires stands { Stands interpreter.old }
-    ensures { (number : ℕ) → BlockComes (G.answers gate.now) number (block_line said) interpreter.old block.old interpreter.new block.new result }
+    requires stands { RepresentsSome interpreter.old }
+    ensures { (number : ℕ) → BlockLineSpec (G.answers gate.now) number (block_line said) interpreter.old block.old interpreter.new block.new result }
 {
     match said {
         BlockSaid::Opens => {
@@ -64,8 +64,8 @@ fn run_line<R: Threads + Wait + Sync, W: Write, G: Gate + Sync>(
     line: &[u8],
     writer: &mut W,
 ) -> Result<(), Stop>
-    requires stands { Stands interpreter.old }
-    ensures { LineComes (G.answers gate.now) number (line_of line.now) interpreter.old block.old interpreter.new block.new result
+    requires stands { RepresentsSome interpreter.old }
+    ensures { LineSpec (G.answers gate.now) number (line_of line.now) interpreter.old block.old interpreter.new block.new result
         (W.contents writer.old) (W.contents writer.new) }
 {
     if is_skipped(line) {
@@ -115,8 +115,8 @@ fn run_lines<R: Threads + Wait + Sync, W: Write, G: Gate + Sync>(
     writer: &mut W,
 ) -> Result<(), AppFault>
     requires short { length script.now ≤ MAX_SCRIPT }
-    requires fresh { StandsFor interpreter.old (settings_of (lines_of script.now)) start_of_all [] [] }
-    ensures { (text : List ℕ) × LinesCame (G.answers gate.now) (last_line script.now) (lines_of script.now) (settings_of (lines_of script.now)) result text
+    requires fresh { Represents interpreter.old (settings_of (lines_of script.now)) start_of_all [] [] }
+    ensures { (text : List ℕ) × LinesResult (G.answers gate.now) (last_line script.now) (lines_of script.now) (settings_of (lines_of script.now)) result text
         × Appends (W.contents writer.old) (W.contents writer.new) text }
 {
     let mut block = None;
@@ -157,7 +157,7 @@ fn run<R: Threads + Wait + Sync, W: Write, G: Gate + Sync>(
     writer: &mut W,
 ) -> Result<(), AppFault>
     requires short { length script.now ≤ MAX_SCRIPT }
-    ensures { (written : List ℕ) × RunWrites (G.answers gate.now) script.now result written
+    ensures { (written : List ℕ) × ScriptResult (G.answers gate.now) script.now result written
         × Appends (W.contents writer.old) (W.contents writer.new) written }
 {
     let Ok(settings) = settings_in(alloc, script) else {

@@ -4,7 +4,7 @@ use Rattle.tk_client.specs.declared.fault.Fault.{Fault}
 use Rattle.tk_client.specs.declared.fault.Fault.TheVariants as client
 use Rattle.tk_client.specs.declared.fault.FeedError.{FeedError}
 use Rattle.tk_client.specs.Feeding.{ClientView, Stopped, StoppedBy}
-use Rattle.tk_client.specs.Meaning.{after, empty_start, goes, meaning, stops}
+use Rattle.tk_client.specs.Meaning.{after, empty_start, goes, greatest_line, meaning, stops}
 use Rattle.tk_client.proofs.Pieces.{meaning-append, stops-append}
 use Rattle.tk_fault.specs.declared.fault.AppFault.{AppFault}
 use Rattle.tk_fault.specs.declared.fault.AppFault.TheVariants as faults
@@ -19,16 +19,16 @@ use Rattle.tk_metrics.specs.Following.{Follows, FollowsTo, IsLine, StopsAfter}
 module _ (by : By) (front piece : List ℕ) (lines : ℕ) (old new : ClientView) (e : FeedError) (l : Leavers)
     (h : HasTaken front lines old) (f : Follows by (shown_of front) l) (one : IsLine piece) where
   piece_stops : (fault : Fault) → meaning old.max_line old.start (take e.used piece) ≡ stops new.start.tables e.lines fault e.used
-      → meaning 268435456 old.start piece ≡ stops new.start.tables e.lines fault e.used
+      → meaning greatest_line old.start piece ≡ stops new.start.tables e.lines fault e.used
   piece_stops fault o =
-      ap (meaning 268435456 old.start) (sym (take-append-drop e.used piece))
-      ∙ stops-append 268435456 old.start (take e.used piece) (drop e.used piece) new.start.tables e.lines e.used fault
+      ap (meaning greatest_line old.start) (sym (take-append-drop e.used piece))
+      ∙ stops-append greatest_line old.start (take e.used piece) (drop e.used piece) new.start.tables e.lines e.used fault
       (ap (λ k. meaning k old.start (take e.used piece)) (sym h.limit) ∙ o)
 
   there : (fault : Fault) → meaning old.max_line old.start (take e.used piece) ≡ stops new.start.tables e.lines fault e.used
       → StopsAfter by front piece (lines + e.lines) fault new l
   there fault o =
-      let p = one_stops 268435456 old.start new.start.tables e.lines e.used fault piece one (piece_stops fault o) in
+      let p = one_stops greatest_line old.start new.start.tables e.lines e.used fault piece one (piece_stops fault o) in
       let same : lines ≡ lines + e.lines = omega (arith, p.1) in
       record {
         part = [];
@@ -38,7 +38,7 @@ module _ (by : By) (front piece : List ℕ) (lines : ℕ) (old new : ClientView)
         come = ap outcome_of (append-nil front) ∙ h.took.came ∙ ap (goes old.start) same;
         tables = p.0;
         used = length front + e.used;
-        stop = meaning-append 268435456 empty_start old.start front piece lines h.took.came
+        stop = meaning-append greatest_line empty_start old.start front piece lines h.took.came
             ∙ ap (after lines (length front)) (piece_stops fault o)
             ∙ ap (λ t. stops t (lines + e.lines) fault (length front + e.used)) p.0;
         follows = subst (λ bytes. Follows by (shown_of bytes) l) (sym (append-nil front)) f;
@@ -91,6 +91,6 @@ module _ (by : By) (front piece : List ℕ) (at n : ℕ) (now : ClientView) (l :
     tables = h.tables;
     used = h.used;
     stop = ap outcome_of (sym (whole_piece front piece at n))
-        ∙ stops-append 268435456 empty_start ((front ++ head) ++ here) tail h.start.tables lines h.used fault h.stop;
+        ∙ stops-append greatest_line empty_start ((front ++ head) ++ here) tail h.start.tables lines h.used fault h.stop;
     follows = subst (λ bytes. Follows by (shown_of bytes) l) (append_assoc front head h.part) h.follows;
   }

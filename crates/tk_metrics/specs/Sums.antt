@@ -3,10 +3,10 @@ use Rattle.std.specs.Prelude.{ℕ, ◌+◌, Bool, ◌&&◌, not, is_some, List, 
 use Rattle.tk_core.specs.Lists.{capped}
 use Rattle.tk_core.specs.declared.task.row.TaskRow.{TaskRow}
 use Rattle.tk_ids.specs.Ids.{id_text}
-use Rattle.tk_report.specs.Report.{kind_word}
+use Rattle.tk_stream.specs.Spelling.{kind_text}
 use Rattle.tk_stream.specs.Tables.{PollCounts, counts_of}
-use Rattle.tk_stream.specs.declared.resource.Resource.{Resource}
-use Rattle.tk_stream.specs.declared.task.Task.{Task}
+use Rattle.tk_stream.specs.declared.tables.resource.Resource.{Resource}
+use Rattle.tk_stream.specs.declared.tables.task.Task.{Task}
 use Rattle.tk_metrics.specs.Samples.{label, with_label}
 use Rattle.tk_metrics.specs.declared.by.By.{By}
 use Rattle.tk_metrics.specs.declared.by.By.TheVariants.{Name, Id}
@@ -62,7 +62,7 @@ plus a b = record {
 
 -- a task's name and kind
 abbrev pub own_labels : Task → List ℕ
-own_labels t = with_label (label (codes "name") t.info.name) (codes "kind") (kind_word t.info.kind)
+own_labels t = with_label (label (codes "name") t.info.name) (codes "kind") (kind_text t.info.kind)
 
 -- its id before them, where each task is shown by itself
 abbrev pub id_label : By → Task → List ℕ

@@ -1,10 +1,9 @@
 //! What is added up of tasks, and of resources.
 ghost use Rattle.std.specs.Prelude.{◌≡◌, ◌++◌, ℕ, List, IfOk, OnOk, map, slice_get};
 ghost use Rattle.std.specs.Option.{option_map_or};
-ghost use Rattle.tk_report.specs.Behind.{Puts};
+ghost use Rattle.tk_report.specs.Pieces.{Puts};
 ghost use Rattle.tk_metrics.specs.Series.{series_of, with_value};
 ghost use Rattle.tk_metrics.specs.Sums as spec;
-ghost use Rattle.tk_report.specs.Report as report;
 ghost use Rattle.tk_metrics.specs.declared.sums.PollOps.{PollOps as PollOpsView};
 ghost use Rattle.tk_metrics.specs.declared.sums.Sums.{Sums as SumsView};
 
@@ -14,7 +13,7 @@ use crate::series::{Added, Series};
 use crate::text::{put, put_label};
 use std::alloc::{AllocError, Global};
 use tk_core::TaskRow;
-use tk_ids::TaskKind;
+use tk_report::kind_word;
 use tk_stream::{Resource, Tables, Task};
 
 /// What tasks have come to, and how many are in which state. A sum that passes 2^64 - 1 stays there.
@@ -138,15 +137,6 @@ fn sums_of(row: &TaskRow) -> Sums
         polling: one_if(open && row.polling),
         closed: one_if(!open),
         ..sums_left(row)
-    }
-}
-
-fn kind_word(kind: TaskKind) -> &'static str
-    ensures { result.now ≡ report.kind_word kind }
-{
-    match kind {
-        TaskKind::Spawn => "spawn",
-        TaskKind::Blocking => "blocking",
     }
 }
 

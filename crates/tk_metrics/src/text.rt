@@ -1,6 +1,6 @@
 //! The text of families, each piece put after what is written.
 ghost use Rattle.std.specs.Prelude.{◌≡◌, ◌<◌, OnOk, decimal};
-ghost use Rattle.tk_report.specs.Behind.{Puts};
+ghost use Rattle.tk_report.specs.Pieces.{Puts};
 ghost use Rattle.tk_metrics.specs.Samples as spec;
 
 use crate::family::{Family, FamilyKind};

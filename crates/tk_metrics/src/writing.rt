@@ -1,7 +1,7 @@
 //! The text of numbers, family by family.
 ghost use Rattle.std.specs.Prelude.{◌≡◌, OnOk, slice_get, []};
 ghost use Rattle.std.specs.Option.{option_map_or};
-ghost use Rattle.tk_report.specs.Behind.{Puts};
+ghost use Rattle.tk_report.specs.Pieces.{Puts};
 ghost use Rattle.tk_metrics.specs.Metrics as spec;
 ghost use Rattle.tk_metrics.specs.Samples.{family as family_text, sample, with_label};
 

@@ -5,8 +5,8 @@ use Rattle.std.specs.List.{zip}
 use Rattle.std.proofs.lemmas.List.{take_all}
 use Rattle.tk_ids.specs.declared.attr.AttrInfo.{AttrInfo}
 use Rattle.tk_ids.specs.declared.attr.AttrValue.{AttrValue}
-use Rattle.tk_stream.specs.declared.task.Task.{Task}
-use Rattle.tk_paper.specs.Behind.{Writes}
+use Rattle.tk_stream.specs.declared.tables.task.Task.{Task}
+use Rattle.tk_paper.specs.Pieces.{Writes}
 use Rattle.tk_paper.specs.Escaping.{PaperView}
 use Rattle.tk_paper.proofs.PutLemmas.{then}
 use Rattle.tk_page.specs.Cards.{link, names, next_name}

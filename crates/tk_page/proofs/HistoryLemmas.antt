@@ -19,7 +19,7 @@ use Rattle.std.specs.Set.{is_member}
 use Rattle.indexmap.specs.IndexMap.{get}
 use Rattle.tk_core.specs.Lists.{capped}
 use Rattle.tk_stream.specs.Tables.{TablesView, empty_tables, task_id, task_with}
-use Rattle.tk_stream.specs.declared.task.Task.{Task}
+use Rattle.tk_stream.specs.declared.tables.task.Task.{Task}
 use Rattle.tk_paper.specs.Courses.{CourseView, IsCourse}
 use Rattle.tk_page.specs.Courses.{AreKept, TellOf, courses_of}
 use Rattle.tk_page.specs.Kept.{FollowsAt, StandsAt, Tells, come_to, first_of, gain_of, gone_from, gone_of, has_task, is_fresh, kept_at, last_of, latest, left_in, run_of, sample_in, samples_more, samples_of, total_more, total_of, totals_from, totals_of}
@@ -86,9 +86,9 @@ last_push o [] x = refl
 last_push o (y ∷ ys) x = last_push (Some y) ys x
 
 -- the last of a list after an item is that of the list, or the item
-last_behind : {A : Type 0} (a d : A) (xs : List A) → unwrap_or (last_or (Some a) xs) d ≡ unwrap_or (last_or None xs) a
-last_behind a d [] = refl
-last_behind a d (x ∷ xs) = last_behind x d xs ∙ sym (last_behind x a xs)
+last_after : {A : Type 0} (a d : A) (xs : List A) → unwrap_or (last_or (Some a) xs) d ≡ unwrap_or (last_or None xs) a
+last_after a d [] = refl
+last_after a d (x ∷ xs) = last_after x d xs ∙ sym (last_after x a xs)
 
 -- a list is empty, or has a last item
 snoc_of : {A : Type 0} (xs : List A) → (xs ≡ []) ⊎ ((ys : List A) × (y : A) × (xs ≡ ys ++ y ∷ []))
@@ -135,8 +135,8 @@ totals_push total before [] tables = refl
 totals_push total before (x ∷ xs) tables =
     let now = total_more total before x in
     ap (λ ts. now ∷ ts) (totals_push now x xs tables)
-    ∙ ap (λ s. now ∷ (totals_from now x xs ++ total_more s (unwrap_or (last_or None xs) x) tables ∷ [])) (sym (last_behind now total (totals_from now x xs)))
-    ∙ ap (λ b. now ∷ (totals_from now x xs ++ total_more (unwrap_or (last_or (Some now) (totals_from now x xs)) total) b tables ∷ [])) (sym (last_behind x before xs))
+    ∙ ap (λ s. now ∷ (totals_from now x xs ++ total_more s (unwrap_or (last_or None xs) x) tables ∷ [])) (sym (last_after now total (totals_from now x xs)))
+    ∙ ap (λ b. now ∷ (totals_from now x xs ++ total_more (unwrap_or (last_or (Some now) (totals_from now x xs)) total) b tables ∷ [])) (sym (last_after x before xs))
 
 -- one line more
 pub totals_snoc : (shown : List TablesView) (tables : TablesView) → totals_of (shown ++ tables ∷ []) ≡ totals_of shown ++ total_more (total_of shown) (last_of shown) tables ∷ []
@@ -164,7 +164,7 @@ unfolding gone_from
 gone_push before [] tables = omega arith
 gone_push before (x ∷ xs) tables =
     let rest = gone_push x xs tables in
-    let same = ap (λ b. left_in b tables) (last_behind x before xs) in
+    let same = ap (λ b. left_in b tables) (last_after x before xs) in
     omega (arith, rest, same)
 
 gone_snoc : (shown : List TablesView) (tables : TablesView) → gone_of (shown ++ tables ∷ []) ≡ gone_of shown + left_in (last_of shown) tables

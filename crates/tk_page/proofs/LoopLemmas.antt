@@ -9,7 +9,7 @@ use Rattle.std.proofs.lemmas.List.Sums.{fold-append, sum_by-append}
 use Rattle.std.proofs.lemmas.Bool.{cases_lt}
 use Rattle.std.proofs.Math.Dec.{eqb-suc-zero}
 use Rattle.tk_core.specs.Lists.{capped}
-use Rattle.tk_paper.specs.Behind.{Writes}
+use Rattle.tk_paper.specs.Pieces.{Writes}
 use Rattle.tk_paper.specs.Escaping.{PaperView}
 use Rattle.tk_paper.specs.Parts.{Bit}
 use Rattle.tk_paper.proofs.PutLemmas.{then}
@@ -96,7 +96,7 @@ pub next_of : {A : Type 0} (f : A → List Bit) {a b c : PaperView} (xs : List A
     → Writes a b (flat_map f (take i xs)) → Writes b c (f (get_or xs i d)) → Writes a c (flat_map f (take (i + 1) xs))
 next_of f xs i d h g k = next_part f xs i (get_or xs i d) (get_at xs i d h) g k
 
--- those of items behind references
+-- the parts of the items that references lead to
 pub all_mapped : {R A : Type 0} (now : R → A) (f : A → List Bit) {a b : PaperView} (xs : List R) (i : ℕ) → length xs ≤ i
     → Writes a b (flat_map (λ r. f (now r)) (take i xs)) → Writes a b (flat_map f (map now xs))
 all_mapped now f {a} {b} xs i all h = subst (Writes a b) (sym (flat_map-map f now xs)) (all_parts (λ r. f (now r)) xs i all h)

@@ -5,7 +5,7 @@ use Rattle.std.specs.List.{AllByRecursion, list_all}
 use Rattle.std.proofs.lemmas.Bool.Decides.{nat_tests}
 use Rattle.tk_page.specs.Holders.{first_with_most}
 
--- an item has so much, those before it less, and those behind it no more
+-- an item has so much, those before it less, and those after it no more
 pub record IsFirst {A : Type 0} (f : A → ℕ) (least : ℕ) (xs : List A) (x : A) (most : ℕ) : Type 0 where
   pub front : List A
   pub rest : List A
@@ -13,7 +13,7 @@ pub record IsFirst {A : Type 0} (f : A → ℕ) (least : ℕ) (xs : List A) (x :
   pub much : most ≡ f x
   pub enough : least ≤ most
   pub before : AllByRecursion (λ y. f y < most) front
-  pub behind : AllByRecursion (λ y. f y ≤ most) rest
+  pub after : AllByRecursion (λ y. f y ≤ most) rest
 
 -- the item with the most so far, if one has enough
 abbrev pub MostIn : {A : Type 0} → (A → ℕ) → ℕ → List A → Option A → ℕ → Type 0
@@ -33,9 +33,9 @@ module _ {A : Type 0} where
   none_found p [] a = refl
   none_found p (x ∷ xs) a = rw a.0 (none_found p xs a.1)
 
-  found_behind : (p : A → Bool) (front rest : List A) (x : A) → AllByRecursion (λ y. p y ≡ false) front → p x ≡ true → find p (front ++ x ∷ rest) ≡ Some x
-  found_behind p [] rest x a h = rw h refl
-  found_behind p (y ∷ ys) rest x a h = rw a.0 (found_behind p ys rest x a.1 h)
+  found_after : (p : A → Bool) (front rest : List A) (x : A) → AllByRecursion (λ y. p y ≡ false) front → p x ≡ true → find p (front ++ x ∷ rest) ≡ Some x
+  found_after p [] rest x a h = rw h refl
+  found_after p (y ∷ ys) rest x a h = rw a.0 (found_after p ys rest x a.1 h)
 
   all_pass : (p : A → Bool) (xs : List A) → AllByRecursion (λ y. p y ≡ true) xs → list_all p xs ≡ true
   all_pass p [] a = refl
@@ -70,7 +70,7 @@ module _ {A : Type 0} (f : A → ℕ) (least : ℕ) where
   none_more xs None most h = h.1
   none_more xs (Some x) most h =
       subst (AllByRecursion (λ y. f y ≤ most)) (sym h.is)
-      (join (λ y. f y ≤ most) h.front (x ∷ h.rest) (each (λ y. f y < most) (λ y. f y ≤ most) (λ y l. omega (arith, l)) h.front h.before) (omega (arith, h.much), h.behind))
+      (join (λ y. f y ≤ most) h.front (x ∷ h.rest) (each (λ y. f y < most) (λ y. f y ≤ most) (λ y l. omega (arith, l)) h.front h.before) (omega (arith, h.much), h.after))
 
   enough_of : (xs : List A) (o : Option A) (most : ℕ) → MostIn f least xs o most → least ≤ most + 1
   enough_of xs None most h = omega (arith, h.0)
@@ -85,7 +85,7 @@ module _ {A : Type 0} (f : A → ℕ) (least : ℕ) where
     much = refl;
     enough = omega (arith, enough_of xs o most h, more);
     before = each (λ y. f y ≤ most) (λ y. f y < f z) (λ y l. omega (arith, l, more)) xs (none_more xs o most h);
-    behind = tt;
+    after = tt;
   }
 
   -- one more, that has no more
@@ -98,7 +98,7 @@ module _ {A : Type 0} (f : A → ℕ) (least : ℕ) where
     much = h.much;
     enough = h.enough;
     before = h.before;
-    behind = join (λ y. f y ≤ most) h.rest (z ∷ []) h.behind (le, tt);
+    after = join (λ y. f y ≤ most) h.rest (z ∷ []) h.after (le, tt);
   }
 
   -- the item with the most is the first of which none has more
@@ -109,7 +109,7 @@ module _ {A : Type 0} (f : A → ℕ) (least : ℕ) where
       (λ y l. ap (λ b. b && list_all (λ z. nat_le (f z) (f y)) xs) (le_false least (f y) (omega (arith, h.0, l)))) xs h.1)
   most_of xs (Some x) most h =
       ap (λ ys. first_with_most f least ys) h.is
-      ∙ found_behind passes h.front h.rest x
+      ∙ found_after passes h.front h.rest x
       (each (λ y. f y < most) (λ y. passes y ≡ false)
       (λ y l. not_both (nat_le least (f y)) (list_all (λ z. nat_le (f z) (f y)) all) (one_fails (λ z. nat_le (f z) (f y)) h.front h.rest x (le_false (f x) (f y) (omega (arith, h.much, l))))) h.front h.before)
       (ap (λ b. b && list_all (λ z. nat_le (f z) (f x)) all) (le_true least (f x) (omega (arith, h.enough, h.much)))

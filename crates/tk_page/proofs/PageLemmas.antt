@@ -7,7 +7,7 @@ use Rattle.tk_client.specs.Warnings.{LintsView, warnings_in}
 use Rattle.tk_fault.specs.declared.fault.AppFault.{AppFault}
 use Rattle.tk_fault.specs.declared.fault.AppFault.TheVariants as faults
 use Rattle.tk_paper.specs.Escaping.{PaperView, no_paper}
-use Rattle.tk_paper.specs.Parts.{behind_all}
+use Rattle.tk_paper.specs.Parts.{after_all}
 use Rattle.tk_paper.specs.declared.marks.Place.TheVariants as places
 use Rattle.tk_stream.specs.Tables.{TablesView}
 use Rattle.tk_page.specs.Courses.{Courses, courses_of}
@@ -33,7 +33,7 @@ ends_between lints courses tables old new is d =
     let scale = scale_of courses tables in
     let holder = holder_of courses tables in
     let signs = signs_of lints tables holder in
-    s.wrote.place ∙ ap (λ (p : PaperView). behind_all (sections scale signs holder courses tables s.ranks s.height) p.place) is
+    s.wrote.place ∙ ap (λ (p : PaperView). after_all (sections scale signs holder courses tables s.ranks s.height) p.place) is
     ∙ sections_to scale signs holder courses tables s.ranks s.height
 
 -- the same, of a page whose text is known

@@ -9,11 +9,11 @@ use Rattle.tk_ids.specs.declared.attr.AttrInfo.{AttrInfo}
 use Rattle.tk_ids.specs.declared.attr.AttrValue.{AttrValue}
 use Rattle.tk_ids.specs.declared.attr.AttrValue.TheVariants.{U64, Bool as Flag, I64}
 use Rattle.tk_ids.specs.declared.info.Dropped.{Dropped}
-use Rattle.tk_stream.specs.declared.op.Op.{Op}
-use Rattle.tk_stream.specs.declared.resource.Resource.{Resource}
-use Rattle.tk_stream.specs.declared.task.Task.{Task}
+use Rattle.tk_stream.specs.declared.tables.op.Op.{Op}
+use Rattle.tk_stream.specs.declared.tables.resource.Resource.{Resource}
+use Rattle.tk_stream.specs.declared.tables.task.Task.{Task}
 use Rattle.tk_stream.specs.Tables.{TablesView, counts_of, task_with}
-use Rattle.tk_paper.specs.Parts.{Bit, behind_all, text, span}
+use Rattle.tk_paper.specs.Parts.{Bit, after_all, text, span}
 use Rattle.tk_paper.specs.declared.marks.Place.TheVariants as places
 use Rattle.tk_page.specs.declared.figures.Scale.{Scale}
 use Rattle.tk_page.specs.declared.oddities.Holder.{Holder}
@@ -65,17 +65,17 @@ either_within false h k = k
 -- ---- several sections
 
 more_to : (all shown : ℕ) (words : List ℕ) → Between (more all shown words)
-unfolding behind_all
+unfolding after_all
 more_to all shown words = either (nat_le all shown) none_between (record { is = refl })
 
 -- ---- badges
 
 badge_to : (odd : Bool) (kind : Oddity) → Between (badges.badge odd kind)
-unfolding behind_all
+unfolding after_all
 badge_to odd kind = either odd (record { is = refl }) none_between
 
 badge_line_to : (signs : Signs) (t : Task) → Between (badges.badge_line signs t)
-unfolding behind_all
+unfolding after_all
 badge_line_to signs t = cut_to 1 refl (then_to (each_to (badges.badge_of signs t) (λ kind. badge_to (is_odd signs kind t) kind) kinds) (record { is = refl }))
 
 badges_to : (signs : Signs) (t : Task) → Between (badges.badges signs t)
@@ -84,12 +84,12 @@ badges_to signs t = either (is_odd_at_all signs t) (badge_line_to signs t) none_
 -- ---- cards
 
 held_if_to : (scale : Scale) (holder : Option Holder) → Between (cards.held_if scale holder)
-unfolding behind_all
+unfolding after_all
 held_if_to scale None = none_between
 held_if_to scale (Some holder) = record { is = refl }
 
 facts_to : (scale : Scale) (holder : Option Holder) (kind : Oddity) (x : TaskRow) → Between (cards.facts scale holder kind x)
-unfolding behind_all
+unfolding after_all
 facts_to scale holder HoldsUp x = then_to (held_if_to scale holder) (record { is = refl })
 facts_to scale holder LostWaker x = record { is = refl }
 facts_to scale holder NeverYielded x = record { is = refl }
@@ -97,22 +97,22 @@ facts_to scale holder NeverPolled x = record { is = refl }
 facts_to scale holder SelfWakes x = record { is = refl }
 
 card_to : (scale : Scale) (holder : Option Holder) (kind : Oddity) (t : Task) → Between (cards.card scale holder kind t)
-unfolding behind_all
+unfolding after_all
 card_to scale holder kind t =
     then_to (bits_to (cards.start_card kind) refl) (then_to (bits_to (cards.link t) refl) (then_to (bits_to (cards.one_words kind) refl)
     (then_to (facts_to scale holder kind t.row) (bits_to (cards.end_card kind) refl))))
 
 names_to : (ts : List Task) → Between (cards.names ts)
-unfolding behind_all
+unfolding after_all
 names_to [] = none_between
 names_to (t ∷ ts) = then_to (bits_to (cards.link t) refl) (each_to cards.next_name (λ u. record { is = refl }) ts)
 
 unnamed_to : (all : ℕ) → Between (cards.unnamed all)
-unfolding behind_all
+unfolding after_all
 unnamed_to all = either (nat_lt 12 all) (record { is = refl }) none_between
 
 group_to : (kind : Oddity) (tasks : List Task) → Between (cards.group kind tasks)
-unfolding behind_all
+unfolding after_all
 group_to kind tasks =
     then_to (bits_to (cards.start_card kind) refl) (then_to (bits_to (cards.many_words kind (length tasks)) refl) (then_to (names_to (take 12 tasks))
     (then_to (unnamed_to (length tasks)) (bits_to (cards.end_card kind) refl))))
@@ -121,24 +121,24 @@ kind_to : (scale : Scale) (holder : Option Holder) (kind : Oddity) (tasks : List
 kind_to scale holder kind tasks = either (nat_lt 3 (length tasks)) (group_to kind tasks) (each_to (cards.card scale holder kind) (card_to scale holder kind) tasks)
 
 all_odd_to : (scale : Scale) (signs : Signs) (holder : Option Holder) (tasks : List Task) (all : ℕ) → Between (cards.all_odd scale signs holder tasks all)
-unfolding behind_all
+unfolding after_all
 all_odd_to scale signs holder tasks all =
     cut_to 5 refl (then_to (each_to (cards.cards_of scale signs holder tasks) (λ kind. kind_to scale holder kind (filter (is_odd signs kind) tasks)) kinds)
     (record { is = refl }))
 
 odd_to : (scale : Scale) (signs : Signs) (holder : Option Holder) (tasks : List Task) → Between (cards.odd_section scale signs holder tasks)
-unfolding behind_all
+unfolding after_all
 odd_to scale signs holder tasks =
     cut_to 7 refl (either (nat_eq (all_odd signs tasks) 0) (bits_to cards.nothing_odd refl) (all_odd_to scale signs holder tasks (all_odd signs tasks)))
 
 -- ---- strips
 
 box_to : (area : Area) → Within (strips.box area)
-unfolding behind_all
+unfolding after_all
 box_to area = either_within (nat_eq area.high 0 || nat_eq area.wide 0) (none_to (Some places.Value)) (record { is = refl })
 
 path_to : (scale : Scale) (class : List ℕ) (kind : Boxes) (steps : List Step) → Between (strips.path scale class kind steps)
-unfolding behind_all
+unfolding after_all
 path_to scale class kind steps =
     cut_to 3 refl (then_to (each_to (λ step. strips.box (strips.box_of scale kind step)) (λ step. box_to (strips.box_of scale kind step)) steps) (record { is = refl }))
 
@@ -148,17 +148,17 @@ paths_to scale most steps =
     (then_to (path_to scale (codes "wake") (which.Wakes most) steps) (path_to scale (codes "own") (which.Own most) steps)))
 
 lost_if_to : (scale : Scale) (x : TaskRow) (lost : Bool) → Between (strips.lost_if scale x lost)
-unfolding behind_all
+unfolding after_all
 lost_if_to scale x lost = either lost (record { is = refl }) none_between
 
 strip_to : (scale : Scale) (t : Task) (last : Sample) (steps : List Step) (lost : Bool) → Between (strips.strip_of scale t last steps lost)
-unfolding behind_all
+unfolding after_all
 strip_to scale t last steps lost =
     then_to (bits_to (strips.drawing (codes "strip") (wide_of scale) 22) refl) (then_to (bits_to (strips.words scale t last) refl) (then_to (bits_to (strips.alive scale t.row) refl)
     (then_to (lost_if_to scale t.row lost) (then_to (paths_to scale (strips.most_wakes steps) steps) (record { is = refl })))))
 
 sum_to : (scale : Scale) (height : Height) (steps : List Step) → Between (strips.sum_drawing scale height steps)
-unfolding behind_all
+unfolding after_all
 sum_to scale height steps =
     then_to (bits_to (strips.drawing (codes "total") (wide_of scale) 30) refl) (then_to (bits_to (strips.sum_words height) refl)
     (then_to (each_to (λ step. strips.box (strips.sum_box scale height.top step)) (λ step. box_to (strips.sum_box scale height.top step)) steps) (record { is = refl })))
@@ -166,27 +166,27 @@ sum_to scale height steps =
 -- ---- rows
 
 top_to : (height : Height) → Between (rows.top height)
-unfolding behind_all
+unfolding after_all
 top_to height = either (nat_lt height.top height.most) (record { is = refl }) none_between
 
 height_cell_to : (height : Height) → Between (rows.height_cell height)
-unfolding behind_all
+unfolding after_all
 height_cell_to height = cut_to 12 refl (then_to (top_to height) (record { is = refl }))
 
 sum_row_to : (scale : Scale) (height : Height) (sums : List Step) → Between (rows.sum_row scale height sums)
-unfolding behind_all
+unfolding after_all
 sum_row_to scale height sums =
     then_to (height_cell_to height) (then_to (sum_to scale height sums)
     (then_to (bits_to (strips.axis (watched scale)) refl) (record { is = refl })))
 
 table_head_to : (scale : Scale) (height : Height) (sums : List Step) → Between (rows.table_head scale height sums)
-unfolding behind_all
+unfolding after_all
 table_head_to scale height sums =
     then_to (bits_to (rows.caption (watched scale)) refl) (then_to (sum_row_to scale height sums) (then_to (bits_to rows.first_columns refl)
     (then_to (bits_to rows.last_columns refl) (record { is = refl }))))
 
 mean_cell_to : (busy polls : ℕ) → Between (rows.mean_cell busy polls)
-unfolding behind_all
+unfolding after_all
 mean_cell_to busy polls = by (nat_eq polls 0)
   where
     by : (b : Bool) → Between (rows.cell (each_of busy polls) (cond b (text (226 ∷ 128 ∷ 147 ∷ [])) (span (each_of busy polls)) ∷ []))
@@ -194,13 +194,13 @@ mean_cell_to busy polls = by (nat_eq polls 0)
     by false = record { is = refl }
 
 numbers_to : (scale : Scale) (x : TaskRow) → Between (rows.numbers scale x)
-unfolding behind_all
+unfolding after_all
 numbers_to scale x =
     then_to (bits_to (rows.share_cell (codes "busy") (busy_until x scale.now) (watched scale)) refl) (then_to (bits_to (rows.share_cell (codes "wait") (sched_until x scale.now) (watched scale)) refl)
     (then_to (mean_cell_to (busy_until x scale.now) x.polls) (bits_to (rows.counts x) refl)))
 
 row_to : (scale : Scale) (signs : Signs) (samples : List Sample) (t : Task) → Between (rows.row_of scale signs samples t)
-unfolding behind_all
+unfolding after_all
 row_to scale signs samples t =
     then_to (bits_to (rows.name t (is_odd_at_all signs t)) refl) (then_to (badges_to signs t) (then_to (bits_to (rows.state t.row) refl)
     (then_to (strip_to scale t (sample_of t.row scale.now) (strips.steps_of t.row.created samples (sample_of t.row scale.now)) (is_odd signs LostWaker t)) (cut_to 1 refl (then_to (numbers_to scale t.row) (record { is = refl }))))))
@@ -213,13 +213,13 @@ row_at_to scale signs courses tasks rank = by (slice_get tasks rank.place)
     by (Some t) = row_to scale signs (courses.kept t.info.id) t
 
 table_to : (scale : Scale) (signs : Signs) (courses : Courses) (tasks : List Task) (ranks : List Rank) (height : Height) → Between (rows.table scale signs courses tasks ranks height)
-unfolding behind_all
+unfolding after_all
 table_to scale signs courses tasks ranks height =
     then_to (table_head_to scale height (strips.steps_of scale.start courses.sums courses.last)) (then_to (each_to (rows.row_at scale signs courses tasks) (row_at_to scale signs courses tasks) (take 200 ranks)) (record { is = refl }))
 
 tasks_to : (scale : Scale) (signs : Signs) (courses : Courses) (tasks : List Task) (ranks : List Rank) (height : Height)
     → Between (rows.tasks_section scale signs courses tasks ranks height)
-unfolding behind_all
+unfolding after_all
 tasks_to scale signs courses tasks ranks height =
     then_to (bits_to rows.tasks_head refl) (then_to (table_to scale signs courses tasks ranks height)
     (then_to (more_to (length tasks) 200 (codes " tasks more, which ran and waited less")) (record { is = refl })))
@@ -227,32 +227,32 @@ tasks_to scale signs courses tasks ranks height =
 -- ---- resources
 
 part_of_to : (words : List ℕ) (parent : Option ℕ) → Between (items.part_of words parent)
-unfolding behind_all
+unfolding after_all
 part_of_to words None = none_between
 part_of_to words (Some parent) = record { is = refl }
 
 value_to : (v : AttrValue) → Between (items.value_of v)
-unfolding behind_all
+unfolding after_all
 value_to (U64 n) = record { is = refl }
 value_to (Flag true) = record { is = refl }
 value_to (Flag false) = record { is = refl }
 value_to (I64 n) = record { is = refl }
 
 unit_to : (name : Option (List ℕ)) → Between (items.unit name)
-unfolding behind_all
+unfolding after_all
 unit_to None = none_between
 unit_to (Some name) = record { is = refl }
 
 attr_to : (a : AttrInfo × AttrValue) → Between (items.attr a)
-unfolding behind_all
+unfolding after_all
 attr_to (info, v) = cut_to 5 refl (then_to (value_to v) (then_to (unit_to info.unit) (record { is = refl })))
 
 attrs_to : (infos : List AttrInfo) (values : List AttrValue) → Between (items.attrs infos values)
-unfolding behind_all
+unfolding after_all
 attrs_to infos values = cut_to 1 refl (then_to (each_to items.attr attr_to (zip infos values)) (record { is = refl }))
 
 polled_by_to : (tasks : List Task) (task : Option ℕ) → Between (items.polled_by tasks task)
-unfolding behind_all
+unfolding after_all
 polled_by_to tasks None = record { is = refl }
 polled_by_to tasks (Some n) = by (task_with n tasks)
   where
@@ -261,13 +261,13 @@ polled_by_to tasks (Some n) = by (task_with n tasks)
     by (Some t) = record { is = refl }
 
 op_to : (tasks : List Task) (o : Op) → Between (items.op tasks o)
-unfolding behind_all
+unfolding after_all
 op_to tasks o =
     then_to (bits_to (items.source o) refl) (then_to (part_of_to (codes " part of ") o.info.parent) (then_to (bits_to (items.op_state_cell o.row) refl)
     (then_to (polled_by_to tasks o.row.task) (then_to (bits_to (items.op_numbers o.row) refl) (then_to (attrs_to o.info.attrs o.row.attrs) (record { is = refl }))))))
 
 op_table_to : (tasks : List Task) (live closed : List Op) → Between (items.op_table tasks live closed)
-unfolding behind_all
+unfolding after_all
 op_table_to tasks live closed =
     then_to (bits_to (items.op_counts (capped (length live + length closed)) (length live)) refl) (then_to (bits_to items.columns refl) (then_to (each_to (items.op tasks) (op_to tasks) (take 20 live))
     (then_to (each_to (items.op tasks) (op_to tasks) (take (20 - length live) closed)) (cut_to 2 refl (then_to (more_to (capped (length live + length closed)) 20 (codes " more")) (record { is = refl }))))))
@@ -279,13 +279,13 @@ ops_to : (tables : TablesView) (r : Resource) → Between (items.ops tables r)
 ops_to tables r = ops_of_to tables.tasks (filter (items.is_of r true) tables.ops) (filter (items.is_of r false) tables.ops)
 
 resource_to : (tables : TablesView) (r : Resource) → Between (items.resource tables r)
-unfolding behind_all
+unfolding after_all
 resource_to tables r =
     then_to (bits_to (items.resource_name r) refl) (then_to (part_of_to items.part_words r.info.parent) (cut_to 2 refl (then_to (attrs_to r.info.attrs r.row.attrs)
     (then_to (bits_to (items.polls (counts_of r.info.id tables.counts)) refl) (then_to (ops_to tables r) (record { is = refl }))))))
 
 resources_to : (tables : TablesView) → Between (items.resources_section tables)
-unfolding behind_all
+unfolding after_all
 resources_to tables =
     either (nat_eq (length tables.resources) 0) none_between
     (cut_to 8 refl (then_to (each_to (items.resource tables) (resource_to tables) (take 50 tables.resources)) (then_to (more_to (length tables.resources) 50 (codes " more")) (record { is = refl }))))
@@ -293,22 +293,22 @@ resources_to tables =
 -- ---- the head, and the page
 
 gone_to : (n : ℕ) → Between (heads.gone_fact n)
-unfolding behind_all
+unfolding after_all
 gone_to n = either (nat_eq n 0) none_between (record { is = refl })
 
 missing_to : (dropped : Dropped) → Between (heads.missing dropped)
-unfolding behind_all
+unfolding after_all
 missing_to dropped = either (nat_eq dropped.tasks 0 && (nat_eq dropped.resources 0 && nat_eq dropped.ops 0)) none_between (bits_to (heads.dropped_facts dropped) refl)
 
 header_to : (watched lines gone : ℕ) (tables : TablesView) → Between (heads.header watched lines gone tables)
-unfolding behind_all
+unfolding after_all
 header_to watched lines gone tables =
     cut_to 5 refl (then_to (bits_to (heads.facts watched lines tables) refl) (then_to (gone_to gone) (cut_to 1 refl (then_to (missing_to tables.dropped) (record { is = refl })))))
 
 -- a page that begins between tags ends between tags
 pub sections_to : (scale : Scale) (signs : Signs) (holder : Option Holder) (courses : Courses) (tables : TablesView) (ranks : List Rank) (height : Height)
-    → behind_all (sections scale signs holder courses tables ranks height) (Some places.Text) ≡ Some places.Text
-unfolding behind_all
+    → after_all (sections scale signs holder courses tables ranks height) (Some places.Text) ≡ Some places.Text
+unfolding after_all
 sections_to scale signs holder courses tables ranks height = page.is where
   page : Between (sections scale signs holder courses tables ranks height)
   page =

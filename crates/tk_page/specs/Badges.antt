@@ -1,6 +1,6 @@
 -- The words for what is odd, and the badges of a task.
 use Rattle.std.specs.Prelude.{ℕ, Bool, if◌then◌else◌, List, [], ◌∷◌, ◌++◌, codes, flat_map}
-use Rattle.tk_stream.specs.declared.task.Task.{Task}
+use Rattle.tk_stream.specs.declared.tables.task.Task.{Task}
 use Rattle.tk_paper.specs.Parts.{Bit, text, opens, ends, close, class, having, value, quote}
 use Rattle.tk_paper.specs.declared.marks.Attr.TheVariants as attrs
 use Rattle.tk_paper.specs.declared.marks.Tag.TheVariants as tags

@@ -1,7 +1,7 @@
 -- What is odd, in words with what to do.
 use Rattle.std.specs.Prelude.{ℕ, ◌-◌, ◌==◌, nat_lt, Option, Some, None, if◌then◌else◌, List, [], ◌∷◌, ◌++◌, codes, length, take, filter, flat_map, unwrap_or}
 use Rattle.tk_core.specs.declared.task.row.TaskRow.{TaskRow}
-use Rattle.tk_stream.specs.declared.task.Task.{Task}
+use Rattle.tk_stream.specs.declared.tables.task.Task.{Task}
 use Rattle.tk_paper.specs.Parts.{Bit, text, number, share, span, opens, ends, close, start, class, having, having_number}
 use Rattle.tk_paper.specs.declared.marks.Attr.TheVariants as attrs
 use Rattle.tk_paper.specs.declared.marks.Tag.TheVariants as tags

@@ -2,7 +2,7 @@
 use Rattle.std.specs.Prelude.{◌≡◌, Option, List, [], ◌∷◌, ◌++◌}
 use Rattle.tk_client.specs.Warnings.{LintsView}
 use Rattle.tk_stream.specs.Tables.{TablesView}
-use Rattle.tk_paper.specs.Behind.{Writes}
+use Rattle.tk_paper.specs.Pieces.{Writes}
 use Rattle.tk_paper.specs.Escaping.{PaperView}
 use Rattle.tk_paper.specs.Parts.{Bit, close, start}
 use Rattle.tk_paper.specs.declared.marks.Tag.TheVariants as tags

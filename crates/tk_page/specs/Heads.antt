@@ -1,7 +1,7 @@
 -- The head of a page.
 use Rattle.std.specs.Prelude.{ℕ, ◌==◌, min, ◌&&◌, Option, Some, None, if◌then◌else◌, List, [], ◌∷◌, ◌++◌, codes, fold, length}
 use Rattle.tk_ids.specs.declared.info.Dropped.{Dropped}
-use Rattle.tk_stream.specs.declared.task.Task.{Task}
+use Rattle.tk_stream.specs.declared.tables.task.Task.{Task}
 use Rattle.tk_stream.specs.Tables.{TablesView}
 use Rattle.tk_paper.specs.Parts.{Bit, text, number, span, close, start, class}
 use Rattle.tk_paper.specs.declared.marks.Tag.TheVariants as tags

@@ -3,7 +3,7 @@ use Rattle.std.specs.Prelude.{ℕ, ◌-◌, nat_le, ◌&&◌, List, [], ◌∷�
 use Rattle.std.specs.List.{last_or, list_all}
 use Rattle.std.specs.Option.{option_and_then, option_map, option_map_or}
 use Rattle.tk_client.specs.Warnings.{is_spawn}
-use Rattle.tk_stream.specs.declared.task.Task.{Task}
+use Rattle.tk_stream.specs.declared.tables.task.Task.{Task}
 use Rattle.tk_stream.specs.Tables.{TablesView}
 use Rattle.tk_page.specs.declared.oddities.Holder.{Holder}
 use Rattle.tk_page.specs.declared.sample.Sample.{Sample}

@@ -9,9 +9,10 @@ use Rattle.tk_ids.specs.Ids.{recorder_of, number_of}
 use Rattle.tk_ids.specs.declared.attr.AttrInfo.{AttrInfo}
 use Rattle.tk_ids.specs.declared.attr.AttrValue.{AttrValue}
 use Rattle.tk_ids.specs.declared.attr.AttrValue.TheVariants.{U64, Bool as Flag, I64}
-use Rattle.tk_stream.specs.declared.op.Op.{Op}
-use Rattle.tk_stream.specs.declared.resource.Resource.{Resource}
-use Rattle.tk_stream.specs.declared.task.Task.{Task}
+use Rattle.tk_report.specs.Report.{op_state}
+use Rattle.tk_stream.specs.declared.tables.op.Op.{Op}
+use Rattle.tk_stream.specs.declared.tables.resource.Resource.{Resource}
+use Rattle.tk_stream.specs.declared.tables.task.Task.{Task}
 use Rattle.tk_stream.specs.Tables.{TablesView, counts_of, task_with}
 use Rattle.tk_paper.specs.Parts.{Bit, text, number, span, opens, ends, close, start, class, having, having_number}
 use Rattle.tk_paper.specs.declared.marks.Attr.TheVariants as with
@@ -64,10 +65,6 @@ abbrev pub attrs : List AttrInfo → List AttrValue → List Bit
 attrs infos values = start tags.Dl ∷ [] ++ (each_attr infos values ++ close tags.Dl ∷ [])
 
 -- ---- operations
-
--- the first that holds of an operation: it is closed, being polled; else it is idle
-abbrev pub op_state : OpRow → List ℕ
-op_state x = if is_some x.dropped then codes "closed" else (if x.polling then codes "polling" else codes "idle")
 
 abbrev pub column : List ℕ → List ℕ → List Bit
 column name colour = opens tags.Th ∷ having with.Scope (codes "col") ∷ having with.Class colour ∷ ends ∷ text name ∷ close tags.Th ∷ []

@@ -8,7 +8,7 @@ use Rattle.tk_client.specs.Feeding.{ClientView}
 use Rattle.tk_report.specs.Taken.{HasTaken}
 use Rattle.tk_core.specs.Lists.{capped}
 use Rattle.tk_report.specs.Views.{AreAll}
-use Rattle.tk_stream.specs.declared.task.Task.{Task}
+use Rattle.tk_stream.specs.declared.tables.task.Task.{Task}
 use Rattle.tk_stream.specs.Tables.{TablesView, empty_tables, task_id, task_with}
 use Rattle.tk_report.specs.Shown.{shown_of}
 use Rattle.tk_paper.specs.Courses.{IsCourse}

@@ -8,7 +8,7 @@ use Rattle.tk_core.specs.declared.task.row.TaskRow.{TaskRow}
 use Rattle.tk_page.specs.declared.oddities.Oddity.{Oddity}
 use Rattle.tk_page.specs.declared.oddities.Oddity.TheVariants.{HoldsUp, LostWaker, NeverYielded, NeverPolled, SelfWakes}
 use Rattle.tk_page.specs.declared.oddities.Signs.{Signs}
-use Rattle.tk_stream.specs.declared.task.Task.{Task}
+use Rattle.tk_stream.specs.declared.tables.task.Task.{Task}
 
 -- a task has waited for its first poll for so long
 abbrev pub is_never_polled : ℕ → ℕ → TaskRow → Bool

@@ -4,7 +4,7 @@ use Rattle.std.specs.List.Sorted.{IsSorted}
 use Rattle.std.specs.Ordering.{bool_cmp, nat_cmp, ordering_then}
 use Rattle.std.specs.declared.cmp.Ordering.{Ordering}
 use Rattle.tk_core.specs.Lists.{capped}
-use Rattle.tk_stream.specs.declared.task.Task.{Task}
+use Rattle.tk_stream.specs.declared.tables.task.Task.{Task}
 use Rattle.tk_page.specs.declared.figures.Scale.{Scale}
 use Rattle.tk_page.specs.declared.oddities.Signs.{Signs}
 use Rattle.tk_page.specs.declared.ranks.Rank.{Rank}

@@ -5,9 +5,9 @@ use Rattle.std.specs.Option.{option_map_or}
 use Rattle.tk_core.specs.declared.task.row.TaskRow.{TaskRow}
 use Rattle.tk_ids.specs.declared.spec.TaskKind.{TaskKind}
 use Rattle.tk_ids.specs.declared.spec.TaskKind.TheVariants.{Spawn, Blocking}
-use Rattle.tk_stream.specs.declared.task.Task.{Task}
+use Rattle.tk_stream.specs.declared.tables.task.Task.{Task}
 use Rattle.tk_stream.specs.Tables.{TablesView}
-use Rattle.tk_paper.specs.Behind.{Writes}
+use Rattle.tk_paper.specs.Pieces.{Writes}
 use Rattle.tk_paper.specs.Escaping.{PaperView}
 use Rattle.tk_paper.specs.Parts.{Bit, text, number, share, span, mean, opens, ends, close, start, class, having, having_number, value, quote}
 use Rattle.tk_paper.specs.declared.marks.Attr.TheVariants as attrs

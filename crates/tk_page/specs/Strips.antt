@@ -2,7 +2,7 @@
 use Rattle.std.specs.Prelude.{ℕ, ◌-◌, ◌*◌, ◌/◌, ◌==◌, nat_lt, nat_le, min, max, ◌||◌, Bool, if◌then◌else◌, List, [], ◌∷◌, ◌++◌, codes, fold, flat_map, unwrap_or}
 use Rattle.tk_core.specs.Lists.{capped}
 use Rattle.tk_core.specs.declared.task.row.TaskRow.{TaskRow}
-use Rattle.tk_stream.specs.declared.task.Task.{Task}
+use Rattle.tk_stream.specs.declared.tables.task.Task.{Task}
 use Rattle.tk_paper.specs.Parts.{Bit, text, number, share, span, mean, opens, ends, close, start, having, having_number, value, quote}
 use Rattle.tk_paper.specs.declared.marks.Attr.TheVariants as attrs
 use Rattle.tk_paper.specs.declared.marks.Tag.TheVariants as tags

@@ -3,7 +3,7 @@ ghost use Rattle.std.specs.Prelude.{◌≡◌, [], OnOk, map, flat_map};
 ghost use Rattle.tk_page.specs.Badges as spec;
 ghost use Rattle.tk_page.specs.Odd.{kinds};
 ghost use Rattle.tk_page.specs.Cards as cards;
-ghost use Rattle.tk_paper.specs.Behind.{Writes};
+ghost use Rattle.tk_paper.specs.Pieces.{Writes};
 
 use crate::figures::{Scale, count, front, share};
 use crate::oddities::{Holder, KINDS, Oddity, Signs};

@@ -4,7 +4,7 @@ ghost use Rattle.tk_page.specs.Heads as spec;
 ghost use Rattle.tk_page.specs.Holders as holders;
 ghost use Rattle.tk_page.specs.Drawn.{DrawsPage, DrawsSections};
 ghost use Rattle.tk_page.specs.Courses.{courses_of};
-ghost use Rattle.tk_paper.specs.Behind.{Writes};
+ghost use Rattle.tk_paper.specs.Pieces.{Writes};
 
 use crate::cards::put_odd;
 use crate::figures::{Scale, count};

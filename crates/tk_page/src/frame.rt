@@ -64,7 +64,7 @@ td dl{margin:0}
 </style></head><body>
 ";
 
-/// What stands behind it.
+/// What stands after the page.
 pub const TAIL: &str = "
 <script>'use strict';
 document.body.className = 'live';

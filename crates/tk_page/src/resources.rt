@@ -3,7 +3,7 @@ ghost use Rattle.std.specs.Prelude.{◌≡◌, [], OnOk, IfOk, codes, length, ma
 ghost use Rattle.std.specs.Option.{option_map_or};
 ghost use Rattle.tk_page.specs.Items as spec;
 ghost use Rattle.tk_page.specs.Places as places;
-ghost use Rattle.tk_paper.specs.Behind.{Writes};
+ghost use Rattle.tk_paper.specs.Pieces.{Writes};
 
 use crate::cards::start_section;
 use crate::figures::{count, front};
@@ -12,6 +12,7 @@ use tk_core::{OpRow, ResourceRow};
 use tk_ids::{AttrInfo, AttrValue, Name, TaskId};
 use tk_paper::Part::{Class, Close, End, Number, Open, Span, Start, Text, With, WithNumber};
 use tk_paper::{Attr, Paper, Tag};
+use tk_report::op_state;
 use tk_stream::{Op, Resource, Tables};
 
 // How many resources are shown, and how many operations of each.
@@ -103,18 +104,6 @@ fn resource_state(row: &ResourceRow) -> &'static str
     ensures { result.now ≡ spec.resource_state row.now }
 {
     if row.dropped.is_some() { " closed" } else { "" }
-}
-
-fn op_state(row: &OpRow) -> &'static str
-    ensures { result.now ≡ spec.op_state row.now }
-{
-    if row.dropped.is_some() {
-        "closed"
-    } else if row.polling {
-        "polling"
-    } else {
-        "idle"
-    }
 }
 
 fn put_column(paper: &mut Paper, name: &'static str, class: &'static str) -> Result<(), AllocError>

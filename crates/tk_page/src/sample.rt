@@ -32,7 +32,7 @@ pub(crate) fn busy_until(row: &TaskRow, now: u64) -> u64
     row.busy.saturating_add(open)
 }
 
-// From when on a scheduled task waits: its creation, its last wake and the last end of a poll are behind it.
+// From when on a scheduled task waits: its creation, its last wake and the last end of a poll lie before it.
 fn waits_since(row: &TaskRow) -> u64
     ensures { result ≡ spec.waits_since row.now }
 {

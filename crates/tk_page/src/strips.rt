@@ -3,7 +3,7 @@ ghost use Rattle.std.specs.Prelude.{◌≡◌, ◌<◌, [], OnOk, IfOk};
 ghost use Rattle.tk_page.specs.Figures as figures;
 ghost use Rattle.tk_page.specs.Holders as holders;
 ghost use Rattle.tk_page.specs.Strips as spec;
-ghost use Rattle.tk_paper.specs.Behind.{Writes};
+ghost use Rattle.tk_paper.specs.Pieces.{Writes};
 
 use crate::figures::{Scale, each, mean, share};
 use crate::oddities::{Oddity, Signs};

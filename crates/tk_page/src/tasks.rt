@@ -3,7 +3,7 @@ ghost use Rattle.std.specs.Prelude.{◌≡◌, [], OnOk, slice_get, flat_map};
 ghost use Rattle.std.specs.Option.{option_map_or};
 ghost use Rattle.tk_page.specs.Rows as spec;
 ghost use Rattle.tk_page.specs.Courses.{courses_of};
-ghost use Rattle.tk_paper.specs.Behind.{Writes};
+ghost use Rattle.tk_paper.specs.Pieces.{Writes};
 
 use crate::cards::{put_badges, start_section};
 use crate::figures::{Scale, each, front, share};

@@ -133,7 +133,7 @@ fn take_stream<R: Read>(
 }
 
 // Three texts, one after the other.
-fn behind(alloc: Global, front: &str, inner: &[u8], end: &str) -> Result<Vec<u8>, AllocError>
+fn joined(alloc: Global, front: &str, inner: &[u8], end: &str) -> Result<Vec<u8>, AllocError>
     ensures { IfOk result (λ text. text.items ≡ (front.now ++ inner.now) ++ end.now) }
 {
     let mut text = Vec::from_slice(alloc, front.as_bytes())?;
@@ -154,7 +154,7 @@ fn page_of(
     let mut paper = Paper::new(alloc);
     put_page(&mut paper, alloc, history, tables, lints)?;
     let inner = paper.into_bytes();
-    let text = behind(alloc, HEAD, inner.as_slice(), TAIL)?;
+    let text = joined(alloc, HEAD, inner.as_slice(), TAIL)?;
     Ok(text)
 }
 

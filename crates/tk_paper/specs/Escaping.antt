@@ -3,7 +3,7 @@ use Rattle.std.specs.Prelude.{◌≡◌, ℕ, ◌==◌, List, [], ◌∷◌, ◌
 use Rattle.tk_paper.specs.declared.marks.Mark.{Mark}
 use Rattle.tk_paper.specs.declared.marks.Place.{Place}
 use Rattle.tk_paper.specs.declared.marks.Place.TheVariants as places
-use Rattle.tk_paper.specs.Marks.{behind, mark_text}
+use Rattle.tk_paper.specs.Marks.{place_after, mark_text}
 
 -- a byte as it stands in a page: `<`, `>`, `&`, `"` and `'` by their names, each other byte as it is
 abbrev pub escaped_byte : ℕ → List ℕ
@@ -29,20 +29,20 @@ spelled (own mark) = mark_text mark
 spelled (byte b) = escaped_byte b
 
 -- a text's byte stands between tags, or in an attribute's value, and changes nothing of that
-abbrev pub behind_byte : Place → Option Place
-behind_byte places.Text = Some places.Text
-behind_byte places.Value = Some places.Value
-behind_byte places.Tag = None
+abbrev pub after_byte : Place → Option Place
+after_byte places.Text = Some places.Text
+after_byte places.Value = Some places.Value
+after_byte places.Tag = None
 
--- where the text goes on behind a piece, where that may stand there
-abbrev pub behind_piece : Place → Piece → Option Place
-behind_piece place (own mark) = behind place mark
-behind_piece place (byte b) = behind_byte place
+-- where the text goes on after a piece, where that may stand there
+abbrev pub after_piece : Place → Piece → Option Place
+after_piece place (own mark) = place_after place mark
+after_piece place (byte b) = after_byte place
 
 -- a text that is woven of pieces, each where it may stand, from between tags up to this place
 pub data Woven : List ℕ → Place → Type 0 where
   empty : Woven [] places.Text
-  more : (text : List ℕ) (place next : Place) (piece : Piece) → Woven text place → behind_piece place piece ≡ Some next → Woven (text ++ spelled piece) next
+  more : (text : List ℕ) (place next : Place) (piece : Piece) → Woven text place → after_piece place piece ≡ Some next → Woven (text ++ spelled piece) next
 
 -- a byte that neither begins nor ends a tag or a value
 abbrev pub is_plain : ℕ → Bool

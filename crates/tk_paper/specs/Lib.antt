@@ -4,7 +4,7 @@ pub mod Marks
 pub mod Escaping
 -- How the parts of a page stand in its text
 pub mod Parts
--- A text that is put behind what is written
-pub mod Behind
+-- A text that is put after what is written
+pub mod Pieces
 -- What is kept of a list
 pub mod Courses

@@ -114,12 +114,12 @@ mark_text marks.Quote = codes "\""
 mark_text marks.End = codes ">"
 mark_text (marks.Close tag) = close_text tag
 
--- where a text goes on behind a piece of markup, where that may stand there: an attribute stands within a first tag alone, and a
--- quote behind a value alone
-abbrev pub behind : Place → Mark → Option Place
-behind places.Text (marks.Open tag) = Some places.Tag
-behind places.Text (marks.Close tag) = Some places.Text
-behind places.Tag (marks.Attr attr) = Some places.Value
-behind places.Tag marks.End = Some places.Text
-behind places.Value marks.Quote = Some places.Tag
-behind place mark = None
+-- where a text goes on after a piece of markup, where that may stand there: an attribute stands within a first tag alone, and a
+-- quote after a value alone
+abbrev pub place_after : Place → Mark → Option Place
+place_after places.Text (marks.Open tag) = Some places.Tag
+place_after places.Text (marks.Close tag) = Some places.Text
+place_after places.Tag (marks.Attr attr) = Some places.Value
+place_after places.Tag marks.End = Some places.Text
+place_after places.Value marks.Quote = Some places.Tag
+place_after place mark = None

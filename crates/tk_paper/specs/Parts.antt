@@ -1,7 +1,7 @@
 -- How the parts of a page stand in its text.
 use Rattle.std.specs.Prelude.{ℕ, ◌+◌, ◌-◌, ◌/◌, ◌%◌, ◌^◌, min, nat_lt, nat_le, if◌then◌else◌, Option, Some, None, List, [], ◌∷◌, ◌++◌, codes, decimal, map, flat_map}
-use Rattle.tk_paper.specs.Escaping.{behind_byte, escaped}
-use Rattle.tk_paper.specs.Marks.{behind, mark_text}
+use Rattle.tk_paper.specs.Escaping.{after_byte, escaped}
+use Rattle.tk_paper.specs.Marks.{place_after, mark_text}
 use Rattle.tk_paper.specs.declared.marks.Attr.{Attr}
 use Rattle.tk_paper.specs.declared.marks.Attr.TheVariants as attrs
 use Rattle.tk_paper.specs.declared.marks.Mark.{Mark}
@@ -110,46 +110,46 @@ bit_text quote = mark_text marks.Quote
 unfoldable pub text_of : List Bit → List ℕ
 text_of = flat_map bit_text
 
--- where a page's text goes on behind a piece of markup: nowhere where it went on nowhere, or where the piece has no place
-abbrev pub behind_mark : Mark → Option Place → Option Place
-behind_mark mark None = None
-behind_mark mark (Some place) = behind place mark
+-- where a page's text goes on after a piece of markup: nowhere where it went on nowhere, or where the piece has no place
+abbrev pub after_mark : Mark → Option Place → Option Place
+after_mark mark None = None
+after_mark mark (Some place) = place_after place mark
 
--- behind a text, which has no place within a tag, even where it has no bytes
-abbrev pub behind_text : Option Place → Option Place
-behind_text None = None
-behind_text (Some place) = behind_byte place
+-- after a text, which has no place within a tag, even where it has no bytes
+abbrev pub after_text : Option Place → Option Place
+after_text None = None
+after_text (Some place) = after_byte place
 
--- behind an attribute with its value
-abbrev pub behind_attr : Attr → Option Place → Option Place
-behind_attr attr place = behind_mark marks.Quote (behind_text (behind_mark (marks.Attr attr) place))
+-- after an attribute with its value
+abbrev pub after_attr : Attr → Option Place → Option Place
+after_attr attr place = after_mark marks.Quote (after_text (after_mark (marks.Attr attr) place))
 
--- behind a first tag without attributes
-abbrev pub behind_start : Tag → Option Place → Option Place
-behind_start tag place = behind_mark marks.End (behind_mark (marks.Open tag) place)
+-- after a first tag without attributes
+abbrev pub after_start : Tag → Option Place → Option Place
+after_start tag place = after_mark marks.End (after_mark (marks.Open tag) place)
 
--- behind a first tag with a class
-abbrev pub behind_class : Tag → Option Place → Option Place
-behind_class tag place = behind_mark marks.End (behind_attr attrs.Class (behind_mark (marks.Open tag) place))
+-- after a first tag with a class
+abbrev pub after_class : Tag → Option Place → Option Place
+after_class tag place = after_mark marks.End (after_attr attrs.Class (after_mark (marks.Open tag) place))
 
--- behind a part
-abbrev pub behind_bit : Bit → Option Place → Option Place
-behind_bit (text t) place = behind_text place
-behind_bit (number n) place = behind_text place
-behind_bit (share n) place = behind_text place
-behind_bit (span n) place = behind_text place
-behind_bit (mean n) place = behind_text place
-behind_bit (opens tag) place = behind_mark (marks.Open tag) place
-behind_bit ends place = behind_mark marks.End place
-behind_bit (close tag) place = behind_mark (marks.Close tag) place
-behind_bit (start tag) place = behind_start tag place
-behind_bit (class tag c) place = behind_class tag place
-behind_bit (having attr v) place = behind_attr attr place
-behind_bit (having_number attr v) place = behind_attr attr place
-behind_bit (value attr) place = behind_mark (marks.Attr attr) place
-behind_bit quote place = behind_mark marks.Quote place
+-- after a part
+abbrev pub after_bit : Bit → Option Place → Option Place
+after_bit (text t) place = after_text place
+after_bit (number n) place = after_text place
+after_bit (share n) place = after_text place
+after_bit (span n) place = after_text place
+after_bit (mean n) place = after_text place
+after_bit (opens tag) place = after_mark (marks.Open tag) place
+after_bit ends place = after_mark marks.End place
+after_bit (close tag) place = after_mark (marks.Close tag) place
+after_bit (start tag) place = after_start tag place
+after_bit (class tag c) place = after_class tag place
+after_bit (having attr v) place = after_attr attr place
+after_bit (having_number attr v) place = after_attr attr place
+after_bit (value attr) place = after_mark (marks.Attr attr) place
+after_bit quote place = after_mark marks.Quote place
 
--- behind parts, one after the other
-unfoldable pub behind_all : List Bit → Option Place → Option Place
-behind_all [] place = place
-behind_all (b ∷ bs) place = behind_all bs (behind_bit b place)
+-- after parts, one after the other
+unfoldable pub after_all : List Bit → Option Place → Option Place
+after_all [] place = place
+after_all (b ∷ bs) place = after_all bs (after_bit b place)

@@ -73,7 +73,7 @@ pub enum Mark {
     Open(Tag),
     /// An attribute, up to the quote before its value.
     Attr(Attr),
-    /// The quote behind a value.
+    /// The quote after a value.
     Quote,
     /// The end of a first tag.
     End,
@@ -214,9 +214,9 @@ pub fn mark_text(mark: Mark) -> &'static str
     }
 }
 
-/// Where a text goes on behind a piece of markup, where that may stand there.
-pub fn behind(place: Place, mark: Mark) -> Option<Place>
-    ensures { result ≡ spec.behind place mark }
+/// Where a text goes on after a piece of markup, where that may stand there.
+pub fn place_after(place: Place, mark: Mark) -> Option<Place>
+    ensures { result ≡ spec.place_after place mark }
 {
     match (place, mark) {
         (Place::Text, Mark::Open(_)) => Some(Place::Tag),

@@ -3,7 +3,7 @@ ghost use Rattle.std.specs.Prelude.{◌≡◌, ◌++◌, Some, OnOk, OnErr, map}
 ghost use Rattle.tk_paper.specs.Escaping as spec;
 ghost use Rattle.tk_paper.specs.Parts as places;
 
-use crate::marks::{Attr, Mark, Place, Tag, behind, mark_text};
+use crate::marks::{Attr, Mark, Place, Tag, mark_text, place_after};
 use itoa::Buffer;
 use std::alloc::{AllocError, Global};
 use std::marker::Model;
@@ -37,7 +37,7 @@ pub enum Part<'a> {
     WithNumber(Attr, u64),
     /// An attribute, up to the quote before its value.
     Value(Attr),
-    /// The quote behind a value.
+    /// The quote after a value.
     Quote,
 }
 
@@ -74,9 +74,9 @@ fn push_escaped(bytes: &mut Vec<u8>, byte: u8) -> Result<(), AllocError>
     }
 }
 
-// Where a text goes on behind a byte of any text, where that may stand there.
-fn behind_byte(place: Place) -> Option<Place>
-    ensures { result ≡ spec.behind_byte place }
+// Where a text goes on after a byte of any text, where that may stand there.
+fn after_byte(place: Place) -> Option<Place>
+    ensures { result ≡ spec.after_byte place }
 {
     match place {
         Place::Text => Some(Place::Text),
@@ -85,25 +85,25 @@ fn behind_byte(place: Place) -> Option<Place>
     }
 }
 
-// Where a page's text goes on behind a piece of markup.
-fn behind_mark(mark: Mark, place: Option<Place>) -> Option<Place>
-    ensures { result ≡ places.behind_mark mark place }
+// Where a page's text goes on after a piece of markup.
+fn after_mark(mark: Mark, place: Option<Place>) -> Option<Place>
+    ensures { result ≡ places.after_mark mark place }
 {
-    behind(place?, mark)
+    place_after(place?, mark)
 }
 
-// Where it goes on behind a text, which has no place within a tag.
-fn behind_text(place: Option<Place>) -> Option<Place>
-    ensures { result ≡ places.behind_text place }
+// Where it goes on after a text, which has no place within a tag.
+fn after_text(place: Option<Place>) -> Option<Place>
+    ensures { result ≡ places.after_text place }
 {
-    behind_byte(place?)
+    after_byte(place?)
 }
 
 impl Paper {
-    ghost use Rattle.tk_paper.specs.Behind.{Puts, Writes};
+    ghost use Rattle.tk_paper.specs.Pieces.{Puts, Writes};
     ghost use Rattle.tk_paper.specs.Escaping.{Woven, escaped, escaped_byte, no_paper};
     ghost use Rattle.tk_paper.specs.Marks.{mark_text};
-    ghost use Rattle.tk_paper.specs.Parts.{attr_of, behind_attr, behind_bit, behind_class, behind_mark, behind_start, behind_text, bit_of, bit_text, class_of, mean_text, number_attr_of, number_of, share_text, span_text, start_of, tenths_of};
+    ghost use Rattle.tk_paper.specs.Parts.{attr_of, after_attr, after_bit, after_class, after_mark, after_start, after_text, bit_of, bit_text, class_of, mean_text, number_attr_of, number_of, share_text, span_text, start_of, tenths_of};
 
     /// No text.
     pub fn new(alloc: Global) -> Paper
@@ -116,25 +116,25 @@ impl Paper {
     }
 
     fn mark(&mut self, mark: Mark) -> Result<(), AllocError>
-        ensures { OnOk result (Puts self.old self.new (mark_text mark) (behind_mark mark)) }
+        ensures { OnOk result (Puts self.old self.new (mark_text mark) (after_mark mark)) }
     {
         self.bytes.extend_from_slice(mark_text(mark).as_bytes())?;
-        self.place = behind_mark(mark, self.place);
+        self.place = after_mark(mark, self.place);
         Ok(())
     }
 
     fn byte(&mut self, byte: u8) -> Result<(), AllocError>
-        ensures { OnOk result (Puts self.old self.new (escaped_byte byte) behind_text) }
+        ensures { OnOk result (Puts self.old self.new (escaped_byte byte) after_text) }
     {
         push_escaped(&mut self.bytes, byte)?;
-        self.place = behind_text(self.place);
+        self.place = after_text(self.place);
         Ok(())
     }
 
     fn text(&mut self, text: &str) -> Result<(), AllocError>
-        ensures { OnOk result (Puts self.old self.new (escaped text.now) behind_text) }
+        ensures { OnOk result (Puts self.old self.new (escaped text.now) after_text) }
     {
-        self.place = behind_text(self.place);
+        self.place = after_text(self.place);
         let bytes = text.as_bytes();
         for byte in bytes {
             self.byte(*byte)?;
@@ -143,7 +143,7 @@ impl Paper {
     }
 
     fn number(&mut self, number: u64) -> Result<(), AllocError>
-        ensures { OnOk result (Puts self.old self.new (number_of number) behind_text) }
+        ensures { OnOk result (Puts self.old self.new (number_of number) after_text) }
     {
         let mut buffer = Buffer::new();
         self.text(buffer.format(number))?;
@@ -151,7 +151,7 @@ impl Paper {
     }
 
     fn attr(&mut self, attr: Attr, value: &str) -> Result<(), AllocError>
-        ensures { OnOk result (Puts self.old self.new (attr_of attr value.now) (behind_attr attr)) }
+        ensures { OnOk result (Puts self.old self.new (attr_of attr value.now) (after_attr attr)) }
     {
         self.mark(Mark::Attr(attr))?;
         self.text(value)?;
@@ -160,7 +160,7 @@ impl Paper {
     }
 
     fn number_attr(&mut self, attr: Attr, value: u64) -> Result<(), AllocError>
-        ensures { OnOk result (Puts self.old self.new (number_attr_of attr value) (behind_attr attr)) }
+        ensures { OnOk result (Puts self.old self.new (number_attr_of attr value) (after_attr attr)) }
     {
         self.mark(Mark::Attr(attr))?;
         self.number(value)?;
@@ -169,7 +169,7 @@ impl Paper {
     }
 
     fn start(&mut self, tag: Tag) -> Result<(), AllocError>
-        ensures { OnOk result (Puts self.old self.new (start_of tag) (behind_start tag)) }
+        ensures { OnOk result (Puts self.old self.new (start_of tag) (after_start tag)) }
     {
         self.mark(Mark::Open(tag))?;
         self.mark(Mark::End)?;
@@ -177,7 +177,7 @@ impl Paper {
     }
 
     fn class(&mut self, tag: Tag, class: &str) -> Result<(), AllocError>
-        ensures { OnOk result (Puts self.old self.new (class_of tag class.now) (behind_class tag)) }
+        ensures { OnOk result (Puts self.old self.new (class_of tag class.now) (after_class tag)) }
     {
         self.mark(Mark::Open(tag))?;
         self.attr(Attr::Class, class)?;
@@ -187,7 +187,7 @@ impl Paper {
 
     // Puts tenths of a unit, with their digit after the point where they are few.
     fn tenths(&mut self, few: u64, tenths: u64, unit: &str) -> Result<(), AllocError>
-        ensures { OnOk result (Puts self.old self.new (tenths_of few tenths unit.now) behind_text) }
+        ensures { OnOk result (Puts self.old self.new (tenths_of few tenths unit.now) after_text) }
     {
         self.number(tenths / 10)?;
         if tenths < few {
@@ -199,13 +199,13 @@ impl Paper {
     }
 
     fn share(&mut self, share: u64) -> Result<(), AllocError>
-        ensures { OnOk result (Puts self.old self.new (share_text share) behind_text) }
+        ensures { OnOk result (Puts self.old self.new (share_text share) after_text) }
     {
         self.tenths(100, share, " %")
     }
 
     fn span(&mut self, ns: u64) -> Result<(), AllocError>
-        ensures { OnOk result (Puts self.old self.new (span_text ns) behind_text) }
+        ensures { OnOk result (Puts self.old self.new (span_text ns) after_text) }
     {
         if ns >= 1_000_000_000 {
             self.tenths(1000, ns.saturating_add(50_000_000) / 100_000_000, " s")
@@ -221,7 +221,7 @@ impl Paper {
     }
 
     fn mean(&mut self, mean: u64) -> Result<(), AllocError>
-        ensures { OnOk result (Puts self.old self.new (mean_text mean) behind_text) }
+        ensures { OnOk result (Puts self.old self.new (mean_text mean) after_text) }
     {
         self.number(mean / 1000)?;
         self.text(".")?;
@@ -230,7 +230,7 @@ impl Paper {
     }
 
     fn part(&mut self, part: &Part) -> Result<(), AllocError>
-        ensures { OnOk result (Puts self.old self.new (bit_text (bit_of part.now)) (behind_bit (bit_of part.now))) }
+        ensures { OnOk result (Puts self.old self.new (bit_text (bit_of part.now)) (after_bit (bit_of part.now))) }
     {
         match *part {
             Part::Text(text) => self.text(text),
@@ -250,7 +250,7 @@ impl Paper {
         }
     }
 
-    /// Puts parts behind the text, one after the other. After an error a front of them stands there.
+    /// Puts parts after the text, one after the other. After an error a front of them stands there.
     pub fn put(&mut self, parts: &[Part]) -> Result<(), AllocError>
         ensures { OnOk result (Writes self.old self.new (map bit_of parts.now)) }
     {

@@ -172,7 +172,7 @@ impl Plain {
         Ok(())
     }
 
-    // The same, and keeps the tables as those that were told.
+    // Writes the line to these tables, and keeps them as those that were told.
     fn tell<W: Write>(
         &mut self,
         next: Tables,

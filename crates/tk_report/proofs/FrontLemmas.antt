@@ -1,7 +1,7 @@
 -- Rising fronts of bytes.
 use Rattle.std.proofs.Common.{◌≡◌, ℕ, ◌+◌, ◌≤◌, ◌<◌, List, [], ◌∷◌, ◌++◌, length, Bool, true, false, cond, Some, Result, Ok, Err, refl, ap, sym, ◌∙◌, append_assoc, append-nil, arith, subst}
 use Rattle.tk_client.specs.declared.fault.Fault.{Fault}
-use Rattle.tk_client.specs.Meaning.{Outcome, Start, goes, stops, meaning, run, after, ended, empty_start, is_too_long, line_taken, too_long}
+use Rattle.tk_client.specs.Meaning.{Outcome, Start, goes, stops, meaning, run, after, ended, empty_start, is_too_long, line_taken, too_long, greatest_line}
 use Rattle.tk_client.proofs.Pieces.{meaning-append, stops-append}
 use Rattle.tk_report.specs.Views.{outcome_of}
 use Rattle.tk_stream.specs.Tables.{TablesView}
@@ -48,9 +48,9 @@ module _ (front more : List ℕ) (t : Start) (n : ℕ) (whole : outcome_of (fron
     where
       by : (o : Outcome) → outcome_of front ≡ o → lines_in o ≤ n
       by (goes s m) e =
-          let p = after_goes m (length front) (meaning 268435456 s more) t n (sym (meaning-append 268435456 empty_start s front more m e) ∙ whole) in
+          let p = after_goes m (length front) (meaning greatest_line s more) t n (sym (meaning-append greatest_line empty_start s front more m e) ∙ whole) in
           let sum : m + p.0 ≡ n = p.2 in omega arith
-      by (stops tables m fault used) e = absurd (no (sym (stops-append 268435456 empty_start front more tables m used fault e) ∙ whole))
+      by (stops tables m fault used) e = absurd (no (sym (stops-append greatest_line empty_start front more tables m used fault e) ∙ whole))
         where
           no : stops tables m fault used ≡ goes t n → ⊥
           no h = cc
@@ -61,11 +61,11 @@ module _ (front more : List ℕ) (t : Start) (n : ℕ) (whole : outcome_of (fron
     where
       by : (o : Outcome) → outcome_of front ≡ o → n ≤ lines_in o → tables_in o ≡ t.tables
       by (goes s m) e few =
-          let p = after_goes m (length front) (meaning 268435456 s more) t n (sym (meaning-append 268435456 empty_start s front more m e) ∙ whole) in
+          let p = after_goes m (length front) (meaning greatest_line s more) t n (sym (meaning-append greatest_line empty_start s front more m e) ∙ whole) in
           let sum : m + p.0 ≡ n = p.2 in
           let none : p.0 ≡ 0 = omega arith in
-          sym (none_applied 268435456 s t more (p.1 ∙ ap (goes t) none))
-      by (stops tables m fault used) e few = absurd (no (sym (stops-append 268435456 empty_start front more tables m used fault e) ∙ whole))
+          sym (none_applied greatest_line s t more (p.1 ∙ ap (goes t) none))
+      by (stops tables m fault used) e few = absurd (no (sym (stops-append greatest_line empty_start front more tables m used fault e) ∙ whole))
         where
           no : stops tables m fault used ≡ goes t n → ⊥
           no h = cc

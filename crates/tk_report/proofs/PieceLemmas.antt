@@ -2,7 +2,7 @@
 use Rattle.std.proofs.Common.{◌≡◌, ◌⊎◌, inl, inr, ℕ, zero, ◌+◌, ◌-◌, ◌≤◌, List, [], ◌∷◌, ◌++◌, length, take, drop, Bool, true, false, cond, Option, Result, Ok, Err, refl, ap, sym, ◌∙◌, append_assoc, take-append-drop, length-take, arith, subst}
 use Rattle.std.proofs.Math.Seq.{take-add}
 use Rattle.tk_client.specs.Feeding.{ClientView}
-use Rattle.tk_client.specs.Meaning.{Outcome, Start, after, base_of, behind_line, cut, empty_start, ended, expected, fault_of, goes, is_next, is_too_long, line_read, line_taken, meaning, run, stops, times_base, too_long}
+use Rattle.tk_client.specs.Meaning.{Outcome, Start, after, base_of, start_after, cut, empty_start, ended, expected, fault_of, goes, greatest_line, is_next, is_too_long, line_read, line_taken, meaning, run, stops, times_base, too_long}
 use Rattle.tk_client.specs.declared.fault.Fault.{Fault}
 use Rattle.tk_client.specs.declared.fault.Fault.TheVariants.{Gap}
 use Rattle.tk_client.proofs.Ends.{nothing}
@@ -44,7 +44,7 @@ front_stops bytes rest now faults.Memory h = tt
 front_stops bytes rest now faults.Read h = absurd h
 front_stops bytes rest now faults.Write h = absurd h
 front_stops bytes rest now (faults.Script line name) h = absurd h
-front_stops bytes rest now (faults.Stream lines fault) h = (h.0, h.1, stops-append 268435456 empty_start bytes rest h.0 lines h.1 fault h.2)
+front_stops bytes rest now (faults.Stream lines fault) h = (h.0, h.1, stops-append greatest_line empty_start bytes rest h.0 lines h.1 fault h.2)
 
 -- ---- the fault of one line
 
@@ -53,11 +53,11 @@ no_part : (tables : TablesView) (times : List TaskTimes) (last : Option ℕ) (te
 unfolding line_taken
 no_part tables times last text s = by (line_of_text text)
   where
-    applied : (l : LineView) (r : Result TablesView Fault) → behind_line l times r ≡ Ok s → s.part ≡ []
+    applied : (l : LineView) (r : Result TablesView Fault) → start_after l times r ≡ Ok s → s.part ≡ []
     applied l (Ok t) e = let same : Ok (record { tables = t; last = Option.Some l.seq; part = []; times = times_after (times_base times l) l }) ≡ Ok s = e in cc
     applied l (Err fault) e = absurd (cc)
 
-    next : (l : LineView) (b : Bool) → cond b (behind_line l times (line_checked (base_of tables l) l)) (Err (Gap (expected last) l.seq)) ≡ Ok s → s.part ≡ []
+    next : (l : LineView) (b : Bool) → cond b (start_after l times (line_checked (base_of tables l) l)) (Err (Gap (expected last) l.seq)) ≡ Ok s → s.part ≡ []
     next l true e = applied l (line_checked (base_of tables l) l) e
     next l false e = absurd (cc)
 

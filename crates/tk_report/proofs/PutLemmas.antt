@@ -1,9 +1,9 @@
--- What was put, one piece behind the other.
+-- What was put, one piece after the other.
 use Rattle.std.proofs.Common.{◌≡◌, ℕ, zero, suc, ◌+◌, ◌≤◌, List, [], ◌∷◌, ◌++◌, length, take, slice_get, refl, ap, sym, ◌∙◌, append_assoc, append-nil, add-one, subst}
 use Rattle.std.specs.Prelude.{flat_map}
 use Rattle.std.specs.Option.{option_map_or}
 use Rattle.std.proofs.lemmas.List.{take_all}
-use Rattle.tk_report.specs.Behind.{Puts}
+use Rattle.tk_report.specs.Pieces.{Puts}
 
 -- two pieces were put
 pub both : {a b c p q : List ℕ} → Puts a b p → Puts b c q → Puts a c (p ++ q)

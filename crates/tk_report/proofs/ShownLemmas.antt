@@ -6,7 +6,7 @@ use Rattle.tk_stream.specs.Tables.{TablesView}
 use Rattle.tk_client.specs.declared.fault.Fault.{Fault}
 use Rattle.tk_client.specs.declared.fault.Fault.TheVariants.{TooLong}
 use Rattle.tk_client.specs.Feeding.{ClientView, Took}
-use Rattle.tk_client.specs.Meaning.{Start, Outcome, goes, stops, line_taken, cut, after, is_too_long, held, ended, run, meaning, empty_start}
+use Rattle.tk_client.specs.Meaning.{Start, Outcome, goes, stops, line_taken, cut, after, is_too_long, held, ended, run, meaning, empty_start, greatest_line}
 use Rattle.tk_client.proofs.Ends.{cut-no_end, first_end, no_first}
 use Rattle.tk_client.proofs.Pieces.{glue, cut-append}
 use Rattle.tk_report.specs.Taken.{HasTaken}
@@ -65,7 +65,7 @@ shown-length max (l ∷ ls) r s t n e =
     by (Err fault) f more = absurd (cc)
 
 pub shown_count : (front : List ℕ) (lines : ℕ) (now : ClientView) → HasTaken front lines now → length (shown_of front) ≡ lines
-shown_count front lines now h = shown-length 268435456 (cut front).0 (cut front).1 empty_start now.start lines h.took.came
+shown_count front lines now h = shown-length greatest_line (cut front).0 (cut front).1 empty_start now.start lines h.took.came
 
 -- of one line at most
 one-shown : (max : ℕ) (ls : List (List ℕ)) (r : List ℕ) (s t : Start) (n : ℕ) → length ls ≤ 1 → run max s ls r ≡ goes t n → 0 < n → shown_from s ls ≡ t.tables ∷ []
@@ -89,14 +89,14 @@ no-shown (x ∷ xs) h = absurd (omega arith)
 pub one_more : (front piece : List ℕ) (lines more : ℕ) (old new : ClientView) → HasTaken front lines old → Took old piece more new → length (cut piece).0 ≤ 1 → 0 < more
     → shown_of (front ++ piece) ≡ shown_of front ++ new.start.tables ∷ []
 one_more front piece lines more old new h took few some =
-    shown-append 268435456 empty_start old.start front piece lines h.took.came
+    shown-append greatest_line empty_start old.start front piece lines h.took.came
     ∙ ap (λ xs. shown_of front ++ xs) (one-shown old.max_line (cut piece).0 (cut piece).1 old.start new.start more few took.came some)
 
 -- or did not
 pub none_more : (front piece : List ℕ) (lines more : ℕ) (old new : ClientView) → HasTaken front lines old → Took old piece more new → more ≡ 0
     → shown_of (front ++ piece) ≡ shown_of front
 none_more front piece lines more old new h took none =
-    shown-append 268435456 empty_start old.start front piece lines h.took.came
+    shown-append greatest_line empty_start old.start front piece lines h.took.came
     ∙ ap (λ xs. shown_of front ++ xs) (no-shown (shown_from old.start (cut piece).0) (shown-length old.max_line (cut piece).0 (cut piece).1 old.start new.start more took.came ∙ none))
     ∙ append-nil (shown_of front)
 

@@ -1,4 +1,4 @@
--- What pieces of a stream come to, one behind the other.
+-- What pieces of a stream come to, one after the other.
 use Rattle.std.proofs.Common.{◌≡◌, ℕ, ◌+◌, List, [], ◌∷◌, ◌++◌, length, take, drop, Option, Some, None, Ok, Err, refl, ap, sym, ◌∙◌, append_assoc, append-nil, take-append-drop, subst}
 use Rattle.std.specs.Io.KnownBytes.{Appends, Consumes, IsAtEnd}
 use Rattle.tk_stream.specs.Sent.{IsCut}
@@ -8,7 +8,7 @@ use Rattle.tk_client.specs.declared.fault.Fault.{Fault}
 use Rattle.tk_client.specs.declared.fault.Fault.TheVariants as client
 use Rattle.tk_client.specs.declared.fault.FeedError.{FeedError}
 use Rattle.tk_client.specs.Feeding.{ClientView, Took, Stopped, StoppedBy}
-use Rattle.tk_client.specs.Meaning.{empty_start, stops, meaning, after}
+use Rattle.tk_client.specs.Meaning.{empty_start, stops, meaning, after, greatest_line}
 use Rattle.tk_client.proofs.FeedLemmas.{goes-then}
 use Rattle.tk_client.proofs.Pieces.{meaning-append, stops-append}
 use Rattle.tk_fault.specs.declared.fault.AppFault.{AppFault}
@@ -25,7 +25,7 @@ pub takes_more : (front piece : List ℕ) (lines more : ℕ) (old new : ClientVi
     → HasTaken (front ++ piece) (lines + more) new
 takes_more front piece lines more old new h fed limit = record {
   took = record {
-    came = goes-then 268435456 empty_start old.start new.start front piece lines more h.took.came (ap (λ k. meaning k old.start piece) (sym h.limit) ∙ fed.came);
+    came = goes-then greatest_line empty_start old.start new.start front piece lines more h.took.came (ap (λ k. meaning k old.start piece) (sym h.limit) ∙ fed.came);
     sound = fed.sound;
   };
   limit = limit ∙ h.limit;
@@ -38,10 +38,10 @@ module _ (front piece : List ℕ) (lines : ℕ) (old new : ClientView) (e : Feed
   stops_there fault o =
       let part = take e.used piece in
       let there : outcome_of (front ++ part) ≡ stops new.start.tables (lines + e.lines) fault (length front + e.used) =
-      meaning-append 268435456 empty_start old.start front part lines h.took.came
+      meaning-append greatest_line empty_start old.start front part lines h.took.came
       ∙ ap (after lines (length front)) (ap (λ k. meaning k old.start part) (sym h.limit) ∙ o) in
       ap outcome_of (ap (λ xs. front ++ xs) (sym (take-append-drop e.used piece)) ∙ sym (append_assoc front part (drop e.used piece)))
-      ∙ stops-append 268435456 empty_start (front ++ part) (drop e.used piece) new.start.tables (lines + e.lines) (length front + e.used) fault there
+      ∙ stops-append greatest_line empty_start (front ++ part) (drop e.used piece) new.start.tables (lines + e.lines) (length front + e.used) fault there
 
   stops_by : (fault : Fault) → StoppedBy fault (meaning old.max_line old.start (take e.used piece)) e new → Takes (front ++ piece) (Err (stop_of (lines + e.lines) fault)) new
   stops_by client.Memory by = tt
@@ -91,7 +91,7 @@ stops_all given left new piece lines old now faults.Memory r read h = tt
 stops_all given left new piece lines old now faults.Read r read h = tt
 stops_all given left new piece lines old now faults.Write r read h = absurd h
 stops_all given left new piece lines old now (faults.Script line name) r read h = absurd h
-stops_all given left new piece lines old now (faults.Stream behind fault) r read h = record {
+stops_all given left new piece lines old now (faults.Stream before fault) r read h = record {
   bytes = r.bytes ++ piece;
   read = Consumes-trans given left new r.bytes piece r.read read;
   tables = h.0;

@@ -11,6 +11,6 @@ pub mod Shown
 -- Fronts of a stream's bytes, each with more lines than the one before
 pub mod Fronts
 -- Inner: no public clause cites these
-pub mod Behind
+pub mod Pieces
 pub mod Taken
 pub mod Uninterrupted

@@ -8,13 +8,13 @@ use Rattle.tk_ids.specs.declared.attr.AttrInfo.{AttrInfo}
 use Rattle.tk_ids.specs.declared.attr.AttrValue.{AttrValue}
 use Rattle.tk_ids.specs.declared.attr.AttrValue.TheVariants.{U64, Bool as Flag, I64}
 use Rattle.tk_ids.specs.declared.spec.TaskKind.{TaskKind}
-use Rattle.tk_ids.specs.declared.spec.TaskKind.TheVariants.{Spawn, Blocking}
 use Rattle.tk_core.specs.declared.op.row.OpRow.{OpRow}
 use Rattle.tk_core.specs.declared.resource.row.ResourceRow.{ResourceRow}
 use Rattle.tk_core.specs.declared.task.row.TaskRow.{TaskRow}
-use Rattle.tk_stream.specs.declared.op.Op.{Op}
-use Rattle.tk_stream.specs.declared.resource.Resource.{Resource}
-use Rattle.tk_stream.specs.declared.task.Task.{Task}
+use Rattle.tk_stream.specs.Spelling.{kind_text}
+use Rattle.tk_stream.specs.declared.tables.op.Op.{Op}
+use Rattle.tk_stream.specs.declared.tables.resource.Resource.{Resource}
+use Rattle.tk_stream.specs.declared.tables.task.Task.{Task}
 use Rattle.tk_stream.specs.Tables.{TablesView, PollCounts, counts_of, task_with}
 use Rattle.tk_client.specs.declared.warning.Warning.{Warning}
 use Rattle.tk_client.specs.declared.warning.WarningKind.{WarningKind}
@@ -23,14 +23,14 @@ use Rattle.tk_client.specs.Warnings.{LintsView, warnings_in}
 
 -- ---- lines
 
--- the rest of a line behind a word: these words, each with a space before it, and the line end
-abbrev pub behind : List (List ℕ) → List ℕ
-behind [] = 10 ∷ []
-behind (word ∷ words) = 32 ∷ (word ++ behind words)
+-- the rest of a line after a word: these words, each with a space before it, and the line end
+abbrev pub rest_of_line : List (List ℕ) → List ℕ
+rest_of_line [] = 10 ∷ []
+rest_of_line (word ∷ words) = 32 ∷ (word ++ rest_of_line words)
 
 -- a line: its words with a space between two, and the line end
 abbrev pub line : List ℕ → List (List ℕ) → List ℕ
-line first words = first ++ behind words
+line first words = first ++ rest_of_line words
 
 -- ---- the first line
 
@@ -41,11 +41,6 @@ heading tables = line (codes "now") (decimal tables.now
 
 -- ---- tasks
 
--- the kind of a task
-abbrev pub kind_word : TaskKind → List ℕ
-kind_word Spawn = codes "spawn"
-kind_word Blocking = codes "blocking"
-
 -- the first that holds of a task: it is closed, being polled, scheduled; else it is idle
 abbrev pub task_state : TaskRow → List ℕ
 task_state x =
@@ -55,7 +50,7 @@ task_state x =
 
 -- the line of a task
 abbrev pub task_line : Task → List ℕ
-task_line t = line (codes "task") (id_text t.info.id ∷ kind_word t.info.kind ∷ task_state t.row
+task_line t = line (codes "task") (id_text t.info.id ∷ kind_text t.info.kind ∷ task_state t.row
     ∷ codes "polls" ∷ decimal t.row.polls
     ∷ codes "wakes" ∷ decimal t.row.wakes
     ∷ codes "self" ∷ decimal t.row.self_wakes
@@ -79,7 +74,7 @@ abbrev pub unit_words : Option (List ℕ) → List (List ℕ)
 unit_words None = []
 unit_words (Some unit) = unit ∷ []
 
--- the line of an attribute, behind two spaces
+-- the line of an attribute, after two spaces
 abbrev pub attr_line : AttrInfo × AttrValue → List ℕ
 attr_line (attr, value) = codes "  " ++ line attr.name (codes "=" ∷ value_word value ∷ unit_words attr.unit)
 
@@ -101,7 +96,7 @@ resource_line polls r = line (codes "resource") (id_text r.info.id ∷ resource_
     ∷ codes "type" ∷ r.info.concrete
     ∷ codes "kind" ∷ r.info.kind ∷ [])
 
--- a resource, and behind it its attributes
+-- a resource, and after it its attributes
 abbrev pub resource_lines : List PollCounts → Resource → List ℕ
 resource_lines counts r = resource_line (counts_of r.info.id counts) r ++ attr_lines r.info.attrs r.row.attrs
 
@@ -125,7 +120,7 @@ op_line o = line (codes "op") (id_text o.info.id ∷ op_state o.row
     ∷ codes "resource" ∷ id_text o.info.resource
     ∷ codes "source" ∷ o.info.source ∷ [])
 
--- an async operation, and behind it its attributes
+-- an async operation, and after it its attributes
 abbrev pub op_lines : Op → List ℕ
 op_lines o = op_line o ++ attr_lines o.info.attrs o.row.attrs
 

@@ -5,16 +5,16 @@ use Rattle.tk_stream.specs.Tables.{TablesView}
 use Rattle.tk_client.specs.declared.fault.Fault.{Fault}
 use Rattle.tk_client.specs.declared.fault.Fault.TheVariants as client
 use Rattle.tk_client.specs.Feeding.{ClientView, Took}
-use Rattle.tk_client.specs.Meaning.{empty_start, stops}
+use Rattle.tk_client.specs.Meaning.{empty_start, greatest_line, stops}
 use Rattle.tk_fault.specs.declared.fault.AppFault.{AppFault}
 use Rattle.tk_fault.specs.declared.fault.AppFault.TheVariants as faults
 use Rattle.tk_report.specs.Views.{AreAll, HaveFault, outcome_of}
 
 -- where a client begins
 abbrev pub first : ClientView
-first = record { start = empty_start; has_failed = false; max_line = 268435456 }
+first = record { start = empty_start; has_failed = false; max_line = greatest_line }
 
--- what a client's fault behind so many lines is to the view
+-- what a client's fault after so many lines is to the view
 abbrev pub stop_of : ℕ → Fault → AppFault
 stop_of lines client.Memory = faults.Memory
 stop_of lines fault = faults.Stream lines fault
@@ -22,7 +22,7 @@ stop_of lines fault = faults.Stream lines fault
 -- a client has taken these bytes, and applied so many lines
 pub record HasTaken (bytes : List ℕ) (lines : ℕ) (now : ClientView) : Type 0 where
   pub took : Took first bytes lines now
-  pub limit : now.max_line ≡ 268435456
+  pub limit : now.max_line ≡ greatest_line
 
 -- bytes were taken, or have a fault, or there was no memory
 abbrev pub Takes : List ℕ → Result ℕ AppFault → ClientView → Type 0

@@ -1,11 +1,11 @@
--- The report with what is known of how long polls ran: below a task its histogram, and behind its warnings its long poll.
+-- The report with what is known of how long polls ran: below a task its histogram, and after its warnings its long poll.
 use Rattle.std.specs.Prelude.{ℕ, ◌*◌, ◌+◌, ◌==◌, List, [], ◌++◌, ◌∷◌, Bool, false, codes, decimal, if◌then◌else◌, nat_le, Option, None}
 use Rattle.std.specs.List.{flat_map, position_from}
 use Rattle.std.specs.Option.{option_map_or}
 use Rattle.tk_ids.specs.Ids.{id_text}
 use Rattle.tk_core.specs.Percentiles.{begin_of, end_of, total_of}
-use Rattle.tk_stream.specs.declared.task.Task.{Task}
-use Rattle.tk_stream.specs.declared.times.PollTimes.{PollTimes}
+use Rattle.tk_stream.specs.declared.tables.task.Task.{Task}
+use Rattle.tk_stream.specs.declared.tables.times.PollTimes.{PollTimes}
 use Rattle.tk_stream.specs.Tables.{TablesView, item_with}
 use Rattle.tk_stream.specs.Times.{TaskTimes, times_id}
 use Rattle.tk_client.specs.declared.long_polls.AnyWarning.{AnyWarning}
@@ -16,7 +16,7 @@ use Rattle.tk_client.specs.Warnings.{LintsView}
 use Rattle.tk_report.specs.declared.view.View.{View}
 use Rattle.tk_report.specs.declared.view.View.TheVariants.{Report, Lint}
 use Rattle.tk_report.specs.declared.options.TimesOptions.{TimesOptions}
-use Rattle.tk_report.specs.Report.{behind, heading, line, op_lines, resource_lines, task_line, warn_line}
+use Rattle.tk_report.specs.Report.{rest_of_line, heading, line, op_lines, resource_lines, task_line, warn_line}
 
 -- ---- percentiles
 
@@ -36,7 +36,7 @@ abbrev pub high_word : ℕ → ℕ → List ℕ
 high_word longest bucket =
     option_map_or decimal (end_of bucket) (if nat_le (begin_of bucket) longest then decimal longest else codes "-")
 
--- a percentile behind a space: its name, and where its bucket begins and ends
+-- a percentile after a space: its name, and where its bucket begins and ends
 abbrev pub bucket_words : ℕ → ℕ → ℕ → List ℕ
 bucket_words percent longest bucket = codes " p" ++ decimal percent ++ (codes " " ++ decimal (begin_of bucket) ++ (codes " " ++ high_word longest bucket))
 
@@ -45,7 +45,7 @@ percentile_words times percent = option_map_or (bucket_words percent times.longe
 
 -- ---- lines
 
--- the line of a histogram, behind two spaces: how many polls it counts, the longest, and three percentiles where it counts any
+-- the line of a histogram, after two spaces: how many polls it counts, the longest, and three percentiles where it counts any
 abbrev pub times_line : PollTimes → List ℕ
 times_line times =
     codes "  polls " ++ decimal (total_of times.counts)
@@ -53,7 +53,7 @@ times_line times =
     ++ (percentile_words times 50
     ++ (percentile_words times 90
     ++ (percentile_words times 99
-    ++ behind []))))
+    ++ rest_of_line []))))
 
 -- the line of a task's histogram, where it has one
 abbrev pub times_below : List TaskTimes → ℕ → List ℕ

@@ -4,7 +4,7 @@ use Rattle.std.specs.Io.KnownBytes.{Appends, Consumes}
 use Rattle.tk_stream.specs.Sent.{IsCut}
 use Rattle.tk_stream.specs.Tables.{TablesView}
 use Rattle.tk_client.specs.declared.fault.Fault.{Fault}
-use Rattle.tk_client.specs.Meaning.{Outcome, Start, empty_start, goes, stops, meaning}
+use Rattle.tk_client.specs.Meaning.{Outcome, Start, empty_start, goes, stops, meaning, greatest_line}
 use Rattle.tk_client.specs.Warnings.{LintsView, warnings_in}
 use Rattle.tk_fault.specs.declared.fault.AppFault.{AppFault}
 use Rattle.tk_fault.specs.declared.fault.AppFault.TheVariants as faults
@@ -14,7 +14,7 @@ use Rattle.tk_report.specs.Report.{report_of, lint_of}
 
 -- what a stream's bytes come to, from empty tables on; a line has at most 268,435,456 bytes
 abbrev pub outcome_of : List ℕ → Outcome
-outcome_of bytes = meaning 268435456 empty_start bytes
+outcome_of bytes = meaning greatest_line empty_start bytes
 
 -- these are all bytes of a reader whose bytes are known
 abbrev pub AreAll : Option (List ℕ) → List ℕ → Type 0
@@ -29,7 +29,7 @@ pub record LeadTo (given : Option (List ℕ)) (tables : TablesView) : Type 0 whe
   pub come : outcome_of bytes ≡ goes start lines
   pub shows : start.tables ≡ tables
 
--- the bytes that were read have this fault, behind so many lines that are applied
+-- the bytes that were read have this fault, after so many lines that are applied
 pub record HaveFault (given left : Option (List ℕ)) (lines : ℕ) (fault : Fault) : Type 0 where
   pub bytes : List ℕ
   pub read : Consumes given left bytes

@@ -1,12 +1,13 @@
 //! Laws of the definitions: each is the contract of a function that does nothing.
 ghost use Rattle.std.specs.Prelude.{◌≡◌, ℕ, List, Option, Some, Result, flat_map};
 ghost use Rattle.tk_stream.specs.Streams.{Sending, GoesOn, lines_sent, bytes_sent, tables_sent};
+ghost use Rattle.tk_client.specs.Meaning.{greatest_line};
 ghost use Rattle.tk_client.specs.Streams.{AreShort};
 ghost use Rattle.tk_fault.specs.declared.fault.AppFault.{AppFault};
 ghost use Rattle.tk_report.specs.declared.view.View.{View};
 ghost use Rattle.tk_report.specs.Uninterrupted.{ShowsTables};
 ghost use Rattle.tk_report.specs.Views.{Views};
-ghost use Rattle.tk_stream.specs.declared.task.Task.{Task};
+ghost use Rattle.tk_stream.specs.declared.tables.task.Task.{Task};
 ghost use Rattle.tk_stream.specs.Tables.{AreDistinct, TablesView, empty_tables};
 ghost use Rattle.tk_client.specs.Warnings.{LintsView, warnings_of};
 ghost use Rattle.tk_report.specs.Report.{lint_of, warn_line_of};
@@ -25,7 +26,7 @@ pub fn warnings_tell_of_their_tasks()
 /// last line, and there is no fault of the stream. So what the run of a script writes, the view reads.
 pub fn what_goes_on_is_viewed()
     ensures { (sent : List Sending) (view : View) (lints : LintsView) (left old new : Option (List ℕ)) (result : Result ℕ AppFault)
-        → GoesOn empty_tables 0 sent → AreShort 268435456 (lines_sent empty_tables sent)
+        → GoesOn empty_tables 0 sent → AreShort greatest_line (lines_sent empty_tables sent)
         → Views view lints (Some (bytes_sent (lines_sent empty_tables sent))) left result old new
         → ShowsTables view lints (tables_sent empty_tables sent) result old new }
 {

@@ -4,6 +4,7 @@
 //! - [`view_stream`], [`View`]: reads a stream to its end, and writes the report of its tables, or its warning lines alone.
 //!   [`view_stream_with`], [`TimesOptions`]: with what is known of how long polls ran.
 //! - [`laws`]: what warning lines tell of.
+//! - [`kind_word`], [`task_state`], [`op_state`], [`run_time`]: what a report says of a task and of an async operation.
 //! - [`AppFault`]: what a run of the program stops at.
 #![tactic(auto)]
 
@@ -14,8 +15,10 @@ mod reporting;
 mod timed;
 mod times;
 mod view;
+mod words;
 
 pub use options::TimesOptions;
 pub use reporting::report;
 pub use tk_fault::AppFault;
 pub use view::{View, view_stream, view_stream_with};
+pub use words::{kind_word, op_state, run_time, task_state};

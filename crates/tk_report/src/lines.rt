@@ -1,13 +1,14 @@
-//! The lines of a report, each put behind what is written.
+//! The lines of a report, each put after what is written.
 ghost use Rattle.std.specs.Prelude.{◌≡◌, ◌++◌, ◌∷◌, [], codes, decimal, OnOk, IfSome, string_bytes};
-ghost use Rattle.tk_report.specs.Behind.{Puts};
+ghost use Rattle.tk_report.specs.Pieces.{Puts};
 ghost use Rattle.tk_report.specs.Report as spec;
 
+use crate::words::{kind_word, op_state, run_time, task_state};
 use std::alloc::AllocError;
 use std::fmt::{Display, Write};
 use tk_client::{Warning, WarningKind};
-use tk_core::{OpRow, ResourceRow, TaskRow};
-use tk_ids::{AttrInfo, AttrValue, Dropped, Name, TaskId, TaskKind};
+use tk_core::{ResourceRow, TaskRow};
+use tk_ids::{AttrInfo, AttrValue, Dropped, Name, TaskId};
 use tk_stream::{Op, Resource, Tables, Task};
 
 /// Puts a text and a value.
@@ -20,7 +21,7 @@ pub(crate) fn put<T: Display>(out: &mut String, before: &str, value: &T) -> Resu
 
 /// Ends a line.
 pub(crate) fn put_end(out: &mut String) -> Result<(), AllocError>
-    ensures { OnOk result (Puts (string_bytes out.old) (string_bytes out.new) (spec.behind [])) }
+    ensures { OnOk result (Puts (string_bytes out.old) (string_bytes out.new) (spec.rest_of_line [])) }
 {
     out.push_str("\n")
 }
@@ -36,29 +37,6 @@ pub(crate) fn put_heading(out: &mut String, tables: &Tables) -> Result<(), Alloc
         ops,
     } = tables.dropped();
     writeln!(out, "now {now} dropped {tasks} {resources} {ops}")
-}
-
-fn kind_word(kind: TaskKind) -> &'static str
-    ensures { result.now ≡ spec.kind_word kind }
-{
-    match kind {
-        TaskKind::Spawn => "spawn",
-        TaskKind::Blocking => "blocking",
-    }
-}
-
-fn task_state(row: &TaskRow) -> &'static str
-    ensures { result.now ≡ spec.task_state row.now }
-{
-    if row.dropped.is_some() {
-        "closed"
-    } else if row.polling {
-        "polling"
-    } else if row.scheduled {
-        "scheduled"
-    } else {
-        "idle"
-    }
 }
 
 /// The line of a task.
@@ -93,7 +71,7 @@ fn put_value(out: &mut String, value: AttrValue) -> Result<(), AllocError>
 }
 
 fn put_unit(out: &mut String, unit: &Option<Name>) -> Result<(), AllocError>
-    ensures { OnOk result (Puts (string_bytes out.old) (string_bytes out.new) (spec.behind (spec.unit_words unit.now))) }
+    ensures { OnOk result (Puts (string_bytes out.old) (string_bytes out.new) (spec.rest_of_line (spec.unit_words unit.now))) }
 {
     match unit {
         Some(unit) => writeln!(out, " {unit}"),
@@ -173,18 +151,6 @@ fn put_resource_line(
     Ok(())
 }
 
-fn op_state(row: &OpRow) -> &'static str
-    ensures { result.now ≡ spec.op_state row.now }
-{
-    if row.dropped.is_some() {
-        "closed"
-    } else if row.polling {
-        "polling"
-    } else {
-        "idle"
-    }
-}
-
 fn put_polled_by(out: &mut String, task: Option<TaskId>) -> Result<(), AllocError>
     ensures { OnOk result (Puts (string_bytes out.old) (string_bytes out.new) (codes " task " ++ spec.polled_by task)) }
 {
@@ -222,19 +188,9 @@ fn put_op_line(out: &mut String, op: &Op) -> Result<(), AllocError>
     Ok(())
 }
 
-// For how long a poll has run, where one started.
-fn run_time(now: u64, started: Option<u64>) -> u64
-    ensures { result ≡ spec.run_time now started }
-{
-    match started {
-        Some(started) => now.saturating_sub(started),
-        None => 0,
-    }
-}
-
 fn put_run_time(out: &mut String, time: u64) -> Result<(), AllocError>
     ensures { OnOk result (Puts (string_bytes out.old) (string_bytes out.new)
-        (spec.behind (codes "never-yielded" ∷ decimal time ∷ []))) }
+        (spec.rest_of_line (codes "never-yielded" ∷ decimal time ∷ []))) }
 {
     writeln!(out, " never-yielded {time}")
 }
@@ -245,7 +201,7 @@ fn put_oddity(
     row: &TaskRow,
     kind: WarningKind,
 ) -> Result<(), AllocError>
-    ensures { OnOk result (Puts (string_bytes out.old) (string_bytes out.new) (spec.behind (spec.oddity now row.now kind))) }
+    ensures { OnOk result (Puts (string_bytes out.old) (string_bytes out.new) (spec.rest_of_line (spec.oddity now row.now kind))) }
 {
     match kind {
         WarningKind::SelfWakes => {

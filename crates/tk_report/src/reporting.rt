@@ -1,7 +1,7 @@
 //! The report of tables, line by line.
 ghost use Rattle.std.specs.Prelude.{◌≡◌, [], OnOk, IfOk, IfErr, slice_get, string_bytes, flat_map};
 ghost use Rattle.std.specs.Option.{option_map_or};
-ghost use Rattle.tk_report.specs.Behind.{Puts};
+ghost use Rattle.tk_report.specs.Pieces.{Puts};
 ghost use Rattle.tk_report.specs.Report as spec;
 
 use crate::lines::{put_op, put_resource};

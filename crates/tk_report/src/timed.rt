@@ -1,7 +1,7 @@
 //! The report of tables with what is known of how long polls ran.
 ghost use Rattle.std.specs.Prelude.{◌≡◌, [], OnOk, IfOk, slice_get, string_bytes, flat_map, if◌then◌else◌};
 ghost use Rattle.std.specs.Option.{option_map_or};
-ghost use Rattle.tk_report.specs.Behind.{Puts};
+ghost use Rattle.tk_report.specs.Pieces.{Puts};
 ghost use Rattle.tk_report.specs.Timed as spec;
 
 use crate::lines::{put_heading, put_task};

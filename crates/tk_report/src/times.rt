@@ -1,8 +1,8 @@
-//! The lines of histograms and of long polls, each put behind what is written.
+//! The lines of histograms and of long polls, each put after what is written.
 ghost use Rattle.std.specs.Prelude.{◌≡◌, ◌≤◌, ◌++◌, codes, decimal, slice_get, OnOk, string_bytes};
 ghost use Rattle.tk_core.specs.Percentiles.{total_of, begin_of, end_of};
 ghost use Rattle.tk_core.specs.Times.{bounds};
-ghost use Rattle.tk_report.specs.Behind.{Puts};
+ghost use Rattle.tk_report.specs.Pieces.{Puts};
 ghost use Rattle.tk_report.specs.Timed as spec;
 
 use crate::lines::{put, put_end, put_warning};

@@ -30,7 +30,7 @@ const MAX_LINE: usize = 268_435_456;
 // How many bytes are read at a time.
 const PIECE: usize = 65_536;
 
-// Why a stream isn't taken behind so many lines.
+// Why a stream isn't taken after so many lines.
 fn stopped(lines: u64, error: FeedError) -> AppFault
     requires { lines + error.lines < 2 ^ 64 }
     ensures { result ≡ stop_of (lines + error.lines) error.fault }

@@ -241,7 +241,7 @@ worker_of word = option_and_then worker_numbered (moment word)
 abbrev pub waker_line : ℕ → WakerCall → WorkerLine
 waker_line n call = record { waker = n; call = call }
 
--- what a worker's line says behind the worker's number
+-- what a worker's line says after the worker's number
 abbrev pub worker_line_by : List (List ℕ) → Option WorkerLine
 worker_line_by [] = None
 worker_line_by (w ∷ words) =
@@ -296,7 +296,7 @@ settings_by settings (retention n) = record settings { retention = Some n }
 settings_by settings times = record settings { times = true }
 settings_by settings _ = settings
 
--- settings by a line behind which further ones may be said: it says one, or is skipped
+-- settings by a line after which further ones may be said: it says one, or is skipped
 abbrev pub settings_said : Settings → Line → Option Settings
 settings_said settings skipped = Some settings
 settings_said settings bad = None
@@ -305,19 +305,19 @@ settings_said settings opens = None
 settings_said settings joins = None
 settings_said settings (works k l) = None
 
--- settings by lines, up to the first behind which none may be said
-abbrev pub settings_behind : Settings → List Line → Settings
-settings_behind settings [] = settings
-settings_behind settings (line ∷ more) = option_map_or (λ s. settings_behind s more) (settings_said settings line) settings
+-- settings by lines, up to the first after which none may be said
+abbrev pub settings_after : Settings → List Line → Settings
+settings_after settings [] = settings
+settings_after settings (line ∷ more) = option_map_or (λ s. settings_after s more) (settings_said settings line) settings
 
 -- the settings of a script: those of its `capacity`, `retention` and `times` commands before all others
 abbrev pub settings_of : List Line → Settings
-settings_of ls = settings_behind default_settings ls
+settings_of ls = settings_after default_settings ls
 
 -- a script's last byte ends a line
 abbrev pub ends_line : List ℕ → Bool
 ends_line script = ends_with (λ a b. a == b) script (10 ∷ [])
 
--- the number of the last line: a line end behind it opens no further one
+-- the number of the last line: a line end after it opens no further one
 abbrev pub last_line : List ℕ → ℕ
 last_line script = if ends_line script then length (pieces_at 10 script) - 1 else length (pieces_at 10 script)

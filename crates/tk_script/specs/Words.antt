@@ -18,14 +18,14 @@ moment word =
 abbrev pub if_i64 : ℤ → Option ℤ
 if_i64 n = if is_i64 n then Some n else None
 
--- a number behind a sign: `+` leaves it, and `-` turns it round
-abbrev pub behind_sign : ℕ → ℕ → Option ℤ
-behind_sign sign n = if sign == 43 then if_i64 (pos n) else (if sign == 45 then if_i64 (neg_ℤ (pos n)) else None)
+-- a number after a sign: `+` leaves it, and `-` turns it round
+abbrev pub after_sign : ℕ → ℕ → Option ℤ
+after_sign sign n = if sign == 43 then if_i64 (pos n) else (if sign == 45 then if_i64 (neg_ℤ (pos n)) else None)
 
--- a sign, and behind it a decimal as of a moment: a number from -2^63 to 2^63 - 1
+-- a sign, and after it a decimal as of a moment: a number from -2^63 to 2^63 - 1
 abbrev pub signed : List ℕ → Option ℤ
 signed [] = None
-signed (sign ∷ digits) = option_and_then (behind_sign sign) (moment digits)
+signed (sign ∷ digits) = option_and_then (after_sign sign) (moment digits)
 
 -- the kind of task that a word names
 abbrev pub kind : List ℕ → Option TaskKind

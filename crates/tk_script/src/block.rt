@@ -55,7 +55,7 @@ fn worker_of(word: &[u8]) -> Option<Worker>
     }
 }
 
-// What a worker's line says behind the worker's number.
+// What a worker's line says after the worker's number.
 fn worker_line(words: Pieces<'_>) -> Option<WorkerLine>
     ensures { result ≡ spec.worker_line_by (pieces_left words.entry) }
 {

@@ -428,7 +428,7 @@ fn capacity_of(words: Pieces<'_>) -> Option<Command<'_>>
     Some(Command::Capacity { count })
 }
 
-// Behind the word for histograms stands nothing.
+// After the word for histograms stands nothing.
 fn times_of(words: Pieces<'_>) -> Option<Command<'_>>
     ensures said { option_map spec.view result ≡ spec.alone spec.times (pieces_left words.entry) }
     ensures good { IfSome result (λ c. spec.IsGood (spec.view c)) }

@@ -45,7 +45,7 @@ pub(crate) fn find(text: &[u8], byte: u8) -> Option<usize>
     text.iter().position(|b| *b == byte)
 }
 
-// The first piece, and what stands behind the byte that ends it.
+// The first piece, and what stands after the byte that ends it.
 fn cut(text: &[u8], byte: u8) -> (&[u8], Option<&[u8]>)
     ensures { pieces_at byte text.now ≡ result.0.now ∷ pieces_of_rest byte result.1 }
 {

@@ -15,7 +15,7 @@ use Rattle.tk_stream.proofs.GoneLemmas.{staying_all, stays, same_infos, same_sta
 itself : (n : ℕ) → nat_eq n n ≡ true
 itself n = eq-eqb n n refl
 
--- what stands behind as many items as there were
+-- what stands after as many items as there were
 abbrev beyond : {A : Type 0} → List A → List A → List A
 beyond [] ys = ys
 beyond (x ∷ xs) [] = []
@@ -69,14 +69,14 @@ module _ {Item Info Stats : Type 0} (k : Kind Item Info Stats) (stats_of : Item 
         by true = rw (laws.keys x, other) refl
         by false = refl
 
-    behind : (x : Item) (us xs : List Item) → AllByRecursion (λ n. nat_eq (k.id_of x) n ≡ false) (map k.id_of us) → AllByRecursion (TellsOf (told xs)) us → AllByRecursion (TellsOf (told (x ∷ xs))) us
-    behind x [] xs apart all = tt
-    behind x (u ∷ us) xs apart all = (skipped x u xs (differ (k.id_of x) (k.id_of u) apart.0) ∙ all.0, behind x us xs apart.1 all.1)
+    one_before : (x : Item) (us xs : List Item) → AllByRecursion (λ n. nat_eq (k.id_of x) n ≡ false) (map k.id_of us) → AllByRecursion (TellsOf (told xs)) us → AllByRecursion (TellsOf (told (x ∷ xs))) us
+    one_before x [] xs apart all = tt
+    one_before x (u ∷ us) xs apart all = (skipped x u xs (differ (k.id_of x) (k.id_of u) apart.0) ∙ all.0, one_before x us xs apart.1 all.1)
 
     each_told : (xs : List Item) → IsDistinct nat_eq (map k.id_of xs) → AllByRecursion (TellsOf (told xs)) xs
     unfolding IsDistinct
     each_told [] distinct = tt
-    each_told (x ∷ xs) distinct = (here x xs distinct.0, behind x xs xs distinct.0 (each_told xs distinct.1))
+    each_told (x ∷ xs) distinct = (here x xs distinct.0, one_before x xs xs distinct.0 (each_told xs distinct.1))
 
   -- ---- new items are absent from the old
 

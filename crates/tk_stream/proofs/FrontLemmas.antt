@@ -6,7 +6,7 @@ use Rattle.std.specs.List.{AllByRecursion, IsDistinct}
 use Rattle.std.proofs.Math.Seq.{drop-nil, take-set-lt}
 use Rattle.std.proofs.lemmas.List.{take_more_set, append-nil, drop_all, get_or-take, get_or-map, get_or_default, length-take-le, map-set}
 use Rattle.std.proofs.lemmas.Option.{same_Some, slice_get_read, slice_get_past}
-use Rattle.tk_stream.specs.Fronts.{told_item, with_rows, is_told_beside, stats_beside}
+use Rattle.tk_stream.specs.Fronts.{as_told, with_rows, is_told_beside, stats_beside}
 use Rattle.tk_stream.specs.Kept.{kept}
 use Rattle.tk_stream.specs.Lines.{is_new, is_told, new_infos, told_stats}
 use Rattle.tk_stream.specs.Tables.{item_with, changed_at}
@@ -154,13 +154,13 @@ goes_on_told rows xs i row is among within so_far =
     take_more_set rows i row within ∙ ap₂ (λ ys y. ys ++ y ∷ []) so_far is ∙ sym (rw add-one (next_told xs i among))
 
 -- items that were told of as they are
-pub all_told : {Item Row : Type 0} (with_row : Item → Row → Item) (xs : List Item) → with_rows (told_item with_row) xs (map (λ x. None) xs) ≡ xs
+pub all_told : {Item Row : Type 0} (with_row : Item → Row → Item) (xs : List Item) → with_rows (as_told with_row) xs (map (λ x. None) xs) ≡ xs
 all_told with_row [] = refl
 all_told with_row (x ∷ xs) = ap (λ ys. x ∷ ys) (all_told with_row xs)
 
 -- an item keeps its id
 pub keeps_told : {Item Row Id : Type 0} (id_of : Item → Id) (with_row : Item → Row → Item) → ((x : Item) (r : Row) → id_of (with_row x r) ≡ id_of x)
-    → (x : Item) (o : Option Row) → id_of (told_item with_row x o) ≡ id_of x
+    → (x : Item) (o : Option Row) → id_of (as_told with_row x o) ≡ id_of x
 keeps_told id_of with_row keeps x None = refl
 keeps_told id_of with_row keeps x (Some r) = keeps x r
 
@@ -186,7 +186,7 @@ module _ {Item Row : Type 0} (with_row : Item → Row → Item) (row : Row) wher
   same_row_again (y ∷ xs) (suc i) x at same = ap (λ ys. y ∷ ys) (same_row_again xs i x at same)
 
   abbrev told : List Item → List (Option Row) → List Item
-  told xs rs = with_rows (told_item with_row) xs rs
+  told xs rs = with_rows (as_told with_row) xs rs
 
   -- what was told of it is kept already, or nothing was
   pub stays_told : ((x : Item) (q r : Row) → with_row (with_row x q) r ≡ with_row x r) → (xs : List Item) (rs : List (Option Row)) (i : ℕ)
@@ -195,7 +195,7 @@ module _ {Item Row : Type 0} (with_row : Item → Row → Item) (row : Row) wher
   stays_told last [] (o ∷ rs) i kept = refl
   stays_told last (x ∷ xs) (None ∷ rs) zero kept = absurd (kept refl)
   stays_told last (x ∷ xs) (Some r ∷ rs) zero kept = ap (λ y. y ∷ told xs rs) (last x row r)
-  stays_told last (x ∷ xs) (o ∷ rs) (suc i) kept = ap (λ ys. told_item with_row x o ∷ ys) (stays_told last xs rs i kept)
+  stays_told last (x ∷ xs) (o ∷ rs) (suc i) kept = ap (λ ys. as_told with_row x o ∷ ys) (stays_told last xs rs i kept)
 
   -- there is something at a place among the first
   there_in : (items : List (Option Row)) (count i : ℕ) (o : Option Row) → count ≤ length items → i < count → o ≡ get_or items i o → slice_get (take count items) i ≡ Some o
@@ -221,7 +221,7 @@ module _ {Item Row : Type 0} (with_row : Item → Row → Item) (row : Row) wher
   comes_to_be_kept last (y ∷ xs) (None ∷ rs) zero x before at none own =
       ap (λ z. z ∷ told xs rs) (last y row before ∙ subst (λ z. with_row z before ≡ z) (sym (same_Some y x (sym at))) own)
   comes_to_be_kept last (y ∷ xs) (Some r ∷ rs) zero x before at none own = absurd (cc)
-  comes_to_be_kept last (y ∷ xs) (o ∷ rs) (suc i) x before at none own = ap (λ ys. told_item with_row y o ∷ ys) (comes_to_be_kept last xs rs i x before at none own)
+  comes_to_be_kept last (y ∷ xs) (o ∷ rs) (suc i) x before at none own = ap (λ ys. as_told with_row y o ∷ ys) (comes_to_be_kept last xs rs i x before at none own)
 
   pub kept_now_in : ((x : Item) (q r : Row) → with_row (with_row x q) r ≡ with_row x r) → (xs : List Item) (items : List (Option Row)) (count i : ℕ) (x : Item) (before : Row) (o : Option Row)
       → Some x ≡ slice_get xs i → with_row x before ≡ x → count ≤ length items → i < count → o ≡ get_or items i o → is_some o ≡ false

@@ -26,9 +26,9 @@ use Rattle.tk_json.specs.Values.{value_read, members_read, rest}
 use Rattle.tk_json.proofs.Growing.{longer}
 use Rattle.tk_json.proofs.Steps.{object_read}
 use Rattle.tk_stream.proofs.Listing.{passed_unseen}
-use Rattle.tk_stream.specs.declared.reading.Numbers.{Numbers}
-use Rattle.tk_stream.specs.declared.reading.Version.{Version}
-use Rattle.tk_stream.specs.declared.reading.Version.TheVariants.{One, Two, Three}
+use Rattle.tk_stream.specs.declared.text.read_json.numbers.Numbers.{Numbers}
+use Rattle.tk_stream.specs.declared.text.read_json.numbers.Version.{Version}
+use Rattle.tk_stream.specs.declared.text.read_json.numbers.Version.TheVariants.{One, Two, Three}
 use Rattle.tk_stream.specs.Lines.{LineView, GoneView}
 use Rattle.tk_stream.specs.Times.{TaskTimes}
 use Rattle.tk_stream.specs.Reading.{◌>>=◌, number_of, values_of, list_of, each_of, id_of, number_at, flag_at, list_at, seq_at, dropped_in, has_members, op_of, resource_of, info_of, op_stats_of, counts_of, resource_stats_of, stats_of, times_of, GoneParts, gone_lists, ids_gone, SaidParts, SaidView, nothing_said, gone_said, both_said, said_at, said_of_parts, PartsView, parts_of, line_of}
@@ -212,7 +212,7 @@ line_from p = do
   task_stats ← each_of stats_of p.task_stats
   Some (record { dropped = p.dropped; gone = said.gone; new_ops = new_ops; new_resources = new_resources; new_tasks = new_tasks; now = p.now; op_stats = op_stats; poll_counts = poll_counts; resource_stats = resource_stats; seq = p.seq; snapshot = p.snapshot; task_stats = task_stats; task_times = said.times })
 
--- the same, each list at once, behind the numbers
+-- the same, each list at once, after the numbers
 abbrev line_last : Dropped → ℕ → ℕ → Bool → Option SaidView → (new_ops new_resources new_tasks op_stats poll_counts resource_stats task_stats : Option (List Data)) → Option LineView
 line_last dropped now seq snapshot said new_ops new_resources new_tasks op_stats poll_counts resource_stats task_stats = do
   said ← said

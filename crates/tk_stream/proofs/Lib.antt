@@ -12,7 +12,7 @@ pub mod Decoded
 pub mod LinesLemmas
 pub mod GoneLemmas
 pub mod AppliedLemmas
-pub mod Behind
+pub mod Pieces
 pub mod InfoTexts
 pub mod FrontLemmas
 pub mod RangeLemmas

@@ -45,16 +45,16 @@ module _ {Item : Type 0} (id_of : Item → ℕ) where
   abbrev pub IsFound : List Item → Item → Type 0
   IsFound items x = item_with id_of (id_of x) items ≡ Some x
 
-  found_behind : (x : Item) (us xs : List Item) → AllByRecursion (λ id. nat_eq (id_of x) id ≡ false) (map id_of us) → AllByRecursion (IsFound xs) us → AllByRecursion (IsFound (x ∷ xs)) us
-  found_behind x [] xs apart found = tt
-  found_behind x (u ∷ us) xs apart found =
-      (ap (λ b. cond b (Some x) (item_with id_of (id_of u) xs)) (differ (id_of x) (id_of u) apart.0) ∙ found.0, found_behind x us xs apart.1 found.1)
+  found_after : (x : Item) (us xs : List Item) → AllByRecursion (λ id. nat_eq (id_of x) id ≡ false) (map id_of us) → AllByRecursion (IsFound xs) us → AllByRecursion (IsFound (x ∷ xs)) us
+  found_after x [] xs apart found = tt
+  found_after x (u ∷ us) xs apart found =
+      (ap (λ b. cond b (Some x) (item_with id_of (id_of u) xs)) (differ (id_of x) (id_of u) apart.0) ∙ found.0, found_after x us xs apart.1 found.1)
 
   pub each_found : (xs : List Item) → IsDistinct nat_eq (map id_of xs) → AllByRecursion (IsFound xs) xs
   unfolding IsDistinct
   each_found [] distinct = tt
   each_found (x ∷ xs) distinct =
-      (ap (λ b. cond b (Some x) (item_with id_of (id_of x) xs)) (eq-eqb (id_of x) (id_of x) refl), found_behind x xs xs distinct.0 (each_found xs distinct.1))
+      (ap (λ b. cond b (Some x) (item_with id_of (id_of x) xs)) (eq-eqb (id_of x) (id_of x) refl), found_after x xs xs distinct.0 (each_found xs distinct.1))
 
   not_new : (xs : List Item) (x : Item) → IsFound xs x → is_new id_of xs x ≡ false
   not_new xs x found = ap is_none found

@@ -17,7 +17,7 @@ use Rattle.tk_stream.specs.Spelled.{listed}
 use Rattle.tk_stream.proofs.Lists.{with_front, regroup}
 
 module _ {A : Type 0} (shape : Data → Option A) where
-  -- what the items are that are left, behind those that were read
+  -- what the items are that are left, after those that were read
   abbrev pub left : List A → Items → Option (List A)
   left front ds = with_front front (each_of shape (values_of ds))
 
@@ -39,14 +39,14 @@ module _ {A : Type 0} (shape : Data → Option A) where
   without_first front d None s e passed = absurd (cc)
   without_first front d (Some p) s e passed = let last : p.1 ≡ s = cc in rw (e, last) refl
 
-  -- an item of another shape, behind which the rest was passed
+  -- an item of another shape, after which the rest was passed
   pub not_listed : (front : List A) (depth : ℕ) (ts r s : List Token) → after_end_array ts ≡ None → parse_map shape (value_read depth ts) ≡ Some (None, r) → rest (items_read depth r) ≡ Some s
       → parse_map (left front) (items_read depth ts) ≡ Some (None, s)
   not_listed front depth ts r s going e passed =
       let d = mapped_some shape (value_read depth ts) None r e in
       ap (parse_map (left front)) (item_read depth ts r d.0 going d.1) ∙ without_first front d.0 (items_read depth r) s (sym d.2) passed
 
-  -- an item behind which no array ends
+  -- an item after which no array ends
   pub not_ended : (depth : ℕ) (ts r : List Token) (o : Option A) → after_end_array ts ≡ None → parse_map shape (value_read depth ts) ≡ Some (o, r) → items_read depth r ≡ None → items_read depth ts ≡ None
   not_ended depth ts r o going e none =
       let d = mapped_some shape (value_read depth ts) o r e in
@@ -128,7 +128,7 @@ module _ {B : Type 0} (f : Data → Option B) where
     passed_unseen depth t all ts r is arrays objects passed =
         ap (λ x. parse_map f (value_read depth x)) is ∙ unseen_passed (value_read depth (token_of t ∷ ts)) r (unseen depth t ts arrays objects) passed
 
--- behind a value that is no array
+-- after a value that is no array
 pub other_passed : {A : Type 0} (shape : Data → Option A) (depth : ℕ) (t : tokens.Token) (all ts r : List Token) → all ≡ token_of t ∷ ts → (t ≡ BeginArray → ⊥) → rest (value_read depth (token_of t ∷ ts)) ≡ Some r
     → parse_map (listed shape) (value_read depth all) ≡ Some (None, r)
 other_passed shape depth t all ts r is other passed =

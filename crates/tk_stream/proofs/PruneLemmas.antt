@@ -4,11 +4,11 @@ use Rattle.std.specs.Prelude.{map, filter, not, is_none, option_map, IsSome}
 use Rattle.std.specs.List.{AllByRecursion, IsDistinct}
 use Rattle.std.proofs.lemmas.Bool.{eqb-true, eq-eqb}
 use Rattle.std.proofs.lemmas.Option.{same_Some}
-use Rattle.tk_stream.specs.declared.op.Op.{Op}
-use Rattle.tk_stream.specs.declared.resource.Resource.{Resource}
-use Rattle.tk_stream.specs.declared.task.Task.{Task}
+use Rattle.tk_stream.specs.declared.tables.op.Op.{Op}
+use Rattle.tk_stream.specs.declared.tables.resource.Resource.{Resource}
+use Rattle.tk_stream.specs.declared.tables.task.Task.{Task}
 use Rattle.tk_stream.specs.Applied.{Kind, task_kind, resource_kind, op_kind, counts_kind, BeginWith, GoOn, still_there, what_stays, without_gone}
-use Rattle.tk_stream.specs.Fronts.{ToldView, told_item, with_rows, task_at, resource_at, op_at, counts_at, told_tables, FitsIn}
+use Rattle.tk_stream.specs.Fronts.{ToldView, as_told, with_rows, task_at, resource_at, op_at, counts_at, told_tables, FitsIn}
 use Rattle.tk_stream.specs.Kept.{kept}
 use Rattle.tk_stream.specs.Lines.{GoneView, is_new, is_told, new_infos, told_stats, gone_ids, line_between, task_stats_of, resource_stats_of, op_stats_of, all_counts, have_same_row, have_same_resource_row, have_same_op_row, task_info, resource_info, op_info}
 use Rattle.tk_stream.specs.Retention.{due_of, prune, line_pruned, stats_without, told_without, is_due, task_closed, resource_closed, op_closed}
@@ -23,10 +23,10 @@ use Rattle.tk_stream.proofs.LinesLemmas.{differ, all_by, all_infos, all_stats}
 
 -- the item at a place, as it was told
 pub told_there : {Item Row : Type 0} (with_row : Item → Row → Item) (xs : List Item) (rs : List (Option Row)) (i : ℕ) (x : Item) → Some x ≡ slice_get xs i → i < length rs
-    → Some (told_item with_row x (get_or rs i None)) ≡ slice_get (with_rows (told_item with_row) xs rs) i
+    → Some (as_told with_row x (get_or rs i None)) ≡ slice_get (with_rows (as_told with_row) xs rs) i
 told_there with_row [] rs i x at lt = absurd (cc)
 told_there with_row (y ∷ xs) [] i x at lt = absurd (omega (arith, lt))
-told_there with_row (y ∷ xs) (o ∷ rs) zero x at lt = ap (λ z. Some (told_item with_row z o)) (sym (same_Some y x (sym at)))
+told_there with_row (y ∷ xs) (o ∷ rs) zero x at lt = ap (λ z. Some (as_told with_row z o)) (sym (same_Some y x (sym at)))
 told_there with_row (y ∷ xs) (o ∷ rs) (suc i) x at lt = told_there with_row xs rs i x at (omega (arith, lt))
 
 -- there is an item at a place of those that were told
@@ -258,7 +258,7 @@ module _ {Item Info Stats : Type 0} (k : Kind Item Info Stats) (stats_of : Item 
 
 -- an item is described as it was when it was told
 told_info : {Item Info Stats Row : Type 0} (k : Kind Item Info Stats) (with_row : Item → Row → Item) → ((x : Item) (r : Row) → k.info_of (with_row x r) ≡ k.info_of x)
-    → (x : Item) (o : Option Row) → k.info_of (told_item with_row x o) ≡ k.info_of x
+    → (x : Item) (o : Option Row) → k.info_of (as_told with_row x o) ≡ k.info_of x
 told_info k with_row same x None = refl
 told_info k with_row same x (Some r) = same x r
 
@@ -272,10 +272,10 @@ rows_begin k with_row same (x ∷ xs) (r ∷ rs) le = (same x r, rows_begin k wi
 -- tables go on from those that were told
 pub told_begin : (telling : ToldView) (shown : TablesView) → FitsIn telling shown → GoOn (told_tables telling shown) shown
 told_begin telling shown fits = record {
-  tasks = rows_begin task_kind (told_item task_at) (told_info task_kind task_at (λ x r. refl)) shown.tasks telling.tasks.rows fits.tasks;
-  resources = rows_begin resource_kind (told_item resource_at) (told_info resource_kind resource_at (λ x r. refl)) shown.resources telling.resources.rows fits.resources;
-  ops = rows_begin op_kind (told_item op_at) (told_info op_kind op_at (λ x r. refl)) shown.ops telling.ops.rows fits.ops;
-  counts = rows_begin counts_kind (told_item counts_at) (told_info counts_kind counts_at (λ x r. refl)) shown.counts telling.counts.rows fits.counts;
+  tasks = rows_begin task_kind (as_told task_at) (told_info task_kind task_at (λ x r. refl)) shown.tasks telling.tasks.rows fits.tasks;
+  resources = rows_begin resource_kind (as_told resource_at) (told_info resource_kind resource_at (λ x r. refl)) shown.resources telling.resources.rows fits.resources;
+  ops = rows_begin op_kind (as_told op_at) (told_info op_kind op_at (λ x r. refl)) shown.ops telling.ops.rows fits.ops;
+  counts = rows_begin counts_kind (as_told counts_at) (told_info counts_kind counts_at (λ x r. refl)) shown.counts telling.counts.rows fits.counts;
 }
 
 -- and no item stands twice in those

@@ -7,9 +7,9 @@ use Rattle.tk_stream.specs.Ranges.{IsTaskInfo, IsResourceInfo, IsOpInfo, AreTask
 use Rattle.tk_stream.specs.Rows.{same_counts}
 use Rattle.tk_stream.specs.Streams.{AreInRange}
 use Rattle.tk_stream.specs.Tables.{TablesView, task_id, resource_id, op_id, counts_id}
-use Rattle.tk_stream.specs.declared.op.Op.{Op}
-use Rattle.tk_stream.specs.declared.resource.Resource.{Resource}
-use Rattle.tk_stream.specs.declared.task.Task.{Task}
+use Rattle.tk_stream.specs.declared.tables.op.Op.{Op}
+use Rattle.tk_stream.specs.declared.tables.resource.Resource.{Resource}
+use Rattle.tk_stream.specs.declared.tables.task.Task.{Task}
 use Rattle.tk_stream.proofs.LinesLemmas.{all_infos, all_stats}
 
 all_map : {A B : Type 0} (f : A → B) (P : B → Type 0) (Q : A → Type 0) → ((x : A) → Q x → P (f x)) → (xs : List A) → AllByRecursion Q xs → AllByRecursion P (map f xs)

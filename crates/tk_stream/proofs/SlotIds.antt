@@ -30,7 +30,7 @@ no-first : {X : Type 0} (b : Bool) (x : X) (o : Option X) → cond b (Some x) o 
 no-first true x o none = absurd (cc)
 no-first false x o none = (refl, none)
 
--- a change of what stands behind the first is one of the whole
+-- a change of what stands after the first is one of the whole
 under : (b : Bool) (o : Option ℕ) → cond b None (option_map suc o) ≡ option_map suc (cond b None o)
 under true o = refl
 under false o = refl
@@ -157,7 +157,7 @@ module _ {Item : Type 0} (id_of : Item → ℕ) where
   pub held_within : (id : ℕ) (xs : Slotted) (s : ℕ) → slot_with id_of id xs ≡ Some s → s < length xs
   held_within id xs s is = let h = held id xs s is in within xs s h.0 h.1
 
-  -- ---- one more slot behind the others
+  -- ---- one more slot after the others
 
   either-slot : (q : ℕ) (x : Item) (n : ℕ) (o : Option ℕ) → Option ℕ
   either-slot q x n (Some s) = Some s
@@ -173,11 +173,11 @@ module _ {Item : Type 0} (id_of : Item → ℕ) where
       none false = refl
 
   -- where it is found then: where it was, or in the last one
-  behind : (q : ℕ) (x : Item) (xs : Slotted) → slot_with id_of q (xs ++ Some x ∷ []) ≡ either-slot q x (length xs) (slot_with id_of q xs)
+  one_before : (q : ℕ) (x : Item) (xs : Slotted) → slot_with id_of q (xs ++ Some x ∷ []) ≡ either-slot q x (length xs) (slot_with id_of q xs)
   unfolding either-slot
-  behind q x [] = refl
-  behind q x (None ∷ xs) = ap (option_map suc) (behind q x xs) ∙ later-either q x (length xs) (slot_with id_of q xs)
-  behind q x (Some y ∷ xs) = by (nat_eq q (id_of y)) (ap (option_map suc) (behind q x xs) ∙ later-either q x (length xs) (slot_with id_of q xs))
+  one_before q x [] = refl
+  one_before q x (None ∷ xs) = ap (option_map suc) (one_before q x xs) ∙ later-either q x (length xs) (slot_with id_of q xs)
+  one_before q x (Some y ∷ xs) = by (nat_eq q (id_of y)) (ap (option_map suc) (one_before q x xs) ∙ later-either q x (length xs) (slot_with id_of q xs))
     where
       by : (b : Bool) → option_map suc (slot_with id_of q (xs ++ Some x ∷ [])) ≡ either-slot q x (suc (length xs)) (option_map suc (slot_with id_of q xs))
           → cond b (Some zero) (option_map suc (slot_with id_of q (xs ++ Some x ∷ []))) ≡ either-slot q x (suc (length xs)) (cond b (Some zero) (option_map suc (slot_with id_of q xs)))
@@ -187,7 +187,7 @@ module _ {Item : Type 0} (id_of : Item → ℕ) where
   -- an item that is new
   pub pushed : (x : Item) (xs : Slotted) → slot_with id_of (id_of x) xs ≡ None → (q : ℕ) → cond (nat_eq (id_of x) q) (Some (length xs)) (slot_with id_of q xs) ≡ slot_with id_of q (xs ++ Some x ∷ [])
   unfolding either-slot
-  pushed x xs none q = by (nat_eq (id_of x) q) refl ∙ sym (behind q x xs)
+  pushed x xs none q = by (nat_eq (id_of x) q) refl ∙ sym (one_before q x xs)
     where
       other : (o : Option ℕ) → nat_eq q (id_of x) ≡ false → o ≡ either-slot q x (length xs) o
       other (Some s) e = refl
@@ -203,7 +203,7 @@ module _ {Item : Type 0} (id_of : Item → ℕ) where
   -- the last slot goes, with its item
   pub popped : (x : Item) (xs : Slotted) → IsDistinct nat_eq (map id_of (items_in xs ++ x ∷ [])) → (q : ℕ) → cond (nat_eq (id_of x) q) None (slot_with id_of q (xs ++ Some x ∷ [])) ≡ slot_with id_of q xs
   unfolding either-slot
-  popped x xs distinct q = ap (cond (nat_eq (id_of x) q) None) (behind q x xs) ∙ by (nat_eq (id_of x) q) refl
+  popped x xs distinct q = ap (cond (nat_eq (id_of x) q) None) (one_before q x xs) ∙ by (nat_eq (id_of x) q) refl
     where
       other : (o : Option ℕ) → nat_eq q (id_of x) ≡ false → either-slot q x (length xs) o ≡ o
       other (Some s) e = refl
@@ -397,7 +397,7 @@ module _ {Item : Type 0} (id_of : Item → ℕ) where
   noted_next old new i x slot_of more there distinct is noted q =
       is q ∙ ap (cond (nat_eq (id_of x) q) (Some i)) (noted q) ∙ by (nat_eq (id_of x) q) refl
       ∙ ap (λ n. or-else (either-slot q x n (slot_with id_of q (take i new))) (slot_with id_of q old)) (sym (length-taken new i lt))
-      ∙ ap (λ o. or-else o (slot_with id_of q old)) (sym (behind q x (take i new)) ∙ ap (slot_with id_of q) (sym (taken-next new i (Some x) lt there)))
+      ∙ ap (λ o. or-else o (slot_with id_of q old)) (sym (one_before q x (take i new)) ∙ ap (slot_with id_of q) (sym (taken-next new i (Some x) lt there)))
     where
       lt : i < length new
       lt = within new i x there

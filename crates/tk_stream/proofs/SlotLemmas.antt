@@ -8,7 +8,7 @@ use Rattle.tk_stream.specs.Tables.{changed_at}
 -- ---- the list of the empty slots
 
 module _ {Item : Type 0} where
-  -- the first is no lower than the number of the first slot, and each is behind the one before it
+  -- the first is no lower than the number of the first slot, and each is above the one before it
   low : (k : ℕ) (xs : List (Option Item)) (j : ℕ) → j < length (empty_from k xs) → k + j ≤ get_or (empty_from k xs) j 0
   low k [] j lt = absurd (omega arith)
   low k (None ∷ xs) zero lt = omega arith
@@ -34,7 +34,7 @@ skip : (k : ℕ) (es : List ℕ) (t n : ℕ) → Stands (k ∷ es) t (suc n) →
 skip k es t n stands = record {
   within = let l : suc n ≤ suc (length es) = stands.within in omega arith;
   before = λ j lt. stands.before (suc j) (omega arith);
-  behind = λ j le lt. stands.behind (suc j) (omega arith) (omega arith);
+  after = λ j le lt. stands.after (suc j) (omega arith) (omega arith);
 }
 
 -- ---- from a place to its slot: so many empty ones stand before it
@@ -43,7 +43,7 @@ module _ {Item : Type 0} where
   module _ (k : ℕ) (xs : List (Option Item)) (n t : ℕ) where
     -- the first slot is empty, so one at least stands before any other
     none-first : (s : ℕ) → t ≡ k + s → Stands (k ∷ empty_from (suc k) xs) t zero → ⊥
-    none-first s at stands = let l : t < k = stands.behind 0 (omega arith) (omega arith) in omega arith
+    none-first s at stands = let l : t < k = stands.after 0 (omega arith) (omega arith) in omega arith
 
     -- no more stand before a slot than there are slots before it
     few-first : (s : ℕ) → t ≡ k + suc s → n ≡ suc s → Stands (empty_from (suc k) xs) t n → ⊥
@@ -110,7 +110,7 @@ module _ {Item : Type 0} where
   empty_taken k (Some x ∷ xs) n zero t at stands = rw (first-none k xs n t (empty_from (suc k) xs) at (low k (Some x ∷ xs)) stands) refl
   empty_taken k (Some x ∷ xs) n (suc s) t at stands = empty_taken (suc k) xs n s t (omega arith) stands
 
-  -- a slot that is emptied is listed between those before it and those behind it
+  -- a slot that is emptied is listed between those before it and those after it
   pub empty_more : (k : ℕ) (xs : List (Option Item)) (x : Item) (n s t : ℕ) → item_at xs s ≡ Some x → t ≡ k + s → Stands (empty_from k xs) t n
       → insert (empty_from k xs) n t ≡ empty_from k (slice_set xs s None)
   empty_more k [] x n s t there at stands = absurd (cc)
@@ -149,7 +149,7 @@ module _ {Item : Type 0} where
   -- where the slot holds an item, none of those from a number on that are no lower is the slot itself
   pub stands_at : (xs : List (Option Item)) (es : List ℕ) (s n : ℕ) → es ≡ empty_from 0 xs → IsSome (item_at xs s) → n ≤ length es → ((j : ℕ) → j < n → get_or es j 0 < s)
       → ((j : ℕ) → n ≤ j → j < length es → s ≤ get_or es j 0) → Stands es s n
-  stands_at xs es s n listed there inside before behind = by (item_at xs s) refl there
+  stands_at xs es s n listed there inside before after = by (item_at xs s) refl there
     where
       above : (e : ℕ) → s ≤ e → (e ≡ s → ⊥) → s < e
       above e le other = omega arith
@@ -159,7 +159,7 @@ module _ {Item : Type 0} where
       by (Some x) e h = record {
         within = inside;
         before = before;
-        behind = λ j le lt. above (get_or es j 0) (behind j le lt)
+        after = λ j le lt. above (get_or es j 0) (after j le lt)
             (λ same. not_empty 0 xs x s e j (subst (λ fs. j < length fs) listed lt) (ap (λ fs. get_or fs j 0) (sym listed) ∙ same ∙ (let z : s ≡ 0 + s = omega arith in z)));
       }
 

@@ -56,11 +56,11 @@ ended None d e = absurd (cc)
 ended (Some (j, [])) d e = (value_by j [] [] d (of_json j) refl e).0
 ended (Some (j, t ∷ r)) d e = let never = (value_by j (t ∷ r) [] d (of_json j) refl e).1 in absurd (cc)
 
-more_behind : (o : Option (json.Json × List Token)) (d : Data) (t : Token) (r : List Token) → converted of_json o ≡ Some (d, t ∷ r) → whole o ≡ None
+more_after : (o : Option (json.Json × List Token)) (d : Data) (t : Token) (r : List Token) → converted of_json o ≡ Some (d, t ∷ r) → whole o ≡ None
 unfolding whole
-more_behind None d t r e = absurd (cc)
-more_behind (Some (j, [])) d t r e = let never = (value_by j [] (t ∷ r) d (of_json j) refl e).1 in absurd (cc)
-more_behind (Some (j, s ∷ ts)) d t r e = refl
+more_after None d t r e = absurd (cc)
+more_after (Some (j, [])) d t r e = let never = (value_by j [] (t ∷ r) d (of_json j) refl e).1 in absurd (cc)
+more_after (Some (j, s ∷ ts)) d t r e = refl
 
 none_read : (o : Option (json.Json × List Token)) → converted of_json o ≡ None → whole o ≡ None
 unfolding whole
@@ -75,12 +75,12 @@ line_read bytes line utf8 e =
     let d = mapped_some line_of (value_read 127 (tokens bytes)) line [] e in
     ap (λ r. r then λ x. shaped (line_of x)) (json_read bytes d.0 utf8 (ended (value 127 (tokens bytes)) d.0 d.1)) ∙ ap shaped (sym d.2)
 
--- a text with more behind its value
+-- a text with more after its value
 pub more_read : (bytes : List ℕ) (line : Option LineView) (t : Token) (r : List Token) → parse_map line_of (value_read 127 (tokens bytes)) ≡ Some (line, t ∷ r) → line_of_text bytes ≡ Err BadJson
 unfolding whole
 more_read bytes line t r e =
     let d = mapped_some line_of (value_read 127 (tokens bytes)) line (t ∷ r) e in
-    ap (λ x. x then λ y. shaped (line_of y)) (json_refused bytes (λ utf8. more_behind (value 127 (tokens bytes)) d.0 t r d.1))
+    ap (λ x. x then λ y. shaped (line_of y)) (json_refused bytes (λ utf8. more_after (value 127 (tokens bytes)) d.0 t r d.1))
 
 -- a text that begins with no value
 pub value_refused : (bytes : List ℕ) → value_read 127 (tokens bytes) ≡ None → line_of_text bytes ≡ Err BadJson

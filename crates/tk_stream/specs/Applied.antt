@@ -7,9 +7,9 @@ use Rattle.tk_core.specs.declared.task.row.TaskRow.{TaskRow}
 use Rattle.tk_ids.specs.declared.info.OpInfo.{OpInfo}
 use Rattle.tk_ids.specs.declared.info.ResourceInfo.{ResourceInfo}
 use Rattle.tk_ids.specs.declared.info.TaskInfo.{TaskInfo}
-use Rattle.tk_stream.specs.declared.op.Op.{Op}
-use Rattle.tk_stream.specs.declared.resource.Resource.{Resource}
-use Rattle.tk_stream.specs.declared.task.Task.{Task}
+use Rattle.tk_stream.specs.declared.tables.op.Op.{Op}
+use Rattle.tk_stream.specs.declared.tables.resource.Resource.{Resource}
+use Rattle.tk_stream.specs.declared.tables.task.Task.{Task}
 use Rattle.tk_stream.specs.Tables.{TablesView, PollCounts, task_id, resource_id, op_id, counts_id, item_with, staying}
 use Rattle.tk_stream.specs.Times.{TaskTimes, times_id}
 use Rattle.tk_stream.specs.Lines.{LineView, GoneView, gone_of, times_of, is_new, task_info, resource_info, op_info}
@@ -86,15 +86,15 @@ new_items k stats [] = Some []
 new_items k stats (info ∷ infos) =
     option_and_then (λ item. option_map (λ items. item ∷ items) (new_items k stats infos)) (new_item k stats info)
 
--- items that are there with what is told of them, and behind them the new ones in the line's order
+-- items that are there with what is told of them, and after them the new ones in the line's order
 abbrev pub items_told : {Item Info Stats : Type 0} → Kind Item Info Stats → List Item → List Info → List Stats → Option (List Item)
 items_told k there infos stats = option_map (λ items. map (told_item k stats) there ++ items) (new_items k stats infos)
 
--- items after a line: those that were there and are not gone, and behind them the new ones
+-- items after a line: those that were there and are not gone, and after them the new ones
 abbrev pub items_after : {Item Info Stats : Type 0} → Kind Item Info Stats → List Item → List ℕ → List Info → List Stats → Option (List Item)
 items_after k old gone infos stats = items_told k (staying k.id_of gone old) infos stats
 
--- poll counts after a line: those that were there, and behind them the new ones in the line's order
+-- poll counts after a line: those that were there, and after them the new ones in the line's order
 abbrev pub counts_after : List PollCounts → List PollCounts → List PollCounts
 counts_after old told = map (told_item counts_kind told) old ++ filter (is_new counts_id old) told
 

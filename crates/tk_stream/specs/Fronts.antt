@@ -6,9 +6,9 @@ use Rattle.tk_ids.specs.declared.info.Dropped.{Dropped}
 use Rattle.tk_core.specs.declared.op.row.OpRow.{OpRow}
 use Rattle.tk_core.specs.declared.resource.row.ResourceRow.{ResourceRow}
 use Rattle.tk_core.specs.declared.task.row.TaskRow.{TaskRow}
-use Rattle.tk_stream.specs.declared.op.Op.{Op}
-use Rattle.tk_stream.specs.declared.resource.Resource.{Resource}
-use Rattle.tk_stream.specs.declared.task.Task.{Task}
+use Rattle.tk_stream.specs.declared.tables.op.Op.{Op}
+use Rattle.tk_stream.specs.declared.tables.resource.Resource.{Resource}
+use Rattle.tk_stream.specs.declared.tables.task.Task.{Task}
 use Rattle.tk_stream.specs.Tables.{TablesView, PollCounts}
 use Rattle.tk_stream.specs.Kept.{kept}
 
@@ -22,9 +22,9 @@ abbrev pub no_telling : {Row : Type 0} → Telling Row
 no_telling = record { rows = []; room = 0 }
 
 -- an item as it was told: with the row of then, where it is another now
-abbrev pub told_item : {Item Row : Type 0} → (Item → Row → Item) → Item → Option Row → Item
-told_item with_row x (Some row) = with_row x row
-told_item with_row x None = x
+abbrev pub as_told : {Item Row : Type 0} → (Item → Row → Item) → Item → Option Row → Item
+as_told with_row x (Some row) = with_row x row
+as_told with_row x None = x
 
 -- items with these rows, as far as there are rows
 abbrev pub with_rows : {Item Row : Type 0} → (Item → Row → Item) → List Item → List Row → List Item
@@ -73,10 +73,10 @@ counts_at c row = (c.0, row.0, row.1)
 -- the tables that were told: the first items of these tables, as they were told. The moment is theirs
 abbrev pub told_tables : ToldView → TablesView → TablesView
 told_tables told tables = record {
-  tasks = with_rows (told_item task_at) tables.tasks told.tasks.rows;
-  resources = with_rows (told_item resource_at) tables.resources told.resources.rows;
-  ops = with_rows (told_item op_at) tables.ops told.ops.rows;
-  counts = with_rows (told_item counts_at) tables.counts told.counts.rows;
+  tasks = with_rows (as_told task_at) tables.tasks told.tasks.rows;
+  resources = with_rows (as_told resource_at) tables.resources told.resources.rows;
+  ops = with_rows (as_told op_at) tables.ops told.ops.rows;
+  counts = with_rows (as_told counts_at) tables.counts told.counts.rows;
   dropped = told.dropped;
   now = tables.now;
 }

@@ -22,7 +22,7 @@ pub mod Errors
 pub mod Entries
 pub mod Slots
 pub mod Kept
-pub mod Behind
+pub mod Pieces
 pub mod Spelled
 pub mod SmallShapes
 -- Where an item stands in its list

@@ -8,9 +8,9 @@ use Rattle.tk_ids.specs.declared.info.Dropped.{Dropped}
 use Rattle.tk_ids.specs.declared.info.OpInfo.{OpInfo}
 use Rattle.tk_ids.specs.declared.info.ResourceInfo.{ResourceInfo}
 use Rattle.tk_ids.specs.declared.info.TaskInfo.{TaskInfo}
-use Rattle.tk_stream.specs.declared.op.Op.{Op}
-use Rattle.tk_stream.specs.declared.resource.Resource.{Resource}
-use Rattle.tk_stream.specs.declared.task.Task.{Task}
+use Rattle.tk_stream.specs.declared.tables.op.Op.{Op}
+use Rattle.tk_stream.specs.declared.tables.resource.Resource.{Resource}
+use Rattle.tk_stream.specs.declared.tables.task.Task.{Task}
 use Rattle.tk_stream.specs.Rows.{same_row, same_resource_row, same_op_row, same_counts}
 use Rattle.tk_stream.specs.Times.{TaskTimes, times_id, same_times, all_times}
 use Rattle.tk_stream.specs.Tables.{TablesView, PollCounts, empty_tables, task_id, resource_id, op_id, counts_id, item_with}

@@ -1,9 +1,9 @@
 -- Which items leave at a moment, and the line that says so.
 use Rattle.std.specs.Prelude.{ℕ, ◌-◌, List, map, filter, Bool, false, not, nat_le, Option, Some}
 use Rattle.std.specs.Option.{option_map_or}
-use Rattle.tk_stream.specs.declared.op.Op.{Op}
-use Rattle.tk_stream.specs.declared.resource.Resource.{Resource}
-use Rattle.tk_stream.specs.declared.task.Task.{Task}
+use Rattle.tk_stream.specs.declared.tables.op.Op.{Op}
+use Rattle.tk_stream.specs.declared.tables.resource.Resource.{Resource}
+use Rattle.tk_stream.specs.declared.tables.task.Task.{Task}
 use Rattle.tk_stream.specs.Applied.{without_gone}
 use Rattle.tk_stream.specs.Lines.{LineView, GoneView, line_between, gone_between, with_gone}
 use Rattle.tk_stream.specs.Times.{TaskTimes, times_id}

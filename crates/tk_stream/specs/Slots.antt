@@ -25,12 +25,12 @@ empty_from k [] = []
 empty_from k (None ∷ slots) = k ∷ empty_from (suc k) slots
 empty_from k (Some item ∷ slots) = empty_from (suc k) slots
 
--- each is behind the one before it
+-- each is above the one before it
 abbrev pub AreRising : List ℕ → Type 0
 AreRising empty = (i j : ℕ) → i ≤ j → j < length empty → slice_index empty i + j ≤ slice_index empty j + i
 
--- so many of the empty slots stand before this slot, and the others behind it
+-- so many of the empty slots stand before this slot, and the others after it
 pub record Stands (empty : List ℕ) (slot count : ℕ) : Type 0 where
   pub within : count ≤ length empty
   pub before : (j : ℕ) → j < count → slice_index empty j < slot
-  pub behind : (j : ℕ) → count ≤ j → j < length empty → slot < slice_index empty j
+  pub after : (j : ℕ) → count ≤ j → j < length empty → slot < slice_index empty j

@@ -10,9 +10,9 @@ use Rattle.tk_ids.specs.declared.info.OpInfo.{OpInfo}
 use Rattle.tk_ids.specs.declared.info.ResourceInfo.{ResourceInfo}
 use Rattle.tk_ids.specs.declared.info.TaskInfo.{TaskInfo}
 use Rattle.tk_json.specs.Small.{small}
-use Rattle.tk_stream.specs.declared.reading.Numbers.{Numbers}
-use Rattle.tk_stream.specs.declared.reading.Version.{Version}
-use Rattle.tk_stream.specs.declared.reading.Version.TheVariants.{One, Two, Three}
+use Rattle.tk_stream.specs.declared.text.read_json.numbers.Numbers.{Numbers}
+use Rattle.tk_stream.specs.declared.text.read_json.numbers.Version.{Version}
+use Rattle.tk_stream.specs.declared.text.read_json.numbers.Version.TheVariants.{One, Two, Three}
 use Rattle.tk_stream.specs.Lines.{LineView, GoneView}
 use Rattle.tk_stream.specs.Reading.{◌>>=◌, list_of, each_of, id_of, op_of, resource_of, info_of, op_stats_of, counts_of, resource_stats_of, stats_of, times_of, SaidView, number_at, flag_at, seq_at, list_at, dropped_in, has_members}
 use Rattle.tk_stream.specs.Tables.{PollCounts}

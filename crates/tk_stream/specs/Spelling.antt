@@ -225,10 +225,10 @@ abbrev pub times_fields : Option (List TaskTimes) → List (List ℕ × Data)
 times_fields None = []
 times_fields (Some times) = (codes "task_times", list_data times_data times) ∷ []
 
--- the text of members that stand behind others
-abbrev pub behind_text : List (List ℕ × Data) → List ℕ
-behind_text [] = []
-behind_text (field ∷ fields) = 44 ∷ (quoted field.0 ++ 58 ∷ (compact_text field.1 ++ behind_text fields))
+-- the text of members that stand after others
+abbrev pub text_after : List (List ℕ × Data) → List ℕ
+text_after [] = []
+text_after (field ∷ fields) = 44 ∷ (quoted field.0 ++ 58 ∷ (compact_text field.1 ++ text_after fields))
 
 -- the members that a line of each version has, between its first and its last
 abbrev pub members_between : LineView → List (List ℕ × Data)

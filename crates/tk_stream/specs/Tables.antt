@@ -10,9 +10,9 @@ use Rattle.tk_ids.specs.declared.info.Dropped.{Dropped}
 use Rattle.tk_ids.specs.declared.info.TaskInfo.{TaskInfo}
 use Rattle.tk_ids.specs.declared.info.ResourceInfo.{ResourceInfo}
 use Rattle.tk_ids.specs.declared.info.OpInfo.{OpInfo}
-use Rattle.tk_stream.specs.declared.task.Task.{Task}
-use Rattle.tk_stream.specs.declared.resource.Resource.{Resource}
-use Rattle.tk_stream.specs.declared.op.Op.{Op}
+use Rattle.tk_stream.specs.declared.tables.task.Task.{Task}
+use Rattle.tk_stream.specs.declared.tables.resource.Resource.{Resource}
+use Rattle.tk_stream.specs.declared.tables.op.Op.{Op}
 
 -- how many poll operations of a resource were ready, and how many pending: (resource, ready, pending)
 abbrev pub PollCounts : Type 0

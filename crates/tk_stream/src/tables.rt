@@ -4,12 +4,23 @@
 //! what each call makes of them.
 ghost use Rattle.std.specs.Prelude.{◌≡◌, ◌<◌, length, slice_get, None, IfOk, OnOk, OnErr, IfErr, IsOk, IsSome, option_map};
 
-use crate::leaving::Leaving;
-use crate::op::Op;
-use crate::ranged::{see_number, see_totals};
-use crate::resource::Resource;
-use crate::table::Table;
-use crate::task::Task;
+pub(crate) mod counts;
+pub(crate) mod item;
+pub(crate) mod op;
+pub(crate) mod ranged;
+pub(crate) mod resource;
+pub(crate) mod rows;
+pub(crate) mod slots;
+pub(crate) mod table;
+pub(crate) mod task;
+pub(crate) mod times;
+
+use crate::line::leaving::Leaving;
+use crate::tables::op::Op;
+use crate::tables::ranged::{see_number, see_totals};
+use crate::tables::resource::Resource;
+use crate::tables::table::Table;
+use crate::tables::task::Task;
 use indexmap::IndexSet;
 use std::alloc::{AllocError, Global};
 use std::marker::Model;

@@ -1,7 +1,10 @@
 //! What lines tell of the items of tables.
 ghost use Rattle.std.specs.Prelude.{◌≡◌, ℕ, Bool, true, IfOk, Option};
 
-use crate::item::Item;
+pub(crate) mod rows;
+pub(crate) mod tables;
+
+use crate::tables::item::Item;
 use std::alloc::AllocError;
 
 /// An item of which a line tells what changes.
@@ -16,7 +19,7 @@ pub trait Told: Item {
     fn is_same(&self, other: &Self) -> bool
         ensures { result ≡ same self.now other.now };
 
-    /// The same, beside itself with this row: that is its own then.
+    /// Whether it is the same as itself with this row: that is its own then.
     fn has_row(&self, row: &Self::Row) -> bool
         ensures same { result ≡ same (Self.Item.with_row self.now row.now) self.now }
         ensures own { result ≡ true → Self.Item.with_row self.now row.now ≡ self.now };

@@ -7,7 +7,7 @@ use Rattle.tk_client.specs.declared.fault.Fault.{Fault}
 use Rattle.tk_client.specs.declared.fault.Fault.TheVariants as client
 use Rattle.tk_client.specs.declared.fault.FeedError.{FeedError}
 use Rattle.tk_client.specs.Feeding.{ClientView, Stopped, StoppedBy}
-use Rattle.tk_client.specs.Meaning.{after, empty_start, meaning, stops}
+use Rattle.tk_client.specs.Meaning.{after, empty_start, greatest_line, meaning, stops}
 use Rattle.tk_client.proofs.Pieces.{meaning-append, stops-append}
 use Rattle.tk_fault.specs.declared.fault.AppFault.{AppFault}
 use Rattle.tk_fault.specs.declared.fault.AppFault.TheVariants as faults
@@ -29,10 +29,10 @@ module _ (front piece : List ℕ) (lines : ℕ) (old new : ClientView) (e : Feed
   stops_there fault o =
       let part = take e.used piece in
       let there : outcome_of (front ++ part) ≡ stops new.start.tables (lines + e.lines) fault (length front + e.used) =
-      meaning-append 268435456 empty_start old.start front part lines h.took.came
+      meaning-append greatest_line empty_start old.start front part lines h.took.came
       ∙ ap (after lines (length front)) (ap (λ k. meaning k old.start part) (sym h.limit) ∙ o) in
       ap outcome_of (ap (λ xs. front ++ xs) (sym (take-append-drop e.used piece)) ∙ sym (append_assoc front part (drop e.used piece)))
-      ∙ stops-append 268435456 empty_start (front ++ part) (drop e.used piece) new.start.tables (lines + e.lines) (length front + e.used) fault there
+      ∙ stops-append greatest_line empty_start (front ++ part) (drop e.used piece) new.start.tables (lines + e.lines) (length front + e.used) fault there
 
   stops_by : (fault : Fault) → StoppedBy fault (meaning old.max_line old.start (take e.used piece)) e new → TakesTo (front ++ piece) (Err (stop_of (lines + e.lines) fault)) new
   stops_by client.Memory by = tt

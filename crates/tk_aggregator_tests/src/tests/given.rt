@@ -144,7 +144,7 @@ pub(super) fn on_new<F: FnOnce(&mut Aggregator) -> bool>(
     on_made(Aggregator::new(alloc, after), check)
 }
 
-// The same of one whose closed items stay so long.
+// Whether a check holds of a new aggregator whose closed items stay so long.
 pub(super) fn on_retaining<F: FnOnce(&mut Aggregator) -> bool>(
     alloc: Global,
     retention: u64,

@@ -16,7 +16,7 @@ fn refuses(alloc: Global, aggregator: &mut Aggregator, now: u64, why: StreamErro
     aggregator.publish(now, &mut written) == Err(why) && written.is_empty()
 }
 
-// The same of a snapshot.
+// Whether a snapshot at this moment is refused so, and nothing is written.
 fn refuses_all(alloc: Global, aggregator: &mut Aggregator, now: u64, why: StreamError) -> bool {
     let mut written = Vec::new(alloc);
     aggregator.snapshot(now, &mut written) == Err(why) && written.is_empty()

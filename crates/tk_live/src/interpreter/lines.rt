@@ -130,7 +130,7 @@ impl Interpreter {
     ghost use Rattle.tk_script.specs.Commands as said;
     ghost use Rattle.tk_live.specs.Course.{step};
     ghost use Rattle.tk_live.specs.Read.{MayRead, AreItemsRead};
-    ghost use Rattle.tk_live.specs.Runs.{Comes, Stands};
+    ghost use Rattle.tk_live.specs.Runs.{CommandSpec, RepresentsSome};
 
     // Reads each item beside the hand that makes its calls, and then the histograms.
     fn read_items<R: Wait>(&mut self, rt: &R)
@@ -152,8 +152,8 @@ impl Interpreter {
         whole: bool,
         writer: &mut W,
     ) -> Result<(), Stop>
-        requires { Stands self.old }
-        ensures { (line : ℕ) → Comes step line (said.publish moment whole) self.old self.new result
+        requires { RepresentsSome self.old }
+        ensures { (line : ℕ) → CommandSpec step line (said.publish moment whole) self.old self.new result
             (W.contents writer.old) (W.contents writer.new) }
     {
         if let Err(_) = collect(

@@ -63,7 +63,7 @@ impl Interpreter {
     ghost use Rattle.std.specs.Prelude.{◌≡◌, ℕ, true};
     ghost use Rattle.tk_ids.specs.Names.{is_name};
     ghost use Rattle.tk_script.specs.Commands as said;
-    ghost use Rattle.tk_live.specs.Runs.{Does};
+    ghost use Rattle.tk_live.specs.Runs.{SilentSpec};
 
     // An operation on a resource.
     pub(super) fn make_op<R: Wait>(
@@ -76,7 +76,7 @@ impl Interpreter {
         attrs: Attrs,
     ) -> Result<(), Stop>
         requires named { is_name source.now ≡ true }
-        ensures { (line : ℕ) → Does line (said.op created resource source.now attrs) self.old self.new result }
+        ensures { (line : ℕ) → SilentSpec line (said.op created resource source.now attrs) self.old self.new result }
     {
         if !is_made(&self.resources, resource) {
             return Err(Stop::NoSuchItem);
@@ -99,7 +99,7 @@ impl Interpreter {
 
     // From now on a task polls an operation.
     pub(super) fn set_task<R: Wait>(&mut self, rt: &R, op: u64, task: u64) -> Result<(), Stop>
-        ensures { (line : ℕ) → Does line (said.op_task op task) self.old self.new result }
+        ensures { (line : ℕ) → SilentSpec line (said.op_task op task) self.old self.new result }
     {
         if !is_made(&self.tasks, task) {
             return Err(Stop::NoSuchItem);
@@ -115,7 +115,7 @@ impl Interpreter {
 
     // A poll of an operation starts.
     pub(super) fn start_op<R: Wait>(&mut self, rt: &R, op: u64, moment: u64) -> Result<(), Stop>
-        ensures { (line : ℕ) → Does line (said.start_op op moment) self.old self.new result }
+        ensures { (line : ℕ) → SilentSpec line (said.start_op op moment) self.old self.new result }
     {
         match open_op(&self.ops, op) {
             Some(place) => self.ops[place].start(rt, moment),
@@ -125,7 +125,7 @@ impl Interpreter {
 
     // It ends.
     pub(super) fn end_op<R: Wait>(&mut self, rt: &R, op: u64, moment: u64) -> Result<(), Stop>
-        ensures { (line : ℕ) → Does line (said.finish_op op moment) self.old self.new result }
+        ensures { (line : ℕ) → SilentSpec line (said.finish_op op moment) self.old self.new result }
     {
         match open_op(&self.ops, op) {
             Some(place) => self.ops[place].end(rt, moment),
@@ -135,7 +135,7 @@ impl Interpreter {
 
     // An operation is closed.
     pub(super) fn close_op<R: Wait>(&mut self, rt: &R, op: u64, moment: u64) -> Result<(), Stop>
-        ensures { (line : ℕ) → Does line (said.close_op op moment) self.old self.new result }
+        ensures { (line : ℕ) → SilentSpec line (said.close_op op moment) self.old self.new result }
     {
         match open_op(&self.ops, op) {
             Some(place) => self.ops[place].close(rt, moment),
@@ -151,7 +151,7 @@ impl Interpreter {
         index: u64,
         op: AttrOp,
     ) -> Result<(), Stop>
-        ensures { (line : ℕ) → Does line (said.change_op number index op) self.old self.new result }
+        ensures { (line : ℕ) → SilentSpec line (said.change_op number index op) self.old self.new result }
     {
         match open_op(&self.ops, number) {
             Some(place) => self.ops[place].change(rt, index, op),

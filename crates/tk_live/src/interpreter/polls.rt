@@ -42,7 +42,7 @@ impl Interpreter {
     ghost use Rattle.std.specs.Prelude.{◌≡◌, ℕ, true};
     ghost use Rattle.tk_ids.specs.Names.{is_name};
     ghost use Rattle.tk_script.specs.Commands as said;
-    ghost use Rattle.tk_live.specs.Runs.{Does};
+    ghost use Rattle.tk_live.specs.Runs.{SilentSpec};
 
     // A poll operation on a resource, by an operation and a task.
     pub(super) fn poll_op<R: Wait>(
@@ -56,7 +56,7 @@ impl Interpreter {
         ready: bool,
     ) -> Result<(), Stop>
         requires named { is_name name.now ≡ true }
-        ensures { (line : ℕ) → Does line (said.poll_op resource op task name.now ready) self.old self.new result }
+        ensures { (line : ℕ) → SilentSpec line (said.poll_op resource op task name.now ready) self.old self.new result }
     {
         if !is_made(&self.resources, resource)
             || !is_made(&self.ops, op)

@@ -71,7 +71,7 @@ impl Interpreter {
     ghost use Rattle.std.specs.Prelude.{◌≡◌, ℕ, true};
     ghost use Rattle.tk_ids.specs.Names.{is_name};
     ghost use Rattle.tk_script.specs.Commands as said;
-    ghost use Rattle.tk_live.specs.Runs.{Does, Stands};
+    ghost use Rattle.tk_live.specs.Runs.{SilentSpec, RepresentsSome};
 
     // A resource and a user of it, on a line of this number.
     pub(super) fn make_resource<R: Wait>(
@@ -85,7 +85,7 @@ impl Interpreter {
         attrs: Attrs,
     ) -> Result<(), Stop>
         requires named { (is_name kind.now ≡ true) × (is_name concrete.now ≡ true) }
-        ensures { Does line (said.resource created kind.now concrete.now attrs) self.old self.new result }
+        ensures { SilentSpec line (said.resource created kind.now concrete.now attrs) self.old self.new result }
     {
         let Ok(spec) = spec_of(alloc, line, kind, concrete, attrs) else {
             return Err(Stop::Memory);
@@ -111,7 +111,7 @@ impl Interpreter {
         resource: u64,
         moment: u64,
     ) -> Result<(), Stop>
-        ensures { (line : ℕ) → Does line (said.close_resource resource moment) self.old self.new result }
+        ensures { (line : ℕ) → SilentSpec line (said.close_resource resource moment) self.old self.new result }
     {
         match open_resource(&self.resources, resource) {
             Some(place) => self.resources[place].close(rt, moment),
@@ -127,8 +127,8 @@ impl Interpreter {
         index: u64,
         op: AttrOp,
     ) -> Result<(), Stop>
-        requires { Stands self.old }
-        ensures { (line : ℕ) → Does line (said.change_resource resource index op) self.old self.new result }
+        requires { RepresentsSome self.old }
+        ensures { (line : ℕ) → SilentSpec line (said.change_resource resource index op) self.old self.new result }
     {
         if !is_made(&self.resources, resource) {
             return Err(Stop::NoSuchItem);

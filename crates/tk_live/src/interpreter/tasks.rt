@@ -92,7 +92,7 @@ impl Interpreter {
     ghost use Rattle.std.specs.Prelude.{◌≡◌, ◌+◌, ◌*◌, ◌^◌, ◌<◌, ◌≤◌, ℕ, true};
     ghost use Rattle.tk_ids.specs.Names.{is_name};
     ghost use Rattle.tk_script.specs.Commands as said;
-    ghost use Rattle.tk_live.specs.Runs.{Does};
+    ghost use Rattle.tk_live.specs.Runs.{SilentSpec};
 
     // A task, on a line of this number.
     pub(super) fn make_task<R: Wait>(
@@ -105,7 +105,7 @@ impl Interpreter {
         name: &[u8],
     ) -> Result<(), Stop>
         requires named { is_name name.now ≡ true }
-        ensures { Does line (said.task created kind name.now) self.old self.new result }
+        ensures { SilentSpec line (said.task created kind name.now) self.old self.new result }
     {
         let Ok(spec) = spec_of(alloc, line, kind, name) else {
             return Err(Stop::Memory);
@@ -125,7 +125,7 @@ impl Interpreter {
 
     // A poll of a task starts.
     pub(super) fn start<R: Wait>(&mut self, rt: &R, task: u64, moment: u64) -> Result<(), Stop>
-        ensures { (line : ℕ) → Does line (said.start task moment) self.old self.new result }
+        ensures { (line : ℕ) → SilentSpec line (said.start task moment) self.old self.new result }
     {
         match open_task(&self.tasks, task) {
             Some(place) => self.tasks[place].start(rt, moment),
@@ -135,7 +135,7 @@ impl Interpreter {
 
     // It ends.
     pub(super) fn end<R: Wait>(&mut self, rt: &R, task: u64, moment: u64) -> Result<(), Stop>
-        ensures { (line : ℕ) → Does line (said.finish task moment) self.old self.new result }
+        ensures { (line : ℕ) → SilentSpec line (said.finish task moment) self.old self.new result }
     {
         match open_task(&self.tasks, task) {
             Some(place) => self.tasks[place].end(rt, moment),
@@ -155,7 +155,7 @@ impl Interpreter {
     ) -> Result<(), Stop>
         requires some { 1 ≤ count }
         requires fits { moment + count * every + run < 2 ^ 64 }
-        ensures { (line : ℕ) → Does line (said.polls task count moment run every) self.old self.new result }
+        ensures { (line : ℕ) → SilentSpec line (said.polls task count moment run every) self.old self.new result }
     {
         match open_task(&self.tasks, task) {
             Some(place) => self.tasks[place].polls(rt, count, moment, run, every),
@@ -165,7 +165,7 @@ impl Interpreter {
 
     // A task is closed.
     pub(super) fn close<R: Wait>(&mut self, rt: &R, task: u64, moment: u64) -> Result<(), Stop>
-        ensures { (line : ℕ) → Does line (said.close task moment) self.old self.new result }
+        ensures { (line : ℕ) → SilentSpec line (said.close task moment) self.old self.new result }
     {
         match open_task(&self.tasks, task) {
             Some(place) => self.tasks[place].close(rt, moment),
@@ -175,7 +175,7 @@ impl Interpreter {
 
     // A task wakes itself in its open poll.
     pub(super) fn self_wake<R: Wait>(&mut self, rt: &R, task: u64, moment: u64) -> Result<(), Stop>
-        ensures { (line : ℕ) → Does line (said.self_wake task moment) self.old self.new result }
+        ensures { (line : ℕ) → SilentSpec line (said.self_wake task moment) self.old self.new result }
     {
         match open_task(&self.tasks, task) {
             Some(place) => self.tasks[place].self_wake(rt, moment),

@@ -16,9 +16,9 @@ impl Interpreter {
     ghost use Rattle.tk_stream.specs.Streams.{Sending};
     ghost use Rattle.tk_script.specs.Commands as said;
     ghost use Rattle.tk_live.specs.Course.{Course, joined};
-    ghost use Rattle.tk_live.specs.Runs.{Does, DrawsWaker, MayDraw, Stands, StandsFor, block_of};
+    ghost use Rattle.tk_live.specs.Runs.{SilentSpec, DrawsWaker, MayDraw, RepresentsSome, Represents, block_of};
     ghost use Rattle.tk_script.specs.declared.settings.Settings.{Settings};
-    ghost use Rattle.tk_live.specs.Stops.{Closes, EndsIn};
+    ghost use Rattle.tk_live.specs.Stops.{GateStops, JoinStop};
     ghost use Rattle.tk_live.specs.Threads.{Apart};
 
     // A new waker of the task at a place, which its owner draws, who is 0, or a live waker.
@@ -40,7 +40,7 @@ impl Interpreter {
 
     // A new waker of a task.
     pub(super) fn clone_waker<R: Wait>(&mut self, rt: &R, task: u64) -> Result<(), Stop>
-        ensures { (line : ℕ) → Does line (said.clone task) self.old self.new result }
+        ensures { (line : ℕ) → SilentSpec line (said.clone task) self.old self.new result }
     {
         match open_task(&self.tasks, task) {
             Some(place) => self.draw_waker(rt, place, 0),
@@ -50,8 +50,8 @@ impl Interpreter {
 
     // A new waker that a waker draws.
     pub(super) fn again<R: Wait>(&mut self, rt: &R, number: u64) -> Result<(), Stop>
-        requires { Stands self.old }
-        ensures { (line : ℕ) → Does line (said.again number) self.old self.new result }
+        requires { RepresentsSome self.old }
+        ensures { (line : ℕ) → SilentSpec line (said.again number) self.old self.new result }
     {
         match live_waker(&self.wakers, number) {
             Some(waker) => self.draw_waker(rt, waker.task as usize - 1, waker.number),
@@ -61,8 +61,8 @@ impl Interpreter {
 
     // A wake by reference, from outside.
     pub(super) fn wake_ref<R: Wait>(&mut self, rt: &R, number: u64, moment: u64) -> Result<(), Stop>
-        requires { Stands self.old }
-        ensures { (line : ℕ) → Does line (said.wake_ref number moment) self.old self.new result }
+        requires { RepresentsSome self.old }
+        ensures { (line : ℕ) → SilentSpec line (said.wake_ref number moment) self.old self.new result }
     {
         let Some(waker) = live_waker(&self.wakers, number) else {
             return Err(Stop::NoSuchItem);
@@ -73,8 +73,8 @@ impl Interpreter {
 
     // A wake by value, from outside, which spends the waker.
     pub(super) fn wake<R: Wait>(&mut self, rt: &R, number: u64, moment: u64) -> Result<(), Stop>
-        requires { Stands self.old }
-        ensures { (line : ℕ) → Does line (said.wake number moment) self.old self.new result }
+        requires { RepresentsSome self.old }
+        ensures { (line : ℕ) → SilentSpec line (said.wake number moment) self.old self.new result }
     {
         let Some(waker) = live_waker(&self.wakers, number) else {
             return Err(Stop::NoSuchItem);
@@ -86,8 +86,8 @@ impl Interpreter {
 
     // A release without a wake, which spends the waker.
     pub(super) fn release<R: Wait>(&mut self, rt: &R, number: u64) -> Result<(), Stop>
-        requires { Stands self.old }
-        ensures { (line : ℕ) → Does line (said.release number) self.old self.new result }
+        requires { RepresentsSome self.old }
+        ensures { (line : ℕ) → SilentSpec line (said.release number) self.old self.new result }
     {
         let Some(waker) = live_waker(&self.wakers, number) else {
             return Err(Stop::NoSuchItem);
@@ -105,10 +105,10 @@ impl Interpreter {
         gate: &G,
         block: &OpenBlock,
     ) -> Result<(), Stop>
-        requires { Stands self.old }
+        requires { RepresentsSome self.old }
         ensures ok { OnOk result ((settings : Settings) (c : Course) (kept : List Bool) (sent : List Sending) → Apart block.now.first block.now.second
-            → StandsFor self.old settings c kept sent → StandsFor self.new settings (joined c (block_of block.now)) kept sent) }
-        ensures err { IfErr result (EndsIn (Closes (G.answers gate.now) (block_of block.now))) }
+            → Represents self.old settings c kept sent → Represents self.new settings (joined c (block_of block.now)) kept sent) }
+        ensures err { IfErr result (JoinStop (GateStops (G.answers gate.now) (block_of block.now))) }
     {
         run_block(rt, alloc, gate, &mut self.tasks, &mut self.wakers, block)
     }

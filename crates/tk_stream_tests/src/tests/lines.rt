@@ -15,7 +15,7 @@ fn leads_from_empty(alloc: Global, new: &Tables, line: &Line, text: &str) -> boo
     )
 }
 
-// The same of their copy.
+// Whether the line from empty tables to a copy of these writes itself so.
 fn copy_leads_from_empty(alloc: Global, new: &Tables, line: &Line, text: &str) -> bool {
     on_made(new.copy(), |copy| leads_from_empty(alloc, copy, line, text))
 }

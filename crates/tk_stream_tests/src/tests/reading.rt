@@ -32,7 +32,7 @@ const SIGNED_OTHERS: [(&str, &str); 4] = [
     ("\"i64\"]]", "\"\\u0069\\u0036\\u0034\"]]"),
 ];
 
-// The same of the line that says what is gone.
+// Parts of the line that says what is gone, and other spellings of them.
 #[rattlefmt::skip]
 const GONE_OTHERS: [(&str, &str); 3] = [
     ("[1099511627780]", "[ 1099511627780\n] "),
@@ -40,7 +40,7 @@ const GONE_OTHERS: [(&str, &str); 3] = [
     ("\"gone_ops\"",    "\"\\u0067one_ops\""),
 ];
 
-// The same of the line that tells histograms.
+// Parts of the line that tells histograms, and other spellings of them.
 #[rattlefmt::skip]
 const TIMED_OTHERS: [(&str, &str); 5] = [
     ("[4,120]",          "[ 4 , 120 ]"),

@@ -49,7 +49,7 @@ const NUMBERS: [(&str, &str); 22] = [
     ("\"task\":1099511627777",             "\"task\":false"),
 ];
 
-// The same of infos.
+// A change of an info in the full line after which it is no line: what stood there, and what stands there then.
 #[rattlefmt::skip]
 const INFOS: [(&str, &str); 20] = [
     ("\"blocking\"",                       "\"block\""),
@@ -75,7 +75,7 @@ const INFOS: [(&str, &str); 20] = [
     (",\"type\":\"Semaphore\"",            ",\"type\":\"Semaphore\",\"types\":1"),
 ];
 
-// The same of rows.
+// A change of a row in the full line after which it is no line: what stood there, and what stands there then.
 #[rattlefmt::skip]
 const ROWS: [(&str, &str); 21] = [
     ("[3,true]",       "[3,true,1,2,3,4,5]"),

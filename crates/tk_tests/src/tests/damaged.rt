@@ -94,7 +94,7 @@ enum Damage {
     Swapped,
 }
 
-// The lines with one of them damaged: left out, doubled, or behind the next.
+// The lines with one of them damaged: left out, doubled, or after the next.
 fn with_damage(
     alloc: Global,
     lines: &[&[u8]],
@@ -135,7 +135,7 @@ fn lines_of<'a>(alloc: Global, bytes: &'a [u8]) -> Result<Vec<&'a [u8]>, AllocEr
     Ok(lines)
 }
 
-// How many lines there are, if the stream is taken alike with any one of them left out, doubled, or behind the next.
+// How many lines there are, if the stream is taken alike with any one of them left out, doubled, or after the next.
 fn rearranged(alloc: Global, bytes: &[u8]) -> Result<Option<usize>, Fault> {
     let lines = lines_of(alloc, bytes)?;
     for at in 0..lines.len() {

@@ -46,7 +46,7 @@ OPERATION STATE      POLLS      BUSY     TASK RESOURCE SOURCE
 const NARROW_SCREEN: &str =
     "\x1b[H\x1b[Know 1.0 s  tasks 2: \n\x1b[K\x1b[31mwarning 1.1 self-wak\x1b[0m\n\x1b[K  let what it waits \n\x1b[J";
 
-// The same without colors, and lower by a line.
+// The first screen on such a terminal without colors, and lower by a line.
 const DULL_SCREEN: &str = "\x1b[H\x1b[Know 1.0 s  tasks 2: \n\x1b[Kwarning 1.1 self-wak\n\x1b[J";
 
 fn written(alloc: Global, stream: &'static [u8], asked: Asked) -> Vec<u8> {

@@ -1,5 +1,5 @@
 use Rattle.std.proofs.Common.{ap, ◌∙◌, is_some, sym}
-use Rattle.taskscope.specs.Requests.{asked_in, file_in, filter_in, texts, to_in}
+use Rattle.taskscope.specs.Requests.{asked_in, explains_in, file_in, filter_in, texts, to_in}
 use Rattle.taskscope.proofs.ParseLemmas.{taken_words_ask}
 use Rattle.taskscope.proofs.command_line.call_of.Goals as goal
 
@@ -18,3 +18,6 @@ returns-clause-filter c = ap filter_in (sym c.in_ok-matches.ensures.found) ∙ s
 
 pub returns-clause-to : goal.returns-clause-to
 returns-clause-to c = ap to_in (sym c.in_ok-matches.ensures.found) ∙ sym c.to_in.ensures
+
+pub returns-clause-explains : goal.returns-clause-explains
+returns-clause-explains c = ap explains_in (sym c.in_ok-matches.ensures.found) ∙ sym c.explains_in.ensures

@@ -1,6 +1,6 @@
 use Rattle.std.proofs.Common.{◌≡◌, ◌∷◌, [], ℕ, length, ap, sym, ◌∙◌, arith}
 use Rattle.std.proofs.lemmas.List.{length-append}
-use Rattle.tk_stream.specs.Fronts.{ToldView, told_item, with_rows, counts_at}
+use Rattle.tk_stream.specs.Fronts.{ToldView, as_told, with_rows, counts_at}
 use Rattle.tk_stream.specs.Polls.{counted, one_more}
 use Rattle.tk_stream.specs.Tables.{TablesView, PollCounts, changed_at, counts_id, put_item}
 use Rattle.tk_aggregator.proofs.ReadingLemmas.{with_rows-more}
@@ -70,7 +70,7 @@ returns-in_ok-set_counts-in-None-clause-told c =
     let new : PollCounts = (c.args.resource, c.one_more-ready.result.0, c.one_more-ready.result.1) in
     let counts = c.args.tables.now.counts in
     let rows = c.args.told.now.counts.rows in
-    ap (λ rs. with_rows (told_item counts_at) c.set_counts.new.self.counts rs) (c.make_room.ensures.rows ∙ ap (λ (t : ToldView). t.counts.rows) c.told.view_is)
-    ∙ ap (λ (t : TablesView). with_rows (told_item counts_at) t.counts rows) c.in_ok-set_counts-in-None.ensures.ok
-    ∙ ap (λ xs. with_rows (told_item counts_at) xs rows) (put_last new counts (sym c.counts_place.ensures ∙ c.in-None.is))
-    ∙ with_rows-more (told_item counts_at) counts (new ∷ []) rows c.requires.fits
+    ap (λ rs. with_rows (as_told counts_at) c.set_counts.new.self.counts rs) (c.make_room.ensures.rows ∙ ap (λ (t : ToldView). t.counts.rows) c.told.view_is)
+    ∙ ap (λ (t : TablesView). with_rows (as_told counts_at) t.counts rows) c.in_ok-set_counts-in-None.ensures.ok
+    ∙ ap (λ xs. with_rows (as_told counts_at) xs rows) (put_last new counts (sym c.counts_place.ensures ∙ c.in-None.is))
+    ∙ with_rows-more (as_told counts_at) counts (new ∷ []) rows c.requires.fits

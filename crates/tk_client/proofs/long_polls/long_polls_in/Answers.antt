@@ -1,6 +1,6 @@
 use Rattle.std.proofs.Common.{ap, sym, ◌∙◌, ◌++◌, slice_get, []}
 use Rattle.std.specs.Option.{option_map_or, option_to_list}
-use Rattle.tk_stream.specs.declared.task.Task.{Task}
+use Rattle.tk_stream.specs.declared.tables.task.Task.{Task}
 use Rattle.tk_client.specs.LongPolls.{long_poll_of}
 use Rattle.tk_client.proofs.WarnLemmas.{flat_map-at}
 use Rattle.tk_client.proofs.long_polls.long_polls_in.Goals as goal

@@ -1,5 +1,5 @@
 use Rattle.std.proofs.Common.{List, ◌++◌, map, take, ap, ◌∙◌}
-use Rattle.tk_stream.specs.declared.op.Op.{Op}
+use Rattle.tk_stream.specs.declared.tables.op.Op.{Op}
 use Rattle.tk_embed.specs.Entries.{op_shown, op_entry_shown}
 use Rattle.tk_embed.proofs.FaultLemmas.{op_at}
 use Rattle.tk_embed.proofs.tables.put_ops.Goals as goal

@@ -1,5 +1,5 @@
 use Rattle.std.proofs.Common.{List, ◌++◌, map, take, ap, ◌∙◌}
-use Rattle.tk_stream.specs.declared.resource.Resource.{Resource}
+use Rattle.tk_stream.specs.declared.tables.resource.Resource.{Resource}
 use Rattle.tk_embed.specs.Entries.{resource_shown, resource_entry_shown}
 use Rattle.tk_embed.proofs.FaultLemmas.{resource_at}
 use Rattle.tk_embed.proofs.tables.put_resources.Goals as goal

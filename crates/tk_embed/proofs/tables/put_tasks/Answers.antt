@@ -1,5 +1,5 @@
 use Rattle.std.proofs.Common.{List, ◌++◌, map, take, ap, ◌∙◌}
-use Rattle.tk_stream.specs.declared.task.Task.{Task}
+use Rattle.tk_stream.specs.declared.tables.task.Task.{Task}
 use Rattle.tk_embed.specs.Entries.{task_shown, task_entry_shown}
 use Rattle.tk_embed.proofs.FaultLemmas.{task_at}
 use Rattle.tk_embed.proofs.tables.put_tasks.Goals as goal

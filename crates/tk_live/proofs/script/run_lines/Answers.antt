@@ -6,8 +6,8 @@ use Rattle.std.proofs.lemmas.List.{map-append, length-map}
 use Rattle.tk_script.specs.Commands.{Line, line_of, lines_of, settings_of}
 use Rattle.tk_live.specs.Course.{Course, start_of_all, course_of}
 use Rattle.tk_script.specs.Pieces.{pieces_at, pieces_left}
-use Rattle.tk_live.specs.Ran.{CameOf, written_by}
-use Rattle.tk_live.specs.Runs.{StandsFor, IsOpen}
+use Rattle.tk_live.specs.Ran.{IsStreamOf, written_by}
+use Rattle.tk_live.specs.Runs.{Represents, IsOpen}
 use Rattle.tk_live.specs.Stops.{AllGo}
 use Rattle.tk_live.proofs.Blocks.{none_open, open_none, open_some}
 use Rattle.tk_live.proofs.Lines.{course_push, goes_more, few_lines}
@@ -79,7 +79,7 @@ loop-line-preserved g c =
       came = (
         did.0 ++ h.1,
         did.1 ++ h.2,
-        subst (λ (k : Course). StandsFor c.run_line.new.interpreter (settings_of (lines_of script)) k (did.0 ++ h.1) (did.1 ++ h.2)) (sym (ap course_of t ∙ course_push before number line counted)) h.3,
+        subst (λ (k : Course). Represents c.run_line.new.interpreter (settings_of (lines_of script)) k (did.0 ++ h.1) (did.1 ++ h.2)) (sym (ap course_of t ∙ course_push before number line counted)) h.3,
         subst (λ (k : Course). IsOpen c.run_line.new.block k) (sym (ap course_of t ∙ course_push before number line counted)) h.4,
         subst (λ text. Appends (g.W.Write.contents c.args.writer.now) (g.W.Write.contents c.run_line.new.writer) text) (sym (written_append did.1 h.2)) (Appends-trans _ _ _ (written_by did.1) _ did.4 h.5),
       );
@@ -107,7 +107,7 @@ returns-then-is_some g c =
         named = c.name-then-is_some.ensures;
         kept = did.0;
         sent = did.1;
-        came = subst (λ ls. CameOf (settings_of (lines_of script)) (course_of ls) did.0 did.1) (sym whole) did.2.came;
+        came = subst (λ ls. IsStreamOf (settings_of (lines_of script)) (course_of ls) did.0 did.1) (sym whole) did.2.came;
         all = refl;
       }),
       did.4,
@@ -125,7 +125,7 @@ returns g c =
         subst (λ ls. (course_of ls).block ≡ None) (sym whole) (open_none c.loop-line.block (course_of (map line_of texts)) did.3 c.if-is_some.ensures),
         did.0,
         did.1,
-        subst (λ ls. CameOf (settings_of (lines_of script)) (course_of ls) did.0 did.1) (sym whole) did.2.came,
+        subst (λ ls. IsStreamOf (settings_of (lines_of script)) (course_of ls) did.0 did.1) (sym whole) did.2.came,
         refl,
       ),
       did.4,

@@ -2,7 +2,7 @@ use Rattle.std.proofs.Common.{ap, sym, ◌∙◌, cond, is_some, slice_get}
 use Rattle.std.specs.Prelude.{not}
 use Rattle.std.specs.Option.{option_map_or}
 use Rattle.tk_stream.specs.Tables.{resource_with}
-use Rattle.tk_stream.specs.declared.resource.Resource.{Resource}
+use Rattle.tk_stream.specs.declared.tables.resource.Resource.{Resource}
 use Rattle.tk_metrics.specs.Sums.{both_ops, poll_ops, resource_entry, type_label}
 use Rattle.tk_metrics.specs.Series.{with_value}
 use Rattle.tk_metrics.proofs.SeriesLemmas.{passed_more, passed_all}

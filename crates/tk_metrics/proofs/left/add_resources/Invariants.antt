@@ -1,7 +1,7 @@
 use Rattle.std.proofs.Common.{◌≡◌, ℕ, List, is_some}
 use Rattle.std.specs.Prelude.{not}
 use Rattle.tk_stream.specs.Tables.{resource_with}
-use Rattle.tk_stream.specs.declared.resource.Resource.{Resource}
+use Rattle.tk_stream.specs.declared.tables.resource.Resource.{Resource}
 use Rattle.tk_metrics.specs.Sums.{both_ops, resource_entry}
 use Rattle.tk_metrics.specs.Series.{series_of}
 use Rattle.tk_metrics.specs.declared.sums.PollOps.{PollOps}

@@ -2,7 +2,7 @@ use Rattle.std.proofs.Common.{ap, sym, ◌∙◌, cond, is_some, slice_get}
 use Rattle.std.specs.Prelude.{not}
 use Rattle.std.specs.Option.{option_map_or}
 use Rattle.tk_stream.specs.Tables.{task_with}
-use Rattle.tk_stream.specs.declared.task.Task.{Task}
+use Rattle.tk_stream.specs.declared.tables.task.Task.{Task}
 use Rattle.tk_metrics.specs.Sums.{left_task, own_labels, plus, sums_left}
 use Rattle.tk_metrics.specs.Series.{with_value}
 use Rattle.tk_metrics.proofs.SeriesLemmas.{passed_more, passed_all}

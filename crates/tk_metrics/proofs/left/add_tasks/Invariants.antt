@@ -1,7 +1,7 @@
 use Rattle.std.proofs.Common.{◌≡◌, ℕ, List, is_some}
 use Rattle.std.specs.Prelude.{not}
 use Rattle.tk_stream.specs.Tables.{task_with}
-use Rattle.tk_stream.specs.declared.task.Task.{Task}
+use Rattle.tk_stream.specs.declared.tables.task.Task.{Task}
 use Rattle.tk_metrics.specs.Sums.{left_task, plus}
 use Rattle.tk_metrics.specs.Series.{series_of}
 use Rattle.tk_metrics.specs.declared.sums.Sums.{Sums}

@@ -1,6 +1,6 @@
 use Rattle.std.proofs.Common.{take}
 use Rattle.std.specs.Prelude.{flat_map}
-use Rattle.tk_report.specs.Behind.{Puts}
+use Rattle.tk_report.specs.Pieces.{Puts}
 use Rattle.tk_metrics.specs.Samples.{escaped_byte}
 use Rattle.tk_metrics.proofs.text.put_escaped.Given as goal
 

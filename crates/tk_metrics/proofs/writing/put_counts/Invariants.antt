@@ -3,7 +3,7 @@ use Rattle.std.specs.Prelude.{flat_map}
 use Rattle.tk_metrics.specs.Metrics.{count_of}
 use Rattle.tk_metrics.specs.Samples.{sample}
 use Rattle.tk_metrics.specs.declared.family.Family.TheVariants.{Task}
-use Rattle.tk_report.specs.Behind.{Puts}
+use Rattle.tk_report.specs.Pieces.{Puts}
 use Rattle.tk_metrics.proofs.writing.put_counts.Given as goal
 
 -- the samples so far

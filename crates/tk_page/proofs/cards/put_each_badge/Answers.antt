@@ -1,5 +1,5 @@
 use Rattle.std.proofs.Common.{arith, subst}
-use Rattle.tk_paper.specs.Behind.{Writes}
+use Rattle.tk_paper.specs.Pieces.{Writes}
 use Rattle.std.proofs.Common.{get_or}
 use Rattle.tk_page.specs.Badges.{badge, badge_of}
 use Rattle.tk_page.specs.Odd.{kinds}

@@ -1,5 +1,5 @@
 use Rattle.std.proofs.Common.{◌∙◌, ap, subst}
-use Rattle.tk_paper.specs.Behind.{Writes}
+use Rattle.tk_paper.specs.Pieces.{Writes}
 use Rattle.tk_page.specs.Cards.{holder_with}
 use Rattle.tk_page.specs.Figures.{each_of}
 use Rattle.tk_page.specs.declared.sample.Sample.{Sample}

@@ -1,5 +1,5 @@
 use Rattle.std.proofs.Common.{◌∙◌, ap, min, sym, arith}
-use Rattle.tk_stream.specs.declared.task.Task.{Task}
+use Rattle.tk_stream.specs.declared.tables.task.Task.{Task}
 use Rattle.std.proofs.Common.{ℕ}
 use Rattle.tk_page.proofs.LoopLemmas.{fold_next, past_end}
 use Rattle.tk_page.proofs.drawing.start_of.Goals.{in-Some, in_default}

@@ -2,7 +2,7 @@ use Rattle.std.proofs.Common.{◌≡◌, ℕ, ◌+◌, length, not, is_some, ◌
 use Rattle.std.specs.Prelude.{count_by, fold}
 use Rattle.std.proofs.lemmas.List.{take_all}
 use Rattle.indexmap.specs.IndexMap.{get}
-use Rattle.tk_stream.specs.declared.task.Task.{Task}
+use Rattle.tk_stream.specs.declared.tables.task.Task.{Task}
 use Rattle.tk_stream.specs.Tables.{task_id}
 use Rattle.tk_page.specs.declared.sample.Sample.{Sample}
 use Rattle.tk_page.specs.Kept.{FollowsAt, gain_of, last_of, samples_of, total_more}

@@ -1,5 +1,5 @@
 use Rattle.std.proofs.Common.{arith, subst}
-use Rattle.tk_paper.specs.Behind.{Writes}
+use Rattle.tk_paper.specs.Pieces.{Writes}
 use Rattle.tk_page.specs.Strips.{box, box_of}
 use Rattle.tk_page.specs.declared.sample.Step.{Step}
 use Rattle.tk_paper.proofs.PutLemmas.{nothing}

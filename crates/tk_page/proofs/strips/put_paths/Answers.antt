@@ -1,5 +1,5 @@
 use Rattle.std.proofs.Common.{subst}
-use Rattle.tk_paper.specs.Behind.{Writes}
+use Rattle.tk_paper.specs.Pieces.{Writes}
 use Rattle.tk_page.specs.Strips.{paths_of}
 use Rattle.tk_paper.proofs.PutLemmas.{then}
 use Rattle.tk_page.proofs.strips.put_paths.Goals as goal

@@ -1,5 +1,5 @@
 use Rattle.std.proofs.Common.{◌∙◌, subst}
-use Rattle.tk_paper.specs.Behind.{Writes}
+use Rattle.tk_paper.specs.Pieces.{Writes}
 use Rattle.tk_page.specs.declared.oddities.Oddity.TheVariants.{LostWaker}
 use Rattle.tk_page.specs.Odd.{is_odd}
 use Rattle.tk_page.specs.Strips.{steps_of, strip_of}

@@ -1,6 +1,6 @@
 use Rattle.std.proofs.Common.{OnOk, [], ◌∙◌, ap, subst}
 use Rattle.std.specs.Option.{option_map_or}
-use Rattle.tk_paper.specs.Behind.{Writes}
+use Rattle.tk_paper.specs.Pieces.{Writes}
 use Rattle.tk_page.specs.Courses.{courses_of}
 use Rattle.tk_page.specs.Kept.{kept_of}
 use Rattle.tk_page.specs.Rows.{row, row_of}

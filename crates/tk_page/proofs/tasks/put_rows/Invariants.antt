@@ -1,6 +1,6 @@
 use Rattle.std.proofs.Common.{take}
 use Rattle.std.specs.Prelude.{flat_map}
-use Rattle.tk_paper.specs.Behind.{Writes}
+use Rattle.tk_paper.specs.Pieces.{Writes}
 use Rattle.tk_page.specs.Courses.{courses_of}
 use Rattle.tk_page.specs.Rows.{row_at}
 use Rattle.tk_page.proofs.tasks.put_rows.Given as goal

@@ -4,7 +4,7 @@ use Rattle.std.specs.Io.KnownBytes.{Appends, Consumes}
 use Rattle.tk_stream.specs.Sent.{IsCut}
 use Rattle.tk_stream.specs.Streams.{Sending, GoesOn, IsUninterrupted, lines_sent, bytes_sent, tables_sent}
 use Rattle.tk_stream.specs.Tables.{TablesView, empty_tables}
-use Rattle.tk_client.specs.Meaning.{Start, Outcome, goes, stops}
+use Rattle.tk_client.specs.Meaning.{Start, Outcome, goes, stops, greatest_line}
 use Rattle.tk_client.specs.Streams.{HasNoFault}
 use Rattle.tk_client.specs.Warnings.{LintsView, warnings_in}
 use Rattle.tk_fault.specs.declared.fault.AppFault.{AppFault}
@@ -59,8 +59,8 @@ shown bytes s n is none view lints left old new (Err (faults.Script line name)) 
 pub returns : goal.returns
 returns c sent view lints left old new result on short v =
     let stream = uninterrupted sent on in
-    let taken = c.streams_are_taken.ensures.whole 268435456 sent stream short in
-    let none = λ (k : ℕ). c.streams_are_taken.ensures.fronts 268435456 sent k stream short in
+    let taken = c.streams_are_taken.ensures.whole greatest_line sent stream short in
+    let none = λ (k : ℕ). c.streams_are_taken.ensures.fronts greatest_line sent k stream short in
     let same = taken.2 in
     subst (λ (t : TablesView). ShowsTables view lints t result old new) same
     (shown (bytes_sent (lines_sent empty_tables sent)) taken.0 (length sent) taken.1 none view lints left old new result v)

@@ -1,6 +1,6 @@
 use Rattle.std.proofs.Common.{take}
 use Rattle.std.specs.Prelude.{flat_map, string_bytes}
-use Rattle.tk_report.specs.Behind.{Puts}
+use Rattle.tk_report.specs.Pieces.{Puts}
 use Rattle.tk_report.specs.Report.{op_lines}
 use Rattle.tk_report.proofs.reporting.put_ops.Given as goal
 

@@ -1,6 +1,6 @@
 use Rattle.std.proofs.Common.{take}
 use Rattle.std.specs.Prelude.{flat_map, string_bytes}
-use Rattle.tk_report.specs.Behind.{Puts}
+use Rattle.tk_report.specs.Pieces.{Puts}
 use Rattle.tk_report.specs.Timed.{any_warn_line}
 use Rattle.tk_report.proofs.timed.put_any_warnings.Given as goal
 

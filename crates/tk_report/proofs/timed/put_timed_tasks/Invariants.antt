@@ -1,6 +1,6 @@
 use Rattle.std.proofs.Common.{take}
 use Rattle.std.specs.Prelude.{flat_map, string_bytes}
-use Rattle.tk_report.specs.Behind.{Puts}
+use Rattle.tk_report.specs.Pieces.{Puts}
 use Rattle.tk_report.specs.Timed.{task_lines}
 use Rattle.tk_report.proofs.timed.put_timed_tasks.Given as goal
 

@@ -2,7 +2,7 @@ use Rattle.std.proofs.Common.{◌≡◌, [], Some, OnOk, ap, string_bytes, subst
 use Rattle.std.specs.Option.{option_map_or}
 use Rattle.tk_stream.specs.Tables.{item_with}
 use Rattle.tk_stream.specs.Times.{TaskTimes, times_id}
-use Rattle.tk_report.specs.Behind.{Puts}
+use Rattle.tk_report.specs.Pieces.{Puts}
 use Rattle.tk_report.specs.Timed.{times_line}
 use Rattle.tk_report.proofs.times.put_times_below.Goals as goal
 

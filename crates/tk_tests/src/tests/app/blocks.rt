@@ -13,7 +13,7 @@ use tk_app::{Gate, run_script};
 const WOKEN_BY_BOTH: &str =
     r#"{"busy":0,"clones":2,"created":100,"dropped":null,"drops":1,"first_poll":null,"handles":3,"id":1099511627777,"last_ended":null,"last_started":null,"last_wake":160,"polling":false,"polls":0,"sched":0,"scheduled":true,"self_wakes":0,"wakes":2}"#;
 
-// Woken twice by the one waker, in a block and behind it, and once by the other.
+// Woken twice by the one waker, in a block and after it, and once by the other.
 const WOKEN_AGAIN: &str =
     r#"{"busy":0,"clones":2,"created":100,"dropped":null,"drops":1,"first_poll":null,"handles":3,"id":1099511627777,"last_ended":null,"last_started":null,"last_wake":180,"polling":false,"polls":0,"sched":0,"scheduled":true,"self_wakes":0,"wakes":3}"#;
 
@@ -64,7 +64,7 @@ fn workers_have_three_commands(rt: HostRuntime) {
     );
 }
 
-// Each script stops at its last command, or at its last line where a block is open behind it.
+// Each script stops at its last command, or at its last line where a block is open after it.
 #[rattlefmt::skip]
 const STOPS: [(&str, &[u8], &str); 26] = [
     ("a block in a block", b"par\npar\n", "line 2: BadCommand"),
@@ -76,14 +76,14 @@ const STOPS: [(&str, &[u8], &str); 26] = [
     ("no worker", b"task 0 spawn a\nclone 1\npar\n0 wakeref 1 5\njoin\n", "line 4: BadCommand"),
     ("a wake without a moment", b"task 0 spawn a\nclone 1\npar\n1 wakeref 1\njoin\n", "line 4: BadCommand"),
     ("a release with a moment", b"task 0 spawn a\nclone 1\npar\n1 release 1 5\njoin\n", "line 4: BadCommand"),
-    ("a capacity behind a block", b"par\njoin\ncapacity 5\n", "line 3: BadCommand"),
-    ("a worker behind a block", b"task 0 spawn a\nclone 1\npar\njoin\n1 wakeref 1 5\n", "line 5: BadCommand"),
+    ("a capacity after a block", b"par\njoin\ncapacity 5\n", "line 3: BadCommand"),
+    ("a worker after a block", b"task 0 spawn a\nclone 1\npar\njoin\n1 wakeref 1 5\n", "line 5: BadCommand"),
     ("a second join", b"par\njoin\njoin\n", "line 3: BadCommand"),
     ("no join", b"par\n", "line 1: BadCommand"),
     ("no join, and no line end", b"par", "line 1: BadCommand"),
-    ("no join behind a comment", b"par\n\n# the end\n", "line 3: BadCommand"),
-    ("no join behind an empty line", b"par\n# the end\n\n", "line 3: BadCommand"),
-    ("no join behind a worker", b"task 0 spawn a\nclone 1\npar\n1 wakeref 1 5\n# the end", "line 5: BadCommand"),
+    ("no join after a comment", b"par\n\n# the end\n", "line 3: BadCommand"),
+    ("no join after an empty line", b"par\n# the end\n\n", "line 3: BadCommand"),
+    ("no join after a worker", b"task 0 spawn a\nclone 1\npar\n1 wakeref 1 5\n# the end", "line 5: BadCommand"),
     ("a waker of both", b"task 0 spawn a\nclone 1\npar\n1 wakeref 1 5\n2 wakeref 1 5\njoin\n", "line 5: BadCommand"),
     ("a waker of both that the first spends", b"task 0 spawn a\nclone 1\npar\n2 wake 1 5\n1 release 1\njoin\n", "line 5: BadCommand"),
     ("a waker that was not made", b"par\n1 wakeref 1 5\njoin\n", "line 2: NoSuchItem"),
@@ -131,7 +131,7 @@ fn runs_under<R: Threads + Wait + Sync + AllocGlobal, G: Gate + Sync>(
     }
 }
 
-// A block with three lines of worker 1 and two of worker 2, and a line of the stream behind it.
+// A block with three lines of worker 1 and two of worker 2, and a line of the stream after it.
 const BOTH: &[u8] =
     b"task 0 spawn a\nclone 1\nclone 1\npar\n1 wakeref 1 5\n2 wakeref 2 6\n1 wakeref 1 7\n2 wake 2 8\n1 release 1\njoin\npublish 9\n";
 
@@ -148,7 +148,7 @@ impl Gate for ClosedTo {
     }
 }
 
-// The script stops at the `join`, and nothing behind it is done. A gate that is closed to a worker without lines stops nothing.
+// The script stops at the `join`, and nothing after it is done. A gate that is closed to a worker without lines stops nothing.
 #[test]
 fn a_closed_gate_stops_the_script_at_the_join(rt: HostRuntime) {
     assert!(rt; runs_under(&rt, &ClosedTo(1), BOTH, "line 10: Stopped", &[]));
@@ -236,7 +236,7 @@ impl Gate for Meeting {
     }
 }
 
-// A block whose threads have to meet, and the line behind it.
+// A block whose threads have to meet, and the line after it.
 const MEETS: &[u8] =
     b"task 0 spawn a\nclone 1\nclone 1\npar\n1 wakeref 1 5\n2 wake 2 6\njoin\npublish 9\n";
 

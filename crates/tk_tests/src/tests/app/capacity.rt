@@ -9,7 +9,7 @@ const THREE: &[u8] =
 const TWO_TASKS: &str =
     r#"{"dropped":[1,0,0],"new_ops":[],"new_resources":[],"new_tasks":[{"id":1099511627777,"kind":"spawn","loc":["script",2,1],"name":"a"},{"id":1099511627778,"kind":"spawn","loc":["script",3,1],"name":"b"}],"now":10,"op_stats":[],"poll_counts":[],"resource_stats":[],"seq":1,"snapshot":false,"task_stats":[{"busy":0,"clones":0,"created":1,"dropped":null,"drops":0,"first_poll":null,"handles":1,"id":1099511627777,"last_ended":null,"last_started":null,"last_wake":null,"polling":false,"polls":0,"sched":0,"scheduled":true,"self_wakes":0,"wakes":0},{"busy":0,"clones":0,"created":2,"dropped":null,"drops":0,"first_poll":null,"handles":1,"id":1099511627778,"last_ended":null,"last_started":null,"last_wake":null,"polling":false,"polls":0,"sched":0,"scheduled":true,"self_wakes":0,"wakes":0}],"v":1}"#;
 
-// A burst of poll operations fills a console for two, so the task behind them is dropped, and so is the third poll operation,
+// A burst of poll operations fills a console for two, so the task after them is dropped, and so is the third poll operation,
 // which counts with the resources. A publication makes room again: the next task is told, by its number.
 const BURST: &[u8] =
     b"capacity 2\nresource 1 k t\nop 1 1 s\npublish 2\ntask 3 spawn a\npublish 3\npollop 1 1 1 p pending\npollop 1 1 1 p ready\ntask 4 spawn b\npollop 1 1 1 p ready\npublish 5\nclose 2 6\ntask 6 blocking c\npublish 7\n";
@@ -54,10 +54,10 @@ fn what_is_dropped_is_counted_and_keeps_its_number(rt: HostRuntime) {
 // A capacity stands before every other command, and once.
 #[rattlefmt::skip]
 const LATE: [(&str, &[u8], &str); 4] = [
-    ("behind a task",            b"task 1 spawn a\ncapacity 2\n",      "line 2: BadCommand"),
+    ("after a task",             b"task 1 spawn a\ncapacity 2\n",      "line 2: BadCommand"),
     ("a second one",             b"capacity 2\ncapacity 2\n",          "line 2: BadCommand"),
     ("a refused call comes first", b"start 1 1\ncapacity 2\n",         "line 1: NoSuchItem"),
-    ("behind a line that is no command", b"tusk\ncapacity 2\n",        "line 1: BadCommand"),
+    ("after a line that is no command", b"tusk\ncapacity 2\n",        "line 1: BadCommand"),
 ];
 
 #[rattlefmt::skip]

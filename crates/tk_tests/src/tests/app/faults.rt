@@ -26,7 +26,7 @@ const PLACES: [(&str, &[u8], &str, &[&str]); 8] = [
     ("comments and empty lines count", b"# a\n\n\n#\ntusk\n",                                  "line 5: BadCommand", &[]),
     ("a line before the fault stays", b"task 100 spawn main\npublish 200\ntusk\n",             "line 3: BadCommand", &[MAIN_LINE]),
     ("a last line without its end",  b"task 100 spawn main\npublish 200\nstart 2 5",           "line 3: NoSuchItem", &[MAIN_LINE]),
-    ("nothing is done behind it",    b"task 100 spawn main\ntusk\npublish 200\n",              "line 2: BadCommand", &[]),
+    ("nothing is done after it",     b"task 100 spawn main\ntusk\npublish 200\n",              "line 2: BadCommand", &[]),
     ("the first of two faults",      b"start 1 5\ntusk\n",                                     "line 1: NoSuchItem", &[]),
     ("a moment below the last line's", b"task 100 spawn main\npublish 200\npublish 199\n",     "line 3: Clock",      &[MAIN_LINE]),
     ("a bad command is told before an item that is not there", b"start 9 x\n",                 "line 1: BadCommand", &[]),

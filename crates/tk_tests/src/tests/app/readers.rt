@@ -41,10 +41,10 @@ impl Read for Trickle {
 // A task and a line that tells of it, and then the front of a comment.
 const COMMENTED: &[u8] = b"task 100 spawn main\npublish 200\n#";
 
-// How much comes behind it where a script is as long as it may be.
+// How much comes after it where a script is as long as it may be.
 const ROOM: usize = 1_048_576 - COMMENTED.len();
 
-// What becomes of a script that would write one line, by how its reader goes on behind it.
+// What becomes of a script that would write one line, by how its reader goes on after it.
 #[rattlefmt::skip]
 const READERS: [(&str, &[u8], usize, bool, &str); 4] = [
     ("it ends",                              MAIN,      0,                        false, ""),

@@ -51,14 +51,14 @@ fn resources_are_told(rt: HostRuntime) {
 // Each script stops at its last line.
 #[rattlefmt::skip]
 const REFUSED: [(&str, &[u8], &str); 27] = [
-    ("a change behind a close",      b"resource 1 Sync S a=1\nrclose 1 2\nradd 1 0 1\n",           "line 3: Closed"),
+    ("a change after a close",       b"resource 1 Sync S a=1\nrclose 1 2\nradd 1 0 1\n",           "line 3: Closed"),
     ("a second close",               b"resource 1 Sync S a=1\nrclose 1 2\nrclose 1 3\n",           "line 3: NoSuchItem"),
     ("no resource was made",         b"rclose 1 2\n",                                               "line 1: NoSuchItem"),
     ("one resource was made",        b"resource 1 Sync S a=1\nradd 2 0 1\n",                        "line 2: NoSuchItem"),
     ("a close of resource 0",        b"resource 1 Sync S a=1\nrclose 0 1\n",                        "line 2: NoSuchItem"),
     ("a change of resource 0",       b"resource 1 Sync S a=1\nrset 0 0 1\n",                        "line 2: NoSuchItem"),
     ("no attribute at all",          b"resource 1 Sync S\nradd 1 0 1\n",                            "line 2: NoAttribute"),
-    ("an attribute behind the last", b"resource 1 Sync S a=1\nrset 1 1 1\n",                        "line 2: NoAttribute"),
+    ("an attribute after the last", b"resource 1 Sync S a=1\nrset 1 1 1\n",                        "line 2: NoAttribute"),
     ("the greatest index",           b"resource 1 Sync S a=1\nrset 1 18446744073709551615 1\n",     "line 2: NoAttribute"),
     ("a number for a flag",          b"resource 1 Sync S a=true\nrset 1 0 1\n",                     "line 2: WrongKind"),
     ("a flag for a number",          b"resource 1 Sync S a=1\nrset 1 0 true\n",                     "line 2: WrongKind"),
@@ -95,7 +95,7 @@ const BAD: [&[u8]; 32] = [
     b"radd", b"radd 1 0", b"radd 1 0 1 2", b"radd one 0 1", b"radd 1 -1 1", b"radd 1 0 yes", b"rsub 1 0", b"rsub 1 0 TRUE", b"rset 1 0", b"rset 1 0 ", b"rclose", b"rclose 1 2 3",
 ];
 
-// Values with a sign that are none: out of range, no digit or another byte behind the sign, 21 digits.
+// Values with a sign that are none: out of range, no digit or another byte after the sign, 21 digits.
 #[rattlefmt::skip]
 const BAD_SIGNED: [&[u8]; 21] = [
     b"resource 1 Sync S a=+9223372036854775808", b"resource 1 Sync S a=-9223372036854775809", b"resource 1 Sync S a=-18446744073709551616",

@@ -50,13 +50,13 @@ const EACH_4: &str =
 
 #[rattlefmt::skip]
 const LATE: [(&str, &[u8], &str); 8] = [
-    ("behind a task",               b"task 1 spawn a\nretention 2\n",                "line 2: BadCommand"),
+    ("after a task",                b"task 1 spawn a\nretention 2\n",                "line 2: BadCommand"),
     ("a second one",                b"retention 2\nretention 2\n",                   "line 2: BadCommand"),
-    ("a second one behind a capacity", b"retention 2\ncapacity 2\nretention 2\n",    "line 3: BadCommand"),
-    ("a second capacity behind one", b"capacity 2\nretention 2\ncapacity 2\n",       "line 3: BadCommand"),
-    ("a capacity behind a task",    b"retention 2\ntask 1 spawn a\ncapacity 2\n",    "line 3: BadCommand"),
-    ("behind a line that is no command", b"tusk\nretention 2\n",                     "line 1: BadCommand"),
-    ("behind a block",              b"par\njoin\nretention 2\n",                     "line 3: BadCommand"),
+    ("a second one after a capacity", b"retention 2\ncapacity 2\nretention 2\n",    "line 3: BadCommand"),
+    ("a second capacity after one", b"capacity 2\nretention 2\ncapacity 2\n",       "line 3: BadCommand"),
+    ("a capacity after a task",     b"retention 2\ntask 1 spawn a\ncapacity 2\n",    "line 3: BadCommand"),
+    ("after a line that is no command", b"tusk\nretention 2\n",                     "line 1: BadCommand"),
+    ("after a block",               b"par\njoin\nretention 2\n",                     "line 3: BadCommand"),
     ("in a block",                  b"par\nretention 2\n",                           "line 2: BadCommand"),
 ];
 

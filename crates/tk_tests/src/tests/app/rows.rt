@@ -1,11 +1,11 @@
-//! The statistics of a task behind its owner's calls, as a line tells them.
+//! The statistics of a task after its owner's calls, as a line tells them.
 
 use super::given::runs;
 use std::process::Abort;
 use std::sync::Wait;
 use std::thread::Threads;
 
-// A line that tells of one new task, up to the task's statistics and behind them.
+// A line that tells of one new task, up to the task's statistics and after them.
 const HEAD: &str =
     r#"{"dropped":[0,0,0],"new_ops":[],"new_resources":[],"new_tasks":[{"id":1099511627777,"kind":"spawn","loc":["script",1,1],"name":"main"}],"now":200,"op_stats":[],"poll_counts":[],"resource_stats":[],"seq":1,"snapshot":false,"task_stats":["#;
 
@@ -39,7 +39,7 @@ const POLLED_EARLY: &str =
 const BUSY_FOR_EVER: &str =
     r#"{"busy":18446744073709551615,"clones":0,"created":0,"dropped":null,"drops":0,"first_poll":0,"handles":1,"id":1099511627777,"last_ended":100,"last_started":0,"last_wake":null,"polling":false,"polls":2,"sched":0,"scheduled":false,"self_wakes":0,"wakes":0}"#;
 
-// Created behind the moment of the line that tells of it.
+// Created after the moment of the line that tells of it.
 const AHEAD: &str =
     r#"{"busy":0,"clones":0,"created":999,"dropped":null,"drops":0,"first_poll":null,"handles":1,"id":1099511627777,"last_ended":null,"last_started":null,"last_wake":null,"polling":false,"polls":0,"sched":0,"scheduled":true,"self_wakes":0,"wakes":0}"#;
 
@@ -59,7 +59,7 @@ const ENDLESS_POLL: &[u8] =
 const ROWS: [(&str, &[u8], &str); 10] = [
     ("no call",                     b"task 100 spawn main
 publish 200",                                                 WAITING),
-    ("a creation behind the line",  b"task 999 spawn main
+    ("a creation after the line",   b"task 999 spawn main
 publish 200",                                                 AHEAD),
     ("a start",                     b"task 100 spawn main
 start 1 150

@@ -14,7 +14,7 @@ const CHANGED: &str =
 const WHOLE: &str =
     r#"{"dropped":[0,0,0],"new_ops":[],"new_resources":[],"new_tasks":[{"id":1099511627777,"kind":"spawn","loc":["script",1,1],"name":"a"}],"now":5,"op_stats":[],"poll_counts":[],"resource_stats":[],"seq":3,"snapshot":true,"task_stats":[{"busy":0,"clones":0,"created":1,"dropped":null,"drops":0,"first_poll":3,"handles":1,"id":1099511627777,"last_ended":null,"last_started":3,"last_wake":3,"polling":true,"polls":1,"sched":2,"scheduled":true,"self_wakes":1,"wakes":1}],"v":1}"#;
 
-// Nothing is new behind a snapshot.
+// Nothing is new after a snapshot.
 const UNCHANGED: &str =
     r#"{"dropped":[0,0,0],"new_ops":[],"new_resources":[],"new_tasks":[],"now":5,"op_stats":[],"poll_counts":[],"resource_stats":[],"seq":4,"snapshot":false,"task_stats":[],"v":1}"#;
 
@@ -31,7 +31,7 @@ const GOES_ON: &[u8] =
 #[rattlefmt::skip]
 const SNAPSHOTS: [(&str, &[u8], &str, &[&str]); 4] = [
     ("a task that wakes itself",      WAKES_ITSELF,                  "",              &[NEW, CHANGED, WHOLE]),
-    ("a line behind a snapshot",      GOES_ON,                       "",              &[NEW, CHANGED, WHOLE, UNCHANGED]),
+    ("a line after a snapshot",       GOES_ON,                       "",              &[NEW, CHANGED, WHOLE, UNCHANGED]),
     ("a first line",                  b"snapshot 5\n",               "",              &[EMPTY]),
     ("a moment below the last line's", b"snapshot 5\nsnapshot 4\n",  "line 2: Clock", &[EMPTY]),
 ];

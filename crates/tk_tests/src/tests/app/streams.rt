@@ -21,7 +21,7 @@ const ONE_CHANGED: &str =
 const NONE_CHANGED: &str =
     r#"{"dropped":[0,0,0],"new_ops":[],"new_resources":[],"new_tasks":[],"now":300,"op_stats":[],"poll_counts":[],"resource_stats":[],"seq":3,"snapshot":false,"task_stats":[],"v":1}"#;
 
-// A task that is made behind the first line.
+// A task that is made after the first line.
 const LATER_TASK: &[u8] = b"task 100 spawn main\npublish 200\ntask 250 spawn io\npublish 300\n";
 
 const LATER_LINE: &str =
@@ -34,7 +34,7 @@ const LINES: [(&str, &[u8], &[&str]); 5] = [
     ("no task",                            b"publish 5\n",           &[FIRST_EMPTY_LINE]),
     ("two lines at one moment",            b"publish 5\npublish 5\n", &[FIRST_EMPTY_LINE, SECOND_EMPTY_LINE]),
     ("an old task, changed and unchanged", TWO_TASKS,                &[BOTH_NEW, ONE_CHANGED, NONE_CHANGED]),
-    ("a task behind the first line",       LATER_TASK,               &[MAIN_LINE, LATER_LINE]),
+    ("a task after the first line",        LATER_TASK,               &[MAIN_LINE, LATER_LINE]),
 ];
 
 #[test]

@@ -1,4 +1,4 @@
-//! The statistics of a task behind calls of its wakers, and from within its polls, as a line tells them.
+//! The statistics of a task after calls of its wakers, and from within its polls, as a line tells them.
 
 use super::given::{assert_all_stop, assert_runs};
 use super::rows::assert_all_tell;
@@ -40,7 +40,7 @@ const ROWS: [(&str, &[u8], &str); 7] = [
     ("a wake from within", b"task 100 spawn main\nstart 1 150\nselfwake 1 160\nend 1 170\nstart 1 200\npublish 200", WOKEN_WITHIN),
     ("a wake by value", b"task 100 spawn main\nstart 1 150\nend 1 170\nclone 1\nwake 1 190\npublish 200", WOKEN),
     ("wakes by reference", b"task 100 spawn main\nstart 1 150\nend 1 170\nclone 1\nwakeref 1 180\nwakeref 1 175\nclose 1 190\nwakeref 1 195\npublish 200", WOKEN_AFTER_ALL),
-    ("a clone behind a close", b"task 100 spawn main\nclone 1\nclose 1 120\nagain 1\npublish 200", CLONED_LATE),
+    ("a clone after a close", b"task 100 spawn main\nclone 1\nclose 1 120\nagain 1\npublish 200", CLONED_LATE),
 ];
 
 #[test]
@@ -73,7 +73,7 @@ const REFUSED: [(&str, &[u8], &str); 14] = [
     ("a wake by a released waker",    b"task 1 spawn a\nclone 1\nrelease 1\nwakeref 1 3\n",        "line 4: NoSuchItem"),
     ("a second release",              b"task 1 spawn a\nclone 1\nrelease 1\nrelease 1\n",          "line 4: NoSuchItem"),
     ("a wake before any poll",        b"task 1 spawn a\nselfwake 1 2\n",                             "line 2: NotPolling"),
-    ("a wake behind a poll",          b"task 1 spawn a\nstart 1 2\nend 1 3\nselfwake 1 4\n",       "line 4: NotPolling"),
+    ("a wake after a poll",           b"task 1 spawn a\nstart 1 2\nend 1 3\nselfwake 1 4\n",       "line 4: NotPolling"),
 ];
 
 #[test]

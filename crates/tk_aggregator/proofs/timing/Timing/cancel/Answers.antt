@@ -1,5 +1,5 @@
 use Rattle.std.proofs.Common.{◌≤◌, List, length, take, vec_capacity, sym, subst, ap, ◌∙◌, arith}
-use Rattle.tk_stream.specs.Fronts.{told_item, with_rows}
+use Rattle.tk_stream.specs.Fronts.{as_told, with_rows}
 use Rattle.tk_stream.specs.Times.{TaskTimes, times_with}
 use Rattle.tk_aggregator.specs.Timing.{TimingView, AreTimed}
 use Rattle.tk_aggregator.proofs.TimedLemmas.{told_count, told_front, front_timed}
@@ -21,6 +21,6 @@ pub returns : goal.returns
 returns c =
     let a = c.self.inside in
     let shown = c.cut.ensures ∙ ap (λ n. take n a.times) (c.len.ensures ∙ a.readers.ok.0) in
-    let told = ap (λ (xs : List TaskTimes). with_rows (told_item times_with) xs a.told.rows) c.cut.ensures ∙ told_front c.len.result a.times a.told.rows (few c) in
+    let told = ap (λ (xs : List TaskTimes). with_rows (as_told times_with) xs a.told.rows) c.cut.ensures ∙ told_front c.len.result a.times a.told.rows (few c) in
     (λ i. record { reads = a.reads; shown = shown i; told = told i; readers = a.readers.items })
     ∙ ap (λ (t : TimingView). record t { shown = take (length t.readers) t.shown }) c.self.view_is

@@ -7,7 +7,7 @@ use Rattle.tk_client.proofs.client.Client.feed.Goals as goal
 pub loop-at-preserved : goal.loop-at-preserved
 loop-at-preserved c =
     let i = c.loop-at.invariant in
-    let taken = c.in-Ok.ensures in
+    let taken = c.in-Ok.ensures.step in
     let rest = take (length c.args.piece.now - c.loop-at.at) (drop c.loop-at.at c.args.piece.now) in
     record {
       within = within_piece c.loop-at.at c.in-Ok.used c.args.piece.now i.within taken.within;
@@ -15,13 +15,13 @@ loop-at-preserved c =
       came = goes_on c.args.self.now.max_line c.args.self.now.start c.loop-at.self.start c.step.new.self.start c.args.piece.now c.loop-at.at c.in-Ok.used c.loop-at.lines c.in-Ok.more i.within i.came
           (ap (λ m. meaning m c.loop-at.self.start (take c.in-Ok.used rest)) (sym i.limit) ∙ taken.took.came);
       sound = taken.took.sound;
-      limit = taken.limit ∙ i.limit;
+      limit = c.in-Ok.ensures.limit ∙ i.limit;
     }
 
 pub returns-in-Err-clause-fed : goal.returns-in-Err-clause-fed
 returns-in-Err-clause-fed c sound =
     let i = c.loop-at.invariant in
-    let s = c.in-Err.ensures.stopped in
+    let s = c.in-Err.ensures.step in
     let e = c.in-Err.e in
     let rest = take (length c.args.piece.now - c.loop-at.at) (drop c.loop-at.at c.args.piece.now) in
     record {

@@ -5,8 +5,8 @@ use Rattle.tk_client.proofs.Pieces.{meaning-append}
 use Rattle.tk_client.proofs.FeedLemmas.{goes-then, stopped-then, ended-stopped, at_end}
 use Rattle.tk_client.proofs.client.Client.step_rest.Goals as goal
 
-pub returns-in-Ok-clause-took : goal.returns-in-Ok-clause-took
-returns-in-Ok-clause-took c =
+pub returns-in-Ok-clause-step : goal.returns-in-Ok-clause-step
+returns-in-Ok-clause-step c =
     let old : ClientView = c.args.self.now in
     let mid : ClientView = c.hold.new.self in
     let new : ClientView = c.end_line.new.self in
@@ -14,12 +14,17 @@ returns-in-Ok-clause-took c =
     let came : meaning old.max_line old.start front ≡ goes mid.start 0 = c.in_ok-hold.ensures.held.came in
     let here : meaning old.max_line mid.start (10 ∷ []) ≡ goes new.start 1 = ap (λ m. meaning m mid.start (10 ∷ [])) (sym c.in_ok-hold.ensures.limit) ∙ c.in-Ok.ensures.ended.came in
     record {
-      came = ap (meaning old.max_line old.start) c.requires.through ∙ goes-then old.max_line old.start mid.start new.start front (10 ∷ []) 0 1 came here;
-      sound = c.in-Ok.ensures.ended.sound;
+      some = omega arith;
+      within = omega (arith, c.requires.inside);
+      few = omega arith;
+      took = record {
+        came = ap (meaning old.max_line old.start) c.requires.through ∙ goes-then old.max_line old.start mid.start new.start front (10 ∷ []) 0 1 came here;
+        sound = c.in-Ok.ensures.ended.sound;
+      };
     }
 
-pub returns-in_default-clause-stopped : goal.returns-in_default-clause-stopped
-returns-in_default-clause-stopped c =
+pub returns-in_default-clause-step : goal.returns-in_default-clause-step
+returns-in_default-clause-step c =
     let old : ClientView = c.args.self.now in
     let mid : ClientView = c.hold.new.self in
     let end : ℕ = c.args.end in

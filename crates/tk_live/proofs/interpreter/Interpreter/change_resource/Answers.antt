@@ -7,7 +7,7 @@ use Rattle.tk_core.specs.ResourceMeaning.{resource_meaning}
 use Rattle.tk_script.specs.Commands as said
 use Rattle.tk_script.specs.declared.stop.Stop.TheVariants.{Call}
 use Rattle.tk_live.specs.Items.{IsResource}
-use Rattle.tk_live.specs.Stops.{IsReply, MayFail, while_there, opening_of}
+use Rattle.tk_live.specs.Stops.{IsReply, StopByEnvironment, while_there, opening_of}
 use Rattle.tk_live.proofs.Places.{at_place, each_made, each_there, item_read}
 use Rattle.tk_live.proofs.OnResources.{change_unmade, change_shut, resource_did, no_resource}
 use Rattle.tk_live.proofs.interpreter.Interpreter.change_resource.Goals as goal
@@ -30,7 +30,7 @@ returns-in-Some g c line =
     (λ k p made unshut there. (
       ap while_there made ∙ ap (λ b. cond b (Some (Call Closed)) None) unshut,
       refl,
-      λ why refused. subst (λ w. MayFail k (said.change_resource n c.args.index c.args.op) w) (sym refused.1) (subst (λ o. IsReply resource_meaning (opening_of o) call refused.0) (sym there) refused.2),
+      λ why refused. subst (λ w. StopByEnvironment k (said.change_resource n c.args.index c.args.op) w) (sym refused.1) (subst (λ o. IsReply resource_meaning (opening_of o) call refused.0) (sym there) refused.2),
     )) refl
 
 pub returns-then-not-is_made : goal.returns-then-not-is_made

@@ -5,7 +5,7 @@ use Rattle.tk_events.specs.Items.{owner_view, first_values}
 use Rattle.tk_events.specs.Handles.{offers_made}
 use Rattle.tk_live.specs.Runs.{numbers_of}
 use Rattle.tk_script.specs.Commands as said
-use Rattle.tk_live.specs.Stops.{Stops}
+use Rattle.tk_live.specs.Stops.{StopReason}
 use Rattle.tk_live.proofs.Making.{is_new_resource, resource_made}
 use Rattle.tk_live.proofs.Recording.{unspent}
 use Rattle.tk_live.proofs.interpreter.Interpreter.make_resource.Goals as goal

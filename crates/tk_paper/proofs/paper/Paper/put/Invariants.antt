@@ -1,5 +1,5 @@
 use Rattle.std.proofs.Common.{map, take}
-use Rattle.tk_paper.specs.Behind.{Writes}
+use Rattle.tk_paper.specs.Pieces.{Writes}
 use Rattle.tk_paper.specs.Parts.{bit_of}
 use Rattle.tk_paper.proofs.paper.Paper.put.Given as goal
 

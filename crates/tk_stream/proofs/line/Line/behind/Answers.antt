@@ -6,7 +6,8 @@ use Rattle.tk_stream.proofs.line.Line.behind.Goals as goal
 
 pub returns-clause-ok : goal.returns-clause-ok
 returns-clause-ok c =
-    (λ i. record {
+    c.of_parts.ensures
+    ∙ (λ i. record {
       dropped = (c.dropped-dropped.ensures ∙ ap (λ (v : TablesView). v.dropped) (sym c.tables.view_is)) i;
       gone = None;
       new_ops = c.in_ok-new_ops.ensures i;

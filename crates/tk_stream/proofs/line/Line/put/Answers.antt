@@ -1,5 +1,5 @@
 use Rattle.json.specs.Print.{escape_byte}
-use Rattle.tk_stream.proofs.Behind.{both, before, nothing_before, short_both, short_put, taken, closes, line_split}
+use Rattle.tk_stream.proofs.Pieces.{both, before, nothing_before, short_both, short_put, taken, closes, line_split}
 use Rattle.tk_stream.proofs.line.Line.put.Goals as goal
 
 pub returns : goal.returns

@@ -1,5 +1,5 @@
 use Rattle.std.proofs.Common.{◌≡◌, ℕ, List, [], Ok, ap, ◌∙◌, append-nil}
-use Rattle.tk_stream.specs.Behind.{Takes}
+use Rattle.tk_stream.specs.Pieces.{Takes}
 use Rattle.tk_stream.specs.Lines.{LineView}
 use Rattle.tk_stream.specs.Ranges.{IsLine}
 use Rattle.tk_stream.specs.Reading.{line_of_text}

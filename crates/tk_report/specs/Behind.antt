@@ -1,6 +1,0 @@
--- A text that is put behind what is written.
-use Rattle.std.specs.Prelude.{◌≡◌, ℕ, List, ◌++◌}
-
--- the piece was put behind what was written
-pub record Puts (old new piece : List ℕ) : Type 0 where
-  pub is : new ≡ old ++ piece

@@ -1,0 +1,6 @@
+-- A text that is put after what is written.
+use Rattle.std.specs.Prelude.{◌≡◌, ℕ, List, ◌++◌}
+
+-- the piece was put after what was written
+pub record Puts (old new piece : List ℕ) : Type 0 where
+  pub is : new ≡ old ++ piece

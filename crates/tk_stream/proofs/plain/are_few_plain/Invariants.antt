@@ -1,5 +1,0 @@
-use Rattle.json.specs.Written.{PlainBetween}
-use Rattle.tk_stream.proofs.plain.are_few_plain.Given as goal
-
-abbrev pub invariant-loop-byte : goal.invariant-loop-byte
-invariant-loop-byte l = PlainBetween l.bytes 0 l.byte-index

@@ -1,5 +1,0 @@
-use Rattle.tk_stream.proofs.Behind.{open_behind}
-use Rattle.tk_stream.proofs.putting.put_open.Goals as goal
-
-pub returns : goal.returns
-returns g c = open_behind c.in_ok-put_text.ensures c.in_ok-put_items.ensures

@@ -1,9 +1,0 @@
-use Rattle.std.proofs.Common.{◌≡◌, length, take}
-use Rattle.tk_stream.proofs.slots.Slots.truncate.Given as goal
-
--- what is left begins with the slots that are kept
-abbrev pub invariant-loop-self : goal.invariant-loop-self
-invariant-loop-self g l = take l.count l.self ≡ take l.count l.fn.self
-
-abbrev pub decreases-loop-self : goal.decreases-loop-self
-decreases-loop-self g l = length l.self

@@ -1,5 +1,0 @@
-use Rattle.tk_stream.proofs.Behind.{Unescapes}
-use Rattle.tk_stream.proofs.takes.take_escaped.Given as goal
-
-abbrev pub invariant-loop : goal.invariant-loop
-invariant-loop l = Unescapes l.bytes l.text.items l.rest

@@ -1,5 +1,0 @@
-use Rattle.tk_stream.proofs.Behind.{text_taken}
-use Rattle.tk_stream.proofs.takes.take_text.Goals as goal
-
-pub returns-then-eq : goal.returns-then-eq
-returns-then-eq c = text_taken c.args.bytes.now c.args.text.now _ _ c.eq.result c.split_at.ensures.front c.split_at.ensures.back c.eq.ensures c.if-eq.true

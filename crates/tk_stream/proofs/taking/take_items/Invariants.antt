@@ -1,5 +1,0 @@
-use Rattle.tk_stream.proofs.Behind.{GoesOn}
-use Rattle.tk_stream.proofs.taking.take_items.Given as goal
-
-abbrev pub invariant-loop : goal.invariant-loop
-invariant-loop g l = GoesOn g.T.Taken.spelling l.list.items l.bytes l.rest
