@@ -11,9 +11,10 @@ use Rattle.tk_stream.specs.Streams.{Sending, GoesOn, AreToldOf, lines_sent}
 use Rattle.tk_stream.specs.Tables.{TablesView, empty_tables, task_id}
 use Rattle.tk_stream.specs.Times.{TaskTimes, times_id, same_times, all_times}
 use Rattle.tk_aggregator.specs.Told.{Told}
+use Rattle.tk_client.specs.Meaning.{greatest_line}
 use Rattle.tk_client.specs.Streams.{AreShort}
 use Rattle.tk_live.specs.Course.{Due, start_of_all, course_of}
-use Rattle.tk_live.specs.Ran.{AreLinesOf, CameOf, TellsTimes, kept_between, leaving, times_before, times_behind}
+use Rattle.tk_live.specs.Ran.{AreLinesOf, IsStreamOf, TellsTimes, kept_between, leaving, times_before, times_behind}
 use Rattle.tk_live.specs.Runs.{RiseTo}
 use Rattle.tk_script.specs.Commands.{Line, lines_of}
 use Rattle.tk_script.specs.declared.settings.Settings.{Settings}
@@ -63,11 +64,11 @@ each_told tables (Some times) are = are.each
 -- so little is told of items that no line of it is too long. Besides what a line tells of its items it names those that are gone, of which
 -- an id takes less than a tenth of the item
 abbrev IsLittle : ℕ → Type 0
-IsLittle size = 11 * size + 20000 ≤ 2684354560
+IsLittle size = 11 * size + 20000 ≤ 10 * greatest_line
 
 module _ (settings : Settings) (kept : List Bool) (told : List Told) (few : IsLittle (sum_by told_size told)) where
   lines_short : (before : TablesView) (had : List TaskTimes) (from last : ℕ) (due : List Due) (sent : List Sending) → RiseTo (length told) from due → AreLinesOf settings kept told before had from due sent → GoesOn before last sent
-      → tables_size before ≤ front_size told from → AreShort 268435456 (lines_sent before sent)
+      → tables_size before ≤ front_size told from → AreShort greatest_line (lines_sent before sent)
   lines_short before had from last [] [] rise lines on low = tt
   lines_short before had from last [] (s ∷ sent) rise lines on low = absurd lines
   lines_short before had from last (d ∷ due) [] rise lines on low = absurd lines
@@ -89,7 +90,7 @@ module _ (settings : Settings) (kept : List Bool) (told : List Told) (few : IsLi
       )
 
 -- what came of lines that make so little
-pub came_short : (settings : Settings) (ls : List Line) (kept : List Bool) (sent : List Sending) → IsLittle (sum_by line_size ls) → CameOf settings (course_of ls) kept sent → AreShort 268435456 (lines_sent empty_tables sent)
+pub came_short : (settings : Settings) (ls : List Line) (kept : List Bool) (sent : List Sending) → IsLittle (sum_by line_size ls) → IsStreamOf settings (course_of ls) kept sent → AreShort greatest_line (lines_sent empty_tables sent)
 came_short settings ls kept sent few came =
     lines_short settings kept (course_of ls).told (omega (arith, few, course_takes 1 ls start_of_all)) empty_tables [] 0 0 (course_of ls).due sent (course_rises 1 ls start_of_all (0, omega arith)) came.lines came.stream (omega arith)
 

@@ -9,7 +9,7 @@ use Rattle.tk_stream.specs.Spelling.{line_text, sent_text, is_one_line}
 use Rattle.tk_stream.specs.Streams.{Sending, GoesOn, IsUninterrupted, line_sent, tables_sent}
 use Rattle.tk_stream.specs.Tables.{TablesView, empty_tables}
 use Rattle.tk_stream.proofs.NoEnds.{text_is_one_line}
-use Rattle.tk_client.specs.Meaning.{Start, Outcome, empty_start, goes, stops, after}
+use Rattle.tk_client.specs.Meaning.{Start, Outcome, empty_start, goes, stops, after, greatest_line}
 use Rattle.tk_client.specs.Streams.{HasNoFault}
 use Rattle.tk_client.specs.Warnings.{LintsView, warnings_in}
 use Rattle.tk_client.proofs.Ends.{holds, no_end-take}
@@ -39,10 +39,10 @@ cut_is_one_line l front cut =
     subst (λ (bs : List ℕ). is_one_line bs ≡ true) same (no_end-take (length front) (line_text l) (text_is_one_line l))
 
 -- it comes to nothing behind whole lines
-pub cut_goes : (bytes front : List ℕ) (s : Start) (n : ℕ) → outcome_of bytes ≡ goes s n → s.part ≡ [] → is_one_line front ≡ true → length front ≤ 268435456
+pub cut_goes : (bytes front : List ℕ) (s : Start) (n : ℕ) → outcome_of bytes ≡ goes s n → s.part ≡ [] → is_one_line front ≡ true → length front ≤ greatest_line
     → outcome_of (bytes ++ front) ≡ goes (record s { part = s.part ++ front }) (n + 0)
 cut_goes bytes front s n comes none whole short =
-    meaning-append 268435456 empty_start s bytes front n comes ∙ ap (after n (length bytes)) (holds 268435456 s front whole (omega (arith, ap length none, short)))
+    meaning-append greatest_line empty_start s bytes front n comes ∙ ap (after n (length bytes)) (holds greatest_line s front whole (omega (arith, ap length none, short)))
 
 -- ---- bytes without a fault
 
@@ -52,7 +52,7 @@ fronts bytes s n k comes = by (outcome_of (take k bytes)) refl
     by : (o : Outcome) → outcome_of (take k bytes) ≡ o → HasNoFault o
     by (goes t m) is = tt
     by (stops t m fault used) is =
-        let same : outcome_of bytes ≡ stops t m fault used = ap outcome_of (sym (take-append-drop k bytes)) ∙ stops-append 268435456 empty_start (take k bytes) (drop k bytes) t m used fault is in
+        let same : outcome_of bytes ≡ stops t m fault used = ap outcome_of (sym (take-append-drop k bytes)) ∙ stops-append greatest_line empty_start (take k bytes) (drop k bytes) t m used fault is in
         let both : goes s n ≡ stops t m fault used = sym comes ∙ same in
         absurd (cc)
 

@@ -2,6 +2,7 @@
 use Rattle.std.proofs.Common.{◌≡◌, ℕ, ◌≤◌, Bool, List, [], ◌∷◌, ◌++◌, length, Result, Ok, Err, inl, inr, refl, ap, sym, ◌∙◌, append-nil}
 use Rattle.tk_stream.specs.Streams.{Sending, GoesOn, lines_sent}
 use Rattle.tk_stream.specs.Tables.{empty_tables}
+use Rattle.tk_client.specs.Meaning.{greatest_line}
 use Rattle.tk_client.specs.Streams.{AreShort}
 use Rattle.tk_fault.specs.declared.fault.AppFault.{AppFault}
 use Rattle.tk_fault.specs.declared.fault.AppFault.TheVariants as faults
@@ -9,8 +10,8 @@ use Rattle.tk_script.specs.Commands.{Said, Line, says, publish, lines_of, settin
 use Rattle.tk_script.specs.Refusals.{stop_name}
 use Rattle.tk_script.specs.declared.stop.Stop.{Stop}
 use Rattle.tk_script.specs.declared.stop.Stop.TheVariants.{WriteFault}
-use Rattle.tk_live.specs.Ran.{Ran, written_by}
-use Rattle.tk_live.specs.Script.{FrontOf, Fronts, StopsAt, RunWrites}
+use Rattle.tk_live.specs.Ran.{RunsThrough, written_by}
+use Rattle.tk_live.specs.Script.{FrontOf, Fronts, StopsAt, ScriptResult}
 use Rattle.tk_app.specs.Viewed.{WriterFailed}
 use Rattle.tk_app.proofs.ShortLines.{came_short, script_few}
 
@@ -18,7 +19,7 @@ use Rattle.tk_app.proofs.ShortLines.{came_short, script_few}
 pub record AreLines (written : List ℕ) (sent : List Sending) : Type 0 where
   pub bytes : written ≡ written_by sent
   pub on : GoesOn empty_tables 0 sent
-  pub short : AreShort 268435456 (lines_sent empty_tables sent)
+  pub short : AreShort greatest_line (lines_sent empty_tables sent)
 
 -- nothing of a line went out but by a fault of the writer
 publish_front : (sent : List Sending) (moment : ℕ) (whole : Bool) (stop : Stop) (front : List ℕ) → (stop ≡ WriteFault → ⊥) → FrontOf sent (publish moment whole) stop front → front ≡ []
@@ -37,11 +38,11 @@ module _ (answers : ℕ → Bool → Type 0) (script written : List ℕ) (short 
   abbrev lines : List Line
   lines = lines_of script
 
-  pub stop_few : (number : ℕ) (name : List ℕ) (at : StopsAt answers lines number name written) → AreShort 268435456 (lines_sent empty_tables at.sent)
+  pub stop_few : (number : ℕ) (name : List ℕ) (at : StopsAt answers lines number name written) → AreShort greatest_line (lines_sent empty_tables at.sent)
   stop_few number name at = came_short (settings_of lines) at.before at.kept at.sent (script_few script short at.before (at.line ∷ at.after) at.lines) at.came
 
   -- where no line stopped
-  pub ran_lines : (sent : List Sending) → Ran (settings_of lines) lines sent → written ≡ written_by sent → AreLines written sent
+  pub ran_lines : (sent : List Sending) → RunsThrough (settings_of lines) lines sent → written ≡ written_by sent → AreLines written sent
   ran_lines sent ran bytes = record {
     bytes = bytes;
     on = ran.came.stream;
@@ -49,7 +50,7 @@ module _ (answers : ℕ → Bool → Type 0) (script written : List ℕ) (short 
   }
 
   -- and whatever the run came to but a fault of the writer
-  pub wrote : (run : Result (Unit {0}) AppFault) → RunWrites answers script run written → (WriterFailed run → ⊥) → (sent : List Sending) × AreLines written sent
+  pub wrote : (run : Result (Unit {0}) AppFault) → ScriptResult answers script run written → (WriterFailed run → ⊥) → (sent : List Sending) × AreLines written sent
   wrote (Ok done) (sent, ran, bytes) whole = (sent, ran_lines sent ran bytes)
   wrote (Err (faults.Script number name)) (inl at) whole = (
     at.sent,

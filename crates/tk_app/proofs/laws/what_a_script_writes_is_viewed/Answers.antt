@@ -1,5 +1,6 @@
 use Rattle.std.proofs.Common.{ℕ, List, length, Some, subst}
 use Rattle.tk_stream.specs.Tables.{TablesView}
+use Rattle.tk_client.specs.Meaning.{greatest_line}
 use Rattle.tk_live.specs.Ran.{written_by}
 use Rattle.tk_report.specs.Uninterrupted.{ShowsTables}
 use Rattle.tk_report.specs.Views.{Views}
@@ -20,7 +21,7 @@ returns-clause-stopped g c gate script written run view lints left old new viewe
 pub returns-clause-cut_off : goal.returns-clause-cut_off
 returns-clause-cut_off g c gate script written name number view lints left old new viewed short at front_short v =
     let few = stop_few (g.G.Gate.answers gate) script written short number name at in
-    let taken = c.streams_are_taken.ensures.whole 268435456 at.sent (uninterrupted at.sent at.came.stream) few in
+    let taken = c.streams_are_taken.ensures.whole greatest_line at.sent (uninterrupted at.sent at.came.stream) few in
     let comes = cut_goes (written_by at.sent) at.front taken.0 (length at.sent) taken.1 taken.3 (line_front at.sent at.line at.stop at.front at.fronts) front_short in
     subst (λ (t : TablesView). ShowsTables view lints t viewed old new) taken.2
     (shown _ _ _ comes view lints left old new viewed (subst (λ (bytes : List ℕ). Views view lints (Some bytes) left viewed old new) at.all v))
