@@ -5,8 +5,8 @@ pub mod Pasts
 pub mod Blocks
 -- What its lines come to
 pub mod Course
-pub mod StopReason
-pub mod RunsThrough
+pub mod Stops
+pub mod Ran
 -- Reading a script, and what its run writes
 pub mod Transfer
 pub mod Script
