@@ -3,6 +3,7 @@
 
 mod command_line;
 mod files;
+mod help;
 mod outputs;
 mod program;
 mod terminal;

@@ -1,0 +1,214 @@
+//! What help says.
+
+pub(crate) const ABOUT: &str =
+    "Shows what the tasks of an async program did, as tokio-console would";
+
+pub(crate) const LONG_ABOUT: &str =
+    "Shows what the tasks of an async program did, as tokio-console would.
+
+A script says which tasks, resources and async operations there were and what was done to each. The
+program works out their statistics and writes them as a stream, one JSON object a line.
+docs/FORMATS.md explains both.";
+
+pub(crate) const AFTER_HELP: &str =
+    "The status is 0 if all was done, 1 after a fault (one line on standard error), 2 after words that ask for
+nothing that the program does, and 3 where `lint` found warnings.";
+
+pub(crate) const RUN_ABOUT: &str = "Runs a script and writes its stream to standard output";
+
+pub(crate) const RUN_LONG_ABOUT: &str = "Runs a script and writes its stream to standard output.
+
+A script has one command a line, its words between single spaces:
+  capacity COUNT         holds so many events between two lines, 1 to 65536; once, before other commands
+  retention SPAN         lets closed items leave after so many nanoseconds; once, before other commands
+  times                  gives each task a histogram of how long its polls ran; once, before other commands
+  task MOMENT KIND NAME  makes a task, of kind spawn or blocking
+  start TASK MOMENT      starts a poll of the task
+  selfwake TASK MOMENT   wakes the task from within its poll
+  end TASK MOMENT        ends its poll
+  polls TASK COUNT MOMENT RUN EVERY
+                         polls the task so often, 1 to 1000000: the first poll starts at the moment, each
+                         runs for RUN nanoseconds, and each further one starts EVERY nanoseconds later
+  close TASK MOMENT      closes the task
+  clone TASK             draws a waker from the task
+  again WAKER            draws a waker from a waker
+  wakeref WAKER MOMENT   wakes the waker's task, and keeps the waker
+  wake WAKER MOMENT      wakes it, and uses the waker up
+  release WAKER          drops the waker without a wake
+  par                    opens a block of two threads, up to `join`
+  1 COMMAND, 2 COMMAND   in a block: the first or second thread does a wakeref, wake or release
+  join                   runs the threads of the block, and waits for both
+  publish MOMENT         writes a line with what is new since the line before
+  snapshot MOMENT        writes a line that tells of all
+Resources have the commands resource, radd, rsub, rset and rclose, async operations op, optask,
+opstart, opend, opclose, oadd, osub, oset and pollop: docs/FORMATS.md has their words.
+Items are numbered from 1 in the order in which they are made, each kind by itself, and so are wakers.
+A moment is a number of nanoseconds. Empty lines and lines that begin with # are skipped.
+
+A new item and a poll operation are events. Of those since the line before 1024 are held where no capacity is
+said; where there are more, `dropped` counts what was lost: publish more often, or begin with a greater capacity.
+
+With a retention a line says which items are gone: each was closed for so long, and told of as closed before.
+With times a line tells the histograms that are new, or others than it told last.
+
+A script has at most 1,048,576 bytes. It stops at its first fault, and the lines before it stay.";
+
+pub(crate) const VIEW_ABOUT: &str =
+    "Reads a stream and writes the report of its tables to standard output";
+
+pub(crate) const VIEW_LONG_ABOUT: &str =
+    "Reads a stream and writes the report of its tables to standard output.
+
+  taskscope run < examples/first.script | taskscope view
+
+The report has a line for each task, resource and async operation, and one for each warning:
+`taskscope lint --help` says what they mean. docs/FORMATS.md explains the lines. A last line of the stream
+without its line end is ignored. After a fault nothing is written.
+
+With `--times` a line below a task says how many polls of it ended, how long the longest ran, and between which
+times the percentiles 50, 90 and 99 lie, in nanoseconds, where the stream tells of it, as one of version 3 does.
+A wall clock can't tell a long poll from one whose thread the system had put aside.
+
+The report is written at the end of the stream: `taskscope watch` shows a stream while it comes.";
+
+pub(crate) const LINT_ABOUT: &str =
+    "Reads a stream and writes the warnings about its tasks to standard output";
+
+pub(crate) const LINT_LONG_ABOUT: &str =
+    "Reads a stream and writes the warnings about its tasks to standard output.
+
+  taskscope run < examples/lost-waker.script | taskscope lint
+
+A task has these warnings:
+  lost-waker     nobody is left who could wake it: keep a waker of it until the wake
+  self-wakes     too many wakes are its own: let what it waits for wake it
+  never-yielded  its first poll runs too long: move work that blocks to a blocking task
+  long-poll      a poll of it ran as long as `--long-poll` says, or longer: let it yield, or move work that blocks
+
+A wall clock can't tell a long poll from one whose thread the system had put aside. Of polls that ended a stream of
+version 3 tells; of other streams the poll that runs is known alone.
+
+A waker, a task or a poll that a program lets go without its last call makes no entry, and counts as live: such a
+waker hides a lost-waker, and such a task never closes.
+
+A last line of the stream without its line end is ignored. After a fault nothing is written. The status is 3
+where there are warnings.";
+
+pub(crate) const PAGE_ABOUT: &str =
+    "Reads a stream and writes it as one page of HTML to standard output";
+
+pub(crate) const PAGE_LONG_ABOUT: &str =
+    "Reads a stream and writes it as one page of HTML to standard output.
+
+  taskscope run < examples/lost-waker.script | taskscope page > lost-waker.html
+
+The page needs no network and no other file: open it in a browser. What is odd comes first, with what to do:
+the warnings, which `taskscope lint --help` explains, and a task that holds up the others. Then each task has
+a row with its course of time: when it was polled, when it waited, and its wakes. Resources with their
+operations come last. At most 200 tasks are drawn, the odd ones first.
+
+A last line of the stream without its line end is ignored. After a fault nothing is written.";
+
+pub(crate) const WATCH_ABOUT: &str =
+    "Reads a stream and draws its tables as a screen while it comes";
+
+pub(crate) const WATCH_LONG_ABOUT: &str =
+    "Reads a stream and draws its tables as a screen while it comes.
+
+  service | taskscope watch
+
+A screen tells how many tasks are in each state, what is odd and what to do about it (`taskscope lint --help`
+explains the warnings), and shows the open tasks of most in a column, with where each was spawned.
+docs/FORMATS.md explains the lines.
+
+On a terminal a screen is drawn over the one before, and cut to the terminal's size: COLUMNS and LINES, which
+`./taskscope` sets, or else 80 by 24. It has colors unless NO_COLOR is set. Elsewhere, or where TERM is `dumb`,
+screens are text, one after the other.
+
+Tasks can be sorted by these columns:
+  busy        how long their polls ran
+  sched       how long they waited, scheduled
+  polls       how many polls of them started
+  wakes       how often they were woken
+  self-wakes  how often they woke themselves
+
+With `--keys` whoever sits at the terminal sorts by another column, pauses, looks at one task, and quits: `?` shows the
+keys. They come one by one where `./taskscope` has set the terminal's mode, which is as before once it ends. At the end
+of the stream the last screen then stays until `q`.
+
+A last line of the stream without its line end is ignored. At a fault the screen of what stood before it is drawn.";
+
+pub(crate) const METRICS_ABOUT: &str =
+    "Reads a stream and writes its numbers to standard output, as Prometheus reads them";
+
+pub(crate) const METRICS_LONG_ABOUT: &str =
+    "Reads a stream and writes its numbers to standard output, as Prometheus reads them.
+
+  taskscope run < examples/lost-waker.script | taskscope metrics > /var/lib/prometheus/node-exporter/tasks.prom
+
+Counts and times of tasks are sums over those of one name and kind. With tasks that left the stream, each sum
+keeps what they had come to. With `--by id` each task has numbers of its own, as long as it hasn't left.
+`taskscope lint --help` explains the warnings, docs/FORMATS.md the families, and docs/alerts.yml has alerts to copy.
+
+With `--to` the numbers are kept in a file while the stream comes, and nothing is written to standard output. The
+file is written anew once lines came, and at the end of the stream in any case: beside the old one, with `.new`
+after its name, which then takes its place. So who reads it never finds half of it.
+
+  service | taskscope metrics --to /var/lib/prometheus/node-exporter/tasks.prom
+
+A last line of the stream without its line end is ignored. After a fault nothing is written to standard output, and
+a file has the numbers of the lines before it.";
+
+pub(crate) const DEMO_ABOUT: &str =
+    "Runs three small tasks and writes their report to standard output";
+
+pub(crate) const DEMO_LONG_ABOUT: &str =
+    "Runs three small tasks and writes their report to standard output.
+
+`yield` wakes itself three times and is ready, `lose` drops the only waker that it had, and `hold` keeps its
+own, which nobody calls. They run on an executor over live ledgers, by a clock that tells 1000, 2000 and so on,
+until none is scheduled. An aggregator then reads them, and the report shows what it found.
+crates/tk_app/src/demonstration.rt has the code. Nothing is read from standard input.";
+
+pub(crate) const PERCENT_HELP: &str = "Warns where more of a hundred wakes are a task's own";
+
+pub(crate) const LIMIT_HELP: &str = "Warns where a first poll has run for so many nanoseconds";
+
+pub(crate) const LONG_POLL_HELP: &str =
+    "Warns where a poll ran for so many milliseconds, from 1 on";
+
+pub(crate) const TIMES_HELP: &str =
+    "Shows below a task how long its polls ran, where the stream tells of it";
+
+pub(crate) const SORT_HELP: &str = "Shows the tasks of most in this column first, else in `busy`";
+
+pub(crate) const ROWS_HELP: &str = "Shows so many tasks at most";
+
+pub(crate) const FILTER_HELP: &str = "Shows only tasks in whose name this stands";
+
+pub(crate) const RESOURCES_HELP: &str = "Shows resources and async operations too";
+
+pub(crate) const EVERY_HELP: &str = "Draws no two screens within so many milliseconds";
+
+pub(crate) const FOLLOW_HELP: &str = "Goes on at the end of the stream, as a file grows";
+
+pub(crate) const KEYS_HELP: &str = "Hears the terminal's keys: `?` tells which there are";
+
+pub(crate) const PLAIN_HELP: &str =
+    "Writes screens as text, one after the other, also on a terminal";
+
+pub(crate) const BY_HELP: &str =
+    "Adds up tasks by `name`, as where nothing is said, or shows each by `id`";
+
+pub(crate) const TO_HELP: &str =
+    "Keeps the numbers in this file, and writes none to standard output";
+
+pub(crate) const EVERY_SECONDS_HELP: &str = "Writes that file anew at most once in so many seconds";
+
+pub(crate) const FOLLOW_INTO_HELP: &str =
+    "Goes on at the end of the stream, as a file grows, where numbers are kept in a file";
+
+pub(crate) const EXPLAIN_HELP: &str =
+    "Tells below a fault its line and the rule that this breaks, and else what was left out";
+
+pub(crate) const FILE_HELP: &str = "Reads this file in place of standard input";
