@@ -1,4 +1,5 @@
 //! A reader that keeps what it gave.
+ghost use Rattle.std.specs.Prelude.{◌≡◌};
 
 use std::alloc::{AllocError, Global};
 use std::io;
@@ -20,7 +21,9 @@ pub struct Kept<R> {
 
 impl<R> Kept<R> {
     /// A reader that keeps all that it gave.
-    pub fn all(alloc: Global, reader: R) -> Kept<R> {
+    pub fn all(alloc: Global, reader: R) -> Kept<R>
+        ensures { result.reader ≡ reader }
+    {
         Kept {
             reader,
             alloc,
@@ -32,7 +35,9 @@ impl<R> Kept<R> {
     }
 
     /// A reader that keeps the lines that its last read gave bytes of.
-    pub fn last_lines(alloc: Global, reader: R) -> Kept<R> {
+    pub fn last_lines(alloc: Global, reader: R) -> Kept<R>
+        ensures { result.reader ≡ reader }
+    {
         Kept {
             reader,
             alloc,
@@ -59,7 +64,9 @@ impl<R> Kept<R> {
     }
 
     // Lets the lines go that have ended.
-    fn forget_ended(&mut self) -> Result<(), AllocError> {
+    fn forget_ended(&mut self) -> Result<(), AllocError>
+        ensures { self.new.reader ≡ self.old.reader }
+    {
         let mut start = 0;
         let mut ended = 0u64;
         for (at, byte) in self.bytes.iter().enumerate() {
@@ -78,7 +85,9 @@ impl<R> Kept<R> {
         Ok(())
     }
 
-    fn add(&mut self, piece: &[u8]) -> Result<(), AllocError> {
+    fn add(&mut self, piece: &[u8]) -> Result<(), AllocError>
+        ensures { self.new.reader ≡ self.old.reader }
+    {
         if !self.all {
             self.forget_ended()?;
         }
@@ -87,7 +96,9 @@ impl<R> Kept<R> {
     }
 
     // Keeps a piece more. Without memory for it nothing is kept from then on.
-    fn keep(&mut self, piece: &[u8]) {
+    fn keep(&mut self, piece: &[u8])
+        ensures { self.new.reader ≡ self.old.reader }
+    {
         if self.whole && self.add(piece).is_err() {
             self.whole = false;
             self.bytes = Vec::new(self.alloc);
