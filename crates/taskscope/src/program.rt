@@ -129,28 +129,23 @@ fn view<I: Read, O: Write, E: Write>(
     (outcome, tell_view(view, outcome, faults))
 }
 
-// Views a stream, and answers the status. What is explained of a fault stands below it.
-fn show<I: Read, O: Write, E: Write>(
+// Views the stream of an input, and answers that input, as its reads left it, and the status. What is explained of a fault stands below it.
+fn view_explained<I: Read, O: Write, E: Write>(
     alloc: Global,
     shown: View,
     lints: &Lints,
     times: &TimesOptions,
-    input: &mut I,
+    input: I,
     output: &mut O,
-    explains: bool,
     faults: &mut E,
-) -> u8
-    ensures does { ViewsStream shown lints.now times.now (I.remaining input.old) (I.remaining input.new) (O.contents output.old) (O.contents output.new) result }
-    ensures status { (result ≤ FAULT) ⊎ (result ≡ WARNED) }
+) -> (I, u8)
+    ensures does { ViewsStream shown lints.now times.now (I.remaining input) (I.remaining result.0) (O.contents output.old) (O.contents output.new) result.1 }
+    ensures status { (result.1 ≤ FAULT) ⊎ (result.1 ≡ WARNED) }
 {
-    if !explains {
-        let (_, status) = view(alloc, shown, lints, times, input, output, faults);
-        return status;
-    }
     let mut stream = Kept::last_lines(alloc, input);
     let (outcome, status) = view(alloc, shown, lints, times, &mut stream, output, faults);
     let _ = explain_stream(&stream, outcome, faults);
-    status
+    (stream.into_reader(), status)
 }
 
 // The status of a stream's page.
@@ -323,9 +318,14 @@ fn fulfil<
 {
     match request {
         Request::Run => run(rt, alloc, input, output, explains, faults),
-        Request::Show { view, lints, times } => show(
-            alloc, view, &lints, &times, input, output, explains, faults,
-        ),
+        Request::Show {
+            view: shown,
+            lints,
+            times,
+        } => {
+            let (_, status) = view(alloc, shown, &lints, &times, input, output, faults);
+            status
+        }
         Request::Page { lints } => tell_page(view_page(alloc, input, output, &lints), faults),
         Request::Watch(options) => {
             let text = filter_text(filter);
@@ -379,6 +379,20 @@ where
     ensures kept { option_map (λ p. p.now) to.entry ≡ None → place.new ≡ place.old }
     ensures status { (result ≤ FAULT) ⊎ (result ≡ WARNED) }
 {
+    if explains {
+        if let Request::Show {
+            view: shown,
+            lints,
+            times,
+        } = request
+        {
+            let (left, status) = view_explained(
+                alloc, shown, &lints, &times, *input, output, faults,
+            );
+            *input = left;
+            return status;
+        }
+    }
     match at_keys(&request) {
         Some(options) => {
             let text = filter_text(filter);
@@ -430,6 +444,17 @@ where
         Ok(file) => file,
         Err(error) => return tell_unopened(path, error, faults),
     };
+    if explains {
+        if let Request::Show {
+            view: shown,
+            lints,
+            times,
+        } = request
+        {
+            let (_, status) = view_explained(alloc, shown, &lints, &times, file, output, faults);
+            return status;
+        }
+    }
     match at_keys(&request) {
         Some(options) => {
             let text = filter_text(filter);

@@ -48,6 +48,13 @@ impl<R> Kept<R> {
         }
     }
 
+    /// The reader, which goes on after what it gave.
+    pub fn into_reader(self) -> R
+        ensures { result ≡ self.reader }
+    {
+        self.reader
+    }
+
     /// What is kept.
     pub fn bytes(&self) -> &[u8] {
         self.bytes.as_slice()
