@@ -36,7 +36,7 @@ made = f'''//! The frame of a page: its head with the style, and its end with th
 /// What stands before the page's text.
 pub const HEAD: &str = {literal(head)};
 
-/// What stands behind it.
+/// What stands after the page.
 pub const TAIL: &str = {literal(tail)};
 '''
 if "--check" in sys.argv:
