@@ -677,7 +677,7 @@ impl Aggregator {
     {
         let alloc = *self.tasks.allocator();
         let nothing = ToldTables::new(alloc);
-        let line = Line::behind(alloc, &nothing, &self.tables, now, self.last + 1, true)?;
+        let line = Line::since(alloc, &nothing, &self.tables, now, self.last + 1, true)?;
         match self.retention {
             Some(_) => Ok(line.removing_nothing()),
             None => Ok(line),
@@ -709,7 +709,7 @@ impl Aggregator {
                 Ok((line, Some(leaving)))
             }
             None => {
-                let line = Line::behind(alloc, &self.told, &self.tables, now, seq, false)?;
+                let line = Line::since(alloc, &self.told, &self.tables, now, seq, false)?;
                 Ok((line, None))
             }
         }

@@ -8,6 +8,7 @@ use Rattle.crossbeam_utils.specs.Register.{Turns}
 use Rattle.atomic_table.proofs.Lists.{at_set, set_again}
 use Rattle.atomic_table.specs.Seated.{TableId}
 use Rattle.tk_core.specs.declared.history.Entry.{Entry}
+use Rattle.tk_core.specs.Lists.{total}
 use Rattle.tk_core.specs.Meaning.{Meaning, NumbersAreNew, StepsTo, IsRowOf}
 use Rattle.tk_core.specs.History.{calls_of}
 use Rattle.tk_core.specs.Legal.{own, maker, may_call, has_ended, MayFollow, IsLegal}
@@ -16,7 +17,7 @@ use Rattle.tk_cell.specs.declared.part.Part.{Part}
 use Rattle.tk_cell.specs.declared.part.Part.TheVariants.{One}
 use Rattle.tk_cell.specs.Views.{times, list_of, IsDistinct, Known, known}
 use Rattle.tk_cell.specs.Calls.{entry, Calls}
-use Rattle.tk_cell.specs.Parts.{total, view_of, holds, IsOne, IsMade, Fits, IsPart, Runs, Kept}
+use Rattle.tk_cell.specs.Parts.{view_of, holds, IsOne, IsMade, Fits, IsPart, Runs, Kept}
 use Rattle.tk_cell.specs.Steps.{LooksAt, ExchangesAt, LeadsTo}
 use Rattle.tk_cell.proofs.ListLemmas.{prefix_self, dec_eq, total_set, total_none, times-append, times_itself, times_other}
 use Rattle.tk_cell.proofs.HistoryLemmas.{own_mine, own_other, maker_last, may_more, ended_same, legal_snoc, own_unmade, new_number}

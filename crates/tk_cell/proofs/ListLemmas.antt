@@ -7,7 +7,7 @@ use mathlib.Core.List.{IsPrefix}
 use native.Mathlib.Decide.{ℕ_discrete}
 use lib.ListN.{get_elem?}
 use Rattle.tk_cell.specs.Views.{times, without}
-use Rattle.tk_cell.specs.Parts.{total}
+use Rattle.tk_core.specs.Lists.{total}
 
 module _ {A : Type 0} where
   pub prefix_self : (xs : List A) → IsPrefix xs xs

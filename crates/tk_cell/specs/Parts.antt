@@ -5,6 +5,7 @@ use mathlib.Core.Option.{some}
 use mathlib.Core.List.{IsPrefix}
 use lib.ListN.{get_elem?}
 use Rattle.tk_core.specs.declared.history.Entry.{Entry}
+use Rattle.tk_core.specs.Lists.{total}
 use Rattle.tk_core.specs.Meaning.{Meaning}
 use Rattle.tk_core.specs.History.{calls_of}
 use Rattle.tk_core.specs.Legal.{own, maker, IsLegal}
@@ -12,11 +13,6 @@ use Rattle.tk_cell.specs.declared.view.View.{View}
 use Rattle.tk_cell.specs.declared.part.Part.{Part}
 use Rattle.tk_cell.specs.declared.part.Part.TheVariants.{Unopened, One, Two, Told, Hearing, Spent}
 use Rattle.tk_cell.specs.Views.{times, Holds, after_split, split_off, as_caller, unheld}
-
--- a number of each element, added up
-abbrev pub total : {V : Type 0} → (V → ℕ) → List V → ℕ
-total f [] = 0
-total f (v ∷ vs) = f v + total f vs
 
 -- the words before there is an opening row
 abbrev pub zeros : List ℕ

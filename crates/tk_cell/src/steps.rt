@@ -6,7 +6,7 @@ use crossbeam_utils::rule::Outcome;
 use std::marker::{Brand, PhantomData};
 use tk_core::Sequential;
 
-/// What a step is about, for the proof alone. A call at `Brand` picks it.
+/// What a step on something shared is about, for the proof alone. A call at `Brand` picks it.
 pub trait Pick<T> {
     ghost use Rattle.std.specs.Prelude.{Option};
 

@@ -1,6 +1,11 @@
 -- Words on lists: what a function picks of a list, and totals that stop at 2^64 - 1.
-use Rattle.std.specs.Prelude.{ℕ, ◌-◌, ◌^◌, min, max, Bool, List, [], ◌∷◌, ◌++◌, length, filter, sum_by, Option, Some, None, unwrap_or}
+use Rattle.std.specs.Prelude.{ℕ, ◌+◌, ◌-◌, ◌^◌, min, max, Bool, List, [], ◌∷◌, ◌++◌, length, filter, sum_by, Option, Some, None, unwrap_or}
 use Rattle.std.specs.List.{list_any, after_last, filter_map, last_or}
+
+-- a number of each item, added up
+abbrev pub total : {X : Type 0} → (X → ℕ) → List X → ℕ
+total f [] = 0
+total f (x ∷ xs) = f x + total f xs
 
 -- a count or a sum stays at the greatest `u64` once it is there
 abbrev pub capped : ℕ → ℕ
@@ -49,7 +54,7 @@ greatest_of f xs = greatest (filter_map f xs)
 unfoldable pub any_of : {X : Type 0} → (X → Bool) → List X → Bool
 any_of test xs = list_any test xs
 
--- whether an item passes the test behind the last that passes the mark (behind the start, where none does)
+-- whether an item passes the test after the last that passes the mark (after the start, where none does)
 unfoldable pub any_since : {X : Type 0} → (X → Bool) → (X → Bool) → List X → Bool
 any_since test mark xs = list_any test (after_last mark xs)
 

@@ -65,7 +65,7 @@ draws_handle _ = false
 
 -- ---- states and sums, of the accepted calls
 
--- scheduled: not closed, and either no poll was started or a wake stands behind the last start
+-- scheduled: not closed, and either no poll was started or a wake comes after the last start
 abbrev pub is_scheduled : List TaskCall → Bool
 is_scheduled calls = not (is_some (last_of close_at calls)) && (not (any_of (is_start start_at end_at) calls) || any_since is_wake (is_start start_at end_at) calls)
 

@@ -1,6 +1,6 @@
 //! The values of an item's attributes.
 //!
-//! They are kept in place as words and kinds, behind one another, with zeros up to six, so that a row is small and `Copy`.
+//! They are kept in place as words and kinds, one after another, with zeros up to six, so that a row is small and `Copy`.
 ghost use Rattle.std.specs.Prelude.{◌≡◌, true, ◌≤◌, ◌<◌, ◌↔◌, IsTrue, [], length, slice_get, slice_set, take};
 ghost use Rattle.tk_core.specs.AttrValues.{values_by};
 ghost use Rattle.tk_core.specs.AttrWords.{fit_words};

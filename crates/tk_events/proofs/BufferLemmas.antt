@@ -17,7 +17,7 @@ use Rattle.tk_events.specs.declared.buffer.view.View.{View}
 use Rattle.tk_events.specs.Offers.{offer_of, offers_of, by, Rises}
 use Rattle.tk_events.specs.Buffer.{first, spent, keeps, notes, takes, limits, makes, newborn, returned, takes_in, gives_back, lent, given_back, numbers_known, numbers_of, holds, IsKnown, IsRecorder, IsTaker, IsPart, IsNamed, Kept, IsContentFor, IsBalanced}
 use Rattle.tk_cell.specs.Views.{times}
-use Rattle.tk_cell.specs.Parts.{total}
+use Rattle.tk_core.specs.Lists.{total}
 use Rattle.tk_cell.proofs.ListLemmas.{dec_eq, times-append, times_itself, times_other, total_set, total_snoc, total_one, total_two, total_none}
 use Rattle.tk_events.proofs.ListLemmas.{times_one, times_at, each_set, at_below, by_mine, by_other, by_none, all_left, all_right, pairs_left}
 

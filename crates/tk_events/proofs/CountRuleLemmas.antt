@@ -13,7 +13,7 @@ use Rattle.tk_events.specs.declared.counts.view.Tally.{Tally}
 use Rattle.tk_events.specs.declared.counts.view.View.{View}
 use Rattle.tk_events.specs.Counts.{word_of, most, first, spent, adds, sees, makes, newborn, tally, takes_in, numbers_known, numbers_of, holds, IsCounted, IsAdder, IsReader, IsPart, Counted, Adds, Reads}
 use Rattle.tk_cell.specs.Views.{times}
-use Rattle.tk_cell.specs.Parts.{total}
+use Rattle.tk_core.specs.Lists.{total}
 use Rattle.tk_cell.proofs.ListLemmas.{dec_eq, times-append, times_itself, times_other, total_set, total_snoc, total_one, total_two, total_none}
 use Rattle.tk_events.proofs.ListLemmas.{times_one, each_set}
 

@@ -112,8 +112,8 @@ module _ (k p n x : ℕ) (old now next : List ℕ) (kl : k < 3) (pl : p < n) (si
   pub ahead_step : ((i : ℕ) → 3 * p ≤ i → slice_index now i ≡ slice_index old i) → (i : ℕ) → 3 * (p + 1) ≤ i → slice_index next i ≡ slice_index old i
   ahead_step h i le = there i (λ e. omega (arith, e, le, kl)) ∙ h i (omega (arith, le))
 
-  pub behind_step : (sum : ℕ) → ((i : ℕ) → 3 * p ≤ i → slice_index now i ≡ slice_index old i) → slice_index now (3 * p + k) ≤ x → total_of k p old ≤ sum → total_of k (p + 1) old ≤ sum + x
-  behind_step sum h rises le =
+  pub reached_step : (sum : ℕ) → ((i : ℕ) → 3 * p ≤ i → slice_index now i ≡ slice_index old i) → slice_index now (3 * p + k) ≤ x → total_of k p old ≤ sum → total_of k (p + 1) old ≤ sum + x
+  reached_step sum h rises le =
       let a = total_more k p old in
       let b = h (3 * p + k) (omega arith) in
       omega (arith, a, b, rises, le)

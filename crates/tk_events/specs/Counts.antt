@@ -3,7 +3,7 @@ use Rattle.std.specs.Prelude.{◌≡◌, ℕ, zero, suc, ◌+◌, ◌-◌, ◌*�
 use mathlib.Core.Option.{some}
 use lib.ListN.{get_elem?}
 use Rattle.tk_cell.specs.Views.{times}
-use Rattle.tk_cell.specs.Parts.{total}
+use Rattle.tk_core.specs.Lists.{total}
 use Rattle.atomic_table.specs.Table.{State, Me, Step}
 use Rattle.tk_events.specs.declared.counts.view.Role.{Role}
 use Rattle.tk_events.specs.declared.counts.view.Role.TheVariants.{Reads as ReadsRole, Adds as AddsRole, Spent}

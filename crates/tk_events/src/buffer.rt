@@ -19,10 +19,11 @@ pub mod view;
 use crate::item::{Item, Offer};
 use crate::recorder::Recorded;
 use crossbeam_queue::{Pass, RuledArrayQueue};
-use plays::{GiveBack, Lend, Limit, Make, Note, Pick, Pop, Push, TakeIn};
+use plays::{GiveBack, Lend, Limit, Make, Note, Pop, Push, TakeIn};
 use std::alloc::{AllocError, Global};
 use std::marker::Brand;
 use std::sync::{Arc, Wait};
+use tk_cell::Pick;
 use view::{Rule, View};
 
 /// The buffer, which the recorders and the taker share.

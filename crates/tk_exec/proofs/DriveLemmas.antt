@@ -126,7 +126,7 @@ behind_poll : (id : ℕ) (ready : Bool) (earlier : List Turn) → EndsPolled ear
 behind_poll id ready [] p = tt
 behind_poll id ready (answer ∷ earlier) p = p
 
--- what ends in a turn that polled a task also ends so behind idle turns
+-- what ends in a turn that polled a task also ends so after idle turns
 behind_idle : (n : ℕ) (answer : Turn) (earlier : List Turn) → EndsPolled (answer ∷ earlier) → EndsPolled (replicate n turns.Idle ++ answer ∷ earlier)
 behind_idle zero answer earlier p = p
 behind_idle (suc zero) answer earlier p = p
@@ -269,9 +269,9 @@ module _ {W A C : Type 0} (reads : C → ℕ → C → Type 0) (polls : W → Sc
   pub one_turn : (run : Option (Tasks W A)) (before after : Tasks W A) (answer : Turn) (clock clock' : C) (idle idle' max_idle : ℕ) (driver : Driving W A C)
       → record { tasks = run; clock = clock; idle = idle; max_idle = max_idle } ≡ driver → run ≡ Some before → unfinished before.seats ≢ 0 → TurnDoes reads polls gives before answer after clock clock' → idle' ≡ idle_after idle answer
       → OneTurn reads polls gives driver (record { tasks = Some after; clock = clock'; idle = idle'; max_idle = max_idle })
-  one_turn run before after answer clock clock' idle idle' max_idle driver view is some turned behind =
+  one_turn run before after answer clock clock' idle idle' max_idle driver view is some turned rest =
       subst (λ (d : Driving W A C). OneTurn reads polls gives d (record { tasks = Some after; clock = clock'; idle = idle'; max_idle = max_idle })) view
-      (record { before = before; after = after; answer = answer; stood = is; waits = omega (arith, some); stands = refl; turned = turned; idle = behind; most = refl })
+      (record { before = before; after = after; answer = answer; stood = is; waits = omega (arith, some); stands = refl; turned = turned; idle = rest; most = refl })
 
   -- what is given after a turn is given before it
   pub given_before : (old new : Tasks W A) (clock clock' : C) (idle max_idle : ℕ) (answer : Turn) → TurnDoes reads polls gives old answer new clock clock'

@@ -165,20 +165,20 @@ module _ {T : Type 0} where
     taken_values = remove_values slots slots' keys place are.kept less stays
 
     pub taken_kept : (keys' : List ℕ) → SameBelow keys keys' place → ShiftedDown keys keys' place → length keys' + 1 ≡ length keys → AreKept slots' keys'
-    taken_kept keys' below behind long = record {
+    taken_kept keys' below later_on long = record {
       kept = λ i low. has i low (cases_lt i place);
       apart = λ i j low low' same. one i j low low' (cases_lt i place) (cases_lt j place) same;
     }
       where
         has : (i : ℕ) → i < length keys' → (i < place) ⊎ (place ≤ i) → IsSome (value_at slots' (slice_index_or keys' i 0))
         has i low (inl first) = subst (λ (o : Option T). IsSome o) (sym (ap (λ (n : ℕ). value_at slots' n) (below i 0 first) ∙ stays i (omega (arith, long)) (λ e. absurd (omega (arith, e))))) (are.kept i (omega (arith, long)))
-        has i low (inr later) = subst (λ (o : Option T). IsSome o) (sym (ap (λ (n : ℕ). value_at slots' n) (behind i 0 later) ∙ stays (i + 1) (omega (arith, long)) (λ e. absurd (omega (arith, e))))) (are.kept (i + 1) (omega (arith, long)))
+        has i low (inr later) = subst (λ (o : Option T). IsSome o) (sym (ap (λ (n : ℕ). value_at slots' n) (later_on i 0 later) ∙ stays (i + 1) (omega (arith, long)) (λ e. absurd (omega (arith, e))))) (are.kept (i + 1) (omega (arith, long)))
 
         one : (i j : ℕ) → i < length keys' → j < length keys' → (i < place) ⊎ (place ≤ i) → (j < place) ⊎ (place ≤ j) → slice_index_or keys' i 0 ≡ slice_index_or keys' j 0 → i ≡ j
         one i j low low' (inl a) (inl b) same = are.apart i j (omega (arith, long)) (omega (arith, long)) (sym (below i 0 a) ∙ (same ∙ below j 0 b))
-        one i j low low' (inl a) (inr b) same = let e = are.apart i (j + 1) (omega (arith, long)) (omega (arith, long)) (sym (below i 0 a) ∙ (same ∙ behind j 0 b)) in absurd (omega (arith, e))
-        one i j low low' (inr a) (inl b) same = let e = are.apart (i + 1) j (omega (arith, long)) (omega (arith, long)) (sym (behind i 0 a) ∙ (same ∙ below j 0 b)) in absurd (omega (arith, e))
-        one i j low low' (inr a) (inr b) same = let e = are.apart (i + 1) (j + 1) (omega (arith, long)) (omega (arith, long)) (sym (behind i 0 a) ∙ (same ∙ behind j 0 b)) in omega (arith, e)
+        one i j low low' (inl a) (inr b) same = let e = are.apart i (j + 1) (omega (arith, long)) (omega (arith, long)) (sym (below i 0 a) ∙ (same ∙ later_on j 0 b)) in absurd (omega (arith, e))
+        one i j low low' (inr a) (inl b) same = let e = are.apart (i + 1) j (omega (arith, long)) (omega (arith, long)) (sym (later_on i 0 a) ∙ (same ∙ below j 0 b)) in absurd (omega (arith, e))
+        one i j low low' (inr a) (inr b) same = let e = are.apart (i + 1) (j + 1) (omega (arith, long)) (omega (arith, long)) (sym (later_on i 0 a) ∙ (same ∙ later_on j 0 b)) in omega (arith, e)
 
 module _ {W A : Type 0} (slots : List (Option (Seat W A))) (keys : List ℕ) (are : AreKept slots keys) where
   -- a place of the tasks is a place of their keys

@@ -38,7 +38,7 @@ module _ (a s w e : TaskSight) (first second : ℕ) (entries : TaskEntries) (p :
       (grows_more a s w (starts first) entries p q)
       (grows_more w e c (ends second) (closes second) r t)
 
--- an end, and a close behind it
+-- an end, and a close after it
 pub over_and_shut : (w e c : TaskSight) (second : ℕ) → Grows w (ends second) e → Grows e (closes second) c → Grows w (entry 0 (PollEnd second) Done ∷ closes second) c
 over_and_shut w e c second r t = grows_more w e c (ends second) (closes second) r t
 

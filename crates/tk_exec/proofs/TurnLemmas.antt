@@ -71,12 +71,12 @@ module _ {W A : Type 0} where
       low = f.from
 
       earlier : (i : ℕ) → ComesBefore begin i place → PassedOver (slice_get old i) (slice_get mid i)
-      earlier i (inl (from, inl behind)) = absurd (omega (arith, low))
+      earlier i (inl (from, inl beyond)) = absurd (omega (arith, low))
       earlier i (inl (from, inr first)) = carry (f.passed.passed i from first) refl (f.change.others i (λ is. absurd (omega (arith, is))))
       earlier i (inr (a, b, first)) = absurd (omega (arith, low))
 
       later_same : (i : ℕ) → ComesBefore begin place i → slice_get mid i ≡ slice_get old i
-      later_same i (inl (from, inl behind)) = f.change.others i (λ is. absurd (omega (arith, is, low))) ∙ f.passed.others i (inl behind)
+      later_same i (inl (from, inl beyond)) = f.change.others i (λ is. absurd (omega (arith, is, low))) ∙ f.passed.others i (inl beyond)
       later_same i (inl (from, inr later)) = f.change.others i (λ is. absurd (omega (arith, is))) ∙ f.passed.others i (inr (omega arith))
       later_same i (inr (a, b, later)) = absurd (omega (arith, low))
 
@@ -96,7 +96,7 @@ module _ {W A : Type 0} where
       high = f.to
 
       earlier : (i : ℕ) → i < length old → ComesBefore begin i place → PassedOver (slice_get old i) (slice_get mid i)
-      earlier i less (inl (from, inl behind)) = carry (p.passed i from less) refl (f.change.others i (λ is. absurd (omega (arith, is, high))) ∙ f.passed.others i (inr (omega (arith, high))))
+      earlier i less (inl (from, inl beyond)) = carry (p.passed i from less) refl (f.change.others i (λ is. absurd (omega (arith, is, high))) ∙ f.passed.others i (inr (omega (arith, high))))
       earlier i less (inl (from, inr first)) = absurd (omega (arith, high))
       earlier i less (inr (a, b, first)) = carry (f.passed.passed i (omega arith) first) (sym (p.others i (inl a))) (f.change.others i (λ is. absurd (omega (arith, is))))
 
@@ -127,12 +127,12 @@ module _ {W A : Type 0} where
         }
       where
         not_after : (i : ℕ) → ComesBefore old.next i place → i ≢ place
-        not_after i (inl (from, inl behind)) is = absurd (omega (arith, is))
+        not_after i (inl (from, inl beyond)) is = absurd (omega (arith, is))
         not_after i (inl (from, inr first)) is = absurd (omega (arith, is))
         not_after i (inr (a, b, first)) is = absurd (omega (arith, is))
 
         not_before : (i : ℕ) → ComesBefore old.next place i → i ≢ place
-        not_before i (inl (from, inl behind)) is = absurd (omega (arith, is))
+        not_before i (inl (from, inl beyond)) is = absurd (omega (arith, is))
         not_before i (inl (from, inr later)) is = absurd (omega (arith, is))
         not_before i (inr (a, b, later)) is = absurd (omega (arith, is))
 

@@ -29,7 +29,7 @@ EndsPolled (turns.Idle ∷ []) = ⊥
 EndsPolled (turns.Polled id ready ∷ []) = ⊤
 EndsPolled (answer ∷ next ∷ answers) = EndsPolled (next ∷ answers)
 
--- behind so many idle turns, turns that were answered this end in so many idle ones in a row, and no more
+-- after so many idle turns, turns that were answered this end in so many idle ones in a row, and no more
 pub record EndsIdle (before : ℕ) (answers : List Turn) (idle : ℕ) : Type 0 where
   pub earlier : List Turn
   pub polled : EndsPolled earlier
@@ -66,7 +66,7 @@ module _ {W A C : Type 0} (reads : C → ℕ → C → Type 0) (polls : W → Sc
     pub number : n ≡ unfinished left.seats
     pub waits : 0 < n
 
-  -- turns were made behind which no task is unfinished, and the outputs are those that the tasks have, in order of spawn: what the last poll of each work answered
+  -- turns were made, after which no task is unfinished, and the outputs are those that the tasks have, in order of spawn: what the last poll of each work answered
   pub record Finishes (tasks : Tasks W A) (clock : C) (outputs : List A) : Type 0 where
     pub answers : List Turn
     pub left : Tasks W A
@@ -85,7 +85,7 @@ module _ {W A C : Type 0} (reads : C → ℕ → C → Type 0) (polls : W → Sc
   abbrev pub DriverGives : Driving W A C → Ran A → Type 0
   DriverGives driver ran = RanGives driver.tasks driver.clock driver.idle driver.max_idle ran
 
-  -- some task wasn't finished, and exactly one turn was made, behind which the driver goes on
+  -- some task wasn't finished, and exactly one turn was made, after which the driver goes on
   pub record OneTurn (old new : Driving W A C) : Type 0 where
     pub before : Tasks W A
     pub after : Tasks W A

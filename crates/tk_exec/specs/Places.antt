@@ -29,7 +29,7 @@ module _ {W A : Type 0} where
     pub named : seat.task.id ≡ id
     pub only : (i : ℕ) (other : Seat W A) → slice_get seats i ≡ Some other → other.task.id ≡ id → i ≡ place
 
-  -- the tasks are kept under the keys that stand under their ids, the next turn begins at one of their places or behind them, and those that are not finished are counted
+  -- the tasks are kept under the keys that stand under their ids, the next turn begins at one of their places or after them, and those that are not finished are counted
   pub record AreOrdered (slots : List (Option (Seat W A))) (order : List (ℕ × ℕ)) (next count : ℕ) : Type 0 where
     pub kept : AreKept slots (values_of order)
     pub named : keys_of order ≡ ids_of (values_at slots (values_of order))

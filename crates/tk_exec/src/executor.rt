@@ -127,7 +127,7 @@ impl<W: Work> Executor<W> {
     }
 
     /// The output and the receipt of the task of this id, which leaves the executor, if it is finished. No other task is
-    /// looked at; those behind it move up by one place.
+    /// looked at; those after it move up by one place.
     pub fn take(&mut self, id: TaskId) -> Option<(W::Out, TaskReceipt)>
         ensures some { IfSome result (λ answer. Takes self.old self.new id answer.0 answer.1) }
         ensures none { IfNone result (NoneFinished self.old.seats id × (self.new ≡ self.old)) }
@@ -163,13 +163,13 @@ impl<W: Work> Executor<W> {
         let id = self.tasks[key].id();
         let ready = self.tasks[key].poll(rt, clock);
         self.unfinished = unfinished_after(self.unfinished, ready);
-        // The length says that the place behind this one is a number.
+        // The length says that the place after this one is a number.
         let _held = self.order.len();
         self.next = place + 1;
         Turn::Polled(id, ready)
     }
 
-    // The first place of these that shows scheduled. Those before it are looked at, and none behind it.
+    // The first place of these that shows scheduled. Those before it are looked at, and none after it.
     fn scheduled_between<R: Wait>(&mut self, rt: &R, first: usize, last: usize) -> Option<usize>
         requires order { first ≤ last }
         requires within { last ≤ length self.old.seats }
@@ -251,7 +251,7 @@ impl<W: Work> Executor<W> {
         receipts
     }
 
-    /// Puts the outputs of the finished tasks behind others, in order of spawn.
+    /// Puts the outputs of the finished tasks after others, in order of spawn.
     pub(crate) fn into_outputs(self, outputs: Vec<W::Out>) -> Vec<W::Out>
         requires { vec_len outputs + length self.seats ≤ vec_capacity outputs }
         ensures { result.items ≡ outputs.items ++ outputs_of self.seats }

@@ -8,7 +8,7 @@ ghost use Rattle.tk_ids.specs.Ids.{is_id, id_of, recorder_of, number_of, id_text
 
 use crate::error::IdError;
 use std::fmt;
-use std::marker::Model;
+use std::marker::{Model, PhantomData};
 
 /// How many recorders there are at most, numbered from 1.
 pub const MOST_RECORDERS: u64 = 64;
@@ -33,127 +33,35 @@ fn write_id<W: fmt::Write>(id: u64, f: &mut fmt::Formatter<W>) -> fmt::Result
     write!(f, "{recorder}.{number}")
 }
 
-/// The id of a task.
+/// The id of an item of kind `K`, as [`TaskId`] is the id of a task.
 #[derive(Clone, Copy, Debug, PartialEq, Eq, Hash)]
-pub struct TaskId {
+pub struct Id<K> {
     value: u64,
+    kind: PhantomData<K>,
 }
 
-impl Model for TaskId {
-    ghost use Rattle.std.specs.Prelude.{◌≡◌, ℕ, true};
-    ghost use Rattle.tk_ids.specs.Ids.{is_id};
+/// The kind of a task's id.
+#[derive(Clone, Copy, Debug, PartialEq, Eq, Hash)]
+pub struct OfTask;
 
-    ghost Value = { ℕ };
+/// The kind of a resource's id.
+#[derive(Clone, Copy, Debug, PartialEq, Eq, Hash)]
+pub struct OfResource;
 
-    ghost view = { λ id. id.value };
+/// The kind of an async operation's id.
+#[derive(Clone, Copy, Debug, PartialEq, Eq, Hash)]
+pub struct OfAsyncOp;
 
-    ghost invariant = { λ id. is_id id.value ≡ true };
-
-    ghost inverse = { λ v. record { value = v } };
-}
-
-impl TaskId {
-    /// The id with this value, or `BadId` where no id has it.
-    pub fn from_value(value: u64) -> Result<TaskId, IdError>
-        ensures { result ≡ if is_id value then Ok value else Err IdError.BadId }
-    {
-        if is_id(value) {
-            Ok(TaskId { value })
-        } else {
-            Err(IdError::BadId)
-        }
-    }
-
-    /// The id as one number.
-    pub fn value(self) -> u64
-        ensures value { result ≡ self }
-        ensures id { is_id result ≡ true }
-        ensures sum { result ≡ id_of (recorder_of result) (number_of result) }
-    {
-        self.value
-    }
-
-    /// The recorder, and the number among its tasks.
-    pub fn parts(self) -> (u64, u64)
-        ensures { result ≡ (recorder_of self, number_of self) }
-    {
-        parts_of(self.value)
-    }
-}
-
-/// `recorder.n`, as `1.7`.
-impl fmt::Display for TaskId {
-    ghost output = { λ id. Some (id_text id) };
-
-    fn fmt<W: fmt::Write>(&self, f: &mut fmt::Formatter<W>) -> fmt::Result {
-        write_id(self.value, f)
-    }
-}
+/// The id of a task.
+pub type TaskId = Id<OfTask>;
 
 /// The id of a resource.
-#[derive(Clone, Copy, Debug, PartialEq, Eq, Hash)]
-pub struct ResourceId {
-    value: u64,
-}
-
-impl Model for ResourceId {
-    ghost use Rattle.std.specs.Prelude.{◌≡◌, ℕ, true};
-    ghost use Rattle.tk_ids.specs.Ids.{is_id};
-
-    ghost Value = { ℕ };
-
-    ghost view = { λ id. id.value };
-
-    ghost invariant = { λ id. is_id id.value ≡ true };
-
-    ghost inverse = { λ v. record { value = v } };
-}
-
-impl ResourceId {
-    /// The id with this value, or `BadId` where no id has it.
-    pub fn from_value(value: u64) -> Result<ResourceId, IdError>
-        ensures { result ≡ if is_id value then Ok value else Err IdError.BadId }
-    {
-        if is_id(value) {
-            Ok(ResourceId { value })
-        } else {
-            Err(IdError::BadId)
-        }
-    }
-
-    /// The id as one number.
-    pub fn value(self) -> u64
-        ensures value { result ≡ self }
-        ensures id { is_id result ≡ true }
-        ensures sum { result ≡ id_of (recorder_of result) (number_of result) }
-    {
-        self.value
-    }
-
-    /// The recorder, and the number among its resources.
-    pub fn parts(self) -> (u64, u64)
-        ensures { result ≡ (recorder_of self, number_of self) }
-    {
-        parts_of(self.value)
-    }
-}
-
-/// `recorder.n`, as `1.7`.
-impl fmt::Display for ResourceId {
-    ghost output = { λ id. Some (id_text id) };
-
-    fn fmt<W: fmt::Write>(&self, f: &mut fmt::Formatter<W>) -> fmt::Result {
-        write_id(self.value, f)
-    }
-}
+pub type ResourceId = Id<OfResource>;
 
 /// The id of an async operation.
-#[derive(Clone, Copy, Debug, PartialEq, Eq, Hash)]
-pub struct AsyncOpId {
-    value: u64,
-}
+pub type AsyncOpId = Id<OfAsyncOp>;
 
-impl Model for AsyncOpId {
+impl<K> Model for Id<K> {
     ghost use Rattle.std.specs.Prelude.{◌≡◌, ℕ, true};
     ghost use Rattle.tk_ids.specs.Ids.{is_id};
 
@@ -163,16 +71,19 @@ impl Model for AsyncOpId {
 
     ghost invariant = { λ id. is_id id.value ≡ true };
 
-    ghost inverse = { λ v. record { value = v } };
+    ghost inverse = { λ v. record { value = v; kind = record {} } };
 }
 
-impl AsyncOpId {
+impl<K> Id<K> {
     /// The id with this value, or `BadId` where no id has it.
-    pub fn from_value(value: u64) -> Result<AsyncOpId, IdError>
+    pub fn from_value(value: u64) -> Result<Id<K>, IdError>
         ensures { result ≡ if is_id value then Ok value else Err IdError.BadId }
     {
         if is_id(value) {
-            Ok(AsyncOpId { value })
+            Ok(Id {
+                value,
+                kind: PhantomData,
+            })
         } else {
             Err(IdError::BadId)
         }
@@ -187,7 +98,7 @@ impl AsyncOpId {
         self.value
     }
 
-    /// The recorder, and the number among its async operations.
+    /// The recorder, and the number among its items of this kind.
     pub fn parts(self) -> (u64, u64)
         ensures { result ≡ (recorder_of self, number_of self) }
     {
@@ -196,7 +107,7 @@ impl AsyncOpId {
 }
 
 /// `recorder.n`, as `1.7`.
-impl fmt::Display for AsyncOpId {
+impl<K> fmt::Display for Id<K> {
     ghost output = { λ id. Some (id_text id) };
 
     fn fmt<W: fmt::Write>(&self, f: &mut fmt::Formatter<W>) -> fmt::Result {

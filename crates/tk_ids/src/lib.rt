@@ -27,7 +27,7 @@ mod spec;
 pub use attr::{AttrInfo, AttrKind, AttrSpec, AttrValue};
 pub use attrs::{AttrInfos, Attrs, MOST_ATTRIBUTES};
 pub use error::IdError;
-pub use id::{AsyncOpId, MOST_RECORDERS, ResourceId, TaskId};
+pub use id::{AsyncOpId, Id, MOST_RECORDERS, OfAsyncOp, OfResource, OfTask, ResourceId, TaskId};
 pub use id_block::IdBlock;
 pub use info::{Dropped, OpInfo, ResourceInfo, TaskInfo};
 pub use location::Location;

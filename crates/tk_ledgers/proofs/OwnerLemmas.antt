@@ -27,7 +27,7 @@ snoc_same (a ∷ []) [] x e = absurd cc
 snoc_same (a ∷ (b ∷ xs)) [] x e = absurd cc
 snoc_same (a ∷ xs) (b ∷ ys) x e = let heads : a ≡ b = cc in let tails = snoc_same xs ys x cc in cc (heads, tails)
 
--- the accepted calls of two lists of entries, one behind the other
+-- the accepted calls of two lists of entries, one after the other
 pub accepted_append : {Row C : Type 0} (xs ys : List (Entry C (Reply Row))) → accepted is_accepted (xs ++ ys) ≡ accepted is_accepted xs ++ accepted is_accepted ys
 unfolding accepted
 accepted_append xs ys = rw (filter-append, map-append) refl

@@ -37,7 +37,7 @@ none_more : (old new : TaskSight) → new.times ≡ old.times → TimesGrow old.
 unfolding accepted
 none_more old new is = subst (λ (times : List ℕ). TimesGrow old.times times new.times) (sym (runs_none (owner_calls old))) (times_kept old.times new.times is)
 
--- of the runs in two lists of entries the second ones begin behind the first
+-- of the runs in two lists of entries the second ones begin after the first
 runs_in : (a b : TaskSight) (xs ys : TaskEntries) → owner_list b ≡ owner_list a ++ xs
     → runs_after (owner_calls a) (accepted is_accepted xs) ++ runs_after (owner_calls b) (accepted is_accepted ys) ≡ runs_after (owner_calls a) (accepted is_accepted (xs ++ ys))
 runs_in a b xs ys is =

@@ -6,7 +6,7 @@ use Rattle.std.proofs.lemmas.List.{append-nil}
 use Rattle.std.proofs.lemmas.List.Elements.{filter-append}
 use Rattle.tk_core.specs.declared.history.Entry.{Entry}
 use Rattle.tk_core.specs.declared.reply.Reply.{Reply}
-use Rattle.tk_core.specs.Lists.{capped, count_of}
+use Rattle.tk_core.specs.Lists.{capped, count_of, total}
 use Rattle.tk_core.specs.History.{accepted}
 use Rattle.tk_core.specs.Fold.{is_accepted}
 use Rattle.tk_core.specs.Meaning.{Meaning}
@@ -16,21 +16,21 @@ use Rattle.tk_cell.specs.Views.{times}
 use Rattle.tk_cell.specs.Calls.{entry, Calls}
 use Rattle.tk_cell.proofs.ListLemmas.{dec_eq}
 use Rattle.tk_cell.proofs.HistoryLemmas.{may_made, prefix_is_legal, maker_more}
-use Rattle.tk_ledgers.specs.Sums.{HoldsAll, added, tally, sum_held}
+use Rattle.tk_ledgers.specs.Sums.{HoldsAll, tally, sum_held}
 
--- a total of entries, each with its weight
-module _ {C R : Type 0} (f : Entry C R → ℕ) (total : List (Entry C R) → ℕ) (zero' : total [] ≡ 0) (more : (e : Entry C R) (h : List (Entry C R)) → total (e ∷ h) ≡ f e + total h) where
+-- a sum over entries, each with its weight
+module _ {C R : Type 0} (f : Entry C R → ℕ) (summed : List (Entry C R) → ℕ) (zero' : summed [] ≡ 0) (more : (e : Entry C R) (h : List (Entry C R)) → summed (e ∷ h) ≡ f e + summed h) where
   abbrev held_total : List ℕ → List (Entry C R) → ℕ
-  held_total ns h = added (λ n. total (own n h)) ns
+  held_total ns h = total (λ n. summed (own n h)) ns
 
-  pub total-append : (xs ys : List (Entry C R)) → total (xs ++ ys) ≡ total xs + total ys
-  total-append [] ys = omega (arith, zero')
-  total-append (x ∷ xs) ys = omega (arith, more x (xs ++ ys), more x xs, total-append xs ys)
+  pub summed-append : (xs ys : List (Entry C R)) → summed (xs ++ ys) ≡ summed xs + summed ys
+  summed-append [] ys = omega (arith, zero')
+  summed-append (x ∷ xs) ys = omega (arith, more x (xs ++ ys), more x xs, summed-append xs ys)
 
-  own_here : (n : ℕ) (e : Entry C R) (h : List (Entry C R)) → e.caller ≡ n → total (own n (e ∷ h)) ≡ f e + total (own n h)
+  own_here : (n : ℕ) (e : Entry C R) (h : List (Entry C R)) → e.caller ≡ n → summed (own n (e ∷ h)) ≡ f e + summed (own n h)
   own_here n e h is = let t : eqb e.caller n ≡ true = eq-eqb e.caller n is in rw t (more e (own n h))
 
-  own_there : (n : ℕ) (e : Entry C R) (h : List (Entry C R)) → e.caller ≢ n → total (own n (e ∷ h)) ≡ total (own n h)
+  own_there : (n : ℕ) (e : Entry C R) (h : List (Entry C R)) → e.caller ≢ n → summed (own n (e ∷ h)) ≡ summed (own n h)
   own_there n e h isnt = let t : eqb e.caller n ≡ false = ne_eqb e.caller n isnt in rw t refl
 
   -- one more entry by nobody among them adds nothing, and one by one of them adds its weight
@@ -56,7 +56,7 @@ module _ {C R : Type 0} (f : Entry C R → ℕ) (total : List (Entry C R) → �
   none_held (n ∷ ns) = omega (arith, zero', none_held ns)
 
   -- the lists of distinct callers add up to no more than the history
-  pub held_least : (ns : List ℕ) (h : List (Entry C R)) → ((n : ℕ) → times n ns ≤ 1) → held_total ns h ≤ total h
+  pub held_least : (ns : List ℕ) (h : List (Entry C R)) → ((n : ℕ) → times n ns ≤ 1) → held_total ns h ≤ summed h
   held_least ns [] once = let z = none_held ns in omega (arith, z)
   held_least ns (e ∷ h) once = let rest = held_least ns h once in let o = once e.caller in let head = more e h in ⊎_elim
       (λ (some_held : 0 < times e.caller ns). let w = held_one ns e h (omega (arith, o, some_held)) in omega (arith, w, rest, head))
@@ -64,7 +64,7 @@ module _ {C R : Type 0} (f : Entry C R → ℕ) (total : List (Entry C R) → �
       (cases_lt 0 (times e.caller ns))
 
   -- and to as much, where each entry is by one of them
-  pub held_exact : (ns : List ℕ) (h : List (Entry C R)) → ((n : ℕ) → times n ns ≤ 1) → ((before later : List (Entry C R)) (e : Entry C R) → before ++ e ∷ later ≡ h → 0 < times e.caller ns) → held_total ns h ≡ total h
+  pub held_exact : (ns : List ℕ) (h : List (Entry C R)) → ((n : ℕ) → times n ns ≤ 1) → ((before later : List (Entry C R)) (e : Entry C R) → before ++ e ∷ later ≡ h → 0 < times e.caller ns) → held_total ns h ≡ summed h
   held_exact ns [] once all = let z = none_held ns in omega (arith, z, zero')
   held_exact ns (e ∷ h) once all =
       let rest = held_exact ns h once (λ before later x cut. all (e ∷ before) later x (ap (λ w. e ∷ w) cut)) in
@@ -115,14 +115,14 @@ module _ {O C R : Type 0} (m : Meaning O C R) where
             (dec_eq e.caller v.caller)
 
     -- what came before the call totals at least what the lists of the callers held do, and as much where all are held
-    module _ (f : Entry C R → ℕ) (total : List (Entry C R) → ℕ) (zero' : total [] ≡ 0) (more : (e : Entry C R) (h : List (Entry C R)) → total (e ∷ h) ≡ f e + total h) where
-      pub before_least : added (λ n. total (own n v.seen)) v.held ≤ total (v.seen ++ k.between)
-      before_least = let a = held_least f total zero' more v.held v.seen k.distinct in let b = total-append f total zero' more v.seen k.between in omega (arith, a, b)
+    module _ (f : Entry C R → ℕ) (summed : List (Entry C R) → ℕ) (zero' : summed [] ≡ 0) (more : (e : Entry C R) (h : List (Entry C R)) → summed (e ∷ h) ≡ f e + summed h) where
+      pub before_least : total (λ n. summed (own n v.seen)) v.held ≤ summed (v.seen ++ k.between)
+      before_least = let a = held_least f summed zero' more v.held v.seen k.distinct in let b = summed-append f summed zero' more v.seen k.between in omega (arith, a, b)
 
-      pub before_exact : HoldsAll m v → total (v.seen ++ k.between) ≡ added (λ n. total (own n v.seen)) v.held
+      pub before_exact : HoldsAll m v → summed (v.seen ++ k.between) ≡ total (λ n. summed (own n v.seen)) v.held
       before_exact all =
           let legal_v : IsLegal m k.opening v.seen = prefix_is_legal m k.opening v.seen w.seen (k.between ++ entry v.caller call reply ∷ [], sym (append_assoc v.seen k.between (entry v.caller call reply ∷ [])) ∙ sym k.grows) k.legal in
-          ap (λ (l : List (Entry C R)). total (v.seen ++ l)) (none_between all) ∙ (ap (λ (l : List (Entry C R)). total l) (append-nil v.seen) ∙ sym (held_exact f total zero' more v.held v.seen k.distinct (all_held k.opening v legal_v all)))
+          ap (λ (l : List (Entry C R)). summed (v.seen ++ l)) (none_between all) ∙ (ap (λ (l : List (Entry C R)). summed l) (append-nil v.seen) ∙ sym (held_exact f summed zero' more v.held v.seen k.distinct (all_held k.opening v legal_v all)))
 
 -- of no calls none passes a test
 none_yet : (Row : Type 0) {C : Type 0} (test : C → Bool) → tally {Row = Row} test [] ≡ 0
@@ -148,7 +148,7 @@ module _ {Row C : Type 0} (test : C → Bool) where
   pub tally_push : (h : List (Entry C (Reply Row))) (e : Entry C (Reply Row)) → tally test (h ++ e ∷ []) ≡ tally test h + one e
   tally_push h e =
       let nothing = none_yet Row test in let last = tally_cons e [] in
-      omega (arith, total-append one (tally test) nothing tally_cons h (e ∷ []), last, nothing)
+      omega (arith, summed-append one (tally test) nothing tally_cons h (e ∷ []), last, nothing)
 
   module _ (m : Meaning Row C (Reply Row)) (v : View Row C (Reply Row)) (call : C) (reply : Reply Row) (w : View Row C (Reply Row)) (k : Calls m v call reply w) where
     pub count_least : sum_held test v ≤ count_of test (accepted is_accepted (v.seen ++ k.between))

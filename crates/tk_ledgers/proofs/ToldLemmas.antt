@@ -33,7 +33,7 @@ use Rattle.tk_ledgers.proofs.OwnerLemmas.{OthersMakeNone, picked, same_picked, l
 use Rattle.tk_ledgers.proofs.ResourceCloseLemmas.{made_open}
 use Rattle.tk_ledgers.proofs.TaskPollLemmas as task_polls
 
--- a test behind one that it implies
+-- a test after one that it implies
 filter_within : {A : Type 0} (p q : A → Bool) (l : List A) → ((x : A) → p x ≡ true → q x ≡ true) → filter p (filter q l) ≡ filter p l
 filter_within p q [] within = refl
 filter_within {A = A} p q (x ∷ l) within = go (p x) (q x) refl refl (filter_within p q l within)

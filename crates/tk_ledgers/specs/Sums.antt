@@ -1,19 +1,14 @@
 -- What a reading shows, by the lists of the callers that a token holds.
-use Rattle.std.specs.Prelude.{◌≡◌, ℕ, Bool, List, ◌+◌, [], ◌∷◌, length, filter, Some}
+use Rattle.std.specs.Prelude.{◌≡◌, ℕ, Bool, List, length, filter, Some}
 use Rattle.tk_core.specs.declared.history.Entry.{Entry}
 use Rattle.tk_core.specs.declared.reply.Reply.{Reply}
-use Rattle.tk_core.specs.Lists.{capped}
+use Rattle.tk_core.specs.Lists.{capped, total}
 use Rattle.tk_core.specs.History.{accepted}
 use Rattle.tk_core.specs.Fold.{is_accepted}
 use Rattle.tk_core.specs.Meaning.{Meaning}
 use Rattle.tk_core.specs.Legal.{own, maker}
 use Rattle.tk_cell.specs.declared.view.View.{View}
 use Rattle.tk_cell.specs.Views.{Holds}
-
--- a number of each, added up
-abbrev pub added : {X : Type 0} → (X → ℕ) → List X → ℕ
-added f [] = 0
-added f (x ∷ xs) = f x + added f xs
 
 -- a token holds the owner, and each caller that was made in what it has seen
 abbrev pub HoldsAll : {O C R : Type 0} → Meaning O C R → View O C R → Type 0
@@ -26,4 +21,4 @@ module _ {Row C : Type 0} where
 
   -- the same over the lists of all callers that a token holds, added up, and at most 2^64 - 1
   abbrev pub sum_held : (C → Bool) → View Row C (Reply Row) → ℕ
-  sum_held test v = capped (added (λ n. tally test (own n v.seen)) v.held)
+  sum_held test v = capped (total (λ n. tally test (own n v.seen)) v.held)

@@ -47,7 +47,7 @@ IsOfHistogram times t = Some t.ledger ≡ option_map (λ (t : KnownTimes). t.led
 
 -- ---- the times of a histogram, and the polls of its task
 
--- how long the polls ran that these calls of a task's owner end, which come behind those before, in their order
+-- how long the polls ran that these calls of a task's owner end, which come after those before, in their order
 unfoldable pub runs_after : List TaskCall → List TaskCall → List ℕ
 runs_after before calls = filter_map (λ p. option_map (λ m. run_time start_at end_at p.0 p.1) (end_at p.1)) (each_after before calls)
 

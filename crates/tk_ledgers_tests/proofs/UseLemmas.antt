@@ -7,7 +7,7 @@ use Rattle.tk_core.specs.declared.reply.Reply.TheVariants.{Woken}
 use Rattle.tk_core.specs.declared.task.row.TaskRow.{TaskRow}
 use Rattle.tk_core.specs.declared.task.call.TaskCall.{TaskCall}
 use Rattle.tk_core.specs.declared.task.call.TaskCall.TheVariants.{WakeVal}
-use Rattle.tk_core.specs.Lists.{capped}
+use Rattle.tk_core.specs.Lists.{capped, total}
 use Rattle.tk_core.specs.Legal.{own}
 use Rattle.tk_core.specs.Task.{is_wake}
 use Rattle.tk_core.specs.TaskMeaning.{task_meaning}
@@ -15,7 +15,7 @@ use Rattle.tk_cell.specs.declared.view.View.{View}
 use Rattle.tk_cell.specs.Views.{times, Holds}
 use Rattle.tk_cell.specs.Calls.{entry, Joins}
 use Rattle.tk_cell.proofs.ListLemmas.{dec_eq, times-append}
-use Rattle.tk_ledgers.specs.Sums.{added, tally}
+use Rattle.tk_ledgers.specs.Sums.{tally}
 use Rattle.tk_ledgers.specs.Tasks.{TaskSight, CountsReach}
 use Rattle.tk_ledgers_tests.specs.Uses.{WokeOnce}
 use Rattle.tk_ledgers.proofs.SumLemmas.{tally_push}
@@ -27,12 +27,12 @@ TaskView = View TaskRow TaskCall (Reply TaskRow)
 abbrev wakes_of : TaskView → ℕ → ℕ
 wakes_of v n = tally is_wake (own n v.seen)
 
-added-append : (f : ℕ → ℕ) (xs ys : List ℕ) → added f (xs ++ ys) ≡ added f xs + added f ys
-added-append f [] ys = omega arith
-added-append f (x ∷ xs) ys = omega (arith, added-append f xs ys)
+total-append : (f : ℕ → ℕ) (xs ys : List ℕ) → total f (xs ++ ys) ≡ total f xs + total f ys
+total-append f [] ys = omega arith
+total-append f (x ∷ xs) ys = omega (arith, total-append f xs ys)
 
 -- one of the callers adds no more than all
-added_one : (f : ℕ → ℕ) (n : ℕ) (ns : List ℕ) → 0 < times n ns → f n ≤ added f ns
+added_one : (f : ℕ → ℕ) (n : ℕ) (ns : List ℕ) → 0 < times n ns → f n ≤ total f ns
 added_one f n [] held = absurd (omega (arith, held))
 added_one f n (k ∷ ns) held = ⊎_elim
     (λ (is : k ≡ n). let same : f k ≡ f n = ap f is in omega (arith, same))
@@ -68,8 +68,8 @@ both_wakes one two first second v0 v1 v2 row w1 w2 j1 j2 reach =
     let a1 = added_one f n1 first.token.view.held h1 in
     let a2 = added_one f n2 second.token.view.held h2 in
     let held : v2.held ≡ (v0.held ++ first.token.view.held) ++ second.token.view.held = j2.now_held ∙ ap (λ (l : List ℕ). l ++ second.token.view.held) j1.now_held in
-    let sum : added f v2.held ≡ (added f v0.held + added f first.token.view.held) + added f second.token.view.held =
-    ap (added f) held ∙ (added-append f (v0.held ++ first.token.view.held) second.token.view.held ∙ ap (λ (k : ℕ). k + added f second.token.view.held) (added-append f v0.held first.token.view.held)) in
-    let least : 2 ≤ added f v2.held = omega (arith, sum, a1, a2, one_wake, two_wakes) in
-    let shown : capped (added f v2.held) ≤ row.wakes = reach.1 in
+    let sum : total f v2.held ≡ (total f v0.held + total f first.token.view.held) + total f second.token.view.held =
+    ap (total f) held ∙ (total-append f (v0.held ++ first.token.view.held) second.token.view.held ∙ ap (λ (k : ℕ). k + total f second.token.view.held) (total-append f v0.held first.token.view.held)) in
+    let least : 2 ≤ total f v2.held = omega (arith, sum, a1, a2, one_wake, two_wakes) in
+    let shown : capped (total f v2.held) ≤ row.wakes = reach.1 in
     omega (arith, least, shown)

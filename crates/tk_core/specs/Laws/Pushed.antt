@@ -23,7 +23,7 @@ pub or_true : (b : Bool) → (b || true) ≡ true
 or_true true = refl
 or_true false = refl
 
--- one more item stands behind all others
+-- one more item, after all others
 pub each_after-append : {X : Type 0} (before xs ys : List X) → each_after before (xs ++ ys) ≡ each_after before xs ++ each_after (before ++ xs) ys
 each_after-append before [] ys = rw append-nil
 each_after-append before (x ∷ xs) ys = ap (λ ps. (before, x) ∷ ps) (each_after-append (before ++ x ∷ []) xs ys ∙ rw append_assoc)
@@ -89,7 +89,7 @@ cut xs x false n le =
     let e : length xs + 1 - (1 + n) ≡ length xs - n = omega arith in
     rw e (drop-append-le (length xs - n) xs (x ∷ []) (omega arith))
 
--- what stands behind the last that passes, after one more item
+-- what comes after the last that passes, after one more item
 pub after_last_push : {X : Type 0} (test : X → Bool) (xs : List X) (x : X) → after_last test (xs ++ x ∷ []) ≡ cond (test x) [] (after_last test xs ++ x ∷ [])
 after_last_push {X} test xs x =
     let fails = λ (y : X). not (test y) in

@@ -2,20 +2,8 @@
 use crate::buffer::view::View;
 use crate::item::{Item, Offer};
 use crossbeam_queue::protocol::{Join, Lesson, Outcome, Split};
-use std::marker::{Brand, PhantomData};
-
-/// What a step is about, for the proof alone. A call at `Brand` picks it.
-pub trait Pick<T> {
-    ghost use Rattle.std.specs.Prelude.{Option};
-
-    ghost picked: { Option T };
-}
-
-impl<T> Pick<T> for Brand {
-    ghost use Rattle.std.specs.Prelude.{None};
-
-    ghost picked = { None };
-}
+use std::marker::PhantomData;
+use tk_cell::Pick;
 
 /// A push of a recorder.
 pub(crate) struct Push;

@@ -174,7 +174,7 @@ fn passes_over_the_second<R: Wait>(
 }
 
 // Three tasks are polled one after the other; the one that lost its wakers is passed over from then on, and a turn goes
-// on behind the task that was polled last, also where a task before it was taken.
+// on after the task that was polled last, also where a task before it was taken.
 #[test]
 fn tasks_are_polled_in_turn(rt: HostRuntime) {
     let mut clock = Ticks::new();

@@ -1,6 +1,6 @@
 //! `==` of lists of attributes, attribute by attribute.
 //!
-//! A list keeps room for more behind its attributes, so that `==` is no derive. The laws follow the three fields.
+//! A list keeps room for more after its attributes, so that `==` is no derive. The laws follow the three fields.
 ghost use Rattle.std.specs.Cmp.{and_equiv, and_per, on_equiv, on_per, partial_equiv_from_equiv};
 ghost use Rattle.std.specs.Cmp.Lexicographic.{pointwise, lists_equiv, lists_per, options_equiv, nat_list_eq_equiv};
 ghost use Rattle.std.specs.Cmp.Rules.{comparing};

@@ -58,7 +58,7 @@ fn learn_all<R: Wait>(
     WAKERS.saturating_add(1)
 }
 
-// Reads behind all that the wakers did.
+// Reads after all that the wakers did.
 fn read_behind<R: Wait + Threads + Sync>(
     rt: &R,
     wakers: Vec<WakerHandle>,

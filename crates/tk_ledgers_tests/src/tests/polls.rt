@@ -31,7 +31,7 @@ const POLLS: [Poll; 4] = [
         polls: 1, sched: 50, busy: 20, scheduled: false },
     Poll { case: "an end before its start", created: 100, steps: &[Step::Start(500), Step::End(400)],
         polls: 1, sched: 400, busy: 0, scheduled: false },
-    Poll { case: "a start behind an end that ran backwards", created: 100,
+    Poll { case: "a start after an end that ran backwards", created: 100,
         steps: &[Step::Start(500), Step::End(400), Step::Wake(450), Step::Start(460)],
         polls: 2, sched: 410, busy: 0, scheduled: false },
     Poll { case: "busy time stays at the greatest number", created: 0,

@@ -57,7 +57,7 @@ fn read_task<R: Wait>(rt: &R, mut inspector: TaskInspector) -> (TaskInspector, b
     (inspector, rises)
 }
 
-// Whether the task is seen as closed behind all polls, by an inspector that learns the owner's receipt.
+// Whether the task is seen as closed after all polls, by an inspector that learns the owner's receipt.
 fn is_task_read_whole<R: Wait>(rt: &R, inspector: &mut TaskInspector, receipt: TaskReceipt) -> bool
     requires { receipt.token.ledger ≡ inspector.old.token.ledger }
 {

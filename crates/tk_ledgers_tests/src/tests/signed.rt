@@ -33,7 +33,7 @@ impl Change {
         answer.err() == self.refused
     }
 
-    // Whether this is the value behind the change.
+    // Whether this is the value after the change.
     fn is_left(&self, value: Option<AttrValue>) -> bool {
         value == Some(AttrValue::I64(self.after))
     }

@@ -145,7 +145,7 @@ impl Line {
 
     /// The line numbered `seq` that leads from the tables that were told to the tables at a moment, or, where nothing was
     /// told, their snapshot.
-    pub fn behind(
+    pub fn since(
         alloc: Global,
         told: &ToldTables,
         tables: &Tables,
@@ -199,7 +199,7 @@ impl Line {
     {
         tables.see();
         let (gone, leaving) = due(alloc, told, tables, now, retention)?;
-        let line = Line::behind(alloc, told, tables, now, seq, false)?;
+        let line = Line::since(alloc, told, tables, now, seq, false)?;
         Ok((line.without(gone, &leaving), leaving))
     }
 

@@ -124,9 +124,9 @@ pub(super) fn leads(alloc: Global, old: &Tables, new: &Tables, wanted: &Line, te
 
 // A text with another part in the place of one, where that first stands.
 pub(super) fn changed(alloc: Global, text: &str, old: &str, new: &str) -> Option<String> {
-    let (before, behind) = text.split_once(old)?;
+    let (before, after) = text.split_once(old)?;
     let mut text = String::from_str(alloc, before).ok()?;
     text.push_str(new).ok()?;
-    text.push_str(behind).ok()?;
+    text.push_str(after).ok()?;
     Some(text)
 }

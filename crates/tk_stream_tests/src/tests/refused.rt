@@ -6,7 +6,7 @@ use std::alloc::Global;
 use std::test::Fail;
 use tk_stream::LineError;
 
-// What `serde_json` does not read: no text, words that are no JSON, no UTF-8, a bare line end in a text, and a fault behind what
+// What `serde_json` does not read: no text, words that are no JSON, no UTF-8, a bare line end in a text, and a fault after what
 // no line has: another item, another kind of list, and a seventeenth key.
 #[rattlefmt::skip]
 const NO_JSON: [&[u8]; 13] = [

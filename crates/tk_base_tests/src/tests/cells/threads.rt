@@ -117,7 +117,7 @@ fn wake_twice<R: Wait + Threads + Sync>(
     shared.call(rt, owner, TaskCall::Read)
 }
 
-// What the owner, who is caller 0, reads behind the wakes of callers 1 and 2.
+// What the owner, who is caller 0, reads after the wakes of callers 1 and 2.
 fn read_behind<R: Wait + Threads + Sync>(
     rt: &R,
     shared: &Arc<Shared<TaskRow>>,

@@ -99,7 +99,7 @@ fn moved_signed(number: i64, changes: &[AttrOp], from: usize) -> i64 {
     sum
 }
 
-/// A value after its accepted changes: the last override, plus the adds and minus the subtractions behind it.
+/// A value after its accepted changes: the last override, plus the adds and minus the subtractions after it.
 pub fn value(first: AttrValue, changes: &[AttrOp]) -> AttrValue {
     let mut base = first;
     let mut from = 0;

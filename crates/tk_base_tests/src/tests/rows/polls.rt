@@ -35,7 +35,7 @@ const POLLS: [Poll; 7] = [
         polls: 2, sched: 80, busy: 20, scheduled: false },
     Poll { case: "an end before its start", created: 100, calls: &[TaskCall::PollStart(500), TaskCall::PollEnd(400)],
         polls: 1, sched: 400, busy: 0, scheduled: false },
-    Poll { case: "a start behind an end that ran backwards", created: 100,
+    Poll { case: "a start after an end that ran backwards", created: 100,
         calls: &[TaskCall::PollStart(500), TaskCall::PollEnd(400), TaskCall::WakeRef(450, false), TaskCall::PollStart(460)],
         polls: 2, sched: 410, busy: 0, scheduled: false },
     Poll { case: "a sum stays at the greatest number", created: 0,

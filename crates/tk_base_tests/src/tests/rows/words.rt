@@ -155,10 +155,10 @@ fn an_operation_with_signed_numbers_in_words(rt: HostRuntime) {
 // Words that no row has, each by one word of a row that was changed.
 #[rattlefmt::skip]
 const STRAY: [(&str, usize, u64); 6] = [
-    ("a flag behind the last", 0, 64 + 128),
+    ("a flag after the last", 0, 64 + 128),
     ("a moment without its flag", 2, 5),
     ("a last wake without its flag", 10, 5),
-    ("the word behind the last", 15, 1),
+    ("the word after the last", 15, 1),
     ("an attribute's bit", 0, 64 + 256),
     ("the highest bit", 0, 1 << 63),
 ];
@@ -178,14 +178,14 @@ fn words_of_no_task(rt: HostRuntime) {
 const STRAY_RESOURCE: [(&str, usize, u64); 11] = [
     ("seven attributes", 0, 7 * 256 + 2 * 65536),
     ("a bool of 2", 5, 2),
-    ("a bool behind the last attribute", 0, 2 * 256 + 4 * 65536),
-    ("a value behind the last attribute", 6, 1),
+    ("a bool after the last attribute", 0, 2 * 256 + 4 * 65536),
+    ("a value after the last attribute", 6, 1),
     ("a flag of a poll", 0, 2 + 2 * 256 + 2 * 65536),
     ("a bool that is signed too", 0, 2 * 256 + 2 * 65536 + 2 * 16777216),
-    ("a signed number behind the last attribute", 0, 2 * 256 + 2 * 65536 + 4 * 16777216),
-    ("a bool behind the sixth attribute", 0, 2 * 256 + (2 + 64) * 65536),
+    ("a signed number after the last attribute", 0, 2 * 256 + 2 * 65536 + 4 * 16777216),
+    ("a bool after the sixth attribute", 0, 2 * 256 + (2 + 64) * 65536),
     ("a bool at the byte's last bit", 0, 2 * 256 + (2 + 128) * 65536),
-    ("a signed number behind the sixth attribute", 0, 2 * 256 + 2 * 65536 + 64 * 16777216),
+    ("a signed number after the sixth attribute", 0, 2 * 256 + 2 * 65536 + 64 * 16777216),
     ("a signed number at the byte's last bit", 0, 2 * 256 + 2 * 65536 + 128 * 16777216),
 ];
 
@@ -204,11 +204,11 @@ fn words_of_no_resource(rt: HostRuntime) {
 const STRAY_OP: [(&str, usize, u64); 8] = [
     ("a task by a number that is no id", 9, 1099511627776),
     ("a flag of a wake", 0, 2 + 4 + 16 + 32 + 256),
-    ("a value behind the last attribute", 11, 1),
+    ("a value after the last attribute", 11, 1),
     ("a bool that is signed too", 0, 2 + 4 + 16 + 256 + 65536 + 16777216),
-    ("a bool behind the sixth attribute", 0, 2 + 4 + 16 + 256 + 64 * 65536),
+    ("a bool after the sixth attribute", 0, 2 + 4 + 16 + 256 + 64 * 65536),
     ("a bool at the byte's last bit", 0, 2 + 4 + 16 + 256 + 128 * 65536),
-    ("a signed number behind the sixth attribute", 0, 2 + 4 + 16 + 256 + 64 * 16777216),
+    ("a signed number after the sixth attribute", 0, 2 + 4 + 16 + 256 + 64 * 16777216),
     ("a signed number at the byte's last bit", 0, 2 + 4 + 16 + 256 + 128 * 16777216),
 ];
 

@@ -5,7 +5,7 @@ use Rattle.atomic_table.specs.Table.{Me}
 use Rattle.tk_events.specs.declared.counts.view.Tally.{Tally}
 use Rattle.tk_events.specs.declared.counts.view.View.{View}
 use Rattle.tk_events.specs.Counts.{most, word_of, total_of}
-use Rattle.tk_events.proofs.CountTotalLemmas.{sum_step, ahead_step, behind_step, others_step, exact_step, total_exact}
+use Rattle.tk_events.proofs.CountTotalLemmas.{sum_step, ahead_step, reached_step, others_step, exact_step, total_exact}
 use Rattle.tk_events.proofs.counts.total.Goals as goal
 
 with_seen : Me ℕ View → List ℕ → Me ℕ View
@@ -34,7 +34,7 @@ loop-p-preserved c =
       size = ap length seen ∙ (length-set now.0.seen (3 * p + k) x ∙ was.size);
       sum = sum_step k p n x before.0.seen now.0.seen next.0.seen c.requires.kind pl was.size seen c.loop-p.sum was.sum;
       ahead = ahead_step k p n x before.0.seen now.0.seen next.0.seen c.requires.kind pl was.size seen was.ahead;
-      behind = behind_step k p n x before.0.seen now.0.seen next.0.seen c.requires.kind pl was.size seen c.loop-p.sum was.ahead reads.rises was.behind;
+      reached = reached_step k p n x before.0.seen now.0.seen next.0.seen c.requires.kind pl was.size seen c.loop-p.sum was.ahead reads.rises was.reached;
       others = others_step k p n x before.0.seen now.0.seen next.0.seen c.requires.kind pl was.size seen was.others;
       exact = exact_step k p n x before.0.seen now.0.seen next.0.seen c.requires.kind pl was.size seen before.0.known was.exact
           (subst (λ (l : List Tally). All (λ t. (q : ℕ) → q < 3 → 3 * p + k ≡ word_of t.number q → x ≡ slice_index t.counts q) l) known reads.exact);

@@ -2,7 +2,7 @@ use Rattle.std.proofs.Common.{None, ap, ap₂, sym, ◌∙◌}
 use Rattle.tk_stream.specs.Fronts.{ToldView, told_tables}
 use Rattle.tk_stream.specs.Lines.{line_between}
 use Rattle.tk_stream.specs.Tables.{TablesView}
-use Rattle.tk_stream.proofs.line.Line.behind.Goals as goal
+use Rattle.tk_stream.proofs.line.Line.since.Goals as goal
 
 pub returns-clause-ok : goal.returns-clause-ok
 returns-clause-ok c =
