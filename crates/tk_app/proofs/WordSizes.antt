@@ -1,7 +1,7 @@
 -- What an item takes in a line, by the words of the command that makes it: at most 232 bytes for each byte of the script.
 use Rattle.std.proofs.Common.{◌≡◌, ℕ, ◌+◌, ◌*◌, ◌≤◌, List, [], ◌∷◌, ◌++◌, length, take, drop, Bool, true, false, cond, Option, Some, None, option_map, option_and_then, codes, refl, ap, arith}
 use Rattle.std.specs.Prelude.{◌==◌, ◌&&◌, nat_le, fold, position, sum_by, IfSome}
-use Rattle.std.specs.Option.{option_or, option_map_or}
+use Rattle.std.specs.Option.{option_map_or}
 use Rattle.std.specs.Str.{bytes_eq}
 use Rattle.std.proofs.lemmas.List.{length-take}
 use Rattle.std.proofs.lemmas.List.Sums.{sum_by-cons}
@@ -14,7 +14,7 @@ use Rattle.tk_ids.specs.declared.spec.TaskKind.{TaskKind}
 use Rattle.tk_ids.specs.declared.spec.TaskKind.TheVariants.{Spawn, Blocking}
 use Rattle.tk_events.specs.Items.{info_of, infos_of}
 use Rattle.tk_script.specs.Attributes.{attr_spec, named_value, value_of, attr, and_word, attrs_by}
-use Rattle.tk_script.specs.Commands.{Said, Line, skipped, bad, says, opens, joins, works, task, resource, op, poll_op, start, finish, close, self_wake, clone, again, wake_ref, wake, release, close_resource, change_resource, op_task, start_op, finish_op, close_op, change_op, capacity, retention, times, publish, task_by, task_said, waker_said, resource_by, change_by, resource_call_said, op_by, op_call_said, poll_op_by, alone, line_command, said_by, said, is_skipped, worker_of, worker_line_by, block_said_by, block_said, line_of, lines_of}
+use Rattle.tk_script.specs.Commands.{Said, Line, skipped, bad, says, opens, joins, works, task, resource, op, poll_op, start, finish, close, self_wake, clone, again, wake_ref, wake, release, close_resource, change_resource, op_task, start_op, finish_op, close_op, change_op, capacity, retention, times, publish, Form, forms, task_by, polls_by, resource_by, change_by, op_by, poll_op_by, alone, capacity_by, said_in, said_by, said, is_skipped, worker_of, worker_line_by, block_said_by, block_said, line_of, lines_of}
 use Rattle.tk_script.specs.Pieces.{pieces_at}
 use Rattle.tk_script.specs.Words.{moment, kind, readiness, one_number, two_numbers, five_numbers}
 use Rattle.tk_script.specs.declared.block.Worker.{Worker}
@@ -54,10 +54,6 @@ module _ {A : Type 0} {size : A → ℕ} {most : ℕ} where
   fits_test : (b : Bool) {o p : Option A} → (b ≡ true → Fits size most o) → Fits size most p → Fits size most (cond b o p)
   fits_test true f g = f refl
   fits_test false f g = g
-
-  fits_or : {o p : Option A} → Fits size most o → Fits size most p → Fits size most (option_or o p)
-  fits_or {o = Some x} f g = f
-  fits_or {o = None} f g = g
 
   fits_map : {X : Type 0} (f : X → A) (o : Option X) → ((x : X) → size (f x) ≤ most) → Fits size most (option_map f o)
   fits_map f (Some x) le = fits_some (le x)
@@ -173,41 +169,36 @@ module _ {most : ℕ} (words : List (List ℕ)) where
   change_free : (f : ℕ → ℕ → AttrValue → Said) → ((m n : ℕ) (v : AttrValue) → said_size (f m n v) ≡ 0) → Fits said_size most (option_map (λ p. f p.0 p.1 p.2) (change_by words))
   change_free f none = fits_map (λ (p : ℕ × ℕ × AttrValue). f p.0 p.1 p.2) (change_by words) (λ p. omega (arith, none p.0 p.1 p.2))
 
-task_said_fits : (w : List ℕ) (words : List (List ℕ)) → Fits said_size (232 * (long w + sum_by long words)) (task_said w words)
-task_said_fits w words =
-    fits_test _ (λ (is : bytes_eq w (codes "task") ≡ true). fits_more (232 * (5 + sum_by long words)) (omega (arith, ap length ((bytes_eq-Decides w (codes "task")).0 is))) (task_fits words))
-    (fits_if _ (two_free words start (λ m n. refl)) (fits_if _ (two_free words finish (λ m n. refl)) (fits_if _ (fits_then (five_numbers words) (λ p. fits_if _ (fits_some (omega arith)) fits_none))
-    (fits_if _ (two_free words close (λ m n. refl)) (fits_if _ (two_free words self_wake (λ m n. refl)) (fits_if _ (one_free words clone (λ n. refl)) fits_none))))))
+-- each form of a table fits by its word and the words after it
+abbrev AllFit : List Form → List (List ℕ) → Type 0
+AllFit [] words = Unit {0}
+AllFit (form ∷ forms) words = Fits said_size (232 * (long form.0 + sum_by long words)) (form.1 words) × AllFit forms words
 
-module _ (most : ℕ) (w : List ℕ) (words : List (List ℕ)) where
-  waker_fits : Fits said_size most (waker_said w words)
-  waker_fits = fits_if _ (one_free words again (λ n. refl)) (fits_if _ (two_free words wake_ref (λ m n. refl)) (fits_if _ (two_free words wake (λ m n. refl)) (fits_if _ (one_free words release (λ n. refl)) fits_none)))
+in_fits : (table : List Form) (w : List ℕ) (words : List (List ℕ)) → AllFit table words → Fits said_size (232 * (long w + sum_by long words)) (said_in table w words)
+in_fits [] w words fit = fits_none
+in_fits (form ∷ more) w words (fit, rest) =
+    fits_test (bytes_eq w form.0) (λ is. fits_more (232 * (long form.0 + sum_by long words)) (omega (arith, ap length ((bytes_eq-Decides w form.0).0 is))) fit) (in_fits more w words rest)
 
-  resource_call_fits : Fits said_size most (resource_call_said w words)
-  resource_call_fits =
-      fits_if _ (change_free words (λ n i v. change_resource n i (Add v)) (λ m n v. refl)) (fits_if _ (change_free words (λ n i v. change_resource n i (Sub v)) (λ m n v. refl))
-      (fits_if _ (change_free words (λ n i v. change_resource n i (Override v)) (λ m n v. refl)) (fits_if _ (two_free words close_resource (λ m n. refl)) fits_none)))
+polls_fit : {most : ℕ} (words : List (List ℕ)) → Fits said_size most (polls_by words)
+polls_fit words = fits_then (five_numbers words) (λ p. fits_if _ (fits_some (omega arith)) fits_none)
 
-  op_call_fits : Fits said_size most (op_call_said w words)
-  op_call_fits =
-      fits_if _ (two_free words op_task (λ m n. refl)) (fits_if _ (two_free words start_op (λ m n. refl)) (fits_if _ (two_free words finish_op (λ m n. refl)) (fits_if _ (two_free words close_op (λ m n. refl))
-      (fits_if _ (change_free words (λ n i v. change_op n i (Add v)) (λ m n v. refl)) (fits_if _ (change_free words (λ n i v. change_op n i (Sub v)) (λ m n v. refl)) (fits_if _ (change_free words (λ n i v. change_op n i (Override v)) (λ m n v. refl)) fits_none))))))
+capacity_fits : {most : ℕ} (words : List (List ℕ)) → Fits said_size most (capacity_by words)
+capacity_fits words = fits_then (one_number words) (λ n. fits_if (nat_le 1 n && nat_le n 65536) (fits_some {x = capacity n} (omega arith)) fits_none)
 
-  line_command_fits : Fits said_size most (line_command w words)
-  line_command_fits =
-      fits_if (bytes_eq w (codes "publish")) (one_free words (λ at. publish at false) (λ n. refl)) (fits_if (bytes_eq w (codes "snapshot")) (one_free words (λ at. publish at true) (λ n. refl))
-      (fits_if (bytes_eq w (codes "capacity")) (fits_then (one_number words) (λ n. fits_if (nat_le 1 n && nat_le n 65536) (fits_some {x = capacity n} (omega arith)) fits_none))
-      (fits_if (bytes_eq w (codes "retention")) (one_free words retention (λ n. refl)) (fits_if (bytes_eq w (codes "times")) (alone_fits times words (omega arith)) fits_none))))
+forms_fit : (words : List (List ℕ)) → AllFit forms words
+forms_fit words =
+    (fits_more (232 * (1 + sum_by long words)) (omega arith) (resource_fits words), fits_more (232 * (1 + sum_by long words)) (omega arith) (op_fits words), fits_more (232 * (1 + sum_by long words)) (omega arith) (poll_op_fits words),
+    task_fits words, two_free words start (λ m n. refl), two_free words finish (λ m n. refl), polls_fit words, two_free words close (λ m n. refl), two_free words self_wake (λ m n. refl), one_free words clone (λ n. refl),
+    one_free words again (λ n. refl), two_free words wake_ref (λ m n. refl), two_free words wake (λ m n. refl), one_free words release (λ n. refl),
+    change_free words (λ n i v. change_resource n i (Add v)) (λ m n v. refl), change_free words (λ n i v. change_resource n i (Sub v)) (λ m n v. refl),
+    change_free words (λ n i v. change_resource n i (Override v)) (λ m n v. refl), two_free words close_resource (λ m n. refl),
+    two_free words op_task (λ m n. refl), two_free words start_op (λ m n. refl), two_free words finish_op (λ m n. refl), two_free words close_op (λ m n. refl),
+    change_free words (λ n i v. change_op n i (Add v)) (λ m n v. refl), change_free words (λ n i v. change_op n i (Sub v)) (λ m n v. refl), change_free words (λ n i v. change_op n i (Override v)) (λ m n v. refl),
+    one_free words (λ at. publish at false) (λ n. refl), one_free words (λ at. publish at true) (λ n. refl), capacity_fits words, one_free words retention (λ n. refl), alone_fits times words (omega arith), tt)
 
 said_fits : (words : List (List ℕ)) → Fits said_size (232 * sum_by long words) (said_by words)
 said_fits [] = fits_none
-said_fits (w ∷ words) =
-    let most = 232 * sum_by long (w ∷ words) in
-    let less : 232 * (1 + sum_by long words) ≤ most = omega (arith, sum_by-cons long w words) in
-    let same : 232 * (long w + sum_by long words) ≤ most = omega (arith, sum_by-cons long w words) in
-    fits_if _ (fits_more (232 * (1 + sum_by long words)) less (resource_fits words)) (fits_if _ (fits_more (232 * (1 + sum_by long words)) less (op_fits words))
-    (fits_or (fits_more (232 * (long w + sum_by long words)) same (task_said_fits w words)) (fits_or (waker_fits most w words) (fits_or (resource_call_fits most w words) (fits_or (op_call_fits most w words)
-    (fits_if _ (fits_more (232 * (1 + sum_by long words)) less (poll_op_fits words)) (line_command_fits most w words)))))))
+said_fits (w ∷ words) = fits_more (232 * (long w + sum_by long words)) (omega (arith, sum_by-cons long w words)) (in_fits forms w words (forms_fit words))
 
 -- ---- lines
 

@@ -1,7 +1,7 @@
 -- What a line of a script says.
-use Rattle.std.specs.Prelude.{◌≡◌, ℕ, ◌+◌, ◌-◌, ◌*◌, ◌^◌, ◌<◌, ◌≤◌, List, [], ◌∷◌, length, map, if◌then◌else◌, Option, Some, None, option_map, option_and_then, codes, Bool, true, false, ◌==◌, ◌&&◌, nat_le, nat_lt}
+use Rattle.std.specs.Prelude.{◌≡◌, ℕ, ◌+◌, ◌-◌, ◌*◌, ◌^◌, ◌<◌, ◌≤◌, List, [], ◌∷◌, ◌++◌, length, map, if◌then◌else◌, Option, Some, None, option_map, option_and_then, codes, Bool, true, false, ◌==◌, ◌&&◌, nat_le, nat_lt}
 use Rattle.std.specs.List.{ends_with}
-use Rattle.std.specs.Option.{option_or, option_map_or}
+use Rattle.std.specs.Option.{option_map_or}
 use Rattle.std.specs.Str.{bytes_eq}
 use Rattle.tk_ids.specs.Names.{is_name}
 use Rattle.tk_ids.specs.declared.spec.TaskKind.{TaskKind}
@@ -118,25 +118,6 @@ are_polls count at run every = nat_le 1 count && (nat_le count 1000000 && nat_lt
 abbrev pub polls_by : List (List ℕ) → Option Said
 polls_by words = option_and_then (λ p. if are_polls p.1 p.2 p.3 p.4 then Some (polls p.0 p.1 p.2 p.3 p.4) else None) (five_numbers words)
 
--- a task, or calls of its owner
-abbrev pub task_said : List ℕ → List (List ℕ) → Option Said
-task_said w words =
-    if bytes_eq w (codes "task") then task_by words else
-    (if bytes_eq w (codes "start") then option_map (λ p. start p.0 p.1) (two_numbers words) else
-    (if bytes_eq w (codes "end") then option_map (λ p. finish p.0 p.1) (two_numbers words) else
-    (if bytes_eq w (codes "polls") then polls_by words else
-    (if bytes_eq w (codes "close") then option_map (λ p. close p.0 p.1) (two_numbers words) else
-    (if bytes_eq w (codes "selfwake") then option_map (λ p. self_wake p.0 p.1) (two_numbers words) else
-    (if bytes_eq w (codes "clone") then option_map (λ n. clone n) (one_number words) else None))))))
-
--- a call of a waker
-abbrev pub waker_said : List ℕ → List (List ℕ) → Option Said
-waker_said w words =
-    if bytes_eq w (codes "again") then option_map (λ n. again n) (one_number words) else
-    (if bytes_eq w (codes "wakeref") then option_map (λ p. wake_ref p.0 p.1) (two_numbers words) else
-    (if bytes_eq w (codes "wake") then option_map (λ p. wake p.0 p.1) (two_numbers words) else
-    (if bytes_eq w (codes "release") then option_map (λ n. release n) (one_number words) else None)))
-
 -- a moment, a kind, a type and attributes
 abbrev pub resource_by : List (List ℕ) → Option Said
 resource_by (m ∷ k ∷ t ∷ words) = option_and_then (λ at. if is_name k && is_name t then option_map (resource at k t) (attrs_by words) else None) (moment m)
@@ -147,30 +128,11 @@ abbrev pub change_by : List (List ℕ) → Option (ℕ × ℕ × AttrValue)
 change_by (n ∷ i ∷ v ∷ []) = option_and_then (λ number. option_and_then (λ index. option_map (λ value. (number, index, value)) (value_of v)) (moment i)) (moment n)
 change_by _ = None
 
--- a change of an attribute by a resource's user, or a close by its owner
-abbrev pub resource_call_said : List ℕ → List (List ℕ) → Option Said
-resource_call_said w words =
-    if bytes_eq w (codes "radd") then option_map (λ p. change_resource p.0 p.1 (Add p.2)) (change_by words) else
-    (if bytes_eq w (codes "rsub") then option_map (λ p. change_resource p.0 p.1 (Sub p.2)) (change_by words) else
-    (if bytes_eq w (codes "rset") then option_map (λ p. change_resource p.0 p.1 (Override p.2)) (change_by words) else
-    (if bytes_eq w (codes "rclose") then option_map (λ p. close_resource p.0 p.1) (two_numbers words) else None)))
-
 -- a moment, a resource, a source and attributes
 abbrev pub op_by : List (List ℕ) → Option Said
 op_by (m ∷ r ∷ source ∷ words) =
     option_and_then (λ at. option_and_then (λ n. if is_name source then option_map (op at n source) (attrs_by words) else None) (moment r)) (moment m)
 op_by _ = None
-
--- a call of the owner of an async operation
-abbrev pub op_call_said : List ℕ → List (List ℕ) → Option Said
-op_call_said w words =
-    if bytes_eq w (codes "optask") then option_map (λ p. op_task p.0 p.1) (two_numbers words) else
-    (if bytes_eq w (codes "opstart") then option_map (λ p. start_op p.0 p.1) (two_numbers words) else
-    (if bytes_eq w (codes "opend") then option_map (λ p. finish_op p.0 p.1) (two_numbers words) else
-    (if bytes_eq w (codes "opclose") then option_map (λ p. close_op p.0 p.1) (two_numbers words) else
-    (if bytes_eq w (codes "oadd") then option_map (λ p. change_op p.0 p.1 (Add p.2)) (change_by words) else
-    (if bytes_eq w (codes "osub") then option_map (λ p. change_op p.0 p.1 (Sub p.2)) (change_by words) else
-    (if bytes_eq w (codes "oset") then option_map (λ p. change_op p.0 p.1 (Override p.2)) (change_by words) else None))))))
 
 -- a resource, an operation, a task, the name of the poll operation, and how it ended
 abbrev pub poll_op_by : List (List ℕ) → Option Said
@@ -187,19 +149,88 @@ alone x (w ∷ words) = None
 abbrev pub capacity_by : List (List ℕ) → Option Said
 capacity_by words = option_and_then (λ n. if nat_le 1 n && nat_le n 65536 then Some (capacity n) else None) (one_number words)
 
--- a line of the stream, or a setting
-abbrev pub line_command : List ℕ → List (List ℕ) → Option Said
-line_command w words =
-    if bytes_eq w (codes "publish") then option_map (λ at. publish at false) (one_number words) else
-    (if bytes_eq w (codes "snapshot") then option_map (λ at. publish at true) (one_number words) else
-    (if bytes_eq w (codes "capacity") then capacity_by words else
-    (if bytes_eq w (codes "retention") then option_map (λ n. retention n) (one_number words) else
-    (if bytes_eq w (codes "times") then alone times words else None))))
+-- one number, two numbers, or a change, of which a command is made
+abbrev pub by_one : (ℕ → Said) → List (List ℕ) → Option Said
+by_one make words = option_map make (one_number words)
 
--- by the first word, and then by the rest
+abbrev pub by_two : (ℕ → ℕ → Said) → List (List ℕ) → Option Said
+by_two make words = option_map (λ p. make p.0 p.1) (two_numbers words)
+
+abbrev pub by_change : (ℕ → ℕ → AttrOp → Said) → (AttrValue → AttrOp) → List (List ℕ) → Option Said
+by_change make change words = option_map (λ p. make p.0 p.1 (change p.2)) (change_by words)
+
+-- ---- the commands, each by its word and by what the words after it say
+
+abbrev pub Form : Type 0
+Form = List ℕ × (List (List ℕ) → Option Said)
+
+-- a task, and calls of its owner
+abbrev pub task_forms : List Form
+task_forms =
+    (codes "task", task_by)
+    ∷ (codes "start", by_two start)
+    ∷ (codes "end", by_two finish)
+    ∷ (codes "polls", polls_by)
+    ∷ (codes "close", by_two close)
+    ∷ (codes "selfwake", by_two self_wake)
+    ∷ (codes "clone", by_one clone)
+    ∷ []
+
+-- calls of a waker
+abbrev pub waker_forms : List Form
+waker_forms =
+    (codes "again", by_one again)
+    ∷ (codes "wakeref", by_two wake_ref)
+    ∷ (codes "wake", by_two wake)
+    ∷ (codes "release", by_one release)
+    ∷ []
+
+-- changes of an attribute by a resource's user, and the close by its owner
+abbrev pub resource_call_forms : List Form
+resource_call_forms =
+    (codes "radd", by_change change_resource Add)
+    ∷ (codes "rsub", by_change change_resource Sub)
+    ∷ (codes "rset", by_change change_resource Override)
+    ∷ (codes "rclose", by_two close_resource)
+    ∷ []
+
+-- calls of the owner of an async operation
+abbrev pub op_call_forms : List Form
+op_call_forms =
+    (codes "optask", by_two op_task)
+    ∷ (codes "opstart", by_two start_op)
+    ∷ (codes "opend", by_two finish_op)
+    ∷ (codes "opclose", by_two close_op)
+    ∷ (codes "oadd", by_change change_op Add)
+    ∷ (codes "osub", by_change change_op Sub)
+    ∷ (codes "oset", by_change change_op Override)
+    ∷ []
+
+-- lines of the stream, and settings
+abbrev pub line_forms : List Form
+line_forms =
+    (codes "publish", by_one (λ at. publish at false))
+    ∷ (codes "snapshot", by_one (λ at. publish at true))
+    ∷ (codes "capacity", capacity_by)
+    ∷ (codes "retention", by_one retention)
+    ∷ (codes "times", alone times)
+    ∷ []
+
+-- what declares no attributes
+abbrev pub plain_forms : List Form
+plain_forms = (codes "pollop", poll_op_by) ∷ (task_forms ++ (waker_forms ++ (resource_call_forms ++ (op_call_forms ++ line_forms))))
+
+abbrev pub forms : List Form
+forms = (codes "resource", resource_by) ∷ (codes "op", op_by) ∷ plain_forms
+
+-- the form that has the first word says what the words after it say
+abbrev pub said_in : List Form → List ℕ → List (List ℕ) → Option Said
+said_in [] w words = None
+said_in (form ∷ more) w words = if bytes_eq w form.0 then form.1 words else said_in more w words
+
 abbrev pub said_by : List (List ℕ) → Option Said
 said_by [] = None
-said_by (w ∷ words) = if bytes_eq w (codes "resource") then resource_by words else if bytes_eq w (codes "op") then op_by words else option_or (task_said w words) (option_or (waker_said w words) (option_or (resource_call_said w words) (option_or (op_call_said w words) (if bytes_eq w (codes "pollop") then poll_op_by words else line_command w words))))
+said_by (w ∷ words) = said_in forms w words
 
 -- words that declare attributes
 abbrev pub declares : List (List ℕ) → Bool

@@ -215,7 +215,7 @@ fn polls_of(words: Pieces<'_>) -> Option<Command<'_>>
 
 // A task, or calls of its owner.
 fn task_command<'a>(word: &[u8], words: Pieces<'a>) -> Option<Command<'a>>
-    ensures said { option_map spec.view result ≡ spec.task_said word.now (pieces_left words.entry) }
+    ensures said { option_map spec.view result ≡ spec.said_in spec.task_forms word.now (pieces_left words.entry) }
     ensures good { IfSome result (λ c. spec.IsGood (spec.view c)) }
 {
     if word == b"task".as_slice() {
@@ -239,7 +239,7 @@ fn task_command<'a>(word: &[u8], words: Pieces<'a>) -> Option<Command<'a>>
 
 // A call of a waker.
 fn waker_command<'a>(word: &[u8], words: Pieces<'a>) -> Option<Command<'a>>
-    ensures said { option_map spec.view result ≡ spec.waker_said word.now (pieces_left words.entry) }
+    ensures said { option_map spec.view result ≡ spec.said_in spec.waker_forms word.now (pieces_left words.entry) }
     ensures good { IfSome result (λ c. spec.IsGood (spec.view c)) }
 {
     if word == b"again".as_slice() {
@@ -297,7 +297,7 @@ fn change_of(words: Pieces<'_>) -> Option<(u64, u64, AttrValue)>
 
 // A change of an attribute by a resource's user, or a close by its owner.
 fn resource_call<'a>(word: &[u8], words: Pieces<'a>) -> Option<Command<'a>>
-    ensures said { option_map spec.view result ≡ spec.resource_call_said word.now (pieces_left words.entry) }
+    ensures said { option_map spec.view result ≡ spec.said_in spec.resource_call_forms word.now (pieces_left words.entry) }
     ensures good { IfSome result (λ c. spec.IsGood (spec.view c)) }
 {
     if word == b"radd".as_slice() {
@@ -353,7 +353,7 @@ fn op_of<'a>(alloc: Global, words: Pieces<'a>) -> Result<Option<Command<'a>>, Al
 
 // A call of the owner of an async operation.
 fn op_call<'a>(word: &[u8], words: Pieces<'a>) -> Option<Command<'a>>
-    ensures said { option_map spec.view result ≡ spec.op_call_said word.now (pieces_left words.entry) }
+    ensures said { option_map spec.view result ≡ spec.said_in spec.op_call_forms word.now (pieces_left words.entry) }
     ensures good { IfSome result (λ c. spec.IsGood (spec.view c)) }
 {
     if word == b"optask".as_slice() {
@@ -442,7 +442,7 @@ fn times_of(words: Pieces<'_>) -> Option<Command<'_>>
 
 // A line of the stream, or a setting.
 fn line_command<'a>(word: &[u8], words: Pieces<'a>) -> Option<Command<'a>>
-    ensures said { option_map spec.view result ≡ spec.line_command word.now (pieces_left words.entry) }
+    ensures said { option_map spec.view result ≡ spec.said_in spec.line_forms word.now (pieces_left words.entry) }
     ensures good { IfSome result (λ c. spec.IsGood (spec.view c)) }
 {
     if word == b"publish".as_slice() {
@@ -466,6 +466,29 @@ fn line_command<'a>(word: &[u8], words: Pieces<'a>) -> Option<Command<'a>>
     }
 }
 
+// What declares no attributes.
+fn plain_command<'a>(word: &[u8], words: Pieces<'a>) -> Option<Command<'a>>
+    ensures said { option_map spec.view result ≡ spec.said_in spec.plain_forms word.now (pieces_left words.entry) }
+    ensures good { IfSome result (λ c. spec.IsGood (spec.view c)) }
+{
+    if word == b"pollop".as_slice() {
+        return poll_op_of(words);
+    }
+    if let Some(command) = task_command(word, words) {
+        return Some(command);
+    }
+    if let Some(command) = waker_command(word, words) {
+        return Some(command);
+    }
+    if let Some(command) = resource_call(word, words) {
+        return Some(command);
+    }
+    if let Some(command) = op_call(word, words) {
+        return Some(command);
+    }
+    line_command(word, words)
+}
+
 /// The command that a line of text says, if it says one: its words between single spaces.
 ///
 /// The error is want of memory, where it declares attributes.
@@ -484,20 +507,5 @@ pub fn command_of<'a>(alloc: Global, line: &'a [u8]) -> Result<Option<Command<'a
     if word == b"op".as_slice() {
         return op_of(alloc, words);
     }
-    if let Some(command) = task_command(word, words) {
-        return Ok(Some(command));
-    }
-    if let Some(command) = waker_command(word, words) {
-        return Ok(Some(command));
-    }
-    if let Some(command) = resource_call(word, words) {
-        return Ok(Some(command));
-    }
-    if let Some(command) = op_call(word, words) {
-        return Ok(Some(command));
-    }
-    if word == b"pollop".as_slice() {
-        return Ok(poll_op_of(words));
-    }
-    Ok(line_command(word, words))
+    Ok(plain_command(word, words))
 }
