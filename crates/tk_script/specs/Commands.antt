@@ -194,7 +194,7 @@ resource_call_forms =
     ∷ (codes "rclose", by_two close_resource)
     ∷ []
 
--- calls of the owner of an async operation
+-- calls of the owner of an async operation, and poll operations
 abbrev pub op_call_forms : List Form
 op_call_forms =
     (codes "optask", by_two op_task)
@@ -204,6 +204,7 @@ op_call_forms =
     ∷ (codes "oadd", by_change change_op Add)
     ∷ (codes "osub", by_change change_op Sub)
     ∷ (codes "oset", by_change change_op Override)
+    ∷ (codes "pollop", poll_op_by)
     ∷ []
 
 -- lines of the stream, and settings
@@ -218,7 +219,7 @@ line_forms =
 
 -- what declares no attributes
 abbrev pub plain_forms : List Form
-plain_forms = (codes "pollop", poll_op_by) ∷ (task_forms ++ (waker_forms ++ (resource_call_forms ++ (op_call_forms ++ line_forms))))
+plain_forms = task_forms ++ (waker_forms ++ (resource_call_forms ++ (op_call_forms ++ line_forms)))
 
 abbrev pub forms : List Form
 forms = (codes "resource", resource_by) ∷ (codes "op", op_by) ∷ plain_forms
