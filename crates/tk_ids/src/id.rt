@@ -2,12 +2,17 @@
 //!
 //! Tasks, resources and async operations have ids of their own, as in tokio-console, and each kind counts its own `n`
 //! from 1 to 2^40 - 1. An id is printed `recorder.n`.
-ghost use Rattle.std.specs.Prelude.{◌≡◌, true, Some, if◌then◌else◌};
+ghost use Rattle.std.specs.Prelude.{◌≡◌, ⊤, nat_eq, true, Some, if◌then◌else◌};
+ghost use Rattle.std.specs.Cmp.Rules.{comparing, hashing};
 ghost use Rattle.std.specs.Fmt.{DisplaysOnOk};
+ghost use Rattle.std.specs.Hash as fed;
+ghost use Rattle.std.proofs.Common.{rules};
 ghost use Rattle.tk_ids.specs.Ids.{is_id, id_of, recorder_of, number_of, id_text};
 
 use crate::error::IdError;
+use std::alloc::AllocError;
 use std::fmt;
+use std::hash::{Hash, Hasher};
 use std::marker::{Model, PhantomData};
 
 /// How many recorders there are at most, numbered from 1.
@@ -34,22 +39,22 @@ fn write_id<W: fmt::Write>(id: u64, f: &mut fmt::Formatter<W>) -> fmt::Result
 }
 
 /// The id of an item of kind `K`, as [`TaskId`] is the id of a task.
-#[derive(Clone, Copy, Debug, PartialEq, Eq, Hash)]
+#[derive(Debug)]
 pub struct Id<K> {
     value: u64,
     kind: PhantomData<K>,
 }
 
 /// The kind of a task's id.
-#[derive(Clone, Copy, Debug, PartialEq, Eq, Hash)]
+#[derive(Debug)]
 pub struct OfTask;
 
 /// The kind of a resource's id.
-#[derive(Clone, Copy, Debug, PartialEq, Eq, Hash)]
+#[derive(Debug)]
 pub struct OfResource;
 
 /// The kind of an async operation's id.
-#[derive(Clone, Copy, Debug, PartialEq, Eq, Hash)]
+#[derive(Debug)]
 pub struct OfAsyncOp;
 
 /// The id of a task.
@@ -103,6 +108,46 @@ impl<K> Id<K> {
         ensures { result ≡ (recorder_of self, number_of self) }
     {
         parts_of(self.value)
+    }
+}
+
+// Copies and `==` are written out, since derived ones would ask all of it of the kind.
+impl<K> Clone for Id<K> {
+    ghost is_clone = { λ x y. y ≡ x };
+
+    ghost is_infallible = { λ _. ⊤ };
+
+    fn clone(&self) -> Result<Id<K>, AllocError> {
+        Ok(Id {
+            value: self.value,
+            kind: PhantomData,
+        })
+    }
+}
+
+impl<K> Copy for Id<K> {}
+
+impl<K> PartialEq for Id<K> {
+    ghost eq = { nat_eq };
+
+    ghost laws = { Prim.search (comparing, rules) };
+
+    fn eq(&self, other: &Id<K>) -> bool {
+        self.value == other.value
+    }
+}
+
+impl<K> Eq for Id<K> {
+    ghost laws = { Prim.search (comparing, rules) };
+}
+
+impl<K> Hash for Id<K> {
+    ghost hash_input = { fed.u64 };
+
+    ghost respects_eq = { Prim.search (hashing, rules) };
+
+    fn hash<H: Hasher>(&self, state: &mut H) {
+        self.value.hash(state)
     }
 }
 
