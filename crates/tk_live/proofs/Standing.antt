@@ -12,7 +12,7 @@ use Rattle.tk_ledgers.specs.Ops.{OpSight}
 use Rattle.tk_ledgers.specs.Resources.{ResourceSight}
 use Rattle.tk_ledgers.specs.Tasks.{TaskSight}
 use Rattle.tk_aggregator.specs.Aggregates.{Aggregating}
-use Rattle.tk_aggregator.specs.Told.{Told}
+use Rattle.tk_aggregator.specs.Contents.{Content}
 use Rattle.tk_stream.specs.Streams.{Sending}
 use Rattle.tk_live.specs.Course.{Course}
 use Rattle.tk_live.specs.Items.{EachFrom, Holds}
@@ -126,7 +126,7 @@ unmarked i settings c kept sent stands = subst (λ (m : List Bool). Represents i
 
 -- and nothing told
 pub untold : (i : Interpreter) (settings : Settings) (c : Course) (kept : List Bool) (sent : List Sending) → Represents i settings c kept sent → Represents i settings (record c { told = c.told ++ [] }) (kept ++ []) sent
-untold i settings c kept sent stands = subst (λ (told : List Told). Represents i settings (record c { told = told }) (kept ++ []) sent) (sym (append-nil c.told)) (unmarked i settings c kept sent stands)
+untold i settings c kept sent stands = subst (λ (told : List Content). Represents i settings (record c { told = told }) (kept ++ []) sent) (sym (append-nil c.told)) (unmarked i settings c kept sent stands)
 
 -- items went on, as the text tells of them
 pub went_on : (i new : Interpreter) (settings : Settings) (c : Course) (ps : Pasts) (kept : List Bool) (sent : List Sending) → Represents i settings c kept sent
