@@ -14,7 +14,7 @@ use Rattle.tk_aggregator.specs.Contents.{Content}
 use Rattle.tk_client.specs.Meaning.{greatest_line}
 use Rattle.tk_client.specs.Streams.{AreShort}
 use Rattle.tk_live.specs.Course.{Due, start_of_all, course_of}
-use Rattle.tk_live.specs.Ran.{AreLinesOf, IsStreamOf, TellsTimes, kept_between, leaving, times_before, times_behind}
+use Rattle.tk_live.specs.Ran.{AreLinesOf, IsStreamOf, TellsTimes, kept_between, leaving, times_before, times_led_to}
 use Rattle.tk_live.specs.Runs.{RiseTo}
 use Rattle.tk_script.specs.Commands.{Line, lines_of}
 use Rattle.tk_script.specs.declared.settings.Settings.{Settings}
@@ -51,7 +51,7 @@ some_told old new =
 
 tells_few : (timed : Bool) (before : TablesView) (had : List TaskTimes) (s : Sending) → TellsTimes timed before had s → times_count s.told ≤ length s.tables.tasks
 tells_few true before had s are =
-    let shown = times_behind had before s in
+    let shown = times_led_to had before s in
     omega (arith, ap times_count are.told, some_told (times_before had s) shown, ap length are.one_each, length-map shown times_id, length-map s.tables.tasks task_id)
 tells_few false before had s none = omega (arith, ap times_count none)
 
@@ -86,7 +86,7 @@ module _ (settings : Settings) (kept : List Bool) (told : List Content) (few : I
           sum_by-take-le told_size told d.recorded,
           sent_short before s may.fit (each_told s.tables s.told may.told) (tells_few settings.times before had s line.times),
         ),
-        lines_short s.tables (times_behind had before s) d.recorded s.seq due sent rise.1 lines.1 on.2 now,
+        lines_short s.tables (times_led_to had before s) d.recorded s.seq due sent rise.1 lines.1 on.2 now,
       )
 
 -- what came of lines that make so little

@@ -7,12 +7,12 @@ use Rattle.tk_stream.specs.Tables.{TablesView, empty_tables}
 use Rattle.tk_stream.specs.Times.{TaskTimes}
 use Rattle.tk_aggregator.specs.Contents.{Content}
 use Rattle.tk_live.specs.Course.{Due}
-use Rattle.tk_live.specs.Ran.{AreLinesOf, IsLineOf, TellOf, kept_between, times_behind}
+use Rattle.tk_live.specs.Ran.{AreLinesOf, IsLineOf, TellOf, kept_between, times_led_to}
 use Rattle.tk_live.specs.Runs.{RiseTo, recorded_by}
 use Rattle.tk_script.specs.declared.settings.Settings.{Settings}
 use Rattle.tk_live.proofs.Lists.{first_push}
 
--- ---- elements of a list that has more behind them
+-- ---- elements of a list that goes on after them
 
 pub between_still : {X : Type 0} (from to : ℕ) (xs more : List X) → to ≤ length xs → between from to (xs ++ more) ≡ between from to xs
 between_still {X} from to xs more le = by (leb from to) refl
@@ -67,7 +67,7 @@ module _ (settings : Settings) (kept ks : List Bool) (told ts : List Content) (o
   lines_still before had from (d ∷ due) [] rise lines = absurd lines
   lines_still before had from (d ∷ due) (s ∷ sent) rise lines = (
     subst (λ (since : List Content). IsLineOf settings before had since d s) (sym (between_kept from d.recorded (rise_low (length told) d.recorded due rise.1))) lines.0,
-    lines_still s.tables (times_behind had before s) d.recorded due sent rise.1 lines.1,
+    lines_still s.tables (times_led_to had before s) d.recorded due sent rise.1 lines.1,
   )
 
 -- one recording more, which was kept or not: the lines tell of what was recorded as before

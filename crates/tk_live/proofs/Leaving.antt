@@ -1,4 +1,4 @@
--- What a line tells behind another, and what leaves with it.
+-- What a line tells after another, and what leaves with it.
 use Rattle.std.proofs.Common.{◌≡◌, ℕ, Bool, true, false, List, [], ◌∷◌, ◌++◌, Option, Some, None, refl, sym, ap, ◌∙◌, arith}
 use Rattle.std.specs.Prelude.{map, is_some}
 use Rattle.tk_events.specs.declared.event.Shown.{Shown}
@@ -17,7 +17,7 @@ use Rattle.tk_aggregator.specs.Aggregates.{Aggregating, IsSound, pruned, tables_
 use Rattle.tk_aggregator.specs.Contents.{Content, content_of}
 use Rattle.tk_aggregator.proofs.FollowLemmas.{infos_left}
 use Rattle.tk_live.specs.Course.{Due}
-use Rattle.tk_live.specs.Ran.{infos_with, leaving, times_behind, kept_between, IsLineOf, AreLinesOf}
+use Rattle.tk_live.specs.Ran.{infos_with, leaving, times_led_to, kept_between, IsLineOf, AreLinesOf}
 use Rattle.tk_live.specs.Runs.{RiseTo, recorded_by}
 use Rattle.tk_script.specs.declared.settings.Settings.{Settings}
 
@@ -70,7 +70,7 @@ pub lines_push : (settings : Settings) (kept : List Bool) (told : List Content) 
 lines_push settings kept told t had from [] [] d s each line = (line, tt)
 lines_push settings kept told t had from [] (y ∷ ys) d s each line = absurd each
 lines_push settings kept told t had from (e ∷ es) [] d s each line = absurd each
-lines_push settings kept told t had from (e ∷ es) (y ∷ ys) d s each line = (each.0, lines_push settings kept told y.tables (times_behind had t y) e.recorded es ys d s each.1 line)
+lines_push settings kept told t had from (e ∷ es) (y ∷ ys) d s each line = (each.0, lines_push settings kept told y.tables (times_led_to had t y) e.recorded es ys d s each.1 line)
 
 pub recorded_push : (from : ℕ) (due : List Due) (d : Due) → recorded_by from (due ++ d ∷ []) ≡ d.recorded
 recorded_push from [] d = refl

@@ -1,4 +1,4 @@
--- What an interpreter stands for behind the offer of a new item.
+-- What an interpreter stands for after the offer of a new item.
 use Rattle.std.proofs.Common.{◌≡◌, ℕ, ◌+◌, ◌<◌, ◌≤◌, ◌⊎◌, true, false, inr, List, [], ◌∷◌, ◌++◌, Bool, length, Some, None, Option, refl, sym, ap, ◌∙◌, subst, arith, length-append}
 use Rattle.std.specs.Prelude.{IsSome}
 use Rattle.std.specs.Global.{Vec}
@@ -60,7 +60,7 @@ use Rattle.tk_live.proofs.Recording.{IsLonger, stands_more}
 pub nothing_more : (n : ℕ) → n + 0 ≡ n
 nothing_more n = omega arith
 
--- the recorder's next items have the numbers behind the text's
+-- the recorder's next items have the numbers after the text's
 module _ (r : Recording) (capacity : ℕ) (ps : Pasts) (told : List Content) (kept : List Bool) (o : Offered r capacity (numbers_of ps) told kept) where
   pub task_id_is : next_task_id r ≡ id_of 1 (length ps.tasks + 1)
   task_id_is = ap (λ m. id_of m (tasks_in r.kept + tasks_in r.refused + 1)) o.number ∙ ap (λ m. id_of 1 (m + 1)) o.tasks_are

@@ -18,7 +18,7 @@ use Rattle.tk_live.specs.Ran.{kept_between}
 use Rattle.tk_live.specs.Read.{CollectsAll, MayRead, AreItemsRead}
 use Rattle.tk_live.specs.Runs.{HaveTimes, Represents, IsTaskLedger, IsResourceLedger, IsOpLedger, OffersLedger, AreLinked, offer_content, recorded_by}
 use Rattle.tk_live.specs.declared.interpreter.Interpreter.{Interpreter}
-use Rattle.tk_live.proofs.Between.{kept_behind, kept_all}
+use Rattle.tk_live.proofs.Between.{kept_after, kept_all}
 use Rattle.tk_live.proofs.ItemsRead.{are_called, held_stays, infos_stay, still_holds, still_linked, stream_stays, times_stay}
 use Rattle.tk_live.proofs.Leaving.{recorded_push, rise_push}
 use Rattle.tk_live.proofs.Linking.{AreReaders, gathered_readers}
@@ -42,7 +42,7 @@ module _ (i : Interpreter) (settings : Settings) (c : Course) (kept : List Bool)
   collected =
       let told : map offer_content i.taker.taken ++ map offer_content all.gathers.offers ≡ items_where_true kept c.told =
       sym (map-append offer_content i.taker.taken all.gathers.offers) ∙ (ap (map offer_content) (sym (ap (λ (x : Taking). x.taken) all.gathers.taker) ∙ same_taken) ∙ stands.offered.picks) in
-      let came : map offer_content all.gathers.offers ≡ since = kept_behind (recorded_by 0 c.due) kept c.told (map offer_content all.gathers.offers) (map offer_content i.taker.taken) stands.came.one_each stands.taken told in
+      let came : map offer_content all.gathers.offers ≡ since = kept_after (recorded_by 0 c.due) kept c.told (map offer_content all.gathers.offers) (map offer_content i.taker.taken) stands.came.one_each stands.taken told in
       subst (λ (x : Aggregating). HasGathered x settings c.now (length c.due) sent since) (sym all.now)
       (told_totals all.gathered (dropped_in u.last) settings c.now (length c.due) sent since
       (gathered i.aggregator all.gathered i.taker all.taker all.taken settings c.now (length c.due) sent since stands.has_told all.gathers none_held came (λ timed. subst HaveTimes (sym same_taken) (stands.timed timed))))

@@ -170,7 +170,7 @@ left_reads : (whole : Bool) (a : Aggregating) (now : ℕ) → (left_at whole a n
 left_reads true a now = refl
 left_reads false a now = pruned_reads a.retention a now
 
--- the number behind a line
+-- the number after a line
 pub line_last : (whole : Bool) (a : Aggregating) (now : ℕ) → (after_line whole a now).last ≡ a.last + 1
 line_last whole a now = ap (λ n. n + 1) (left_last whole a now)
 

@@ -1,4 +1,4 @@
--- What an interpreter stands for behind a command that calls on one item.
+-- What an interpreter stands for after a command that calls on one item.
 use Rattle.std.proofs.Common.{◌≡◌, ◌⊎◌, ℕ, ◌-◌, Bool, true, false, cond, List, [], ◌∷◌, ◌++◌, length, Option, Some, None, inl, inr, refl, sym, ap, ◌∙◌, subst}
 use Rattle.std.specs.Prelude.{is_some}
 use Rattle.std.specs.List.{AllByRecursion}
@@ -150,6 +150,6 @@ went_on i new settings c ps kept sent stands holds tasks_stay resources_stay ops
   times_is = stands.times_is;
 }
 
--- what is behind commands that call on one item: what the text calls on items, and nothing more
+-- what stands after commands that call on one item: what the text calls on items, and nothing more
 abbrev pub calling : Course → Pasts → Course
 calling c ps = record c { pasts = ps; told = c.told ++ [] }

@@ -68,16 +68,16 @@ abbrev pub times_before : List TaskTimes → Sending → List TaskTimes
 times_before had s = if s.snapshot then [] else had
 
 -- the histograms that a line leads to
-abbrev pub times_behind : List TaskTimes → TablesView → Sending → List TaskTimes
-times_behind had before s = times_after (times_before had s) (line_sent before s)
+abbrev pub times_led_to : List TaskTimes → TablesView → Sending → List TaskTimes
+times_led_to had before s = times_after (times_before had s) (line_sent before s)
 
 -- a line leads to one histogram of each of its tasks, in their order, and tells those that are new since the line before, or others now.
 -- Each is what a reader of that task's histogram read: the fold of a legal history of the histogram's ledger
 pub record AreTimesOf (before : TablesView) (had : List TaskTimes) (s : Sending) : Type 0 where
-  pub told : s.told ≡ Some (told_times (times_before had s) (times_behind had before s))
-  pub one_each : map times_id (times_behind had before s) ≡ map task_id s.tables.tasks
+  pub told : s.told ≡ Some (told_times (times_before had s) (times_led_to had before s))
+  pub one_each : map times_id (times_led_to had before s) ≡ map task_id s.tables.tasks
   pub readers : List TimesSight
-  pub read : Pairs ReadTimes (times_behind had before s) readers
+  pub read : Pairs ReadTimes (times_led_to had before s) readers
 
 -- a line tells histograms where tasks have such, and otherwise none
 abbrev pub TellsTimes : Bool → TablesView → List TaskTimes → Sending → Type 0
@@ -105,7 +105,7 @@ kept_between kept told from to = items_where_true (between from to kept) (betwee
 abbrev pub AreLinesOf : Settings → List Bool → List Content → TablesView → List TaskTimes → ℕ → List Due → List Sending → Type 0
 AreLinesOf settings kept told before had from [] [] = Unit {0}
 AreLinesOf settings kept told before had from (d ∷ due) (s ∷ sent) =
-    IsLineOf settings before had (kept_between kept told from d.recorded) d s × AreLinesOf settings kept told s.tables (times_behind had before s) d.recorded due sent
+    IsLineOf settings before had (kept_between kept told from d.recorded) d s × AreLinesOf settings kept told s.tables (times_led_to had before s) d.recorded due sent
 AreLinesOf settings kept told before had from _ _ = ⊥
 
 -- the lines that were sent tell of what was recorded, where `kept` says of each recording whether its event was kept, as each of the first
