@@ -20,7 +20,7 @@ use Rattle.tk_events.specs.Handles.{Taking, HasPlaceId, HasOwnIds, IsSettled, Al
 use Rattle.tk_stream.specs.Tables.{item_with}
 use Rattle.tk_aggregator.specs.Absorbing.{Infos, no_infos, with_info, absorbed, absorb}
 use Rattle.tk_aggregator.specs.Finished.{AreTheKept}
-use Rattle.tk_aggregator.specs.Told.{Told, tells}
+use Rattle.tk_aggregator.specs.Contents.{Content, content_of}
 use Rattle.tk_aggregator.proofs.KeptIdLemmas.{InBlock, Apart, in_block, apart}
 
 -- a recorder whose number is known
@@ -70,9 +70,9 @@ of_both Q p (o ∷ os) mine others = All-cons Q o os
 
 -- ---- one kind of items
 
-module _ {Info : Type 0} (id : Info → ℕ) (told : Told → List Info) (cases : (e : Shown) → (told (tells e) ≡ []) ⊎ ((info : Info) × (told (tells e) ≡ info ∷ []))) where
+module _ {Info : Type 0} (id : Info → ℕ) (told : Content → List Info) (cases : (e : Shown) → (told (content_of e) ≡ []) ⊎ ((info : Info) × (told (content_of e) ≡ info ∷ []))) where
   abbrev made : Shown → List Info
-  made e = told (tells e)
+  made e = told (content_of e)
 
   abbrev made_by : List Offer → List Info
   made_by os = flat_map (λ (o : Offer). made o.event) os

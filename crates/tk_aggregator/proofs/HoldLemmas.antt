@@ -18,7 +18,7 @@ use Rattle.tk_stream.specs.Tables.{PollCounts, counts_of}
 use Rattle.tk_aggregator.specs.Absorbing.{Infos, Step, infos_of, no_infos, with_info, absorbed, absorb, infos_after, events_taken}
 use Rattle.tk_aggregator.specs.Aggregates.{Aggregating, Collects, FollowsTaker, held_events}
 use Rattle.tk_aggregator.specs.Finished.{task_told, resource_told, op_told, is_ready_poll, is_pending_poll, kept_by_all, HoldAllKept, HoldSomeKept, HoldKept}
-use Rattle.tk_aggregator.specs.Told.{tells}
+use Rattle.tk_aggregator.specs.Contents.{content_of}
 use Rattle.tk_aggregator.proofs.AllKeptLemmas.{are_the_kept, told_once}
 use Rattle.tk_aggregator.proofs.FollowLemmas.{collects_follows}
 use Rattle.tk_aggregator.proofs.KeptIdLemmas.{count_cons}
@@ -32,25 +32,25 @@ only d (x ∷ xs) = x
 
 -- ---- tasks
 
-task_cases : (e : Shown) → (task_told (tells e) ≡ []) ⊎ ((info : TaskInfo) × (task_told (tells e) ≡ info ∷ []))
+task_cases : (e : Shown) → (task_told (content_of e) ≡ []) ⊎ ((info : TaskInfo) × (task_told (content_of e) ≡ info ∷ []))
 task_cases (MadeTask info ledger caller times) = inr (info, refl)
 task_cases (MadeResource info ledger caller) = inl refl
 task_cases (MadeOp info ledger caller) = inl refl
 task_cases (Polled op) = inl refl
 
-task_taken_in : (infos : Infos) (e : Shown) → (absorbed infos e).tasks ≡ fold (λ (l : List TaskInfo) (i : TaskInfo). with_info (λ (x : TaskInfo). x.id) i l) infos.tasks (task_told (tells e))
+task_taken_in : (infos : Infos) (e : Shown) → (absorbed infos e).tasks ≡ fold (λ (l : List TaskInfo) (i : TaskInfo). with_info (λ (x : TaskInfo). x.id) i l) infos.tasks (task_told (content_of e))
 task_taken_in infos (MadeTask info ledger caller times) = refl
 task_taken_in infos (MadeResource info ledger caller) = refl
 task_taken_in infos (MadeOp info ledger caller) = refl
 task_taken_in infos (Polled op) = refl
 
-task_is : (e : Shown) (info : TaskInfo) → task_told (tells e) ≡ info ∷ [] → is_task e ≡ true
+task_is : (e : Shown) (info : TaskInfo) → task_told (content_of e) ≡ info ∷ [] → is_task e ≡ true
 task_is (MadeTask made ledger caller times) info e = refl
 task_is (MadeResource made ledger caller) info e = absurd cc
 task_is (MadeOp made ledger caller) info e = absurd cc
 task_is (Polled op) info e = absurd cc
 
-task_placed : (r : Returned) (n : ℕ) (e : Shown) (info : TaskInfo) → task_told (tells e) ≡ info ∷ [] → HasPlaceId r n e → info.id ≡ id_of r.number (tasks_in (earlier n r.kept) + tasks_in (earlier n r.refused) + 1)
+task_placed : (r : Returned) (n : ℕ) (e : Shown) (info : TaskInfo) → task_told (content_of e) ≡ info ∷ [] → HasPlaceId r n e → info.id ≡ id_of r.number (tasks_in (earlier n r.kept) + tasks_in (earlier n r.refused) + 1)
 unfolding only
 task_placed r n (MadeTask made ledger caller times) info e h = ap (λ (l : List TaskInfo). (only info l).id) (sym e) ∙ h
 task_placed r n (MadeResource made ledger caller) info e h = absurd cc
@@ -59,25 +59,25 @@ task_placed r n (Polled op) info e h = absurd cc
 
 -- ---- resources
 
-resource_cases : (e : Shown) → (resource_told (tells e) ≡ []) ⊎ ((info : ResourceInfo) × (resource_told (tells e) ≡ info ∷ []))
+resource_cases : (e : Shown) → (resource_told (content_of e) ≡ []) ⊎ ((info : ResourceInfo) × (resource_told (content_of e) ≡ info ∷ []))
 resource_cases (MadeTask info ledger caller times) = inl refl
 resource_cases (MadeResource info ledger caller) = inr (info, refl)
 resource_cases (MadeOp info ledger caller) = inl refl
 resource_cases (Polled op) = inl refl
 
-resource_taken_in : (infos : Infos) (e : Shown) → (absorbed infos e).resources ≡ fold (λ (l : List ResourceInfo) (i : ResourceInfo). with_info (λ (x : ResourceInfo). x.id) i l) infos.resources (resource_told (tells e))
+resource_taken_in : (infos : Infos) (e : Shown) → (absorbed infos e).resources ≡ fold (λ (l : List ResourceInfo) (i : ResourceInfo). with_info (λ (x : ResourceInfo). x.id) i l) infos.resources (resource_told (content_of e))
 resource_taken_in infos (MadeTask info ledger caller times) = refl
 resource_taken_in infos (MadeResource info ledger caller) = refl
 resource_taken_in infos (MadeOp info ledger caller) = refl
 resource_taken_in infos (Polled op) = refl
 
-resource_is : (e : Shown) (info : ResourceInfo) → resource_told (tells e) ≡ info ∷ [] → is_resource e ≡ true
+resource_is : (e : Shown) (info : ResourceInfo) → resource_told (content_of e) ≡ info ∷ [] → is_resource e ≡ true
 resource_is (MadeTask made ledger caller times) info e = absurd cc
 resource_is (MadeResource made ledger caller) info e = refl
 resource_is (MadeOp made ledger caller) info e = absurd cc
 resource_is (Polled op) info e = absurd cc
 
-resource_placed : (r : Returned) (n : ℕ) (e : Shown) (info : ResourceInfo) → resource_told (tells e) ≡ info ∷ [] → HasPlaceId r n e → info.id ≡ id_of r.number (resources_in (earlier n r.kept) + resources_in (earlier n r.refused) + 1)
+resource_placed : (r : Returned) (n : ℕ) (e : Shown) (info : ResourceInfo) → resource_told (content_of e) ≡ info ∷ [] → HasPlaceId r n e → info.id ≡ id_of r.number (resources_in (earlier n r.kept) + resources_in (earlier n r.refused) + 1)
 unfolding only
 resource_placed r n (MadeTask made ledger caller times) info e h = absurd cc
 resource_placed r n (MadeResource made ledger caller) info e h = ap (λ (l : List ResourceInfo). (only info l).id) (sym e) ∙ h
@@ -86,25 +86,25 @@ resource_placed r n (Polled op) info e h = absurd cc
 
 -- ---- async operations
 
-op_cases : (e : Shown) → (op_told (tells e) ≡ []) ⊎ ((info : OpInfo) × (op_told (tells e) ≡ info ∷ []))
+op_cases : (e : Shown) → (op_told (content_of e) ≡ []) ⊎ ((info : OpInfo) × (op_told (content_of e) ≡ info ∷ []))
 op_cases (MadeTask info ledger caller times) = inl refl
 op_cases (MadeResource info ledger caller) = inl refl
 op_cases (MadeOp info ledger caller) = inr (info, refl)
 op_cases (Polled op) = inl refl
 
-op_taken_in : (infos : Infos) (e : Shown) → (absorbed infos e).ops ≡ fold (λ (l : List OpInfo) (i : OpInfo). with_info (λ (x : OpInfo). x.id) i l) infos.ops (op_told (tells e))
+op_taken_in : (infos : Infos) (e : Shown) → (absorbed infos e).ops ≡ fold (λ (l : List OpInfo) (i : OpInfo). with_info (λ (x : OpInfo). x.id) i l) infos.ops (op_told (content_of e))
 op_taken_in infos (MadeTask info ledger caller times) = refl
 op_taken_in infos (MadeResource info ledger caller) = refl
 op_taken_in infos (MadeOp info ledger caller) = refl
 op_taken_in infos (Polled op) = refl
 
-op_is : (e : Shown) (info : OpInfo) → op_told (tells e) ≡ info ∷ [] → is_op e ≡ true
+op_is : (e : Shown) (info : OpInfo) → op_told (content_of e) ≡ info ∷ [] → is_op e ≡ true
 op_is (MadeTask made ledger caller times) info e = absurd cc
 op_is (MadeResource made ledger caller) info e = absurd cc
 op_is (MadeOp made ledger caller) info e = refl
 op_is (Polled op) info e = absurd cc
 
-op_placed : (r : Returned) (n : ℕ) (e : Shown) (info : OpInfo) → op_told (tells e) ≡ info ∷ [] → HasPlaceId r n e → info.id ≡ id_of r.number (ops_in (earlier n r.kept) + ops_in (earlier n r.refused) + 1)
+op_placed : (r : Returned) (n : ℕ) (e : Shown) (info : OpInfo) → op_told (content_of e) ≡ info ∷ [] → HasPlaceId r n e → info.id ≡ id_of r.number (ops_in (earlier n r.kept) + ops_in (earlier n r.refused) + 1)
 unfolding only
 op_placed r n (MadeTask made ledger caller times) info e h = absurd cc
 op_placed r n (MadeResource made ledger caller) info e h = absurd cc
@@ -139,10 +139,10 @@ module _ (t : Taking) (s : IsSettled t) (all : AllTaken t) where
       omega (arith, a, b, e)
 
   poll_totals : (resource : ℕ) → counts_of resource (absorb no_infos (events_of t)).counts
-      ≡ (count_by (λ (o : Offer). is_ready_poll resource (tells o.event)) (kept_by_all t.known), count_by (λ (o : Offer). is_pending_poll resource (tells o.event)) (kept_by_all t.known))
+      ≡ (count_by (λ (o : Offer). is_ready_poll resource (content_of o.event)) (kept_by_all t.known), count_by (λ (o : Offer). is_pending_poll resource (content_of o.event)) (kept_by_all t.known))
   poll_totals resource =
-      counts_absorbed resource (events_of t) no_infos 0 0 refl (within (λ e. is_ready_poll resource (tells e))) (within (λ e. is_pending_poll resource (tells e)))
-      ∙ (λ i. ((from_none _ ∙ total (λ e. is_ready_poll resource (tells e))) i, (from_none _ ∙ total (λ e. is_pending_poll resource (tells e))) i))
+      counts_absorbed resource (events_of t) no_infos 0 0 refl (within (λ e. is_ready_poll resource (content_of e))) (within (λ e. is_pending_poll resource (content_of e)))
+      ∙ (λ i. ((from_none _ ∙ total (λ e. is_ready_poll resource (content_of e))) i, (from_none _ ∙ total (λ e. is_pending_poll resource (content_of e))) i))
 
   holds_all : HoldAllKept (absorb no_infos (events_of t)) t.known
   holds_all = record {

@@ -19,7 +19,7 @@ use Rattle.tk_events.specs.Handles.{HasOwnIds}
 use Rattle.tk_stream.specs.Tables.{PollCounts, counts_id, counts_of, item_with, put_item}
 use Rattle.tk_stream.specs.Polls.{one_more, counted}
 use Rattle.tk_aggregator.specs.Absorbing.{Infos, absorbed, absorb}
-use Rattle.tk_aggregator.specs.Told.{tells}
+use Rattle.tk_aggregator.specs.Contents.{content_of}
 use Rattle.tk_aggregator.specs.Finished.{is_ready_poll, is_pending_poll, kept_by_all}
 use Rattle.tk_aggregator.proofs.KeptIdLemmas.{count_cons, count_more, count_kept, cond_yes, cond_no}
 
@@ -178,26 +178,26 @@ module _ (id : ℕ) where
   none_more n = omega arith
 
   -- one event more
-  counts_after : (e : Shown) (infos : Infos) (a b : ℕ) → counts_of id infos.counts ≡ (a, b) → a + cond (is_ready_poll id (tells e)) 1 0 ≤ most → b + cond (is_pending_poll id (tells e)) 1 0 ≤ most
-      → counts_of id (absorbed infos e).counts ≡ (a + cond (is_ready_poll id (tells e)) 1 0, b + cond (is_pending_poll id (tells e)) 1 0)
+  counts_after : (e : Shown) (infos : Infos) (a b : ℕ) → counts_of id infos.counts ≡ (a, b) → a + cond (is_ready_poll id (content_of e)) 1 0 ≤ most → b + cond (is_pending_poll id (content_of e)) 1 0 ≤ most
+      → counts_of id (absorbed infos e).counts ≡ (a + cond (is_ready_poll id (content_of e)) 1 0, b + cond (is_pending_poll id (content_of e)) 1 0)
   counts_after (MadeTask info ledger caller times) infos a b is p q = is ∙ (λ i. (none_more a i, none_more b i))
   counts_after (MadeResource info ledger caller) infos a b is p q = is ∙ (λ i. (none_more a i, none_more b i))
   counts_after (MadeOp info ledger caller) infos a b is p q = is ∙ (λ i. (none_more a i, none_more b i))
   counts_after (Polled op) infos a b is p q = counted_poll op.resource op.ready infos.counts a b is p q
 
   -- and all of them
-  pub counts_absorbed : (es : List Shown) (infos : Infos) (a b : ℕ) → counts_of id infos.counts ≡ (a, b) → a + count_by (λ (x : Shown). is_ready_poll id (tells x)) es ≤ most → b + count_by (λ (x : Shown). is_pending_poll id (tells x)) es ≤ most
-      → counts_of id (absorb infos es).counts ≡ (a + count_by (λ (x : Shown). is_ready_poll id (tells x)) es, b + count_by (λ (x : Shown). is_pending_poll id (tells x)) es)
+  pub counts_absorbed : (es : List Shown) (infos : Infos) (a b : ℕ) → counts_of id infos.counts ≡ (a, b) → a + count_by (λ (x : Shown). is_ready_poll id (content_of x)) es ≤ most → b + count_by (λ (x : Shown). is_pending_poll id (content_of x)) es ≤ most
+      → counts_of id (absorb infos es).counts ≡ (a + count_by (λ (x : Shown). is_ready_poll id (content_of x)) es, b + count_by (λ (x : Shown). is_pending_poll id (content_of x)) es)
   counts_absorbed [] infos a b is p q = is ∙ (λ i. (none_more a i, none_more b i))
   counts_absorbed (e ∷ es) infos a b is p q =
-      let x : ℕ = cond (is_ready_poll id (tells e)) 1 0 in
-      let y : ℕ = cond (is_pending_poll id (tells e)) 1 0 in
-      let r = count_cons (λ (x : Shown). is_ready_poll id (tells x)) e es in
-      let s = count_cons (λ (x : Shown). is_pending_poll id (tells x)) e es in
+      let x : ℕ = cond (is_ready_poll id (content_of e)) 1 0 in
+      let y : ℕ = cond (is_pending_poll id (content_of e)) 1 0 in
+      let r = count_cons (λ (x : Shown). is_ready_poll id (content_of x)) e es in
+      let s = count_cons (λ (x : Shown). is_pending_poll id (content_of x)) e es in
       let now = counts_after e infos a b is (omega (arith, p, r)) (omega (arith, q, s)) in
       let rest = counts_absorbed es (absorbed infos e) (a + x) (b + y) now (omega (arith, p, r)) (omega (arith, q, s)) in
-      let left : a + x + count_by (λ (x : Shown). is_ready_poll id (tells x)) es ≡ a + count_by (λ (x : Shown). is_ready_poll id (tells x)) (e ∷ es) = omega (arith, r) in
-      let right : b + y + count_by (λ (x : Shown). is_pending_poll id (tells x)) es ≡ b + count_by (λ (x : Shown). is_pending_poll id (tells x)) (e ∷ es) = omega (arith, s) in
+      let left : a + x + count_by (λ (x : Shown). is_ready_poll id (content_of x)) es ≡ a + count_by (λ (x : Shown). is_ready_poll id (content_of x)) (e ∷ es) = omega (arith, r) in
+      let right : b + y + count_by (λ (x : Shown). is_pending_poll id (content_of x)) es ≡ b + count_by (λ (x : Shown). is_pending_poll id (content_of x)) (e ∷ es) = omega (arith, s) in
       rest ∙ (λ i. (left i, right i))
 
 -- ---- counts stand there for polled resources alone

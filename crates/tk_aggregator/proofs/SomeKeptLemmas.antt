@@ -11,7 +11,7 @@ use Rattle.tk_stream.specs.Polls.{counted}
 use Rattle.tk_stream.specs.Tables.{item_with, is_among, staying}
 use Rattle.tk_aggregator.specs.Absorbing.{Infos, Step, took, left, no_infos, with_info, absorbed, absorb, infos_without, stepped, infos_after, events_taken}
 use Rattle.tk_aggregator.specs.Finished.{AreSomeOf}
-use Rattle.tk_aggregator.specs.Told.{Told, tells}
+use Rattle.tk_aggregator.specs.Contents.{Content, content_of}
 use Rattle.tk_aggregator.proofs.AllKeptLemmas.{absent, add_all, absorbs}
 
 -- ---- some of a list
@@ -59,11 +59,11 @@ module _ {Info : Type 0} (id : Info → ℕ) where
 
 -- ---- one kind of items
 
-module _ {Info : Type 0} (id : Info → ℕ) (told : Told → List Info) (cases : (e : Shown) → (told (tells e) ≡ []) ⊎ ((info : Info) × (told (tells e) ≡ info ∷ [])))
-    (get : Infos → List Info) (step : (infos : Infos) (e : Shown) → get (absorbed infos e) ≡ fold (λ (l : List Info) (i : Info). with_info id i l) (get infos) (told (tells e)))
+module _ {Info : Type 0} (id : Info → ℕ) (told : Content → List Info) (cases : (e : Shown) → (told (content_of e) ≡ []) ⊎ ((info : Info) × (told (content_of e) ≡ info ∷ [])))
+    (get : Infos → List Info) (step : (infos : Infos) (e : Shown) → get (absorbed infos e) ≡ fold (λ (l : List Info) (i : Info). with_info id i l) (get infos) (told (content_of e)))
     (gone_in : GoneView → List ℕ) (leaves : (gone : GoneView) (infos : Infos) → get (infos_without gone infos) ≡ staying id (gone_in gone) (get infos)) where
   abbrev made : Shown → List Info
-  made e = told (tells e)
+  made e = told (content_of e)
 
   abbrev add : List Info → Info → List Info
   add infos info = with_info id info infos

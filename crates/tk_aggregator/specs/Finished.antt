@@ -11,38 +11,38 @@ use Rattle.tk_ids.specs.declared.info.ResourceInfo.{ResourceInfo}
 use Rattle.tk_ids.specs.declared.info.TaskInfo.{TaskInfo}
 use Rattle.tk_stream.specs.Tables.{PollCounts, counts_of}
 use Rattle.tk_aggregator.specs.Absorbing.{Infos}
-use Rattle.tk_aggregator.specs.Told.{Told, tells, made_task, made_resource, made_op, polled}
+use Rattle.tk_aggregator.specs.Contents.{Content, content_of, made_task, made_resource, made_op, polled}
 
 -- the new task that is told of, if it is a task
-abbrev pub task_told : Told → List TaskInfo
+abbrev pub task_told : Content → List TaskInfo
 task_told (made_task info) = info ∷ []
 task_told (made_resource info) = []
 task_told (made_op info) = []
 task_told (polled resource ready) = []
 
 -- the same of a resource
-abbrev pub resource_told : Told → List ResourceInfo
+abbrev pub resource_told : Content → List ResourceInfo
 resource_told (made_task info) = []
 resource_told (made_resource info) = info ∷ []
 resource_told (made_op info) = []
 resource_told (polled resource ready) = []
 
 -- the same of an async operation
-abbrev pub op_told : Told → List OpInfo
+abbrev pub op_told : Content → List OpInfo
 op_told (made_task info) = []
 op_told (made_resource info) = []
 op_told (made_op info) = info ∷ []
 op_told (polled resource ready) = []
 
 -- a poll operation of this resource is told of, which was ready
-abbrev pub is_ready_poll : ℕ → Told → Bool
+abbrev pub is_ready_poll : ℕ → Content → Bool
 is_ready_poll id (made_task info) = false
 is_ready_poll id (made_resource info) = false
 is_ready_poll id (made_op info) = false
 is_ready_poll id (polled resource ready) = resource == id && ready
 
 -- one that was pending
-abbrev pub is_pending_poll : ℕ → Told → Bool
+abbrev pub is_pending_poll : ℕ → Content → Bool
 is_pending_poll id (made_task info) = false
 is_pending_poll id (made_resource info) = false
 is_pending_poll id (made_op info) = false
@@ -54,8 +54,8 @@ kept_by_all known = flat_map (λ r. r.kept) known
 
 -- infos are of the items of one kind that these recorders kept: those of each recorder in its order, none of another recorder,
 -- and none twice
-pub record AreTheKept {Info : Type 0} (id_of : Info → ℕ) (told : Told → List Info) (known : List Returned) (infos : List Info) : Type 0 where
-  pub in_order : All (λ r. filter (λ info. recorder_of (id_of info) == r.number) infos ≡ flat_map (λ o. told (tells o.event)) r.kept) known
+pub record AreTheKept {Info : Type 0} (id_of : Info → ℕ) (told : Content → List Info) (known : List Returned) (infos : List Info) : Type 0 where
+  pub in_order : All (λ r. filter (λ info. recorder_of (id_of info) == r.number) infos ≡ flat_map (λ o. told (content_of o.event)) r.kept) known
   pub theirs : All (λ info. 0 < times (recorder_of (id_of info)) (numbers_known known)) infos
   pub once : IsDistinct nat_eq (map id_of infos)
 
@@ -64,7 +64,7 @@ pub record HoldAllKept (infos : Infos) (known : List Returned) : Type 0 where
   pub tasks : AreTheKept (λ (i : TaskInfo). i.id) task_told known infos.tasks
   pub resources : AreTheKept (λ (i : ResourceInfo). i.id) resource_told known infos.resources
   pub ops : AreTheKept (λ (i : OpInfo). i.id) op_told known infos.ops
-  pub polls : (resource : ℕ) → counts_of resource infos.counts ≡ (count_by (λ o. is_ready_poll resource (tells o.event)) (kept_by_all known), count_by (λ o. is_pending_poll resource (tells o.event)) (kept_by_all known))
+  pub polls : (resource : ℕ) → counts_of resource infos.counts ≡ (count_by (λ o. is_ready_poll resource (content_of o.event)) (kept_by_all known), count_by (λ o. is_pending_poll resource (content_of o.event)) (kept_by_all known))
   pub polled : All (λ (c : PollCounts). 0 < c.1 + c.2) infos.counts
 
 -- a list has some elements of another, in their order

@@ -1,5 +1,5 @@
 pub mod Readings
-pub mod Told
+pub mod Contents
 pub mod Absorbing
 pub mod Finished
 pub mod Timing

@@ -32,17 +32,17 @@ fn refuses_and_goes_on(rt: HostRuntime) {
     assert!(rt; errors::are_numbered_and_named(alloc));
     assert!(rt; refused::takes_no_more_than_its_limit(&rt, alloc));
     assert!(rt; refused::never_runs_backwards(alloc));
-    assert!(rt; refused::writes_no_line_behind_the_last(alloc));
+    assert!(rt; refused::writes_no_line_after_the_last(alloc));
     assert!(rt; refused::refuses_in_order(alloc));
     assert!(rt; writers::goes_out_byte_by_byte(&rt, alloc));
-    assert!(rt; writers::goes_on_behind_a_cut_second_line(&rt, alloc));
+    assert!(rt; writers::goes_on_after_a_cut_second_line(&rt, alloc));
     writers::assert_cut_lines_are_mended(&rt);
 }
 
 #[test]
 fn lets_closed_items_leave(rt: HostRuntime) {
     let alloc = rt.alloc();
-    assert!(rt; retention::leaves_behind_its_retention(&rt, alloc));
+    assert!(rt; retention::leaves_after_its_retention(&rt, alloc));
     assert!(rt; retention::is_told_as_closed_first(&rt, alloc));
     assert!(rt; retention::leaves_byte_by_byte(&rt, alloc));
     retention::assert_it_stays_where_the_line_is_cut_off(&rt);

@@ -10,11 +10,11 @@ use Rattle.tk_stream.specs.Ranges.{AreTimes}
 use Rattle.tk_stream.specs.Streams.{Sending, GoesOn, AreToldOf, lines_sent}
 use Rattle.tk_stream.specs.Tables.{TablesView, empty_tables, task_id}
 use Rattle.tk_stream.specs.Times.{TaskTimes, times_id, same_times, all_times}
-use Rattle.tk_aggregator.specs.Told.{Told}
+use Rattle.tk_aggregator.specs.Contents.{Content}
 use Rattle.tk_client.specs.Meaning.{greatest_line}
 use Rattle.tk_client.specs.Streams.{AreShort}
 use Rattle.tk_live.specs.Course.{Due, start_of_all, course_of}
-use Rattle.tk_live.specs.Ran.{AreLinesOf, IsStreamOf, TellsTimes, kept_between, leaving, times_before, times_behind}
+use Rattle.tk_live.specs.Ran.{AreLinesOf, IsStreamOf, TellsTimes, kept_between, leaving, times_before, times_led_to}
 use Rattle.tk_live.specs.Runs.{RiseTo}
 use Rattle.tk_script.specs.Commands.{Line, lines_of}
 use Rattle.tk_script.specs.declared.settings.Settings.{Settings}
@@ -27,10 +27,10 @@ use Rattle.tk_app.proofs.WordSizes.{line_size, script_fits}
 -- ---- what was told before a line
 
 -- what the items take that the first so many recordings tell of
-abbrev front_size : List Told → ℕ → ℕ
+abbrev front_size : List Content → ℕ → ℕ
 front_size told n = sum_by told_size (take n told)
 
-since_short : (kept : List Bool) (told : List Told) (from to k : ℕ) → from + k ≡ to → sum_by told_size (kept_between kept told from to) + front_size told from ≤ front_size told to
+since_short : (kept : List Bool) (told : List Content) (from to k : ℕ) → from + k ≡ to → sum_by told_size (kept_between kept told from to) + front_size told from ≤ front_size told to
 since_short kept told from to k is =
     let many : to - from ≡ k = omega (arith, is) in
     omega (
@@ -51,7 +51,7 @@ some_told old new =
 
 tells_few : (timed : Bool) (before : TablesView) (had : List TaskTimes) (s : Sending) → TellsTimes timed before had s → times_count s.told ≤ length s.tables.tasks
 tells_few true before had s are =
-    let shown = times_behind had before s in
+    let shown = times_led_to had before s in
     omega (arith, ap times_count are.told, some_told (times_before had s) shown, ap length are.one_each, length-map shown times_id, length-map s.tables.tasks task_id)
 tells_few false before had s none = omega (arith, ap times_count none)
 
@@ -66,7 +66,7 @@ each_told tables (Some times) are = are.each
 abbrev IsLittle : ℕ → Type 0
 IsLittle size = 11 * size + 20000 ≤ 10 * greatest_line
 
-module _ (settings : Settings) (kept : List Bool) (told : List Told) (few : IsLittle (sum_by told_size told)) where
+module _ (settings : Settings) (kept : List Bool) (told : List Content) (few : IsLittle (sum_by told_size told)) where
   lines_short : (before : TablesView) (had : List TaskTimes) (from last : ℕ) (due : List Due) (sent : List Sending) → RiseTo (length told) from due → AreLinesOf settings kept told before had from due sent → GoesOn before last sent
       → tables_size before ≤ front_size told from → AreShort greatest_line (lines_sent before sent)
   lines_short before had from last [] [] rise lines on low = tt
@@ -86,7 +86,7 @@ module _ (settings : Settings) (kept : List Bool) (told : List Told) (few : IsLi
           sum_by-take-le told_size told d.recorded,
           sent_short before s may.fit (each_told s.tables s.told may.told) (tells_few settings.times before had s line.times),
         ),
-        lines_short s.tables (times_behind had before s) d.recorded s.seq due sent rise.1 lines.1 on.2 now,
+        lines_short s.tables (times_led_to had before s) d.recorded s.seq due sent rise.1 lines.1 on.2 now,
       )
 
 -- what came of lines that make so little

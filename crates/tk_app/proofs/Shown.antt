@@ -1,4 +1,4 @@
--- What the view of bytes writes that come to tables, also where a line that was cut off stands behind whole ones.
+-- What the view of bytes writes that come to tables, also where a line that was cut off stands after whole ones.
 use Rattle.std.proofs.Common.{◌≡◌, ℕ, ◌+◌, ◌≤◌, List, [], ◌∷◌, ◌++◌, length, take, drop, Bool, true, false, ◌||◌, Option, Some, None, Result, Ok, Err, refl, ap, sym, subst, ◌∙◌, arith, length-append}
 use Rattle.std.specs.Io.KnownBytes.{Appends}
 use Rattle.std.proofs.lemmas.Bool.{eq-eqb}
@@ -38,7 +38,7 @@ cut_is_one_line l front cut =
     let same : take (length front) (line_text l) ≡ front = sym (take-append-le (length front) (line_text l) (10 ∷ []) within) ∙ ap (take (length front)) cut.whole ∙ take_front front cut.rest in
     subst (λ (bs : List ℕ). is_one_line bs ≡ true) same (no_end-take (length front) (line_text l) (text_is_one_line l))
 
--- it comes to nothing behind whole lines
+-- it comes to nothing after whole lines
 pub cut_goes : (bytes front : List ℕ) (s : Start) (n : ℕ) → outcome_of bytes ≡ goes s n → s.part ≡ [] → is_one_line front ≡ true → length front ≤ greatest_line
     → outcome_of (bytes ++ front) ≡ goes (record s { part = s.part ++ front }) (n + 0)
 cut_goes bytes front s n comes none whole short =

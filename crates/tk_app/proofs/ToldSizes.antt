@@ -10,13 +10,13 @@ use Rattle.tk_stream.specs.Lines.{GoneView, task_info, resource_info, op_info}
 use Rattle.tk_stream.specs.Polls.{one_more}
 use Rattle.tk_stream.specs.Tables.{TablesView, counts_id, counts_of, item_with, put_item, is_among}
 use Rattle.tk_aggregator.specs.Absorbing.{Infos, infos_of, with_info, with_told, infos_without}
-use Rattle.tk_aggregator.specs.Told.{Told, made_task, made_resource, made_op, polled}
+use Rattle.tk_aggregator.specs.Contents.{Content, made_task, made_resource, made_op, polled}
 use Rattle.tk_live.specs.Ran.{infos_with}
 use Rattle.tk_app.proofs.LineSizes.{task_size, resource_size, op_size, tables_size}
 use Rattle.tk_app.proofs.Sums.{sum_filter, sum_map}
 
 -- what an item takes of which this tells
-abbrev pub told_size : Told → ℕ
+abbrev pub told_size : Content → ℕ
 told_size (made_task t) = task_size t
 told_size (made_resource r) = resource_size r
 told_size (made_op o) = op_size o
@@ -46,14 +46,14 @@ put_one id_of new (x ∷ items) = by (nat_eq (id_of new) (id_of x)) (put_one id_
     by true le = omega arith
     by false le = omega (arith, le)
 
-told_more : (infos : Infos) (t : Told) → infos_size (with_told infos t) ≤ infos_size infos + told_size t
+told_more : (infos : Infos) (t : Content) → infos_size (with_told infos t) ≤ infos_size infos + told_size t
 told_more infos (made_task t) = omega (arith, info_more (λ (i : TaskInfo). i.id) task_size t infos.tasks)
 told_more infos (made_resource r) = omega (arith, info_more (λ (i : ResourceInfo). i.id) resource_size r infos.resources)
 told_more infos (made_op o) = omega (arith, info_more (λ (i : OpInfo). i.id) op_size o infos.ops)
 told_more infos (polled resource ready) =
     omega (arith, put_one counts_id (resource, (one_more ready (counts_of resource infos.counts)).0, (one_more ready (counts_of resource infos.counts)).1) infos.counts)
 
-all_told : (told : List Told) (infos : Infos) → infos_size (infos_with infos told) ≤ infos_size infos + sum_by told_size told
+all_told : (told : List Content) (infos : Infos) → infos_size (infos_with infos told) ≤ infos_size infos + sum_by told_size told
 all_told [] infos = omega arith
 all_told (t ∷ told) infos = omega (arith, all_told told (with_told infos t), told_more infos t, sum_by-cons told_size t told)
 
@@ -69,7 +69,7 @@ some_left gone infos =
     )
 
 -- the items of a line are some of those of the line before and of what was told since
-pub line_more : (before tables : TablesView) (gone : GoneView) (since : List Told) → infos_of tables ≡ infos_without gone (infos_with (infos_of before) since)
+pub line_more : (before tables : TablesView) (gone : GoneView) (since : List Content) → infos_of tables ≡ infos_without gone (infos_with (infos_of before) since)
     → tables_size tables ≤ tables_size before + sum_by told_size since
 line_more before tables gone since is =
     omega (arith, tables_infos tables, tables_infos before, ap infos_size is, some_left gone (infos_with (infos_of before) since), all_told since (infos_of before))

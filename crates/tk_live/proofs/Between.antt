@@ -1,4 +1,4 @@
--- What was kept of the first recordings, and of those behind them.
+-- What was kept of the first recordings, and of the rest.
 use Rattle.std.proofs.Common.{◌≡◌, ℕ, zero, suc, ◌≤◌, Bool, true, false, List, [], ◌∷◌, ◌++◌, length, take, drop, refl, sym, ap, ◌∙◌, arith}
 use Rattle.std.specs.List.{items_where_true, between}
 use Rattle.std.proofs.lemmas.List.{append_cancel_left, take_all, take_rest}
@@ -25,10 +25,10 @@ kept_apart {X} (suc n) (k ∷ ks) (x ∷ xs) =
 to_all : {X : Type 0} (n : ℕ) (xs : List X) → between n (length xs) xs ≡ drop n xs
 to_all n xs = take_rest xs n
 
--- what was kept behind the first recordings, where these had so much
-pub kept_behind : {X : Type 0} (n : ℕ) (ks : List Bool) (xs came first : List X) → length ks ≡ length xs → first ≡ items_where_true (take n ks) (take n xs) → first ++ came ≡ items_where_true ks xs
+-- what was kept after the first recordings, where these had so much
+pub kept_after : {X : Type 0} (n : ℕ) (ks : List Bool) (xs came first : List X) → length ks ≡ length xs → first ≡ items_where_true (take n ks) (take n xs) → first ++ came ≡ items_where_true ks xs
     → came ≡ items_where_true (between n (length xs) ks) (between n (length xs) xs)
-kept_behind {X} n ks xs came first one_each taken all =
+kept_after {X} n ks xs came first one_each taken all =
     let here : items_where_true (drop n ks) (drop n xs) ≡ items_where_true (between n (length xs) ks) (between n (length xs) xs) =
     λ i. items_where_true (sym (ap (λ m. between n m ks) (sym one_each) ∙ to_all n ks) i) (sym (to_all n xs) i) in
     append_cancel_left first came (items_where_true (drop n ks) (drop n xs)) (all ∙ kept_apart n ks xs ∙ ap (λ zs. zs ++ items_where_true (drop n ks) (drop n xs)) (sym taken)) ∙ here

@@ -5,14 +5,14 @@ use Rattle.std.proofs.lemmas.List.{take-append-le, drop-append-le}
 use Rattle.tk_stream.specs.Streams.{Sending}
 use Rattle.tk_stream.specs.Tables.{TablesView, empty_tables}
 use Rattle.tk_stream.specs.Times.{TaskTimes}
-use Rattle.tk_aggregator.specs.Told.{Told}
+use Rattle.tk_aggregator.specs.Contents.{Content}
 use Rattle.tk_live.specs.Course.{Due}
-use Rattle.tk_live.specs.Ran.{AreLinesOf, IsLineOf, TellOf, kept_between, times_behind}
+use Rattle.tk_live.specs.Ran.{AreLinesOf, IsLineOf, TellOf, kept_between, times_led_to}
 use Rattle.tk_live.specs.Runs.{RiseTo, recorded_by}
 use Rattle.tk_script.specs.declared.settings.Settings.{Settings}
 use Rattle.tk_live.proofs.Lists.{first_push}
 
--- ---- elements of a list that has more behind them
+-- ---- elements of a list that goes on after them
 
 pub between_still : {X : Type 0} (from to : ℕ) (xs more : List X) → to ≤ length xs → between from to (xs ++ more) ≡ between from to xs
 between_still {X} from to xs more le = by (leb from to) refl
@@ -46,7 +46,7 @@ recorded_low all from (d ∷ due) rise = recorded_low all d.recorded due rise.1
 
 -- ---- what came of commands, where more is recorded then
 
-module _ (settings : Settings) (kept ks : List Bool) (told ts : List Told) (one_each : length kept ≡ length told) where
+module _ (settings : Settings) (kept ks : List Bool) (told ts : List Content) (one_each : length kept ≡ length told) where
   -- between two numbers of recordings of before
   between_kept : (from to : ℕ) → to ≤ length told → kept_between (kept ++ ks) (told ++ ts) from to ≡ kept_between kept told from to
   between_kept from to le =
@@ -66,16 +66,16 @@ module _ (settings : Settings) (kept ks : List Bool) (told ts : List Told) (one_
   lines_still before had from [] (s ∷ sent) rise lines = absurd lines
   lines_still before had from (d ∷ due) [] rise lines = absurd lines
   lines_still before had from (d ∷ due) (s ∷ sent) rise lines = (
-    subst (λ (since : List Told). IsLineOf settings before had since d s) (sym (between_kept from d.recorded (rise_low (length told) d.recorded due rise.1))) lines.0,
-    lines_still s.tables (times_behind had before s) d.recorded due sent rise.1 lines.1,
+    subst (λ (since : List Content). IsLineOf settings before had since d s) (sym (between_kept from d.recorded (rise_low (length told) d.recorded due rise.1))) lines.0,
+    lines_still s.tables (times_led_to had before s) d.recorded due sent rise.1 lines.1,
   )
 
 -- one recording more, which was kept or not: the lines tell of what was recorded as before
-pub tells_more : (settings : Settings) (told : List Told) (due : List Due) (kept : List Bool) (sent : List Sending) (mark : Bool) (tells : Told) → TellOf settings told due kept sent → RiseTo (length told) 0 due → (mark ≡ false → settings.capacity ≤ length kept)
-    → TellOf settings (told ++ tells ∷ []) due (kept ++ mark ∷ []) sent
-tells_more settings told due kept sent mark tells came rise late = record {
-  one_each = omega (arith, came.one_each, length-append kept (mark ∷ []), length-append told (tells ∷ []));
+pub tells_more : (settings : Settings) (told : List Content) (due : List Due) (kept : List Bool) (sent : List Sending) (mark : Bool) (content : Content) → TellOf settings told due kept sent → RiseTo (length told) 0 due → (mark ≡ false → settings.capacity ≤ length kept)
+    → TellOf settings (told ++ content ∷ []) due (kept ++ mark ∷ []) sent
+tells_more settings told due kept sent mark content came rise late = record {
+  one_each = omega (arith, came.one_each, length-append kept (mark ∷ []), length-append told (content ∷ []));
   first = first_push kept mark settings.capacity came.first late;
-  lines = lines_still settings kept (mark ∷ []) told (tells ∷ []) came.one_each empty_tables [] 0 due sent rise came.lines;
+  lines = lines_still settings kept (mark ∷ []) told (content ∷ []) came.one_each empty_tables [] 0 due sent rise came.lines;
   stream = came.stream;
 }

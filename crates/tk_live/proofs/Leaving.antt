@@ -1,4 +1,4 @@
--- What a line tells behind another, and what leaves with it.
+-- What a line tells after another, and what leaves with it.
 use Rattle.std.proofs.Common.{◌≡◌, ℕ, Bool, true, false, List, [], ◌∷◌, ◌++◌, Option, Some, None, refl, sym, ap, ◌∙◌, arith}
 use Rattle.std.specs.Prelude.{map, is_some}
 use Rattle.tk_events.specs.declared.event.Shown.{Shown}
@@ -14,17 +14,17 @@ use Rattle.tk_stream.proofs.GoneLemmas.{staying_all}
 use Rattle.tk_stream.proofs.PruneLemmas.{distinct_begin, pruned_line}
 use Rattle.tk_aggregator.specs.Absorbing.{Infos, infos_of, with_told, absorb, infos_without}
 use Rattle.tk_aggregator.specs.Aggregates.{Aggregating, IsSound, pruned, tables_at, sending_at}
-use Rattle.tk_aggregator.specs.Told.{Told, tells}
+use Rattle.tk_aggregator.specs.Contents.{Content, content_of}
 use Rattle.tk_aggregator.proofs.FollowLemmas.{infos_left}
 use Rattle.tk_live.specs.Course.{Due}
-use Rattle.tk_live.specs.Ran.{infos_with, leaving, times_behind, kept_between, IsLineOf, AreLinesOf}
+use Rattle.tk_live.specs.Ran.{infos_with, leaving, times_led_to, kept_between, IsLineOf, AreLinesOf}
 use Rattle.tk_live.specs.Runs.{RiseTo, recorded_by}
 use Rattle.tk_script.specs.declared.settings.Settings.{Settings}
 
 -- events add to infos and counts what they tell
-pub absorb_told : (infos : Infos) (ss : List Shown) → absorb infos ss ≡ infos_with infos (map tells ss)
+pub absorb_told : (infos : Infos) (ss : List Shown) → absorb infos ss ≡ infos_with infos (map content_of ss)
 absorb_told infos [] = refl
-absorb_told infos (s ∷ ss) = absorb_told (with_told infos (tells s)) ss
+absorb_told infos (s ∷ ss) = absorb_told (with_told infos (content_of s)) ss
 
 -- ---- what leaves
 
@@ -65,12 +65,12 @@ just_due false a now sound removes = by a.retention removes
 
 -- ---- one line more
 
-pub lines_push : (settings : Settings) (kept : List Bool) (told : List Told) (t : TablesView) (had : List TaskTimes) (from : ℕ) (due : List Due) (sent : List Sending) (d : Due) (s : Sending) → AreLinesOf settings kept told t had from due sent
+pub lines_push : (settings : Settings) (kept : List Bool) (told : List Content) (t : TablesView) (had : List TaskTimes) (from : ℕ) (due : List Due) (sent : List Sending) (d : Due) (s : Sending) → AreLinesOf settings kept told t had from due sent
     → IsLineOf settings (tables_sent t sent) (times_sent had t sent) (kept_between kept told (recorded_by from due) d.recorded) d s → AreLinesOf settings kept told t had from (due ++ d ∷ []) (sent ++ s ∷ [])
 lines_push settings kept told t had from [] [] d s each line = (line, tt)
 lines_push settings kept told t had from [] (y ∷ ys) d s each line = absurd each
 lines_push settings kept told t had from (e ∷ es) [] d s each line = absurd each
-lines_push settings kept told t had from (e ∷ es) (y ∷ ys) d s each line = (each.0, lines_push settings kept told y.tables (times_behind had t y) e.recorded es ys d s each.1 line)
+lines_push settings kept told t had from (e ∷ es) (y ∷ ys) d s each line = (each.0, lines_push settings kept told y.tables (times_led_to had t y) e.recorded es ys d s each.1 line)
 
 pub recorded_push : (from : ℕ) (due : List Due) (d : Due) → recorded_by from (due ++ d ∷ []) ≡ d.recorded
 recorded_push from [] d = refl

@@ -1,4 +1,4 @@
--- What an interpreter stands for behind the offer of a new item.
+-- What an interpreter stands for after the offer of a new item.
 use Rattle.std.proofs.Common.{◌≡◌, ℕ, ◌+◌, ◌<◌, ◌≤◌, ◌⊎◌, true, false, inr, List, [], ◌∷◌, ◌++◌, Bool, length, Some, None, Option, refl, sym, ap, ◌∙◌, subst, arith, length-append}
 use Rattle.std.specs.Prelude.{IsSome}
 use Rattle.std.specs.Global.{Vec}
@@ -39,7 +39,7 @@ use Rattle.tk_ledgers.specs.Ops.{OpSight}
 use Rattle.tk_ledgers.specs.Resources.{ResourceSight}
 use Rattle.tk_ledgers.specs.Tasks.{TaskSight}
 use Rattle.tk_stream.specs.Streams.{Sending}
-use Rattle.tk_aggregator.specs.Told.{Told, made_task, made_resource, made_op, polled}
+use Rattle.tk_aggregator.specs.Contents.{Content, made_task, made_resource, made_op, polled}
 use Rattle.tk_live.specs.Course.{Course, place, step, script_task_info, script_resource_info, script_op_info}
 use Rattle.tk_live.specs.Items.{IsTask, IsResource, IsOp, AreWakers, Holds, HoldsTasks}
 use Rattle.tk_live.specs.Named.{made_item}
@@ -60,8 +60,8 @@ use Rattle.tk_live.proofs.Recording.{IsLonger, stands_more}
 pub nothing_more : (n : ℕ) → n + 0 ≡ n
 nothing_more n = omega arith
 
--- the recorder's next items have the numbers behind the text's
-module _ (r : Recording) (capacity : ℕ) (ps : Pasts) (told : List Told) (kept : List Bool) (o : Offered r capacity (numbers_of ps) told kept) where
+-- the recorder's next items have the numbers after the text's
+module _ (r : Recording) (capacity : ℕ) (ps : Pasts) (told : List Content) (kept : List Bool) (o : Offered r capacity (numbers_of ps) told kept) where
   pub task_id_is : next_task_id r ≡ id_of 1 (length ps.tasks + 1)
   task_id_is = ap (λ m. id_of m (tasks_in r.kept + tasks_in r.refused + 1)) o.number ∙ ap (λ m. id_of 1 (m + 1)) o.tasks_are
 

@@ -11,8 +11,8 @@ use Rattle.tk_events.specs.declared.recorder.Recorded.{Recorded}
 use Rattle.tk_events.specs.declared.recorder.Recorded.TheVariants.{Kept, DroppedFull}
 use Rattle.tk_events.specs.Handles.{Recording, IsSameRecorder, next_offer, offers_made, with_kept, with_refused}
 use Rattle.tk_events.specs.Offers.{is_task, is_resource, is_op, tasks_in, resources_in, ops_in}
-use Rattle.tk_aggregator.specs.Told.{Told, tells}
-use Rattle.tk_live.specs.Runs.{offer_tells, Numbers, Offered}
+use Rattle.tk_aggregator.specs.Contents.{Content, content_of}
+use Rattle.tk_live.specs.Runs.{offer_content, Numbers, Offered}
 use Rattle.tk_live.proofs.Lists.{picked_push, picked_few, all_push}
 
 -- the numbers of items with one more, where the event makes one
@@ -32,15 +32,15 @@ below n m le ne = by (leb m n) refl
     by false is = leb-false m n is
 
 -- an offer that was kept, or refused, is one more that was recorded
-module _ (r new : Recording) (capacity : ℕ) (numbers : Numbers) (told : List Told) (kept : List Bool) (o : Offered r capacity numbers told kept) (one_each : length kept ≡ length told) (same : IsSameRecorder r new) (left : offers_made r ≡ r.limit → ⊥) (event : Shown) where
+module _ (r new : Recording) (capacity : ℕ) (numbers : Numbers) (told : List Content) (kept : List Bool) (o : Offered r capacity numbers told kept) (one_each : length kept ≡ length told) (same : IsSameRecorder r new) (left : offers_made r ≡ r.limit → ⊥) (event : Shown) where
   few_kept : length r.kept ≤ length kept
-  few_kept = omega (arith, length-map r.kept offer_tells, ap length o.picks, picked_few kept told)
+  few_kept = omega (arith, length-map r.kept offer_content, ap length o.picks, picked_few kept told)
 
   -- one more was left
-  few_more : length (told ++ tells event ∷ []) ≤ last_number
-  few_more = let lt = below (length told) last_number o.few (λ e. left (o.made ∙ (e ∙ sym o.limit))) in omega (arith, lt, length-append told (tells event ∷ []))
+  few_more : length (told ++ content_of event ∷ []) ≤ last_number
+  few_more = let lt = below (length told) last_number o.few (λ e. left (o.made ∙ (e ∙ sym o.limit))) in omega (arith, lt, length-append told (content_of event ∷ []))
 
-  kept_more : new ≡ with_kept r (next_offer r event) → Offered new capacity (one_more numbers event) (told ++ tells event ∷ []) (kept ++ true ∷ [])
+  kept_more : new ≡ with_kept r (next_offer r event) → Offered new capacity (one_more numbers event) (told ++ content_of event ∷ []) (kept ++ true ∷ [])
   kept_more is =
       let kept_is : new.kept ≡ r.kept ++ next_offer r event ∷ [] = ap (λ (x : Recording). x.kept) is in
       let refused_is : new.refused ≡ r.refused = ap (λ (x : Recording). x.refused) is in
@@ -49,15 +49,15 @@ module _ (r new : Recording) (capacity : ℕ) (numbers : Numbers) (told : List T
         alone = same.recorders ∙ o.alone;
         capacity_is = same.capacity ∙ o.capacity_is;
         limit = same.limit ∙ o.limit;
-        made = omega (arith, o.made, ap length kept_is, ap length refused_is, length-append r.kept (next_offer r event ∷ []), length-append told (tells event ∷ []));
+        made = omega (arith, o.made, ap length kept_is, ap length refused_is, length-append r.kept (next_offer r event ∷ []), length-append told (content_of event ∷ []));
         few = few_more;
-        picks = ap (map offer_tells) kept_is ∙ (map-append offer_tells r.kept (next_offer r event ∷ []) ∙ (ap (λ l. l ++ tells event ∷ []) o.picks ∙ sym (picked_push kept told true (tells event) one_each)));
+        picks = ap (map offer_content) kept_is ∙ (map-append offer_content r.kept (next_offer r event ∷ []) ∙ (ap (λ l. l ++ content_of event ∷ []) o.picks ∙ sym (picked_push kept told true (content_of event) one_each)));
         tasks_are = omega (arith, o.tasks_are, ap tasks_in kept_is, ap tasks_in refused_is, sum_by_push (λ (x : Offer). cond (is_task x.event) 1 0) r.kept (next_offer r event));
         resources_are = omega (arith, o.resources_are, ap resources_in kept_is, ap resources_in refused_is, sum_by_push (λ (x : Offer). cond (is_resource x.event) 1 0) r.kept (next_offer r event));
         ops_are = omega (arith, o.ops_are, ap ops_in kept_is, ap ops_in refused_is, sum_by_push (λ (x : Offer). cond (is_op x.event) 1 0) r.kept (next_offer r event));
       }
 
-  refused_more : new ≡ with_refused r (next_offer r event) → Offered new capacity (one_more numbers event) (told ++ tells event ∷ []) (kept ++ false ∷ [])
+  refused_more : new ≡ with_refused r (next_offer r event) → Offered new capacity (one_more numbers event) (told ++ content_of event ∷ []) (kept ++ false ∷ [])
   refused_more is =
       let kept_is : new.kept ≡ r.kept = ap (λ (x : Recording). x.kept) is in
       let refused_is : new.refused ≡ r.refused ++ next_offer r event ∷ [] = ap (λ (x : Recording). x.refused) is in
@@ -66,9 +66,9 @@ module _ (r new : Recording) (capacity : ℕ) (numbers : Numbers) (told : List T
         alone = same.recorders ∙ o.alone;
         capacity_is = same.capacity ∙ o.capacity_is;
         limit = same.limit ∙ o.limit;
-        made = omega (arith, o.made, ap length kept_is, ap length refused_is, length-append r.refused (next_offer r event ∷ []), length-append told (tells event ∷ []));
+        made = omega (arith, o.made, ap length kept_is, ap length refused_is, length-append r.refused (next_offer r event ∷ []), length-append told (content_of event ∷ []));
         few = few_more;
-        picks = ap (map offer_tells) kept_is ∙ (o.picks ∙ (sym (append-nil (items_where_true kept told)) ∙ sym (picked_push kept told false (tells event) one_each)));
+        picks = ap (map offer_content) kept_is ∙ (o.picks ∙ (sym (append-nil (items_where_true kept told)) ∙ sym (picked_push kept told false (content_of event) one_each)));
         tasks_are = omega (arith, o.tasks_are, ap tasks_in kept_is, ap tasks_in refused_is, sum_by_push (λ (x : Offer). cond (is_task x.event) 1 0) r.refused (next_offer r event));
         resources_are = omega (arith, o.resources_are, ap resources_in kept_is, ap resources_in refused_is, sum_by_push (λ (x : Offer). cond (is_resource x.event) 1 0) r.refused (next_offer r event));
         ops_are = omega (arith, o.ops_are, ap ops_in kept_is, ap ops_in refused_is, sum_by_push (λ (x : Offer). cond (is_op x.event) 1 0) r.refused (next_offer r event));
@@ -76,7 +76,7 @@ module _ (r new : Recording) (capacity : ℕ) (numbers : Numbers) (told : List T
 
   -- whatever became of the offer: it was kept, or refused by a console that had kept its capacity
   pub recorded : (became : Recorded) → (became ≡ Kept → new ≡ with_kept r (next_offer r event)) → (became ≡ DroppedFull → new ≡ with_refused r (next_offer r event)) → (became ≡ DroppedFull → r.recorders ≡ 1 → r.capacity ≤ length r.kept)
-      → (mark : Bool) × Offered new capacity (one_more numbers event) (told ++ tells event ∷ []) (kept ++ mark ∷ []) × (mark ≡ false → capacity ≤ length kept)
+      → (mark : Bool) × Offered new capacity (one_more numbers event) (told ++ content_of event ∷ []) (kept ++ mark ∷ []) × (mark ≡ false → capacity ≤ length kept)
   recorded Kept keeps drops full = (true, kept_more (keeps refl), λ no. absurd cc)
   recorded DroppedFull keeps drops full = (false, refused_more (drops refl), λ no. let le = full refl o.alone in omega (arith, le, o.capacity_is, few_kept))
 

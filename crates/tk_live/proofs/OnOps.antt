@@ -1,4 +1,4 @@
--- What an interpreter stands for behind a command that calls on an async operation.
+-- What an interpreter stands for after a command that calls on an async operation.
 use Rattle.std.proofs.Common.{◌≡◌, ◌⊎◌, ℕ, ◌+◌, Bool, true, false, List, [], ◌∷◌, ◌++◌, length, Option, Some, None, inl, inr, refl, sym, ap, ◌∙◌, subst}
 use Rattle.std.specs.Prelude.{slice_get, slice_set, Result, Ok, Err}
 use Rattle.tk_core.specs.declared.op.call.OpCall.{OpCall}

@@ -1,4 +1,4 @@
--- What an interpreter stands for behind a command that calls on a resource.
+-- What an interpreter stands for after a command that calls on a resource.
 use Rattle.std.proofs.Common.{◌≡◌, ◌⊎◌, ℕ, ◌+◌, Bool, true, false, cond, List, [], ◌∷◌, ◌++◌, length, Option, Some, None, inl, inr, refl, sym, ap, ◌∙◌, subst}
 use Rattle.std.specs.Prelude.{slice_get, slice_set, is_some, Result, Ok, Err}
 use Rattle.tk_core.specs.declared.resource.call.ResourceCall.{ResourceCall}

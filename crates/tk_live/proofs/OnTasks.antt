@@ -1,4 +1,4 @@
--- What an interpreter stands for behind a command by which the owner of a task calls.
+-- What an interpreter stands for after a command by which the owner of a task calls.
 use Rattle.std.proofs.Common.{◌≡◌, ◌⊎◌, ℕ, ◌+◌, Bool, true, false, List, [], ◌++◌, length, Option, Some, None, inl, refl, sym, ap, ◌∙◌, subst}
 use Rattle.std.specs.Prelude.{map, slice_get, slice_set, Result, Ok, Err}
 use Rattle.tk_core.specs.declared.task.call.TaskCall.{TaskCall}

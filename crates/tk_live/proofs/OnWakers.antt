@@ -1,4 +1,4 @@
--- What an interpreter stands for behind a command of a waker, and behind one that draws a waker.
+-- What an interpreter stands for after a command of a waker, and after one that draws a waker.
 use Rattle.std.proofs.Common.{◌≡◌, ◌≢◌, ◌⊎◌, ℕ, ◌+◌, ◌-◌, ◌<◌, ◌≤◌, Bool, List, [], ◌∷◌, ◌++◌, length, get_or, Option, Some, None, inl, inr, refl, sym, ap, ◌∙◌, subst, arith}
 use Rattle.std.specs.Prelude.{slice_get, slice_set, option_map, Result, Ok, Err}
 use Rattle.std.specs.Option.{option_map_or}

@@ -106,7 +106,7 @@ live_place n xs x e = made_place n xs (Some x) (live_made n xs x e)
 -- ---- a list in which another was put at a place
 
 -- what another number names is as before. Where what stood at the place and what was put there are related as each is to itself,
--- so are what a number names before and behind
+-- so are what a number names before and after
 module _ {X : Type 0} (S : ℕ → X → X → Type 0) (same : (n : ℕ) (x : X) → S n x x) where
   pub made_put : (xs : List X) (i : ℕ) (old new : X) (n : ℕ) (x : X) → slice_get xs i ≡ Some old → S (i + 1) old new → made_item n xs ≡ Some x → (y : X) × (made_item n (slice_set xs i new) ≡ Some y) × S n x y
   made_put xs i old new n x stood related named = go (nat_eq (i + 1) n) refl
@@ -249,7 +249,7 @@ module _ {X Y : Type 0} (R : ℕ → X → Y → Type 0) where
   each_with xs ys n i x y each is r =
       subst (λ l. EachFrom R 1 l (slice_set ys i y)) (sym (put_place n i x xs is)) (each_put 1 xs ys i x y each (subst (λ m. R m x y) (let e : n ≡ 1 + i = omega (arith, is) in e) r))
 
-  -- and more at the end of both, of the number behind all others
+  -- and more at the end of both, of the number after all others
   pub each_more : (xs : List X) (ys : List Y) (x : X) (y : Y) → EachFrom R 1 xs ys → R (length xs + 1) x y → EachFrom R 1 (xs ++ x ∷ []) (ys ++ y ∷ [])
   each_more xs ys x y each r = each_push 1 xs ys x y each (subst (λ m. R m x y) (let e : length xs + 1 ≡ 1 + length xs = omega arith in e) r)
 

@@ -10,15 +10,15 @@ use Rattle.tk_ledgers.specs.Resources.{ResourceSight}
 use Rattle.tk_ledgers.specs.Tasks.{TaskSight}
 use Rattle.tk_stream.specs.Streams.{Sending, MaySend}
 use Rattle.tk_aggregator.specs.Aggregates.{Aggregating, TookMore, IsSound, dropped_in, after_line, sending_at}
-use Rattle.tk_aggregator.specs.Told.{Told}
+use Rattle.tk_aggregator.specs.Contents.{Content}
 use Rattle.tk_script.specs.Commands.{publish}
 use Rattle.tk_script.specs.declared.settings.Settings.{Settings}
 use Rattle.tk_live.specs.Course.{Course, due_at, step}
 use Rattle.tk_live.specs.Ran.{kept_between}
 use Rattle.tk_live.specs.Read.{CollectsAll, MayRead, AreItemsRead}
-use Rattle.tk_live.specs.Runs.{HaveTimes, Represents, IsTaskLedger, IsResourceLedger, IsOpLedger, OffersLedger, AreLinked, offer_tells, recorded_by}
+use Rattle.tk_live.specs.Runs.{HaveTimes, Represents, IsTaskLedger, IsResourceLedger, IsOpLedger, OffersLedger, AreLinked, offer_content, recorded_by}
 use Rattle.tk_live.specs.declared.interpreter.Interpreter.{Interpreter}
-use Rattle.tk_live.proofs.Between.{kept_behind, kept_all}
+use Rattle.tk_live.proofs.Between.{kept_after, kept_all}
 use Rattle.tk_live.proofs.ItemsRead.{are_called, held_stays, infos_stay, still_holds, still_linked, stream_stays, times_stay}
 use Rattle.tk_live.proofs.Leaving.{recorded_push, rise_push}
 use Rattle.tk_live.proofs.Linking.{AreReaders, gathered_readers}
@@ -35,14 +35,14 @@ module _ (i : Interpreter) (settings : Settings) (c : Course) (kept : List Bool)
   none_held : all.gathered.held ≡ None
   none_held = sym (ap (λ (x : Aggregating). x.held) all.now) ∙ all.none_held
 
-  abbrev since : List Told
+  abbrev since : List Content
   since = kept_between kept c.told (recorded_by 0 c.due) (length c.told)
 
   pub collected : HasGathered a settings c.now (length c.due) sent since
   collected =
-      let told : map offer_tells i.taker.taken ++ map offer_tells all.gathers.offers ≡ items_where_true kept c.told =
-      sym (map-append offer_tells i.taker.taken all.gathers.offers) ∙ (ap (map offer_tells) (sym (ap (λ (x : Taking). x.taken) all.gathers.taker) ∙ same_taken) ∙ stands.offered.picks) in
-      let came : map offer_tells all.gathers.offers ≡ since = kept_behind (recorded_by 0 c.due) kept c.told (map offer_tells all.gathers.offers) (map offer_tells i.taker.taken) stands.came.one_each stands.taken told in
+      let told : map offer_content i.taker.taken ++ map offer_content all.gathers.offers ≡ items_where_true kept c.told =
+      sym (map-append offer_content i.taker.taken all.gathers.offers) ∙ (ap (map offer_content) (sym (ap (λ (x : Taking). x.taken) all.gathers.taker) ∙ same_taken) ∙ stands.offered.picks) in
+      let came : map offer_content all.gathers.offers ≡ since = kept_after (recorded_by 0 c.due) kept c.told (map offer_content all.gathers.offers) (map offer_content i.taker.taken) stands.came.one_each stands.taken told in
       subst (λ (x : Aggregating). HasGathered x settings c.now (length c.due) sent since) (sym all.now)
       (told_totals all.gathered (dropped_in u.last) settings c.now (length c.due) sent since
       (gathered i.aggregator all.gathered i.taker all.taker all.taken settings c.now (length c.due) sent since stands.has_told all.gathers none_held came (λ timed. subst HaveTimes (sym same_taken) (stands.timed timed))))
@@ -84,7 +84,7 @@ module _ (i : Interpreter) (settings : Settings) (c : Course) (kept : List Bool)
         rise = rise_push (length c.told) 0 c.due (due_at c now whole) refl stands.rise;
         offered = stands.offered;
         takes = took_more i.recorder i.taker u stands.takes took;
-        taken = ap (map offer_tells) took_kept ∙ (stands.offered.picks ∙ (sym (kept_all kept c.told stands.came.one_each)
+        taken = ap (map offer_content) took_kept ∙ (stands.offered.picks ∙ (sym (kept_all kept c.told stands.came.one_each)
             ∙ (λ k. items_where_true (take (sym (recorded_push 0 c.due (due_at c now whole)) k) kept) (take (sym (recorded_push 0 c.due (due_at c now whole)) k) c.told))));
         has_told = told_line m.aggregator settings c kept sent now whole now_gathered sound may later;
         timed = stands.timed;

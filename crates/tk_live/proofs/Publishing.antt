@@ -20,7 +20,7 @@ use Rattle.tk_stream.specs.Tables.{TablesView, empty_tables, task_id}
 use Rattle.tk_stream.specs.Times.{TaskTimes, times_id}
 use Rattle.tk_aggregator.specs.Absorbing.{Infos, infos_of, infos_without}
 use Rattle.tk_aggregator.specs.Aggregates.{Aggregating, Gathers, TookMore, IsSound, IsSameStream, held_events, pruned, left_at, tables_at, after_line, line_at, sending_at}
-use Rattle.tk_aggregator.specs.Told.{Told, tells}
+use Rattle.tk_aggregator.specs.Contents.{Content, content_of}
 use Rattle.tk_aggregator.proofs.FollowLemmas.{gathered_is_absorbed, gathers_stays}
 use Rattle.tk_aggregator.proofs.SendLemmas.{leads_on}
 use Rattle.tk_aggregator.proofs.TimingLemmas.{times_more}
@@ -30,7 +30,7 @@ use Rattle.tk_script.specs.declared.stop.Stop.TheVariants.{Clock, NumbersSpent}
 use Rattle.tk_live.specs.Course.{Course, due_at}
 use Rattle.tk_live.specs.Pasts.{Pasts}
 use Rattle.tk_live.specs.Ran.{infos_with, leaving, kept_between, TellsTimes, IsCalledTask, IsCalledResource, IsCalledOp, AreCalled, TellOf, IsStreamOf}
-use Rattle.tk_live.specs.Runs.{Numbers, Offered, IsTakerOf, HaveTimes, HasTold, offer_tells, recorded_by, bytes_after}
+use Rattle.tk_live.specs.Runs.{Numbers, Offered, IsTakerOf, HaveTimes, HasTold, offer_content, recorded_by, bytes_after}
 use Rattle.tk_live.specs.Stops.{stop_by_text}
 use Rattle.tk_live.proofs.Histograms.{gathered_times, line_one_each, line_tells}
 use Rattle.tk_live.proofs.Leaving.{absorb_told, infos_leave, just_due, lines_push}
@@ -46,7 +46,7 @@ by_one (o ∷ os) named =
     let one : o.recorder ≡ 1 = omega (arith, named.0.0, named.0.1) in
     rw (eq-eqb o.recorder 1 one) (ap (λ l. o ∷ l) (by_one os named.1))
 
-module _ (r : Recording) (capacity : ℕ) (numbers : Numbers) (told : List Told) (kept : List Bool) (offered : Offered r capacity numbers told kept) (t u : Taking) (takes : IsTakerOf r t) (took : TookMore t u) (named : All (IsNamed u.recorders) u.taken) where
+module _ (r : Recording) (capacity : ℕ) (numbers : Numbers) (told : List Content) (kept : List Bool) (offered : Offered r capacity numbers told kept) (t u : Taking) (takes : IsTakerOf r t) (took : TookMore t u) (named : All (IsNamed u.recorders) u.taken) where
   all_named : AllByRecursion (IsNamed 1) u.taken
   all_named = recursion_from_All (IsNamed 1) u.taken (subst (λ (n : ℕ). All (IsNamed n) u.taken) (took.recorders ∙ takes.recorders) named)
 
@@ -65,7 +65,7 @@ took_more r t u takes took = record {
 -- ---- what was gathered since the last line
 
 -- an aggregator has gathered all since the line that it told last
-pub record HasGathered (a : Aggregating) (settings : Settings) (now count : ℕ) (sent : List Sending) (since : List Told) : Type 0 where
+pub record HasGathered (a : Aggregating) (settings : Settings) (now count : ℕ) (sent : List Sending) (since : List Content) : Type 0 where
   pub retention_is : a.retention ≡ settings.retention
   pub reads : a.timing.reads ≡ settings.times
   pub told : a.told ≡ tables_sent empty_tables sent
@@ -78,21 +78,21 @@ pub record HasGathered (a : Aggregating) (settings : Settings) (now count : ℕ)
   pub numbers : a.last ≡ count
   pub going : a.broken ≡ false
 
-told_of_offers : (os : List Offer) → map offer_tells os ≡ map tells (map (λ (o : Offer). o.event) os)
+told_of_offers : (os : List Offer) → map offer_content os ≡ map content_of (map (λ (o : Offer). o.event) os)
 told_of_offers [] = refl
-told_of_offers (o ∷ os) = ap (λ l. offer_tells o ∷ l) (told_of_offers os)
+told_of_offers (o ∷ os) = ap (λ l. offer_content o ∷ l) (told_of_offers os)
 
 -- what was taken in is what came, where no event is held before or after
 took_in : (a b : Aggregating) (t u : Taking) (taken : List Event) (g : Gathers a t taken b u) → a.held ≡ None → b.held ≡ None → g.came ≡ taken
 took_in a b t u taken g none_held now_none = ap (λ h. held_events h ++ g.came) (sym none_held) ∙ g.in_order ∙ ap (λ h. taken ++ held_events h) now_none ∙ append-nil taken
 
 -- events were taken in
-pub gathered : (a b : Aggregating) (t u : Taking) (taken : List Event) (settings : Settings) (now count : ℕ) (sent : List Sending) (since : List Told) → HasTold a settings now count sent → (g : Gathers a t taken b u) → b.held ≡ None
-    → map offer_tells g.offers ≡ since → (settings.times ≡ true → HaveTimes u.taken) → HasGathered b settings now count sent since
+pub gathered : (a b : Aggregating) (t u : Taking) (taken : List Event) (settings : Settings) (now count : ℕ) (sent : List Sending) (since : List Content) → HasTold a settings now count sent → (g : Gathers a t taken b u) → b.held ≡ None
+    → map offer_content g.offers ≡ since → (settings.times ≡ true → HaveTimes u.taken) → HasGathered b settings now count sent since
 gathered a b t u taken settings now count sent since told g none_held since_is timed =
     let stays : IsSameStream a b = gathers_stays a t taken b u g in
     let came = took_in a b t u taken g told.none_held none_held in
-    let tells_since : map tells (map shown taken) ≡ since = ap (λ es. map tells (map shown es)) (sym came) ∙ ap (map tells) (sym g.are_offered) ∙ sym (told_of_offers g.offers) ∙ since_is in
+    let contents_since : map content_of (map shown taken) ≡ since = ap (λ es. map content_of (map shown es)) (sym came) ∙ ap (map content_of) (sym g.are_offered) ∙ sym (told_of_offers g.offers) ∙ since_is in
     record {
       retention_is = stays.retention ∙ told.retention_is;
       reads = stays.reads ∙ told.reads;
@@ -101,7 +101,7 @@ gathered a b t u taken settings now count sent since told g none_held since_is t
       last = stays.last ∙ told.last;
       none_held = none_held;
       infos =
-          gathered_is_absorbed a t taken b u g ∙ absorb_told (infos_of a.tables) (map shown taken) ∙ ap (infos_with (infos_of a.tables)) tells_since
+          gathered_is_absorbed a t taken b u g ∙ absorb_told (infos_of a.tables) (map shown taken) ∙ ap (infos_with (infos_of a.tables)) contents_since
           ∙ ap (λ (i : Infos). infos_with i since) (told.infos ∙ ap infos_of (sym stays.told));
       times = λ is. gathered_times a b t u taken g told.none_held (told.reads ∙ is) (told.times is) (timed is);
       moment = stays.now ∙ told.moment;
@@ -110,7 +110,7 @@ gathered a b t u taken settings now count sent since told g none_held since_is t
     }
 
 -- the taker told its totals
-pub told_totals : (a : Aggregating) (totals : Rattle.tk_ids.specs.declared.info.Dropped.Dropped) (settings : Settings) (now count : ℕ) (sent : List Sending) (since : List Told) → HasGathered a settings now count sent since
+pub told_totals : (a : Aggregating) (totals : Rattle.tk_ids.specs.declared.info.Dropped.Dropped) (settings : Settings) (now count : ℕ) (sent : List Sending) (since : List Content) → HasGathered a settings now count sent since
     → HasGathered (record a { tables = record a.tables { dropped = totals } }) settings now count sent since
 told_totals a totals settings now count sent since are = record {
   retention_is = are.retention_is;
@@ -127,7 +127,7 @@ told_totals a totals settings now count sent since are = record {
 }
 
 -- rows and histograms were read
-pub still_gathered : (a b : Aggregating) (settings : Settings) (now count : ℕ) (sent : List Sending) (since : List Told) → IsSameStream a b → infos_of b.tables ≡ infos_of a.tables → b.held ≡ a.held
+pub still_gathered : (a b : Aggregating) (settings : Settings) (now count : ℕ) (sent : List Sending) (since : List Content) → IsSameStream a b → infos_of b.tables ≡ infos_of a.tables → b.held ≡ a.held
     → (map times_id a.timing.shown ≡ map task_id a.tables.tasks → map times_id b.timing.shown ≡ map task_id b.tables.tasks) → HasGathered a settings now count sent since → HasGathered b settings now count sent since
 still_gathered a b settings now count sent since stays infos held times are = record {
   retention_is = stays.retention ∙ are.retention_is;
@@ -170,7 +170,7 @@ left_reads : (whole : Bool) (a : Aggregating) (now : ℕ) → (left_at whole a n
 left_reads true a now = refl
 left_reads false a now = pruned_reads a.retention a now
 
--- the number behind a line
+-- the number after a line
 pub line_last : (whole : Bool) (a : Aggregating) (now : ℕ) → (after_line whole a now).last ≡ a.last + 1
 line_last whole a now = ap (λ n. n + 1) (left_last whole a now)
 

@@ -42,7 +42,7 @@ use Rattle.tk_live.proofs.Seating.{put_back}
 
 -- ---- lines, with one more
 
--- no line stands behind the last call of its waker
+-- no line stands after the last call of its waker
 pub lasts_more : (ls : List WorkerLine) (l : WorkerLine) → LastsAreLast ls → spends l.waker ls ≡ false → LastsAreLast (ls ++ l ∷ [])
 lasts_more ls l lasts goes before after k cut = ⊎_elim
     (λ (t : (before ≡ ls) × (k ≡ l)). subst (λ (bs : List WorkerLine). spends k.waker bs ≡ false) (sym t.0) (subst (λ (x : WorkerLine). spends x.waker ls ≡ false) (sym t.1) goes))

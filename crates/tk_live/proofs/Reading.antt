@@ -62,7 +62,7 @@ no_task_read a xs readers = record {
   rest = refl;
 }
 
--- the next one is of the number behind its place, and its readers are of its ledger
+-- the next one is of the number after its place, and its readers are of its ledger
 module _ (i : ℕ) (first a : Aggregating) (xs ys : List TaskItem) (read : AreTasksRead i first xs a ys) (x : TaskItem) (at : slice_get ys i ≡ Some x) where
   task_past : (ps : List TaskPast) → EachFrom IsTask 1 ps xs → (p : TaskPast) × (made_item (i + 1) ps ≡ Some p) × IsTask (i + 1) p x
   task_past ps each = each_made IsTask ps ys (i + 1) x (read.hands ps each) (at_place (i + 1) i ys refl ∙ at)
@@ -176,7 +176,7 @@ no_resource_read a xs readers = record {
   rest = refl;
 }
 
--- the next one is of the number behind its place, and its readers are of its ledger
+-- the next one is of the number after its place, and its readers are of its ledger
 module _ (i : ℕ) (first a : Aggregating) (xs ys : List ResourceItem) (read : AreResourcesRead i first xs a ys) (x : ResourceItem) (at : slice_get ys i ≡ Some x) where
   resource_past : (ps : List ResourcePast) → EachFrom IsResource 1 ps xs → (p : ResourcePast) × (made_item (i + 1) ps ≡ Some p) × IsResource (i + 1) p x
   resource_past ps each = each_made IsResource ps ys (i + 1) x (read.hands ps each) (at_place (i + 1) i ys refl ∙ at)
@@ -287,7 +287,7 @@ no_op_read a xs readers = record {
   rest = refl;
 }
 
--- the next one is of the number behind its place, and its readers are of its ledger
+-- the next one is of the number after its place, and its readers are of its ledger
 module _ (i : ℕ) (first a : Aggregating) (xs ys : List OpItem) (read : AreOpsRead i first xs a ys) (x : OpItem) (at : slice_get ys i ≡ Some x) where
   op_past : (ps : List OpPast) → EachFrom IsOp 1 ps xs → (p : OpPast) × (made_item (i + 1) ps ≡ Some p) × IsOp (i + 1) p x
   op_past ps each = each_made IsOp ps ys (i + 1) x (read.hands ps each) (at_place (i + 1) i ys refl ∙ at)

@@ -1,4 +1,4 @@
--- What an interpreter stands for behind an offer.
+-- What an interpreter stands for after an offer.
 use Rattle.std.proofs.Common.{◌≡◌, ◌≢◌, ℕ, ◌+◌, ◌≤◌, Bool, true, false, List, [], ◌∷◌, ◌++◌, length, Option, Some, None, refl, sym, ap, ◌∙◌, subst, arith, eq-eqb, length-append, true≢false}
 use Rattle.std.specs.Prelude.{is_some}
 use Rattle.std.specs.List.{AllByRecursion}
@@ -16,7 +16,7 @@ use Rattle.tk_ledgers.specs.Resources.{ResourceSight}
 use Rattle.tk_ledgers.specs.Tasks.{TaskSight}
 use Rattle.tk_stream.specs.Streams.{Sending}
 use Rattle.tk_aggregator.specs.Aggregates.{Aggregating}
-use Rattle.tk_aggregator.specs.Told.{Told, tells}
+use Rattle.tk_aggregator.specs.Contents.{Content, content_of}
 use Rattle.tk_live.specs.Course.{Course}
 use Rattle.tk_live.specs.Items.{Holds}
 use Rattle.tk_live.specs.Named.{made_item}
@@ -84,11 +84,11 @@ module _ (tasks more_tasks : List TaskItem) (resources more_resources : List Res
 -- ---- one offer more
 
 -- an offer was made, whatever became of it: an interpreter stands for one recording more, of these items
-module _ (i new : Interpreter) (settings : Settings) (c : Course) (kept : List Bool) (sent : List Sending) (stands : Represents i settings c kept sent) (event : Shown) (became : Recorded) (ps : Pasts) (told : Told)
+module _ (i new : Interpreter) (settings : Settings) (c : Course) (kept : List Bool) (sent : List Sending) (stands : Represents i settings c kept sent) (event : Shown) (became : Recorded) (ps : Pasts) (told : Content)
     (same : IsSameRecorder i.recorder new.recorder) (left : offers_made i.recorder ≡ i.recorder.limit → ⊥) (keeps : became ≡ Kept → new.recorder ≡ with_kept i.recorder (next_offer i.recorder event)) (drops : became ≡ DroppedFull → new.recorder ≡ with_refused i.recorder (next_offer i.recorder event))
     (full : became ≡ DroppedFull → i.recorder.recorders ≡ 1 → i.recorder.capacity ≤ length i.recorder.kept)
     (rest : new ≡ record i { recorder = new.recorder; tasks = new.tasks; resources = new.resources; ops = new.ops }) where
-  pub stands_more : one_more (numbers_of c.pasts) event ≡ numbers_of ps → tells event ≡ told → (settings.times ≡ true → HasTimes event)
+  pub stands_more : one_more (numbers_of c.pasts) event ≡ numbers_of ps → content_of event ≡ told → (settings.times ≡ true → HasTimes event)
       → IsLonger i.tasks.items new.tasks.items × IsLonger i.resources.items new.resources.items × IsLonger i.ops.items new.ops.items
       → Holds new.tasks.items i.wakers.items new.resources.items new.ops.items ps → OffersLedger new.tasks.items new.resources.items new.ops.items event
       → (mark : Bool) × Represents new settings (record c { pasts = ps; told = c.told ++ told ∷ [] }) (kept ++ mark ∷ []) sent
@@ -99,7 +99,7 @@ module _ (i new : Interpreter) (settings : Settings) (c : Course) (kept : List B
         subst (λ (x : Interpreter). Represents x settings (record c { pasts = ps; told = c.told ++ told ∷ [] }) (kept ++ one.0 ∷ []) sent) (sym rest) (record {
           came = tells_more settings c.told c.due kept sent one.0 told stands.came stands.rise one.2;
           rise = subst (λ n. RiseTo n 0 c.due) grown (rise_more (length c.told) 1 0 c.due stands.rise);
-          offered = subst (λ (p : Numbers × Told). Offered new.recorder settings.capacity p.0 (c.told ++ p.1 ∷ []) (kept ++ one.0 ∷ [])) (λ j. (numbers j, told_is j)) one.1;
+          offered = subst (λ (p : Numbers × Content). Offered new.recorder settings.capacity p.0 (c.told ++ p.1 ∷ []) (kept ++ one.0 ∷ [])) (λ j. (numbers j, told_is j)) one.1;
           takes = record {
             console = stands.takes.console ∙ sym same.console;
             recorders = stands.takes.recorders;

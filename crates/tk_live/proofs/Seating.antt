@@ -41,9 +41,9 @@ put_elsewhere m n xs x ne low = go (nat_lt 0 m) refl
 pub live_within : {X : Type 0} (n : ℕ) (xs : List (Option X)) (x : X) → live_item n xs ≡ Some x → (1 ≤ n) × (n - 1 < length xs)
 live_within n xs x live = let p = live_place n xs x live in let lt = within xs p.0 (Some x) p.2 in (omega (arith, p.1), omega (arith, p.1, lt))
 
--- a number behind the list names nothing
-pub none_behind : {X : Type 0} (n : ℕ) (xs : List (Option X)) → length xs < n → live_item n xs ≡ None
-none_behind n xs high = live_at n xs (omega (arith, high)) ∙ go xs (n - 1) (omega (arith, high))
+-- a number past the end of the list names nothing
+pub none_past_end : {X : Type 0} (n : ℕ) (xs : List (Option X)) → length xs < n → live_item n xs ≡ None
+none_past_end n xs high = live_at n xs (omega (arith, high)) ∙ go xs (n - 1) (omega (arith, high))
   where
     go : {X : Type 0} (xs : List (Option X)) (i : ℕ) → length xs ≤ i → at i xs ≡ None
     go [] i le = refl

@@ -9,7 +9,7 @@ use Rattle.tk_live.specs.declared.items.WakerItem.{WakerItem}
 use Rattle.tk_script.specs.declared.block.WorkerLine.{WorkerLine}
 use Rattle.tk_live.proofs.Handing.{some_none}
 use Rattle.tk_live.proofs.Places.{live_item-map}
-use Rattle.tk_live.proofs.Seating.{at, live_at, none_behind, all_same}
+use Rattle.tk_live.proofs.Seating.{at, live_at, none_past_end, all_same}
 
 -- what is there of a waker, unless it is spent
 abbrev pub unless_spent : {X : Type 0} → List WorkerLine → ℕ → Option X → Option X
@@ -34,7 +34,7 @@ module _ (ls : List WorkerLine) (old : List (Option WakerItem)) where
     each : (w : ℕ) → live_item w new ≡ unless_spent ls w (live_item w old)
     each w = ⊎_elim
         (λ (le : w ≤ length old). was.done w le)
-        (λ (lt : length old < w). was.rest w lt ∙ (none_behind w old lt ∙ sym (none_unless ls w (live_item w old) (none_behind w old lt))))
+        (λ (lt : length old < w). was.rest w lt ∙ (none_past_end w old lt ∙ sym (none_unless ls w (live_item w old) (none_past_end w old lt))))
         (sides w (length old))
       where
         sides : (a b : ℕ) → (a ≤ b) ⊎ (b < a)

@@ -1,4 +1,4 @@
--- What an interpreter stands for behind a command that calls on one item.
+-- What an interpreter stands for after a command that calls on one item.
 use Rattle.std.proofs.Common.{◌≡◌, ◌⊎◌, ℕ, ◌-◌, Bool, true, false, cond, List, [], ◌∷◌, ◌++◌, length, Option, Some, None, inl, inr, refl, sym, ap, ◌∙◌, subst}
 use Rattle.std.specs.Prelude.{is_some}
 use Rattle.std.specs.List.{AllByRecursion}
@@ -12,7 +12,7 @@ use Rattle.tk_ledgers.specs.Ops.{OpSight}
 use Rattle.tk_ledgers.specs.Resources.{ResourceSight}
 use Rattle.tk_ledgers.specs.Tasks.{TaskSight}
 use Rattle.tk_aggregator.specs.Aggregates.{Aggregating}
-use Rattle.tk_aggregator.specs.Told.{Told}
+use Rattle.tk_aggregator.specs.Contents.{Content}
 use Rattle.tk_stream.specs.Streams.{Sending}
 use Rattle.tk_live.specs.Course.{Course}
 use Rattle.tk_live.specs.Items.{EachFrom, Holds}
@@ -126,7 +126,7 @@ unmarked i settings c kept sent stands = subst (λ (m : List Bool). Represents i
 
 -- and nothing told
 pub untold : (i : Interpreter) (settings : Settings) (c : Course) (kept : List Bool) (sent : List Sending) → Represents i settings c kept sent → Represents i settings (record c { told = c.told ++ [] }) (kept ++ []) sent
-untold i settings c kept sent stands = subst (λ (told : List Told). Represents i settings (record c { told = told }) (kept ++ []) sent) (sym (append-nil c.told)) (unmarked i settings c kept sent stands)
+untold i settings c kept sent stands = subst (λ (told : List Content). Represents i settings (record c { told = told }) (kept ++ []) sent) (sym (append-nil c.told)) (unmarked i settings c kept sent stands)
 
 -- items went on, as the text tells of them
 pub went_on : (i new : Interpreter) (settings : Settings) (c : Course) (ps : Pasts) (kept : List Bool) (sent : List Sending) → Represents i settings c kept sent
@@ -150,6 +150,6 @@ went_on i new settings c ps kept sent stands holds tasks_stay resources_stay ops
   times_is = stands.times_is;
 }
 
--- what is behind commands that call on one item: what the text calls on items, and nothing more
+-- what stands after commands that call on one item: what the text calls on items, and nothing more
 abbrev pub calling : Course → Pasts → Course
 calling c ps = record c { pasts = ps; told = c.told ++ [] }

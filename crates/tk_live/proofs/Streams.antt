@@ -24,6 +24,6 @@ pub goes_push : (t : TablesView) (n : ℕ) (ss : List Sending) (s : Sending) →
 goes_push t n [] s on seq may = (seq, may, tt)
 goes_push t n (r ∷ rs) s on seq may = (on.0, on.1, goes_push r.tables r.seq rs s on.2 seq may)
 
--- the bytes of more lines stand behind those of the lines before
+-- the bytes of more lines stand after those of the lines before
 pub written_append : (sent more : List Sending) → written_by (sent ++ more) ≡ written_by sent ++ bytes_after sent more
 written_append sent more = ap bytes_sent (lines_append empty_tables sent more) ∙ flat_map-append sent_text (lines_sent empty_tables sent) (lines_sent (tables_sent empty_tables sent) more)

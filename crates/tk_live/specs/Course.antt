@@ -10,7 +10,7 @@ use Rattle.tk_ids.specs.declared.info.TaskInfo.{TaskInfo}
 use Rattle.tk_ids.specs.declared.location.Location.{Location}
 use Rattle.tk_ids.specs.declared.spec.TaskKind.{TaskKind}
 use Rattle.tk_events.specs.Items.{infos_of}
-use Rattle.tk_aggregator.specs.Told.{Told, made_task, made_resource, made_op, polled}
+use Rattle.tk_aggregator.specs.Contents.{Content, made_task, made_resource, made_op, polled}
 use Rattle.tk_live.specs.Blocks.{Block, no_lines, with_line, after_block}
 use Rattle.tk_live.specs.Pasts.{Pasts, no_pasts, called_by}
 use Rattle.tk_script.specs.Commands.{Said, Line, says, opens, joins, works, task, resource, op, poll_op, capacity, retention, times, publish, is_setting}
@@ -26,7 +26,7 @@ pub record Due : Type 0 where
 -- last one, which settings were said, whether there was any other command, and the lines of the block that is open, if one is
 pub record Course : Type 0 where
   pub pasts : Pasts
-  pub told : List Told
+  pub told : List Content
   pub due : List Due
   pub now : ℕ
   pub capacity_said : Bool
@@ -56,7 +56,7 @@ abbrev pub script_op_info : ℕ → ℕ → List ℕ → List AttrSpec → OpInf
 script_op_info n r source attrs = record { id = id_of 1 n; source = source; resource = id_of 1 r; parent = None; attrs = infos_of attrs }
 
 -- what a command on a line of this number records, after what was called before it
-abbrev pub told_by : Pasts → ℕ → Said → List Told
+abbrev pub told_by : Pasts → ℕ → Said → List Content
 told_by ps line (task created kind name) = made_task (script_task_info (length ps.tasks + 1) line kind name) ∷ []
 told_by ps line (resource created kind concrete attrs) = made_resource (script_resource_info (length ps.resources + 1) line kind concrete attrs) ∷ []
 told_by ps line (op created r source attrs) = made_op (script_op_info (length ps.ops + 1) r source attrs) ∷ []

@@ -58,7 +58,7 @@ pub record IsQuiet (e : Entry TaskCall (Reply TaskRow)) : Type 0 where
 
 -- ---- what one waker does
 
--- behind what a waker had seen, it made these calls
+-- after what a waker had seen, it made these calls
 pub record HasMade (old : KnownTask) (calls : List TaskCall) (new : KnownTask) : Type 0 where
   pub held : new.view.held ≡ old.view.held
   pub caller : new.view.caller ≡ old.view.caller
@@ -92,7 +92,7 @@ pub record MadeLines (ls : List WorkerLine) (w : ℕ) (old new : Handed) : Type 
   pub spent : is_spent new ≡ spends w ls
   pub live : IsLive task_meaning (known_by old).view (known_by old).view.caller → spends w ls ≡ false → IsLive task_meaning (known_by new).view (known_by new).view.caller
 
--- lines were run by a waker of this number, where it was live before and none of them stands behind its last call
+-- lines were run by a waker of this number, where it was live before and none of them stands after its last call
 pub record RanBy (ls : List WorkerLine) (w : ℕ) (old new : Handed) : Type 0 where
   pub stays : StaysWaker (known_by old) (known_by new)
   pub did : LastsAreLast ls → is_spent old ≡ false → MadeLines ls w old new
@@ -215,11 +215,11 @@ calls_for share n w [] = []
 calls_for share n w (Some a ∷ wakers) = if a.task == n then calls_by w (share w) ∷ calls_for share n (w + 1) wakers else calls_for share n (w + 1) wakers
 calls_for share n w (None ∷ wakers) = calls_for share n (w + 1) wakers
 
--- a hand of which wakers up to a number are out: those behind it are back, and the hand has seen their calls, beside one another
+-- a hand of which wakers up to a number are out: the later ones are back, and the hand has seen their calls, beside one another
 abbrev pub IsBackFrom : Share → List (Option WakerItem) → ℕ → ℕ → TaskItem → TaskItem → Type 0
 IsBackFrom share wakers i n t u = (more : TaskEntries) × IsLent (IsOut share wakers i n) more t u × AreBeside (calls_for share n (i + 1) (drop i wakers)) (calls_of (of_held u.callers.token.view more))
 
--- wakers up to a number are out, and those behind it are back, live but for those that their lines spent
+-- wakers up to a number are out, and the later ones are back, live but for those that their lines spent
 pub record TakenBack (share : Share) (wakers : List (Option WakerItem)) (before : List TaskItem) (i : ℕ) (now : List TaskItem) : Type 0 where
   pub tasks : EachFrom (IsBackFrom share wakers i) 1 before now
   pub made : (w : ℕ) (a : WakerItem) → live_item w wakers ≡ Some a → (t : TaskItem) × (made_item a.task before ≡ Some t)

@@ -15,7 +15,7 @@ use Rattle.tk_stream.specs.declared.tables.task.Task.{Task}
 use Rattle.tk_aggregator.specs.Absorbing.{Infos, infos_of, with_told, infos_without}
 use Rattle.tk_aggregator.specs.Aggregates.{Pairs}
 use Rattle.tk_aggregator.specs.Timing.{ReadTimes}
-use Rattle.tk_aggregator.specs.Told.{Told}
+use Rattle.tk_aggregator.specs.Contents.{Content}
 use Rattle.tk_live.specs.Course.{Due, Course, start_of_all, course_of}
 use Rattle.tk_live.specs.Named.{made_item}
 use Rattle.tk_live.specs.Pasts.{TaskPast, ResourcePast, OpPast, Pasts, IsTaskRow, IsResourceRow, IsOpRow}
@@ -24,7 +24,7 @@ use Rattle.tk_script.specs.Commands.{Line}
 use Rattle.tk_script.specs.declared.settings.Settings.{Settings}
 
 -- infos and poll counts with what was told more, in order
-abbrev pub infos_with : Infos → List Told → Infos
+abbrev pub infos_with : Infos → List Content → Infos
 infos_with infos told = fold with_told infos told
 
 -- a task of a table is the one of its id's number, and its row is that of what was called on it
@@ -68,16 +68,16 @@ abbrev pub times_before : List TaskTimes → Sending → List TaskTimes
 times_before had s = if s.snapshot then [] else had
 
 -- the histograms that a line leads to
-abbrev pub times_behind : List TaskTimes → TablesView → Sending → List TaskTimes
-times_behind had before s = times_after (times_before had s) (line_sent before s)
+abbrev pub times_led_to : List TaskTimes → TablesView → Sending → List TaskTimes
+times_led_to had before s = times_after (times_before had s) (line_sent before s)
 
 -- a line leads to one histogram of each of its tasks, in their order, and tells those that are new since the line before, or others now.
 -- Each is what a reader of that task's histogram read: the fold of a legal history of the histogram's ledger
 pub record AreTimesOf (before : TablesView) (had : List TaskTimes) (s : Sending) : Type 0 where
-  pub told : s.told ≡ Some (told_times (times_before had s) (times_behind had before s))
-  pub one_each : map times_id (times_behind had before s) ≡ map task_id s.tables.tasks
+  pub told : s.told ≡ Some (told_times (times_before had s) (times_led_to had before s))
+  pub one_each : map times_id (times_led_to had before s) ≡ map task_id s.tables.tasks
   pub readers : List TimesSight
-  pub read : Pairs ReadTimes (times_behind had before s) readers
+  pub read : Pairs ReadTimes (times_led_to had before s) readers
 
 -- a line tells histograms where tasks have such, and otherwise none
 abbrev pub TellsTimes : Bool → TablesView → List TaskTimes → Sending → Type 0
@@ -88,7 +88,7 @@ TellsTimes false before had s = s.told ≡ None
 -- where tasks have such. After the tables of the line before it has their infos and poll counts and those of all that was recorded and
 -- kept since, but for the items that leave, and where it says what is gone, it says just these. Each row is that of the calls that the
 -- text makes before the line
-pub record IsLineOf (settings : Settings) (before : TablesView) (had : List TaskTimes) (since : List Told) (d : Due) (s : Sending) : Type 0 where
+pub record IsLineOf (settings : Settings) (before : TablesView) (had : List TaskTimes) (since : List Content) (d : Due) (s : Sending) : Type 0 where
   pub moment : s.tables.now ≡ d.moment
   pub snapshot : s.snapshot ≡ d.whole
   pub removes : s.removes ≡ is_some settings.retention
@@ -98,19 +98,19 @@ pub record IsLineOf (settings : Settings) (before : TablesView) (had : List Task
   pub times : TellsTimes settings.times before had s
 
 -- what was kept of the recordings from one number of them to another. `kept` says of each whether its event was kept
-abbrev pub kept_between : List Bool → List Told → ℕ → ℕ → List Told
+abbrev pub kept_between : List Bool → List Content → ℕ → ℕ → List Content
 kept_between kept told from to = items_where_true (between from to kept) (between from to told)
 
 -- the lines that were sent, one for each that was due, in order, after these tables and histograms, and as many recordings
-abbrev pub AreLinesOf : Settings → List Bool → List Told → TablesView → List TaskTimes → ℕ → List Due → List Sending → Type 0
+abbrev pub AreLinesOf : Settings → List Bool → List Content → TablesView → List TaskTimes → ℕ → List Due → List Sending → Type 0
 AreLinesOf settings kept told before had from [] [] = Unit {0}
 AreLinesOf settings kept told before had from (d ∷ due) (s ∷ sent) =
-    IsLineOf settings before had (kept_between kept told from d.recorded) d s × AreLinesOf settings kept told s.tables (times_behind had before s) d.recorded due sent
+    IsLineOf settings before had (kept_between kept told from d.recorded) d s × AreLinesOf settings kept told s.tables (times_led_to had before s) d.recorded due sent
 AreLinesOf settings kept told before had from _ _ = ⊥
 
 -- the lines that were sent tell of what was recorded, where `kept` says of each recording whether its event was kept, as each of the first
 -- was that the console holds; and they are an uninterrupted stream from number 1
-pub record TellOf (settings : Settings) (told : List Told) (due : List Due) (kept : List Bool) (sent : List Sending) : Type 0 where
+pub record TellOf (settings : Settings) (told : List Content) (due : List Due) (kept : List Bool) (sent : List Sending) : Type 0 where
   pub one_each : length kept ≡ length told
   pub first : (i : ℕ) → i < length kept → i < settings.capacity → slice_get kept i ≡ Some true
   pub lines : AreLinesOf settings kept told empty_tables [] 0 due sent

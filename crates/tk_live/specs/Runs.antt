@@ -24,7 +24,7 @@ use Rattle.tk_stream.specs.Tables.{empty_tables, task_id}
 use Rattle.tk_stream.specs.Times.{times_id}
 use Rattle.tk_aggregator.specs.Absorbing.{infos_of}
 use Rattle.tk_aggregator.specs.Aggregates.{Aggregating}
-use Rattle.tk_aggregator.specs.Told.{Told, tells}
+use Rattle.tk_aggregator.specs.Contents.{Content, content_of}
 use Rattle.tk_live.specs.Blocks.{Block}
 use Rattle.tk_script.specs.Commands.{Said, Line}
 use Rattle.tk_live.specs.Course.{Due, Course, start_of_all, step, line_after, course_of}
@@ -47,9 +47,9 @@ use Rattle.tk_script.specs.declared.stop.Stop.TheVariants.{BadCommand, Call, Mem
 
 -- ---- the recorder and the taker
 
--- what an offer tells
-abbrev pub offer_tells : Offer → Told
-offer_tells o = tells o.event
+-- what an offer says
+abbrev pub offer_content : Offer → Content
+offer_content o = content_of o.event
 
 -- how many items of each kind were made
 pub record Numbers : Type 0 where
@@ -62,14 +62,14 @@ abbrev pub numbers_of : Pasts → Numbers
 numbers_of ps = record { tasks = length ps.tasks; resources = length ps.resources; ops = length ps.ops }
 
 -- the one recorder of a console offered what was recorded, and these marks tell what was kept
-pub record Offered (r : Recording) (capacity : ℕ) (numbers : Numbers) (told : List Told) (kept : List Bool) : Type 0 where
+pub record Offered (r : Recording) (capacity : ℕ) (numbers : Numbers) (told : List Content) (kept : List Bool) : Type 0 where
   pub number : r.number ≡ 1
   pub alone : r.recorders ≡ 1
   pub capacity_is : r.capacity ≡ capacity
   pub limit : r.limit ≡ last_number
   pub made : offers_made r ≡ length told
   pub few : length told ≤ last_number
-  pub picks : map offer_tells r.kept ≡ items_where_true kept told
+  pub picks : map offer_content r.kept ≡ items_where_true kept told
   pub tasks_are : tasks_in r.kept + tasks_in r.refused ≡ numbers.tasks
   pub resources_are : resources_in r.kept + resources_in r.refused ≡ numbers.resources
   pub ops_are : ops_in r.kept + ops_in r.refused ≡ numbers.ops
@@ -152,7 +152,7 @@ pub record Represents (i : Interpreter) (settings : Settings) (c : Course) (kept
   pub rise : RiseTo (length c.told) 0 c.due
   pub offered : Offered i.recorder settings.capacity (numbers_of c.pasts) c.told kept
   pub takes : IsTakerOf i.recorder i.taker
-  pub taken : map offer_tells i.taker.taken ≡ items_where_true (take (recorded_by 0 c.due) kept) (take (recorded_by 0 c.due) c.told)
+  pub taken : map offer_content i.taker.taken ≡ items_where_true (take (recorded_by 0 c.due) kept) (take (recorded_by 0 c.due) c.told)
   pub has_told : HasTold i.aggregator settings c.now (length c.due) sent
   pub timed : settings.times ≡ true → HaveTimes i.recorder.kept
   pub holds : Holds i.tasks.items i.wakers.items i.resources.items i.ops.items c.pasts

@@ -127,7 +127,7 @@ StopByEnvironment c s stop = ⊥
 abbrev pub StopReason : Course → Said → Stop → Type 0
 StopReason c s stop = (stop_by_text c s ≡ Some stop) ⊎ StopByEnvironment c s stop
 
--- the stop that the text tells of a worker's line: its waker has lines of the other worker, or isn't there behind the worker's own
+-- the stop that the text tells of a worker's line: its waker has lines of the other worker, or isn't there after the worker's own
 abbrev pub work_stop : List WorkerLine → List WorkerLine → List (Option ℕ) → WorkerLine → Option Stop
 work_stop own others wakers l = if is_named l.waker others then Some BadCommand else if_there (if spends l.waker own then None else live_item l.waker wakers) None
 

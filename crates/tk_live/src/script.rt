@@ -179,7 +179,7 @@ fn run<R: Threads + Wait + Sync, W: Write, G: Gate + Sync>(
 /// showed as closed leaves with the first `publish` that is so many nanoseconds after its close. Where `times` is one, they are of
 /// version 3, and tell of each task a histogram of how long its polls ran, in nanoseconds.
 /// A block of threads, from `par` to `join`, is run at its `join`: each of its two workers that has lines is one thread, which
-/// owns the wakers of its lines and passes the gate before each of its calls. Behind the block the wakers that are not spent
+/// owns the wakers of its lines and passes the gate before each of its calls. After the block the wakers that are not spent
 /// are there again.
 ///
 /// - `Memory`: the script could not be kept, or the run not begun, for want of memory. Nothing was written.

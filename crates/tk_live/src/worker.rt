@@ -20,7 +20,7 @@ fn run_line<R: Wait>(rt: &R, wakers: &mut HandedWakers, line: WorkerLine)
     }
 }
 
-/// Runs the lines of worker `k` in order, and asks the gate before each of them. It answers the wakers behind them, or nothing
+/// Runs the lines of worker `k` in order, and asks the gate before each of them. It answers the wakers after them, or nothing
 /// where the gate stopped it.
 pub(crate) fn work<R: Wait, G: Gate>(
     rt: &R,

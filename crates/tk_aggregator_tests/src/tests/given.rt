@@ -132,7 +132,7 @@ pub(super) fn on_made<T: Drop, E: Drop, F: FnOnce(&mut T) -> bool>(
     }
 }
 
-// Whether a check holds of a new aggregator behind so many lines.
+// Whether a check holds of a new aggregator after so many lines.
 pub(super) fn on_new<F: FnOnce(&mut Aggregator) -> bool>(
     alloc: Global,
     after: u64,

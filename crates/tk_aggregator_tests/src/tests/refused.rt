@@ -49,7 +49,7 @@ fn has_no_number(alloc: Global, aggregator: &mut Aggregator) -> bool {
         && refuses_all(alloc, aggregator, 5, StreamError::NumbersSpent)
 }
 
-pub(super) fn writes_no_line_behind_the_last(alloc: Global) -> bool {
+pub(super) fn writes_no_line_after_the_last(alloc: Global) -> bool {
     on_new(alloc, MOST, |aggregator| has_no_number(alloc, aggregator))
 }
 

@@ -16,7 +16,7 @@ fn takes_in_closed<R: Wait>(rt: &R, alloc: Global, aggregator: &mut Aggregator) 
     }
 }
 
-// Whether the next line has this number, and so many tasks are there behind it.
+// Whether the next line has this number, and so many tasks are there after it.
 fn tells(
     aggregator: &mut Aggregator,
     now: u64,
@@ -42,13 +42,13 @@ fn leaves_at_15<R: Wait>(rt: &R, alloc: Global, aggregator: &mut Aggregator) -> 
         && are_taken(alloc, written.as_slice(), 3, aggregator.tables())
 }
 
-pub(super) fn leaves_behind_its_retention<R: Wait>(rt: &R, alloc: Global) -> bool {
+pub(super) fn leaves_after_its_retention<R: Wait>(rt: &R, alloc: Global) -> bool {
     on_retaining(alloc, 10, |aggregator| {
         takes_in_closed(rt, alloc, aggregator) && leaves_at_15(rt, alloc, aggregator)
     })
 }
 
-// It is due long before it was told as closed, and leaves with the line behind that one.
+// It is due long before it was told as closed, and leaves with the line after that one.
 fn is_told_and_leaves<R: Wait>(rt: &R, alloc: Global, aggregator: &mut Aggregator) -> bool {
     let mut written = Vec::new(alloc);
     shows_it(rt, aggregator, 100, &mut written)
@@ -62,7 +62,7 @@ pub(super) fn is_told_as_closed_first<R: Wait>(rt: &R, alloc: Global) -> bool {
     })
 }
 
-// A snapshot at 20 has the task, and the line behind it lets it leave.
+// A snapshot at 20 has the task, and the next line lets it leave.
 fn has_it_in_a_snapshot(alloc: Global, aggregator: &mut Aggregator) -> bool {
     let mut written = Vec::new(alloc);
     aggregator.snapshot(20, &mut written) == Ok(2)
@@ -72,7 +72,7 @@ fn has_it_in_a_snapshot(alloc: Global, aggregator: &mut Aggregator) -> bool {
         && are_taken(alloc, written.as_slice(), 2, aggregator.tables())
 }
 
-// The line that says that it is gone is cut off behind this front.
+// The line that says that it is gone is cut off after this front.
 fn is_cut_when_due<R: Wait>(
     rt: &R,
     alloc: Global,
@@ -111,7 +111,7 @@ fn assert_it_stays<R: Abort + Wait + AllocGlobal>(rt: &R, line: &[u8]) {
     }
 }
 
-// Behind any number of its bytes.
+// After any number of its bytes.
 pub(super) fn assert_it_stays_where_the_line_is_cut_off<R: Abort + Wait + AllocGlobal>(rt: &R) {
     assert_it_stays(rt, LEFT.as_bytes());
 }

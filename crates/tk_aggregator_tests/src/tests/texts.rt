@@ -38,7 +38,7 @@ pub(super) const DROPPED: &str =
     r#"{"dropped":[1,0,0],"new_ops":[],"new_resources":[],"new_tasks":[{"id":1099511627777,"kind":"spawn","loc":["script",1,1],"name":"a"},{"id":1099511627778,"kind":"spawn","loc":["script",1,1],"name":"b"}],"now":10,"op_stats":[],"poll_counts":[],"resource_stats":[],"seq":1,"snapshot":false,"task_stats":[{"busy":0,"clones":0,"created":1,"dropped":null,"drops":0,"first_poll":null,"handles":1,"id":1099511627777,"last_ended":null,"last_started":null,"last_wake":null,"polling":false,"polls":0,"sched":0,"scheduled":true,"self_wakes":0,"wakes":0},{"busy":0,"clones":0,"created":2,"dropped":null,"drops":0,"first_poll":null,"handles":1,"id":1099511627778,"last_ended":null,"last_started":null,"last_wake":null,"polling":false,"polls":0,"sched":0,"scheduled":true,"self_wakes":0,"wakes":0}],"v":1}
 "#;
 
-// Behind a line that told of a closed task: a line before it is due, and the one with which it leaves.
+// After a line that told of a closed task: a line before it is due, and the one with which it leaves.
 pub(super) const STAYED_AND_LEFT: &str =
     r#"{"dropped":[0,0,0],"gone_ops":[],"gone_resources":[],"gone_tasks":[],"new_ops":[],"new_resources":[],"new_tasks":[],"now":14,"op_stats":[],"poll_counts":[],"resource_stats":[],"seq":2,"snapshot":false,"task_stats":[],"v":2}
 {"dropped":[0,0,0],"gone_ops":[],"gone_resources":[],"gone_tasks":[1099511627777],"new_ops":[],"new_resources":[],"new_tasks":[],"now":15,"op_stats":[],"poll_counts":[],"resource_stats":[],"seq":3,"snapshot":false,"task_stats":[],"v":2}
@@ -48,7 +48,7 @@ pub(super) const STAYED_AND_LEFT: &str =
 pub(super) const NOTHING_GONE: &str =
     r#"{"dropped":[0,0,0],"gone_ops":[],"gone_resources":[],"gone_tasks":[],"new_ops":[],"new_resources":[],"new_tasks":[{"id":1099511627777,"#;
 
-// Behind a line that told of a task that is closed for long: it leaves.
+// After a line that told of a task that is closed for long: it leaves.
 pub(super) const LEFT: &str =
     r#"{"dropped":[0,0,0],"gone_ops":[],"gone_resources":[],"gone_tasks":[1099511627777],"new_ops":[],"new_resources":[],"new_tasks":[],"now":20,"op_stats":[],"poll_counts":[],"resource_stats":[],"seq":2,"snapshot":false,"task_stats":[],"v":2}
 "#;

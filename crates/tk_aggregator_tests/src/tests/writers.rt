@@ -77,7 +77,7 @@ fn is_mended(alloc: Global, aggregator: &mut Aggregator) -> bool {
         && are_taken(alloc, written.as_slice(), 1, aggregator.tables())
 }
 
-fn is_mended_behind(
+fn is_mended_after(
     alloc: Global,
     aggregator: &mut Aggregator,
     front: &[u8],
@@ -90,8 +90,7 @@ fn is_mended_behind(
 
 fn is_cut_and_mended<R: Wait>(rt: &R, alloc: Global, front: &[u8], is_silent: bool) -> bool {
     on_new(alloc, 0, |aggregator| {
-        takes_in_main(rt, alloc, aggregator)
-            && is_mended_behind(alloc, aggregator, front, is_silent)
+        takes_in_main(rt, alloc, aggregator) && is_mended_after(alloc, aggregator, front, is_silent)
     })
 }
 
@@ -106,7 +105,7 @@ fn assert_all_are_mended<R: Abort + Wait + AllocGlobal>(rt: &R, line: &[u8]) {
     }
 }
 
-// A line that is cut off behind any number of its bytes uses up no number.
+// A line that is cut off after any number of its bytes uses up no number.
 pub(super) fn assert_cut_lines_are_mended<R: Abort + Wait + AllocGlobal>(rt: &R) {
     assert_all_are_mended(rt, MAIN.as_bytes());
 }
@@ -132,7 +131,7 @@ fn is_cut_in_the_second(alloc: Global, aggregator: &mut Aggregator) -> bool {
         && snapshots_the_second(alloc, aggregator)
 }
 
-pub(super) fn goes_on_behind_a_cut_second_line<R: Wait>(rt: &R, alloc: Global) -> bool {
+pub(super) fn goes_on_after_a_cut_second_line<R: Wait>(rt: &R, alloc: Global) -> bool {
     on_new(alloc, 0, |aggregator| {
         takes_in_main(rt, alloc, aggregator) && is_cut_in_the_second(alloc, aggregator)
     })

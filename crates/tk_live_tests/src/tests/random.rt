@@ -129,7 +129,7 @@ fn one_of(random: &mut Pcg32, words: &[&'static str]) -> &'static str {
     }
 }
 
-// What stands behind a command that declares so many attributes.
+// The rest of a command that declares so many attributes.
 fn rest_of(rests: &[&'static str], attrs: u64) -> &'static str {
     match rests.get(attrs as usize) {
         Some(rest) => rest,
@@ -183,7 +183,7 @@ fn is_wild(random: &mut Pcg32) -> bool {
     happens(random, 64)
 }
 
-// A line: a word, numbers behind it, and what ends it.
+// A line: a word, its numbers, and what ends it.
 fn put(out: &mut String, word: &str, numbers: &[u64], rest: &str) -> Result<(), AllocError> {
     out.push_str(word)?;
     for number in numbers {

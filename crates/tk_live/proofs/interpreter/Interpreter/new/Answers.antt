@@ -2,7 +2,7 @@ use Rattle.std.proofs.Common.{rules, ◌≡◌, ◌+◌, [], length, refl, ap, s
 use Rattle.std.specs.Prelude.{map}
 use Rattle.tk_events.specs.Handles.{Recording, Taking}
 use Rattle.tk_aggregator.specs.Aggregates.{Aggregating}
-use Rattle.tk_live.specs.Runs.{offer_tells}
+use Rattle.tk_live.specs.Runs.{offer_content}
 use Rattle.tk_live.proofs.Beginning.{tells_nothing, has_told_nothing, holds_nothing, links_nothing}
 use Rattle.tk_live.proofs.interpreter.Interpreter.new.Goals as goal
 
@@ -14,7 +14,7 @@ returns c =
       rise = (0, refl);
       offered = search rules;
       takes = search rules;
-      taken = ap (λ (t : Taking). map offer_tells t.taken) c.in-Ok.ensures.taker;
+      taken = ap (λ (t : Taking). map offer_content t.taken) c.in-Ok.ensures.taker;
       has_told = has_told_nothing c.args.settings _ a;
       timed = search rules;
       holds = holds_nothing _ _ _ _ c.new.ensures.items c.new-2.ensures.items c.new-3.ensures.items c.new-4.ensures.items;
