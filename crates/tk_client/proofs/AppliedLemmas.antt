@@ -10,7 +10,7 @@ use Rattle.tk_stream.specs.Tables.{TablesView, task_id, staying}
 use Rattle.tk_stream.proofs.GoneLemmas.{staying_all}
 use Rattle.tk_client.specs.declared.fault.Fault.TheVariants.{Repeated, UnknownId, Misfit}
 use Rattle.tk_client.specs.Taking.{has_twice, are_fitting, fitting, repeats_told, strange_told, line_applied}
-use Rattle.tk_client.specs.Told.{stats_id_by, told_part}
+use Rattle.tk_client.specs.Applying.{stats_id_by, told_part}
 use Rattle.tk_client.proofs.LineLemmas.{tells-once}
 
 -- tasks that were there, each with what is told of it, and after them new ones

@@ -2,7 +2,7 @@
 use Rattle.std.proofs.Common.{◌≡◌, ℕ, List, [], ◌∷◌, ◌++◌, length, take, refl, ap, ap₂, ◌∙◌}
 use Rattle.std.specs.Prelude.{OnErr, Result, Ok, Err}
 use Rattle.tk_stream.specs.Tables.{TablesView, PollCounts, cut_to}
-use Rattle.tk_client.specs.Told.{Begins, begins_same, Grown}
+use Rattle.tk_client.specs.Applying.{Begins, begins_same, Grown}
 
 pub begins-more : {A : Type 0} (xs ys zs : List A) → Begins xs ys → Begins xs (ys ++ zs)
 begins-more [] ys zs b = tt

@@ -7,7 +7,7 @@ use Rattle.tk_client.specs.declared.fault.Fault.TheVariants.{Memory, BadJson, Ba
 use Rattle.tk_client.specs.declared.fault.FeedError.{FeedError}
 use Rattle.tk_client.specs.Meaning.{Start, Outcome, goes, stops, after, meaning}
 use Rattle.tk_client.specs.Feeding.{ClientView, StoppedBy}
-use Rattle.tk_client.specs.Told.{EndedBy}
+use Rattle.tk_client.specs.Applying.{EndedBy}
 use Rattle.tk_client.proofs.Pieces.{meaning-append}
 
 pub goes-then : (max : ℕ) (s t u : Start) (a b : List ℕ) (m n : ℕ) → meaning max s a ≡ goes t m → meaning max t b ≡ goes u n → meaning max s (a ++ b) ≡ goes u (m + n)

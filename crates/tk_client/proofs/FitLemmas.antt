@@ -7,7 +7,7 @@ use Rattle.std.proofs.lemmas.Bool.{and_parts}
 use Rattle.tk_stream.specs.Applied.{Kind, told_item, new_items}
 use Rattle.tk_stream.specs.Tables.{item_with}
 use Rattle.tk_client.specs.Taking.{has_twice}
-use Rattle.tk_client.specs.Told.{id_by, info_id_by, stats_id_by, made, told_of, retold, HaveOneId, fits_told}
+use Rattle.tk_client.specs.Applying.{id_by, info_id_by, stats_id_by, made, told_of, retold, HaveOneId, fits_told}
 use Rattle.tk_client.proofs.IdLemmas.{distinct-once, own, has-the-id}
 
 pub same-tests : (a b : Bool) → (a ≡ true → b ≡ true) → (b ≡ true → a ≡ true) → a ≡ b

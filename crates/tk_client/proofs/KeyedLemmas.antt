@@ -8,7 +8,7 @@ use Rattle.tk_stream.specs.Tables.{item_with, put_item}
 use Rattle.tk_stream.specs.Lines.{is_new}
 use Rattle.tk_stream.specs.Applied.{told_item}
 use Rattle.tk_client.specs.Taking.{has_twice}
-use Rattle.tk_client.specs.Told.{keyed_kind, keyed_after, key_added, AreKeyed}
+use Rattle.tk_client.specs.Applying.{keyed_kind, keyed_after, key_added, AreKeyed}
 use Rattle.tk_client.proofs.IdLemmas.{own, distinct-once}
 
 itself : (n : ℕ) → nat_eq n n ≡ true

@@ -14,7 +14,7 @@ use Rattle.tk_stream.proofs.GoneLemmas.{staying_all}
 use Rattle.tk_client.specs.declared.fault.Fault.{Fault}
 use Rattle.tk_client.specs.declared.fault.Fault.TheVariants.{Memory, BadJson, BadShape, Gap, UnknownId, Repeated, TooLong, Misfit, Failed}
 use Rattle.tk_client.specs.Taking.{has_twice, has_id, repeats_kind, repeats_gone_kind, strange_gone_kind, repeats_told, repeats_gone, repeats_id, strange_told, strange_gone, has_strange_id, fits_resource, fits_op, are_fitting, fitting, line_applied}
-use Rattle.tk_client.specs.Told.{Answers, Fails, finding, is_leaving, is_missing, told_part, left_by}
+use Rattle.tk_client.specs.Applying.{Answers, Fails, finding, is_leaving, is_missing, told_part, left_by}
 use Rattle.tk_client.specs.declared.taking.Finding.{Finding}
 use Rattle.tk_client.specs.declared.taking.Finding.TheVariants.{Sound, Strange, Repeats}
 use Rattle.tk_client.proofs.IdLemmas.{turned}

@@ -14,7 +14,7 @@ use Rattle.tk_client.specs.declared.fault.Fault.{Fault}
 use Rattle.tk_client.specs.declared.fault.Fault.TheVariants.{Memory, BadJson, BadShape, Gap, UnknownId, Repeated, TooLong, Misfit, Failed}
 use Rattle.tk_client.specs.declared.taking.Finding.{Finding}
 use Rattle.tk_client.specs.Taking.{has_twice, has_id, repeats_kind, strange_kind, fits_resource, fits_op, are_fitting, fitting, repeats_told, strange_told, repeats_id, has_strange_id, line_applied}
-use Rattle.tk_client.specs.Told.{finding, worse, has_info, Fails, info_id_by, stats_id_by, is_stranger, fits_told, or_misfit, tables_grown, tables_told, AreCounted, TellsOnce, told_part}
+use Rattle.tk_client.specs.Applying.{finding, worse, has_info, Fails, info_id_by, stats_id_by, is_stranger, fits_told, or_misfit, tables_grown, tables_told, AreCounted, TellsOnce, told_part}
 use Rattle.tk_client.proofs.IdLemmas.{any-has}
 use Rattle.tk_client.proofs.FitLemmas.{rests, list_all-append, fit-told, old-rests, new-rests, new-told}
 use Rattle.tk_client.proofs.KeyedLemmas.{are-counted, counts-grown}

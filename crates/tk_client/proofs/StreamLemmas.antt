@@ -32,7 +32,7 @@ use Rattle.tk_stream.specs.Streams.{Sending, line_sent, line_untimed, lines_sent
 use Rattle.tk_stream.specs.Times.{TaskTimes}
 use Rattle.tk_client.proofs.ToldTimes.{IsAsTold, untold_checked, told_checked, told_sound, told_known}
 use Rattle.tk_client.specs.Taking.{has_twice, has_id, repeats_kind, repeats_gone_kind, is_strange, strange_kind, strange_gone_kind, repeats_id, has_strange_id, is_kind, fit_attrs, fits_resource, fits_op, are_fitting, line_applied, line_checked}
-use Rattle.tk_client.specs.Told.{or_misfit}
+use Rattle.tk_client.specs.Applying.{or_misfit}
 use Rattle.tk_client.proofs.Ends.{nothing}
 use Rattle.tk_client.proofs.FeedLemmas.{goes-then}
 use Rattle.tk_client.proofs.IdLemmas.{own}

@@ -9,7 +9,7 @@ use Rattle.tk_stream.specs.Lines.{LineView}
 use Rattle.tk_stream.specs.Applied.{Kind, new_items, tables_after}
 use Rattle.tk_client.specs.declared.fault.Fault.TheVariants.{Misfit}
 use Rattle.tk_client.specs.Taking.{has_twice, has_id, are_fitting, fitting, repeats_id, has_strange_id, line_applied}
-use Rattle.tk_client.specs.Told.{id_by, info_id_by, made, told_of, has_info, with_new, or_misfit}
+use Rattle.tk_client.specs.Applying.{id_by, info_id_by, made, told_of, has_info, with_new, or_misfit}
 
 module _ {Item Info Stats : Type 0} (k : Kind Item Info Stats) where
   -- ---- ids

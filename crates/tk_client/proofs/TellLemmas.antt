@@ -7,7 +7,7 @@ use Rattle.std.proofs.lemmas.Bool.{or_parts, eqb-true}
 use Rattle.tk_stream.specs.Applied.{Kind, told_item}
 use Rattle.tk_stream.specs.Tables.{TablesView, changed_at}
 use Rattle.tk_client.specs.Taking.{has_twice}
-use Rattle.tk_client.specs.Told.{id_by, stats_id_by, told_of, retold, retold_by, HaveOneId}
+use Rattle.tk_client.specs.Applying.{id_by, stats_id_by, told_of, retold, retold_by, HaveOneId}
 use Rattle.tk_client.proofs.IdLemmas.{itself, flipped}
 
 map-append : {A B : Type 0} (f : A → B) (xs ys : List A) → map f (xs ++ ys) ≡ map f xs ++ map f ys

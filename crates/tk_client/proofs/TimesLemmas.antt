@@ -11,7 +11,7 @@ use Rattle.tk_stream.specs.Tables.{TablesView}
 use Rattle.tk_client.specs.declared.taking.Finding.TheVariants.{Sound, Repeats}
 use Rattle.tk_ids.specs.declared.info.TaskInfo.{TaskInfo}
 use Rattle.tk_client.specs.Taking.{new_id, repeats_times, strange_times, is_strange_task, has_twice}
-use Rattle.tk_client.specs.Told.{Begins, AreKeyed, finding}
+use Rattle.tk_client.specs.Applying.{Begins, AreKeyed, finding}
 use Rattle.tk_client.proofs.KeyedLemmas.{counts-grown, are-counted}
 
 pub begins-append : {A : Type 0} (xs more : List A) → Begins xs (xs ++ more)

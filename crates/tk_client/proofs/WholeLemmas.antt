@@ -8,7 +8,7 @@ use Rattle.tk_client.specs.declared.fault.Fault.{Fault}
 use Rattle.tk_client.specs.declared.fault.Fault.TheVariants.{Memory, BadJson, BadShape, Gap, UnknownId, Repeated, TooLong, Misfit, Failed}
 use Rattle.tk_client.specs.Meaning.{Start, goes, stops, meaning, line_taken, after}
 use Rattle.tk_client.specs.Feeding.{ClientView}
-use Rattle.tk_client.specs.Told.{Fails, EndedWholeBy}
+use Rattle.tk_client.specs.Applying.{Fails, EndedWholeBy}
 use Rattle.tk_client.proofs.Ends.{holds}
 use Rattle.tk_client.proofs.Pieces.{meaning-append}
 use Rattle.tk_client.proofs.FeedLemmas.{goes-then}

@@ -13,6 +13,6 @@ pub mod Streams
 -- The numbers of faults
 pub mod Faults
 -- Inner: no public clause cites this
-pub mod Told
+pub mod Applying
 -- Inner: which tasks can be warned of
 pub mod Candidates

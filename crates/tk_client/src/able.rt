@@ -8,7 +8,7 @@ ghost use Rattle.indexmap.specs.IndexSet.{contains, spare};
 ghost use Rattle.tk_stream.specs.Applied.{task_kind};
 ghost use Rattle.tk_stream.specs.Tables.{task_id, is_among};
 ghost use Rattle.tk_client.specs.Candidates as spec;
-ghost use Rattle.tk_client.specs.Told.{stats_id_by};
+ghost use Rattle.tk_client.specs.Applying.{stats_id_by};
 
 use crate::candidates::can_warn;
 use indexmap::IndexSet;

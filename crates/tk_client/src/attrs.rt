@@ -4,7 +4,7 @@ ghost use Rattle.std.specs.List.{list_all};
 ghost use Rattle.tk_stream.specs.Applied.{resource_kind, op_kind};
 ghost use Rattle.tk_stream.specs.Tables.{AreDistinct};
 ghost use Rattle.tk_client.specs.Taking as spec;
-ghost use Rattle.tk_client.specs.Told.{fits_told};
+ghost use Rattle.tk_client.specs.Applying.{fits_told};
 
 use tk_core::{OpRow, ResourceRow};
 use tk_ids::{AsyncOpId, AttrInfo, AttrKind, AttrValue, ResourceId};

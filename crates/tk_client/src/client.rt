@@ -5,7 +5,7 @@ ghost use Rattle.std.specs.Prelude.{◌≡◌, ◌+◌, ◌≤◌, ◌<◌, ◌^
 ghost use Rattle.tk_stream.specs.Spelling.{line_end, is_one_line};
 ghost use Rattle.tk_client.specs.Meaning as spec;
 ghost use Rattle.tk_client.specs.Feeding.{Took, Stopped, Steps};
-ghost use Rattle.tk_client.specs.Told.{Answers, Ended, EndedWhole};
+ghost use Rattle.tk_client.specs.Applying.{Answers, Ended, EndedWhole};
 
 use crate::fault::{Fault, FeedError};
 use crate::lints::Lints;

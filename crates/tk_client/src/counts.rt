@@ -4,7 +4,7 @@ ghost use Rattle.tk_stream.specs.Applied.{counts_after};
 ghost use Rattle.tk_stream.specs.Lines.{is_new};
 ghost use Rattle.tk_stream.specs.Tables.{counts_id, item_with, with_counts};
 ghost use Rattle.tk_client.specs.Taking.{has_twice};
-ghost use Rattle.tk_client.specs.Told as inner;
+ghost use Rattle.tk_client.specs.Applying as inner;
 
 use std::alloc::AllocError;
 use tk_ids::ResourceId;

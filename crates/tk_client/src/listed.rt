@@ -2,7 +2,7 @@
 ghost use Rattle.std.specs.Prelude.{◌≡◌, ◌<◌, ◌++◌, ◌∷◌, [], List, length, Some, OnOk, OnErr, false};
 ghost use Rattle.tk_stream.specs.Applied.{Kind};
 ghost use Rattle.tk_stream.specs.Tables.{TablesView};
-ghost use Rattle.tk_client.specs.Told as inner;
+ghost use Rattle.tk_client.specs.Applying as inner;
 
 use crate::fault::Fault;
 use std::alloc::{AllocError, Global};

@@ -8,7 +8,7 @@ use tk_stream::{Op, Tables};
 
 impl Listed for Op {
     ghost use Rattle.std.specs.Prelude.{refl};
-    ghost use Rattle.tk_client.specs.Told.{begins_same};
+    ghost use Rattle.tk_client.specs.Applying.{begins_same};
     ghost use Rattle.tk_stream.specs.Applied.{op_kind};
 
     type Info = OpInfo;

@@ -8,7 +8,7 @@ use tk_stream::{Resource, Tables};
 
 impl Listed for Resource {
     ghost use Rattle.std.specs.Prelude.{refl};
-    ghost use Rattle.tk_client.specs.Told.{begins_same};
+    ghost use Rattle.tk_client.specs.Applying.{begins_same};
     ghost use Rattle.tk_stream.specs.Applied.{resource_kind};
 
     type Info = ResourceInfo;

@@ -5,7 +5,7 @@ ghost use Rattle.tk_stream.specs.Lines.{gone_of};
 ghost use Rattle.tk_stream.specs.Tables.{empty_tables};
 ghost use Rattle.tk_client.specs.Meaning.{base_of};
 ghost use Rattle.tk_client.specs.Taking.{line_applied};
-ghost use Rattle.tk_client.specs.Told.{Answers, spent};
+ghost use Rattle.tk_client.specs.Applying.{Answers, spent};
 ghost use Rattle.tk_client.specs.Warnings.{warnings_in};
 
 use crate::able::{places_of, relist, unlist};

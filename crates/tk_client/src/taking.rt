@@ -9,8 +9,8 @@ ghost use Rattle.tk_stream.specs.Applied.{told_item, new_items, without_gone};
 ghost use Rattle.tk_stream.specs.Lines.{gone_of};
 ghost use Rattle.tk_stream.specs.Tables.{counts_id};
 ghost use Rattle.tk_client.specs.Taking as spec;
-ghost use Rattle.tk_client.specs.Told as inner;
-ghost use Rattle.tk_client.specs.Told.{Answers};
+ghost use Rattle.tk_client.specs.Applying as inner;
+ghost use Rattle.tk_client.specs.Applying.{Answers};
 
 use crate::attrs::rows_fit;
 use crate::counts::{add_counts, tell_counts};

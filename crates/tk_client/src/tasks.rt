@@ -8,7 +8,7 @@ use tk_stream::{Tables, Task};
 
 impl Listed for Task {
     ghost use Rattle.std.specs.Prelude.{refl};
-    ghost use Rattle.tk_client.specs.Told.{begins_same};
+    ghost use Rattle.tk_client.specs.Applying.{begins_same};
     ghost use Rattle.tk_stream.specs.Applied.{task_kind};
 
     type Info = TaskInfo;

@@ -10,8 +10,8 @@ ghost use Rattle.tk_stream.specs.Tables.{task_id, staying, is_among, item_with, 
 ghost use Rattle.tk_stream.specs.Times.{times_id};
 ghost use Rattle.tk_client.specs.Meaning.{base_of, times_base};
 ghost use Rattle.tk_client.specs.Taking as spec;
-ghost use Rattle.tk_client.specs.Told as inner;
-ghost use Rattle.tk_client.specs.Told.{Answers};
+ghost use Rattle.tk_client.specs.Applying as inner;
+ghost use Rattle.tk_client.specs.Applying.{Answers};
 
 use crate::fault::Fault;
 use crate::ids::Ids;

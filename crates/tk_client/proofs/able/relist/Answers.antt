@@ -5,7 +5,7 @@ use Rattle.tk_stream.specs.Applied.{task_kind}
 use Rattle.tk_stream.specs.Tables.{is_among}
 use Rattle.tk_stream.proofs.SlotLemmas.{taken_more}
 use Rattle.tk_client.specs.Candidates.{is_able}
-use Rattle.tk_client.specs.Told.{stats_id_by}
+use Rattle.tk_client.specs.Applying.{stats_id_by}
 use Rattle.tk_client.proofs.AbleLemmas.{relisted-next}
 use Rattle.tk_client.proofs.able.relist.Goals as goal
 

@@ -3,7 +3,7 @@ use Rattle.indexmap.specs.IndexSet.{contains, spare}
 use Rattle.tk_stream.specs.Applied.{task_kind}
 use Rattle.tk_stream.specs.Tables.{is_among}
 use Rattle.tk_client.specs.Candidates.{is_able}
-use Rattle.tk_client.specs.Told.{stats_id_by}
+use Rattle.tk_client.specs.Applying.{stats_id_by}
 use Rattle.tk_client.proofs.able.relist.Given as goal
 
 -- the tasks so far are listed as they are, and there is room for the others

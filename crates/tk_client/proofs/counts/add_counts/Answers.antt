@@ -2,7 +2,7 @@ use Rattle.std.proofs.Common.{◌≡◌, ◌+◌, ◌++◌, List, ap, sym, ◌�
 use Rattle.std.specs.Prelude.{filter}
 use Rattle.tk_stream.specs.Lines.{is_new}
 use Rattle.tk_stream.specs.Tables.{TablesView, PollCounts, counts_id}
-use Rattle.tk_client.specs.Told.{Grown, count_added}
+use Rattle.tk_client.specs.Applying.{Grown, count_added}
 use Rattle.tk_client.proofs.KeyedLemmas.{grows-next, none_added}
 use Rattle.tk_client.proofs.CutLemmas.{grown-same, grown-counts}
 use Rattle.tk_client.proofs.counts.add_counts.Goals as goal

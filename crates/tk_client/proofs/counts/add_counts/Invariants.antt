@@ -2,7 +2,7 @@ use Rattle.std.proofs.Common.{◌≡◌, ◌++◌, take}
 use Rattle.std.specs.Prelude.{filter}
 use Rattle.tk_stream.specs.Lines.{is_new}
 use Rattle.tk_stream.specs.Tables.{counts_id}
-use Rattle.tk_client.specs.Told.{Grown}
+use Rattle.tk_client.specs.Applying.{Grown}
 use Rattle.tk_client.proofs.counts.add_counts.Given as goal
 
 -- the counts that went in so far

@@ -6,7 +6,7 @@ use Rattle.std.proofs.lemmas.Bool.{or_parts}
 use Rattle.tk_stream.specs.Applied.{new_items}
 use Rattle.tk_stream.specs.Tables.{TablesView}
 use Rattle.tk_client.specs.Taking.{has_twice}
-use Rattle.tk_client.specs.Told.{has_info, info_id_by, stats_id_by, told_of, made, with_new, begins_same}
+use Rattle.tk_client.specs.Applying.{has_info, info_id_by, stats_id_by, told_of, made, with_new, begins_same}
 use Rattle.tk_client.proofs.TakeLemmas.{adds, absent_next, once_next}
 use Rattle.tk_client.proofs.CutLemmas.{begins-more, grown-same, grown-on}
 use Rattle.tk_client.proofs.taking.add_each.Goals as goal

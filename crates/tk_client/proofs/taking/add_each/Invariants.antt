@@ -4,7 +4,7 @@ use Rattle.std.specs.List.{list_any}
 use Rattle.std.specs.Vec.Iter.{into_iter_items}
 use Rattle.tk_stream.specs.Applied.{new_items}
 use Rattle.tk_client.specs.Taking.{has_twice}
-use Rattle.tk_client.specs.Told.{has_info, info_id_by, with_new, Grown}
+use Rattle.tk_client.specs.Applying.{has_info, info_id_by, with_new, Grown}
 use Rattle.tk_client.proofs.taking.add_each.Given as goal
 
 abbrev pub invariant-loop-info : goal.invariant-loop-info

@@ -1,5 +1,5 @@
 use Rattle.tk_client.specs.Taking.{repeats_id, has_strange_id}
-use Rattle.tk_client.specs.Told.{told_part}
+use Rattle.tk_client.specs.Applying.{told_part}
 use Rattle.tk_client.proofs.LeaveLemmas.{left-answers, was-told, now-fits, nothing-found}
 use Rattle.tk_client.proofs.taking.apply_told.Goals as goal
 

@@ -1,6 +1,6 @@
 use Rattle.std.proofs.Common.{◌≡◌, drop}
 use Rattle.std.specs.List.{list_any}
-use Rattle.tk_client.specs.Told.{has_info}
+use Rattle.tk_client.specs.Applying.{has_info}
 use Rattle.tk_client.proofs.taking.has_any.Given as goal
 
 abbrev pub invariant-loop-info : goal.invariant-loop-info

@@ -1,6 +1,6 @@
 use Rattle.std.proofs.Common.{◌≡◌, drop}
 use Rattle.std.specs.List.{list_any}
-use Rattle.tk_client.specs.Told.{is_stranger}
+use Rattle.tk_client.specs.Applying.{is_stranger}
 use Rattle.tk_client.proofs.taking.has_stranger.Given as goal
 
 -- what is left decides

@@ -1,6 +1,6 @@
 use Rattle.std.proofs.Common.{ap₂, ◌∙◌}
 use Rattle.tk_client.specs.Taking.{repeats_gone, repeats_told, strange_gone, strange_told}
-use Rattle.tk_client.specs.Told.{worse}
+use Rattle.tk_client.specs.Applying.{worse}
 use Rattle.tk_client.proofs.LineLemmas.{worse-of}
 use Rattle.tk_client.proofs.taking.look_at.Goals as goal
 

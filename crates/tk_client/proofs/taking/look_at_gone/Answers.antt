@@ -4,7 +4,7 @@ use Rattle.tk_stream.specs.Applied.{task_kind, resource_kind, op_kind}
 use Rattle.tk_stream.specs.Lines.{LineView, GoneView, gone_of}
 use Rattle.tk_stream.specs.Tables.{TablesView}
 use Rattle.tk_client.specs.Taking.{repeats_gone_kind, strange_gone_kind}
-use Rattle.tk_client.specs.Told.{worse, finding}
+use Rattle.tk_client.specs.Applying.{worse, finding}
 use Rattle.tk_client.proofs.LineLemmas.{worse-of}
 use Rattle.tk_client.proofs.taking.look_at_gone.Goals as goal
 

@@ -1,6 +1,6 @@
 use Rattle.std.proofs.Common.{true, false, ap, sym, ◌∙◌}
 use Rattle.std.specs.List.{list_any}
-use Rattle.tk_client.specs.Told.{is_missing}
+use Rattle.tk_client.specs.Applying.{is_missing}
 use Rattle.tk_client.proofs.IdLemmas.{no-ids}
 use Rattle.tk_client.proofs.LeaveLemmas.{none-found, repeats-found, others-found}
 use Rattle.tk_client.proofs.taking.look_at_kind.Goals as goal

@@ -4,7 +4,7 @@ use Rattle.tk_stream.specs.Applied.{task_kind, resource_kind, op_kind}
 use Rattle.tk_stream.specs.Tables.{TablesView, counts_id}
 use Rattle.tk_stream.specs.Lines.{LineView}
 use Rattle.tk_client.specs.Taking.{repeats_kind, strange_kind, has_twice}
-use Rattle.tk_client.specs.Told.{worse, finding}
+use Rattle.tk_client.specs.Applying.{worse, finding}
 use Rattle.tk_client.proofs.LineLemmas.{worst}
 use Rattle.tk_client.proofs.taking.look_at_told.Goals as goal
 

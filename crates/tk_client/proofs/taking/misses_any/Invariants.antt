@@ -1,6 +1,6 @@
 use Rattle.std.proofs.Common.{◌≡◌, drop}
 use Rattle.std.specs.List.{list_any}
-use Rattle.tk_client.specs.Told.{is_missing}
+use Rattle.tk_client.specs.Applying.{is_missing}
 use Rattle.tk_client.proofs.taking.misses_any.Given as goal
 
 -- what is left decides

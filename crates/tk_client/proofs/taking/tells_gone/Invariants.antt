@@ -1,6 +1,6 @@
 use Rattle.std.proofs.Common.{◌≡◌, drop}
 use Rattle.std.specs.List.{list_any}
-use Rattle.tk_client.specs.Told.{is_leaving}
+use Rattle.tk_client.specs.Applying.{is_leaving}
 use Rattle.tk_client.proofs.taking.tells_gone.Given as goal
 
 -- what is left decides

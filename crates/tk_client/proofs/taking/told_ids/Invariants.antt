@@ -1,6 +1,6 @@
 use Rattle.std.proofs.Common.{◌≡◌, take}
 use Rattle.std.specs.Prelude.{map}
-use Rattle.tk_client.specs.Told.{stats_id_by}
+use Rattle.tk_client.specs.Applying.{stats_id_by}
 use Rattle.tk_client.proofs.taking.told_ids.Given as goal
 
 abbrev pub invariant-loop-told : goal.invariant-loop-told

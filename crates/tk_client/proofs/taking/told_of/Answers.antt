@@ -1,4 +1,4 @@
-use Rattle.tk_client.specs.Told.{stats_id_by}
+use Rattle.tk_client.specs.Applying.{stats_id_by}
 use Rattle.tk_client.proofs.IdLemmas.{found-there, none-found}
 use Rattle.tk_client.proofs.taking.told_of.Goals as goal
 

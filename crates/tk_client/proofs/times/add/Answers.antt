@@ -2,7 +2,7 @@ use Rattle.std.proofs.Common.{◌≡◌, ◌+◌, ◌++◌, List, ap, sym, ◌�
 use Rattle.std.specs.Prelude.{filter}
 use Rattle.tk_stream.specs.Lines.{is_new}
 use Rattle.tk_stream.specs.Times.{TaskTimes, times_id}
-use Rattle.tk_client.specs.Told.{Begins, begins_same, key_added}
+use Rattle.tk_client.specs.Applying.{Begins, begins_same, key_added}
 use Rattle.tk_client.proofs.KeyedLemmas.{grows-next, none_added}
 use Rattle.tk_client.proofs.TimesLemmas.{begins-append}
 use Rattle.tk_client.proofs.times.add.Goals as goal

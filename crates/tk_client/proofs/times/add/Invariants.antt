@@ -2,7 +2,7 @@ use Rattle.std.proofs.Common.{◌≡◌, ◌++◌, take}
 use Rattle.std.specs.Prelude.{filter}
 use Rattle.tk_stream.specs.Lines.{is_new}
 use Rattle.tk_stream.specs.Times.{times_id}
-use Rattle.tk_client.specs.Told.{Begins}
+use Rattle.tk_client.specs.Applying.{Begins}
 use Rattle.tk_client.proofs.times.add.Given as goal
 
 -- the histograms that went in so far

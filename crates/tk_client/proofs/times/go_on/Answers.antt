@@ -4,7 +4,7 @@ use Rattle.tk_stream.specs.Applied.{times_told}
 use Rattle.tk_stream.specs.Lines.{LineView, is_new, gone_of, times_of}
 use Rattle.tk_stream.specs.Tables.{staying}
 use Rattle.tk_stream.specs.Times.{TaskTimes, times_id}
-use Rattle.tk_client.specs.Told.{AreKeyed}
+use Rattle.tk_client.specs.Applying.{AreKeyed}
 use Rattle.tk_client.proofs.TimesLemmas.{take-begins, grown_left, told_there, all_told}
 use Rattle.tk_client.proofs.times.go_on.Goals as goal
 

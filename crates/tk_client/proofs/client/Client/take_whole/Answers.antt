@@ -1,7 +1,7 @@
 use Rattle.std.proofs.Common.{◌≡◌, ◌≤◌, ℕ, List, [], length, true, Some, arith, ap, ap₂, sym, subst, ◌∙◌}
 use Rattle.tk_stream.specs.Tables.{TablesView}
 use Rattle.tk_stream.specs.Times.{TaskTimes}
-use Rattle.tk_client.specs.Told.{Fails}
+use Rattle.tk_client.specs.Applying.{Fails}
 use Rattle.tk_client.specs.Meaning.{Start, goes, line_taken}
 use Rattle.tk_client.specs.Feeding.{ClientView}
 use Rattle.tk_client.proofs.WholeLemmas.{whole-goes, whole-fails}

@@ -5,7 +5,7 @@ use Rattle.tk_stream.specs.Applied.{task_kind}
 use Rattle.tk_stream.specs.Lines.{LineView}
 use Rattle.tk_stream.specs.Tables.{TablesView, is_among}
 use Rattle.tk_client.specs.Candidates.{can_warn, is_able}
-use Rattle.tk_client.specs.Told.{stats_id_by}
+use Rattle.tk_client.specs.Applying.{stats_id_by}
 use Rattle.tk_client.proofs.AbleLemmas.{told-able}
 use Rattle.tk_client.proofs.AppliedLemmas.{applied-tasks}
 use Rattle.tk_client.proofs.shown.Shown.tell.Goals as goal
