@@ -15,8 +15,24 @@ pub struct Kept<R> {
     bytes: Vec<u8>,
     // How many lines ended before these bytes.
     lines: u64,
+    // How many lines end in these bytes, and where what stands after the last of these begins: looked at where not all is kept.
+    ended: u64,
+    open: usize,
     // Whether there was memory for what is to be kept.
     whole: bool,
+}
+
+// How many lines end in a piece, and where what stands after the last of these begins.
+fn ends_in(piece: &[u8]) -> (u64, usize) {
+    let mut ended = 0u64;
+    let mut open = 0;
+    for (at, byte) in piece.iter().enumerate() {
+        if *byte == b'\n' {
+            ended = ended.saturating_add(1);
+            open = at + 1;
+        }
+    }
+    (ended, open)
 }
 
 impl<R> Kept<R> {
@@ -30,6 +46,8 @@ impl<R> Kept<R> {
             all: true,
             bytes: Vec::new(alloc),
             lines: 0,
+            ended: 0,
+            open: 0,
             whole: true,
         }
     }
@@ -44,6 +62,8 @@ impl<R> Kept<R> {
             all: false,
             bytes: Vec::new(alloc),
             lines: 0,
+            ended: 0,
+            open: 0,
             whole: true,
         }
     }
@@ -74,32 +94,31 @@ impl<R> Kept<R> {
     fn forget_ended(&mut self) -> Result<(), AllocError>
         ensures { self.new.reader ≡ self.old.reader }
     {
-        let mut start = 0;
-        let mut ended = 0u64;
-        for (at, byte) in self.bytes.iter().enumerate() {
-            if *byte == b'\n' {
-                start = at + 1;
-                ended = ended.saturating_add(1);
-            }
+        if self.ended > 0 && self.open <= self.bytes.len() {
+            let mut rest = Vec::new(self.alloc);
+            rest.extend_from_slice(&self.bytes[self.open..])?;
+            self.bytes = rest;
+            self.lines = self.lines.saturating_add(self.ended);
+            self.ended = 0;
+            self.open = 0;
         }
-        if ended == 0 {
-            return Ok(());
-        }
-        let mut rest = Vec::new(self.alloc);
-        rest.extend_from_slice(&self.bytes[start..])?;
-        self.bytes = rest;
-        self.lines = self.lines.saturating_add(ended);
         Ok(())
     }
 
+    // Keeps a piece more, of which each byte is looked at once, however long its line is.
     fn add(&mut self, piece: &[u8]) -> Result<(), AllocError>
         ensures { self.new.reader ≡ self.old.reader }
     {
-        if !self.all {
-            self.forget_ended()?;
+        if self.all {
+            return self.bytes.extend_from_slice(piece);
         }
-        self.bytes.extend_from_slice(piece)?;
-        Ok(())
+        self.forget_ended()?;
+        let (ended, open) = ends_in(piece);
+        if ended > 0 {
+            self.ended = ended;
+            self.open = self.bytes.len().saturating_add(open);
+        }
+        self.bytes.extend_from_slice(piece)
     }
 
     // Keeps a piece more. Without memory for it nothing is kept from then on.
