@@ -2,6 +2,7 @@
 
 mod app;
 mod damaged;
+mod explain;
 mod report;
 mod scripts;
 mod streams;
