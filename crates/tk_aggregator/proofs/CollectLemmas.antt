@@ -10,7 +10,7 @@ use Rattle.tk_aggregator.proofs.LaterLemmas.{gathers_later}
 module _ (r : Recording) (a : Aggregating) (t : Taking) (limit count : ℕ) (b : Aggregating) (u : Taking) (k : CollectsBeside r a t limit count b u) where
   pub collected_later : IsLaterOf a b
   collected_later =
-      let s = gathers_later a t k.taken k.gathered k.taker k.gathers in
+      let s = gathers_later a t k.gathering.taken k.gathered k.taker k.gathering.gathers in
       subst (λ (x : Aggregating). IsLaterOf a x) (sym k.now) (record {
         items = record { tasks = s.items.tasks; resources = s.items.resources; ops = s.items.ops; counts = s.items.counts };
         tasks = s.tasks;
@@ -22,7 +22,7 @@ module _ (r : Recording) (a : Aggregating) (t : Taking) (limit count : ℕ) (b :
 
   pub collected_stays : IsSameStream a b
   collected_stays =
-      let s = gathers_stays a t k.taken k.gathered k.taker k.gathers in
+      let s = gathers_stays a t k.gathering.taken k.gathered k.taker k.gathering.gathers in
       record {
         told = ap (λ x. x.told) k.now ∙ s.told;
         last = ap (λ x. x.last) k.now ∙ s.last;
@@ -35,7 +35,7 @@ module _ (r : Recording) (a : Aggregating) (t : Taking) (limit count : ℕ) (b :
 
   pub collected_took : TookMore t u
   collected_took =
-      let m = gathers_took a t k.taken k.gathered k.taker k.gathers in
+      let m = gathers_took a t k.gathering.taken k.gathered k.taker k.gathering.gathers in
       let e = k.totals.same in
       record {
         console = ap (λ (x : Taking). x.console) e ∙ m.console;

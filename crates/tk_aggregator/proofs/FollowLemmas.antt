@@ -140,7 +140,7 @@ pub gathers_stays : (a : Aggregating) (t : Taking) (taken : List Event) (b : Agg
 gathers_stays a t taken b u g = let s = takes_all_stays (free a) taken (free b) g.taken_in in record { told = s.told; last = s.last; broken = s.broken; now = s.now; retention = s.retention; reads = s.reads; times_told = s.times_told }
 
 pub collects_stays : (a : Aggregating) (t : Taking) (limit count : ℕ) (b : Aggregating) (u : Taking) → Collects a t limit count b u → IsSameStream a b
-collects_stays a t limit count b u k = let s = gathers_stays a t k.taken k.gathered k.taker k.gathers in record { told = ap (λ x. x.told) k.now ∙ s.told; last = ap (λ x. x.last) k.now ∙ s.last; broken = ap (λ x. x.broken) k.now ∙ s.broken; now = ap (λ x. x.tables.now) k.now ∙ s.now; retention = ap (λ x. x.retention) k.now ∙ s.retention; reads = ap (λ x. x.timing.reads) k.now ∙ s.reads; times_told = ap (λ x. x.timing.told) k.now ∙ s.times_told }
+collects_stays a t limit count b u k = let s = gathers_stays a t k.gathering.taken k.gathered k.taker k.gathering.gathers in record { told = ap (λ x. x.told) k.now ∙ s.told; last = ap (λ x. x.last) k.now ∙ s.last; broken = ap (λ x. x.broken) k.now ∙ s.broken; now = ap (λ x. x.tables.now) k.now ∙ s.now; retention = ap (λ x. x.retention) k.now ∙ s.retention; reads = ap (λ x. x.timing.reads) k.now ∙ s.reads; times_told = ap (λ x. x.timing.told) k.now ∙ s.times_told }
 
 -- ---- a course goes on
 
@@ -195,7 +195,7 @@ follows_on a t taken b u g f =
 
 pub collects_follows : (a : Aggregating) (t : Taking) (limit count : ℕ) (b : Aggregating) (u : Taking) → Collects a t limit count b u → FollowsTaker a t → FollowsTaker b u
 collects_follows a t limit count b u k f =
-    let at = follows_on a t k.taken k.gathered k.taker k.gathers f in
+    let at = follows_on a t k.gathering.taken k.gathered k.taker k.gathering.gathers f in
     record {
       steps = at.steps;
       events = ap events_of k.totals.same ∙ at.events ∙ ap (λ h. events_taken at.steps ++ map shown (held_events h)) (sym (ap (λ x. x.held) k.now));

@@ -110,7 +110,7 @@ gathers_took a t taken b u g = record {
 
 pub collects_took : (a : Aggregating) (t : Taking) (limit count : ℕ) (b : Aggregating) (u : Taking) → Collects a t limit count b u → TookMore t u
 collects_took a t limit count b u k =
-    let m = gathers_took a t k.taken k.gathered k.taker k.gathers in
+    let m = gathers_took a t k.gathering.taken k.gathered k.taker k.gathering.gathers in
     let e = k.totals.same in
     record {
       console = ap (λ (x : Taking). x.console) e ∙ m.console;

@@ -179,8 +179,8 @@ module _ (t : Taking) (s : IsSettled t) (all : AllTaken t) where
 pub follows_kept : (a : Aggregating) (t : Taking) (limit count : ℕ) (b : Aggregating) (u : Taking) → Collects a t limit count b u → t.finished ≡ true → count < limit
     → (c : Aggregating) → FollowsTaker c u → c.held ≡ None → HoldKept c.retention (infos_of c.tables) u.known
 follows_kept a t limit count b u k finished below c at none =
-    let empty = k.all below in
-    let done : k.taker.finished ≡ true = ap (λ (x : Taking). x.finished) k.gathers.taker ∙ finished in
+    let empty = k.gathering.all below in
+    let done : k.taker.finished ≡ true = ap (λ (x : Taking). x.finished) k.gathering.gathers.taker ∙ finished in
     let events : events_of u ≡ events_taken at.steps = at.events ∙ (ap (λ (h : Option _). events_taken at.steps ++ map shown (held_events h)) none ∙ append-nil (events_taken at.steps)) in
     let same : events_of u ≡ events_of k.taker = ap events_of k.totals.same in
     let known : u.known ≡ k.taker.known = ap (λ (x : Taking). x.known) k.totals.same in
@@ -189,4 +189,4 @@ follows_kept a t limit count b u k finished below c at none =
 
 -- so has an aggregator that followed it before that collect
 pub collects_kept : (a : Aggregating) (t : Taking) (limit count : ℕ) (b : Aggregating) (u : Taking) → Collects a t limit count b u → FollowsTaker a t → t.finished ≡ true → count < limit → HoldKept b.retention (infos_of b.tables) u.known
-collects_kept a t limit count b u k f finished below = follows_kept a t limit count b u k finished below b (collects_follows a t limit count b u k f) (k.none_held (omega (arith, below)))
+collects_kept a t limit count b u k f finished below = follows_kept a t limit count b u k finished below b (collects_follows a t limit count b u k f) (ap (λ (x : Aggregating). x.held) k.now ∙ k.gathering.none_held (omega (arith, below)))

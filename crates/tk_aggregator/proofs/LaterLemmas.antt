@@ -148,7 +148,7 @@ gathers_later a t taken b u g = let s = takes_all_later (free a) taken (free b) 
 
 pub collects_later : (a : Aggregating) (t : Taking) (limit count : ℕ) (b : Aggregating) (u : Taking) → Collects a t limit count b u → IsLaterOf a b
 collects_later a t limit count b u k =
-    let s = gathers_later a t k.taken k.gathered k.taker k.gathers in
+    let s = gathers_later a t k.gathering.taken k.gathered k.taker k.gathering.gathers in
     subst (λ (x : Aggregating). IsLaterOf a x) (sym k.now) (record {
       items = record { tasks = s.items.tasks; resources = s.items.resources; ops = s.items.ops; counts = s.items.counts };
       tasks = s.tasks;

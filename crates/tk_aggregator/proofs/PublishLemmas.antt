@@ -38,4 +38,4 @@ pub line_kept : (a : Aggregating) (t : Taking) (limit count : ℕ) (b : Aggregat
     → (c : Aggregating) → c.held ≡ b.held → (now : ℕ) (d : Aggregating) → d ≡ after_line false c now → FollowsTaker d u → HoldKept d.retention (infos_of d.tables) u.known
 line_kept a t limit count b u k finished below c held now d is follows =
     follows_kept a t limit count b u k finished below d follows
-    (ap (λ (x : Aggregating). x.held) is ∙ line_held c now ∙ held ∙ k.none_held (omega (arith, below)))
+    (ap (λ (x : Aggregating). x.held) is ∙ line_held c now ∙ held ∙ (ap (λ (x : Aggregating). x.held) k.now ∙ k.gathering.none_held (omega (arith, below))))

@@ -224,18 +224,11 @@ pub record GathersUpTo (old : Aggregating) (before : Taking) (limit count : ℕ)
   pub none_held : 0 < limit → new.held ≡ None
   pub nothing : limit ≡ 0 → (new ≡ old) × (after ≡ before)
 
--- `count` events were taken in, at most `limit`, and fewer only where the buffer was empty. None is held then; with limit 0
--- none is taken. The totals are the taker's
+-- so many events were taken in, and then the totals are the taker's
 pub record Collects (old : Aggregating) (before : Taking) (limit count : ℕ) (new : Aggregating) (after : Taking) : Type 0 where
-  pub taken : List Event
   pub gathered : Aggregating
   pub taker : Taking
-  pub gathers : Gathers old before taken gathered taker
-  pub counts : length taken ≡ count
-  pub within : count ≤ limit
-  pub all : count < limit → WasEmpty taker
-  pub none_held : 0 < limit → new.held ≡ None
-  pub nothing : limit ≡ 0 → (gathered ≡ old) × (taker ≡ before)
+  pub gathering : GathersUpTo old before limit count gathered taker
   pub totals : TellsTotals taker after
   pub now : new ≡ record gathered { tables = record gathered.tables { dropped = dropped_in after.last } }
 

@@ -93,16 +93,10 @@ pub record GathersUpToBeside (r : Recording) (old : Aggregating) (before : Takin
   pub none_held : 0 < limit → new.held ≡ None
   pub nothing : limit ≡ 0 → (new ≡ old) × (after ≡ before)
 
--- the same, and the totals are the taker's
+-- the same, and then the totals are the taker's
 pub record CollectsBeside (r : Recording) (old : Aggregating) (before : Taking) (limit count : ℕ) (new : Aggregating) (after : Taking) : Type 0 where
-  pub taken : List Event
   pub gathered : Aggregating
   pub taker : Taking
-  pub gathers : Gathers old before taken gathered taker
-  pub counts : length taken ≡ count
-  pub within : count ≤ limit
-  pub all : count < limit → TookAll r taker
-  pub none_held : 0 < limit → new.held ≡ None
-  pub nothing : limit ≡ 0 → (gathered ≡ old) × (taker ≡ before)
+  pub gathering : GathersUpToBeside r old before limit count gathered taker
   pub totals : TellsTotals taker after
   pub now : new ≡ record gathered { tables = record gathered.tables { dropped = dropped_in after.last } }

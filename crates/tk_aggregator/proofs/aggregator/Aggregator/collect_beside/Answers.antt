@@ -9,17 +9,10 @@ use Rattle.tk_aggregator.proofs.aggregator.Aggregator.collect_beside.Goals as go
 
 collected : (g : Over) (c : goal.After-take_totals g) → CollectsBeside c.args.recorder.now c.args.self.now c.args.taker.now c.args.limit c.in_ok-count.count c.take_totals.new.self c.take_totals.new.taker
 collected g c =
-    let k = c.in_ok-count.ensures.ok in
     record {
-      taken = k.taken;
       gathered = c.gather_beside.new.self;
       taker = c.gather_beside.new.taker;
-      gathers = k.gathers;
-      counts = k.counts;
-      within = k.within;
-      all = k.all;
-      nothing = k.nothing;
-      none_held = λ lt. ap (λ x. x.held) c.take_totals.ensures.now ∙ k.none_held lt;
+      gathering = c.in_ok-count.ensures.ok;
       totals = c.take_totals.ensures.totals;
       now = c.take_totals.ensures.now;
     }
