@@ -89,11 +89,11 @@ Pairs P (x ∷ xs) [] = ⊥
 abbrev pub ReadTask : Task → TaskSight → Type 0
 ReadTask t s = (s.id ≡ t.info.id) × IsRead task_ledger s t.row × OnlyReads task_ledger s
 
--- the same of a resource
+-- a handle is of the resource, and read its row last, and has done nothing but read
 abbrev pub ReadResource : Resource → ResourceSight → Type 0
 ReadResource r s = (s.id ≡ r.info.id) × IsRead resource_ledger s r.row × OnlyReads resource_ledger s
 
--- the same of an async operation
+-- a handle is of the async operation, and read its row last, and has done nothing but read
 abbrev pub ReadOp : Op → OpSight → Type 0
 ReadOp o s = (s.id ≡ o.info.id) × IsRead op_ledger s o.row × OnlyReads op_ledger s
 
@@ -263,12 +263,12 @@ abbrev pub ReadsTasks : Aggregating → Aggregating → Type 0
 ReadsTasks old new = (rows : List TaskRow) × ReadAll task_ledger old.tasks rows new.tasks
     × (new ≡ record old { tables = record old.tables { tasks = with_rows task_at old.tables.tasks rows }; tasks = new.tasks })
 
--- the same of resources
+-- each handle of a resource read once, and what it read is the row of its resource; nothing else changed
 abbrev pub ReadsResources : Aggregating → Aggregating → Type 0
 ReadsResources old new = (rows : List ResourceRow) × ReadAll resource_ledger old.resources rows new.resources
     × (new ≡ record old { tables = record old.tables { resources = with_rows resource_at old.tables.resources rows }; resources = new.resources })
 
--- the same of async operations
+-- each handle of an async operation read once, and what it read is the row of its operation; nothing else changed
 abbrev pub ReadsOps : Aggregating → Aggregating → Type 0
 ReadsOps old new = (rows : List OpRow) × ReadAll op_ledger old.ops rows new.ops
     × (new ≡ record old { tables = record old.tables { ops = with_rows op_at old.tables.ops rows }; ops = new.ops })

@@ -63,13 +63,13 @@ ReadsTaskBeside hand old new None = new ≡ old
 ReadsTaskBeside hand old new (Some place) = (row : TaskRow) × ReadsAt task_ledger place row old.tasks new.tasks × IsAfter task_meaning hand row
     × (new ≡ record old { tables = record old.tables { tasks = changed_at (λ t. task_at t row) old.tables.tasks place }; tasks = new.tasks })
 
--- the same of a resource
+-- a resource was read beside a hand: where the tables have it, the row is that after the hand's calls, and nothing else changed; else nothing did
 abbrev pub ReadsResourceBeside : ResourceSight → Aggregating → Aggregating → Option ℕ → Type 0
 ReadsResourceBeside hand old new None = new ≡ old
 ReadsResourceBeside hand old new (Some place) = (row : ResourceRow) × ReadsAt resource_ledger place row old.resources new.resources × IsAfter resource_meaning hand row
     × (new ≡ record old { tables = record old.tables { resources = changed_at (λ r. resource_at r row) old.tables.resources place }; resources = new.resources })
 
--- the same of an async operation
+-- an async operation was read beside a hand: where the tables have it, the row is that after the hand's calls, and nothing else changed; else nothing did
 abbrev pub ReadsOpBeside : OpSight → Aggregating → Aggregating → Option ℕ → Type 0
 ReadsOpBeside hand old new None = new ≡ old
 ReadsOpBeside hand old new (Some place) = (row : OpRow) × ReadsAt op_ledger place row old.ops new.ops × IsAfter op_meaning hand row
@@ -93,7 +93,7 @@ pub record GathersUpToBeside (r : Recording) (old : Aggregating) (before : Takin
   pub none_held : 0 < limit → new.held ≡ None
   pub nothing : limit ≡ 0 → (new ≡ old) × (after ≡ before)
 
--- the same, and then the totals are the taker's
+-- so many events were taken in beside a recorder, and then the totals are the taker's
 pub record CollectsBeside (r : Recording) (old : Aggregating) (before : Taking) (limit count : ℕ) (new : Aggregating) (after : Taking) : Type 0 where
   pub gathered : Aggregating
   pub taker : Taking

@@ -20,14 +20,14 @@ task_told (made_resource info) = []
 task_told (made_op info) = []
 task_told (polled resource ready) = []
 
--- the same of a resource
+-- the new resource that is told of, if it is a resource
 abbrev pub resource_told : Content → List ResourceInfo
 resource_told (made_task info) = []
 resource_told (made_resource info) = info ∷ []
 resource_told (made_op info) = []
 resource_told (polled resource ready) = []
 
--- the same of an async operation
+-- the new async operation that is told of, if it is one
 abbrev pub op_told : Content → List OpInfo
 op_told (made_task info) = []
 op_told (made_resource info) = []

@@ -168,21 +168,21 @@ pub record AddTasks (text : List ℕ) (now : Bool) (entries : List TaskEntry) (o
   pub ops : new.ops ≡ old.ops
   pub counts : new.counts ≡ old.counts
 
--- the same of resources
+-- these resources stand after those that were there, and nothing else changed
 pub record AddResources (text : List ℕ) (attrs : List AttrEntry) (now : Bool) (entries : List ResourceEntry) (old new : TablesView) : Type 0 where
   pub tasks : new.tasks ≡ old.tasks
   pub resources : map resource_shown new.resources ≡ map resource_shown old.resources ++ map (resource_entry_shown text attrs now) entries
   pub ops : new.ops ≡ old.ops
   pub counts : new.counts ≡ old.counts
 
--- the same of async operations
+-- these async operations stand after those that were there, and nothing else changed
 pub record AddOps (text : List ℕ) (attrs : List AttrEntry) (now : Bool) (entries : List OpEntry) (old new : TablesView) : Type 0 where
   pub tasks : new.tasks ≡ old.tasks
   pub resources : new.resources ≡ old.resources
   pub ops : map op_shown new.ops ≡ map op_shown old.ops ++ map (op_entry_shown text attrs now) entries
   pub counts : new.counts ≡ old.counts
 
--- the same of poll counts
+-- these poll counts stand after those that were there, and nothing else changed
 pub record AddCounts (now : Bool) (entries : List CountEntry) (old new : TablesView) : Type 0 where
   pub tasks : new.tasks ≡ old.tasks
   pub resources : new.resources ≡ old.resources

@@ -35,7 +35,7 @@ pub record IsCalledTask (ps : Pasts) (t : Task) : Type 0 where
   pub is_past : made_item number ps.tasks ≡ Some past
   pub row : IsTaskRow past t.row
 
--- the same of a resource
+-- a resource of a table is the one of its id's number, and its row is that of what was called on it
 pub record IsCalledResource (ps : Pasts) (r : Resource) : Type 0 where
   pub number : ℕ
   pub id : r.info.id ≡ id_of 1 number
@@ -43,7 +43,7 @@ pub record IsCalledResource (ps : Pasts) (r : Resource) : Type 0 where
   pub is_past : made_item number ps.resources ≡ Some past
   pub row : IsResourceRow past r.row
 
--- the same of an async operation
+-- an async operation of a table is the one of its id's number, and its row is that of what was called on it
 pub record IsCalledOp (ps : Pasts) (o : Op) : Type 0 where
   pub number : ℕ
   pub id : o.info.id ≡ id_of 1 number

@@ -58,7 +58,8 @@ pub record AreTasksRead (count : ℕ) (a : Aggregating) (tasks : List TaskItem) 
   pub readers : AllByRecursion (λ (s : TaskSight). IsTaskLedger new s.id s.token.ledger) b.tasks
   pub rest : b ≡ record a { tables = record a.tables { tasks = b.tables.tasks }; tasks = b.tasks }
 
--- the same of resources
+-- the first so many resources were read, each beside its hand: they are the same resources, of which the hands made the same calls, and so
+-- are the resources of the aggregator and who reads them
 pub record AreResourcesRead (count : ℕ) (a : Aggregating) (resources : List ResourceItem) (b : Aggregating) (new : List ResourceItem) : Type 0 where
   pub same : AreSame IsSameResource resources new
   pub many : length new ≡ length resources
@@ -68,7 +69,8 @@ pub record AreResourcesRead (count : ℕ) (a : Aggregating) (resources : List Re
   pub readers : AllByRecursion (λ (s : ResourceSight). IsResourceLedger new s.id s.token.ledger) b.resources
   pub rest : b ≡ record a { tables = record a.tables { resources = b.tables.resources }; resources = b.resources }
 
--- and of async operations
+-- the first so many async operations were read, each beside its hand: they are the same operations, of which the hands made the same calls,
+-- and so are the operations of the aggregator and who reads them
 pub record AreOpsRead (count : ℕ) (a : Aggregating) (ops : List OpItem) (b : Aggregating) (new : List OpItem) : Type 0 where
   pub same : AreSame IsSameOp ops new
   pub many : length new ≡ length ops

@@ -57,7 +57,7 @@ pub record Numbers : Type 0 where
   pub resources : ℕ
   pub ops : ℕ
 
--- those of a script's items
+-- how many items of each kind a script made
 abbrev pub numbers_of : Pasts → Numbers
 numbers_of ps = record { tasks = length ps.tasks; resources = length ps.resources; ops = length ps.ops }
 
@@ -103,7 +103,7 @@ IsResourceLedger resources id ledger = (n : ℕ) × (r : ResourceItem) × (id �
 abbrev pub IsOpLedger : List OpItem → ℕ → TableId → Type 0
 IsOpLedger ops id ledger = (n : ℕ) × (o : OpItem) × (id ≡ id_of 1 n) × (made_item n ops ≡ Some o) × (o.callers.token.ledger ≡ ledger)
 
--- so are those of an offer of a new item
+-- an offer of a new item has the ledger of the item of its number
 abbrev pub OffersLedger : List TaskItem → List ResourceItem → List OpItem → Shown → Type 0
 OffersLedger tasks resources ops (MadeTask info ledger caller times) = IsTaskLedger tasks info.id ledger
 OffersLedger tasks resources ops (MadeResource info ledger caller) = IsResourceLedger resources info.id ledger

@@ -140,7 +140,7 @@ stop_outside c opens = None
 stop_outside c joins = Some BadCommand
 stop_outside c (works k l) = Some BadCommand
 
--- and of one in a block
+-- the stop that the text tells of a line in a block
 abbrev pub stop_inside : Course → Block → Line → Option Stop
 stop_inside c b skipped = None
 stop_inside c b bad = Some BadCommand

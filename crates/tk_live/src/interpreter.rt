@@ -205,7 +205,7 @@ impl Interpreter {
         Ok(())
     }
 
-    // The same of the retention.
+    // The retention, which was looked for before the first line, is said once, before every command that is no setting.
     fn say_retention(&mut self) -> Result<(), Stop>
         ensures { (line : ℕ) (n : ℕ) → SilentSpec line (retention n) self.old self.new result }
     {
@@ -216,7 +216,7 @@ impl Interpreter {
         Ok(())
     }
 
-    // And of the histograms.
+    // That tasks have histograms, which was looked for before the first line, is said once, before every command that is no setting.
     fn say_times(&mut self) -> Result<(), Stop>
         ensures { (line : ℕ) → SilentSpec line times self.old self.new result }
     {

@@ -76,7 +76,7 @@ impl TaskItem {
         }
     }
 
-    /// It ends. How long it ran is added to the histogram.
+    /// The open poll ends. How long it ran is added to the histogram.
     pub(crate) fn end<R: Wait>(&mut self, rt: &R, moment: u64) -> Result<(), Stop>
         requires { self.old.closed ≡ false }
         ensures same { IsSameTask self.old self.new }
@@ -235,7 +235,7 @@ impl OpItem {
         }
     }
 
-    /// It ends.
+    /// The open poll ends.
     pub(crate) fn end<R: Wait>(&mut self, rt: &R, moment: u64) -> Result<(), Stop>
         requires { self.old.closed ≡ false }
         ensures same { IsSameOp self.old self.new }

@@ -81,8 +81,7 @@ impl WorkerLines {
         ensures err { OnErr result (self.new ≡ self.old) }
     {
         self.lines.reserve(1)?;
-        let spent = self.spends(line.waker) || is_last(line.call);
-        match self.spent.insert(line.waker, spent) {
+        match self.spent.insert(line.waker, is_last(line.call)) {
             Ok(_) => {
                 self.lines.push_reserved(line);
                 Ok(())

@@ -63,7 +63,7 @@ badge odd kind =
     if odd then opens tags.Span ∷ value attrs.Class ∷ text (codes "badge ") ∷ text (class_of kind) ∷ quote ∷ ends ∷ text (words_of_badge kind) ∷ close tags.Span ∷ []
     else []
 
--- the same of a task
+-- the badge of a kind, where it holds of a task
 abbrev pub badge_of : Signs → Task → Oddity → List Bit
 badge_of signs t kind = badge (is_odd signs kind t) kind
 

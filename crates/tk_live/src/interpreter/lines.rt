@@ -68,7 +68,7 @@ fn write_line<W: Write>(
     }
 }
 
-// The same, of an aggregator that is sound before it and after it.
+// Writes the next line, as a snapshot or not, of an aggregator that is sound before it and after it.
 fn send<W: Write>(
     aggregator: &mut Aggregator,
     moment: u64,

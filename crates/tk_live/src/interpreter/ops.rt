@@ -123,7 +123,7 @@ impl Interpreter {
         }
     }
 
-    // It ends.
+    // The open poll of an operation ends.
     pub(super) fn end_op<R: Wait>(&mut self, rt: &R, op: u64, moment: u64) -> Result<(), Stop>
         ensures { (line : ℕ) → SilentSpec line (said.finish_op op moment) self.old self.new result }
     {

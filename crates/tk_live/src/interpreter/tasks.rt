@@ -133,7 +133,7 @@ impl Interpreter {
         }
     }
 
-    // It ends.
+    // The open poll of a task ends.
     pub(super) fn end<R: Wait>(&mut self, rt: &R, task: u64, moment: u64) -> Result<(), Stop>
         ensures { (line : ℕ) → SilentSpec line (said.finish task moment) self.old self.new result }
     {
