@@ -7,7 +7,7 @@
 #        bench/run.sh --fmt            `rt fmt` for the sources of bench/
 #
 # Each lays the crates of bench/ out beside the product's in a temporary folder. But for the last, `rt ci` proves there what it
-# has not passed on this machine yet: behind the gate, the crates of bench/ alone, RT_JOBS at a time. Let nothing else run beside
+# has not passed on this machine yet: after the gate, the crates of bench/ alone, RT_JOBS at a time. Let nothing else run beside
 # a measurement: it uses up to four processors, and some gigabytes of memory for the lines of 100,000 tasks.
 
 self=$(readlink -f -- "$0" 2>/dev/null) || self=$0

@@ -14,7 +14,7 @@ ROOT = os.path.dirname(os.path.dirname(os.path.abspath(__file__)))
 
 
 class Crate:
-    """A crate behind the gate: the libraries below it, and the prover's words for it over these, as `rt ci` itself has them."""
+    """A crate after the gate: the libraries below it, and the prover's words for it over these, as `rt ci` itself has them."""
 
     def __init__(self, below, prover, words, toolchain):
         self.below = below

@@ -7,7 +7,7 @@
 # program is given and what it answers: other words, help, faults, and streams that can't be read or written. And the stream of
 # example_service, of which `view` must tell of three closed tasks.
 #
-# Usage: tests/examples.sh, behind `rt ci` or `rt run` in crates/taskscope.
+# Usage: tests/examples.sh, after `rt ci` or `rt run` in crates/taskscope.
 #
 # It runs the programs that they leave in crates/taskscope/out: the one that LLVM built, and where `rt ci` ran also the
 # one by Rattle's own compiler. Its last line is `N passed, M failed`, and its status 1 where M isn't 0.
@@ -30,7 +30,7 @@ has() {
 }
 
 # Tries the program on an input: it must end with this status, and write this to its output and this to its error output. What
-# stands behind these four are its words.
+# stands after these four are its words.
 try() {
     input=$1 status=$2 output=$3 faults=$4
     shift 4

@@ -1,5 +1,5 @@
 #!/bin/sh
-# Shows that an `Origin` can't outlive the poll that it is of: it borrows its scope, so a use of it behind
+# Shows that an `Origin` can't outlive the poll that it is of: it borrows its scope, so a use of it after
 # `PollScope::finish`, or after the scope was handed on, is refused by the borrow checker (borrow-e0505).
 # No edit in must-fail/ can show this, since such a body doesn't reach the prover.
 #

@@ -1,7 +1,7 @@
 #!/bin/sh
 # Looks at the pages that `taskscope page` writes, as a strict parser and a browser do.
 #
-# Usage: tests/page.sh            behind `rt ci`, or `rt run` in crates/taskscope.
+# Usage: tests/page.sh            after `rt ci`, or `rt run` in crates/taskscope.
 #        tests/page.sh --picture  makes docs/page.png anew, of examples/service.script.html, and tries nothing. It wants `chromium` and `pngquant`.
 #
 # The frame is what frame/make.py writes, and the scripts of the service and of the long tail are what examples/service.py and

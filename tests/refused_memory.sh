@@ -3,7 +3,7 @@
 #
 # Usage: tests/refused_memory.sh
 #
-# tk_memory stands in bench/crates. Both programs are made in a temporary folder (bench/workspace.sh), by `rt ci`: behind the gate and
+# tk_memory stands in bench/crates. Both programs are made in a temporary folder (bench/workspace.sh), by `rt ci`: after the gate and
 # bench/run.sh --check in a minute, since what they passed is kept on this machine, and else by their proofs. A small C library (cc and
 # LD_PRELOAD) counts their requests and refuses one of them, the first, the second and so on, until a run meets no refusal.
 # In tk_memory a case is what lies between two marks, which are requests of sizes that nothing else asks for. The program
@@ -54,7 +54,7 @@ __attribute__((constructor)) static void start(void) {
     inside = wanted == 0;
 }
 
-/* Writes how many requests were met: behind the counts of the cases before, or, of a program, in the place of its count so far,
+/* Writes how many requests were met: after the counts of the cases before, or, of a program, in the place of its count so far,
    since a program may end in a way that runs no code of ours. It asks for no memory. */
 static void tell(long met) {
     char text[32];
@@ -156,7 +156,7 @@ refuse_case() {
     finish "$name" "$n" "$told" "$wrong"
 }
 
-# Whether the last run answered want of memory, behind whole lines of the output. A view's comes before any.
+# Whether the last run answered want of memory, after whole lines of the output. A view's comes before any.
 is_told() {
     grep -c '^fault: ' "$work/err" | grep -q -x 1 || return 1
     grep -q -x -e 'fault: Memory' -e 'fault: line [0-9][0-9]*: Memory' "$work/err" || return 1

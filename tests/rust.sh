@@ -1,7 +1,7 @@
 #!/bin/sh
 # Tries the Rust crate of rust/ over the proved library, and shows a service's stream by the proved program.
 #
-# Usage: tests/rust.sh            behind `rt ci`, or `rt run` in crates/taskscope.
+# Usage: tests/rust.sh            after `rt ci`, or `rt run` in crates/taskscope.
 #        tests/rust.sh --renew    builds the archive that rust/taskscope/prebuilt keeps anew, with the sum of its sources, and tries nothing.
 #
 # It builds the archive (tests/archive.py), sees that the one that is kept is of the same sources and says whether it has the
@@ -244,7 +244,7 @@ lint_subscriber() {
     over_unstable clippy --all-targets -- -D warnings
 }
 
-# As many polls as the workers counted, as many tasks as were scheduled from outside of them, and each poll but the first of a task behind
+# As many polls as the workers counted, as many tasks as were scheduled from outside of them, and each poll but the first of a task after
 # a wake.
 echo_agrees() {
     TASKSCOPE_STREAM=$work/echo.stream "$unstable/debug/examples/echo" 1000 > "$work/metrics" || return 1

@@ -6,7 +6,7 @@ trap 'exit 2' HUP INT TERM
 passed=0
 failed=0
 
-# Runs the command behind the name of a step. What it says is shown where it fails.
+# Runs the command after the name of a step. What it says is shown where it fails.
 step() {
     name=$1
     shift

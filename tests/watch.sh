@@ -1,7 +1,7 @@
 #!/bin/sh
 # Watches streams by `taskscope watch`: as text, and in a terminal of tmux; and looks at how words end.
 #
-# Usage: tests/watch.sh, behind `rt ci`, or `rt run` in crates/taskscope.
+# Usage: tests/watch.sh, after `rt ci`, or `rt run` in crates/taskscope.
 #
 # tests/watch/check_frames.py compares what screens show with the stream, which it reads by itself. In the terminal a stream comes line by
 # line: each screen is drawn over the one before, the terminal is as it was at the end and after an interrupt, and its size, its kind and

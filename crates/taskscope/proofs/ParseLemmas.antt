@@ -693,7 +693,7 @@ module _ (more : List Rule) (sound_more : AreSound more) (keep : AllKeep more) w
       let held = settled_good s.rules s.args_override_self sound end walks (first_none _ _ after) in
       subst (λ c. HaveNumbers (fold with_default (settled s.rules end).rows c)) (sym is) (with_defaults more keep (settled s.rules end).rows held)
 
--- where the words behind a command are taken, and its options name what there is, it asks for something
+-- where the words after a command are taken, and its options name what there is, it asks for something
 abbrev TakenAsks : Text → List Text → Type 0
 TakenAsks name words = entered_fault there (Some (name, words)) ≡ [] → names_nothing (entered there (Some (name, words))) ≡ false
     → IsSome (asked_in (entered there (Some (name, words))))
@@ -701,7 +701,7 @@ TakenAsks name words = entered_fault there (Some (name, words)) ≡ [] → names
 run_asks : (words : List Text) → TakenAsks (codes "run") words
 run_asks words none named = refl
 
--- the options behind a command
+-- the options after a command
 abbrev options_in : Option (Text × List Row) → List Row
 options_in None = []
 options_in (Some command) = command.1

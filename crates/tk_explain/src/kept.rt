@@ -1,6 +1,8 @@
 //! A reader that keeps what it gave.
-ghost use Rattle.std.specs.Prelude.{◌≡◌};
+ghost use Rattle.std.specs.Prelude.{◌≡◌, true, false, IfOk};
+ghost use Rattle.tk_explain.specs.Keeping.{kept_with, no_lines};
 
+use crate::lines::Lines;
 use std::alloc::{AllocError, Global};
 use std::io;
 use std::io::Read;
@@ -12,27 +14,9 @@ pub struct Kept<R> {
     reader: R,
     alloc: Global,
     all: bool,
-    bytes: Vec<u8>,
-    // How many lines ended before these bytes.
-    lines: u64,
-    // How many lines end in these bytes, and where what stands after the last of these begins: looked at where not all is kept.
-    ended: u64,
-    open: usize,
+    lines: Lines,
     // Whether there was memory for what is to be kept.
     whole: bool,
-}
-
-// How many lines end in a piece, and where what stands after the last of these begins.
-fn ends_in(piece: &[u8]) -> (u64, usize) {
-    let mut ended = 0u64;
-    let mut open = 0;
-    for (at, byte) in piece.iter().enumerate() {
-        if *byte == b'\n' {
-            ended = ended.saturating_add(1);
-            open = at + 1;
-        }
-    }
-    (ended, open)
 }
 
 impl<R> Kept<R> {
@@ -44,10 +28,7 @@ impl<R> Kept<R> {
             reader,
             alloc,
             all: true,
-            bytes: Vec::new(alloc),
-            lines: 0,
-            ended: 0,
-            open: 0,
+            lines: Lines::new(alloc),
             whole: true,
         }
     }
@@ -60,10 +41,7 @@ impl<R> Kept<R> {
             reader,
             alloc,
             all: false,
-            bytes: Vec::new(alloc),
-            lines: 0,
-            ended: 0,
-            open: 0,
+            lines: Lines::new(alloc),
             whole: true,
         }
     }
@@ -76,58 +54,48 @@ impl<R> Kept<R> {
     }
 
     /// What is kept.
-    pub fn bytes(&self) -> &[u8] {
-        self.bytes.as_slice()
+    pub fn bytes(&self) -> &[u8]
+        ensures { result.now ≡ self.now.lines.bytes }
+    {
+        self.lines.bytes()
     }
 
     /// Whether there was memory for what was to be kept. Where there was none, nothing is.
-    pub fn is_whole(&self) -> bool {
+    pub fn is_whole(&self) -> bool
+        ensures { result ≡ self.now.whole }
+    {
         self.whole
     }
 
     /// How many lines ended before the bytes that are kept.
-    pub fn lines_before(&self) -> u64 {
-        self.lines
-    }
-
-    // Lets the lines go that have ended.
-    fn forget_ended(&mut self) -> Result<(), AllocError>
-        ensures { self.new.reader ≡ self.old.reader }
+    pub fn lines_before(&self) -> u64
+        ensures { result ≡ self.now.lines.before }
     {
-        if self.ended > 0 && self.open <= self.bytes.len() {
-            let mut rest = Vec::new(self.alloc);
-            rest.extend_from_slice(&self.bytes[self.open..])?;
-            self.bytes = rest;
-            self.lines = self.lines.saturating_add(self.ended);
-            self.ended = 0;
-            self.open = 0;
-        }
-        Ok(())
+        self.lines.before()
     }
 
-    // Keeps a piece more, of which each byte is looked at once, however long its line is.
     fn add(&mut self, piece: &[u8]) -> Result<(), AllocError>
-        ensures { self.new.reader ≡ self.old.reader }
+        ensures reader { self.new.reader ≡ self.old.reader }
+        ensures whole { self.new.whole ≡ self.old.whole }
+        ensures all { self.new.all ≡ self.old.all }
+        ensures kept { IfOk result (λ _. self.new.lines ≡ kept_with self.old.all self.old.lines piece.now) }
     {
-        if self.all {
-            return self.bytes.extend_from_slice(piece);
+        if !self.all {
+            self.lines.forget_ended()?;
         }
-        self.forget_ended()?;
-        let (ended, open) = ends_in(piece);
-        if ended > 0 {
-            self.ended = ended;
-            self.open = self.bytes.len().saturating_add(open);
-        }
-        self.bytes.extend_from_slice(piece)
+        self.lines.add(piece)
     }
 
     // Keeps a piece more. Without memory for it nothing is kept from then on.
     fn keep(&mut self, piece: &[u8])
-        ensures { self.new.reader ≡ self.old.reader }
+        ensures reader { self.new.reader ≡ self.old.reader }
+        ensures all { self.new.all ≡ self.old.all }
+        ensures kept { self.new.whole ≡ true → (self.old.whole ≡ true) × (self.new.lines ≡ kept_with self.old.all self.old.lines piece.now) }
+        ensures lost { self.new.whole ≡ false → self.old.whole ≡ true → self.new.lines ≡ no_lines }
     {
         if self.whole && self.add(piece).is_err() {
             self.whole = false;
-            self.bytes = Vec::new(self.alloc);
+            self.lines = Lines::new(self.alloc);
         }
     }
 }

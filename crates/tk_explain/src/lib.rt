@@ -3,10 +3,11 @@
 //! - [`Kept`]: a reader that keeps the lines that a fault may come at.
 //! - [`explain_script`], [`explain_stream`]: what is told of a run and of a view.
 //!
-//! No contract says what these texts are.
+//! `specs/Keeping.antt` says what is kept. No contract says what these texts are.
 #![tactic(auto)]
 
 mod kept;
+mod lines;
 mod rules;
 mod script;
 mod shapes;

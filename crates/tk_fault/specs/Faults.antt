@@ -30,7 +30,7 @@ abbrev pub fault_text : Fault → List ℕ
 fault_text (client.Gap expected found) = codes "Gap expected " ++ (decimal expected ++ (codes " found " ++ decimal found))
 fault_text fault = name_of fault
 
--- a stream's fault, and behind how many lines it stands
+-- a stream's fault, and after how many lines it comes
 abbrev pub stream_text : ℕ → Fault → List ℕ
 stream_text lines fault = codes "stream after " ++ (decimal lines ++ (codes " lines: " ++ fault_text fault))
 

@@ -18,7 +18,7 @@ pub enum AppFault {
     Write,
     /// A line of a script was refused, of this number from 1. What the lines before it published went out.
     Script { line: u64, name: &'static str },
-    /// The stream has this fault, behind so many lines that were applied. Nothing was written.
+    /// The stream has this fault, after so many lines that were applied. Nothing was written.
     Stream { lines: u64, fault: Fault },
 }
 

@@ -47,7 +47,7 @@ fn is_due(closed: Option<u64>, retention: u64, now: u64) -> bool {
     }
 }
 
-// Puts an id behind the others, where its item is due.
+// Puts an id after the others, where its item is due.
 fn push_due<I: Copy>(
     gone: &mut Vec<I>,
     id: I,
@@ -123,7 +123,7 @@ impl Gone {
         }
     }
 
-    /// What a line says of them: its three lists, each with a comma behind it.
+    /// What a line says of them: its three lists, each with a comma after it.
     pub(crate) fn lists(&self, alloc: Global) -> Result<String, AllocError> {
         let mut out = String::new(alloc);
         put_list(&mut out, "gone_ops", self.ops.as_slice())?;

@@ -56,7 +56,7 @@ fn made_op(tables: &Tables, number: u64) -> Option<AsyncOpId> {
     Some(op.info.id)
 }
 
-// The row behind a call of an operation's owner, who is spent where the operation is closed.
+// The row after a call of an operation's owner, who is spent where the operation is closed.
 fn row_after(row: OpRow, call: OpCall) -> Result<OpRow, Stop> {
     if row.dropped.is_some() {
         return Err(Stop::NoSuchItem);

@@ -141,8 +141,8 @@ fn fit(held: &[Held]) -> bool {
     true
 }
 
-// The items behind a line: what is gone leaves, what is told takes the place of what was, and new ones go last.
-fn items_behind(alloc: Global, held: &[Held], part: &Part) -> Result<Vec<Held>, AllocError> {
+// The items after a line: what is gone leaves, what is told takes the place of what was, and new ones go last.
+fn items_after(alloc: Global, held: &[Held], part: &Part) -> Result<Vec<Held>, AllocError> {
     let mut items = Vec::new(alloc);
     for one in held {
         if !is_among(&part.gone, one.new.id) {
@@ -167,7 +167,7 @@ fn count_of(counts: &[(u64, u64, u64)], old: (u64, u64, u64)) -> (u64, u64, u64)
     old
 }
 
-fn counts_behind(
+fn counts_after(
     alloc: Global,
     held: &[(u64, u64, u64)],
     told: &[(u64, u64, u64)],
@@ -222,8 +222,8 @@ fn has_strange_times(held: &[Held], line: &Given) -> bool {
     false
 }
 
-// The histograms behind a line: those of tasks that are gone leave, what is told takes the place of what was, and new ones go last.
-fn times_behind(
+// The histograms after a line: those of tasks that are gone leave, what is told takes the place of what was, and new ones go last.
+fn times_after(
     alloc: Global,
     held: &[Histogram],
     line: &Given,
@@ -331,11 +331,11 @@ impl Plain {
         {
             return Ok(8);
         }
-        let tasks = items_behind(alloc, &self.tasks, &line.tasks)?;
-        let resources = items_behind(alloc, &self.resources, &line.resources)?;
-        let ops = items_behind(alloc, &self.ops, &line.ops)?;
-        let counts = counts_behind(alloc, &self.counts, &line.counts)?;
-        let times = times_behind(alloc, &self.times, line)?;
+        let tasks = items_after(alloc, &self.tasks, &line.tasks)?;
+        let resources = items_after(alloc, &self.resources, &line.resources)?;
+        let ops = items_after(alloc, &self.ops, &line.ops)?;
+        let counts = counts_after(alloc, &self.counts, &line.counts)?;
+        let times = times_after(alloc, &self.times, line)?;
         if !fit(&resources) || !fit(&ops) {
             return Ok(8);
         }

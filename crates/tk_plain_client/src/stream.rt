@@ -14,7 +14,7 @@ pub struct Outcome {
     pub gap: Option<(u64, u64)>,
 }
 
-// What is held behind the bytes so far, the bytes of a line that hasn't ended, and what came of all of them.
+// What is held after the bytes so far, the bytes of a line that hasn't ended, and what came of all of them.
 #[derive(Drop)]
 struct Course {
     plain: Plain,

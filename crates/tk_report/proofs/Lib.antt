@@ -5,3 +5,4 @@ pub mod ViewLemmas
 pub mod ShownLemmas
 pub mod PieceLemmas
 pub mod FrontLemmas
+pub mod OutcomeLemmas

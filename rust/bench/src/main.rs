@@ -125,7 +125,7 @@ fn spawns(clock: f64) -> std::io::Result<()> {
     Ok(())
 }
 
-/// Microseconds of a publish, of the least of some rounds, each behind these wakes, and the bytes of the line.
+/// Microseconds of a publish, of the least of some rounds, each after these wakes, and the bytes of the line.
 fn publish(console: &Console, rounds: u32, woken: &dyn Fn()) -> (f64, usize) {
     let mut best = (f64::MAX, 0);
     for _ in 0..rounds {

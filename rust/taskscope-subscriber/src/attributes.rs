@@ -102,7 +102,7 @@ impl Types {
 
 /// The value of an attribute, so that no change leaves the range of its kind.
 ///
-/// tokio tells of a change behind the change itself. Where one thread gives permits back and another one takes them, the second may
+/// tokio tells of a change after the change itself. Where one thread gives permits back and another one takes them, the second may
 /// be told first, and the sum is below 0 for a moment. The exact sum is kept here, and the row has the nearest value to it.
 #[derive(Debug)]
 struct Slot {

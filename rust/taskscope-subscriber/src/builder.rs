@@ -109,7 +109,7 @@ impl Builder {
         Builder { interval, ..self }
     }
 
-    /// How long behind its close an item stays in the tables of the stream: a minute without this, and for good with `None`. An item
+    /// How long after its close an item stays in the tables of the stream: a minute without this, and for good with `None`. An item
     /// takes some 400 bytes until it leaves, and each lock of a mutex makes two of them.
     pub fn retention(mut self, retention: impl Into<Option<Duration>>) -> Builder {
         self.settings.retention = retention.into();

@@ -89,7 +89,7 @@ impl Entered {
         self.frames.push(frame);
     }
 
-    /// Leaves the innermost frame of a span, and keeps its item behind the call.
+    /// Leaves the innermost frame of a span, and keeps its item after the call.
     #[inline]
     pub(crate) fn leave(&mut self, key: Key, call: impl FnOnce(&Frame)) {
         if let Some(place) = self.frames.iter().rposition(|frame| frame.key == key) {

@@ -25,7 +25,7 @@
 //! | `TASKSCOPE_STREAM` | where lines go: the path of a file or of a pipe (`mkfifo`), `unix:PATH` for a socket, or `stderr` | nothing is inspected, and nothing costs more |
 //! | `TASKSCOPE_INTERVAL_MS` | milliseconds from one line to the next | 100 |
 //! | `TASKSCOPE_ITEMS` | `tasks`: resources and operations are not told, and locks and channels cost no more; or `all` | `all` |
-//! | `TASKSCOPE_RETENTION_MS` | milliseconds that an item stays in the tables behind its close; or `none`: for good | 60000 |
+//! | `TASKSCOPE_RETENTION_MS` | milliseconds that an item stays in the tables after its close; or `none`: for good | 60000 |
 //! | `TASKSCOPE_CAPACITY` | how many new items each of the 16 recorders holds until the next line | 65536 |
 //!
 //! # What becomes of tokio's spans and events
@@ -43,7 +43,7 @@
 //! | `poll_op` | a poll operation of the innermost resource |
 //! | `state_update` | a change of an attribute of the innermost item, and of its parent that has `inherits_child_attrs` |
 //!
-//! A resource has its attributes from its beginning, and tokio tells them behind it: those of tokio's types are known here, and of
+//! A resource has its attributes from its beginning, and tokio tells them after it: those of tokio's types are known here, and of
 //! any other type an attribute is known from its second item on. Until then its changes count as `unsayable`.
 
 #![deny(missing_docs, unsafe_op_in_unsafe_fn)]

@@ -16,7 +16,7 @@ pub enum Output {
     /// that tells all follows once there is room: tries are 1 second to 1 minute apart.
     File(PathBuf),
     /// A pipe that `mkfifo` made. A reader may open it at any time; the first line that it gets tells all. So it is with another one
-    /// that opens it behind the next line after the first has gone: one that comes before gets the lines on which the first stopped.
+    /// that opens it once the next line was written after the first has gone: one that comes before gets the lines on which the first stopped.
     Pipe(PathBuf),
     /// A unix socket, which is made, and removed at the end. Several readers may connect at any time; the first line that each gets
     /// tells all.

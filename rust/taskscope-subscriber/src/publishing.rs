@@ -186,7 +186,7 @@ const BLOCK: c_int = 0;
 /// end no program: the write answers an error.
 fn block_signals() {
     let mut set = MaybeUninit::<SignalSet>::uninit();
-    // SAFETY: the set is lent for the calls, and is full behind the first.
+    // SAFETY: the set is lent for the calls, and is full after the first.
     unsafe {
         if sigfillset(set.as_mut_ptr()) == 0 {
             pthread_sigmask(BLOCK, set.as_ptr(), std::ptr::null_mut());

@@ -254,7 +254,7 @@ async fn yields(times: usize) {
 }
 
 /// A task holds the span of another one, and enters it whenever it is polled. Where two threads enter one span at once, each layer
-/// may see one enter before and the other behind an exit, so this is for one thread.
+/// may see one enter before and the other after an exit, so this is for one thread.
 async fn take_along() {
     let outer = tokio::spawn(async {
         let inner = tokio::spawn(yields(5).in_current_span());

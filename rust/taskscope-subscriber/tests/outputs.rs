@@ -244,7 +244,7 @@ fn program() {
     std::process::exit(7);
 }
 
-/// The program with these variables, started by a shell behind its words.
+/// The program with these variables, started by a shell after its words.
 fn command(shell: &str, how: &str, variables: &[(&str, &Path)]) -> Command {
     let program = std::env::current_exe().expect("this program");
     let mut command = Command::new("sh");
@@ -312,7 +312,7 @@ fn a_full_disk_is_said_once() {
 fn a_file_that_can_not_grow_has_whole_lines_and_goes_on_with_all() {
     let folder = Folder::new();
     let path = folder.path("stream");
-    // A write behind so many blocks of 512 bytes brings SIGXFSZ, which ends a program.
+    // A write after so many blocks of 512 bytes brings SIGXFSZ, which ends a program.
     let mut command = command("ulimit -S -f 32 &&", "long", &[("TASKSCOPE_STREAM", &path)]);
     let child = command.stderr(Stdio::piped()).spawn().expect("it runs");
     let lines = || fs::read_to_string(&path).unwrap_or_default();

@@ -105,7 +105,7 @@ fn polls_and_wakers_come_through() {
 }
 
 #[test]
-fn wakers_behind_the_end_of_their_task_are_late() {
+fn wakers_after_the_end_of_their_task_are_late() {
     let kept = Arc::new(Mutex::new(None::<Waker>));
     let (line, left_out) = inspected(Items::All, async {
         let keeper = Arc::clone(&kept);
@@ -251,7 +251,7 @@ fn a_thread_that_ends_closes_its_tasks() {
     let left_out = layer.left_out();
     let subscriber = Dispatch::new(Rootless(tracing_subscriber::registry().with(layer)));
     let keeps = move || {
-        // It is dropped behind what was first used after it, so behind what the layer keeps for this thread.
+        // It is dropped after what was first used after it, so after what the layer keeps for this thread.
         KEPT.with(|kept| {
             let mut kept = kept.borrow_mut();
             *kept = with_default(&subscriber, || {

@@ -126,7 +126,7 @@ impl Attrs {
         &self.0
     }
 
-    /// The index of the attribute with a name, or one behind the last where there is none.
+    /// The index of the attribute with a name, or one after the last where there is none.
     pub(crate) fn index(&self, name: &str) -> u64 {
         let has_name = |attr: &Attr| attr.name.is(name);
         self.0.iter().position(has_name).unwrap_or(self.0.len()) as u64

@@ -31,7 +31,7 @@ impl Total {
 
 /// The items of one kind.
 ///
-/// A line lists those that were told before in the order in which they were first told, and new ones behind them: this order
+/// A line lists those that were told before in the order in which they were first told, and new ones after them: this order
 /// is that of the tables to which the lines lead.
 #[derive(Debug)]
 struct Table<T> {
@@ -256,7 +256,7 @@ impl Book {
         }
     }
 
-    /// The line of what changed, and where items leave with it the line that says so behind it.
+    /// The line of what changed, and where items leave with it the line that says so after it.
     pub(crate) fn publish(
         &mut self,
         dropped: Total,
@@ -338,7 +338,7 @@ impl Book {
     fn head(&self, moment: u64, dropped: Total, snapshot: bool) -> Head {
         let Total([dropped_tasks, dropped_resources, dropped_ops]) = dropped;
         Head {
-            // Behind the last number that a line can have, the library refuses the next one.
+            // After the last number that a line can have, the library refuses the next one.
             seq: self.seq.saturating_add(1),
             moment,
             dropped_tasks,

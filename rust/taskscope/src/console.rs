@@ -22,7 +22,7 @@ pub struct Settings {
     /// How many new items each of the 16 recorders holds until the next line: a thread's items all go to one recorder. What
     /// finds no room is counted as dropped.
     pub capacity: usize,
-    /// How long behind its close an item stays in the tables of the stream. `None`: for good, and so the memory of a program
+    /// How long after its close an item stays in the tables of the stream. `None`: for good, and so the memory of a program
     /// that goes on making items has no bound.
     pub retention: Option<Duration>,
 }
@@ -228,14 +228,14 @@ impl Console {
     }
 
     /// The next line of the stream, with its line end: what is new or has changed since the line before. Where closed items
-    /// leave with it, a second line behind it says which.
+    /// leave with it, a second line after it says which.
     ///
     /// Its cost is by what changed, not by how many items there are. Where several threads publish, their lines are to be
     /// written in the order of their numbers.
     ///
     /// # Errors
     /// Nothing counts as told then, and the next call tells it. [`Memory`](Fault::Memory) may come at any call, and
-    /// [`LinesSpent`](Fault::LinesSpent) behind 2^63 lines. The others don't come while this crate and its library fit each
+    /// [`LinesSpent`](Fault::LinesSpent) after 2^63 lines. The others don't come while this crate and its library fit each
     /// other. Where a line was made and the one about what leaves was not, this is no error, and these items leave later.
     pub fn publish(&self) -> Result<Vec<u8>, Fault> {
         self.0.line(false)

@@ -3,7 +3,7 @@
 //! A slice there is a pointer and a length here. Its allocator has no bytes, so it is no parameter.
 //!
 //! No export requires more of its arguments than their types say, so whoever calls one owes this alone: references and
-//! pointers are valid for the call, a pointer for as many elements as the length behind it says, and what is lent as `&mut`
+//! pointers are valid for the call, a pointer for as many elements as the length after it says, and what is lent as `&mut`
 //! or `*mut` is lent to this call only.
 
 /// A row: the statistics of one item.

@@ -121,7 +121,7 @@ unsafe fn release(data: *const ()) {
 ///
 /// A waker that the future clones of the one that a poll lends is counted as a clone, and when it is dropped or wakes by value as
 /// dropped. A wake by a thread that polls this very task is a self-wake. A poll that panics has ended. The task is closed when
-/// this is dropped, behind its future.
+/// this is dropped, after its future.
 #[must_use = "futures do nothing unless they are polled"]
 pub struct Inspected<F> {
     // First, so that the wakers which the future holds are dropped before the task is closed.
@@ -217,7 +217,7 @@ impl Drop for OpPolling<'_> {
 /// A future whose polls are those of one async operation, and poll operations of its resource.
 ///
 /// The inspected task whose poll polls it becomes the task of the operation. A poll that panics has ended, and counts as no poll
-/// operation. The operation is closed when this is dropped, behind its future.
+/// operation. The operation is closed when this is dropped, after its future.
 #[must_use = "futures do nothing unless they are polled"]
 pub struct InspectedOp<F> {
     future: F,

@@ -19,7 +19,7 @@
 //! # Names
 //!
 //! A line holds names of 1 to 1,024 bytes of printable ASCII. Of any other name each character that is not printable ASCII becomes
-//! `?`, what stands behind the first 1,024 characters is cut off, and the empty name becomes `?`. This holds for names, files,
+//! `?`, what stands after the first 1,024 characters is cut off, and the empty name becomes `?`. This holds for names, files,
 //! types, kinds, sources and units alike.
 //!
 //! # Misuse

@@ -17,7 +17,7 @@ pub(crate) struct Page {
     text: Vec<u8>,
     /// How many entries of each kind were told.
     told: [usize; 4],
-    /// Whether a piece lies behind what 32 bits count.
+    /// Whether a piece lies beyond what 32 bits count.
     is_too_long: bool,
 }
 
@@ -119,7 +119,7 @@ impl Page {
 
     fn write_line(&self, head: &Head, out: &mut [u8]) -> Answer {
         let head = self.with_told(head);
-        // SAFETY: each pointer and the length behind it are those of one slice that is lent for the call, and `out` is lent to
+        // SAFETY: each pointer and the length after it are those of one slice that is lent for the call, and `out` is lent to
         // it alone.
         unsafe {
             ffi::taskscope_line(

@@ -8,7 +8,7 @@
 //! | no | is as the last line told it |
 //! | yes | stands in one list, of a shard or of the book, which the next line reads; or in none for good, as no line tells of it (any more) |
 //!
-//! The call that finds a row unlisted lists it, under the row's lock: a list's lock is taken behind that of a row, and never
+//! The call that finds a row unlisted lists it, under the row's lock: a list's lock is taken after that of a row, and never
 //! the other way round.
 
 use std::sync::{Mutex, MutexGuard, PoisonError};

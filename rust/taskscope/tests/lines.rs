@@ -20,7 +20,7 @@ fn a_line_tells_what_changed_since_the_one_before() {
     let told = publish(&console);
     assert_eq!(ids(&told, "new_tasks"), (0..5).map(id).collect::<Vec<_>>());
     assert!(ids(&publish(&console), "task_stats").is_empty());
-    // Told ones stand in the order in which they were told first, whatever the order of the calls, and new ones behind them.
+    // Told ones stand in the order in which they were told first, whatever the order of the calls, and new ones after them.
     let new = console.task("new").open();
     for place in [3, 0, 3] {
         let _ = tasks[place].wake_by_ref(Origin::Outside);

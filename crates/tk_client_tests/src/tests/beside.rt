@@ -1,7 +1,7 @@
-//! Random lines, fed to a client and taken plainly: faults, tables and warnings are the same behind each.
+//! Random lines, fed to a client and taken plainly: faults, tables and warnings are the same after each.
 
 use super::given::{Came, fed, holds, on_made};
-use super::random::line_behind;
+use super::random::line_after;
 use super::spelled::{Row, is_spawn, row_of, text_of};
 use rand_pcg::Pcg32;
 use std::alloc::{AllocError, Global};
@@ -112,7 +112,7 @@ fn has_times_alike(client: &Client, plain: &Plain) -> bool {
 
 fn next_line(alloc: Global, random: &mut Pcg32, plain: &Plain) -> Result<Given, AllocError> {
     let (tasks, resources, ops) = plain.held(alloc)?;
-    line_behind(alloc, random, (&tasks, &resources, &ops), plain.next())
+    line_after(alloc, random, (&tasks, &resources, &ops), plain.next())
 }
 
 // Feeds a line, with its end. It answers what came of it, and how many bytes there were.
@@ -122,7 +122,7 @@ fn fed_line(alloc: Global, client: &mut Client, line: &Given) -> Result<(Came, u
     Ok((fed(client, text.as_bytes()), text.len()))
 }
 
-// Whether both take a line alike: the fault, what was taken, the tables, the histograms and the warnings. Behind a fault both begin anew.
+// Whether both take a line alike: the fault, what was taken, the tables, the histograms and the warnings. After a fault both begin anew.
 // It answers the fault's number too, 0 without one.
 fn takes_alike(
     alloc: Global,

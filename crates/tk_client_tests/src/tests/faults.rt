@@ -77,7 +77,7 @@ fn comes_to_tables(alloc: Global, bytes: &[u8], wanted: Came, tables: &[u8]) -> 
     }
 }
 
-fn tables_behind(alloc: Global, client: &mut Client, lines: &[u8]) -> Option<Vec<u8>> {
+fn tables_after(alloc: Global, client: &mut Client, lines: &[u8]) -> Option<Vec<u8>> {
     let _came = fed(client, lines);
     text_of(alloc, client.tables())
 }
@@ -87,11 +87,11 @@ fn tables_of(alloc: Global, lines: &[u8]) -> Option<Vec<u8>> {
     on_made(
         Client::new(alloc, ALLOWED),
         None,
-        |client| tables_behind(alloc, client, lines),
+        |client| tables_after(alloc, client, lines),
     )
 }
 
-fn comes_behind(alloc: Global, bytes: &[u8], wanted: Came, before: &[u8]) -> bool {
+fn comes_after(alloc: Global, bytes: &[u8], wanted: Came, before: &[u8]) -> bool {
     match tables_of(alloc, before) {
         Some(tables) => comes_to_tables(alloc, bytes, wanted, &tables),
         None => false,
@@ -107,13 +107,13 @@ fn faults(alloc: Global, bytes: Option<Vec<u8>>, code: u32, lines: u64, before: 
                 lines,
                 used: bytes.len(),
             };
-            comes_behind(alloc, &bytes, wanted, before)
+            comes_after(alloc, &bytes, wanted, before)
         }
         None => false,
     }
 }
 
-// Whether a line end behind each front of a line is no JSON.
+// Whether a line end after each front of a line is no JSON.
 fn no_front_is_json(alloc: Global, line: &[u8]) -> bool {
     for n in 0..line.len().saturating_sub(1) {
         if !faults(alloc, both(alloc, &line[..n], b"\n"), 2, 0, b"") {
@@ -140,7 +140,7 @@ fn is_held(alloc: Global, front: &[u8]) -> bool {
     on_client(alloc, ALLOWED, |client| fed(client, front) == wanted)
 }
 
-// Whether each front of a line is held without a fault, and the snapshot behind one that isn't empty is no JSON.
+// Whether each front of a line is held without a fault, and the snapshot after one that isn't empty is no JSON.
 fn no_front_goes_on(alloc: Global, line: &[u8], snapshot: &[u8]) -> bool {
     for k in 0..line.len() {
         let front = &line[..k];
@@ -160,14 +160,14 @@ fn no_front_goes_on_in_snapshot(alloc: Global, line: &[u8]) -> bool {
 }
 
 #[test]
-fn a_snapshot_goes_on_behind_no_front(rt: HostRuntime) {
+fn a_snapshot_goes_on_after_no_front(rt: HostRuntime) {
     match first_line(rt.alloc()) {
         Some(line) => assert!(rt; no_front_goes_on_in_snapshot(rt.alloc(), &line)),
         None => assert!(rt; false, "no line"),
     }
 }
 
-// Line 2 behind a front of a line.
+// Line 2 after a front of a line.
 fn with_second(alloc: Global, front: &[u8]) -> Option<Vec<u8>> {
     match empty_line(alloc, "2") {
         Some(second) => both(alloc, front, &second),
@@ -266,7 +266,7 @@ fn gaps_are_faults(rt: HostRuntime) {
     assert!(rt; faults(alloc, late, 4, 0, b""));
 }
 
-// Line 2, which makes the first line's task again, behind that.
+// Line 2, which makes the first line's task again, after that.
 fn with_task_again(alloc: Global, first: &[u8]) -> Option<Vec<u8>> {
     match opened_line(alloc, "2", "false", "200", text::main_task()) {
         Some(again) => both(alloc, first, &again),

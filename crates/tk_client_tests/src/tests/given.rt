@@ -36,7 +36,7 @@ pub(super) fn on_client<F: FnOnce(&mut Client) -> bool>(
     on_made(Client::new(alloc, max_line), false, check)
 }
 
-// One list of bytes behind another.
+// One list of bytes after another.
 pub(super) fn both(alloc: Global, first: &[u8], second: &[u8]) -> Option<Vec<u8>> {
     let mut all = Vec::new(alloc);
     all.extend_from_slice(first).ok()?;

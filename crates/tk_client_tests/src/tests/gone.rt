@@ -67,7 +67,7 @@ fn tasks_leave_by_name(rt: HostRuntime) {
     assert!(rt; leave_in_new_client(rt.alloc()));
 }
 
-// Whether these bytes come to this fault behind so many lines, whole and byte by byte, and the tables of the lines stand.
+// Whether these bytes come to this fault after so many lines, whole and byte by byte, and the tables of the lines stand.
 fn faults(client: &mut Client, bytes: &[u8], code: u32, lines: u64, names: &[&str]) -> bool {
     let whole = fed(client, bytes);
     let stands = has_tasks(client.tables(), names);
@@ -89,8 +89,8 @@ fn new_client_faults(alloc: Global, bytes: &[u8], code: u32, lines: u64, names: 
     )
 }
 
-// Whether the line comes to this fault behind the three tasks, which stand then.
-fn faults_behind(alloc: Global, line: &[u8], code: u32) -> bool {
+// Whether the line comes to this fault after the three tasks, which stand then.
+fn faults_after(alloc: Global, line: &[u8], code: u32) -> bool {
     match both(alloc, text::three_tasks(), line) {
         Some(bytes) => new_client_faults(alloc, &bytes, code, 1, ["a", "b", "c"].as_slice()),
         None => false,
@@ -100,10 +100,10 @@ fn faults_behind(alloc: Global, line: &[u8], code: u32) -> bool {
 #[test]
 fn what_is_gone_must_fit(rt: HostRuntime) {
     let alloc = rt.alloc();
-    assert!(rt; faults_behind(alloc, text::gone_unknown(), 5));
-    assert!(rt; faults_behind(alloc, text::gone_twice(), 6));
-    assert!(rt; faults_behind(alloc, text::gone_and_told(), 6));
-    assert!(rt; faults_behind(alloc, text::gone_and_new(), 6));
-    assert!(rt; faults_behind(alloc, text::gone_in_snapshot(), 5));
+    assert!(rt; faults_after(alloc, text::gone_unknown(), 5));
+    assert!(rt; faults_after(alloc, text::gone_twice(), 6));
+    assert!(rt; faults_after(alloc, text::gone_and_told(), 6));
+    assert!(rt; faults_after(alloc, text::gone_and_new(), 6));
+    assert!(rt; faults_after(alloc, text::gone_in_snapshot(), 5));
     assert!(rt; new_client_faults(alloc, text::gone_at_first(), 5, 0, [].as_slice()));
 }

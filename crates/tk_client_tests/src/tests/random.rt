@@ -106,7 +106,7 @@ fn add_gone(random: &mut Pcg32, part: &mut Part, held: &[New]) -> Result<(), All
     Ok(())
 }
 
-// Up to two new items and up to three rows of others, before the new ones' rows or behind them, and up to three that are gone,
+// Up to two new items and up to three rows of others, before the new ones' rows or after them, and up to three that are gone,
 // where the line says so.
 fn part_of(
     alloc: Global,
@@ -203,8 +203,8 @@ fn how_spoilt(random: &mut Pcg32) -> Spoilt {
     }
 }
 
-/// A line behind items that are held, which is the next one but for one in 32.
-pub(super) fn line_behind(
+/// A line after those that made the items that are held, which is the next one but for one in 32.
+pub(super) fn line_after(
     alloc: Global,
     random: &mut Pcg32,
     held: (&[New], &[New], &[New]),

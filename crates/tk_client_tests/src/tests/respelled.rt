@@ -113,20 +113,20 @@ impl Taken {
         other: &[u8],
     ) -> Result<bool, AllocError> {
         let end = end_of(line, at);
-        let (Some(before), Some(value), Some(behind)) = (
+        let (Some(before), Some(value), Some(after)) = (
             line.get(..at),
             line.get(at..end),
             line.get(end..),
         ) else {
             return Ok(false);
         };
-        if !self.take(alloc, [before, other, behind].as_slice())? {
+        if !self.take(alloc, [before, other, after].as_slice())? {
             return Ok(false);
         }
         match key_of(line, at) {
             Some(key) => Ok(
-                self.take(alloc, [before, other, b",", key, value, behind].as_slice())?
-                    && self.take(alloc, [before, value, b",", key, other, behind].as_slice())?,
+                self.take(alloc, [before, other, b",", key, value, after].as_slice())?
+                    && self.take(alloc, [before, value, b",", key, other, after].as_slice())?,
             ),
             None => Ok(true),
         }

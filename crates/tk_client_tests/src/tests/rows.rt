@@ -232,7 +232,7 @@ fn gap_fails(alloc: Global, client: &mut Client) -> bool {
     }
 }
 
-// The fault's number and the lines applied behind a line without items.
+// The fault's number and the lines applied after a line without items.
 fn fed_line(
     alloc: Global,
     client: &mut Client,

@@ -107,7 +107,7 @@ pub(super) fn with_another() -> &'static [u8] {
     b"{\"dropped\":[0,0,0],\"gone_ops\":[],\"gone_resources\":[],\"gone_tasks\":[1099511627779],\"new_ops\":[],\"new_resources\":[],\"new_tasks\":[{\"id\":1099511627777,\"kind\":\"spawn\",\"loc\":[\"script\",1,1],\"name\":\"d\"}],\"now\":6,\"op_stats\":[],\"poll_counts\":[],\"resource_stats\":[],\"seq\":3,\"snapshot\":false,\"task_stats\":[{\"busy\":0,\"clones\":1,\"created\":1,\"dropped\":null,\"drops\":1,\"first_poll\":2,\"handles\":2,\"id\":1099511627777,\"last_ended\":3,\"last_started\":2,\"last_wake\":null,\"polling\":false,\"polls\":1,\"sched\":1,\"scheduled\":false,\"self_wakes\":0,\"wakes\":0}],\"v\":2}\n"
 }
 
-// Behind the three: a task that was never there is gone.
+// After the three: a task that was never there is gone.
 pub(super) fn gone_unknown() -> &'static [u8] {
     b"{\"dropped\":[0,0,0],\"gone_ops\":[],\"gone_resources\":[],\"gone_tasks\":[1099511627777,1099511627780],\"new_ops\":[],\"new_resources\":[],\"new_tasks\":[],\"now\":6,\"op_stats\":[],\"poll_counts\":[],\"resource_stats\":[],\"seq\":2,\"snapshot\":false,\"task_stats\":[],\"v\":2}\n"
 }

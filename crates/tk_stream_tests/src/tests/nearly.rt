@@ -152,7 +152,7 @@ fn nearly_written_texts_are_answered_as_serde_json_and_the_shape_answer(rt: Host
 const BEFORE: &[u8] =
     b"{\"dropped\":[0,0,0],\"new_ops\":[],\"new_resources\":[],\"new_tasks\":[{\"id\":1099511627777,\"kind\":\"spawn\",\"loc\":[\"script\",1,1],\"name\":\"x";
 
-const BEHIND: &[u8] =
+const AFTER: &[u8] =
     b"y\"}],\"now\":5,\"op_stats\":[],\"poll_counts\":[],\"resource_stats\":[],\"seq\":1,\"snapshot\":false,\"task_stats\":[],\"v\":1}";
 
 fn text_with(alloc: Global, byte: u8) -> Result<Vec<u8>, AllocError> {
@@ -162,7 +162,7 @@ fn text_with(alloc: Global, byte: u8) -> Result<Vec<u8>, AllocError> {
         text.push(b'\\')?;
     }
     text.push(byte)?;
-    text.extend_from_slice(BEHIND)?;
+    text.extend_from_slice(AFTER)?;
     Ok(text)
 }
 

@@ -37,7 +37,7 @@ pub(super) fn burst() -> &'static [u8] {
 
 // `examples/two-threads.script`, with a snapshot after it.
 pub(super) fn two_threads() -> &'static [u8] {
-    b"# A task that two threads wake at once: `consumer` waits for what `fetch` and `decode` put into its queue.\ntask 0 spawn consumer\nstart 1 100\n# Each of the two keeps a waker of it, and a timeout keeps a third.\nclone 1\nclone 1\nagain 1\nend 1 200\npublish 1000\n# A block: the lines that begin with 1 are one thread, those that begin with 2 another. Which comes first is left open, so the\n# moments of the wakes are the same: `consumer` waits for its poll from 2000 on, whoever wakes it.\npar\n1 wakeref 1 2000\n2 wakeref 2 2000\n2 wake 2 2000\n# The timeout is not needed any more.\n1 release 3\njoin\n# Behind the block waker 1 is there, and 2 and 3 are spent.\nstart 1 2500\nwakeref 1 2600\nend 1 2700\npublish 3000\nsnapshot 9000000000000\n"
+    b"# A task that two threads wake at once: `consumer` waits for what `fetch` and `decode` put into its queue.\ntask 0 spawn consumer\nstart 1 100\n# Each of the two keeps a waker of it, and a timeout keeps a third.\nclone 1\nclone 1\nagain 1\nend 1 200\npublish 1000\n# A block: the lines that begin with 1 are one thread, those that begin with 2 another. Which comes first is left open, so the\n# moments of the wakes are the same: `consumer` waits for its poll from 2000 on, whoever wakes it.\npar\n1 wakeref 1 2000\n2 wakeref 2 2000\n2 wake 2 2000\n# The timeout is not needed any more.\n1 release 3\njoin\n# After the block waker 1 is there, and 2 and 3 are spent.\nstart 1 2500\nwakeref 1 2600\nend 1 2700\npublish 3000\nsnapshot 9000000000000\n"
 }
 
 // `examples/queue-lag.script`, with a snapshot after it.
@@ -47,7 +47,7 @@ pub(super) fn queue_lag() -> &'static [u8] {
 
 // `examples/retention.script`, with a snapshot after it.
 pub(super) fn retention() -> &'static [u8] {
-    b"# Closed items leave: `retention 1000` lets each stay for 1000 nanoseconds behind its close.\nretention 1000\ntask 0 spawn accept\ntask 100 spawn connection\nstart 2 150\nend 2 180\nclose 2 200\n# The lines are of version 2: they say what is gone. Nothing is yet, and `connection` is told of as closed at 200.\npublish 500\npublish 1199\n# 1000 behind its close it leaves: its id stands in `gone_tasks`, and a client removes it.\npublish 1200\n# A snapshot removes nothing, and tells of what is left.\nsnapshot 1300\nsnapshot 9000000000000\n"
+    b"# Closed items leave: `retention 1000` lets each stay for 1000 nanoseconds after its close.\nretention 1000\ntask 0 spawn accept\ntask 100 spawn connection\nstart 2 150\nend 2 180\nclose 2 200\n# The lines are of version 2: they say what is gone. Nothing is yet, and `connection` is told of as closed at 200.\npublish 500\npublish 1199\n# 1000 after its close it leaves: its id stands in `gone_tasks`, and a client removes it.\npublish 1200\n# A snapshot removes nothing, and tells of what is left.\nsnapshot 1300\nsnapshot 9000000000000\n"
 }
 
 // A script that uses each command.

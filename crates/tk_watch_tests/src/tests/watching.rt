@@ -53,7 +53,7 @@ fn is_joined(text: &[u8], parts: &[&str]) -> bool {
     let mut rest = text;
     for part in parts {
         match rest.strip_prefix(part.as_bytes()) {
-            Some(behind) => rest = behind,
+            Some(after) => rest = after,
             None => return false,
         }
     }

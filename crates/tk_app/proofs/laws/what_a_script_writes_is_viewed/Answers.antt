@@ -4,7 +4,8 @@ use Rattle.tk_client.specs.Meaning.{greatest_line}
 use Rattle.tk_live.specs.Ran.{written_by}
 use Rattle.tk_report.specs.Uninterrupted.{ShowsTables}
 use Rattle.tk_report.specs.Views.{Views}
-use Rattle.tk_app.proofs.Shown.{cut_goes, shown, uninterrupted, line_front}
+use Rattle.tk_report.proofs.OutcomeLemmas.{uninterrupted}
+use Rattle.tk_app.proofs.Shown.{cut_goes, shown, line_front}
 use Rattle.tk_app.proofs.Wrote.{ran_lines, wrote, stop_few}
 use Rattle.tk_app.proofs.laws.what_a_script_writes_is_viewed.Goals as goal
 

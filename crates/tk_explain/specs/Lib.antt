@@ -1,0 +1,2 @@
+-- What is kept of the bytes that a reader gives
+pub mod Keeping
