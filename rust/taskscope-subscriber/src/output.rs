@@ -230,7 +230,7 @@ struct Socket {
 
 impl Socket {
     fn bind(path: &Path) -> io::Result<Socket> {
-        // A program that was killed left its socket behind, and nobody answers there.
+        // A program that was killed left its socket, and nobody answers there.
         let is_socket = file_type(path).map_or(false, |file_type| file_type.is_socket());
         if is_socket
             && UnixStream::connect(path).map_err(|error| error.kind()).err() == Some(ErrorKind::ConnectionRefused)

@@ -63,7 +63,7 @@ mod tests {
         ("a character of two bytes",       "caf\u{e9}",     "caf?"),
         ("a character of four bytes",      "\u{1f980}",     "?"),
         ("a line end and a tabulator",     "a\nb\tc",       "a?b?c"),
-        ("the byte behind the last one",   "a\u{7f}",       "a?"),
+        ("the byte after the last one",    "a\u{7f}",       "a?"),
     ];
 
     #[test]

@@ -193,7 +193,7 @@ fn random_lines_are_taken_as_computed_plainly(rt: HostRuntime) {
     let mut codes = Vec::new(rt.alloc());
     match new_client_runs(rt.alloc(), &mut codes, 20_000) {
         Some((applied, alike)) => {
-            assert!(rt; alike, "the line behind {applied} that were applied");
+            assert!(rt; alike, "the line after {applied} that were applied");
             assert!(rt;
                 applied > 10_000 && applied < 20_000,
                 "{applied} were applied"

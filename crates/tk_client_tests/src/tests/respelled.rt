@@ -163,7 +163,7 @@ fn other_values_and_keys_twice_are_taken_as_computed_plainly(
     };
     for line in [text::items_line(), text::gone_line()] {
         let alike = taken.take_others(alloc, line.as_bytes())?;
-        assert!(rt; alike, "the line behind {} that were", taken.count);
+        assert!(rt; alike, "the line after {} that were", taken.count);
     }
     assert!(rt; taken.count > 800, "{} lines", taken.count);
     for code in [0, 2, 3] {
