@@ -3,7 +3,7 @@ ghost use Rattle.std.specs.Prelude.{◌≡◌, ◌∷◌, ◌++◌, [], None, is
 ghost use Rattle.tk_core.specs.OpWords as op_words;
 ghost use Rattle.tk_core.specs.ResourceWords as resource_words;
 ghost use Rattle.tk_core.specs.TaskWords as task_words;
-ghost use Rattle.tk_stream.specs.Tables.{item_with, counts_id, empty_tables, task_with, resource_with, op_with};
+ghost use Rattle.tk_stream.specs.Tables.{item_with, counts_id, empty_tables, task_with, resource_with, op_with, with_op};
 ghost use Rattle.tk_embed.specs.Entries as spec;
 ghost use Rattle.tk_embed.specs.Faults as faults;
 
@@ -12,7 +12,7 @@ use crate::fault::{Bad, Fault, Reason};
 use crate::infos::{op_info, resource_id, resource_info, task_info};
 use std::alloc::Global;
 use tk_core::{OpRow, ResourceRow, TaskRow};
-use tk_ids::{Dropped, ResourceId};
+use tk_ids::{Dropped, OpInfo, ResourceId};
 use tk_stream::Tables;
 
 fn task_row(entry: &TaskEntry, now: bool) -> Result<TaskRow, Bad>
@@ -84,6 +84,30 @@ fn add_resource(
     Ok(())
 }
 
+fn op_row(entry: &OpEntry, now: bool) -> Result<OpRow, Bad>
+    ensures ok { IfOk result (λ row. op_words.words_of row ≡ faults.words_at now entry.now.row entry.now.told) }
+    ensures err { IfErr result (λ bad. (bad ≡ Bad.Entry Reason.Row)
+        × faults.HasNoRow op_words.words_of (faults.words_at now entry.now.row entry.now.told)) }
+{
+    let words = if now { &entry.row } else { &entry.told };
+    match OpRow::from_words(words) {
+        Some(row) => Ok(row),
+        None => Err(Bad::Entry(Reason::Row)),
+    }
+}
+
+// Puts an async operation last, which is not there.
+fn push_op(tables: &mut Tables, info: OpInfo, row: OpRow) -> Result<(), Bad>
+    requires { op_with info.id tables.old.ops ≡ None }
+    ensures ok { OnOk result (tables.new ≡ with_op tables.old info row) }
+    ensures err { IfErr result (λ bad. bad ≡ Bad.Memory) }
+{
+    match tables.add_op(info, row) {
+        Ok(()) => Ok(()),
+        Err(_) => Err(Bad::Memory),
+    }
+}
+
 fn add_op(
     alloc: Global,
     tables: &mut Tables,
@@ -100,13 +124,9 @@ fn add_op(
     if tables.op(info.id).is_some() {
         return Err(Bad::Entry(Reason::Twice));
     }
-    let words = if now { &entry.row } else { &entry.told };
-    let Some(row) = OpRow::from_words(words) else {
-        return Err(Bad::Entry(Reason::Row));
-    };
-    match tables.add_op(info, row) {
-        Ok(()) => Ok(()),
-        Err(_) => Err(Bad::Memory),
+    match op_row(entry, now) {
+        Ok(row) => push_op(tables, info, row),
+        Err(bad) => Err(bad),
     }
 }
 
