@@ -188,36 +188,91 @@ capacity_fits words = fits_then (one_number words) (λ n. fits_if (nat_le 1 n &&
 forms_fit : (words : List (List ℕ)) → AllFit forms words
 forms_fit words = (
   fits_more (232 * (1 + sum_by long words)) (omega arith) (resource_fits words),
-  fits_more (232 * (1 + sum_by long words)) (omega arith) (op_fits words),
-  task_fits words,
-  two_free words start (λ m n. refl),
-  two_free words finish (λ m n. refl),
-  polls_fit words,
-  two_free words close (λ m n. refl),
-  two_free words self_wake (λ m n. refl),
-  one_free words clone (λ n. refl),
-  one_free words again (λ n. refl),
-  two_free words wake_ref (λ m n. refl),
-  two_free words wake (λ m n. refl),
-  one_free words release (λ n. refl),
-  change_free words (λ n i v. change_resource n i (Add v)) (λ m n v. refl),
-  change_free words (λ n i v. change_resource n i (Sub v)) (λ m n v. refl),
-  change_free words (λ n i v. change_resource n i (Override v)) (λ m n v. refl),
-  two_free words close_resource (λ m n. refl),
-  two_free words op_task (λ m n. refl),
-  two_free words start_op (λ m n. refl),
-  two_free words finish_op (λ m n. refl),
-  two_free words close_op (λ m n. refl),
-  change_free words (λ n i v. change_op n i (Add v)) (λ m n v. refl),
-  change_free words (λ n i v. change_op n i (Sub v)) (λ m n v. refl),
-  change_free words (λ n i v. change_op n i (Override v)) (λ m n v. refl),
-  fits_more (232 * (1 + sum_by long words)) (omega arith) (poll_op_fits words),
-  one_free words (λ at. publish at false) (λ n. refl),
-  one_free words (λ at. publish at true) (λ n. refl),
-  capacity_fits words,
-  one_free words retention (λ n. refl),
-  alone_fits times words (omega arith),
-  tt,
+  (
+    fits_more (232 * (1 + sum_by long words)) (omega arith) (op_fits words),
+    (
+      task_fits words,
+      (
+        two_free words start (λ m n. refl),
+        (
+          two_free words finish (λ m n. refl),
+          (
+            polls_fit words,
+            (
+              two_free words close (λ m n. refl),
+              (
+                two_free words self_wake (λ m n. refl),
+                (
+                  one_free words clone (λ n. refl),
+                  (
+                    one_free words again (λ n. refl),
+                    (
+                      two_free words wake_ref (λ m n. refl),
+                      (
+                        two_free words wake (λ m n. refl),
+                        (
+                          one_free words release (λ n. refl),
+                          (
+                            change_free words (λ n i v. change_resource n i (Add v)) (λ m n v. refl),
+                            (
+                              change_free words (λ n i v. change_resource n i (Sub v)) (λ m n v. refl),
+                              (
+                                change_free words (λ n i v. change_resource n i (Override v)) (λ m n v. refl),
+                                (
+                                  two_free words close_resource (λ m n. refl),
+                                  (
+                                    two_free words op_task (λ m n. refl),
+                                    (
+                                      two_free words start_op (λ m n. refl),
+                                      (
+                                        two_free words finish_op (λ m n. refl),
+                                        (
+                                          two_free words close_op (λ m n. refl),
+                                          (
+                                            change_free words (λ n i v. change_op n i (Add v)) (λ m n v. refl),
+                                            (
+                                              change_free words (λ n i v. change_op n i (Sub v)) (λ m n v. refl),
+                                              (
+                                                change_free words (λ n i v. change_op n i (Override v)) (λ m n v. refl),
+                                                (
+                                                  fits_more (232 * (1 + sum_by long words)) (omega arith) (poll_op_fits words),
+                                                  (
+                                                    one_free words (λ at. publish at false) (λ n. refl),
+                                                    (
+                                                      one_free words (λ at. publish at true) (λ n. refl),
+                                                      (
+                                                        capacity_fits words,
+                                                        (
+                                                          one_free words retention (λ n. refl),
+                                                          (alone_fits times words (omega arith), tt),
+                                                        ),
+                                                      ),
+                                                    ),
+                                                  ),
+                                                ),
+                                              ),
+                                            ),
+                                          ),
+                                        ),
+                                      ),
+                                    ),
+                                  ),
+                                ),
+                              ),
+                            ),
+                          ),
+                        ),
+                      ),
+                    ),
+                  ),
+                ),
+              ),
+            ),
+          ),
+        ),
+      ),
+    ),
+  ),
 )
 
 said_fits : (words : List (List ℕ)) → Fits said_size (232 * sum_by long words) (said_by words)

@@ -1,5 +1,5 @@
 -- What a view needs of the run of a script.
-use Rattle.std.specs.Prelude.{◌≡◌, codes, Result, Ok, Err}
+use Rattle.std.specs.Prelude.{◌≡◌, codes, Result, Err}
 use Rattle.tk_fault.specs.declared.fault.AppFault.{AppFault}
 use Rattle.tk_fault.specs.declared.fault.AppFault.TheVariants as faults
 
