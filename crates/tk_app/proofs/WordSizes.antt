@@ -14,7 +14,7 @@ use Rattle.tk_ids.specs.declared.spec.TaskKind.{TaskKind}
 use Rattle.tk_ids.specs.declared.spec.TaskKind.TheVariants.{Spawn, Blocking}
 use Rattle.tk_events.specs.Items.{info_of, infos_of}
 use Rattle.tk_script.specs.Attributes.{attr_spec, named_value, value_of, attr, and_word, attrs_by}
-use Rattle.tk_script.specs.Commands.{Said, Line, skipped, bad, says, opens, joins, works, task, resource, op, poll_op, start, finish, close, self_wake, clone, again, wake_ref, wake, release, close_resource, change_resource, op_task, start_op, finish_op, close_op, change_op, capacity, retention, times, publish, Form, forms, task_by, polls_by, resource_by, change_by, op_by, poll_op_by, alone, capacity_by, said_in, said_by, said, is_skipped, worker_of, worker_line_by, block_said_by, block_said, line_of, lines_of}
+use Rattle.tk_script.specs.Commands.{Said, Line, skipped, bad, says, opens, joins, works, task, resource, op, poll_op, start, finish, close, self_wake, clone, again, wake_ref, wake, release, close_resource, change_resource, op_task, start_op, finish_op, close_op, change_op, capacity, retention, times, publish, Form, forms, task_forms, waker_forms, resource_call_forms, op_call_forms, line_forms, task_by, polls_by, resource_by, change_by, op_by, poll_op_by, alone, capacity_by, said_in, said_by, said, is_skipped, worker_of, worker_line_by, block_said_by, block_said, line_of, lines_of}
 use Rattle.tk_script.specs.Pieces.{pieces_at}
 use Rattle.tk_script.specs.Words.{moment, kind, readiness, one_number, two_numbers, five_numbers}
 use Rattle.tk_script.specs.declared.block.Worker.{Worker}
@@ -185,95 +185,32 @@ polls_fit words = fits_then (five_numbers words) (λ p. fits_if _ (fits_some (om
 capacity_fits : {most : ℕ} (words : List (List ℕ)) → Fits said_size most (capacity_by words)
 capacity_fits words = fits_then (one_number words) (λ n. fits_if (nat_le 1 n && nat_le n 65536) (fits_some {x = capacity n} (omega arith)) fits_none)
 
+both_fit : (xs ys : List Form) (words : List (List ℕ)) → AllFit xs words → AllFit ys words → AllFit (xs ++ ys) words
+both_fit [] ys words f g = g
+both_fit (x ∷ xs) ys words (here, f) g = (here, both_fit xs ys words f g)
+
+task_forms_fit : (words : List (List ℕ)) → AllFit task_forms words
+task_forms_fit words = (task_fits words, (two_free words start (λ m n. refl), (two_free words finish (λ m n. refl), (polls_fit words, (two_free words close (λ m n. refl), (two_free words self_wake (λ m n. refl), (one_free words clone (λ n. refl), tt)))))))
+
+waker_forms_fit : (words : List (List ℕ)) → AllFit waker_forms words
+waker_forms_fit words = (one_free words again (λ n. refl), (two_free words wake_ref (λ m n. refl), (two_free words wake (λ m n. refl), (one_free words release (λ n. refl), tt))))
+
+resource_call_forms_fit : (words : List (List ℕ)) → AllFit resource_call_forms words
+resource_call_forms_fit words = (change_free words (λ n i v. change_resource n i (Add v)) (λ m n v. refl), (change_free words (λ n i v. change_resource n i (Sub v)) (λ m n v. refl), (change_free words (λ n i v. change_resource n i (Override v)) (λ m n v. refl), (two_free words close_resource (λ m n. refl), tt))))
+
+op_call_forms_fit : (words : List (List ℕ)) → AllFit op_call_forms words
+op_call_forms_fit words = (two_free words op_task (λ m n. refl), (two_free words start_op (λ m n. refl), (two_free words finish_op (λ m n. refl), (two_free words close_op (λ m n. refl), (change_free words (λ n i v. change_op n i (Add v)) (λ m n v. refl), (change_free words (λ n i v. change_op n i (Sub v)) (λ m n v. refl), (change_free words (λ n i v. change_op n i (Override v)) (λ m n v. refl), (fits_more (232 * (1 + sum_by long words)) (omega arith) (poll_op_fits words), tt))))))))
+
+line_forms_fit : (words : List (List ℕ)) → AllFit line_forms words
+line_forms_fit words = (one_free words (λ at. publish at false) (λ n. refl), (one_free words (λ at. publish at true) (λ n. refl), (capacity_fits words, (one_free words retention (λ n. refl), (alone_fits times words (omega arith), tt)))))
+
 forms_fit : (words : List (List ℕ)) → AllFit forms words
-forms_fit words = (
-  fits_more (232 * (1 + sum_by long words)) (omega arith) (resource_fits words),
-  (
-    fits_more (232 * (1 + sum_by long words)) (omega arith) (op_fits words),
-    (
-      task_fits words,
-      (
-        two_free words start (λ m n. refl),
-        (
-          two_free words finish (λ m n. refl),
-          (
-            polls_fit words,
-            (
-              two_free words close (λ m n. refl),
-              (
-                two_free words self_wake (λ m n. refl),
-                (
-                  one_free words clone (λ n. refl),
-                  (
-                    one_free words again (λ n. refl),
-                    (
-                      two_free words wake_ref (λ m n. refl),
-                      (
-                        two_free words wake (λ m n. refl),
-                        (
-                          one_free words release (λ n. refl),
-                          (
-                            change_free words (λ n i v. change_resource n i (Add v)) (λ m n v. refl),
-                            (
-                              change_free words (λ n i v. change_resource n i (Sub v)) (λ m n v. refl),
-                              (
-                                change_free words (λ n i v. change_resource n i (Override v)) (λ m n v. refl),
-                                (
-                                  two_free words close_resource (λ m n. refl),
-                                  (
-                                    two_free words op_task (λ m n. refl),
-                                    (
-                                      two_free words start_op (λ m n. refl),
-                                      (
-                                        two_free words finish_op (λ m n. refl),
-                                        (
-                                          two_free words close_op (λ m n. refl),
-                                          (
-                                            change_free words (λ n i v. change_op n i (Add v)) (λ m n v. refl),
-                                            (
-                                              change_free words (λ n i v. change_op n i (Sub v)) (λ m n v. refl),
-                                              (
-                                                change_free words (λ n i v. change_op n i (Override v)) (λ m n v. refl),
-                                                (
-                                                  fits_more (232 * (1 + sum_by long words)) (omega arith) (poll_op_fits words),
-                                                  (
-                                                    one_free words (λ at. publish at false) (λ n. refl),
-                                                    (
-                                                      one_free words (λ at. publish at true) (λ n. refl),
-                                                      (
-                                                        capacity_fits words,
-                                                        (
-                                                          one_free words retention (λ n. refl),
-                                                          (alone_fits times words (omega arith), tt),
-                                                        ),
-                                                      ),
-                                                    ),
-                                                  ),
-                                                ),
-                                              ),
-                                            ),
-                                          ),
-                                        ),
-                                      ),
-                                    ),
-                                  ),
-                                ),
-                              ),
-                            ),
-                          ),
-                        ),
-                      ),
-                    ),
-                  ),
-                ),
-              ),
-            ),
-          ),
-        ),
-      ),
-    ),
-  ),
-)
+forms_fit words =
+    let lines = both_fit op_call_forms line_forms words (op_call_forms_fit words) (line_forms_fit words) in
+    let calls = both_fit resource_call_forms (op_call_forms ++ line_forms) words (resource_call_forms_fit words) lines in
+    let wakers = both_fit waker_forms (resource_call_forms ++ (op_call_forms ++ line_forms)) words (waker_forms_fit words) calls in
+    let least = 232 * (1 + sum_by long words) in
+    (fits_more least (omega arith) (resource_fits words), (fits_more least (omega arith) (op_fits words), both_fit task_forms (waker_forms ++ (resource_call_forms ++ (op_call_forms ++ line_forms))) words (task_forms_fit words) wakers))
 
 said_fits : (words : List (List ℕ)) → Fits said_size (232 * sum_by long words) (said_by words)
 said_fits [] = fits_none
