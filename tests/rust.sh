@@ -268,9 +268,35 @@ faults_are_warned_of() {
     printf '%s\n' 'lost-waker of lost' 'never-yielded of busy' 'self-wakes of eager' | diff - "$work/warned"
 }
 
+# Of each task the report has as many polls as the program counted, and its times are at least those that it measured within them: at most a
+# millisecond more, but where the system took the processor away between the two readings of the clock.
+times_agree() {
+    TASKSCOPE_ITEMS=tasks TASKSCOPE_STREAM=$work/starving.stream "$unstable/debug/examples/starving" > "$work/measured" || return 1
+    "$root/taskscope" view --times < "$work/starving.stream" > "$work/report" || return 1
+    awk '
+        NR == FNR { polls[$2] = $4; longest[$2] = $6; p[$2, 50] = $8; p[$2, 90] = $10; p[$2, 99] = $12; next }
+        $1 == "task" { name = $NF; next }
+        $1 == "polls" && name in polls {
+            seen++
+            if ($2 != polls[name] || $4 < longest[name]) { print name ": " $0; bad = 1 }
+            for (i = 5; i < NF; i += 3) {
+                time = p[name, substr($i, 2)]
+                if ($(i + 2) + 0 < time + 0) { print name " " $i ": " time " of " $0; bad = 1 }
+                if ($(i + 1) + 0 > time + 1000000) { print name " " $i ": " time " of " $0; late++ }
+            }
+        }
+        END { print seen " tasks, " late + 0 " late"; exit bad || seen != 9 || late > 3 }
+    ' "$work/measured" "$work/report" || return 1
+    "$root/taskscope" lint --long-poll 20 < "$work/starving.stream" > "$work/warnings"
+    [ $? -eq 3 ] || return 1
+    id=$(sed -n 's/^task \([0-9.]*\) .* name json-index$/\1/p' "$work/report")
+    grep "^warn $id long-poll " "$work/warnings"
+}
+
 if step 'the tests of the subscriber pass' try_subscriber; then
     step 'the echo server has the polls that its metrics have' echo_agrees
     step 'the warnings of the three faults are due' faults_are_warned_of
+    step 'the times of a task that starves others are told' times_agree
 fi
 step 'the documentation of the subscriber has no warning' document_subscriber
 if cargo fmt --version > "$work/said" 2>&1; then

@@ -10,6 +10,7 @@ pub mod WordsReadBack
 pub mod TaskReadBack
 pub mod TaskLaws
 pub mod Interleaved
+pub mod TaskWaits
 pub mod AttributeSteps
 pub mod Refusals
 pub mod Signed

@@ -1,6 +1,7 @@
 -- What a history of a task means: its row, which is tokio-console's task statistics, and the answer to a further call.
 use Rattle.std.specs.Prelude.{◌≡◌, ℕ, ◌+◌, ◌-◌, ◌^◌, max, Bool, true, false, not, ◌&&◌, ◌||◌, ◌==◌, if◌then◌else◌, List, Option, Some, None, unwrap_or, is_some}
-use Rattle.tk_core.specs.Lists.{any_of, any_since, count_of, first_of, last_of, greatest_of, sum_of}
+use Rattle.std.specs.Option.{option_map, option_map_or}
+use Rattle.tk_core.specs.Lists.{capped, any_of, any_since, count_of, first_of, last_of, greatest_of, sum_of}
 use Rattle.tk_core.specs.Polls.{is_start, is_polling, run_time}
 use Rattle.tk_core.specs.Fold.{Kind}
 use Rattle.tk_core.specs.declared.reply.Refusal.{Refusal}
@@ -35,6 +36,14 @@ abbrev pub wake_at : TaskCall → Option ℕ
 wake_at (WakeVal m from_self) = Some m
 wake_at (WakeRef m from_self) = Some m
 wake_at _ = None
+
+-- up to when a task that waits has waited, as a call on it says: the moment of a start of a poll, of a wake, or of a close
+abbrev pub waits_to : TaskCall → Option ℕ
+waits_to (PollStart m) = Some m
+waits_to (WakeVal m from_self) = Some m
+waits_to (WakeRef m from_self) = Some m
+waits_to (Close m) = Some m
+waits_to _ = None
 
 -- a wake counts wherever it found the task
 abbrev pub is_wake : TaskCall → Bool
@@ -78,7 +87,15 @@ abbrev pub wait_time : ℕ → List TaskCall → TaskCall → ℕ
 wait_time created before (PollStart m) = if is_scheduled before then m - ready_since created before else 0
 wait_time created before _ = 0
 
--- the row that accepted calls leave
+-- waiting for a poll: scheduled, and not polled
+abbrev pub is_waiting : List TaskCall → Bool
+is_waiting calls = is_scheduled calls && not (is_polling start_at end_at calls)
+
+-- how much longer a task that waits had waited when it was woken again, a poll started, or it was closed, at least 0: each stretch from the greatest moment before to the call's
+abbrev pub stretch_time : ℕ → List TaskCall → TaskCall → ℕ
+stretch_time created before call = option_map_or (λ m. if is_waiting before then m - ready_since created before else 0) (waits_to call) 0
+
+-- the row that accepted calls leave; its waits are counted where the opening row counts them
 unfoldable pub row_of : TaskRow → List TaskCall → TaskRow
 row_of opening calls = record {
   created = opening.created;
@@ -95,13 +112,30 @@ row_of opening calls = record {
   drops = count_of is_drop calls;
   handles = count_of draws_handle calls;
   sched = sum_of (wait_time opening.created) calls;
+  waited = option_map (λ none. sum_of (stretch_time opening.created) calls) opening.waited;
   polling = is_polling start_at end_at calls;
   scheduled = is_scheduled calls;
 }
 
--- the row before any call
+-- since when the task of a row may have waited: the greatest of its creation, its wakes, and the last end of a poll
+abbrev pub waits_since : TaskRow → ℕ
+waits_since row = max row.created (max (unwrap_or row.last_wake 0) (unwrap_or row.last_ended 0))
+
+-- how much longer it has waited at a moment, where it waits
+abbrev pub lasting : TaskRow → ℕ → ℕ
+lasting row now = if row.polling then 0 else if row.scheduled then now - waits_since row else 0
+
+-- how long it has waited in all, where that is counted, with what lasts up to a moment
+abbrev pub waited_until : TaskRow → ℕ → Option ℕ
+waited_until row now = option_map (λ waited. capped (waited + lasting row now)) row.waited
+
+-- the row before any call, of a task whose waits are not counted
 abbrev pub opening_row : ℕ → TaskRow
-opening_row created = record { created = created; dropped = None; polls = 0; first_poll = None; last_started = None; last_ended = None; busy = 0; wakes = 0; self_wakes = 0; last_wake = None; clones = 0; drops = 0; handles = 0; sched = 0; polling = false; scheduled = true }
+opening_row created = record { created = created; dropped = None; polls = 0; first_poll = None; last_started = None; last_ended = None; busy = 0; wakes = 0; self_wakes = 0; last_wake = None; clones = 0; drops = 0; handles = 0; sched = 0; waited = None; polling = false; scheduled = true }
+
+-- and of one whose waits are counted
+abbrev pub counting_row : ℕ → TaskRow
+counting_row created = record (opening_row created) { waited = Some 0 }
 
 -- ---- the answer
 
@@ -154,9 +188,9 @@ task_kind = record { row_of = row_of; refusal_of = refusal_of; reply_of = reply_
 
 -- ---- callers
 
--- an opening row is that of its creation
+-- an opening row is that of its creation, with 0 where waits are counted
 abbrev pub IsOpening : TaskRow → Type 0
-IsOpening row = row ≡ opening_row row.created
+IsOpening row = row ≡ record (opening_row row.created) { waited = option_map (λ waited. 0) row.waited }
 
 -- the owner makes every call but those that use a waker up
 abbrev pub owner_may : TaskCall → Bool

@@ -8,9 +8,11 @@ use Rattle.tk_ids.specs.Ids.{is_id}
 use Rattle.tk_core.specs.OpWords as op_words
 use Rattle.tk_core.specs.ResourceWords as resource_words
 use Rattle.tk_core.specs.TaskWords as task_words
+use Rattle.tk_core.specs.TimesWords as times_words
 use Rattle.tk_stream.specs.declared.tables.op.Op.{Op}
 use Rattle.tk_stream.specs.declared.tables.resource.Resource.{Resource}
 use Rattle.tk_stream.specs.declared.tables.task.Task.{Task}
+use Rattle.tk_stream.specs.Times.{TaskTimes, times_id}
 use Rattle.tk_stream.specs.Tables.{PollCounts, item_with, task_id, resource_id, op_id, counts_id}
 use Rattle.tk_embed.specs.declared.entries.AttrEntry.{AttrEntry}
 use Rattle.tk_embed.specs.declared.entries.CountEntry.{CountEntry}
@@ -19,14 +21,15 @@ use Rattle.tk_embed.specs.declared.entries.OpEntry.{OpEntry}
 use Rattle.tk_embed.specs.declared.entries.Piece.{Piece as Place}
 use Rattle.tk_embed.specs.declared.entries.ResourceEntry.{ResourceEntry}
 use Rattle.tk_embed.specs.declared.entries.TaskEntry.{TaskEntry}
+use Rattle.tk_embed.specs.declared.entries.TimesEntry.{TimesEntry}
 use Rattle.tk_embed.specs.declared.fault.Bad.{Bad}
 use Rattle.tk_embed.specs.declared.fault.Bad.TheVariants as bads
 use Rattle.tk_embed.specs.declared.fault.Fault.{Fault}
 use Rattle.tk_embed.specs.declared.fault.Fault.TheVariants as faults
 use Rattle.tk_embed.specs.declared.fault.Reason.{Reason}
 use Rattle.tk_embed.specs.declared.fault.Reason.TheVariants.{Id, Name, Piece, Attributes, Row, Twice}
-use Rattle.tk_embed.specs.Entries.{Given, told_of, task_shown, resource_shown, op_shown, task_entry_shown, resource_entry_shown, op_entry_shown, count_entry_shown}
-use Rattle.tk_embed.specs.Faults.{OfBad, IsNoId, HasBadPiece, HasBadAttrs, HasBadInfo, NoBadAttrs, HasNoRow, stands_before, words_at, IsBadEntry, HasBadTaskInfo, HasBadResourceInfo, HasBadOpInfo, IsBadTask, IsBadResource, IsBadOp, IsBadCounts, IsBadCount, IsBadAt, IsFaultOf, IsFault, tells_too_many, fault_at, reaches_out, is_no_name, is_parent, attr_pieces, attrs_pieces}
+use Rattle.tk_embed.specs.Entries.{Given, told_of, task_shown, resource_shown, op_shown, task_entry_shown, resource_entry_shown, op_entry_shown, count_entry_shown, times_entry_shown}
+use Rattle.tk_embed.specs.Faults.{OfBad, IsNoId, HasBadPiece, HasBadAttrs, HasBadInfo, NoBadAttrs, HasNoRow, stands_before, words_at, IsBadEntry, HasBadTaskInfo, HasBadResourceInfo, HasBadOpInfo, IsBadTask, IsBadResource, IsBadOp, IsBadCounts, IsBadCount, IsBadAt, IsFaultOf, IsFault, HasBadTask, IsBadTimes, IsTimesFaultOf, IsTimesFault, IsTimedFault, told_count, tells_too_many, fault_at, reaches_out, is_no_name, is_parent, attr_pieces, attrs_pieces}
 
 -- ---- tests of lists
 
@@ -133,6 +136,14 @@ count_at now entries i d counts b within same h =
     let e : CountEntry = get_or entries i d in
     of_bad _ _ (λ r g. (e, slice_get-get_or entries i d within, counted e.resource _ _ (twice (λ (c : PollCounts). c) (count_entry_shown now) (λ c. c.0) e.resource counts (take i entries) (map-same counts ∙ same) ∙ counts_before now (take i entries) e.resource) r g)) b h
 
+pub times_at : (now : Bool) (entries : List TimesEntry) (i : ℕ) (d : TimesEntry) (table : List TaskTimes) (b : Bad)
+    → i < length entries → table ≡ map (times_entry_shown now) (take i entries)
+    → OfBad (IsBadEntry times_words.words_of (words_at now (get_or entries i d).row (get_or entries i d).told) (is_some (item_with times_id (get_or entries i d).task table)) (HasBadTask (get_or entries i d).task)) b
+    → OfBad (IsBadAt (IsBadTimes now) entries i) b
+times_at now entries i d table b within same h =
+    let e : TimesEntry = get_or entries i d in
+    of_bad _ _ (λ r g. (e, slice_get-get_or entries i d within, same_after times_words.words_of (words_at now e.row e.told) _ _ (HasBadTask e.task) (twice (λ (t : TaskTimes). t) (times_entry_shown now) (λ t. t.0) e.task table (take i entries) (map-same table ∙ same)) r g)) b h
+
 -- ---- faults
 
 pub task_fault : (now : Bool) (given : Given) (place : ℕ) (b : Bad) → OfBad (IsBadAt (IsBadTask given.text now) given.tasks place) b → IsFaultOf now given (fault_at faults.BadTask place b)
@@ -160,6 +171,7 @@ fault_now head given (faults.BadTask place r) h = inl h
 fault_now head given (faults.BadResource place r) h = inl h
 fault_now head given (faults.BadOp place r) h = inl h
 fault_now head given (faults.BadCount place r) h = inl h
+fault_now head given (faults.BadTimes place r) h = absurd h
 
 -- and as they were told
 pub fault_told : (head : Head) (given : Given) (fault : Fault) → IsFaultOf false (told_of head given) fault → IsFault head given fault
@@ -170,6 +182,7 @@ fault_told head given (faults.BadTask place r) h = inr h
 fault_told head given (faults.BadResource place r) h = inr h
 fault_told head given (faults.BadOp place r) h = inr h
 fault_told head given (faults.BadCount place r) h = inr h
+fault_told head given (faults.BadTimes place r) h = absurd h
 
 -- more tasks were told than there are, or more of another kind
 pub few_tasks : (head : Head) (given : Given) → nat_lt (length given.tasks) head.told_tasks ≡ true → tells_too_many head given ≡ true
@@ -198,3 +211,19 @@ pub fault_of_told : (head : Head) (given : Given) (fault : Fault) (tasks : List 
 fault_of_told head given fault tasks resources ops counts a b c d h =
     fault_told head given fault
     (subst (λ (g : Given). IsFaultOf false g fault) (λ i. record { tasks = a i; resources = b i; ops = c i; counts = d i; attrs = given.attrs; text = given.text }) h)
+
+-- ---- histograms
+
+pub times_fault : (now : Bool) (times : List TimesEntry) (place : ℕ) (b : Bad) → OfBad (IsBadAt (IsBadTimes now) times place) b → IsTimesFaultOf now times (fault_at faults.BadTimes place b)
+times_fault now times place (bads.Entry r) h = h
+times_fault now times place bads.Memory h = tt
+
+pub times_fault_told : (told : ℕ) (times front : List TimesEntry) (fault : Fault) → front ≡ take told times → IsTimesFaultOf false front fault → IsTimesFault told times fault
+times_fault_told told times front fault is h = inr (inr (subst (λ (es : List TimesEntry). IsTimesFaultOf false es fault) is h))
+
+pub times_memory : (told : ℕ) (times : List TimesEntry) → IsTimesFault told times faults.Memory
+times_memory told times = inr (inl tt)
+
+pub timed_memory : {T : Type 0} (head : Head) (given : Given) (told : ℕ) (times : List TimesEntry) (r : Result T Fault) → IfErr r (λ fault. fault ≡ faults.Memory) → IfErr r (IsTimedFault head given told times)
+timed_memory head given told times (Ok text) h = tt
+timed_memory head given told times (Err fault) h = subst (IsTimedFault head given told times) (sym h) (inl tt)

@@ -3,3 +3,4 @@ pub mod LineLemmas
 pub mod LeftOutLemmas
 pub mod PublishingLemmas
 pub mod FaultLemmas
+pub mod TimedLemmas

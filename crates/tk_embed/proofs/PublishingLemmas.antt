@@ -1,6 +1,7 @@
 -- The text of a published line is that of the line between the tables of all items.
-use Rattle.std.proofs.Common.{◌≡◌, ℕ, zero, suc, List, [], ◌∷◌, ◌++◌, Bool, true, false, cond, length, take, refl, ap, sym, ◌∙◌}
+use Rattle.std.proofs.Common.{◌≡◌, ℕ, zero, suc, List, [], ◌∷◌, ◌++◌, Bool, true, false, cond, length, take, Option, Some, None, refl, ap, ap₂, sym, ◌∙◌}
 use Rattle.std.specs.Prelude.{map}
+use Rattle.std.specs.Option.{option_map_or}
 use Rattle.std.specs.List.{AllByRecursion, flat_map}
 use Rattle.tk_core.specs.Laws.OpLaws as op_laws
 use Rattle.tk_core.specs.Laws.ResourceLaws as resource_laws
@@ -11,19 +12,21 @@ use Rattle.tk_core.specs.TaskWords as task_words
 use Rattle.tk_stream.specs.declared.tables.op.Op.{Op}
 use Rattle.tk_stream.specs.declared.tables.resource.Resource.{Resource}
 use Rattle.tk_stream.specs.declared.tables.task.Task.{Task}
-use Rattle.tk_stream.specs.Lines.{LineView, line_between, snapshot_of, none_gone, gone_between, with_gone}
+use Rattle.tk_stream.specs.Lines.{LineView, line_between, snapshot_of, none_gone, gone_between, with_gone, with_times, told_times}
 use Rattle.tk_stream.specs.Retention.{line_pruned, prune}
 use Rattle.tk_stream.specs.Spelling.{sent_text}
 use Rattle.tk_stream.specs.Streams.{line_sent, lines_sent, bytes_sent, tables_sent, last_sent, IsUninterrupted, IsStreamTo}
 use Rattle.tk_stream.specs.Tables.{TablesView, AreDistinct, empty_tables}
+use Rattle.tk_stream.specs.Times.{TaskTimes, times_id, same_times, all_times}
 use Rattle.tk_embed.specs.declared.entries.Head.{Head}
 use Rattle.tk_embed.specs.declared.entries.OpEntry.{OpEntry}
 use Rattle.tk_embed.specs.declared.entries.ResourceEntry.{ResourceEntry}
 use Rattle.tk_embed.specs.declared.entries.TaskEntry.{TaskEntry}
 use Rattle.tk_embed.specs.Entries.{Given, HaveItems, IsAt, AreTables, told_of, task_shown, resource_shown, op_shown, task_entry_shown, resource_entry_shown, op_entry_shown}
 use Rattle.tk_embed.specs.LeftOut.{LeftOut, leaving_out, AreStaying}
-use Rattle.tk_embed.specs.Publishing.{AreSixteen, How, changes, everything, leaving, Publishing, PublishesChanges, PublishesAll, PublishesLeaving, IsPublishedAs, ArePublished, bytes_published, removes, sending_of, sendings}
-use Rattle.tk_embed.proofs.LeftOutLemmas.{same_line, same_gone_line}
+use Rattle.tk_embed.specs.Lines.{times_between}
+use Rattle.tk_embed.specs.Publishing.{AreSixteen, TimesGiven, line_given, ChangeTimes, AreAllTimes, told_by, How, changes, everything, leaving, Publishing, PublishesChanges, PublishesAll, PublishesLeaving, IsPublishedAs, ArePublished, bytes_published, removes, sending_of, sendings}
+use Rattle.tk_embed.proofs.LeftOutLemmas.{same_line, same_gone_line, same_stats}
 
 -- ---- items are known by what is shown of them
 
@@ -125,19 +128,55 @@ sixteen_told head given long = record {
 
 -- ---- one line
 
-changes_text : (before : TablesView) (p : Publishing) → PublishesChanges before p → p.text ≡ sent_text (line_between before p.after p.head.seq)
-changes_text before p h =
-    let old : TablesView = h.written.0 in
-    let new : TablesView = h.written.1 in
-    let less : TablesView = leaving_out h.left before in
-    h.written.4
-    ∙ ap sent_text (
-    same_start false (told_of p.head p.given) old less new p.head.seq (sixteen_told p.head p.given h.sixteen) (h.written.2).items h.told
-    ∙ ap (λ (t : TablesView). line_between less t p.head.seq) (tables_equal p.head p.given new (leaving_out h.left p.after) h.sixteen h.written.3 h.now)
-    ∙ same_line h.left before p.after p.head.seq h.unchanged)
+-- the histograms of a line of what changed are those between all of them
+change_given : (head : Head) (o : Option TimesGiven) (before after : List TaskTimes) (l : LineView) → head.snapshot ≡ false → ChangeTimes before o after
+    → line_given head o l ≡ option_map_or (λ ts. with_times ts l) (told_by false before o after) l
+change_given head None before after l plain h = refl
+change_given head (Some t) before after l plain h =
+    ap (λ ts. with_times ts l) (
+    ap (λ b. times_between (cond b 0 t.told) t.entries) plain
+    ∙ ap₂ told_times h.1 h.2
+    ∙ same_stats times_id same_times h.0 all_times before after h.3)
 
-all_text : (p : Publishing) → PublishesAll p → p.text ≡ sent_text (snapshot_of p.after p.head.seq)
-all_text p h = h.written.2 ∙ ap (λ (t : TablesView). sent_text (snapshot_of t p.head.seq)) (tables_equal p.head p.given h.written.0 p.after h.sixteen h.written.1 h.now)
+-- and of a snapshot they are all
+all_given : (head : Head) (o : Option TimesGiven) (before after : List TaskTimes) (l : LineView) → head.snapshot ≡ true → AreAllTimes o after
+    → line_given head o l ≡ option_map_or (λ ts. with_times ts l) (told_by true before o after) l
+all_given head None before after l whole h = refl
+all_given head (Some t) before after l whole h =
+    ap (λ ts. with_times ts l) (ap (λ b. times_between (cond b 0 t.told) t.entries) whole ∙ ap (told_times []) h)
+
+-- the line of a stream, by whether it removes and whether it is a snapshot
+abbrev untimed : TablesView → Publishing → Bool → Bool → LineView
+untimed before p removing whole =
+    let plain : LineView = cond whole (snapshot_of p.after p.head.seq) (line_between before p.after p.head.seq) in
+    cond removing (with_gone (cond whole none_gone (gone_between before p.after)) plain) plain
+
+abbrev formed : TablesView → List TaskTimes → Publishing → Bool → Bool → LineView
+formed before times p removing whole =
+    option_map_or (λ ts. with_times ts (untimed before p removing whole)) (told_by whole times p.times p.times_after) (untimed before p removing whole)
+
+changes_text : (before : TablesView) (times : List TaskTimes) (p : Publishing) → PublishesChanges before times p → p.text ≡ sent_text (formed before times p false false)
+changes_text before times p h =
+    let is = h.written.1 in
+    let old : TablesView = is.0 in
+    let new : TablesView = is.1 in
+    let less : TablesView = leaving_out h.left before in
+    h.written.2
+    ∙ ap sent_text (
+    ap (line_given p.head p.times) (
+    is.4
+    ∙ same_start false (told_of p.head p.given) old less new p.head.seq (sixteen_told p.head p.given h.sixteen) (is.2).items h.told
+    ∙ ap (λ (t : TablesView). line_between less t p.head.seq) (tables_equal p.head p.given new (leaving_out h.left p.after) h.sixteen is.3 h.now)
+    ∙ same_line h.left before p.after p.head.seq h.unchanged)
+    ∙ change_given p.head p.times times p.times_after (line_between before p.after p.head.seq) h.plain h.times)
+
+all_text : (before : TablesView) (times : List TaskTimes) (p : Publishing) → PublishesAll p → p.text ≡ sent_text (formed before times p false true)
+all_text before times p h =
+    let is = h.written.1 in
+    h.written.2
+    ∙ ap sent_text (
+    ap (line_given p.head p.times) (is.2 ∙ ap (λ (t : TablesView). snapshot_of t p.head.seq) (tables_equal p.head p.given is.0 p.after h.sixteen is.1 h.now))
+    ∙ all_given p.head p.times times p.times_after (snapshot_of p.after p.head.seq) h.whole h.times)
 
 once_at : (before : TablesView) (now : ℕ) → AreDistinct before → AreDistinct (record before { now = now })
 once_at before now once = record { tasks = once.tasks; resources = once.resources; ops = once.ops; counts = once.counts }
@@ -145,32 +184,30 @@ once_at before now once = record { tasks = once.tasks; resources = once.resource
 staying_at : (left : LeftOut) (before : TablesView) (now retention : ℕ) → AreStaying left before now retention → AreStaying left (record before { now = now }) now retention
 staying_at left before now retention stay = record { tasks = stay.tasks; resources = stay.resources; ops = stay.ops }
 
-leaving_text : (retention : ℕ) (before : TablesView) (p : Publishing) → PublishesLeaving retention before p → p.text ≡ sent_text (line_pruned before p.after p.head.seq)
-leaving_text retention before p h =
+leaving_text : (retention : ℕ) (before : TablesView) (times : List TaskTimes) (p : Publishing) → PublishesLeaving retention before times p → p.text ≡ sent_text (formed before times p true false)
+leaving_text retention before times p h =
     let m : ℕ = p.head.moment in
     let told : TablesView = record before { now = m } in
     h.written.2
     ∙ ap (λ (t : TablesView). sent_text (line_pruned t (prune (record t { now = m }) t m retention) p.head.seq)) (tables_equal p.head p.given h.written.0 (leaving_out h.left told) h.sixteen h.written.1 h.now)
     ∙ ap sent_text (same_gone_line h.left told m retention p.head.seq (once_at before m h.distinct) (staying_at h.left before m retention h.staying))
     ∙ ap (λ (t : TablesView). sent_text (line_pruned before t p.head.seq)) (sym h.after)
+    ∙ sym (ap (λ (o : Option TimesGiven). sent_text (option_map_or (λ ts. with_times ts (untimed before p true false)) (told_by false times o p.times_after) (untimed before p true false))) h.untimed)
 
--- the line of a stream, by whether it removes and whether it is a snapshot
-abbrev formed : TablesView → Publishing → Bool → Bool → LineView
-formed before p removing whole =
-    let plain : LineView = cond whole (snapshot_of p.after p.head.seq) (line_between before p.after p.head.seq) in
-    cond removing (with_gone (cond whole none_gone (gone_between before p.after)) plain) plain
-
-text_is : (before : TablesView) (p : Publishing) (how : How) → p.how ≡ how → IsPublishedAs how before p → p.text ≡ sent_text (line_sent before (sending_of p))
-text_is before p changes e h = changes_text before p h ∙ sym (ap (λ (k : How). sent_text (formed before p (removes k) p.head.snapshot)) e ∙ ap (λ b. sent_text (formed before p false b)) h.plain)
-text_is before p everything e h = all_text p h ∙ sym (ap (λ (k : How). sent_text (formed before p (removes k) p.head.snapshot)) e ∙ ap (λ b. sent_text (formed before p false b)) h.whole)
-text_is before p (leaving retention) e h = leaving_text retention before p h ∙ sym (ap (λ (k : How). sent_text (formed before p (removes k) p.head.snapshot)) e ∙ ap (λ b. sent_text (formed before p true b)) h.plain)
+text_is : (before : TablesView) (times : List TaskTimes) (p : Publishing) (how : How) → p.how ≡ how → IsPublishedAs how before times p → p.text ≡ sent_text (line_sent before (sending_of times p))
+text_is before times p changes e h =
+    changes_text before times p h ∙ sym (ap (λ (k : How). sent_text (formed before times p (removes k) p.head.snapshot)) e ∙ ap (λ b. sent_text (formed before times p false b)) h.plain)
+text_is before times p everything e h =
+    all_text before times p h ∙ sym (ap (λ (k : How). sent_text (formed before times p (removes k) p.head.snapshot)) e ∙ ap (λ b. sent_text (formed before times p false b)) h.whole)
+text_is before times p (leaving retention) e h =
+    leaving_text retention before times p h ∙ sym (ap (λ (k : How). sent_text (formed before times p (removes k) p.head.snapshot)) e ∙ ap (λ b. sent_text (formed before times p true b)) h.plain)
 
 -- ---- the stream
 
-pub published : (before : TablesView) (ps : List Publishing) → ArePublished before ps → bytes_published ps ≡ bytes_sent (lines_sent before (sendings ps))
-published before [] h = refl
-published before (p ∷ ps) h = λ i. text_is before p p.how refl h.0 i ++ published p.after ps h.1 i
+pub published : (before : TablesView) (times : List TaskTimes) (ps : List Publishing) → ArePublished before times ps → bytes_published ps ≡ bytes_sent (lines_sent before (sendings times ps))
+published before times [] h = refl
+published before times (p ∷ ps) h = λ i. text_is before times p p.how refl h.0 i ++ published p.after p.times_after ps h.1 i
 
-pub is_stream : (ps : List Publishing) → ArePublished empty_tables ps → IsUninterrupted (sendings ps)
-    → IsStreamTo (bytes_published ps) (tables_sent empty_tables (sendings ps)) (last_sent 0 (sendings ps))
-is_stream ps h on = record { sent = sendings ps; uninterrupted = on; bytes_are = published empty_tables ps h; tables_are = refl; last_is = refl }
+pub is_stream : (ps : List Publishing) → ArePublished empty_tables [] ps → IsUninterrupted (sendings [] ps)
+    → IsStreamTo (bytes_published ps) (tables_sent empty_tables (sendings [] ps)) (last_sent 0 (sendings [] ps))
+is_stream ps h on = record { sent = sendings [] ps; uninterrupted = on; bytes_are = published empty_tables [] ps h; tables_are = refl; last_is = refl }

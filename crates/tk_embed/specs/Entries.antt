@@ -1,5 +1,5 @@
 -- What entries mean: the tables whose items they are.
-use Rattle.std.specs.Prelude.{◌≡◌, ℕ, Bool, List, ◌++◌, map, take, drop, nat_eq, Option, Some, None, if◌then◌else◌}
+use Rattle.std.specs.Prelude.{◌≡◌, ℕ, Bool, List, ◌++◌, map, take, drop, get_or, nat_eq, Option, Some, None, if◌then◌else◌}
 use Rattle.tk_core.specs.TaskWords as task_words
 use Rattle.tk_core.specs.ResourceWords as resource_words
 use Rattle.tk_core.specs.OpWords as op_words
@@ -16,6 +16,8 @@ use Rattle.tk_stream.specs.Tables.{TablesView, PollCounts}
 use Rattle.tk_stream.specs.declared.tables.op.Op.{Op}
 use Rattle.tk_stream.specs.declared.tables.resource.Resource.{Resource}
 use Rattle.tk_stream.specs.declared.tables.task.Task.{Task}
+use Rattle.tk_stream.specs.declared.tables.times.PollTimes.{PollTimes}
+use Rattle.tk_stream.specs.Times.{TaskTimes}
 use Rattle.tk_embed.specs.declared.entries.AttrEntry.{AttrEntry}
 use Rattle.tk_embed.specs.declared.entries.CountEntry.{CountEntry}
 use Rattle.tk_embed.specs.declared.entries.Head.{Head}
@@ -23,6 +25,7 @@ use Rattle.tk_embed.specs.declared.entries.OpEntry.{OpEntry}
 use Rattle.tk_embed.specs.declared.entries.Piece.{Piece}
 use Rattle.tk_embed.specs.declared.entries.ResourceEntry.{ResourceEntry}
 use Rattle.tk_embed.specs.declared.entries.TaskEntry.{TaskEntry}
+use Rattle.tk_embed.specs.declared.entries.TimesEntry.{TimesEntry}
 
 -- ---- what an entry says of its item once
 
@@ -119,6 +122,14 @@ op_entry_shown text attrs now e = (op_info text attrs e, if now then e.row else 
 -- of the poll counts of a resource
 abbrev pub count_entry_shown : Bool → CountEntry → PollCounts
 count_entry_shown now e = if now then (e.resource, e.ready, e.pending) else (e.resource, e.told_ready, e.told_pending)
+
+-- the histogram that words show: after the handles the longest time, and then the counts. All words are a row's
+abbrev pub times_of_words : List ℕ → PollTimes
+times_of_words words = record { longest = get_or words 1 0; counts = drop 2 words }
+
+-- of a histogram
+abbrev pub times_entry_shown : Bool → TimesEntry → TaskTimes
+times_entry_shown now e = (e.task, times_of_words (if now then e.row else e.told))
 
 -- ---- tables
 

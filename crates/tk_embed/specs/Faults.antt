@@ -4,6 +4,7 @@ use Rattle.std.specs.List.{flat_map, list_any}
 use Rattle.tk_core.specs.OpWords as op_words
 use Rattle.tk_core.specs.ResourceWords as resource_words
 use Rattle.tk_core.specs.TaskWords as task_words
+use Rattle.tk_core.specs.TimesWords as times_words
 use Rattle.tk_ids.specs.Attributes.{are_attributes, info_names}
 use Rattle.tk_ids.specs.Ids.{is_id}
 use Rattle.tk_ids.specs.Names.{is_name}
@@ -16,6 +17,7 @@ use Rattle.tk_embed.specs.declared.entries.OpEntry.{OpEntry}
 use Rattle.tk_embed.specs.declared.entries.Piece.{Piece as Place}
 use Rattle.tk_embed.specs.declared.entries.ResourceEntry.{ResourceEntry}
 use Rattle.tk_embed.specs.declared.entries.TaskEntry.{TaskEntry}
+use Rattle.tk_embed.specs.declared.entries.TimesEntry.{TimesEntry}
 use Rattle.tk_embed.specs.declared.fault.Bad.{Bad}
 use Rattle.tk_embed.specs.declared.fault.Bad.TheVariants as bad
 use Rattle.tk_embed.specs.declared.fault.Fault.{Fault}
@@ -57,6 +59,7 @@ answer_of (faults.BadTask place reason) = entry_answer 5 place reason
 answer_of (faults.BadResource place reason) = entry_answer 6 place reason
 answer_of (faults.BadOp place reason) = entry_answer 7 place reason
 answer_of (faults.BadCount place reason) = entry_answer 8 place reason
+answer_of (faults.BadTimes place reason) = entry_answer 9 place reason
 
 -- ---- the parts of an entry
 
@@ -183,6 +186,20 @@ IsBadCounts id twice Row = ⊥
 abbrev pub IsBadCount : List CountEntry → CountEntry → Reason → Type 0
 IsBadCount before e = IsBadCounts e.resource (stands_before (λ (b : CountEntry). b.resource) before e.resource)
 
+-- what the entry of a histogram says of its task is bad: the id is none
+abbrev pub HasBadTask : ℕ → Reason → Type 0
+HasBadTask id Id = is_id id ≡ false
+HasBadTask id Name = ⊥
+HasBadTask id Piece = ⊥
+HasBadTask id Attributes = ⊥
+HasBadTask id Row = ⊥
+HasBadTask id Twice = ⊥
+
+-- the entry of a histogram: its task's id is none, or stands before
+abbrev pub IsBadTimes : Bool → List TimesEntry → TimesEntry → Reason → Type 0
+IsBadTimes now before e =
+    IsBadEntry times_words.words_of (words_at now e.row e.told) (stands_before (λ (b : TimesEntry). b.task) before e.task) (HasBadTask e.task)
+
 -- ---- lists of entries
 
 -- the entry at a place is none by this reason
@@ -198,6 +215,7 @@ IsFaultOf now given (faults.BadTask place reason) = IsBadAt (IsBadTask given.tex
 IsFaultOf now given (faults.BadResource place reason) = IsBadAt (IsBadResource given.text given.attrs now) given.resources place reason
 IsFaultOf now given (faults.BadOp place reason) = IsBadAt (IsBadOp given.text given.attrs now) given.ops place reason
 IsFaultOf now given (faults.BadCount place reason) = IsBadAt IsBadCount given.counts place reason
+IsFaultOf now given (faults.BadTimes place reason) = ⊥
 
 -- more entries were told than there are
 abbrev pub tells_too_many : Head → Given → Bool
@@ -211,3 +229,30 @@ IsFault head given faults.Memory = Unit {0}
 IsFault head given faults.NoNumber = is_seq head.seq ≡ false
 IsFault head given faults.FewEntries = tells_too_many head given ≡ true
 IsFault head given fault = IsFaultOf true given fault ⊎ IsFaultOf false (told_of head given) fault
+
+-- ---- histograms
+
+-- how many histograms a line takes as told: a snapshot tells all
+abbrev pub told_count : Head → ℕ → ℕ
+told_count head told = if head.snapshot then 0 else told
+
+-- why there are no histograms of these entries, with their rows of now or as they were told
+abbrev pub IsTimesFaultOf : Bool → List TimesEntry → Fault → Type 0
+IsTimesFaultOf now times faults.Memory = Unit {0}
+IsTimesFaultOf now times faults.NoNumber = ⊥
+IsTimesFaultOf now times faults.FewEntries = ⊥
+IsTimesFaultOf now times (faults.BadTask place reason) = ⊥
+IsTimesFaultOf now times (faults.BadResource place reason) = ⊥
+IsTimesFaultOf now times (faults.BadOp place reason) = ⊥
+IsTimesFaultOf now times (faults.BadCount place reason) = ⊥
+IsTimesFaultOf now times (faults.BadTimes place reason) = IsBadAt (IsBadTimes now) times place reason
+
+-- why a line doesn't tell these histograms, of which so many are taken as told: those are more than there are, or one is none, now or as it was told
+abbrev pub IsTimesFault : ℕ → List TimesEntry → Fault → Type 0
+IsTimesFault told times fault =
+    ((fault ≡ faults.FewEntries) × (nat_lt (length times) told ≡ true))
+    ⊎ (IsTimesFaultOf true times fault ⊎ IsTimesFaultOf false (take told times) fault)
+
+-- why there is no line of a head, entries and histograms
+abbrev pub IsTimedFault : Head → Given → ℕ → List TimesEntry → Fault → Type 0
+IsTimedFault head given told times fault = IsFault head given fault ⊎ IsTimesFault (told_count head told) times fault

@@ -1,5 +1,6 @@
 pub mod Attr
 pub mod Border
+pub mod Timed
 pub mod Entries
 pub mod Faults
 pub mod Lines

@@ -75,6 +75,15 @@ pub struct CountEntry {
     pub told_pending: u64,
 }
 
+/// The histogram of a task's poll times: the words of its row. `told` is as of the others.
+#[repr(C)]
+#[derive(Clone, Copy)]
+pub struct TimesEntry {
+    pub row: [u64; 16],
+    pub told: [u64; 16],
+    pub task: u64,
+}
+
 /// What a line has beside its items: its number, its moment, in nanoseconds, the totals of what was dropped, how many entries of
 /// each list were told, and whether it tells all.
 #[repr(C)]
@@ -99,8 +108,8 @@ pub struct Head {
 /// - 2: want of memory.
 /// - 3: no line has the number.
 /// - 4: more entries were told than there are.
-/// - 5 to 8: the entry at `place`, counted from 0, is none: of a task, a resource, an async operation, poll counts. `reason` says
-///   why: 1 an id, 2 a name, 3 a piece that reaches out, 4 the attributes, 5 the words of its row, 6 an id that stands before.
+/// - 5 to 9: the entry at `place`, counted from 0, is none: of a task, a resource, an async operation, poll counts, a histogram.
+///   `reason` says why: 1 an id, 2 a name, 3 a piece that reaches out, 4 the attributes, 5 the words of its row, 6 an id that stands before.
 ///
 /// What a status doesn't speak of is 0. From 1 on nothing was written.
 #[repr(C)]

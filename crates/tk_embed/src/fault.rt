@@ -60,6 +60,8 @@ pub(crate) enum Fault {
     BadOp(usize, Reason),
     /// The entry of poll counts at this place is none.
     BadCount(usize, Reason),
+    /// The entry of a histogram at this place is none.
+    BadTimes(usize, Reason),
 }
 
 fn simple(status: u32) -> Answer
@@ -97,5 +99,6 @@ pub(crate) fn refusal(fault: Fault) -> Answer
         Fault::BadResource(place, reason) => at_entry(6, place, reason),
         Fault::BadOp(place, reason) => at_entry(7, place, reason),
         Fault::BadCount(place, reason) => at_entry(8, place, reason),
+        Fault::BadTimes(place, reason) => at_entry(9, place, reason),
     }
 }

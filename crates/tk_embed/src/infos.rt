@@ -52,7 +52,7 @@ fn location_of(
     Ok(Location { file, line, column })
 }
 
-fn task_id(value: u64) -> Result<TaskId, Bad>
+pub(crate) fn task_id(value: u64) -> Result<TaskId, Bad>
     ensures ok { IfOk result (λ id. id ≡ value) }
     ensures err { IfErr result (IsNoId value) }
 {

@@ -1,16 +1,30 @@
 //! Laws of the definitions: each is the contract of a function that does nothing.
-ghost use Rattle.std.specs.Prelude.{◌≡◌, ℕ, List, length};
+ghost use Rattle.std.specs.Prelude.{◌≡◌, ℕ, List, [], ◌∷◌, ◌++◌, None, length};
+ghost use Rattle.tk_core.specs.declared.task.call.TaskCall.{TaskCall};
+ghost use Rattle.tk_core.specs.declared.task.row.TaskRow.{TaskRow};
+ghost use Rattle.tk_core.specs.Task.{end_at};
+ghost use Rattle.tk_core.specs.Times.{opening_row};
+ghost use Rattle.tk_core.specs.TimesMeaning.{times_meaning};
 ghost use Rattle.tk_client.specs.Feeding.{ClientView, Took};
 ghost use Rattle.tk_client.specs.Meaning.{empty_start};
 ghost use Rattle.tk_client.specs.Streams.{AreShort};
 ghost use Rattle.tk_stream.specs.Lines.{line_between};
 ghost use Rattle.tk_stream.specs.Retention.{line_pruned, prune};
-ghost use Rattle.tk_stream.specs.Streams.{IsStreamTo, IsUninterrupted, lines_sent, tables_sent, last_sent};
+ghost use Rattle.tk_stream.specs.Streams.{IsStreamTo, IsUninterrupted, lines_sent, tables_sent, times_sent, last_sent};
 ghost use Rattle.tk_stream.specs.Tables.{TablesView, AreDistinct, empty_tables};
 ghost use Rattle.tk_embed.specs.LeftOut.{LeftOut, leaving_out, AreUnchanged, AreStaying};
+ghost use Rattle.tk_embed.specs.Timed.{AreTimesOf};
 ghost use Rattle.tk_embed.specs.Publishing.{Publishing, ArePublished, bytes_published, sendings};
 
 use tk_client::laws::streams_are_fed;
+
+/// A task's histogram that was opened with it is that of all its polls that ended, whatever calls are made on the task, where each end
+/// goes to both rows: it has none at first, and calls that end no poll leave it.
+pub fn histograms_are_of_all_polls()
+    ensures opened { (opening : TaskRow) → AreTimesOf opening [] (times_meaning.words opening_row) }
+    ensures others { (opening : TaskRow) (calls : List TaskCall) (call : TaskCall) (times : List ℕ) → end_at call ≡ None
+        → AreTimesOf opening calls times → AreTimesOf opening (calls ++ call ∷ []) times }
+{}
 
 /// Entries may leave out what didn't change: the line is the same. The line of what leaves is the same where they leave out what
 /// stays.
@@ -25,16 +39,18 @@ pub fn entries_may_be_left_out()
 /// The lines that a program asks for, one after the other, where the entries leave out at most what a line would not tell of, are an
 /// uninterrupted stream of the tables of all items, if these may be sent.
 pub fn publishings_are_a_stream()
-    ensures { (ps : List Publishing) → ArePublished empty_tables ps → IsUninterrupted (sendings ps)
-        → IsStreamTo (bytes_published ps) (tables_sent empty_tables (sendings ps)) (last_sent 0 (sendings ps)) }
+    ensures { (ps : List Publishing) → ArePublished empty_tables [] ps → IsUninterrupted (sendings [] ps)
+        → IsStreamTo (bytes_published ps) (tables_sent empty_tables (sendings [] ps)) (last_sent 0 (sendings [] ps)) }
 {}
 
-/// So a client that takes all of its bytes holds the tables of all items, as the last line was asked for.
+/// So a client that takes all of its bytes holds the tables of all items, as the last line was asked for, and the histograms to which
+/// the lines lead that tell such.
 pub fn clients_hold_all_items()
-    ensures { (old new : ClientView) (ps : List Publishing) (lines : ℕ) → old.start ≡ empty_start → ArePublished empty_tables ps
-        → IsUninterrupted (sendings ps) → AreShort old.max_line (lines_sent empty_tables (sendings ps))
+    ensures { (old new : ClientView) (ps : List Publishing) (lines : ℕ) → old.start ≡ empty_start → ArePublished empty_tables [] ps
+        → IsUninterrupted (sendings [] ps) → AreShort old.max_line (lines_sent empty_tables (sendings [] ps))
         → Took old (bytes_published ps) lines new
-        → (lines ≡ length (sendings ps)) × (new.start.tables ≡ tables_sent empty_tables (sendings ps)) }
+        → (lines ≡ length (sendings [] ps)) × (new.start.tables ≡ tables_sent empty_tables (sendings [] ps))
+        × (new.start.times ≡ times_sent [] empty_tables (sendings [] ps)) }
 {
     publishings_are_a_stream();
     streams_are_fed();

@@ -18,3 +18,5 @@ mod resource;
 mod step;
 mod tables;
 mod task;
+mod timed;
+mod times;

@@ -2,7 +2,7 @@
 ghost use Rattle.std.specs.Prelude.{◌≡◌, ◌≤◌, ℕ, List, true, length, take, nat_lt, IfOk, IfErr, IfSome, IfNone, IsTrue, if◌then◌else◌};
 ghost use Rattle.tk_embed.specs.declared.fault.Fault.{Fault};
 ghost use Rattle.tk_embed.specs.Faults.{IsFault, answer_of};
-ghost use Rattle.tk_embed.specs.Lines.{IsSnapshotFor, IsChangeFor, IsLineFor, IsWritten, text_answer};
+ghost use Rattle.tk_embed.specs.Lines.{IsSnapshotFor, IsChangeFor, IsLine, IsLineFor, IsWritten, text_answer};
 ghost use Rattle.tk_stream.specs.Lines.{line_between, snapshot_of, is_seq};
 ghost use Rattle.tk_stream.specs.Tables.{empty_tables};
 ghost use Rattle.tk_stream.specs.Spelling.{sent_text};
@@ -27,27 +27,27 @@ pub(crate) fn sent(line: &Line) -> Result<Vec<u8>, Fault>
     }
 }
 
-// The text of the line that leads from the old tables to the new ones, with its line end.
-fn text_between(
+// The line that leads from the old tables to the new ones.
+fn between(
     alloc: Global,
     old: &Tables,
     new: &Tables,
     seq: u64,
     snapshot: bool,
-) -> Result<Vec<u8>, Fault>
+) -> Result<Line, Fault>
     requires numbered { is_seq seq ≡ true }
     requires whole { IsTrue snapshot → old.now ≡ empty_tables }
-    ensures ok { IfOk result (λ text. text.items ≡ sent_text (if snapshot then snapshot_of new.now seq else line_between old.now new.now seq)) }
+    ensures ok { IfOk result (λ line. line ≡ if snapshot then snapshot_of new.now seq else line_between old.now new.now seq) }
     ensures err { IfErr result (λ fault. fault ≡ Fault.Memory) }
 {
-    let Ok(line) = Line::between(alloc, old, new, seq, snapshot) else {
-        return Err(Fault::Memory);
-    };
-    sent(&line)
+    match Line::between(alloc, old, new, seq, snapshot) {
+        Ok(line) => Ok(line),
+        Err(_) => Err(Fault::Memory),
+    }
 }
 
 // The first so many, if there are so many.
-fn front<T>(list: &[T], count: usize) -> Option<&[T]>
+pub(crate) fn front<T>(list: &[T], count: usize) -> Option<&[T]>
     ensures some { IfSome result (λ part. part.now ≡ take count list.now) }
     ensures none { IfNone result (nat_lt (length list.now) count ≡ true) }
 {
@@ -63,9 +63,9 @@ fn snapshot_line(
     counts: &[CountEntry],
     attrs: &[AttrEntry],
     text: &[u8],
-) -> Result<Vec<u8>, Fault>
+) -> Result<Line, Fault>
     requires { is_seq head.now.seq ≡ true }
-    ensures ok { IfOk result (λ line. IsSnapshotFor head.now (record { tasks = tasks.now; resources = resources.now; ops = ops.now; counts = counts.now; attrs = attrs.now; text = text.now }) line.items) }
+    ensures ok { IfOk result (λ line. IsSnapshotFor head.now (record { tasks = tasks.now; resources = resources.now; ops = ops.now; counts = counts.now; attrs = attrs.now; text = text.now }) line) }
     ensures err { IfErr result (IsFault head.now (record { tasks = tasks.now; resources = resources.now; ops = ops.now; counts = counts.now; attrs = attrs.now; text = text.now })) }
 {
     let new = tables_of(
@@ -74,7 +74,7 @@ fn snapshot_line(
     let Ok(none) = Tables::new(alloc) else {
         return Err(Fault::Memory);
     };
-    text_between(alloc, &none, &new, head.seq, true)
+    between(alloc, &none, &new, head.seq, true)
 }
 
 fn change_line(
@@ -86,9 +86,9 @@ fn change_line(
     counts: &[CountEntry],
     attrs: &[AttrEntry],
     text: &[u8],
-) -> Result<Vec<u8>, Fault>
+) -> Result<Line, Fault>
     requires { is_seq head.now.seq ≡ true }
-    ensures ok { IfOk result (λ line. IsChangeFor head.now (record { tasks = tasks.now; resources = resources.now; ops = ops.now; counts = counts.now; attrs = attrs.now; text = text.now }) line.items) }
+    ensures ok { IfOk result (λ line. IsChangeFor head.now (record { tasks = tasks.now; resources = resources.now; ops = ops.now; counts = counts.now; attrs = attrs.now; text = text.now }) line) }
     ensures err { IfErr result (IsFault head.now (record { tasks = tasks.now; resources = resources.now; ops = ops.now; counts = counts.now; attrs = attrs.now; text = text.now })) }
 {
     let Some(told_tasks) = front(tasks, head.told_tasks) else {
@@ -117,12 +117,34 @@ fn change_line(
         text,
         false,
     ) {
-        Ok(old) => text_between(alloc, &old, &new, head.seq, false),
+        Ok(old) => between(alloc, &old, &new, head.seq, false),
         Err(fault) => Err(fault),
     }
 }
 
-fn line_of(
+/// The line that a head and entries ask for.
+pub(crate) fn line_of(
+    alloc: Global,
+    head: &Head,
+    tasks: &[TaskEntry],
+    resources: &[ResourceEntry],
+    ops: &[OpEntry],
+    counts: &[CountEntry],
+    attrs: &[AttrEntry],
+    text: &[u8],
+) -> Result<Line, Fault>
+    requires { is_seq head.now.seq ≡ true }
+    ensures ok { IfOk result (λ line. IsLine head.now.snapshot head.now (record { tasks = tasks.now; resources = resources.now; ops = ops.now; counts = counts.now; attrs = attrs.now; text = text.now }) line) }
+    ensures err { IfErr result (IsFault head.now (record { tasks = tasks.now; resources = resources.now; ops = ops.now; counts = counts.now; attrs = attrs.now; text = text.now })) }
+{
+    if head.snapshot {
+        snapshot_line(alloc, head, tasks, resources, ops, counts, attrs, text)
+    } else {
+        change_line(alloc, head, tasks, resources, ops, counts, attrs, text)
+    }
+}
+
+fn text_of(
     alloc: Global,
     head: &Head,
     tasks: &[TaskEntry],
@@ -136,11 +158,8 @@ fn line_of(
     ensures ok { IfOk result (λ line. IsLineFor head.now (record { tasks = tasks.now; resources = resources.now; ops = ops.now; counts = counts.now; attrs = attrs.now; text = text.now }) line.items) }
     ensures err { IfErr result (IsFault head.now (record { tasks = tasks.now; resources = resources.now; ops = ops.now; counts = counts.now; attrs = attrs.now; text = text.now })) }
 {
-    if head.snapshot {
-        snapshot_line(alloc, head, tasks, resources, ops, counts, attrs, text)
-    } else {
-        change_line(alloc, head, tasks, resources, ops, counts, attrs, text)
-    }
+    let line = line_of(alloc, head, tasks, resources, ops, counts, attrs, text)?;
+    sent(&line)
 }
 
 fn answer_of_text(status: u32, len: usize) -> Answer
@@ -198,7 +217,7 @@ pub extern "C" fn taskscope_line(
     if !is_line_number(head.seq) {
         return refusal(Fault::NoNumber);
     }
-    match line_of(alloc, head, tasks, resources, ops, counts, attrs, text) {
+    match text_of(alloc, head, tasks, resources, ops, counts, attrs, text) {
         Ok(line) => put(line.as_slice(), out),
         Err(fault) => refusal(fault),
     }

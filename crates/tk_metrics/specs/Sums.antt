@@ -1,5 +1,5 @@
 -- What is added up of tasks, and of resources.
-use Rattle.std.specs.Prelude.{ℕ, ◌+◌, Bool, ◌&&◌, not, is_some, List, codes, [], ◌++◌, ◌∷◌, if◌then◌else◌}
+use Rattle.std.specs.Prelude.{ℕ, ◌+◌, Bool, ◌&&◌, not, is_some, unwrap_or, List, codes, [], ◌++◌, ◌∷◌, if◌then◌else◌}
 use Rattle.tk_core.specs.Lists.{capped}
 use Rattle.tk_core.specs.declared.task.row.TaskRow.{TaskRow}
 use Rattle.tk_ids.specs.Ids.{id_text}
@@ -24,7 +24,7 @@ abbrev pub sums_left : TaskRow → Sums
 sums_left x = record {
   polls = x.polls;
   busy = x.busy;
-  sched = x.sched;
+  sched = unwrap_or x.waited x.sched;
   wakes = x.wakes;
   own = x.self_wakes;
   clones = x.clones;

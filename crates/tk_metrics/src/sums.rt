@@ -115,7 +115,7 @@ pub(crate) fn sums_left(row: &TaskRow) -> Sums
     Sums {
         polls: row.polls,
         busy: row.busy,
-        sched: row.sched,
+        sched: row.waited.unwrap_or(row.sched),
         wakes: row.wakes,
         own: row.self_wakes,
         clones: row.clones,

@@ -1,7 +1,8 @@
 -- What a course of time keeps of a task at a line.
-use Rattle.std.specs.Prelude.{ℕ, ◌+◌, ◌-◌, max, ◌&&◌, not, if◌then◌else◌}
+use Rattle.std.specs.Prelude.{ℕ, ◌+◌, ◌-◌, max, ◌&&◌, not, unwrap_or, if◌then◌else◌}
 use Rattle.std.specs.Option.{option_map_or}
 use Rattle.tk_core.specs.Lists.{capped}
+use Rattle.tk_core.specs.Task.{waited_until}
 use Rattle.tk_core.specs.declared.task.row.TaskRow.{TaskRow}
 use Rattle.tk_page.specs.declared.sample.Sample.{Sample}
 use Rattle.tk_page.specs.declared.sample.Step.{Step}
@@ -14,9 +15,10 @@ busy_until x now = capped (x.busy + (if x.polling then option_map_or (λ started
 abbrev pub waits_since : TaskRow → ℕ
 waits_since x = max (max x.created (option_map_or (λ m. m) x.last_wake 0)) (option_map_or (λ m. m) x.last_ended 0)
 
--- how long a task waited, scheduled, up to a moment: until polls that started, and where it still waits, until now
+-- how long a task waited, scheduled, up to a moment: until polls that started, and where it still waits, until now. Where its row counts that, each
+-- wait from its begin, and otherwise from the last wake
 abbrev pub sched_until : TaskRow → ℕ → ℕ
-sched_until x now = capped (x.sched + (if x.scheduled && not x.polling then now - waits_since x else 0))
+sched_until x now = unwrap_or (waited_until x now) (capped (x.sched + (if x.scheduled && not x.polling then now - waits_since x else 0)))
 
 -- what a task has come to at a moment
 abbrev pub sample_of : TaskRow → ℕ → Sample

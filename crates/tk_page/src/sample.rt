@@ -45,6 +45,9 @@ fn waits_since(row: &TaskRow) -> u64
 pub(crate) fn sched_until(row: &TaskRow, now: u64) -> u64
     ensures { result ≡ spec.sched_until row.now now }
 {
+    if let Some(waited) = row.waited_until(now) {
+        return waited;
+    }
     let open = if row.scheduled && !row.polling {
         now.saturating_sub(waits_since(row))
     } else {

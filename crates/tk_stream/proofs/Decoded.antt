@@ -1,11 +1,11 @@
 -- A line's value is read as that line.
 use Rattle.std.proofs.Common.{◌≡◌, ℕ, ◌/◌, ◌^◌, ◌<◌, ◌≤◌, List, [], ◌∷◌, true, pos, negsuc, Option, Some, None, Ok, IsUtf8, codes, refl, ap, ◌∙◌, arith, lit<, leb-true, ltb-true}
-use Rattle.std.specs.Prelude.{map, option_and_then, ◌++◌, ◌&&◌, IfSome, IsSome, nat_lt, nat_le, length, neg_ℤ, int_lt, int_le}
-use Rattle.std.specs.List.{AllByRecursion, list_all}
+use Rattle.std.specs.Prelude.{map, Bool, false, ◌==◌, option_and_then, ◌++◌, ◌&&◌, IfSome, IsSome, nat_lt, nat_le, length, neg_ℤ, int_lt, int_le}
+use Rattle.std.specs.List.{AllByRecursion, list_all, list_any}
 use Rattle.std.specs.Str.{IsAscii}
 use Rattle.std.proofs.lemmas.Str.{IsUtf8-from_ascii}
 use Rattle.std.proofs.lemmas.Str.Ascii.{IsAscii-nil, IsAscii-cons}
-use Rattle.std.proofs.lemmas.Bool.{and_parts}
+use Rattle.std.proofs.lemmas.Bool.{and_parts, eq-eqb}
 use Rattle.std.proofs.lemmas.Bool.Decides.{nat_tests}
 use Rattle.tk_core.specs.Attributes.{is_i64}
 use Rattle.tk_core.specs.declared.op.row.OpRow.{OpRow}
@@ -31,13 +31,13 @@ use Rattle.serde_json.specs.View.{items_of}
 use Rattle.serde_json.specs.Read.{max_depth}
 use Rattle.serde_json.specs.Written.{outline, items_outline, members_outline, compact_text}
 use Rattle.tk_stream.specs.Tables.{PollCounts}
-use Rattle.tk_stream.specs.Lines.{LineView, GoneView, is_seq, version}
+use Rattle.tk_stream.specs.Lines.{LineView, GoneView, is_seq, version, version_with, counts_waits}
 use Rattle.tk_stream.specs.Times.{TaskTimes, filled_from, counts_from}
 use Rattle.tk_stream.proofs.TimesLemmas.{filled_back, all_filled}
 use Rattle.tk_stream.specs.Outcome.{shaped, ◌then◌}
-use Rattle.tk_stream.specs.Reading.{id_of, optional_of, optional_id_of, optional_name_of, attr_of, attr_kind_of, value_of, attrs_in, values_in, kind_of, location_in, info_of, resource_parts, resource_of, op_parts, op_of, stats_of, resource_stats_with, resource_stats_of, op_stats_with, op_stats_of, counts_of, filled_of, buckets_in, times_of, said_at, parts_of, line_of, each_of, values_of, json_or_fault, line_of_text}
-use Rattle.tk_stream.specs.Spelling.{members_in, gone_members, members_between, times_fields, line_members, number_data, optional_data, optional_text, attr_kind_text, attr_data, value_data, kind_text, location_data, info_data, resource_data, op_data, stats_data, resource_stats_data, op_stats_data, counts_data, filled_data, times_data, line_data, line_text}
-use Rattle.tk_stream.specs.Ranges.{IsId, IsOptional, IsOptionalId, IsName, IsLocation, IsAttr, IsValue, AreAttrs, AreValues, IsTaskInfo, IsResourceInfo, IsOpInfo, AreTaskStats, AreResourceStats, AreOpStats, AreCounts, AreTimes, AreTold, IsGone, IsLine}
+use Rattle.tk_stream.specs.Reading.{id_of, optional_of, optional_id_of, optional_name_of, attr_of, attr_kind_of, value_of, waits_of, number_at, attrs_in, values_in, kind_of, location_in, info_of, resource_parts, resource_of, op_parts, op_of, stats_of, resource_stats_with, resource_stats_of, op_stats_with, op_stats_of, counts_of, filled_of, buckets_in, times_of, said_at, parts_of, line_in, line_of, each_of, values_of, json_or_fault, line_of_text}
+use Rattle.tk_stream.specs.Spelling.{members_in, object_with, dropped_data, waits_data, gone_members, members_between, times_fields, line_members, number_data, optional_data, optional_text, attr_kind_text, attr_data, value_data, kind_text, location_data, info_data, resource_data, op_data, stats_data, resource_stats_data, op_stats_data, counts_data, filled_data, times_data, line_data, line_text}
+use Rattle.tk_stream.specs.Ranges.{IsId, IsNumber, IsOptional, IsOptionalId, IsName, IsLocation, IsAttr, IsValue, AreAttrs, AreValues, IsTaskInfo, IsResourceInfo, IsOpInfo, AreTaskStats, AreResourceStats, AreOpStats, AreCounts, AreTimes, AreTold, IsGone, IsLine}
 use Rattle.tk_stream.proofs.Texts.{json_read}
 use Rattle.tk_stream.proofs.Round.{IsWhole, AreWhole, whole_is_text, read-compact_text}
 
@@ -55,6 +55,10 @@ attr_kind_back kinds.I64 = refl
 optional_back : (o : Option ℕ) → optional_of (optional_data o) ≡ Some o
 optional_back (Some n) = refl
 optional_back None = refl
+
+waits_back : (sched : ℕ) (waited : Option ℕ) → waits_of (waits_data sched waited) ≡ Some (sched, waited)
+waits_back sched None = refl
+waits_back sched (Some waited) = refl
 
 optional_id_back : (o : Option ℕ) → IsOptionalId o → optional_id_of (optional_data o) ≡ Some o
 optional_id_back (Some n) h = rw h refl
@@ -137,7 +141,7 @@ stats_back : (s : ℕ × TaskRow) → AreTaskStats s → stats_of (stats_data s)
 unfolding stats_of
 stats_back s fit =
     let id = fit.id in
-    rw (optional_back s.1.dropped, optional_back s.1.first_poll, id, optional_back s.1.last_ended, optional_back s.1.last_started, optional_back s.1.last_wake) refl
+    rw (optional_back s.1.dropped, optional_back s.1.first_poll, id, optional_back s.1.last_ended, optional_back s.1.last_started, optional_back s.1.last_wake, waits_back s.1.sched s.1.waited) refl
 
 resource_stats_back : (s : ℕ × ResourceRow) → AreResourceStats s → resource_stats_of (resource_stats_data s) ≡ Some s
 unfolding resource_stats_of resource_stats_with
@@ -176,26 +180,63 @@ times_back t fit =
 not_said : IsSome {T = GoneView} None → ⊥
 not_said e = absurd (cc)
 
+-- the members of a line, of rows of which some count waits or none does
+abbrev members_at : Bool → LineView → List (List ℕ × Data)
+members_at counts l =
+    (codes "dropped", dropped_data l.dropped) ∷
+    gone_members l.gone ++ (members_between l ++ (times_fields l.task_times ++ (codes "v", number_data (version_with counts l.gone l.task_times)) ∷ []))
+
 -- a line of each version
-pub line_back : (l : LineView) → IsLine l → line_of (line_data l) ≡ Some l
-unfolding line_of parts_of said_at line_data
-line_back l fit = by l.gone l.task_times fit.gone fit.task_times
+line_parts : (l : LineView) → IsLine l → line_in (line_data l) ≡ Some l
+unfolding line_in parts_of said_at line_data
+line_parts l fit = by (list_any counts_waits l.task_stats) l.gone l.task_times fit.gone fit.task_times
   where
-    by : (gone : Option GoneView) (times : Option (List TaskTimes)) → IfSome gone IsGone → IfSome times (AreTold gone)
-        → line_of (line_data (record l { gone = gone; task_times = times })) ≡ Some (record l { gone = gone; task_times = times })
-    by None None none untold =
+    by : (counts : Bool) (gone : Option GoneView) (times : Option (List TaskTimes)) → IfSome gone IsGone → IfSome times (AreTold gone)
+        → line_in (object_with (members_at counts (record l { gone = gone; task_times = times }))) ≡ Some (record l { gone = gone; task_times = times })
+    by false None None none untold =
         let seq = fit.seq in
         rw (seq, each_back op_of op_data IsOpInfo op_back l.new_ops fit.new_ops, each_back resource_of resource_data IsResourceInfo resource_back l.new_resources fit.new_resources, each_back info_of info_data IsTaskInfo info_back l.new_tasks fit.new_tasks, each_back op_stats_of op_stats_data AreOpStats op_stats_back l.op_stats fit.op_stats, each_back counts_of counts_data AreCounts counts_back l.poll_counts fit.poll_counts, each_back resource_stats_of resource_stats_data AreResourceStats resource_stats_back l.resource_stats fit.resource_stats, each_back stats_of stats_data AreTaskStats stats_back l.task_stats fit.task_stats)
         refl
-    by None (Some ts) none told = absurd (not_said told.said)
-    by (Some g) None are untold =
+    by true None None none untold =
+        let seq = fit.seq in
+        rw (seq, each_back op_of op_data IsOpInfo op_back l.new_ops fit.new_ops, each_back resource_of resource_data IsResourceInfo resource_back l.new_resources fit.new_resources, each_back info_of info_data IsTaskInfo info_back l.new_tasks fit.new_tasks, each_back op_stats_of op_stats_data AreOpStats op_stats_back l.op_stats fit.op_stats, each_back counts_of counts_data AreCounts counts_back l.poll_counts fit.poll_counts, each_back resource_stats_of resource_stats_data AreResourceStats resource_stats_back l.resource_stats fit.resource_stats, each_back stats_of stats_data AreTaskStats stats_back l.task_stats fit.task_stats)
+        refl
+    by false None (Some ts) none told = absurd (not_said told.said)
+    by true None (Some ts) none told = absurd (not_said told.said)
+    by false (Some g) None are untold =
         let seq = fit.seq in
         rw (seq, each_back id_of number_data IsId id_back g.ops are.ops, each_back id_of number_data IsId id_back g.resources are.resources, each_back id_of number_data IsId id_back g.tasks are.tasks, each_back op_of op_data IsOpInfo op_back l.new_ops fit.new_ops, each_back resource_of resource_data IsResourceInfo resource_back l.new_resources fit.new_resources, each_back info_of info_data IsTaskInfo info_back l.new_tasks fit.new_tasks, each_back op_stats_of op_stats_data AreOpStats op_stats_back l.op_stats fit.op_stats, each_back counts_of counts_data AreCounts counts_back l.poll_counts fit.poll_counts, each_back resource_stats_of resource_stats_data AreResourceStats resource_stats_back l.resource_stats fit.resource_stats, each_back stats_of stats_data AreTaskStats stats_back l.task_stats fit.task_stats)
         refl
-    by (Some g) (Some ts) are told =
+    by true (Some g) None are untold =
+        let seq = fit.seq in
+        rw (seq, each_back id_of number_data IsId id_back g.ops are.ops, each_back id_of number_data IsId id_back g.resources are.resources, each_back id_of number_data IsId id_back g.tasks are.tasks, each_back op_of op_data IsOpInfo op_back l.new_ops fit.new_ops, each_back resource_of resource_data IsResourceInfo resource_back l.new_resources fit.new_resources, each_back info_of info_data IsTaskInfo info_back l.new_tasks fit.new_tasks, each_back op_stats_of op_stats_data AreOpStats op_stats_back l.op_stats fit.op_stats, each_back counts_of counts_data AreCounts counts_back l.poll_counts fit.poll_counts, each_back resource_stats_of resource_stats_data AreResourceStats resource_stats_back l.resource_stats fit.resource_stats, each_back stats_of stats_data AreTaskStats stats_back l.task_stats fit.task_stats)
+        refl
+    by false (Some g) (Some ts) are told =
         let seq = fit.seq in
         rw (seq, each_back times_of times_data AreTimes times_back ts told.each, each_back id_of number_data IsId id_back g.ops are.ops, each_back id_of number_data IsId id_back g.resources are.resources, each_back id_of number_data IsId id_back g.tasks are.tasks, each_back op_of op_data IsOpInfo op_back l.new_ops fit.new_ops, each_back resource_of resource_data IsResourceInfo resource_back l.new_resources fit.new_resources, each_back info_of info_data IsTaskInfo info_back l.new_tasks fit.new_tasks, each_back op_stats_of op_stats_data AreOpStats op_stats_back l.op_stats fit.op_stats, each_back counts_of counts_data AreCounts counts_back l.poll_counts fit.poll_counts, each_back resource_stats_of resource_stats_data AreResourceStats resource_stats_back l.resource_stats fit.resource_stats, each_back stats_of stats_data AreTaskStats stats_back l.task_stats fit.task_stats)
         refl
+    by true (Some g) (Some ts) are told =
+        let seq = fit.seq in
+        rw (seq, each_back times_of times_data AreTimes times_back ts told.each, each_back id_of number_data IsId id_back g.ops are.ops, each_back id_of number_data IsId id_back g.resources are.resources, each_back id_of number_data IsId id_back g.tasks are.tasks, each_back op_of op_data IsOpInfo op_back l.new_ops fit.new_ops, each_back resource_of resource_data IsResourceInfo resource_back l.new_resources fit.new_resources, each_back info_of info_data IsTaskInfo info_back l.new_tasks fit.new_tasks, each_back op_stats_of op_stats_data AreOpStats op_stats_back l.op_stats fit.op_stats, each_back counts_of counts_data AreCounts counts_back l.poll_counts fit.poll_counts, each_back resource_stats_of resource_stats_data AreResourceStats resource_stats_back l.resource_stats fit.resource_stats, each_back stats_of stats_data AreTaskStats stats_back l.task_stats fit.task_stats)
+        refl
+
+-- the number that is read as its version
+version_read : (l : LineView) → number_at (codes "v") (line_data l) ≡ Some (version l)
+unfolding line_data
+version_read l = by l.gone l.task_times
+  where
+    by : (gone : Option GoneView) (times : Option (List TaskTimes)) → number_at (codes "v") (line_data (record l { gone = gone; task_times = times })) ≡ Some (version (record l { gone = gone; task_times = times }))
+    by None None = refl
+    by None (Some ts) = refl
+    by (Some g) None = refl
+    by (Some g) (Some ts) = refl
+
+same_version : (n : ℕ) → (n == n) ≡ true
+same_version n = eq-eqb n n refl
+
+pub line_back : (l : LineView) → IsLine l → line_of (line_data l) ≡ Some l
+unfolding line_of
+line_back l fit = rw (line_parts l fit, version_read l, same_version (version l)) refl
 
 -- ---- whole values
 
@@ -228,6 +269,16 @@ seq_small n h = let most : n ≤ 2 ^ 63 = leb-true _ _ (and_parts _ _ h).1 in om
 optional_whole : (o : Option ℕ) → IsOptional o → IsWhole (optional_data o)
 optional_whole (Some n) h = h
 optional_whole None h = tt
+
+waits_whole : (sched : ℕ) (waited : Option ℕ) → IsNumber sched → IsOptional waited → IsWhole (waits_data sched waited)
+waits_whole sched None h g = h
+waits_whole sched (Some waited) h g = (h, (g, tt))
+
+version_small : (counts : Bool) (gone : Option GoneView) (times : Option (List TaskTimes)) → version_with counts gone times < 2 ^ 64
+version_small true _ _ = lit< tt
+version_small false None _ = lit< tt
+version_small false (Some _) None = lit< tt
+version_small false (Some _) (Some _) = lit< tt
 
 optional_id_whole : (o : Option ℕ) → IsOptionalId o → IsWhole (optional_data o)
 optional_id_whole (Some n) h = id_small n h
@@ -266,7 +317,7 @@ op_whole : (o : OpInfo) → IsOpInfo o → IsWhole (op_data o)
 op_whole o fit = ((ascii (codes "attrs") refl, each_whole attr_data IsAttr attr_whole o.attrs fit.attrs.each, (ascii (codes "id") refl, id_small o.id fit.id, (ascii (codes "parent") refl, optional_id_whole o.parent fit.parent, (ascii (codes "resource") refl, id_small o.resource fit.resource, (ascii (codes "source") refl, name_text o.source fit.source, tt))))), refl)
 
 stats_whole : (s : ℕ × TaskRow) → AreTaskStats s → IsWhole (stats_data s)
-stats_whole s fit = ((ascii (codes "busy") refl, fit.busy, (ascii (codes "clones") refl, fit.clones, (ascii (codes "created") refl, fit.created, (ascii (codes "dropped") refl, optional_whole s.1.dropped fit.dropped, (ascii (codes "drops") refl, fit.drops, (ascii (codes "first_poll") refl, optional_whole s.1.first_poll fit.first_poll, (ascii (codes "handles") refl, fit.handles, (ascii (codes "id") refl, id_small s.0 fit.id, (ascii (codes "last_ended") refl, optional_whole s.1.last_ended fit.last_ended, (ascii (codes "last_started") refl, optional_whole s.1.last_started fit.last_started, (ascii (codes "last_wake") refl, optional_whole s.1.last_wake fit.last_wake, (ascii (codes "polling") refl, tt, (ascii (codes "polls") refl, fit.polls, (ascii (codes "sched") refl, fit.sched, (ascii (codes "scheduled") refl, tt, (ascii (codes "self_wakes") refl, fit.self_wakes, (ascii (codes "wakes") refl, fit.wakes, tt))))))))))))))))), refl)
+stats_whole s fit = ((ascii (codes "busy") refl, fit.busy, (ascii (codes "clones") refl, fit.clones, (ascii (codes "created") refl, fit.created, (ascii (codes "dropped") refl, optional_whole s.1.dropped fit.dropped, (ascii (codes "drops") refl, fit.drops, (ascii (codes "first_poll") refl, optional_whole s.1.first_poll fit.first_poll, (ascii (codes "handles") refl, fit.handles, (ascii (codes "id") refl, id_small s.0 fit.id, (ascii (codes "last_ended") refl, optional_whole s.1.last_ended fit.last_ended, (ascii (codes "last_started") refl, optional_whole s.1.last_started fit.last_started, (ascii (codes "last_wake") refl, optional_whole s.1.last_wake fit.last_wake, (ascii (codes "polling") refl, tt, (ascii (codes "polls") refl, fit.polls, (ascii (codes "sched") refl, waits_whole s.1.sched s.1.waited fit.sched fit.waited, (ascii (codes "scheduled") refl, tt, (ascii (codes "self_wakes") refl, fit.self_wakes, (ascii (codes "wakes") refl, fit.wakes, tt))))))))))))))))), refl)
 
 resource_stats_whole : (s : ℕ × ResourceRow) → AreResourceStats s → IsWhole (resource_stats_data s)
 resource_stats_whole s fit = ((ascii (codes "attrs") refl, each_whole value_data IsValue value_whole s.1.attrs fit.attrs.each, (ascii (codes "created") refl, fit.created, (ascii (codes "dropped") refl, optional_whole s.1.dropped fit.dropped, (ascii (codes "handles") refl, fit.handles, (ascii (codes "id") refl, id_small s.0 fit.id, tt))))), refl)
@@ -291,10 +342,10 @@ unfolding line_data
 line_whole l fit = by l.gone l.task_times fit.gone fit.task_times
   where
     by : (gone : Option GoneView) (times : Option (List TaskTimes)) → IfSome gone IsGone → IfSome times (AreTold gone) → IsWhole (line_data (record l { gone = gone; task_times = times }))
-    by None None none untold = ((ascii (codes "dropped") refl, (fit.dropped.tasks, (fit.dropped.resources, (fit.dropped.ops, tt))), (ascii (codes "new_ops") refl, each_whole op_data IsOpInfo op_whole l.new_ops fit.new_ops, (ascii (codes "new_resources") refl, each_whole resource_data IsResourceInfo resource_whole l.new_resources fit.new_resources, (ascii (codes "new_tasks") refl, each_whole info_data IsTaskInfo info_whole l.new_tasks fit.new_tasks, (ascii (codes "now") refl, fit.now, (ascii (codes "op_stats") refl, each_whole op_stats_data AreOpStats op_stats_whole l.op_stats fit.op_stats, (ascii (codes "poll_counts") refl, each_whole counts_data AreCounts counts_whole l.poll_counts fit.poll_counts, (ascii (codes "resource_stats") refl, each_whole resource_stats_data AreResourceStats resource_stats_whole l.resource_stats fit.resource_stats, (ascii (codes "seq") refl, seq_small l.seq fit.seq, (ascii (codes "snapshot") refl, tt, (ascii (codes "task_stats") refl, each_whole stats_data AreTaskStats stats_whole l.task_stats fit.task_stats, (ascii (codes "v") refl, lit< tt, tt)))))))))))), refl)
+    by None None none untold = ((ascii (codes "dropped") refl, (fit.dropped.tasks, (fit.dropped.resources, (fit.dropped.ops, tt))), (ascii (codes "new_ops") refl, each_whole op_data IsOpInfo op_whole l.new_ops fit.new_ops, (ascii (codes "new_resources") refl, each_whole resource_data IsResourceInfo resource_whole l.new_resources fit.new_resources, (ascii (codes "new_tasks") refl, each_whole info_data IsTaskInfo info_whole l.new_tasks fit.new_tasks, (ascii (codes "now") refl, fit.now, (ascii (codes "op_stats") refl, each_whole op_stats_data AreOpStats op_stats_whole l.op_stats fit.op_stats, (ascii (codes "poll_counts") refl, each_whole counts_data AreCounts counts_whole l.poll_counts fit.poll_counts, (ascii (codes "resource_stats") refl, each_whole resource_stats_data AreResourceStats resource_stats_whole l.resource_stats fit.resource_stats, (ascii (codes "seq") refl, seq_small l.seq fit.seq, (ascii (codes "snapshot") refl, tt, (ascii (codes "task_stats") refl, each_whole stats_data AreTaskStats stats_whole l.task_stats fit.task_stats, (ascii (codes "v") refl, version_small (list_any counts_waits l.task_stats) _ _, tt)))))))))))), refl)
     by None (Some ts) none told = absurd (not_said told.said)
-    by (Some g) None are untold = ((ascii (codes "dropped") refl, (fit.dropped.tasks, (fit.dropped.resources, (fit.dropped.ops, tt))), (ascii (codes "gone_ops") refl, each_whole number_data IsId id_small g.ops are.ops, (ascii (codes "gone_resources") refl, each_whole number_data IsId id_small g.resources are.resources, (ascii (codes "gone_tasks") refl, each_whole number_data IsId id_small g.tasks are.tasks, (ascii (codes "new_ops") refl, each_whole op_data IsOpInfo op_whole l.new_ops fit.new_ops, (ascii (codes "new_resources") refl, each_whole resource_data IsResourceInfo resource_whole l.new_resources fit.new_resources, (ascii (codes "new_tasks") refl, each_whole info_data IsTaskInfo info_whole l.new_tasks fit.new_tasks, (ascii (codes "now") refl, fit.now, (ascii (codes "op_stats") refl, each_whole op_stats_data AreOpStats op_stats_whole l.op_stats fit.op_stats, (ascii (codes "poll_counts") refl, each_whole counts_data AreCounts counts_whole l.poll_counts fit.poll_counts, (ascii (codes "resource_stats") refl, each_whole resource_stats_data AreResourceStats resource_stats_whole l.resource_stats fit.resource_stats, (ascii (codes "seq") refl, seq_small l.seq fit.seq, (ascii (codes "snapshot") refl, tt, (ascii (codes "task_stats") refl, each_whole stats_data AreTaskStats stats_whole l.task_stats fit.task_stats, (ascii (codes "v") refl, lit< tt, tt))))))))))))))), refl)
-    by (Some g) (Some ts) are told = ((ascii (codes "dropped") refl, (fit.dropped.tasks, (fit.dropped.resources, (fit.dropped.ops, tt))), (ascii (codes "gone_ops") refl, each_whole number_data IsId id_small g.ops are.ops, (ascii (codes "gone_resources") refl, each_whole number_data IsId id_small g.resources are.resources, (ascii (codes "gone_tasks") refl, each_whole number_data IsId id_small g.tasks are.tasks, (ascii (codes "new_ops") refl, each_whole op_data IsOpInfo op_whole l.new_ops fit.new_ops, (ascii (codes "new_resources") refl, each_whole resource_data IsResourceInfo resource_whole l.new_resources fit.new_resources, (ascii (codes "new_tasks") refl, each_whole info_data IsTaskInfo info_whole l.new_tasks fit.new_tasks, (ascii (codes "now") refl, fit.now, (ascii (codes "op_stats") refl, each_whole op_stats_data AreOpStats op_stats_whole l.op_stats fit.op_stats, (ascii (codes "poll_counts") refl, each_whole counts_data AreCounts counts_whole l.poll_counts fit.poll_counts, (ascii (codes "resource_stats") refl, each_whole resource_stats_data AreResourceStats resource_stats_whole l.resource_stats fit.resource_stats, (ascii (codes "seq") refl, seq_small l.seq fit.seq, (ascii (codes "snapshot") refl, tt, (ascii (codes "task_stats") refl, each_whole stats_data AreTaskStats stats_whole l.task_stats fit.task_stats, (ascii (codes "task_times") refl, each_whole times_data AreTimes times_whole ts told.each, (ascii (codes "v") refl, lit< tt, tt)))))))))))))))), refl)
+    by (Some g) None are untold = ((ascii (codes "dropped") refl, (fit.dropped.tasks, (fit.dropped.resources, (fit.dropped.ops, tt))), (ascii (codes "gone_ops") refl, each_whole number_data IsId id_small g.ops are.ops, (ascii (codes "gone_resources") refl, each_whole number_data IsId id_small g.resources are.resources, (ascii (codes "gone_tasks") refl, each_whole number_data IsId id_small g.tasks are.tasks, (ascii (codes "new_ops") refl, each_whole op_data IsOpInfo op_whole l.new_ops fit.new_ops, (ascii (codes "new_resources") refl, each_whole resource_data IsResourceInfo resource_whole l.new_resources fit.new_resources, (ascii (codes "new_tasks") refl, each_whole info_data IsTaskInfo info_whole l.new_tasks fit.new_tasks, (ascii (codes "now") refl, fit.now, (ascii (codes "op_stats") refl, each_whole op_stats_data AreOpStats op_stats_whole l.op_stats fit.op_stats, (ascii (codes "poll_counts") refl, each_whole counts_data AreCounts counts_whole l.poll_counts fit.poll_counts, (ascii (codes "resource_stats") refl, each_whole resource_stats_data AreResourceStats resource_stats_whole l.resource_stats fit.resource_stats, (ascii (codes "seq") refl, seq_small l.seq fit.seq, (ascii (codes "snapshot") refl, tt, (ascii (codes "task_stats") refl, each_whole stats_data AreTaskStats stats_whole l.task_stats fit.task_stats, (ascii (codes "v") refl, version_small (list_any counts_waits l.task_stats) _ _, tt))))))))))))))), refl)
+    by (Some g) (Some ts) are told = ((ascii (codes "dropped") refl, (fit.dropped.tasks, (fit.dropped.resources, (fit.dropped.ops, tt))), (ascii (codes "gone_ops") refl, each_whole number_data IsId id_small g.ops are.ops, (ascii (codes "gone_resources") refl, each_whole number_data IsId id_small g.resources are.resources, (ascii (codes "gone_tasks") refl, each_whole number_data IsId id_small g.tasks are.tasks, (ascii (codes "new_ops") refl, each_whole op_data IsOpInfo op_whole l.new_ops fit.new_ops, (ascii (codes "new_resources") refl, each_whole resource_data IsResourceInfo resource_whole l.new_resources fit.new_resources, (ascii (codes "new_tasks") refl, each_whole info_data IsTaskInfo info_whole l.new_tasks fit.new_tasks, (ascii (codes "now") refl, fit.now, (ascii (codes "op_stats") refl, each_whole op_stats_data AreOpStats op_stats_whole l.op_stats fit.op_stats, (ascii (codes "poll_counts") refl, each_whole counts_data AreCounts counts_whole l.poll_counts fit.poll_counts, (ascii (codes "resource_stats") refl, each_whole resource_stats_data AreResourceStats resource_stats_whole l.resource_stats fit.resource_stats, (ascii (codes "seq") refl, seq_small l.seq fit.seq, (ascii (codes "snapshot") refl, tt, (ascii (codes "task_stats") refl, each_whole stats_data AreTaskStats stats_whole l.task_stats fit.task_stats, (ascii (codes "task_times") refl, each_whole times_data AreTimes times_whole ts told.each, (ascii (codes "v") refl, version_small (list_any counts_waits l.task_stats) _ _, tt)))))))))))))))), refl)
 
 -- ---- how deep a line nests
 
@@ -305,6 +356,10 @@ each_shallow spelling n h (x ∷ xs) = omega (arith, h x, each_shallow spelling 
 optional_flat : (o : Option ℕ) → tree.depth (outline (optional_data o)) ≤ 0
 optional_flat (Some n) = omega arith
 optional_flat None = omega arith
+
+waits_flat : (sched : ℕ) (waited : Option ℕ) → tree.depth (outline (waits_data sched waited)) ≤ 1
+waits_flat sched None = omega arith
+waits_flat sched (Some waited) = omega arith
 
 text_flat : (o : Option (List ℕ)) → tree.depth (outline (optional_text o)) ≤ 0
 text_flat (Some s) = omega arith
@@ -326,7 +381,7 @@ op_shallow : (o : OpInfo) → tree.depth (outline (op_data o)) ≤ 3
 op_shallow o = omega (arith, each_shallow attr_data 1 attr_shallow o.attrs, optional_flat o.parent)
 
 stats_shallow : (s : ℕ × TaskRow) → tree.depth (outline (stats_data s)) ≤ 3
-stats_shallow s = omega (arith, optional_flat s.1.dropped, optional_flat s.1.first_poll, optional_flat s.1.last_ended, optional_flat s.1.last_started, optional_flat s.1.last_wake)
+stats_shallow s = omega (arith, optional_flat s.1.dropped, optional_flat s.1.first_poll, optional_flat s.1.last_ended, optional_flat s.1.last_started, optional_flat s.1.last_wake, waits_flat s.1.sched s.1.waited)
 
 resource_stats_shallow : (s : ℕ × ResourceRow) → tree.depth (outline (resource_stats_data s)) ≤ 3
 resource_stats_shallow s = omega (arith, each_shallow value_data 1 value_shallow s.1.attrs, optional_flat s.1.dropped)

@@ -31,7 +31,7 @@ use Rattle.tk_stream.specs.declared.text.read_json.numbers.Version.{Version}
 use Rattle.tk_stream.specs.declared.text.read_json.numbers.Version.TheVariants.{One, Two, Three}
 use Rattle.tk_stream.specs.Lines.{LineView, GoneView}
 use Rattle.tk_stream.specs.Times.{TaskTimes}
-use Rattle.tk_stream.specs.Reading.{◌>>=◌, number_of, values_of, list_of, each_of, id_of, number_at, flag_at, list_at, seq_at, dropped_in, has_members, op_of, resource_of, info_of, op_stats_of, counts_of, resource_stats_of, stats_of, times_of, GoneParts, gone_lists, ids_gone, SaidParts, SaidView, nothing_said, gone_said, both_said, said_at, said_of_parts, PartsView, parts_of, line_of}
+use Rattle.tk_stream.specs.Reading.{◌>>=◌, number_of, values_of, list_of, each_of, id_of, number_at, flag_at, list_at, seq_at, dropped_in, has_members, op_of, resource_of, info_of, op_stats_of, counts_of, resource_stats_of, stats_of, times_of, GoneParts, gone_lists, ids_gone, SaidParts, SaidView, nothing_said, gone_said, both_said, said_at, said_of_parts, PartsView, parts_of, keys_of, of_version, line_in, line_of}
 use Rattle.tk_stream.specs.SmallShapes.{number_same, flag_same, list_same, list_then, no_step}
 use Rattle.tk_stream.specs.Spelled.{ListsView, listed, list_in, lists_in, list_put, lists_put, is_list_key, stands_for, own_members, version_at, numbers_of, gone_with, said_with, line_with, line_of_lists}
 
@@ -347,8 +347,8 @@ parts_at ms said =
     (number_at (codes "now") (object ms)) (list_at (codes "op_stats") (object ms)) (list_at (codes "poll_counts") (object ms)) (list_at (codes "resource_stats") (object ms)) (seq_at (codes "seq") (object ms)) (flag_at (codes "snapshot") (object ms)) (list_at (codes "task_stats") (object ms))
 
 version_by : (version : Option ℕ) (ms : Members)
-    → ((version >>= λ v. parts_at ms (said_at v (object ms))) >>= line_from)
-    ≡ ((version >>= λ v. version_at v (object ms) >>= λ says. (list_at (codes "dropped") (object ms) >>= dropped_in) >>= λ d. number_at (codes "now") (object ms) >>= λ n. seq_at (codes "seq") (object ms) >>= λ q. flag_at (codes "snapshot") (object ms)
+    → ((version >>= λ v. parts_at ms (said_at (keys_of v (object ms)) (object ms))) >>= line_from)
+    ≡ ((version >>= λ v. version_at (keys_of v (object ms)) (object ms) >>= λ says. (list_at (codes "dropped") (object ms) >>= dropped_in) >>= λ d. number_at (codes "now") (object ms) >>= λ n. seq_at (codes "seq") (object ms) >>= λ q. flag_at (codes "snapshot") (object ms)
     >>= λ s. Some (numbers_made says d n q s))
     >>= λ n. line_with n (at_lists ms))
 unfolding said_at at_lists
@@ -357,15 +357,16 @@ version_by (Some v) ms =
     kind_by (list_at (codes "gone_ops") (object ms)) (list_at (codes "gone_resources") (object ms)) (list_at (codes "gone_tasks") (object ms)) (list_at (codes "task_times") (object ms))
     (list_at (codes "new_ops") (object ms)) (list_at (codes "new_resources") (object ms)) (list_at (codes "new_tasks") (object ms))
     (list_at (codes "op_stats") (object ms)) (list_at (codes "poll_counts") (object ms)) (list_at (codes "resource_stats") (object ms)) (list_at (codes "task_stats") (object ms))
-    (v == 1) (has_members 12 (object ms)) (v == 2) (has_members 15 (object ms)) (v == 3 && has_members 16 (object ms)) (list_at (codes "dropped") (object ms) >>= dropped_in) (number_at (codes "now") (object ms)) (seq_at (codes "seq") (object ms)) (flag_at (codes "snapshot") (object ms))
+    (keys_of v (object ms) == 1) (has_members 12 (object ms)) (keys_of v (object ms) == 2) (has_members 15 (object ms)) (keys_of v (object ms) == 3 && has_members 16 (object ms)) (list_at (codes "dropped") (object ms) >>= dropped_in) (number_at (codes "now") (object ms)) (seq_at (codes "seq") (object ms)) (flag_at (codes "snapshot") (object ms))
 
-of_members : (ms : Members) → line_of (object ms) ≡ line_of_lists (object ms) (at_lists ms)
-unfolding line_of parts_of numbers_of
+of_members : (ms : Members) → line_in (object ms) ≡ (numbers_of (object ms) >>= λ n. line_with n (at_lists ms))
+unfolding line_in parts_of numbers_of
 of_members ms = version_by (number_at (codes "v") (object ms)) ms
 
 -- the line of an object, of its own object and its lists
 pub line_of_own : (ms : Members) → line_of_lists (object (own_members ms)) (lists_in ms) ≡ line_of (object ms)
-line_of_own ms = ap₂ (λ o lists. o >>= λ n. line_with n lists) (own_numbers ms) (lists_are ms) ∙ sym (of_members ms)
+unfolding line_of
+line_of_own ms = ap₂ (λ o number. o >>= of_version number) (ap₂ (λ o lists. o >>= λ n. line_with n lists) (own_numbers ms) (lists_are ms) ∙ sym (of_members ms)) (own_number (codes "v") refl ms)
 
 -- ---- keys that are no list's, and too many of them
 
@@ -404,13 +405,13 @@ unfolding said_at
 no_said version d twelve fifteen sixteen =
     rw (twelve, fifteen, sixteen) (none_said (version == 1) (version == 2) (version == 3) (option_map gone_said (gone_lists d)) (gone_lists d >>= λ gone. option_map (both_said gone) (list_at (codes "task_times") d)))
 
-too_many_by : (version : Option ℕ) (ms : Members) → has_members 12 (object ms) ≡ false → has_members 15 (object ms) ≡ false → has_members 16 (object ms) ≡ false → (version >>= λ v. parts_at ms (said_at v (object ms))) ≡ None
+too_many_by : (version : Option ℕ) (ms : Members) → has_members 12 (object ms) ≡ false → has_members 15 (object ms) ≡ false → has_members 16 (object ms) ≡ false → (version >>= λ v. parts_at ms (said_at (keys_of v (object ms)) (object ms))) ≡ None
 too_many_by None ms twelve fifteen sixteen = refl
-too_many_by (Some v) ms twelve fifteen sixteen = ap (parts_at ms) (no_said v (object ms) twelve fifteen sixteen)
+too_many_by (Some v) ms twelve fifteen sixteen = ap (parts_at ms) (no_said (keys_of v (object ms)) (object ms) twelve fifteen sixteen)
 
 too_many : (ms : Members) → 16 < members_len ms → line_of (object ms) ≡ None
-unfolding line_of parts_of
-too_many ms h = ap (λ o. o >>= line_from) (too_many_by (number_at (codes "v") (object ms)) ms (grind arith) (grind arith) (grind arith))
+unfolding line_of line_in parts_of
+too_many ms h = ap (λ o. (o >>= line_from) >>= of_version (number_at (codes "v") (object ms))) (too_many_by (number_at (codes "v") (object ms)) ms (grind arith) (grind arith) (grind arith))
 
 pub many_passed : (held : Members) (depth : ℕ) (ts r : List Token) → 16 < members_len held → rest (members_read held depth ts) ≡ Some r → parse_map (λ ms. line_of (object ms)) (members_read held depth ts) ≡ Some (None, r)
 many_passed held depth ts r h e =
@@ -429,7 +430,7 @@ object_line depth all ts is h = ap (parse_map line_of) (object_read depth all ts
 
 -- a value that is no object
 pub no_line : (d : Data) → get (codes "v") d ≡ None → line_of d ≡ None
-unfolding line_of parts_of
+unfolding line_of line_in parts_of
 no_line d none = rw none refl
 
 pub other_value : (depth : ℕ) (t : tokens.Token) (all ts r : List Token) → all ≡ token_of t ∷ ts → (t ≡ BeginObject → ⊥) → rest (value_read depth (token_of t ∷ ts)) ≡ Some r → parse_map line_of (value_read depth all) ≡ Some (None, r)

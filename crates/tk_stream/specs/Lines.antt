@@ -1,5 +1,6 @@
 -- What a line says: which items are new since the tables before, and which rows and counts differ.
-use Rattle.std.specs.Prelude.{◌≡◌, ℕ, ◌^◌, List, [], map, filter, Bool, true, false, ◌&&◌, not, nat_le, is_none, Option, Some, None, unwrap_or}
+use Rattle.std.specs.Prelude.{◌≡◌, ℕ, ◌^◌, List, [], map, filter, Bool, true, false, ◌&&◌, not, nat_le, is_none, is_some, Option, Some, None, unwrap_or}
+use Rattle.std.specs.List.{list_any}
 use Rattle.std.specs.Option.{option_map_or}
 use Rattle.tk_core.specs.declared.op.row.OpRow.{OpRow}
 use Rattle.tk_core.specs.declared.resource.row.ResourceRow.{ResourceRow}
@@ -26,7 +27,8 @@ abbrev pub none_gone : GoneView
 none_gone = record { ops = []; resources = []; tasks = [] }
 
 -- what a line says: its infos are those of new items, its statistics are ids with their rows. A line of version 2 also says
--- which items are gone, one of version 3 also tells histograms of tasks' poll times, and one of version 1 says nothing of either
+-- which items are gone, one of version 3 also tells histograms of tasks' poll times, and one of version 1 says nothing of either. One
+-- of version 4 says what one of these says, and tells rows that count waits
 pub record LineView : Type 0 where
   pub dropped : Dropped
   pub gone : Option GoneView
@@ -46,15 +48,21 @@ pub record LineView : Type 0 where
 abbrev pub is_seq : ℕ → Bool
 is_seq n = nat_le 1 n && nat_le n (2 ^ 63)
 
--- the version of a line's format: 3 where it says what is gone and tells histograms, 2 where it says what is gone, and otherwise 1
-abbrev pub version_with : Option GoneView → Option (List TaskTimes) → ℕ
-version_with None times = 1
-version_with (Some gone) None = 2
-version_with (Some gone) (Some times) = 3
+-- whether a task's row counts its waits
+abbrev pub counts_waits : ℕ × TaskRow → Bool
+counts_waits s = is_some s.1.waited
+
+-- the version of a line's format: 4 where it tells a row that counts waits, otherwise 3 where it says what is gone and tells histograms,
+-- 2 where it says what is gone, and otherwise 1
+abbrev pub version_with : Bool → Option GoneView → Option (List TaskTimes) → ℕ
+version_with true _ _ = 4
+version_with false None _ = 1
+version_with false (Some _) None = 2
+version_with false (Some _) (Some _) = 3
 
 -- the version of a line's format
 abbrev pub version : LineView → ℕ
-version l = version_with l.gone l.task_times
+version l = version_with (list_any counts_waits l.task_stats) l.gone l.task_times
 
 -- the items that a line says are gone
 abbrev pub gone_of : LineView → GoneView

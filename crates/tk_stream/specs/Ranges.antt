@@ -107,6 +107,7 @@ pub record AreTaskStats (s : ℕ × TaskRow) : Type 0 where
   pub drops : IsNumber s.1.drops
   pub handles : IsNumber s.1.handles
   pub sched : IsNumber s.1.sched
+  pub waited : IsOptional s.1.waited
 
 -- a resource's id and row
 pub record AreResourceStats (s : ℕ × ResourceRow) : Type 0 where

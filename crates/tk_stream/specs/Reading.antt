@@ -28,7 +28,7 @@ use Rattle.tk_stream.specs.declared.error.LineError.{LineError}
 use Rattle.tk_stream.specs.declared.error.LineError.TheVariants.{BadJson}
 use Rattle.tk_stream.specs.Tables.{PollCounts}
 use Rattle.tk_stream.specs.Times.{TaskTimes, counts_from}
-use Rattle.tk_stream.specs.Lines.{LineView, GoneView, is_seq}
+use Rattle.tk_stream.specs.Lines.{LineView, GoneView, is_seq, version}
 use Rattle.tk_stream.specs.Outcome.{shaped, ◌then◌}
 
 infixl 10 ◌>>=◌
@@ -173,6 +173,23 @@ value_of d = option_map values.U64 (number_of d)
 unfoldable pub values_in : List Data → Option (List AttrValue)
 values_in ds = each_of value_of ds >>= λ vs. if nat_le (length vs) 6 then Some vs else None
 
+-- [scheduled, waited]
+abbrev pub waits_in : List Data → Option (ℕ × Option ℕ)
+waits_in (s ∷ w ∷ []) = do
+  sched ← number_of s
+  waited ← number_of w
+  Some (sched, Some waited)
+waits_in _ = None
+
+-- how long a task waited: a number, or [scheduled, waited]
+abbrev pub waits_of : Data → Option (ℕ × Option ℕ)
+waits_of (array ds) = waits_in (values_of ds)
+waits_of d = option_map (λ n. (n, None)) (number_of d)
+
+-- the same, at a key
+abbrev pub waits_at : List ℕ → Data → Option (ℕ × Option ℕ)
+waits_at key d = get key d >>= waits_of
+
 -- ---- infos
 
 -- a kind of task by what it is called
@@ -261,11 +278,11 @@ stats_of d = if has_members 17 d then (do
   last_wake ← optional_at (codes "last_wake") d
   polling ← flag_at (codes "polling") d
   polls ← number_at (codes "polls") d
-  sched ← number_at (codes "sched") d
+  waits ← waits_at (codes "sched") d
   scheduled ← flag_at (codes "scheduled") d
   self_wakes ← number_at (codes "self_wakes") d
   wakes ← number_at (codes "wakes") d
-  Some (id, record { created = created; dropped = dropped; polls = polls; first_poll = first_poll; last_started = last_started; last_ended = last_ended; busy = busy; wakes = wakes; self_wakes = self_wakes; last_wake = last_wake; clones = clones; drops = drops; handles = handles; sched = sched; polling = polling; scheduled = scheduled }))
+  Some (id, record { created = created; dropped = dropped; polls = polls; first_poll = first_poll; last_started = last_started; last_ended = last_ended; busy = busy; wakes = wakes; self_wakes = self_wakes; last_wake = last_wake; clones = clones; drops = drops; handles = handles; sched = waits.0; waited = waits.1; polling = polling; scheduled = scheduled }))
     else None
 
 -- a resource's id and row, with attribute values that were read, of exactly these keys and `attrs`
@@ -393,6 +410,10 @@ gone_said gone = record { gone = Some gone; times = None }
 abbrev pub both_said : GoneParts → List Data → SaidParts
 both_said gone times = record { gone = Some gone; times = Some times }
 
+-- which of the other versions' keys a line has: one of version 4 has those of 1, 2 or 3, by how many they are
+abbrev pub keys_of : ℕ → Data → ℕ
+keys_of version d = if version == 4 then (if has_members 12 d then 1 else (if has_members 15 d then 2 else 3)) else version
+
 -- what a line says of these by the version of the format, which has so many keys; there are no other versions
 unfoldable pub said_at : ℕ → Data → Option SaidParts
 said_at version d =
@@ -449,7 +470,7 @@ pub record PartsView : Type 0 where
 unfoldable pub parts_of : Data → Option PartsView
 parts_of d = do
   version ← number_at (codes "v") d
-  said ← said_at version d
+  said ← said_at (keys_of version d) d
   dropped ← list_at (codes "dropped") d >>= dropped_in
   new_ops ← list_at (codes "new_ops") d
   new_resources ← list_at (codes "new_resources") d
@@ -463,9 +484,9 @@ parts_of d = do
   task_stats ← list_at (codes "task_stats") d
   Some (record { dropped = dropped; said = said; new_ops = new_ops; new_resources = new_resources; new_tasks = new_tasks; now = now; op_stats = op_stats; poll_counts = poll_counts; resource_stats = resource_stats; seq = seq; snapshot = snapshot; task_stats = task_stats })
 
--- the line that a value is: it has exactly the keys of its version, each with a value of its kind
-unfoldable pub line_of : Data → Option LineView
-line_of d = do
+-- the line that a value is, whose version is still to be compared: it has exactly the keys of its version, each with a value of its kind
+unfoldable pub line_in : Data → Option LineView
+line_in d = do
   p ← parts_of d
   said ← said_of_parts p.said
   new_ops ← each_of op_of p.new_ops
@@ -476,6 +497,15 @@ line_of d = do
   resource_stats ← each_of resource_stats_of p.resource_stats
   task_stats ← each_of stats_of p.task_stats
   Some (record { dropped = p.dropped; gone = said.gone; new_ops = new_ops; new_resources = new_resources; new_tasks = new_tasks; now = p.now; op_stats = op_stats; poll_counts = poll_counts; resource_stats = resource_stats; seq = p.seq; snapshot = p.snapshot; task_stats = task_stats; task_times = said.times })
+
+-- a line, where this is its version
+abbrev pub of_version : Option ℕ → LineView → Option LineView
+of_version None l = None
+of_version (Some n) l = if version l == n then Some l else None
+
+-- the line that a value is: of its version
+unfoldable pub line_of : Data → Option LineView
+line_of d = line_in d >>= of_version (number_at (codes "v") d)
 
 -- ---- a text
 

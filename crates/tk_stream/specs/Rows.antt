@@ -28,6 +28,7 @@ same_row a b =
     && a.drops == b.drops
     && a.handles == b.handles
     && a.sched == b.sched
+    && option_eq nat_eq a.waited b.waited
     && beq a.polling b.polling
     && beq a.scheduled b.scheduled
 

@@ -12,7 +12,7 @@ use Rattle.tk_ids.specs.declared.info.ResourceInfo.{ResourceInfo}
 use Rattle.tk_ids.specs.declared.location.Location.{Location}
 use Rattle.tk_json.specs.Small.{small, small_items, small_members, few, nothing}
 use Rattle.tk_json.proofs.Kept.{scalars_kept, items_kept, members_kept}
-use Rattle.tk_stream.specs.Reading.{◌>>=◌, has_members, number_of, optional_of, id_of, optional_id_of, name_of, optional_name_of, small_of, values_of, list_of, each_of, number_at, optional_at, flag_at, text_at, list_at, id_at, optional_id_at, name_at, location_in, location_at, attr_in, attr_of, attrs_in, signed_in, value_of, values_in, info_of, ResourceView, resource_parts, resource_of, OpView, op_parts, op_of, stats_of, resource_stats_with, resource_stats_of, op_stats_with, op_stats_of, counts_in, counts_of, filled_in, filled_of, buckets_in, times_of}
+use Rattle.tk_stream.specs.Reading.{◌>>=◌, has_members, number_of, optional_of, id_of, optional_id_of, name_of, optional_name_of, small_of, values_of, list_of, each_of, number_at, optional_at, flag_at, text_at, list_at, id_at, optional_id_at, name_at, location_in, location_at, attr_in, attr_of, attrs_in, signed_in, value_of, values_in, waits_in, waits_of, waits_at, info_of, ResourceView, resource_parts, resource_of, OpView, op_parts, op_of, stats_of, resource_stats_with, resource_stats_of, op_stats_with, op_stats_of, counts_in, counts_of, filled_in, filled_of, buckets_in, times_of}
 use Rattle.tk_stream.specs.Times.{counts_from}
 
 -- ---- values of one token
@@ -162,6 +162,30 @@ value_same (object ms) n = either (nat_le (members_len ms) 17) value_of (object 
 pub value_small : (d : Data) → value_of (small d 3) ≡ value_of d
 value_small d = value_same d 2
 
+waits_few : (n : ℕ) (ds : Items) → waits_in (values_of (small_items ds n)) ≡ waits_in (values_of ds)
+waits_few n no_items = refl
+waits_few n (item a no_items) = refl
+waits_few n (item a (item b no_items)) = rw (number_same a n, number_same b n) refl
+waits_few n (item a (item b (item c ds))) = refl
+
+waits_wide : (ds : Items) → 14 < items_len ds → waits_in (values_of ds) ≡ None
+waits_wide no_items h = refl
+waits_wide (item a no_items) h = refl
+waits_wide (item a (item b no_items)) h = absurd (omega arith)
+waits_wide (item a (item b (item c ds))) h = refl
+
+waits_by : (b : Bool) (n : ℕ) (ds : Items) → nat_le (items_len ds) 14 ≡ b → waits_of (cond b (array (small_items ds n)) nothing) ≡ waits_in (values_of ds)
+waits_by true n ds e = waits_few n ds
+waits_by false n ds e = sym (waits_wide ds (grind arith))
+
+waits_same : (d : Data) (n : ℕ) → waits_of (small d (suc n)) ≡ waits_of d
+waits_same null n = refl
+waits_same (boolean b) n = refl
+waits_same (number x) n = refl
+waits_same (string s) n = refl
+waits_same (array ds) n = waits_by (nat_le (items_len ds) 14) n ds refl
+waits_same (object ms) n = either (nat_le (members_len ms) 17) waits_of (object (small_members ms n)) nothing None refl refl
+
 each_few : {A : Type 0} (shape : Data → Option A) (n : ℕ) → ((d : Data) → shape (small d n) ≡ shape d) → (ds : Items) → each_of shape (values_of (small_items ds n)) ≡ each_of shape (values_of ds)
 each_few shape n same no_items = refl
 each_few shape n same (item d ds) = rw (same d, each_few shape n same ds) refl
@@ -224,6 +248,9 @@ number_kept key d at = at_key number_of (λ e. number_same e 2) key d at
 
 optional_kept : (key : List ℕ) (d : Data) → KeepsKeys d → optional_at key (small d 3) ≡ optional_at key d
 optional_kept key d at = at_key optional_of (λ e. optional_same e 2) key d at
+
+waits_kept : (key : List ℕ) (d : Data) → KeepsKeys d → waits_at key (small d 3) ≡ waits_at key d
+waits_kept key d at = at_key waits_of (λ e. waits_same e 1) key d at
 
 flag_kept : (key : List ℕ) (d : Data) → KeepsKeys d → flag_at key (small d 3) ≡ flag_at key d
 flag_kept key d at = at_key as_bool (λ e. flag_same e 2) key d at
@@ -406,7 +433,7 @@ stats_small d =
       optional_kept (codes "last_wake") d at,
       flag_kept (codes "polling") d at,
       number_kept (codes "polls") d at,
-      number_kept (codes "sched") d at,
+      waits_kept (codes "sched") d at,
       flag_kept (codes "scheduled") d at,
       number_kept (codes "self_wakes") d at,
       number_kept (codes "wakes") d at,

@@ -14,7 +14,7 @@ use Rattle.tk_stream.specs.declared.text.read_json.numbers.Numbers.{Numbers}
 use Rattle.tk_stream.specs.declared.text.read_json.numbers.Version.{Version}
 use Rattle.tk_stream.specs.declared.text.read_json.numbers.Version.TheVariants.{One, Two, Three}
 use Rattle.tk_stream.specs.Lines.{LineView, GoneView}
-use Rattle.tk_stream.specs.Reading.{◌>>=◌, list_of, each_of, id_of, op_of, resource_of, info_of, op_stats_of, counts_of, resource_stats_of, stats_of, times_of, SaidView, number_at, flag_at, seq_at, list_at, dropped_in, has_members}
+use Rattle.tk_stream.specs.Reading.{◌>>=◌, list_of, each_of, id_of, op_of, resource_of, info_of, op_stats_of, counts_of, resource_stats_of, stats_of, times_of, SaidView, number_at, flag_at, seq_at, list_at, dropped_in, has_members, keys_of, of_version}
 use Rattle.tk_stream.specs.Tables.{PollCounts}
 use Rattle.tk_stream.specs.Times.{TaskTimes}
 
@@ -108,7 +108,7 @@ version_at version d =
 unfoldable pub numbers_of : Data → Option Numbers
 numbers_of d = do
   number ← number_at (codes "v") d
-  version ← version_at number d
+  version ← version_at (keys_of number d) d
   dropped ← list_at (codes "dropped") d >>= dropped_in
   now ← number_at (codes "now") d
   seq ← seq_at (codes "seq") d
@@ -163,4 +163,4 @@ line_with n lists = do
 
 -- the line of an object whose lists were read by themselves
 abbrev pub line_of_lists : Data → ListsView → Option LineView
-line_of_lists own lists = numbers_of own >>= λ n. line_with n lists
+line_of_lists own lists = (numbers_of own >>= λ n. line_with n lists) >>= of_version (number_at (codes "v") own)

@@ -97,6 +97,11 @@ counts_data c = array (items_of (number_data c.0 ∷ number_data c.1 ∷ number_
 abbrev pub filled_data : ℕ × ℕ → Data
 filled_data b = array (items_of (number_data b.0 ∷ number_data b.1 ∷ []))
 
+-- how long a task waited: a number, or [scheduled, waited] where its waits are counted
+abbrev pub waits_data : ℕ → Option ℕ → Data
+waits_data sched None = number_data sched
+waits_data sched (Some waited) = array (items_of (number_data sched ∷ number_data waited ∷ []))
+
 -- ---- objects, with their keys in byte order
 
 -- the info of a task, of a location that is spelled already
@@ -127,7 +132,7 @@ stats_fields s =
     (codes "last_wake", optional_data s.1.last_wake) ∷
     (codes "polling", boolean s.1.polling) ∷
     (codes "polls", number_data s.1.polls) ∷
-    (codes "sched", number_data s.1.sched) ∷
+    (codes "sched", waits_data s.1.sched s.1.waited) ∷
     (codes "scheduled", boolean s.1.scheduled) ∷
     (codes "self_wakes", number_data s.1.self_wakes) ∷
     (codes "wakes", number_data s.1.wakes) ∷ []

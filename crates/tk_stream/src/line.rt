@@ -15,9 +15,9 @@
 //! | `resource_stats` | a list of rows: an object with `id` and the row's 4 fields, each under its name |
 //! | `seq` | the line's number, from 1 to 2^63 |
 //! | `snapshot` | whether the line tells of the tables as a whole |
-//! | `task_stats` | a list of rows: an object with `id` and the row's 16 fields, each under its name |
+//! | `task_stats` | a list of rows: an object with `id` and the row's 16 fields, each under its name, where `sched` is `[sched, waited]` of a row that counts waits |
 //! | `task_times` | in version 3: a list of histograms of poll times: `{"counts":[[bucket, count]..],"id":N,"longest":N}` |
-//! | `v` | 1, 2 or 3, the version of the format |
+//! | `v` | 1, 2, 3 or 4, the version of the format: 4 where a row tells `[sched, waited]` at `sched`, with the keys of 1, 2 or 3 |
 //!
 //! Of a histogram only the buckets stand there that aren't empty, in rising order.
 //!
@@ -26,6 +26,7 @@
 //!
 //! `specs/Lines.antt` says what a line says, and `specs/Spelling.antt` how it is spelled.
 ghost use Rattle.std.specs.Prelude.{◌≡◌, [], true, option_map};
+ghost use Rattle.std.specs.List.{list_any};
 ghost use Rattle.tk_stream.specs.Lines as lines;
 
 pub(crate) mod between;
@@ -258,19 +259,30 @@ impl Line {
         let _dropped = &self.dropped;
     }
 
-    /// The version of the line's format: 3 where it tells histograms, 2 where it says what is gone, and otherwise 1.
+    /// The version of the line's format: 4 where it tells a row that counts waits, otherwise 3 where it tells histograms, 2 where it
+    /// says what is gone, and otherwise 1.
     pub fn version(&self) -> u64
         ensures { result ≡ lines.version self.now }
     {
-        version_of(&self.gone, &self.task_times)
+        let counts = count_waits(&self.task_stats);
+        version_of(counts, &self.gone, &self.task_times)
     }
 }
 
-// The version of the format, by whether a line says what is gone, and whether it tells histograms.
-fn version_of(gone: &Option<Gone>, times: &Option<Vec<(TaskId, PollTimes)>>) -> u64
-    ensures { result ≡ lines.version_with gone.now (option_map (λ v. v.items) times.now) }
+// Whether some rows count waits.
+fn count_waits(stats: &Vec<(TaskId, TaskRow)>) -> bool
+    ensures { result ≡ list_any lines.counts_waits stats.now.items }
 {
-    if gone.is_none() {
+    stats.iter().any(|stats| stats.1.waited.is_some())
+}
+
+// The version of the format, by whether a line tells rows that count waits, says what is gone, and tells histograms.
+fn version_of(counts: bool, gone: &Option<Gone>, times: &Option<Vec<(TaskId, PollTimes)>>) -> u64
+    ensures { result ≡ lines.version_with counts gone.now (option_map (λ v. v.items) times.now) }
+{
+    if counts {
+        4
+    } else if gone.is_none() {
         1
     } else if times.is_none() {
         2

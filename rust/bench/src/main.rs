@@ -1,5 +1,5 @@
 //! What the inspection of a program costs: wakes, polls, clones of wakers and spawns, each plain, inspected, and under a
-//! `tracing` span; and lines, by how many tasks there are and how many of them changed.
+//! `tracing` span; and lines, by how many tasks there are and how many of them changed, with histograms of poll times and without.
 //!
 //! Usage: taskscope-bench
 //!
@@ -12,7 +12,7 @@ use std::pin::Pin;
 use std::sync::{Arc, Mutex};
 use std::task::{Context, Poll, Wake, Waker};
 use std::time::{Duration, Instant};
-use taskscope::{Console, Origin, Settings, Task};
+use taskscope::{Console, Settings};
 use tokio::runtime::{Builder, Runtime};
 use tracing::Instrument;
 
@@ -61,7 +61,12 @@ fn least(rounds: u32, calls: u32, mut round: impl FnMut(u32)) -> f64 {
 
 /// A console that keeps all that a measure makes.
 fn console() -> Console {
-    Console::open(Settings { capacity: usize::MAX, retention: Some(Duration::ZERO) })
+    with_times(true)
+}
+
+/// The same, with histograms of poll times or without.
+fn with_times(times: bool) -> Console {
+    Console::open(Settings { capacity: usize::MAX, retention: Some(Duration::ZERO), times })
 }
 
 /// A row of the table of calls.
@@ -96,6 +101,8 @@ fn polls(clock: f64) {
     let inspected = poll(console.inspect("polled", Pending(None)));
     let span = poll(Pending(None).instrument(tracing::info_span!("polled")));
     tell("a poll", clock, poll(Pending(None)), inspected, Some(span));
+    let plain = poll(with_times(false).inspect("polled", Pending(None)));
+    tell("a poll, without histograms", clock, poll(Pending(None)), plain, None);
 }
 
 fn spawns(clock: f64) -> std::io::Result<()> {
@@ -140,15 +147,28 @@ fn publish(console: &Console, rounds: u32, woken: &dyn Fn()) -> (f64, usize) {
     best
 }
 
-fn lines() {
-    println!("\n| tasks | all new | none changed | 1 of 100 changed | all changed | a snapshot |");
-    println!("|---|---|---|---|---|---|");
+/// How many kilobytes of memory this process has.
+fn resident() -> u64 {
+    let status = std::fs::read_to_string("/proc/self/status").unwrap_or_default();
+    let line = status.lines().find_map(|line| line.strip_prefix("VmRSS:"));
+    line.and_then(|line| line.split_whitespace().next()).and_then(|word| word.parse().ok()).unwrap_or(0)
+}
+
+fn lines(times: bool) {
+    println!("\n{} histograms:\n", if times { "With" } else { "Without" });
+    println!("| tasks | all new | none changed | 1 of 100 changed | all changed | a snapshot | bytes a task |");
+    println!("|---|---|---|---|---|---|---|");
     for count in [1_000, 10_000, 100_000] {
-        let console = console();
-        let tasks: Vec<Task> = (0..count).map(|_| console.task("listed").open()).collect();
+        let before = resident();
+        let console = with_times(times);
+        let tasks: Vec<_> = (0..count).map(|_| Mutex::new(console.task("listed").open())).collect();
+        let held = (resident() - before) * 1024 / count;
+        // Each changed task was polled once.
         let wake = |step: usize| {
             for task in tasks.iter().step_by(step) {
-                let _ = task.wake_by_ref(Origin::Outside);
+                let task = &mut task.lock().unwrap();
+                let _ = task.start_poll();
+                let _ = task.end_poll();
             }
         };
         let (new, _) = publish(&console, 1, &|| ());
@@ -158,7 +178,7 @@ fn lines() {
         let started = Instant::now();
         let snapshot = console.snapshot().unwrap().len();
         let micros = started.elapsed().as_secs_f64() * 1e6;
-        println!("| {count} | {new:.0} | {none:.1} | {some:.0} | {all:.0} ({bytes} bytes) | {micros:.0} ({snapshot} bytes) |");
+        println!("| {count} | {new:.0} | {none:.1} | {some:.0} | {all:.0} ({bytes} bytes) | {micros:.0} ({snapshot} bytes) | {held} |");
     }
 }
 
@@ -176,6 +196,7 @@ fn main() -> std::io::Result<()> {
     wakes(clock);
     polls(clock);
     spawns(clock)?;
-    lines();
+    lines(false);
+    lines(true);
     Ok(())
 }

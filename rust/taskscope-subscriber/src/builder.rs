@@ -93,6 +93,9 @@ impl Builder {
         if let Some(capacity) = number("TASKSCOPE_CAPACITY")? {
             builder.settings.capacity = capacity;
         }
+        if let Some(times) = choice("TASKSCOPE_TIMES", [("on", true), ("off", false)])? {
+            builder.settings.times = times;
+        }
         if let Some(items) = choice("TASKSCOPE_ITEMS", [("all", Items::All), ("tasks", Items::Tasks)])? {
             builder.items = items;
         }
@@ -119,6 +122,12 @@ impl Builder {
     /// How many new items each of the 16 recorders holds until the next line, as [`Settings::capacity`] says: 65,536 without this.
     pub fn capacity(mut self, capacity: usize) -> Builder {
         self.settings.capacity = capacity;
+        self
+    }
+
+    /// Whether a histogram is kept of how long each task's polls ran, and lines tell it: so it is without this.
+    pub fn times(mut self, times: bool) -> Builder {
+        self.settings.times = times;
         self
     }
 

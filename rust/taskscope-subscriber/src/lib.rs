@@ -25,6 +25,7 @@
 //! | `TASKSCOPE_STREAM` | where lines go: the path of a file or of a pipe (`mkfifo`), `unix:PATH` for a socket, or `stderr` | nothing is inspected, and nothing costs more |
 //! | `TASKSCOPE_INTERVAL_MS` | milliseconds from one line to the next | 100 |
 //! | `TASKSCOPE_ITEMS` | `tasks`: resources and operations are not told, and locks and channels cost no more; or `all` | `all` |
+//! | `TASKSCOPE_TIMES` | `on`: a histogram of how long its polls ran is kept of each task, for `view --times` and `lint --long-poll`; or `off` | `on` |
 //! | `TASKSCOPE_RETENTION_MS` | milliseconds that an item stays in the tables after its close; or `none`: for good | 60000 |
 //! | `TASKSCOPE_CAPACITY` | how many new items each of the 16 recorders holds until the next line | 65536 |
 //!

@@ -238,6 +238,8 @@ fn note_close<T: Item>(
 pub(crate) struct Book {
     /// The number of the last line.
     seq: u64,
+    /// Whether lines tell histograms of poll times.
+    times: bool,
     tasks: Table<TaskCell>,
     resources: Table<ResourceCell>,
     ops: Table<OpCell>,
@@ -245,6 +247,11 @@ pub(crate) struct Book {
 }
 
 impl Book {
+    /// Nothing was told. Lines tell histograms of poll times, or none does.
+    pub(crate) fn new(times: bool) -> Book {
+        Book { times, ..Book::default() }
+    }
+
     fn tables(&mut self) -> [&mut dyn Told; 4] {
         [&mut self.tasks, &mut self.resources, &mut self.ops, &mut self.counts]
     }
@@ -291,7 +298,7 @@ impl Book {
         now: impl Fn() -> u64,
         retention: Option<u64>,
     ) -> Result<(u64, Vec<u8>), Fault> {
-        let mut page = Page::default();
+        let mut page = Page::new(self.times);
         for table in self.tables() {
             table.enter(listed, &mut page);
         }

@@ -25,12 +25,15 @@ pub struct Settings {
     /// How long after its close an item stays in the tables of the stream. `None`: for good, and so the memory of a program
     /// that goes on making items has no bound.
     pub retention: Option<Duration>,
+    /// Whether a histogram is kept of how long each task's polls ran, which the lines tell: `taskscope view --times` shows it, and
+    /// `taskscope lint --long-poll` warns by it.
+    pub times: bool,
 }
 
 impl Default for Settings {
-    /// 65,536 new items, and a retention of one hour.
+    /// 65,536 new items, a retention of one hour, and histograms.
     fn default() -> Settings {
-        Settings { capacity: 65_536, retention: Some(Duration::from_secs(3600)) }
+        Settings { capacity: 65_536, retention: Some(Duration::from_secs(3600)), times: true }
     }
 }
 
@@ -55,6 +58,7 @@ pub(crate) struct Inner {
     capacity: usize,
     /// In nanoseconds.
     retention: Option<u64>,
+    times: bool,
     shards: [ShardLock; SHARDS],
     book: Mutex<Book>,
 }
@@ -84,6 +88,12 @@ impl Inner {
     #[inline]
     pub(crate) fn now(&self) -> u64 {
         nanoseconds(self.opened.elapsed())
+    }
+
+    /// Whether histograms of poll times are kept.
+    #[inline]
+    pub(crate) fn keeps_times(&self) -> bool {
+        self.times
     }
 
     /// Makes a call on an item's words, and lists the item for the next line where it isn't.
@@ -165,8 +175,9 @@ impl Console {
             opened: Instant::now(),
             capacity: settings.capacity,
             retention: settings.retention.map(nanoseconds),
+            times: settings.times,
             shards: Default::default(),
-            book: Mutex::default(),
+            book: Mutex::new(Book::new(settings.times)),
         }))
     }
 

@@ -86,6 +86,15 @@ pub struct CountEntry {
     pub told_pending: u64,
 }
 
+/// The histogram of a task's poll times.
+#[repr(C)]
+#[derive(Clone, Copy, Debug)]
+pub struct TimesEntry {
+    pub row: Words,
+    pub told: Words,
+    pub task: u64,
+}
+
 /// What a line has beside its items. The first `told_` entries of each list were told by the line before.
 #[repr(C)]
 #[derive(Clone, Copy, Debug)]
@@ -111,7 +120,7 @@ pub struct Head {
 /// | 2 | want of memory |
 /// | 3 | no line has the number |
 /// | 4 | more entries were told than there are |
-/// | 5, 6, 7, 8 | the entry at `place` of the tasks, resources, operations or poll counts is none, for `reason` |
+/// | 5, 6, 7, 8, 9 | the entry at `place` of the tasks, resources, operations, poll counts or histograms is none, for `reason` |
 ///
 /// | `reason` | |
 /// |---|---|
@@ -139,6 +148,8 @@ extern "C" {
     pub fn taskscope_task_wake(words: &mut Words, moment: u64, from_self: bool) -> u32;
     pub fn taskscope_task_wake_by_ref(words: &mut Words, moment: u64, from_self: bool) -> u32;
     pub fn taskscope_task_release(words: &mut Words) -> u32;
+    pub fn taskscope_times_open(words: &mut Words);
+    pub fn taskscope_task_end_timed(words: &mut Words, times: &mut Words, moment: u64) -> u32;
     pub fn taskscope_task_leaves(told: &Words, moment: u64, retention: u64) -> bool;
 
     pub fn taskscope_resource_open(created: u64, attrs: *const Attr, attr_count: usize, words: &mut Words) -> bool;
@@ -168,6 +179,26 @@ extern "C" {
         attr_count: usize,
         text: *const u8,
         text_len: usize,
+        out: *mut u8,
+        out_len: usize,
+    ) -> Answer;
+    pub fn taskscope_timed_line(
+        head: &Head,
+        tasks: *const TaskEntry,
+        task_count: usize,
+        resources: *const ResourceEntry,
+        resource_count: usize,
+        ops: *const OpEntry,
+        op_count: usize,
+        counts: *const CountEntry,
+        count_count: usize,
+        attrs: *const AttrEntry,
+        attr_count: usize,
+        text: *const u8,
+        text_len: usize,
+        times: *const TimesEntry,
+        times_count: usize,
+        told: usize,
         out: *mut u8,
         out_len: usize,
     ) -> Answer;

@@ -2,7 +2,7 @@
 
 use crate::attr::Attrs;
 use crate::fault::{BadItem, Fault};
-use crate::ffi::{self, Answer, AttrEntry, CountEntry, Head, OpEntry, Piece, ResourceEntry, TaskEntry};
+use crate::ffi::{self, Answer, AttrEntry, CountEntry, Head, OpEntry, Piece, ResourceEntry, TaskEntry, TimesEntry};
 use crate::item::ItemKind;
 use crate::name::Name;
 
@@ -13,6 +13,9 @@ pub(crate) struct Page {
     pub(crate) resources: Vec<ResourceEntry>,
     pub(crate) ops: Vec<OpEntry>,
     pub(crate) counts: Vec<CountEntry>,
+    /// Whether the line tells histograms of poll times, and then those of the tasks, in their order.
+    pub(crate) tells_times: bool,
+    pub(crate) times: Vec<TimesEntry>,
     attrs: Vec<AttrEntry>,
     text: Vec<u8>,
     /// How many entries of each kind were told.
@@ -22,6 +25,11 @@ pub(crate) struct Page {
 }
 
 impl Page {
+    /// No entries, for a line that tells histograms of poll times or none.
+    pub(crate) fn new(tells_times: bool) -> Page {
+        Page { tells_times, ..Page::default() }
+    }
+
     /// So many entries of the kind, the first of its list, were told by the lines before.
     pub(crate) fn set_told(&mut self, kind: ItemKind, count: usize) {
         self.told[kind as usize] = count;
@@ -72,7 +80,7 @@ impl Page {
     /// A length that lines with these entries seldom exceed.
     fn likely_len(&self) -> usize {
         let items = self.tasks.len() + self.resources.len() + self.ops.len();
-        1024 + 512 * items + 64 * (self.counts.len() + self.attrs.len()) + 2 * self.text.len()
+        1024 + 512 * items + 128 * self.times.len() + 64 * (self.counts.len() + self.attrs.len()) + 2 * self.text.len()
     }
 
     /// Has a line written, in more room where it doesn't fit.
@@ -104,6 +112,7 @@ impl Page {
             6 => self.resources.get(place).map(|entry| (ItemKind::Resource, entry.id)),
             7 => self.ops.get(place).map(|entry| (ItemKind::Op, entry.id)),
             8 => self.counts.get(place).map(|entry| (ItemKind::PollCounts, entry.resource)),
+            9 => self.times.get(place).map(|entry| (ItemKind::Task, entry.task)),
             _ => None,
         };
         match (item, BadItem::from_number(answer.reason)) {
@@ -117,7 +126,37 @@ impl Page {
         Head { told_tasks, told_resources, told_ops, told_counts, ..*head }
     }
 
+    fn write_timed_line(&self, head: &Head, out: &mut [u8]) -> Answer {
+        let head = self.with_told(head);
+        // SAFETY: as of `write_line`.
+        unsafe {
+            ffi::taskscope_timed_line(
+                &head,
+                self.tasks.as_ptr(),
+                self.tasks.len(),
+                self.resources.as_ptr(),
+                self.resources.len(),
+                self.ops.as_ptr(),
+                self.ops.len(),
+                self.counts.as_ptr(),
+                self.counts.len(),
+                self.attrs.as_ptr(),
+                self.attrs.len(),
+                self.text.as_ptr(),
+                self.text.len(),
+                self.times.as_ptr(),
+                self.times.len(),
+                head.told_tasks,
+                out.as_mut_ptr(),
+                out.len(),
+            )
+        }
+    }
+
     fn write_line(&self, head: &Head, out: &mut [u8]) -> Answer {
+        if self.tells_times {
+            return self.write_timed_line(head, out);
+        }
         let head = self.with_told(head);
         // SAFETY: each pointer and the length after it are those of one slice that is lent for the call, and `out` is lent to
         // it alone.

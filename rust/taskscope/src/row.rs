@@ -5,7 +5,7 @@
 //!
 //! | `listed` | the item |
 //! |---|---|
-//! | no | is as the last line told it |
+//! | no | is as the last line told it, so that nothing more is kept of that |
 //! | yes | stands in one list, of a shard or of the book, which the next line reads; or in none for good, as no line tells of it (any more) |
 //!
 //! The call that finds a row unlisted lists it, under the row's lock: a list's lock is taken after that of a row, and never
@@ -58,9 +58,40 @@ impl Standing {
 #[derive(Debug)]
 struct State<W> {
     now: W,
-    told: W,
+    /// What the last line told, where a call was made since: most items are as they were told, and their words are kept once.
+    told: Option<Box<W>>,
     listed: bool,
     standing: Standing,
+}
+
+impl<W: Copy + Default + PartialEq> State<W> {
+    fn told(&self) -> W {
+        match (self.standing, &self.told) {
+            (Standing::New, _) => W::default(),
+            (_, Some(told)) => **told,
+            (_, None) => self.now,
+        }
+    }
+
+    /// Keeps what was told before a call.
+    #[inline]
+    fn keep_told(&mut self) {
+        if self.told.is_none() && self.standing.place().is_some() {
+            self.told = Some(Box::new(self.now));
+        }
+    }
+
+    fn tell(&mut self, words: W) {
+        self.told = (words != self.now).then(|| Box::new(words));
+    }
+
+    /// Whether the words are others than those that were told. Where they are not, none but those of now are kept.
+    fn differs(&mut self) -> bool {
+        if self.told() == self.now {
+            self.told = None;
+        }
+        self.told.is_some()
+    }
 }
 
 /// The words `W` of one item.
@@ -86,51 +117,46 @@ impl<W: Copy + Default + PartialEq> Row<W> {
     }
 
     fn new(now: W, listed: bool) -> Row<W> {
-        Row(Mutex::new(State { now, told: W::default(), listed, standing: Standing::New }))
+        Row(Mutex::new(State { now, told: None, listed, standing: Standing::New }))
     }
 
     /// Makes a call on the words, and has the item listed where it isn't: `list` learns whether it is new.
     #[inline]
     pub(crate) fn step<T>(&self, call: impl FnOnce(&mut W) -> T, list: impl FnOnce(bool)) -> T {
         let mut state = lock(&self.0);
-        let reply = call(&mut state.now);
+        state.keep_told();
         if !state.listed {
             state.listed = true;
             list(state.standing == Standing::New);
         }
-        reply
+        call(&mut state.now)
     }
 
     /// The place of a listed item among those told, where it differs from what was told. Otherwise it is in no list from now on.
     pub(crate) fn changed_place(&self) -> Option<u64> {
         let mut state = lock(&self.0);
-        match state.standing {
-            Standing::Told(place) if state.now != state.told => Some(place),
-            Standing::Told(_) => {
-                state.listed = false;
-                None
-            }
-            Standing::New | Standing::Gone => None,
-        }
+        let place = state.standing.place()?;
+        state.listed = state.differs();
+        state.listed.then_some(place)
     }
 
     /// The words now, and as they were told.
     pub(crate) fn reading(&self) -> Reading<W> {
         let state = lock(&self.0);
-        Reading { now: state.now, told: state.told }
+        Reading { now: state.now, told: state.told() }
     }
 
     /// A line told these words. The answer is the item's place among those told.
     pub(crate) fn tell(&self, words: W) -> Option<u64> {
         let mut state = lock(&self.0);
-        state.told = words;
+        state.tell(words);
         state.standing.place()
     }
 
     /// The first line that tells of the item told these words.
     pub(crate) fn tell_first(&self, words: W, place: u64) {
         let mut state = lock(&self.0);
-        state.told = words;
+        state.tell(words);
         state.standing = Standing::Told(place);
     }
 
@@ -140,7 +166,7 @@ impl<W: Copy + Default + PartialEq> Row<W> {
         if state.standing == Standing::Gone {
             return false;
         }
-        state.listed = state.now != state.told;
+        state.listed = state.differs();
         state.listed
     }
 
@@ -148,6 +174,7 @@ impl<W: Copy + Default + PartialEq> Row<W> {
     pub(crate) fn leave(&self) {
         let mut state = lock(&self.0);
         state.standing = Standing::Gone;
+        state.told = None;
         state.listed = true;
     }
 

@@ -3,7 +3,7 @@
 use crate::ffi::{self, Words};
 use crate::id::TaskId;
 use crate::refused::{done, Refused, Woken};
-use crate::task::{Origin, Task};
+use crate::task::{Origin, Task, TaskWords};
 
 /// Whether the task waits for a poll, by the flags of its row.
 fn is_scheduled(words: &Words) -> bool {
@@ -51,7 +51,7 @@ impl SharedTask {
     pub fn start_poll(&self) -> Result<(), Refused> {
         let now = self.0.console.now();
         // SAFETY: the row's lock lends the words to this call alone.
-        self.step(|words| done(unsafe { ffi::taskscope_task_start(words, now) }))
+        self.step(|words| done(unsafe { ffi::taskscope_task_start(&mut words.row, now) }))
     }
 
     /// The open poll ends now.
@@ -60,14 +60,13 @@ impl SharedTask {
     /// [`NotPolling`](Refused::NotPolling) where none is open, and [`Closed`](Refused::Closed).
     #[inline]
     pub fn end_poll(&self) -> Result<(), Refused> {
-        let now = self.0.console.now();
-        // SAFETY: the row's lock lends the words to this call alone.
-        self.step(|words| done(unsafe { ffi::taskscope_task_end(words, now) }))
+        let (now, times) = (self.0.console.now(), self.0.console.keeps_times());
+        self.step(|words| done(words.end(now, times)))
     }
 
     /// Whether the task waits for a poll: it was not polled yet, or was woken since its last poll started, and is not closed.
     pub fn is_scheduled(&self) -> bool {
-        self.step(|words| is_scheduled(words))
+        self.step(|words| is_scheduled(&words.row))
     }
 
     /// Counts a waker as cloned.
@@ -80,10 +79,10 @@ impl SharedTask {
     #[inline]
     pub fn release_waker(&self) -> bool {
         self.step(|words| {
-            let is_out = has_waker(words);
+            let is_out = has_waker(&words.row);
             if is_out {
                 // SAFETY: the row's lock lends the words to this call alone.
-                unsafe { ffi::taskscope_task_release(words) };
+                unsafe { ffi::taskscope_task_release(&mut words.row) };
             }
             is_out
         })
@@ -94,9 +93,11 @@ impl SharedTask {
     pub fn wake(&self, origin: Origin) -> Option<Woken> {
         let now = self.0.console.now();
         self.step(|words| {
-            has_waker(words).then(|| {
+            has_waker(&words.row).then(|| {
                 // SAFETY: the row's lock lends the words to this call alone.
-                crate::refused::woken(unsafe { ffi::taskscope_task_wake(words, now, origin == Origin::Inside) })
+                crate::refused::woken(unsafe {
+                    ffi::taskscope_task_wake(&mut words.row, now, origin == Origin::Inside)
+                })
             })
         })
     }
@@ -113,7 +114,7 @@ impl SharedTask {
     }
 
     #[inline]
-    fn step<R>(&self, call: impl FnOnce(&mut Words) -> R) -> R {
+    fn step<R>(&self, call: impl FnOnce(&mut TaskWords) -> R) -> R {
         self.0.console.step(&self.0.cell, call)
     }
 }

@@ -1,7 +1,7 @@
 //! Tasks, and their wakers.
 
 use crate::console::{Console, Inner};
-use crate::ffi::{self, TaskEntry, Words};
+use crate::ffi::{self, TaskEntry, TimesEntry, Words};
 use crate::id::TaskId;
 use crate::item::{closed, Item, ItemKind, Lists};
 use crate::location::Location;
@@ -31,20 +31,52 @@ pub enum Origin {
     Outside,
 }
 
+/// The words of a task: those of its row, and beside it those of the histogram of its poll times, all 0 where none is kept.
+#[derive(Clone, Copy, Debug, Default, PartialEq)]
+pub(crate) struct TaskWords {
+    pub(crate) row: Words,
+    pub(crate) times: Words,
+}
+
+impl TaskWords {
+    fn opening(created: u64) -> TaskWords {
+        let mut words = TaskWords::default();
+        // SAFETY: the words are lent for the calls.
+        unsafe {
+            ffi::taskscope_task_open(created, &mut words.row);
+            ffi::taskscope_times_open(&mut words.times);
+        }
+        words
+    }
+
+    /// The open poll ends. Where histograms are kept, how long it ran is added to the task's.
+    #[inline]
+    pub(crate) fn end(&mut self, now: u64, times: bool) -> u32 {
+        // SAFETY: the words are lent for the call.
+        unsafe {
+            if times {
+                ffi::taskscope_task_end_timed(&mut self.row, &mut self.times, now)
+            } else {
+                ffi::taskscope_task_end(&mut self.row, now)
+            }
+        }
+    }
+}
+
 #[derive(Debug)]
 pub(crate) struct TaskCell {
     pub(crate) id: u64,
     kind: TaskKind,
     name: Name,
     location: Location,
-    row: Row<Words>,
+    row: Row<TaskWords>,
 }
 
 impl Item for TaskCell {
-    type Words = Words;
+    type Words = TaskWords;
     const KIND: ItemKind = ItemKind::Task;
 
-    fn row(&self) -> &Row<Words> {
+    fn row(&self) -> &Row<TaskWords> {
         &self.row
     }
 
@@ -52,10 +84,10 @@ impl Item for TaskCell {
         &mut lists.tasks
     }
 
-    fn enter(&self, page: &mut Page, reading: &Reading<Words>) {
+    fn enter(&self, page: &mut Page, reading: &Reading<TaskWords>) {
         let entry = TaskEntry {
-            row: reading.now,
-            told: reading.told,
+            row: reading.now.row,
+            told: reading.told.row,
             id: self.id,
             name: page.piece(&self.name),
             file: page.piece(&self.location.file),
@@ -67,20 +99,25 @@ impl Item for TaskCell {
             },
         };
         page.tasks.push(entry);
+        if page.tells_times {
+            page.times.push(TimesEntry { row: reading.now.times, told: reading.told.times, task: self.id });
+        }
     }
 
-    fn entered(page: &Page, place: usize) -> Reading<Words> {
+    fn entered(page: &Page, place: usize) -> Reading<TaskWords> {
         let entry = &page.tasks[place];
-        Reading { now: entry.row, told: entry.told }
+        // The histograms stand in the order of the tasks, or are none.
+        let (times, told_times) = page.times.get(place).map_or(([0; 16], [0; 16]), |entry| (entry.row, entry.told));
+        Reading { now: TaskWords { row: entry.row, times }, told: TaskWords { row: entry.told, times: told_times } }
     }
 
-    fn closed(words: &Words) -> Option<u64> {
-        closed(words)
+    fn closed(words: &TaskWords) -> Option<u64> {
+        closed(&words.row)
     }
 
-    fn leaves(told: &Words, moment: u64, retention: u64) -> bool {
+    fn leaves(told: &TaskWords, moment: u64, retention: u64) -> bool {
         // SAFETY: the words are lent for the call.
-        unsafe { ffi::taskscope_task_leaves(told, moment, retention) }
+        unsafe { ffi::taskscope_task_leaves(&told.row, moment, retention) }
     }
 }
 
@@ -89,7 +126,9 @@ impl TaskCell {
     pub(crate) fn wake_by_ref(self: &Arc<TaskCell>, console: &Inner, origin: Origin) -> Woken {
         let now = console.now();
         // SAFETY: the row's lock lends the words to this call alone.
-        let wake = |words: &mut Words| unsafe { ffi::taskscope_task_wake_by_ref(words, now, origin == Origin::Inside) };
+        let wake = |words: &mut TaskWords| unsafe {
+            ffi::taskscope_task_wake_by_ref(&mut words.row, now, origin == Origin::Inside)
+        };
         woken(console.step(self, wake))
     }
 
@@ -98,7 +137,8 @@ impl TaskCell {
     pub(crate) fn wake(self: &Arc<TaskCell>, console: &Inner, origin: Origin) -> Woken {
         let now = console.now();
         // SAFETY: the row's lock lends the words to this call alone.
-        let wake = |words: &mut Words| unsafe { ffi::taskscope_task_wake(words, now, origin == Origin::Inside) };
+        let wake =
+            |words: &mut TaskWords| unsafe { ffi::taskscope_task_wake(&mut words.row, now, origin == Origin::Inside) };
         woken(console.step(self, wake))
     }
 
@@ -106,14 +146,14 @@ impl TaskCell {
     #[inline]
     pub(crate) fn clone_waker(self: &Arc<TaskCell>, console: &Inner) {
         // SAFETY: the row's lock lends the words to this call alone.
-        console.step(self, |words| unsafe { ffi::taskscope_task_clone(words) });
+        console.step(self, |words| unsafe { ffi::taskscope_task_clone(&mut words.row) });
     }
 
     /// Counts a waker as dropped, which is not used after this.
     #[inline]
     pub(crate) fn release_waker(self: &Arc<TaskCell>, console: &Inner) {
         // SAFETY: the row's lock lends the words to this call alone.
-        console.step(self, |words| unsafe { ffi::taskscope_task_release(words) });
+        console.step(self, |words| unsafe { ffi::taskscope_task_release(&mut words.row) });
     }
 }
 
@@ -147,9 +187,7 @@ impl<'a> TaskBuilder<'a> {
     pub fn open(self) -> Task {
         let console = self.console.inner();
         let created = console.now();
-        let mut words = [0; 16];
-        // SAFETY: the words are lent for the call.
-        unsafe { ffi::taskscope_task_open(created, &mut words) };
+        let words = TaskWords::opening(created);
         let cell = console.record(|id| TaskCell {
             id,
             kind: self.kind,
@@ -180,7 +218,7 @@ impl Task {
     pub fn start_poll(&mut self) -> Result<(), Refused> {
         let now = self.console.now();
         // SAFETY: the row's lock lends the words to this call alone.
-        let start = |words: &mut Words| unsafe { ffi::taskscope_task_start(words, now) };
+        let start = |words: &mut TaskWords| unsafe { ffi::taskscope_task_start(&mut words.row, now) };
         done(self.console.step(&self.cell, start))
     }
 
@@ -189,10 +227,8 @@ impl Task {
     /// # Errors
     /// [`NotPolling`](Refused::NotPolling) where none is open.
     pub fn end_poll(&mut self) -> Result<(), Refused> {
-        let now = self.console.now();
-        // SAFETY: the row's lock lends the words to this call alone.
-        let end = |words: &mut Words| unsafe { ffi::taskscope_task_end(words, now) };
-        done(self.console.step(&self.cell, end))
+        let (now, times) = (self.console.now(), self.console.keeps_times());
+        done(self.console.step(&self.cell, |words| words.end(now, times)))
     }
 
     /// A waker of the task, counted as a clone.
@@ -207,12 +243,12 @@ impl Task {
 
     /// Closes the task, and ends its poll where one is open. A closed task stays as it is.
     pub(crate) fn close(&self) {
-        let now = self.console.now();
-        // SAFETY: the row's lock lends the words to this call alone. What is refused changes nothing: `end` where no poll is open,
-        // and both where the task is closed.
-        self.console.step(&self.cell, |words| unsafe {
-            ffi::taskscope_task_end(words, now);
-            ffi::taskscope_task_close(words, now)
+        let (now, times) = (self.console.now(), self.console.keeps_times());
+        self.console.step(&self.cell, |words| {
+            // What is refused changes nothing: `end` where no poll is open, and both where the task is closed.
+            words.end(now, times);
+            // SAFETY: the row's lock lends the words to this call alone.
+            unsafe { ffi::taskscope_task_close(&mut words.row, now) }
         });
     }
 }

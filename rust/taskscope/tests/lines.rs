@@ -171,7 +171,7 @@ impl Program {
 fn a_stream_leads_to_what_a_snapshot_tells() {
     for (seed, retention) in [(1, None), (2, Some(0)), (3, Some(100)), (4, Some(2_000)), (5, Some(3_600_000_000))] {
         let retention = retention.map(Duration::from_micros);
-        let console = Console::open(Settings { capacity: 20, retention });
+        let console = Console::open(Settings { capacity: 20, retention, ..Settings::default() });
         let mut program = Program {
             console: console.clone(),
             chance: Chance(seed),

@@ -36,7 +36,8 @@ fn call(console: &Console, waker: &std::task::Waker, by_hand: &TaskWaker, resour
 }
 
 fn main() {
-    let console = Console::open(Settings { capacity: 300, retention: Some(Duration::from_micros(300)) });
+    let console =
+        Console::open(Settings { capacity: 300, retention: Some(Duration::from_micros(300)), ..Settings::default() });
     let (sender, wakers) = channel();
     let mut future = Box::pin(console.inspect(
         "shared",

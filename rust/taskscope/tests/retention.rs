@@ -11,6 +11,11 @@ fn keeps_for(retention: Duration) -> Console {
     Console::open(Settings { retention: Some(retention), ..Settings::default() })
 }
 
+/// What leaves: the last line of a text says it, where any does.
+fn gone<'a>(text: &'a str, key: &str) -> Vec<&'a str> {
+    text.lines().last().map_or(Vec::new(), |line| list(line, key))
+}
+
 #[test]
 fn a_close_is_told_before_its_item_leaves() {
     let console = keeps_for(Duration::ZERO);
@@ -23,7 +28,7 @@ fn a_close_is_told_before_its_item_leaves() {
     let lines: Vec<&str> = told.lines().collect();
     assert_eq!(lines.len(), 2, "{told}");
     assert_ne!(value(common::task(lines[0], id), "dropped"), "null");
-    assert_eq!((number(lines[0], "v"), number(lines[0], "seq")), (1, 2));
+    assert_eq!((number(lines[0], "v"), number(lines[0], "seq")), (3, 2));
     assert_eq!(list(lines[1], "gone_tasks"), [id.to_string()]);
     assert_eq!((number(lines[1], "v"), number(lines[1], "seq")), (2, 3));
     assert_eq!(value(lines[0], "now"), value(lines[1], "now"));
@@ -43,7 +48,7 @@ fn what_leaves_is_told_in_the_order_of_the_tables() {
     while let Some(last) = tasks.pop() {
         drop(last);
     }
-    assert_eq!(list(&publish(&console), "gone_tasks"), ids);
+    assert_eq!(gone(&publish(&console), "gone_tasks"), ids);
 }
 
 #[test]
@@ -56,13 +61,13 @@ fn an_item_stays_for_its_retention() {
     let closed = number(common::task(&told, id), "dropped");
     let mut lines = told;
     for _ in 0..2_000 {
-        if !list(&lines, "gone_tasks").is_empty() {
+        if !gone(&lines, "gone_tasks").is_empty() {
             break;
         }
         sleep(Duration::from_millis(5));
         lines = publish(&console);
     }
-    assert_eq!(list(&lines, "gone_tasks"), [id.to_string()]);
+    assert_eq!(gone(&lines, "gone_tasks"), [id.to_string()]);
     let gone = lines.lines().last().expect("a line");
     assert!(number(gone, "now") >= closed + 40_000_000, "{closed} {gone}");
 }
@@ -91,14 +96,14 @@ fn a_snapshot_removes_nothing_and_tells_of_nothing_that_left() {
     assert_eq!(ids, [id]);
     // The snapshot was the first to tell of its close, so it leaves with the next line.
     let told = publish(&console);
-    assert_eq!(list(&told, "gone_tasks"), [id.to_string()]);
+    assert_eq!(gone(&told, "gone_tasks"), [id.to_string()]);
     // So it is with a task that an earlier line told as open.
     let task = console.task("open").open();
     publish(&console);
     let id = task.id().value();
     drop(task);
     assert_ne!(value(common::task(&snapshot(&console), id), "dropped"), "null");
-    assert_eq!(list(&publish(&console), "gone_tasks"), [id.to_string()]);
+    assert_eq!(gone(&publish(&console), "gone_tasks"), [id.to_string()]);
     assert!(list(&snapshot(&console), "new_tasks").is_empty());
 }
 
@@ -111,7 +116,7 @@ fn wakers_of_a_task_that_left_are_told_of_no_more() {
     drop(task);
     // Between two lines and at the very line: what is listed when its item leaves is not told either.
     let _ = waker.wake_by_ref(Origin::Outside);
-    assert_eq!(list(&publish(&console), "gone_tasks").len(), 1);
+    assert_eq!(gone(&publish(&console), "gone_tasks").len(), 1);
     let _ = waker.wake_by_ref(Origin::Outside);
     drop(waker);
     for _ in 0..2 {
@@ -131,7 +136,7 @@ fn poll_counts_of_a_resource_that_left_stay_with_the_reader_alone() {
     drop(resource);
     op.count_poll(false);
     let told = publish(&console);
-    assert_eq!(list(&told, "gone_resources"), [id.to_string()]);
+    assert_eq!(gone(&told, "gone_resources"), [id.to_string()]);
     tables.apply(&told);
     assert_eq!(tables.counts[&id], format!("[{id},1,1]"));
     assert!(tables.items["resource_stats"].is_empty() && tables.items["op_stats"].len() == 1);
@@ -140,7 +145,7 @@ fn poll_counts_of_a_resource_that_left_stay_with_the_reader_alone() {
     assert!(list(&publish(&console), "poll_counts").is_empty());
     assert!(list(&snapshot(&console), "poll_counts").is_empty());
     drop(op);
-    assert_eq!(list(&publish(&console), "gone_ops").len(), 1);
+    assert_eq!(gone(&publish(&console), "gone_ops").len(), 1);
 }
 
 #[test]
@@ -152,5 +157,5 @@ fn poll_counts_that_no_line_told_are_told_before_their_resource_leaves() {
     drop(resource);
     let told = publish(&console);
     assert_eq!(list(&told, "poll_counts"), [format!("[{id},1,0]")]);
-    assert_eq!(list(&told, "gone_resources"), [id.to_string()]);
+    assert_eq!(gone(&told, "gone_resources"), [id.to_string()]);
 }

@@ -10,5 +10,6 @@ mod plain_tasks;
 mod polls;
 mod random;
 mod times;
+mod waits;
 mod wakes;
 mod words;

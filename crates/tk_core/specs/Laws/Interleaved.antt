@@ -1,11 +1,11 @@
--- The order in which two threads wake a task and release its wakers doesn't show in its row.
-use Rattle.std.proofs.Common.{◌≡◌, ℕ, ◌+◌, max, Bool, true, false, cond, List, [], ◌∷◌, ◌++◌, refl, sym, ap, ◌∙◌, append_assoc, arith}
+-- The order in which two threads wake a task and release its wakers doesn't show in its row, where its waits are not counted: those of an idle task are counted from the wake that came first.
+use Rattle.std.proofs.Common.{◌≡◌, ℕ, ◌+◌, max, Bool, true, false, cond, List, [], ◌∷◌, ◌++◌, None, refl, sym, ap, ◌∙◌, append_assoc, arith}
 use Rattle.std.specs.Prelude.{map, filter, not, unwrap_or}
 use Rattle.std.specs.List.{AllByRecursion}
 use Rattle.std.proofs.lemmas.List.{append-nil}
 use Rattle.tk_core.specs.Lists.{capped}
-use Rattle.tk_core.specs.Fold.{answer_at, row_after}
-use Rattle.tk_core.specs.Task.{task_kind}
+use Rattle.tk_core.specs.Fold.{answer_at, fold_of, row_after}
+use Rattle.tk_core.specs.Task.{row_of, task_kind}
 use Rattle.tk_core.specs.declared.task.row.TaskRow.{TaskRow}
 use Rattle.tk_core.specs.declared.task.call.TaskCall.{TaskCall}
 use Rattle.tk_core.specs.declared.task.call.TaskCall.TheVariants.{PollStart, PollEnd, Close, CloneWaker, WakeVal, WakeRef, Release, Enlist, Read}
@@ -71,34 +71,46 @@ more true false n = refl
 more false true n = refl
 more false false n = refl
 
+-- waits that are not counted stay so
+uncounted : (row : TaskRow) (call : TaskCall) → row.waited ≡ None → wakes_or_releases call ≡ true → (changed row call).waited ≡ None
+uncounted row (WakeVal m from_self) none is = rw none refl
+uncounted row (WakeRef m from_self) none is = rw none refl
+uncounted row Release none is = none
+uncounted row (PollStart m) none is = absurd cc
+uncounted row (PollEnd m) none is = absurd cc
+uncounted row (Close m) none is = absurd cc
+uncounted row CloneWaker none is = absurd cc
+uncounted row Enlist none is = absurd cc
+uncounted row Read none is = absurd cc
+
 -- two such calls leave the same row in either order
-swap : (row : TaskRow) (a b : TaskCall) → wakes_or_releases a ≡ true → wakes_or_releases b ≡ true → changed (changed row a) b ≡ changed (changed row b) a
-swap row (WakeVal m f) (WakeVal n g) is also = rw (later_max (unwrap_or row.last_wake 0) m n, more f g row.self_wakes) refl
-swap row (WakeVal m f) (WakeRef n g) is also = rw (later_max (unwrap_or row.last_wake 0) m n, more f g row.self_wakes) refl
-swap row (WakeVal m f) Release is also = refl
-swap row (WakeRef m f) (WakeVal n g) is also = rw (later_max (unwrap_or row.last_wake 0) m n, more f g row.self_wakes) refl
-swap row (WakeRef m f) (WakeRef n g) is also = rw (later_max (unwrap_or row.last_wake 0) m n, more f g row.self_wakes) refl
-swap row (WakeRef m f) Release is also = refl
-swap row Release (WakeVal n g) is also = refl
-swap row Release (WakeRef n g) is also = refl
-swap row Release Release is also = refl
-swap row a (PollStart m) is also = absurd cc
-swap row a (PollEnd m) is also = absurd cc
-swap row a (Close m) is also = absurd cc
-swap row a CloneWaker is also = absurd cc
-swap row a Enlist is also = absurd cc
-swap row a Read is also = absurd cc
-swap row (PollStart m) b is also = absurd cc
-swap row (PollEnd m) b is also = absurd cc
-swap row (Close m) b is also = absurd cc
-swap row CloneWaker b is also = absurd cc
-swap row Enlist b is also = absurd cc
-swap row Read b is also = absurd cc
+swap : (row : TaskRow) (a b : TaskCall) → row.waited ≡ None → wakes_or_releases a ≡ true → wakes_or_releases b ≡ true → changed (changed row a) b ≡ changed (changed row b) a
+swap row (WakeVal m f) (WakeVal n g) none is also = rw (none, later_max (unwrap_or row.last_wake 0) m n, more f g row.self_wakes) refl
+swap row (WakeVal m f) (WakeRef n g) none is also = rw (none, later_max (unwrap_or row.last_wake 0) m n, more f g row.self_wakes) refl
+swap row (WakeVal m f) Release none is also = refl
+swap row (WakeRef m f) (WakeVal n g) none is also = rw (none, later_max (unwrap_or row.last_wake 0) m n, more f g row.self_wakes) refl
+swap row (WakeRef m f) (WakeRef n g) none is also = rw (none, later_max (unwrap_or row.last_wake 0) m n, more f g row.self_wakes) refl
+swap row (WakeRef m f) Release none is also = refl
+swap row Release (WakeVal n g) none is also = refl
+swap row Release (WakeRef n g) none is also = refl
+swap row Release Release none is also = refl
+swap row a (PollStart m) none is also = absurd cc
+swap row a (PollEnd m) none is also = absurd cc
+swap row a (Close m) none is also = absurd cc
+swap row a CloneWaker none is also = absurd cc
+swap row a Enlist none is also = absurd cc
+swap row a Read none is also = absurd cc
+swap row (PollStart m) b none is also = absurd cc
+swap row (PollEnd m) b none is also = absurd cc
+swap row (Close m) b none is also = absurd cc
+swap row CloneWaker b none is also = absurd cc
+swap row Enlist b none is also = absurd cc
+swap row Read b none is also = absurd cc
 
 -- a call that comes first may as well come after these
-later : (row : TaskRow) (call : TaskCall) (xs ys : List TaskCall) → wakes_or_releases call ≡ true → WakeOrRelease xs → rest_of (changed row call) (xs ++ ys) ≡ rest_of row (xs ++ call ∷ ys)
-later row call [] ys is are = refl
-later row call (x ∷ xs) ys is are = ap (λ r. rest_of r (xs ++ ys)) (swap row call x is are.0) ∙ later (changed row x) call xs ys is are.1
+later : (row : TaskRow) (call : TaskCall) (xs ys : List TaskCall) → row.waited ≡ None → wakes_or_releases call ≡ true → WakeOrRelease xs → rest_of (changed row call) (xs ++ ys) ≡ rest_of row (xs ++ call ∷ ys)
+later row call [] ys none is are = refl
+later row call (x ∷ xs) ys none is are = ap (λ r. rest_of r (xs ++ ys)) (swap row call x none is are.0) ∙ later (changed row x) call xs ys (uncounted row x none are.0) is are.1
 
 firsts : (made : Made) → WakeOrRelease (of_both made) → WakeOrRelease (of_first made)
 firsts [] are = are
@@ -110,19 +122,23 @@ seconds [] are = are
 seconds ((true, call) ∷ made) are = seconds made are.1
 seconds ((false, call) ∷ made) are = (are.0, seconds made are.1)
 
-apart : (row : TaskRow) (made : Made) → WakeOrRelease (of_both made) → rest_of row (of_both made) ≡ rest_of row (of_first made ++ of_second made)
-apart row [] are = refl
-apart row ((true, call) ∷ made) are = apart (changed row call) made are.1
-apart row ((false, call) ∷ made) are = apart (changed row call) made are.1 ∙ later row call (of_first made) (of_second made) are.0 (firsts made are.1)
+apart : (row : TaskRow) (made : Made) → row.waited ≡ None → WakeOrRelease (of_both made) → rest_of row (of_both made) ≡ rest_of row (of_first made ++ of_second made)
+apart row [] none are = refl
+apart row ((true, call) ∷ made) none are = apart (changed row call) made (uncounted row call none are.0) are.1
+apart row ((false, call) ∷ made) none are = apart (changed row call) made (uncounted row call none are.0) are.1 ∙ later row call (of_first made) (of_second made) none are.0 (firsts made are.1)
 
 both : (xs ys : List TaskCall) → WakeOrRelease xs → WakeOrRelease ys → WakeOrRelease (xs ++ ys)
 both [] ys are also = also
 both (x ∷ xs) ys are also = (are.0, both xs ys are.1 also)
 
+none_counted : (opening : TaskRow) (before : List TaskCall) → opening.waited ≡ None → (row_after task_kind opening before).waited ≡ None
+unfolding row_after fold_of row_of
+none_counted opening before none = rw none refl
+
 -- the row is the same as if the first had made all of its calls before the second began
-pub order_unseen : (opening : TaskRow) (before : List TaskCall) (made : Made) → WakeOrRelease (of_both made)
+pub order_unseen : (opening : TaskRow) (before : List TaskCall) (made : Made) → opening.waited ≡ None → WakeOrRelease (of_both made)
     → row_after task_kind opening (before ++ of_both made) ≡ row_after task_kind opening (before ++ (of_first made ++ of_second made))
-order_unseen opening before made are =
+order_unseen opening before made none are =
     each opening before (of_both made) are
-    ∙ (apart (row_after task_kind opening before) made are
+    ∙ (apart (row_after task_kind opening before) made (none_counted opening before none) are
     ∙ sym (each opening before (of_first made ++ of_second made) (both (of_first made) (of_second made) (firsts made are) (seconds made are))))

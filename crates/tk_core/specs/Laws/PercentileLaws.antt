@@ -1,11 +1,10 @@
 -- What the bucket of a percentile says of the times that were added.
-use Rattle.std.proofs.Common.{◌≡◌, ℕ, zero, suc, ◌+◌, ◌*◌, ◌^◌, ◌<◌, ◌≤◌, Bool, true, false, cond, List, [], ◌∷◌, ◌++◌, length, take, get_or, Option, Some, None, refl, sym, ap, ◌∙◌, subst, lit≤, arith}
+use Rattle.std.proofs.Common.{◌≡◌, ℕ, zero, suc, ◌+◌, ◌^◌, ◌<◌, ◌≤◌, Bool, true, false, cond, List, [], ◌∷◌, ◌++◌, length, take, get_or, Some, None, refl, sym, ap, ◌∙◌, lit≤, arith}
 use Rattle.std.specs.Prelude.{filter, nat_le, nat_lt, ◌==◌, ◌&&◌}
-use Rattle.std.specs.List.{filter_map, cons_option}
-use Rattle.std.specs.Option.{option_map_or}
+use Rattle.std.specs.List.{filter_map}
 use Rattle.std.proofs.lemmas.Bool.Decides.{nat_tests}
 use Rattle.std.proofs.lemmas.List.{take_more}
-use Rattle.tk_core.specs.Lists.{capped, count_of}
+use Rattle.tk_core.specs.Lists.{count_of}
 use Rattle.tk_core.specs.Times.{bounds, reached, bucket_of, time_of, is_in, counts_from, row_of}
 use Rattle.tk_core.specs.Percentiles.{total_of, IsBucketOf, IsHonest, shorter, begin_of, end_of, before_end}
 use Rattle.tk_core.specs.declared.times.row.TimesRow.{TimesRow}

@@ -15,6 +15,7 @@ read_from w =
     let f4 = f3 / 2 in
     let f5 = f4 / 2 in
     let f6 = f5 / 2 in
+    let f7 = f6 / 2 in
     record {
       created = get_or w 1 0;
       dropped = cond (f0 % 2 == 1) (Some (get_or w 2 0)) None;
@@ -30,6 +31,7 @@ read_from w =
       drops = get_or w 12 0;
       handles = get_or w 13 0;
       sched = get_or w 14 0;
+      waited = cond (f7 % 2 == 1) (Some (get_or w 15 0)) None;
       polling = f5 % 2 == 1;
       scheduled = f6 % 2 == 1;
     }

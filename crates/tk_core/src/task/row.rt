@@ -36,6 +36,9 @@ pub struct TaskRow {
     pub handles: u64,
     /// How long it waited in all, scheduled, for a poll to start.
     pub sched: u64,
+    /// How long it waited in all, scheduled and not polled, up to its last start, wake or close: of a task that is woken again
+    /// while it waits, from the wake that scheduled it. `None` where that isn't counted.
+    pub waited: Option<u64>,
     /// Whether a poll is open.
     pub polling: bool,
     /// Whether it waits for a poll: none was started yet, or it was woken since the last start, and it isn't closed.
@@ -43,7 +46,7 @@ pub struct TaskRow {
 }
 
 impl TaskRow {
-    ghost use Rattle.tk_core.specs.Task.{opening_row};
+    ghost use Rattle.tk_core.specs.Task.{opening_row, counting_row};
 
     /// The row of a task that was just created: scheduled, and with no call yet.
     pub fn opening(created: u64) -> Self
@@ -64,8 +67,19 @@ impl TaskRow {
             drops: 0,
             handles: 0,
             sched: 0,
+            waited: None,
             polling: false,
             scheduled: true,
+        }
+    }
+
+    /// The row of a task that was just created, and whose waits are counted.
+    pub fn counting(created: u64) -> Self
+        ensures { result ≡ counting_row created }
+    {
+        TaskRow {
+            waited: Some(0),
+            ..Self::opening(created)
         }
     }
 }

@@ -40,6 +40,7 @@ impl TaskRow {
             first_poll: self.first_poll.or(Some(moment)),
             last_started: Some(moment),
             sched: self.sched.saturating_add(self.wait_until(moment)),
+            waited: self.waited_until(moment),
             polling: true,
             scheduled: false,
             ..*self
@@ -79,6 +80,7 @@ impl TaskRow {
         }
         let row = TaskRow {
             dropped: Some(moment),
+            waited: self.waited_until(moment),
             scheduled: false,
             ..*self
         };
@@ -150,7 +152,7 @@ impl TaskRow {
 /// Parts of the calls.
 impl TaskRow {
     ghost use Rattle.std.specs.Prelude.{◌≡◌, ◌+◌, ◌-◌, ◌^◌, min, max, unwrap_or, is_some, not, if◌then◌else◌};
-    ghost use Rattle.tk_core.specs.Task.{found_by_wake};
+    ghost use Rattle.tk_core.specs.Task.{found_by_wake, waited_until};
 
     /// How long a task that is scheduled has waited for a poll.
     #[inline(always)]
@@ -163,6 +165,23 @@ impl TaskRow {
         let woken = self.last_wake.unwrap_or(0);
         let ended = self.last_ended.unwrap_or(0);
         moment.saturating_sub(self.created.max(woken.max(ended)))
+    }
+
+    /// How long it has waited in all, where that is counted, with what lasts up to this moment. A wake up to this moment doesn't
+    /// change it while the task waits, and what is told later is no less (`specs/Laws/TaskWaits.antt`).
+    #[inline(always)]
+    pub fn waited_until(&self, moment: u64) -> Option<u64>
+        ensures { result ≡ waited_until self.now moment }
+    {
+        let lasts = if self.polling {
+            0
+        } else {
+            self.wait_until(moment)
+        };
+        match self.waited {
+            Some(waited) => Some(waited.saturating_add(lasts)),
+            None => None,
+        }
     }
 
     /// What a wake finds.
@@ -182,9 +201,10 @@ impl TaskRow {
     /// The row after a wake.
     #[inline(always)]
     fn woken(&self, moment: u64, from_self: bool) -> TaskRow
-        ensures { result ≡ record self.now { wakes = min (self.now.wakes + 1) (2 ^ 64 - 1); self_wakes = if from_self then min (self.now.self_wakes + 1) (2 ^ 64 - 1) else self.now.self_wakes; last_wake = Some (max (unwrap_or self.now.last_wake 0) moment); scheduled = not (is_some self.now.dropped) } }
+        ensures { result ≡ record self.now { wakes = min (self.now.wakes + 1) (2 ^ 64 - 1); self_wakes = if from_self then min (self.now.self_wakes + 1) (2 ^ 64 - 1) else self.now.self_wakes; last_wake = Some (max (unwrap_or self.now.last_wake 0) moment); waited = waited_until self.now moment; scheduled = not (is_some self.now.dropped) } }
     {
         let last = self.last_wake.unwrap_or(0);
+        let waited = self.waited_until(moment);
         TaskRow {
             wakes: self.wakes.saturating_add(1),
             self_wakes: if from_self {
@@ -193,6 +213,7 @@ impl TaskRow {
                 self.self_wakes
             },
             last_wake: Some(last.max(moment)),
+            waited,
             scheduled: self.dropped.is_none(),
             ..*self
         }

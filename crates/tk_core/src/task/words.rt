@@ -19,6 +19,7 @@ impl TaskRow {
         let last_wake = u64::from(self.last_wake.is_some());
         let polling = u64::from(self.polling);
         let scheduled = u64::from(self.scheduled);
+        let waited = u64::from(self.waited.is_some());
         dropped
             + 2 * first_poll
             + 4 * last_started
@@ -26,6 +27,7 @@ impl TaskRow {
             + 16 * last_wake
             + 32 * polling
             + 64 * scheduled
+            + 128 * waited
     }
 
     /// The words of the row.
@@ -50,7 +52,7 @@ impl TaskRow {
             self.drops,
             self.handles,
             self.sched,
-            0,
+            self.waited.unwrap_or(0),
         ]
     }
 
@@ -67,6 +69,7 @@ impl TaskRow {
         let from_4 = from_3 / 2;
         let from_5 = from_4 / 2;
         let from_6 = from_5 / 2;
+        let from_7 = from_6 / 2;
         TaskRow {
             created: words[1],
             dropped: moment_of(flags % 2 == 1, words[2]),
@@ -82,6 +85,7 @@ impl TaskRow {
             drops: words[12],
             handles: words[13],
             sched: words[14],
+            waited: moment_of(from_7 % 2 == 1, words[15]),
             polling: from_5 % 2 == 1,
             scheduled: from_6 % 2 == 1,
         }

@@ -256,6 +256,22 @@ impl Line {
         Ok(self.with_times(list))
     }
 
+    /// The line as one of version 3, which tells the new histograms of poll times that are not among the old ones, or are others there.
+    ///
+    /// Its one error is `Memory`.
+    pub fn telling_between(
+        self,
+        old: &Table<(TaskId, PollTimes)>,
+        new: &Table<(TaskId, PollTimes)>,
+    ) -> Result<Line, LineError>
+        ensures ok { IfOk result (λ line. line ≡ lines.with_times (lines.told_times old.now new.now) self) }
+        ensures memory { IfErr result (λ e. e ≡ LineError.Memory) }
+    {
+        let alloc = *self.new_tasks.allocator();
+        let list = told_stats(alloc, old, new)?;
+        Ok(self.with_times(list))
+    }
+
     fn with_times(self, times: Vec<(TaskId, PollTimes)>) -> Line
         ensures { result ≡ lines.with_times times.items self }
     {

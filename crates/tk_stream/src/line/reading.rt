@@ -8,10 +8,11 @@ ghost use Rattle.tk_stream.specs.Outcome.{Answers};
 ghost use Rattle.tk_stream.specs.Spelled.{line_of_lists};
 ghost use Rattle.tk_stream.specs.Spelling as spec;
 
-use super::{Line, version_of};
+use super::{Line, count_waits, version_of};
 use crate::error::LineError;
 use crate::line::gone::take_gone;
 use crate::line::making::Items;
+use crate::text::read_json::fields::number_at;
 use crate::text::read_json::line_lists::LineLists;
 use crate::text::read_json::numbers::numbers_of;
 use crate::text::read_json::said::said_with;
@@ -90,7 +91,7 @@ impl Line {
             resource_stats,
             task_stats,
         };
-        Some(Line::of_parts(
+        let line = Line::of_parts(
             numbers.dropped,
             said.gone,
             items,
@@ -98,7 +99,13 @@ impl Line {
             numbers.seq,
             numbers.snapshot,
             said.times,
-        ))
+        );
+        let number = number_at(own, "v")?;
+        if line.version() == number {
+            Some(line)
+        } else {
+            None
+        }
     }
 }
 
@@ -141,7 +148,8 @@ fn take_line(alloc: Global, bytes: &[u8]) -> Result<Option<Line>, AllocError>
     if rest.len() > 0 {
         return Ok(None);
     }
-    let version = version_of(&gone, &task_times);
+    let counts = count_waits(&task_stats);
+    let version = version_of(counts, &gone, &task_times);
     if number != version {
         return Ok(None);
     }

@@ -273,6 +273,7 @@ impl Ranged for (TaskId, TaskRow) {
         see_number(row.drops);
         see_number(row.handles);
         see_number(row.sched);
+        see_optional(row.waited);
     }
 }
 

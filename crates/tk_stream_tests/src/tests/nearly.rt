@@ -4,12 +4,12 @@
 //! front of it is such another one with the same meaning, so the two are compared by it.
 
 use super::given::{error_of, on_line, writes};
-use super::texts::{CHANGED, EMPTY, FIRST, FULL, GONE, SIGNED, TIMED, TWO, UNCHANGED};
+use super::texts::{CHANGED, EMPTY, FIRST, FULL, GONE, SIGNED, TIMED, TWO, UNCHANGED, WAITED};
 use std::alloc::{AllocError, Global};
 use tk_stream::Line;
 
-const TEXTS: [&str; 9] = [
-    EMPTY, FIRST, CHANGED, UNCHANGED, FULL, TWO, SIGNED, GONE, TIMED,
+const TEXTS: [&str; 10] = [
+    EMPTY, FIRST, CHANGED, UNCHANGED, FULL, TWO, SIGNED, GONE, TIMED, WAITED,
 ];
 
 // How many lines are made of these texts, by other digits in their short numbers.

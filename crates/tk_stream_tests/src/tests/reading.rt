@@ -1,14 +1,28 @@
 //! Texts that are lines.
 
 use super::given::{changed, error_of, on_line, writes};
-use super::texts::{CHANGED, EMPTY, FIRST, FULL, GONE, SIGNED, TIMED, TWO, UNCHANGED};
+use super::texts::{
+    CHANGED, EMPTY, FIRST, FULL, GONE, SIGNED, TIMED, TWO, UNCHANGED, WAITED, WAITED_GONE,
+    WAITED_TIMED,
+};
 use std::alloc::Global;
 use tk_ids::{OpInfo, ResourceInfo, TaskInfo};
 use tk_stream::Line;
 
 // Texts of lines, written as a line writes itself.
-const SAME: [&str; 9] = [
-    EMPTY, FIRST, CHANGED, UNCHANGED, FULL, TWO, SIGNED, GONE, TIMED,
+const SAME: [&str; 12] = [
+    EMPTY,
+    FIRST,
+    CHANGED,
+    UNCHANGED,
+    FULL,
+    TWO,
+    SIGNED,
+    GONE,
+    TIMED,
+    WAITED,
+    WAITED_GONE,
+    WAITED_TIMED,
 ];
 
 // The line without items in other texts: with white space, in another order, and with keys twice or often,
@@ -49,6 +63,14 @@ const TIMED_OTHERS: [(&str, &str); 5] = [
     ("\"task_times\"",   "\"task\\u005ftimes\""),
     ("\"counts\":[[0,18446744073709551615],[4,120],[13,1]],\"id\":1099511627777,\"longest\":2000000000",
      "\"longest\":2000000000,\"counts\":[[0,18446744073709551615],[4,120],[13,1]],\"id\":1099511627777"),
+];
+
+// Parts of the lines of version 4, and other spellings of them.
+#[rattlefmt::skip]
+const WAITED_OTHERS: [(&str, &str); 3] = [
+    ("[5,18446744073709551615]", "[ 5 ,\t18446744073709551615 ]"),
+    ("\"v\":4",                "\"v\" : 4"),
+    ("\"sched\":7",            "\"sch\\u0065d\":7"),
 ];
 
 // Whether the text is a line that writes itself so.
@@ -106,6 +128,9 @@ fn reads_other_texts_of_a_line(rt: HostRuntime) {
     assert!(rt; all_read_respelled(rt.alloc(), SIGNED, SIGNED_OTHERS.as_slice()));
     assert!(rt; all_read_respelled(rt.alloc(), GONE, GONE_OTHERS.as_slice()));
     assert!(rt; all_read_respelled(rt.alloc(), TIMED, TIMED_OTHERS.as_slice()));
+    for text in [WAITED, WAITED_GONE, WAITED_TIMED] {
+        assert!(rt; all_read_respelled(rt.alloc(), text, WAITED_OTHERS.as_slice()));
+    }
 }
 
 fn shows_numbers(line: &Line) -> bool {
@@ -302,4 +327,22 @@ fn reads_names_of_up_to_1024_bytes(rt: HostRuntime) {
     assert!(rt; reads_name_of(rt.alloc(), 1) == Some(true));
     assert!(rt; reads_name_of(rt.alloc(), 1024) == Some(true));
     assert!(rt; reads_name_of(rt.alloc(), 1025) == Some(false));
+}
+
+fn waits_at(line: &Line, place: usize) -> Option<(u64, Option<u64>)> {
+    let (_, row) = line.task_stats().get(place)?;
+    Some((row.sched, row.waited))
+}
+
+#[test]
+fn shows_what_was_waited(rt: HostRuntime) {
+    for text in [WAITED, WAITED_GONE, WAITED_TIMED] {
+        assert!(rt;
+            on_line(rt.alloc(), text.as_bytes(), |line| {
+                line.version() == 4
+                    && waits_at(line, 0) == Some((5, Some(u64::MAX)))
+                    && waits_at(line, 1) == Some((7, None))
+            })
+        );
+    }
 }

@@ -1,7 +1,7 @@
 //! Texts that are no lines, and the errors.
 
 use super::given::{changed, error_of};
-use super::texts::{EMPTY, FULL, GONE, TIMED};
+use super::texts::{EMPTY, FULL, GONE, TIMED, WAITED, WAITED_TIMED};
 use std::alloc::Global;
 use std::test::Fail;
 use tk_stream::LineError;
@@ -140,6 +140,20 @@ const HISTOGRAMS: [(&str, &str); 18] = [
     ("\"id\":1099511627778",        "\"id\":1"),
 ];
 
+// Changes of what a row says that counts its waits, and of the version: 4 has a row that does, and no other has one.
+#[rattlefmt::skip]
+const WAITS: [(&str, &str); 9] = [
+    ("\"v\":4",                "\"v\":1"),
+    ("\"v\":4",                "\"v\":2"),
+    ("\"v\":4",                "\"v\":3"),
+    ("\"v\":4",                "\"v\":5"),
+    ("[5,18446744073709551615]", "5"),
+    ("[5,18446744073709551615]", "[5]"),
+    ("[5,18446744073709551615]", "[5,18446744073709551616]"),
+    ("[5,18446744073709551615]", "[5,null]"),
+    ("[5,18446744073709551615]", "[5,6,7]"),
+];
+
 // Changes of a line of version 1 after which it is none.
 #[rattlefmt::skip]
 const PLAIN: [(&str, &str); 4] = [
@@ -208,6 +222,12 @@ fn refuses_other_versions(rt: HostRuntime) {
 #[test]
 fn refuses_other_histograms(rt: HostRuntime) {
     assert!(rt; all_are_bad_shapes(rt.alloc(), TIMED, HISTOGRAMS.as_slice()));
+}
+
+#[test]
+fn refuses_other_waits(rt: HostRuntime) {
+    assert!(rt; all_are_bad_shapes(rt.alloc(), WAITED, WAITS.as_slice()));
+    assert!(rt; all_are_bad_shapes(rt.alloc(), WAITED_TIMED, WAITS.as_slice()));
 }
 
 // So many arrays, each in the one before it.

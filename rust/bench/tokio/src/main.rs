@@ -2,7 +2,7 @@
 //!
 //! Usage: taskscope-bench-tokio [PLAIN]   measures, and writes a table to standard output. PLAIN is this program, built with
 //!                                        `--no-default-features`: tokio without its feature `tracing`.
-//!        taskscope-bench-tokio MODE      measures one column: `none`, `registry`, `tasks` or `all`.
+//!        taskscope-bench-tokio MODE      measures one column: `none`, `registry`, `untimed`, `tasks` or `all`.
 //!
 //! Figures are nanoseconds of processor time, of the thread that does the work, or with workers of the whole process, which has the
 //! publishing thread too: each the least of some rounds, as other programs of the machine take its caches in between.
@@ -16,7 +16,7 @@ use std::task::{Context, Poll, Waker};
 use tokio::runtime::{Builder, Runtime};
 use tokio::sync::{mpsc, oneshot, Mutex};
 
-const MODES: [&str; 4] = ["none", "registry", "tasks", "all"];
+const MODES: [&str; 5] = ["none", "registry", "untimed", "tasks", "all"];
 const ROUNDS: usize = 9;
 
 /// The processor time of this thread, or of the process.
@@ -149,6 +149,7 @@ fn install(mode: &str) -> std::io::Result<()> {
     let builder = Builder::new().output(Output::File("/dev/null".into())).retention(std::time::Duration::ZERO);
     match mode {
         "registry" => tracing_subscriber::registry().init(),
+        "untimed" => builder.items(Items::Tasks).times(false).init()?,
         "tasks" => builder.items(Items::Tasks).init()?,
         "all" => builder.items(Items::All).init()?,
         _ => {}
@@ -184,7 +185,7 @@ fn main() -> std::io::Result<()> {
         columns.push(column(&plain, "none")?);
         names.push("without the feature");
     }
-    for (mode, name) in MODES.iter().zip(["no subscriber", "bare registry", "tasks alone", "all items"]) {
+    for (mode, name) in MODES.iter().zip(["no subscriber", "bare registry", "tasks without histograms", "tasks alone", "all items"]) {
         columns.push(column(&this, mode)?);
         names.push(name);
     }

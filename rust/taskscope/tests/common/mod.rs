@@ -91,11 +91,12 @@ pub fn task(line: &str, id: u64) -> &str {
     with_id(line, "task_stats", id).unwrap_or_else(|| panic!("task {id} in {line}"))
 }
 
-/// What a reader of a stream keeps of it: infos and statistics by id in the order of the tables, poll counts, and totals.
+/// What a reader of a stream keeps of it: infos and statistics by id in the order of the tables, poll counts, histograms, and totals.
 #[derive(Debug, Default, PartialEq, Eq)]
 pub struct Tables {
     pub items: BTreeMap<&'static str, Vec<(u64, String, String)>>,
     pub counts: BTreeMap<u64, String>,
+    pub times: BTreeMap<u64, String>,
     pub dropped: String,
 }
 
@@ -131,6 +132,14 @@ impl Tables {
                 let item = items.iter_mut().find(|item| item.0 == id).expect("a row is of an item that is there");
                 item.2 = row.to_string();
             }
+        }
+        for id in list(line, "gone_tasks") {
+            self.times.remove(&id.parse().expect("an id"));
+        }
+        for times in list(line, "task_times") {
+            let id = number(times, "id");
+            assert!(self.items["task_stats"].iter().any(|item| item.0 == id), "a histogram is of a task that is there");
+            self.times.insert(id, times.to_string());
         }
         for counts in list(line, "poll_counts") {
             let id = counts[1..].split(',').next().and_then(|id| id.parse().ok()).expect("a resource");

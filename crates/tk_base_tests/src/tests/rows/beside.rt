@@ -40,7 +40,7 @@ fn task_steps(
 
 fn tasks_step(alloc: Global, seed: u64) -> Result<bool, AllocError> {
     let mut random = Random::new(seed);
-    let mut row = TaskRow::opening(100);
+    let mut row = TaskRow::counting(100);
     let mut history = Vec::new(alloc);
     for _ in 0..CALLS {
         if !task_steps(alloc, &mut row, &mut history, random.task_call())? {

@@ -90,7 +90,26 @@ fn sched(created: u64, history: &[TaskEntry], points: &[Point]) -> u64 {
     sum
 }
 
-/// The row that a history leaves.
+/// How long the task waited in all: at each start, wake or close at which it was scheduled and not polled, since the greatest of its
+/// creation, the wakes before, and the last end before.
+fn waited(created: u64, history: &[TaskEntry], points: &[Point]) -> u64 {
+    let mut sum = 0u64;
+    for (i, entry) in history.iter().enumerate() {
+        let moment = match (point(entry), wake(entry), close(entry)) {
+            (Point::Start(moment), _, _) | (_, Some(moment), _) | (_, _, Some(moment)) => moment,
+            _ => continue,
+        };
+        if i > points.len() || !is_scheduled(&history[..i]) || is_polling(&points[..i]) {
+            continue;
+        }
+        let woken = history[..i].iter().filter_map(wake).max().unwrap_or(0);
+        let ended = last_ended(&points[..i]).unwrap_or(0);
+        sum = sum.saturating_add(moment.saturating_sub(created.max(woken).max(ended)));
+    }
+    sum
+}
+
+/// The row that a history leaves, whose waits are counted.
 pub fn row(alloc: Global, created: u64, history: &[TaskEntry]) -> Result<TaskRow, AllocError> {
     let points = points(alloc, history)?;
     let points = points.as_slice();
@@ -109,6 +128,7 @@ pub fn row(alloc: Global, created: u64, history: &[TaskEntry]) -> Result<TaskRow
         drops: history.iter().filter(|entry| is_drop(entry)).count() as u64,
         handles: history.iter().filter(|entry| draws(entry)).count() as u64,
         sched: sched(created, history, points),
+        waited: Some(waited(created, history, points)),
         polling: is_polling(points),
         scheduled: is_scheduled(history),
     })

@@ -26,15 +26,15 @@ returns-in_default-front-3-clause-err c =
 pub returns-in-Ok-clause-ok : goal.returns-in-Ok-clause-ok
 returns-in-Ok-clause-ok c =
     let given : Given = record { tasks = c.args.tasks.now; resources = c.args.resources.now; ops = c.args.ops.now; counts = c.args.counts.now; attrs = c.args.attrs.now; text = c.args.text.now } in
-    change_for (λ text. text.items) c.text_between.result c.args.head.now given c.in-Ok.old c.in_ok-new.new
+    change_for c.between.result c.args.head.now given c.in-Ok.old c.in_ok-new.new
     (told_for c.args.head.now given c.in-Ok.old c.in-Some.told_tasks.now c.in-Some-front.told_resources.now c.in-Some-front-2.told_ops.now c.in-Some-front-3.told_counts.now
     c.in-Some.ensures.some c.in-Some-front.ensures.some c.in-Some-front-2.ensures.some c.in-Some-front-3.ensures.some c.in-Ok.ensures.ok)
-    c.in_ok-new.ensures.ok c.text_between.ensures.ok
+    c.in_ok-new.ensures.ok c.between.ensures.ok
 
 pub returns-in-Ok-clause-err : goal.returns-in-Ok-clause-err
 returns-in-Ok-clause-err c =
     let given : Given = record { tasks = c.args.tasks.now; resources = c.args.resources.now; ops = c.args.ops.now; counts = c.args.counts.now; attrs = c.args.attrs.now; text = c.args.text.now } in
-    memory_alone c.args.head.now given c.text_between.result c.text_between.ensures.err
+    memory_alone c.args.head.now given c.between.result c.between.ensures.err
 
 pub returns-clause-err : goal.returns-clause-err
 returns-clause-err c =

@@ -33,7 +33,7 @@ fn seq_at(value: &Value, key: &str) -> Option<u64>
     }
 }
 
-/// The version of a line's format. From `Two` on it says what is gone, and in `Three` it tells histograms of poll times.
+/// Which keys a line has. From `Two` on it says what is gone, and in `Three` it tells histograms of poll times.
 #[derive(Clone, Copy)]
 pub(crate) enum Version {
     One,
@@ -66,6 +66,21 @@ fn version_at(version: u64, value: &Value) -> Option<Version>
     }
 }
 
+// Which of the other versions' keys a line has: one of version 4 has those of 1, 2 or 3, by how many they are.
+fn keys_of(version: u64, value: &Value) -> u64
+    ensures { result ≡ spec.keys_of version (view value.now) }
+{
+    if version != 4 {
+        version
+    } else if has_members(value, 12) {
+        1
+    } else if has_members(value, 15) {
+        2
+    } else {
+        3
+    }
+}
+
 /// The numbers of the line that a value is.
 #[tactic(auto, unfolding(crate::specs::Spelled::numbers_of))]
 pub(crate) fn numbers_of(value: &Value) -> Option<Numbers>
@@ -73,7 +88,7 @@ pub(crate) fn numbers_of(value: &Value) -> Option<Numbers>
     ensures seq { IfSome result (λ n. is_seq n.seq ≡ true) }
 {
     let number = number_at(value, "v")?;
-    let version = version_at(number, value)?;
+    let version = version_at(keys_of(number, value), value)?;
     let dropped = dropped_in(list_at(value, "dropped")?)?;
     let now = number_at(value, "now")?;
     let seq = seq_at(value, "seq")?;

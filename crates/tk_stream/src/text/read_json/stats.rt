@@ -62,6 +62,31 @@ fn values_in(alloc: Global, values: &[Value]) -> Result<AttrValues, LineError>
     Ok(AttrValues::new(list.as_slice()))
 }
 
+// How long a task waited, where its waits are counted: two numbers.
+fn waits_in(values: &[Value]) -> Option<(u64, Option<u64>)>
+    ensures { result ≡ spec.waits_in (map view values.now) }
+{
+    match values {
+        [sched, waited] => Some((sched.as_u64()?, Some(waited.as_u64()?))),
+        _ => None,
+    }
+}
+
+fn waits_of(value: &Value) -> Option<(u64, Option<u64>)>
+    ensures { result ≡ spec.waits_of (view value.now) }
+{
+    match value {
+        Value::Array(_) => waits_in(values_of(value)?),
+        _ => Some((value.as_u64()?, None)),
+    }
+}
+
+fn waits_at(value: &Value, key: &str) -> Option<(u64, Option<u64>)>
+    ensures { result ≡ spec.waits_at key.now (view value.now) }
+{
+    waits_of(value.get(key)?)
+}
+
 #[tactic(auto, unfolding(crate::specs::Reading::stats_of))]
 fn stats_of(value: &Value) -> Option<(TaskId, TaskRow)>
     ensures { result ≡ spec.stats_of (view value.now) }
@@ -82,7 +107,7 @@ fn stats_of(value: &Value) -> Option<(TaskId, TaskRow)>
     let last_wake = optional_at(value, "last_wake")?;
     let polling = flag_at(value, "polling")?;
     let polls = number_at(value, "polls")?;
-    let sched = number_at(value, "sched")?;
+    let (sched, waited) = waits_at(value, "sched")?;
     let scheduled = flag_at(value, "scheduled")?;
     let self_wakes = number_at(value, "self_wakes")?;
     let wakes = number_at(value, "wakes")?;
@@ -101,6 +126,7 @@ fn stats_of(value: &Value) -> Option<(TaskId, TaskRow)>
         drops,
         handles,
         sched,
+        waited,
         polling,
         scheduled,
     };

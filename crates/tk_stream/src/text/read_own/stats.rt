@@ -13,6 +13,19 @@ use std::alloc::{AllocError, Global};
 use tk_core::{AttrValues, OpRow, ResourceRow, TaskRow};
 use tk_ids::{AsyncOpId, AttrValue, ResourceId, TaskId};
 
+// How long a task waited: a number, or two in brackets where its waits are counted.
+fn take_waits(bytes: &[u8]) -> Option<((u64, Option<u64>), &[u8])>
+    ensures { IfSome result (λ x. Takes bytes.now (compact_text (spec.waits_data x.0.0 x.0.1)) x.1.now) }
+{
+    if let Some((sched, rest)) = take_number(bytes, b"[") {
+        let (waited, rest) = take_number(rest, b",")?;
+        let rest = take_text(rest, b"]")?;
+        return Some(((sched, Some(waited)), rest));
+    }
+    let (sched, rest) = take_number(bytes, b"")?;
+    Some(((sched, None), rest))
+}
+
 fn take_task_stats(bytes: &[u8]) -> Option<((TaskId, TaskRow), &[u8])>
     ensures { IfSome result (λ x. Takes bytes.now (compact_text (spec.stats_data x.0)) x.1.now) }
 {
@@ -30,7 +43,8 @@ fn take_task_stats(bytes: &[u8]) -> Option<((TaskId, TaskRow), &[u8])>
     let (last_wake, rest) = take_optional(rest, b",\"last_wake\":")?;
     let (polling, rest) = take_flag(rest, b",\"polling\":")?;
     let (polls, rest) = take_number(rest, b",\"polls\":")?;
-    let (sched, rest) = take_number(rest, b",\"sched\":")?;
+    let rest = take_text(rest, b",\"sched\":")?;
+    let ((sched, waited), rest) = take_waits(rest)?;
     let (scheduled, rest) = take_flag(rest, b",\"scheduled\":")?;
     let (self_wakes, rest) = take_number(rest, b",\"self_wakes\":")?;
     let (wakes, rest) = take_number(rest, b",\"wakes\":")?;
@@ -50,6 +64,7 @@ fn take_task_stats(bytes: &[u8]) -> Option<((TaskId, TaskRow), &[u8])>
         drops,
         handles,
         sched,
+        waited,
         polling,
         scheduled,
     };

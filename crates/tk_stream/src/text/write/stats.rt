@@ -14,6 +14,28 @@ use std::alloc::AllocError;
 use tk_core::{AttrValues, OpRow, ResourceRow, TaskRow};
 use tk_ids::{AsyncOpId, AttrValue, ResourceId, TaskId};
 
+// How long a task waited: a number, or two in brackets where its waits are counted.
+#[inline(always)]
+fn waits_before<const N: usize>(
+    bytes: &mut [u8; N],
+    at: usize,
+    sched: u64,
+    waited: Option<u64>,
+) -> usize
+    requires { (43 ≤ at) × (at ≤ N) }
+    ensures text { Takes (drop result bytes.new) (compact_text (spec.waits_data sched waited)) (drop at bytes.old) }
+    ensures place { (at ≤ result + 43) × (result ≤ N) }
+{
+    match waited {
+        None => number_before(bytes, at, b"", sched),
+        Some(waited) => {
+            let end = text_before(bytes, at, b"]");
+            let at = number_before(bytes, end, b",", waited);
+            number_before(bytes, at, b"[", sched)
+        }
+    }
+}
+
 fn write_task_stats(
     out: &mut Vec<u8>,
     scratch: &mut [u8; ROOM],
@@ -28,7 +50,8 @@ fn write_task_stats(
     let at = number_before(scratch, at, b",\"wakes\":", row.wakes);
     let at = number_before(scratch, at, b",\"self_wakes\":", row.self_wakes);
     let at = flag_before(scratch, at, b",\"scheduled\":", row.scheduled);
-    let at = number_before(scratch, at, b",\"sched\":", row.sched);
+    let at = waits_before(scratch, at, row.sched, row.waited);
+    let at = text_before(scratch, at, b",\"sched\":");
     let at = number_before(scratch, at, b",\"polls\":", row.polls);
     let at = flag_before(scratch, at, b",\"polling\":", row.polling);
     let at = optional_before(scratch, at, b",\"last_wake\":", row.last_wake);

@@ -18,8 +18,9 @@ returns c = rw c.in_ok-id.ensures
     (taken c.in_ok-last_wake.ensures
     (taken c.in_ok-polling.ensures
     (taken c.in_ok-polls.ensures
+    (taken c.in_ok-rest.ensures
     (taken c.in_ok-sched.ensures
     (taken c.in_ok-scheduled.ensures
     (taken c.in_ok-self_wakes.ensures
     (taken c.in_ok-wakes.ensures
-    c.in_ok-rest.ensures)))))))))))))))))
+    c.in_ok-rest-2.ensures))))))))))))))))))
