@@ -77,7 +77,7 @@ pub opens_at : (told : TablesView) (tables : TablesView) (seq : ℕ) (removes : 
     → IsStreamTo (sent_text (line_sent told (whole_sending tables seq removes times))) tables seq
 opens_at told tables seq removes times may = record {
   sent = whole_sending tables seq removes times ∷ [];
-  uninterrupted = (refl, record { fit = may.fit; in_range = may.in_range; numbered = may.numbered; on = after_none tables removes; told = may.told }, tt);
+  uninterrupted = (refl, record { fit = may.fit; in_range = may.in_range; numbered = may.numbered; on = λ changes. after_none tables removes; told = may.told }, tt);
   bytes_are = sym (append-nil (sent_text (line_sent empty_tables (whole_sending tables seq removes times))));
   tables_are = refl;
   last_is = refl;
@@ -103,7 +103,7 @@ sends_all a now snapshot removes told stays sound due fits of_tables = record {
   fit = at_moment_fit a.tables now sound.fit;
   in_range = at_moment a.tables now sound.in_range fits;
   numbered = within a.last due.number;
-  on = subst (λ (b : Bool). GoOn (if b then what_stays a.told a.tables else a.told) (record a.tables { now = now })) (sym stays) (record { tasks = sound.on.tasks; resources = sound.on.resources; ops = sound.on.ops; counts = sound.on.counts });
+  on = λ changes. subst (λ (b : Bool). GoOn (if b then what_stays a.told a.tables else a.told) (record a.tables { now = now })) (sym stays) (record { tasks = sound.on.tasks; resources = sound.on.resources; ops = sound.on.ops; counts = sound.on.counts });
   told = of_tables;
 }
 
@@ -119,7 +119,7 @@ sends_pruned a now retention told sound due fits of_tables =
       fit = at_moment_fit (without_gone a.tables gone) now (less_fit a.tables gone sound.fit);
       in_range = at_moment (without_gone a.tables gone) now (less_in_range a.tables gone sound.in_range) fits;
       numbered = within a.last due.number;
-      on = record { tasks = on.tasks; resources = on.resources; ops = on.ops; counts = on.counts };
+      on = λ changes. record { tasks = on.tasks; resources = on.resources; ops = on.ops; counts = on.counts };
       told = of_tables;
     }
 

@@ -478,7 +478,7 @@ module _ (lead : (old after : TablesView) (seq : ℕ) → AreFit old → AreFit 
       ∙ ap (λ n. Ok (standing after (times_after (times_base times (timed told l)) (timed told l)) (Some n))) (timed_seq told l)
 
   taken_by : (told : Option (List TaskTimes)) (b r : Bool) (before after : TablesView) (times : List TaskTimes) (seq : ℕ) (last : Option ℕ) → IfSome told (AreToldOf after)
-      → AreFit before → AreFit after → GoOn (cond (r && not b) (what_stays before after) before) after → AreInRange before → AreInRange after
+      → AreFit before → AreFit after → (b ≡ false → GoOn (cond (r && not b) (what_stays before after) before) after) → AreInRange before → AreInRange after
       → is_seq seq ≡ true → is_next last (line_by b r before after seq) ≡ true
       → line_taken before times last (line_text (timed told (line_by b r before after seq)))
       ≡ Ok (standing after (times_after (times_base times (timed told (line_by b r before after seq))) (timed told (line_by b r before after seq))) (Some seq))
@@ -493,11 +493,11 @@ module _ (lead : (old after : TablesView) (seq : ℕ) → AreFit old → AreFit 
   taken_by told false false before after times seq last h old fit on was all numbered next =
       let l : LineView = line_between before after seq in
       told_at told before after times last l h refl (record { gone = inl refl; new = refl }) (between_in before after seq all numbered) next
-      (line_fits before l after (no_repeats before after seq fit.distinct) (no_strangers before after seq) (ap or_misfit (lead before after seq old fit on)) (fits_all after fit))
+      (line_fits before l after (no_repeats before after seq fit.distinct) (no_strangers before after seq) (ap or_misfit (lead before after seq old fit (on refl))) (fits_all after fit))
   taken_by told false true before after times seq last h old fit on was all numbered next =
       let l : LineView = line_less before after seq in
       told_at told before after times last l h refl (record { gone = inr refl; new = refl }) (gone_in (gone_between before after) (line_between before after seq) (between_gone before after was) (between_in before after seq all numbered)) next
-      (line_fits before l after (no_repeats_less before after seq old.distinct fit.distinct) (no_strangers_less before after seq old.distinct) (ap or_misfit (less before after seq old fit on)) (fits_all after fit))
+      (line_fits before l after (no_repeats_less before after seq old.distinct fit.distinct) (no_strangers_less before after seq old.distinct) (ap or_misfit (less before after seq old fit (on refl))) (fits_all after fit))
 
   -- a line, and what comes after it
   line_first : (max : ℕ) (before : TablesView) (times : List TaskTimes) (last : Option ℕ) (s : Sending) (ss : List Sending) → AreFit before → AreInRange before → MaySend before s
