@@ -23,7 +23,7 @@
 root=$(CDPATH= cd -P -- "$(dirname -- "$0")/.." && pwd) || exit 2
 . "$root/tests/steps.sh"
 target=x86_64-unknown-linux-gnu
-kept=$root/rust/taskscope/prebuilt/$target
+kept=$root/rust/taskscope/prebuilt/x86_64-linux
 
 build_archive() {
     if [ -n "$TASKSCOPE_ARCHIVE" ]; then
