@@ -121,9 +121,9 @@ A screen tells how many tasks are in each state, what is odd and what to do abou
 explains the warnings), and shows the open tasks of most in a column, with where each was spawned.
 docs/FORMATS.md explains the lines.
 
-On a terminal a screen is drawn over the one before, and cut to the terminal's size: COLUMNS and LINES, which
-`./taskscope` sets, or else 80 by 24. It has colors unless NO_COLOR is set. Elsewhere, or where TERM is `dumb`,
-screens are text, one after the other.
+On a terminal a screen is drawn over the one before, and cut to the terminal's size, or to COLUMNS by LINES if they
+are set. It has colors unless NO_COLOR is set. Elsewhere, or if TERM is `dumb`, screens are text, one after the
+other.
 
 Tasks can be sorted by these columns:
   busy        how long their polls ran
@@ -132,9 +132,8 @@ Tasks can be sorted by these columns:
   wakes       how often they were woken
   self-wakes  how often they woke themselves
 
-With `--keys` whoever sits at the terminal sorts by another column, pauses, looks at one task, and quits: `?` shows the
-keys. They come one by one where `./taskscope` has set the terminal's mode, which is as before once it ends. At the end
-of the stream the last screen then stays until `q`.
+With `--keys` you sort by another column, pause, look at one task, and quit: `?` shows the keys. At the end of the
+stream the last screen then stays until `q`. The terminal has its mode back once the watch has ended or was stopped.
 
 A last line of the stream without its line end is ignored. At a fault the screen of what stood before it is drawn.";
 
@@ -211,4 +210,5 @@ pub(crate) const FOLLOW_INTO_HELP: &str =
 pub(crate) const EXPLAIN_HELP: &str =
     "Tells below a fault its line and the rule that this breaks, and else what was left out";
 
-pub(crate) const FILE_HELP: &str = "Reads this file in place of standard input";
+pub(crate) const FILE_HELP: &str =
+    "Reads this file, or the socket unix:PATH or tcp:HOST:PORT, in place of standard input";
