@@ -1,0 +1,44 @@
+# bash completion of taskscope, made of its help by tests/completions.py
+_taskscope() {
+    local word=${COMP_WORDS[COMP_CWORD]} before=${COMP_WORDS[COMP_CWORD-1]} all=
+    COMPREPLY=()
+    if [ "$COMP_CWORD" -eq 1 ]; then
+        COMPREPLY=($(compgen -W 'run view lint page watch metrics demo help --help --version' -- "$word"))
+        return
+    fi
+    case ${COMP_WORDS[1]}:$before in
+    view:--self-wake-percent) return ;;
+    view:--never-yielded-ns) return ;;
+    view:--long-poll) return ;;
+    lint:--self-wake-percent) return ;;
+    lint:--never-yielded-ns) return ;;
+    lint:--long-poll) return ;;
+    page:--self-wake-percent) return ;;
+    page:--never-yielded-ns) return ;;
+    watch:--self-wake-percent) return ;;
+    watch:--never-yielded-ns) return ;;
+    watch:--sort) COMPREPLY=($(compgen -W 'busy sched polls wakes self-wakes' -- "$word")); return ;;
+    watch:--rows) return ;;
+    watch:--filter) return ;;
+    watch:--every) return ;;
+    metrics:--self-wake-percent) return ;;
+    metrics:--never-yielded-ns) return ;;
+    metrics:--by) return ;;
+    metrics:--every) return ;;
+    esac
+    case ${COMP_WORDS[1]} in
+    run) all='--explain --help' ;;
+    view) all='--self-wake-percent --never-yielded-ns --long-poll --times --explain --help' ;;
+    lint) all='--self-wake-percent --never-yielded-ns --long-poll --explain --help' ;;
+    page) all='--self-wake-percent --never-yielded-ns --help' ;;
+    watch) all='--self-wake-percent --never-yielded-ns --sort --rows --filter --resources --every --follow --keys --plain --help' ;;
+    metrics) all='--self-wake-percent --never-yielded-ns --by --to --every --follow --help' ;;
+    demo) all='--help' ;;
+    help) all='run view lint page watch metrics demo help' ;;
+    esac
+    case $word in
+    -*) COMPREPLY=($(compgen -W "$all" -- "$word")) ;;
+    *) if [ "${COMP_WORDS[1]}" = help ]; then COMPREPLY=($(compgen -W "$all" -- "$word")); else COMPREPLY=($(compgen -f -- "$word")); fi ;;
+    esac
+}
+complete -o filenames -F _taskscope taskscope
