@@ -1,8 +1,9 @@
 #!/bin/sh
 # Tries both kept archives on arm64, under qemu: the program's, and that of the Rust crate.
 #
-# Usage: tests/arm64.sh, after `rt ci`. It has the prover write both for arm64 over the libraries that this left, which takes minutes. If the kept
-# archives are of these sources (tests/archive_sum.sh), it takes these. TASKSCOPE_ARM64 may name a folder that has the two already.
+# Usage: tests/arm64.sh                 after `rt ci`. The prover writes both for arm64 over the libraries that this left, which takes minutes, unless
+#                                       the kept archives are of these sources (tests/archive_sum.sh), or TASKSCOPE_ARM64 names a folder that has both.
+#        tests/arm64.sh --archives TO   puts both into the folder TO, and tries nothing.
 #
 # Debian's cargo and rustc build for arm64 with Debian's standard library and linker. Of the program it tries what tests/examples.sh tries; of the crate
 # it runs the tests of lines, futures, attributes and what leaves.
@@ -20,9 +21,6 @@ foreign() {
     [ -e "$std" ] || { as_root dpkg --add-architecture arm64 && package "$std" libstd-rust-dev:arm64; }
 }
 
-package /usr/bin/cargo cargo rustc && package aarch64-linux-gnu-gcc gcc-aarch64-linux-gnu libc6-dev-arm64-cross &&
-    package qemu-aarch64-static qemu-user-static && foreign || finish
-
 # The archive of a crate: CRATE, its file, and the folder of the Rust package that keeps it.
 has_archive() {
     [ -e "$work/$2" ] && return
@@ -37,6 +35,14 @@ has_archive() {
         "$root/tests/archive.py" --target $target "$work/$2"
     fi
 }
+
+if [ "$1" = --archives ]; then
+    has_archive taskscope $program_archive taskscope-cli && has_archive tk_embed $crate_archive taskscope && cp "$work/$program_archive" "$work/$crate_archive" "$2"
+    exit
+fi
+
+package /usr/bin/cargo cargo rustc && package aarch64-linux-gnu-gcc gcc-aarch64-linux-gnu libc6-dev-arm64-cross &&
+    package qemu-aarch64-static qemu-user-static && foreign || finish
 
 # Debian's cargo, in a folder, for arm64.
 over_arm64() {

@@ -1,7 +1,7 @@
 #!/bin/sh
 # Looks at the numbers that `taskscope metrics` writes, as Prometheus does.
 #
-# Usage: tests/metrics.sh            after `rt ci`, or `rt run` in crates/taskscope.
+# Usage: tests/metrics.sh. TASKSCOPE may name another program than `./taskscope`.
 #
 # Of each example's stream, and of services at random, whose closed tasks leave, the numbers are those that
 # tests/metrics/plain_metrics.py reckons, byte for byte, on the output and in a file that is kept while a stream comes, and promtool finds
@@ -15,7 +15,6 @@
 
 root=$(CDPATH= cd -P -- "$(dirname -- "$0")/.." && pwd) || exit 2
 examples=$root/examples
-program=${TASKSCOPE:-$root/crates/taskscope/out/taskscope}
 . "$root/tests/steps.sh"
 trap 'stop_servers; rm -rf "$work"' EXIT
 

@@ -1,7 +1,7 @@
 #!/bin/sh
 # Looks at the pages that `taskscope page` writes, as a strict parser and a browser do.
 #
-# Usage: tests/page.sh            after `rt ci`, or `rt run` in crates/taskscope.
+# Usage: tests/page.sh            tries the pages.
 #        tests/page.sh --picture  makes docs/page.png anew, of examples/service.script.html, and tries nothing. It wants `chromium` and `pngquant`.
 #
 # The frame is what frame/make.py writes, and the scripts of the service and of the long tail are what examples/service.py and
@@ -10,8 +10,8 @@
 # its numbers with the example's stream; so it does with pages of services at random, whose closed tasks leave. In a browser
 # tests/page/try_script.py sorts and filters the service's page.
 #
-# The parser is Debian's python3-html5lib. Where it is missing it is installed by apt-get; where it can't be, that is said and the parser
-# skipped, or with CI=true it is a failure. The browser is `chromium`; where it is missing its steps are skipped.
+# The parser is Debian's python3-html5lib, the browser its chromium. Where one is missing it is installed by apt-get; where it can't be, that is said
+# and its steps are skipped, or with CI=true it is a failure. TASKSCOPE may name another program than `./taskscope`.
 #
 # Its last line is `N passed, M failed`, and its status 1 where M isn't 0.
 
@@ -44,7 +44,6 @@ step "the picture has at most 150 kB" is_small "$picture"
 
 # A service in which chance falls as this number says, and whose closed tasks leave: its stream and its page.
 make_service() {
-    program=$root/crates/taskscope/out/taskscope
     { echo 'retention 3000000000' && python3 "$examples/service.py" --seed "$1"; } > "$work/script" &&
         "$program" run "$work/script" > "$work/stream" && "$program" page "$work/stream" > "$work/page"
 }
@@ -54,15 +53,7 @@ is_page_of_service() {
 }
 
 # Debian's python has Debian's packages.
-has_parser() {
-    /usr/bin/python3 -c 'import html5lib' 2> "$work/said"
-}
-
-install_parser() {
-    [ "$(id -u)" -eq 0 ] && { apt-get update -qq && apt-get install -y -qq --no-install-recommends python3-html5lib; } > "$work/said" 2>&1
-}
-
-if has_parser || { install_parser && has_parser; }; then
+if package /usr/lib/python3/dist-packages/html5lib python3-html5lib; then
     for script in "$examples"/*.script; do
         step "$(basename "$script" .script), as a parser reads its page" \
             /usr/bin/python3 "$root/tests/page/check_page.py" "$script.html" "$script.stdout"
@@ -70,19 +61,11 @@ if has_parser || { install_parser && has_parser; }; then
     for seed in 1 2 3 4 5 6 7 8; do
         step "a service at random, by seed $seed, as a parser reads its page" is_page_of_service "$seed"
     done
-elif [ "$CI" = true ]; then
-    failed=$((failed + 1))
-    echo "FAILED: python3-html5lib is missing, and apt-get does not give it"
-    tail -n 5 "$work/said"
-else
-    echo "skipped: the parser, since python3-html5lib is missing"
 fi
 
-if command -v chromium > /dev/null; then
+if package chromium chromium; then
     step "the service's page, sorted and filtered in a browser" "$root/tests/page/try_script.py" "$examples/service.script.html"
     step "the service's page, drawn by a browser" shoot "$examples/service.script.html" "$work/page.png" 1280,900
-else
-    echo "skipped: the browser, since chromium is missing"
 fi
 
 finish

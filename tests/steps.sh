@@ -1,5 +1,7 @@
-# What the scripts of steps share, which read this file once $root is set: a folder $work, the counts, `step`, and `package`.
+# What the scripts of steps share, which read this file once $root is set: the program that they try, a folder $work, the counts, `step`, and `package`.
 
+# Without TASKSCOPE it is what `./taskscope` starts.
+program=${TASKSCOPE:-$root/taskscope}
 work=$(mktemp -d) || exit 2
 trap 'rm -rf "$work"' EXIT
 trap 'exit 2' HUP INT TERM
