@@ -14,10 +14,9 @@ extern "C" {
     pub fn waitpid(child: c_int, status: *mut c_int, options: c_int) -> c_int;
     pub fn kill(process: c_int, signal: c_int) -> c_int;
     pub fn raise(signal: c_int) -> c_int;
-    /// The handler is a function's address, `SIG_DFL` or `SIG_IGN`.
+    /// The handler is a function's address, or `SIG_IGN`.
     pub fn signal(signal: c_int, handler: usize) -> usize;
     pub fn dup2(from: c_int, to: c_int) -> c_int;
-    pub fn shutdown(socket: c_int, how: c_int) -> c_int;
     pub fn ioctl(file: c_int, request: c_ulong, ...) -> c_int;
     pub fn tcgetattr(file: c_int, mode: *mut Termios) -> c_int;
     pub fn tcsetattr(file: c_int, when: c_int, mode: *const Termios) -> c_int;
@@ -26,7 +25,6 @@ extern "C" {
 /// A handler of signals.
 pub type Handler = extern "C" fn(c_int);
 
-pub const SIG_DFL: usize = 0;
 pub const SIG_IGN: usize = 1;
 
 pub const SIGHUP: c_int = 1;
@@ -40,7 +38,6 @@ pub const SIGTTOU: c_int = 22;
 
 pub const PR_SET_PDEATHSIG: c_int = 1;
 pub const WUNTRACED: c_int = 2;
-pub const SHUT_RD: c_int = 0;
 pub const STDIN: c_int = 0;
 pub const STDOUT: c_int = 1;
 pub const TIOCGWINSZ: c_ulong = 0x5413;
