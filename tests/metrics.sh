@@ -8,8 +8,8 @@
 # no fault in them. A node exporter on the loopback reads
 # them from a file, a Prometheus scrapes it, and what it answers to a query is what the report says. promtool checks docs/alerts.yml.
 #
-# promtool and Prometheus are Debian's prometheus, the node exporter its prometheus-node-exporter. Where they are missing their steps are
-# skipped; with CI=true they are installed by apt-get, and where it doesn't give them, that is a failure.
+# promtool and Prometheus are Debian's prometheus, the node exporter its prometheus-node-exporter. Where they are missing they are installed by apt-get;
+# where they can't be, that is said and their steps skipped, or with CI=true it is a failure.
 #
 # Its last line is `N passed, M failed`, and its status 1 where M isn't 0.
 
@@ -123,15 +123,6 @@ never_fall() {
 
 # ---- Prometheus
 
-has_prometheus() {
-    command -v promtool > /dev/null && command -v prometheus > /dev/null && command -v prometheus-node-exporter > /dev/null
-}
-
-install_prometheus() {
-    [ "$CI" = true ] && [ "$(id -u)" -eq 0 ] &&
-        { apt-get update -qq && apt-get install -y -qq --no-install-recommends prometheus prometheus-node-exporter; } > "$work/said" 2>&1
-}
-
 servers=
 stop_servers() {
     for server in $servers; do
@@ -200,19 +191,13 @@ step "and no more often than is asked for" kept_no_more_often
 step "also of a file that grows" kept_of_a_file_that_grows
 step "at a fault there are the numbers before it" kept_at_faults
 
-if has_prometheus || { install_prometheus && has_prometheus; }; then
+if package promtool prometheus && package prometheus-node-exporter prometheus-node-exporter; then
     for script in "$examples"/*.script; do
         "$program" metrics "$script.stdout" > "$work/numbers"
         step "$(basename "$script" .script), as promtool reads its numbers" promtool check metrics < "$work/numbers"
     done
     step "the alerts, as promtool reads them" promtool check rules "$root/docs/alerts.yml"
     step "a Prometheus that scrapes a node exporter answers with the report's numbers" try_prometheus
-elif [ "$CI" = true ]; then
-    failed=$((failed + 1))
-    echo "FAILED: prometheus and prometheus-node-exporter are missing, and apt-get does not give them"
-    tail -n 5 "$work/said"
-else
-    echo "skipped: Prometheus, since prometheus and prometheus-node-exporter are missing"
 fi
 
 finish
