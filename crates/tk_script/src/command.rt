@@ -162,10 +162,8 @@ impl Command<'_> {
         ensures { result ≡ spec.is_setting (spec.view self.now) }
     {
         match self {
-            Command::Capacity { .. }
-            | Command::Retention { .. }
-            | Command::Times
-            | Command::Waits => { true }
+            Command::Capacity { .. } | Command::Retention { .. } => true,
+            Command::Times | Command::Waits => true,
             _ => false,
         }
     }

@@ -40,10 +40,10 @@ fn waits_of(words: Pieces<'_>) -> Option<Command<'_>>
     ensures good { IfSome result (λ c. spec.IsGood (spec.view c)) }
 {
     let mut words = words;
-    match words.next() {
-        Some(_) => None,
-        None => Some(Command::Waits),
+    if words.next().is_some() {
+        return None;
     }
+    Some(Command::Waits)
 }
 
 // A line of the stream, or a setting.
