@@ -14,7 +14,7 @@ use Rattle.tk_ids.specs.declared.spec.TaskKind.{TaskKind}
 use Rattle.tk_ids.specs.declared.spec.TaskKind.TheVariants.{Spawn, Blocking}
 use Rattle.tk_events.specs.Items.{info_of, infos_of}
 use Rattle.tk_script.specs.Attributes.{attr_spec, named_value, value_of, attr, and_word, attrs_by}
-use Rattle.tk_script.specs.Commands.{Said, Line, skipped, bad, says, opens, joins, works, task, resource, op, poll_op, start, finish, close, self_wake, clone, again, wake_ref, wake, release, close_resource, change_resource, op_task, start_op, finish_op, close_op, change_op, capacity, retention, times, publish, Form, forms, task_forms, waker_forms, resource_call_forms, op_call_forms, line_forms, task_by, polls_by, resource_by, change_by, op_by, poll_op_by, alone, capacity_by, said_in, said_by, said, is_skipped, worker_of, worker_line_by, block_said_by, block_said, line_of, lines_of}
+use Rattle.tk_script.specs.Commands.{Said, Line, skipped, bad, says, opens, joins, works, task, resource, op, poll_op, start, finish, close, self_wake, clone, again, wake_ref, wake, release, close_resource, change_resource, op_task, start_op, finish_op, close_op, change_op, capacity, retention, times, waits, publish, Form, forms, task_forms, waker_forms, resource_call_forms, op_call_forms, line_forms, task_by, polls_by, resource_by, change_by, op_by, poll_op_by, alone, capacity_by, said_in, said_by, said, is_skipped, worker_of, worker_line_by, block_said_by, block_said, line_of, lines_of}
 use Rattle.tk_script.specs.Pieces.{pieces_at}
 use Rattle.tk_script.specs.Words.{moment, kind, readiness, one_number, two_numbers, five_numbers}
 use Rattle.tk_script.specs.declared.block.Worker.{Worker}
@@ -202,7 +202,7 @@ op_call_forms_fit : (words : List (List ℕ)) → AllFit op_call_forms words
 op_call_forms_fit words = (two_free words op_task (λ m n. refl), (two_free words start_op (λ m n. refl), (two_free words finish_op (λ m n. refl), (two_free words close_op (λ m n. refl), (change_free words (λ n i v. change_op n i (Add v)) (λ m n v. refl), (change_free words (λ n i v. change_op n i (Sub v)) (λ m n v. refl), (change_free words (λ n i v. change_op n i (Override v)) (λ m n v. refl), (fits_more (236 * (1 + sum_by long words)) (omega arith) (poll_op_fits words), tt))))))))
 
 line_forms_fit : (words : List (List ℕ)) → AllFit line_forms words
-line_forms_fit words = (one_free words (λ at. publish at false) (λ n. refl), (one_free words (λ at. publish at true) (λ n. refl), (capacity_fits words, (one_free words retention (λ n. refl), (alone_fits times words (omega arith), tt)))))
+line_forms_fit words = (one_free words (λ at. publish at false) (λ n. refl), (one_free words (λ at. publish at true) (λ n. refl), (capacity_fits words, (one_free words retention (λ n. refl), (alone_fits times words (omega arith), (alone_fits waits words (omega arith), tt))))))
 
 forms_fit : (words : List (List ℕ)) → AllFit forms words
 forms_fit words =
