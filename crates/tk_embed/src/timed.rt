@@ -1,5 +1,5 @@
 //! Lines that tell histograms of poll times, from entries.
-ghost use Rattle.std.specs.Prelude.{◌≡◌, ◌≤◌, ◌++◌, ◌∷◌, [], ℕ, List, true, false, map, take, nat_lt, length, is_some, IfOk, IfErr, OnOk};
+ghost use Rattle.std.specs.Prelude.{◌≡◌, ◌≤◌, ◌++◌, ◌∷◌, [], ℕ, List, true, false, map, is_some, IfOk, IfErr, OnOk};
 ghost use Rattle.tk_core.specs.TimesWords as times_words;
 ghost use Rattle.tk_embed.specs.declared.fault.Fault.{Fault};
 ghost use Rattle.tk_embed.specs.Entries as spec;
