@@ -53,6 +53,11 @@ def state_of(row):
     return "polling" if row["polling"] else "scheduled" if row["scheduled"] else "idle"
 
 
+def count_of(row, key):
+    """A statistic of a task. `sched` of a row that counts its waits is [scheduled, waited], of which the second is told."""
+    return row[key][1] if isinstance(row[key], list) else row[key]
+
+
 def label(key, value):
     return key + '="' + value.replace("\\", "\\\\").replace('"', '\\"').replace("\n", "\\n") + '"'
 
@@ -99,7 +104,7 @@ def lines_of(stream, by):
     tasks = [*left, *stream.tasks.values()]
     for name, key, unit, text in COUNTS:
         yield from head(name, "counter", unit, text)
-        for labels, number in summed((labels_of(info, by), row[key]) for info, row in tasks).items():
+        for labels, number in summed((labels_of(info, by), count_of(row, key)) for info, row in tasks).items():
             yield f"{name}{{{labels}}} {seconds(number) if unit else number}"
     yield from head("taskscope_tasks", "gauge", None, "Tasks by the state that they are in.")
     states = Counter((labels_of(info, by), state_of(row)) for info, row in stream.tasks.values())

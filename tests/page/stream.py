@@ -10,11 +10,16 @@ def busy_until(row, now):
     return row["busy"] + max(0, running)
 
 
+def waited(row):
+    """How long a task waited until its polls started: counted from each wait's begin, where its row does so, and otherwise from the last wake."""
+    return row["sched"][1] if isinstance(row["sched"], list) else row["sched"]
+
+
 def waited_until(row, now):
     if not row["scheduled"] or row["polling"]:
-        return row["sched"]
+        return waited(row)
     since = max(row["created"], row["last_wake"] or 0, row["last_ended"] or 0)
-    return row["sched"] + max(0, now - since)
+    return waited(row) + max(0, now - since)
 
 
 class Course:
@@ -76,9 +81,9 @@ class Tables:
         self.waits = {number: waited for number, waited in self.waits.items() if number in self.tasks}
         for number, task in self.tasks.items():
             self.ran.setdefault(number, Course()).push((self.now, busy_until(task["row"], self.now)))
-            waited = waited_until(task["row"], self.now)
-            self.all_waited += max(0, waited - self.waits.get(number, 0))
-            self.waits[number] = waited
+            until_now = waited_until(task["row"], self.now)
+            self.all_waited += max(0, until_now - self.waits.get(number, 0))
+            self.waits[number] = until_now
         self.waited.push((self.now, self.all_waited))
 
     def start(self):

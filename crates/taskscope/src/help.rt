@@ -22,6 +22,7 @@ A script has one command a line, its words between single spaces:
   capacity COUNT         holds so many events between two lines, 1 to 65536; once, before other commands
   retention SPAN         lets closed items leave after so many nanoseconds; once, before other commands
   times                  gives each task a histogram of how long its polls ran; once, before other commands
+  waits                  counts how long each task waited, from the first wake on; once, before other commands
   task MOMENT KIND NAME  makes a task, of kind spawn or blocking
   start TASK MOMENT      starts a poll of the task
   selfwake TASK MOMENT   wakes the task from within its poll
@@ -50,6 +51,7 @@ said; where there are more, `dropped` counts what was lost: publish more often, 
 
 With a retention a line says which items are gone: each was closed for so long, and told of as closed before.
 With times a line tells the histograms that are new, or others than it told last.
+With waits a line tells with each `sched` also how long the task waited in all.
 
 A script has at most 1,048,576 bytes. It stops at its first fault, and the lines before it stay.";
 

@@ -10,7 +10,7 @@ use Rattle.tk_live.specs.Pasts.{Pasts}
 use Rattle.tk_live.specs.Runs.{RiseTo}
 use Rattle.tk_live.proofs.Growing.{rise_more}
 use Rattle.tk_live.proofs.Leaving.{rise_push}
-use Rattle.tk_script.specs.Commands.{Said, Line, says, joins, task, resource, op, poll_op, capacity, retention, times, publish}
+use Rattle.tk_script.specs.Commands.{Said, Line, says, joins, task, resource, op, poll_op, capacity, retention, times, waits, publish}
 use Rattle.tk_app.proofs.ToldSizes.{told_size}
 use Rattle.tk_app.proofs.WordSizes.{said_size, line_size}
 
@@ -27,6 +27,7 @@ step_takes : (c : Course) (n : ℕ) (s : Said) → sum_by told_size (step c n s)
 step_takes c n (capacity k) = omega arith
 step_takes c n (retention k) = omega arith
 step_takes c n times = omega arith
+step_takes c n waits = omega arith
 step_takes c n (publish at whole) = omega arith
 step_takes c n s = omega (arith, sum_by-append told_size c.told (told_by c.pasts n s), by_command c.pasts n s)
 
@@ -54,6 +55,7 @@ step_rises : (c : Course) (n : ℕ) (s : Said) → Rises c → Rises (step c n s
 step_rises c n (capacity k) rise = rise
 step_rises c n (retention k) rise = rise
 step_rises c n times rise = rise
+step_rises c n waits rise = rise
 step_rises c n (publish at whole) rise = rise_push (length c.told) 0 c.due (due_at c at whole) refl rise
 step_rises c n s rise = subst (λ all. RiseTo all 0 c.due) (sym (length-append c.told (told_by c.pasts n s))) (rise_more (length c.told) (length (told_by c.pasts n s)) 0 c.due rise)
 

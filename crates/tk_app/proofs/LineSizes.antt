@@ -31,10 +31,10 @@ use Rattle.tk_app.proofs.TextSizes.{decimal_short, list_short, object_short, fie
 -- ---- what an item takes at most in a line: its info, its row, and a task its histogram
 
 abbrev pub task_size : TaskInfo → ℕ
-task_size t = 3430 + (6 * length t.location.file + 6 * length t.name)
+task_size t = 3498 + (6 * length t.location.file + 6 * length t.name)
 
 abbrev pub resource_size : ResourceInfo → ℕ
-resource_size r = 650 + (6 * length r.location.file + 6 * length r.kind + 6 * length r.concrete) + sum_by attr_size r.attrs
+resource_size r = 780 + (6 * length r.location.file + 6 * length r.kind + 6 * length r.concrete) + sum_by attr_size r.attrs
 
 abbrev pub op_size : OpInfo → ℕ
 op_size o = 1030 + 6 * length o.source + sum_by attr_size o.attrs
@@ -172,35 +172,35 @@ line_short l =
 -- ---- a line of a stream
 
 module _ (before : TablesView) (s : Sending) (fit : AreFit s.tables) where
-  few_gone : 650 * gone_count (Some (gone_between before s.tables)) ≤ tables_size before
+  few_gone : 780 * gone_count (Some (gone_between before s.tables)) ≤ tables_size before
   few_gone =
       omega (
         arith,
         some_gone task_id before.tasks s.tables.tasks,
         some_gone resource_id before.resources s.tables.resources,
         some_gone op_id before.ops s.tables.ops,
-        sum_many (λ (t : Task). task_size t.info) 650 (λ t. omega arith) before.tasks,
-        sum_many (λ (r : Resource). resource_size r.info) 650 (λ r. omega arith) before.resources,
-        sum_many (λ (o : Op). op_size o.info) 650 (λ o. omega arith) before.ops,
+        sum_many (λ (t : Task). task_size t.info) 780 (λ t. omega arith) before.tasks,
+        sum_many (λ (r : Resource). resource_size r.info) 780 (λ r. omega arith) before.resources,
+        sum_many (λ (o : Op). op_size o.info) 780 (λ o. omega arith) before.ops,
       )
     where
       some_gone : {Item : Type 0} (id_of : Item → ℕ) (old new : List Item) → length (gone_ids id_of old new) ≤ length old
       some_gone id_of old new = omega (arith, length-map (filter (is_new id_of new) old) id_of, length-filter (is_new id_of new) old, count_by-le-length (is_new id_of new) old)
 
-  within : (old : TablesView) (snapshot : Bool) (gone : Option GoneView) (told : Option (List TaskTimes)) → 650 * gone_count gone ≤ tables_size before → IfSome told (AllByRecursion AreTimes) → times_count told ≤ length s.tables.tasks
-      → 10 * length (line_text (record (line_between old s.tables s.seq) { gone = gone; snapshot = snapshot; task_times = told })) ≤ 20000 + 10 * tables_size s.tables + tables_size before
+  within : (old : TablesView) (snapshot : Bool) (gone : Option GoneView) (told : Option (List TaskTimes)) → 780 * gone_count gone ≤ tables_size before → IfSome told (AllByRecursion AreTimes) → times_count told ≤ length s.tables.tasks
+      → 12 * length (line_text (record (line_between old s.tables s.seq) { gone = gone; snapshot = snapshot; task_times = told })) ≤ 24000 + 12 * tables_size s.tables + tables_size before
   within old snapshot gone told few each one =
       omega (arith, line_short (record (line_between old s.tables s.seq) { gone = gone; snapshot = snapshot; task_times = told }), gone_short gone, between_short old s.tables s.seq snapshot fit, times_list_short told each)
 
   -- its text, where it tells at most one histogram of each of its tasks
-  pub sent_short : IfSome s.told (AllByRecursion AreTimes) → times_count s.told ≤ length s.tables.tasks → 10 * length (line_text (line_sent before s)) ≤ 20000 + 10 * tables_size s.tables + tables_size before
+  pub sent_short : IfSome s.told (AllByRecursion AreTimes) → times_count s.told ≤ length s.tables.tasks → 12 * length (line_text (line_sent before s)) ≤ 24000 + 12 * tables_size s.tables + tables_size before
   sent_short = by s.snapshot s.removes s.told
     where
-      none : 650 * gone_count (Some none_gone) ≤ tables_size before
+      none : 780 * gone_count (Some none_gone) ≤ tables_size before
       none = omega arith
 
       by : (snapshot removes : Bool) (told : Option (List TaskTimes)) → IfSome told (AllByRecursion AreTimes) → times_count told ≤ length s.tables.tasks
-          → 10 * length (line_text (line_sent before (record { tables = s.tables; seq = s.seq; snapshot = snapshot; removes = removes; told = told }))) ≤ 20000 + 10 * tables_size s.tables + tables_size before
+          → 12 * length (line_text (line_sent before (record { tables = s.tables; seq = s.seq; snapshot = snapshot; removes = removes; told = told }))) ≤ 24000 + 12 * tables_size s.tables + tables_size before
       by true true None each one = within empty_tables true (Some none_gone) None none each one
       by true true (Some times) each one = within empty_tables true (Some none_gone) (Some times) none each one
       by true false None each one = within empty_tables true None None (omega arith) each one

@@ -22,7 +22,7 @@ use Rattle.tk_ids.specs.declared.spec.TaskKind.{TaskKind}
 use Rattle.tk_ids.specs.declared.spec.TaskKind.TheVariants.{Spawn, Blocking}
 use Rattle.tk_stream.specs.Tables.{PollCounts}
 use Rattle.tk_stream.specs.Times.{TaskTimes, filled_from}
-use Rattle.tk_stream.specs.Spelling.{list_data, number_data, optional_data, optional_text, kind_text, attr_kind_text, location_data, dropped_data, attr_data, signed_data, value_data, counts_data, filled_data, info_data, stats_fields, stats_data, resource_data, resource_stats_fields, resource_stats_data, op_data, op_stats_fields, op_stats_data, times_members, times_data}
+use Rattle.tk_stream.specs.Spelling.{list_data, number_data, optional_data, optional_text, kind_text, attr_kind_text, location_data, dropped_data, attr_data, signed_data, value_data, counts_data, filled_data, waits_data, info_data, stats_fields, stats_data, resource_data, resource_stats_fields, resource_stats_data, op_data, op_stats_fields, op_stats_data, times_members, times_data}
 use Rattle.tk_app.proofs.TextSizes.{quoted_short, decimal_short, list_short, array_short, object_short}
 
 -- ---- values
@@ -102,7 +102,11 @@ info_short t = omega (
   quoted_short t.name,
 )
 
-pub stats_short : (s : ℕ × TaskRow) → length (compact_text (stats_data s)) + 1 ≤ 1161
+waits_short : (sched : ℕ) (waited : Option ℕ) → length (compact_text (waits_data sched waited)) ≤ 132
+waits_short sched None = omega (arith, decimal_short sched)
+waits_short sched (Some waited) = omega (arith, array_short (number_data sched ∷ number_data waited ∷ []), decimal_short sched, decimal_short waited)
+
+pub stats_short : (s : ℕ × TaskRow) → length (compact_text (stats_data s)) + 1 ≤ 1229
 unfolding escape_byte
 stats_short s = omega (
   arith,
@@ -120,7 +124,7 @@ stats_short s = omega (
   optional_short s.1.last_wake,
   flag_short s.1.polling,
   decimal_short s.1.polls,
-  decimal_short s.1.sched,
+  waits_short s.1.sched s.1.waited,
   flag_short s.1.scheduled,
   decimal_short s.1.self_wakes,
   decimal_short s.1.wakes,

@@ -62,9 +62,9 @@ each_told tables (Some times) are = are.each
 -- ---- the lines
 
 -- so little is told of items that no line of it is too long. Besides what a line tells of its items it names those that are gone, of which
--- an id takes less than a tenth of the item
+-- an id takes less than a twelfth of the item
 abbrev IsLittle : ℕ → Type 0
-IsLittle size = 11 * size + 20000 ≤ 10 * greatest_line
+IsLittle size = 13 * size + 24000 ≤ 12 * greatest_line
 
 module _ (settings : Settings) (kept : List Bool) (told : List Content) (few : IsLittle (sum_by told_size told)) where
   lines_short : (before : TablesView) (had : List TaskTimes) (from last : ℕ) (due : List Due) (sent : List Sending) → RiseTo (length told) from due → AreLinesOf settings kept told before had from due sent → GoesOn before last sent

@@ -4,3 +4,4 @@ pub mod LeftOutLemmas
 pub mod PublishingLemmas
 pub mod FaultLemmas
 pub mod TimedLemmas
+pub mod HistogramLemmas

@@ -33,7 +33,7 @@ IsLineFor head given text = (line : LineView) × IsLine head.snapshot head given
 abbrev pub times_between : ℕ → List TimesEntry → List TaskTimes
 times_between told times = told_times (map (times_entry_shown false) (take told times)) (map (times_entry_shown true) times)
 
--- the text of that line, as one of version 3 that tells histograms too
+-- the text of that line, as one that tells histograms too
 abbrev pub IsTimedLineFor : Head → Given → ℕ → List TimesEntry → List ℕ → Type 0
 IsTimedLineFor head given told times text = (line : LineView) × IsLine head.snapshot head given line
     × (text ≡ sent_text (with_times (times_between (told_count head told) times) line))

@@ -1,7 +1,8 @@
 -- What a program publishes through the exports: the entries that it gives for each line, and the stream that the lines make.
-use Rattle.std.specs.Prelude.{◌≡◌, ℕ, Bool, true, false, if◌then◌else◌, List, [], ◌∷◌, ◌++◌, length, map, take, Option, Some, None}
+use Rattle.std.specs.Prelude.{◌≡◌, ℕ, nat_eq, Bool, true, false, if◌then◌else◌, List, [], ◌∷◌, ◌++◌, length, map, take, Option, Some, None}
 use Rattle.std.specs.Option.{option_map}
-use Rattle.std.specs.List.{AllByRecursion, flat_map}
+use Rattle.std.specs.List.{AllByRecursion, IsDistinct, flat_map}
+use Rattle.tk_stream.specs.Applied.{times_kind, BeginWith}
 use Rattle.tk_stream.specs.Retention.{prune}
 use Rattle.tk_stream.specs.Lines.{LineView, gone_between, told_times, with_times}
 use Rattle.tk_stream.specs.Spelling.{sent_text}
@@ -111,6 +112,16 @@ IsPublishedAs (leaving retention) before times p = PublishesLeaving retention be
 abbrev pub ArePublished : TablesView → List TaskTimes → List Publishing → Type 0
 ArePublished before times [] = Unit {0}
 ArePublished before times (p ∷ ps) = IsPublishedAs p.how before times p × ArePublished p.after p.times_after ps
+
+-- histograms go on: those after a line are of distinct tasks, and with a line of what changed they begin with those before
+abbrev pub TimesGoOn : List TaskTimes → List Publishing → Type 0
+TimesGoOn before [] = Unit {0}
+TimesGoOn before (p ∷ ps) = IsDistinct nat_eq (map times_id p.times_after) × (p.how ≡ changes → BeginWith times_kind before p.times_after) × TimesGoOn p.times_after ps
+
+-- the histograms of all tasks after these lines
+abbrev pub times_published : List TaskTimes → List Publishing → List TaskTimes
+times_published times [] = times
+times_published times (p ∷ ps) = times_published p.times_after ps
 
 -- the bytes that were published
 abbrev pub bytes_published : List Publishing → List ℕ

@@ -14,7 +14,7 @@ ghost use Rattle.tk_stream.specs.Streams.{IsStreamTo, IsUninterrupted, lines_sen
 ghost use Rattle.tk_stream.specs.Tables.{TablesView, AreDistinct, empty_tables};
 ghost use Rattle.tk_embed.specs.LeftOut.{LeftOut, leaving_out, AreUnchanged, AreStaying};
 ghost use Rattle.tk_embed.specs.Timed.{AreTimesOf};
-ghost use Rattle.tk_embed.specs.Publishing.{Publishing, ArePublished, bytes_published, sendings};
+ghost use Rattle.tk_embed.specs.Publishing.{Publishing, ArePublished, TimesGoOn, bytes_published, sendings, times_published};
 
 use tk_client::laws::streams_are_fed;
 
@@ -41,6 +41,13 @@ pub fn entries_may_be_left_out()
 pub fn publishings_are_a_stream()
     ensures { (ps : List Publishing) → ArePublished empty_tables [] ps → IsUninterrupted (sendings [] ps)
         → IsStreamTo (bytes_published ps) (tables_sent empty_tables (sendings [] ps)) (last_sent 0 (sendings [] ps)) }
+{}
+
+/// The histograms to which the lines lead are those of all tasks, as the last line was asked for, if those of each line are of distinct
+/// tasks, and those of a line of what changed begin with the ones before it.
+pub fn histograms_are_of_all_tasks()
+    ensures { (ps : List Publishing) → ArePublished empty_tables [] ps → TimesGoOn [] ps
+        → times_sent [] empty_tables (sendings [] ps) ≡ times_published [] ps }
 {}
 
 /// So a client that takes all of its bytes holds the tables of all items, as the last line was asked for, and the histograms to which

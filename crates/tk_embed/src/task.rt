@@ -2,7 +2,7 @@
 ghost use Rattle.std.specs.Prelude.{◌≡◌};
 ghost use Rattle.tk_core.specs.declared.task.call.TaskCall.TheVariants.{PollStart, PollEnd, Close, CloneWaker, WakeVal, WakeRef, Release};
 ghost use Rattle.tk_core.specs.TaskMeaning.{task_meaning};
-ghost use Rattle.tk_core.specs.Task.{opening_row};
+ghost use Rattle.tk_core.specs.Task.{opening_row, counting_row};
 ghost use Rattle.tk_core.specs.TaskWords.{words_of};
 ghost use Rattle.tk_embed.specs.Border.{Makes};
 
@@ -16,6 +16,14 @@ pub extern "C" fn taskscope_task_open(created: u64, words: &mut [u64; 16])
     ensures { words.new ≡ words_of (opening_row created) }
 {
     *words = TaskRow::opening(created).to_words();
+}
+
+/// The words of a task that was just created, whose waits are counted. Lines that tell of it are of version 4.
+#[unsafe(no_mangle)]
+pub extern "C" fn taskscope_task_open_counting(created: u64, words: &mut [u64; 16])
+    ensures { words.new ≡ words_of (counting_row created) }
+{
+    *words = TaskRow::counting(created).to_words();
 }
 
 /// A poll starts. Refused with `AlreadyPolling`, `Closed`.

@@ -1,5 +1,5 @@
 //! Lines that tell histograms of poll times, from entries.
-ghost use Rattle.std.specs.Prelude.{◌≡◌, ◌≤◌, ◌++◌, ◌∷◌, [], ℕ, List, true, false, map, take, nat_lt, length, is_some, IfOk, IfErr, OnOk};
+ghost use Rattle.std.specs.Prelude.{◌≡◌, ◌≤◌, ◌++◌, ◌∷◌, [], ℕ, List, true, false, map, is_some, IfOk, IfErr, OnOk};
 ghost use Rattle.tk_core.specs.TimesWords as times_words;
 ghost use Rattle.tk_embed.specs.declared.fault.Fault.{Fault};
 ghost use Rattle.tk_embed.specs.Entries as spec;
@@ -152,8 +152,8 @@ fn timed_line(
     sent(&timed)
 }
 
-/// The line of version 3 that leads from the tables of what was told to the tables of what is, and tells the histograms, the first
-/// `told` of which were told, with its line end, written to the front of `out`.
+/// The line that leads from the tables of what was told to the tables of what is, and tells the histograms, the first `told` of which
+/// were told, with its line end, written to the front of `out`. It is of version 3, or of version 4 if it tells a row that counts waits.
 #[unsafe(no_mangle)]
 pub extern "C" fn taskscope_timed_line(
     alloc: Global,

@@ -11,6 +11,7 @@ use Rattle.tk_core.specs.declared.reply.Reply.{Reply}
 use Rattle.tk_core.specs.declared.reply.Reply.TheVariants.{Number, Refused}
 use Rattle.tk_core.specs.declared.resource.call.ResourceCall.TheVariants.{Enlist as EnlistResource}
 use Rattle.tk_core.specs.declared.task.call.TaskCall.TheVariants.{Enlist as EnlistTask}
+use Rattle.tk_core.specs.declared.task.row.TaskRow.{TaskRow}
 use Rattle.tk_core.specs.declared.times.call.TimesCall.TheVariants.{Enlist as EnlistTimes}
 use Rattle.tk_ids.specs.declared.attr.AttrValue.{AttrValue}
 use Rattle.tk_core.specs.Fold.{reply_after, fold_of}
@@ -22,7 +23,7 @@ use Rattle.tk_core.specs.Op.{opening_row as op_row, row_of as op_row_of}
 use Rattle.tk_core.specs.OpMeaning.{op_meaning}
 use Rattle.tk_core.specs.Resource.{opening_row as resource_row, row_of as resource_row_of}
 use Rattle.tk_core.specs.ResourceMeaning.{resource_meaning}
-use Rattle.tk_core.specs.Task.{opening_row as task_row, row_of as task_row_of}
+use Rattle.tk_core.specs.Task.{row_of as task_row_of}
 use Rattle.tk_core.specs.TaskMeaning.{task_meaning}
 use Rattle.tk_core.specs.Times.{opening_row as times_row, row_of as times_row_of}
 use Rattle.tk_core.specs.TimesMeaning.{times_meaning}
@@ -116,9 +117,9 @@ module _ {Row C : Type 0} (m : Meaning Row C (Reply Row)) (row : Row) (call : C)
   only_memory old after WrongKind at ne none = none
   only_memory old after OutOfRange at ne none = none
 
-pub task_first : (created : ℕ) → task_meaning.reply_after (task_row created) [] EnlistTask ≡ Number 1
+pub task_first : (opening : TaskRow) → task_meaning.reply_after opening [] EnlistTask ≡ Number 1
 unfolding reply_after fold_of accepted task_row_of count_of
-task_first created = refl
+task_first opening = refl
 
 pub times_first : times_meaning.reply_after times_row [] EnlistTimes ≡ Number 1
 unfolding reply_after fold_of accepted times_row_of count_of

@@ -1,5 +1,5 @@
 -- What a new item is: its info, what its owner and its inspector have seen, and what agrees in its event.
-use Rattle.std.specs.Prelude.{◌≡◌, ℕ, List, [], ◌∷◌, map, Option, Some, ⊤}
+use Rattle.std.specs.Prelude.{◌≡◌, ℕ, List, [], ◌∷◌, map, Bool, true, false, Option, Some, None, if◌then◌else◌, ⊤}
 use Rattle.tk_ids.specs.declared.attr.AttrInfo.{AttrInfo}
 use Rattle.tk_ids.specs.declared.attr.AttrSpec.{AttrSpec}
 use Rattle.tk_ids.specs.declared.attr.AttrValue.{AttrValue}
@@ -19,6 +19,7 @@ use Rattle.tk_core.specs.declared.resource.row.ResourceRow.{ResourceRow}
 use Rattle.tk_core.specs.declared.task.call.TaskCall.TheVariants as task_calls
 use Rattle.tk_core.specs.declared.task.row.TaskRow.{TaskRow}
 use Rattle.tk_core.specs.declared.times.call.TimesCall.TheVariants.{Enlist}
+use Rattle.tk_core.specs.Task.{counting_row, opening_row as plain_row}
 use Rattle.tk_core.specs.Times.{opening_row}
 use Rattle.tk_cell.specs.declared.view.View.{View}
 use Rattle.tk_cell.specs.Calls.{entry}
@@ -59,9 +60,18 @@ module _ {Row C : Type 0} where
   abbrev pub inspector_view : C → Row → View Row C (Reply Row)
   inspector_view enlist row = record { caller = 1; seen = entry 0 enlist (Number 1) ∷ []; held = 1 ∷ []; opening = Some row }
 
+-- the row of a new task, where its waits are counted, and where they aren't
+abbrev pub opening_as : Bool → ℕ → TaskRow
+opening_as waits created = if waits then counting_row created else plain_row created
+
 -- the histogram of a new task, as its owner knows it: no time was added, and one inspector drawn
 abbrev pub HasNewTimes : Option KnownTimes → Type 0
 HasNewTimes times = (t : KnownTimes) × (times ≡ Some t) × (t.view ≡ owner_view Enlist opening_row)
+
+-- the histogram of a new task, where it has one
+abbrev pub HasTimesAs : Bool → Option KnownTimes → Type 0
+HasTimesAs true times = HasNewTimes times
+HasTimesAs false times = times ≡ None
 
 -- and as that inspector knows it, which is of the same ledger
 abbrev pub InspectsNewTimes : Option KnownTimes → Option KnownTimes → Type 0

@@ -2,7 +2,7 @@
 //!
 //! - [`Console`]: opens the recorders and the taker.
 //! - [`Limits`]: the sizes of a console.
-//! - [`Recorder`]: makes offers, numbered from 1; [`Recorded`]: what became of one.
+//! - [`Recorder`]: makes offers, numbered from 1; [`Recorded`]: what became of one; [`Counting`]: what is counted of a new task.
 //! - [`RetiredRecorder`]: a recorder that makes no more offers.
 //! - [`Taker`]: takes events, reads the totals of dropped ones, and at the end takes in what the recorders had offered.
 //! - [`Event`], [`PollOp`]: what is offered.
@@ -15,6 +15,7 @@
 
 mod buffer;
 mod console;
+mod counting;
 mod counts;
 mod error;
 mod event;
@@ -26,6 +27,7 @@ mod retired;
 mod taker;
 
 pub use console::Console;
+pub use counting::Counting;
 pub use error::{FinishError, OpenError, RecordError};
 pub use event::{Event, PollOp};
 pub use limits::Limits;

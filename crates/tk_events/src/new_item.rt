@@ -8,19 +8,20 @@ ghost use Rattle.tk_ids.specs.IdBlocks.{last_number};
 ghost use Rattle.tk_core.specs.declared.task.call.TaskCall.TheVariants.{Enlist as EnlistTask};
 ghost use Rattle.tk_core.specs.declared.resource.call.ResourceCall.TheVariants.{Enlist as EnlistResource};
 ghost use Rattle.tk_core.specs.declared.op.call.OpCall.TheVariants.{Enlist as EnlistOp};
-ghost use Rattle.tk_core.specs.Task.{opening_row as task_row};
+ghost use Rattle.tk_core.specs.Task.{IsOpening};
 ghost use Rattle.tk_core.specs.Resource.{opening_row as resource_row};
 ghost use Rattle.tk_core.specs.Op.{opening_row as op_row};
 ghost use Rattle.tk_ledgers.specs.Times.{IsNewHistogram};
 ghost use Rattle.tk_events.specs.declared.event.Event.TheVariants.{Task};
 ghost use Rattle.tk_events.specs.declared.event.Shown.TheVariants.{MadeTask, MadeResource, MadeOp};
-ghost use Rattle.tk_events.specs.Items.{info_of, infos_of, first_values, task_info, resource_info, op_info, owner_view, inspector_view, HasNewTimes, InspectsNewTimes, Agrees};
+ghost use Rattle.tk_events.specs.Items.{info_of, infos_of, first_values, task_info, resource_info, op_info, owner_view, inspector_view, HasNewTimes, HasTimesAs, InspectsNewTimes, opening_as, Agrees};
 ghost use Rattle.tk_events.specs.Offers.{shown, times_ledger};
 
+use crate::counting::Counting;
 use crate::event::Event;
 use std::alloc::{AllocError, Global};
 use std::sync::Wait;
-use tk_core::Refusal;
+use tk_core::{Refusal, TaskRow};
 use tk_ids::{
     AsyncOpId, AttrInfo, AttrInfos, AttrSpec, AttrValue, Attrs, IdBlock, OpInfo, OpSpec,
     ResourceId, ResourceInfo, ResourceSpec, TaskId, TaskInfo, TaskSpec,
@@ -129,15 +130,16 @@ fn task_ledger<R: Wait>(
     rt: &R,
     alloc: Global,
     id: TaskId,
-    created: u64,
+    opening: TaskRow,
 ) -> Option<(TaskOwner, TaskInspector)>
+    requires { IsOpening opening }
     ensures ids { IfSome result (λ made. (made.0.id ≡ id) × (made.1.id ≡ id)) }
     ensures same { IfSome result (λ made. made.1.token.ledger ≡ made.0.token.ledger) }
-    ensures owner { IfSome result (λ made. made.0.token.view ≡ owner_view EnlistTask (task_row created)) }
-    ensures inspector { IfSome result (λ made. made.1.token.view ≡ inspector_view EnlistTask (task_row created)) }
+    ensures owner { IfSome result (λ made. made.0.token.view ≡ owner_view EnlistTask opening) }
+    ensures inspector { IfSome result (λ made. made.1.token.view ≡ inspector_view EnlistTask opening) }
     ensures times { IfSome result (λ made. (made.0.times ≡ None) × (made.1.times ≡ None)) }
 {
-    match TaskOwner::new(rt, alloc, id, created) {
+    match TaskOwner::with_opening(rt, alloc, id, opening) {
         Ok(mut owner) => match owner.inspect(rt) {
             Ok(inspector) => Some((owner, inspector)),
             Err(refusal) => {
@@ -177,16 +179,17 @@ fn timed_ledger<R: Wait>(
     rt: &R,
     alloc: Global,
     id: TaskId,
-    created: u64,
+    opening: TaskRow,
 ) -> Option<(TaskOwner, TaskInspector)>
+    requires { IsOpening opening }
     ensures ids { IfSome result (λ made. (made.0.id ≡ id) × (made.1.id ≡ id)) }
     ensures same { IfSome result (λ made. made.1.token.ledger ≡ made.0.token.ledger) }
-    ensures owner { IfSome result (λ made. made.0.token.view ≡ owner_view EnlistTask (task_row created)) }
-    ensures inspector { IfSome result (λ made. made.1.token.view ≡ inspector_view EnlistTask (task_row created)) }
+    ensures owner { IfSome result (λ made. made.0.token.view ≡ owner_view EnlistTask opening) }
+    ensures inspector { IfSome result (λ made. made.1.token.view ≡ inspector_view EnlistTask opening) }
     ensures times { IfSome result (λ made. HasNewTimes made.0.times) }
     ensures times_inspector { IfSome result (λ made. InspectsNewTimes made.0.times made.1.times) }
 {
-    match TaskOwner::new_with_times(rt, alloc, id, created) {
+    match TaskOwner::with_opening_and_times(rt, alloc, id, opening) {
         Ok(mut owner) => match owner.inspect(rt) {
             Ok(inspector) => match times_inspector(rt, &mut owner) {
                 Some(times) => Some((owner, inspector.with_times(times))),
@@ -278,16 +281,17 @@ pub(crate) fn new_task<R: Wait>(
     alloc: Global,
     id: TaskId,
     spec: TaskSpec,
-    created: u64,
+    opening: TaskRow,
 ) -> Result<(TaskOwner, Event), TaskSpec>
+    requires { IsOpening opening }
     ensures id { IfOk result (λ made. made.0.id ≡ id) }
-    ensures owner { IfOk result (λ made. made.0.token.view ≡ owner_view EnlistTask (task_row created)) }
+    ensures owner { IfOk result (λ made. made.0.token.view ≡ owner_view EnlistTask opening) }
     ensures times { IfOk result (λ made. made.0.times ≡ None) }
     ensures event { IfOk result (λ made. shown made.1 ≡ MadeTask (task_info id spec) made.0.token.ledger 1 None) }
     ensures agrees { IfOk result (λ made. Agrees made.1) }
     ensures back { IfErr result (λ back. back ≡ spec) }
 {
-    let Some((owner, inspector)) = task_ledger(rt, alloc, id, created) else {
+    let Some((owner, inspector)) = task_ledger(rt, alloc, id, opening) else {
         return Err(spec);
     };
     Ok((owner, task_event(id, spec, inspector)))
@@ -300,19 +304,55 @@ pub(crate) fn new_timed_task<R: Wait>(
     alloc: Global,
     id: TaskId,
     spec: TaskSpec,
-    created: u64,
+    opening: TaskRow,
 ) -> Result<(TaskOwner, Event), TaskSpec>
+    requires { IsOpening opening }
     ensures id { IfOk result (λ made. made.0.id ≡ id) }
-    ensures owner { IfOk result (λ made. made.0.token.view ≡ owner_view EnlistTask (task_row created)) }
+    ensures owner { IfOk result (λ made. made.0.token.view ≡ owner_view EnlistTask opening) }
     ensures times { IfOk result (λ made. HasNewTimes made.0.times) }
     ensures event { IfOk result (λ made. shown made.1 ≡ MadeTask (task_info id spec) made.0.token.ledger 1 (times_ledger made.0.times)) }
     ensures agrees { IfOk result (λ made. Agrees made.1) }
     ensures back { IfErr result (λ back. back ≡ spec) }
 {
-    let Some((owner, inspector)) = timed_ledger(rt, alloc, id, created) else {
+    let Some((owner, inspector)) = timed_ledger(rt, alloc, id, opening) else {
         return Err(spec);
     };
     Ok((owner, task_event(id, spec, inspector)))
+}
+
+fn opening_of(created: u64, waits: bool) -> TaskRow
+    ensures row { result ≡ opening_as waits created }
+    ensures opens { IsOpening result }
+{
+    if waits {
+        TaskRow::counting(created)
+    } else {
+        TaskRow::opening(created)
+    }
+}
+
+/// The owner of a new task of which this is counted, and the event that tells of it. The spec, where memory is refused.
+pub(crate) fn new_counting_task<R: Wait>(
+    rt: &R,
+    alloc: Global,
+    id: TaskId,
+    spec: TaskSpec,
+    created: u64,
+    counting: Counting,
+) -> Result<(TaskOwner, Event), TaskSpec>
+    ensures id { IfOk result (λ made. made.0.id ≡ id) }
+    ensures owner { IfOk result (λ made. made.0.token.view ≡ owner_view EnlistTask (opening_as counting.waits created)) }
+    ensures times { IfOk result (λ made. HasTimesAs counting.times made.0.times) }
+    ensures event { IfOk result (λ made. shown made.1 ≡ MadeTask (task_info id spec) made.0.token.ledger 1 (times_ledger made.0.times)) }
+    ensures agrees { IfOk result (λ made. Agrees made.1) }
+    ensures back { IfErr result (λ back. back ≡ spec) }
+{
+    let opening = opening_of(created, counting.waits);
+    if counting.times {
+        new_timed_task(rt, alloc, id, spec, opening)
+    } else {
+        new_task(rt, alloc, id, spec, opening)
+    }
 }
 
 // What stays of the attributes, and their first values. Nothing, where memory is refused.

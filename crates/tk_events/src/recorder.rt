@@ -12,7 +12,7 @@ ghost use Rattle.tk_core.specs.Task.{opening_row as task_row};
 ghost use Rattle.tk_core.specs.Resource.{opening_row as resource_row};
 ghost use Rattle.tk_core.specs.Op.{opening_row as op_row};
 ghost use Rattle.tk_events.specs.declared.event.Shown.TheVariants.{MadeTask, MadeResource, MadeOp, Polled};
-ghost use Rattle.tk_events.specs.Items.{first_values, task_info, resource_info, op_info, owner_view, HasNewTimes, Agrees};
+ghost use Rattle.tk_events.specs.Items.{first_values, task_info, resource_info, op_info, owner_view, HasNewTimes, HasTimesAs, opening_as, Agrees};
 ghost use Rattle.tk_events.specs.declared.recorder.Recorded.TheVariants.{Kept, DroppedFull};
 ghost use Rattle.tk_events.specs.Offers.{shown, offer_of, kind_of, times_ledger};
 ghost use Rattle.tk_events.specs.Counts.{makes as makes_seat};
@@ -22,13 +22,15 @@ ghost use Rattle.tk_events.specs.Parts.{IsAdding, IsReading, given_with, HasNext
 
 use crate::buffer::view::View;
 use crate::buffer::{Buffer, next_recorder, offer};
+use crate::counting::Counting;
 use crate::counts::view::View as Count;
 use crate::counts::{Counts, add, make};
 use crate::error::RecordError;
 use crate::event::{Event, PollOp};
 use crate::item::Item;
 use crate::new_item::{
-    new_op, new_resource, new_task, new_timed_task, next_op, next_resource, next_task, same_ids,
+    new_counting_task, new_op, new_resource, new_task, new_timed_task, next_op, next_resource,
+    next_task, same_ids,
 };
 use crate::retired::RetiredRecorder;
 use atomic_table::Seat;
@@ -36,6 +38,7 @@ use crossbeam_queue::Pass;
 use std::alloc::{AllocError, Global};
 use std::marker::Model;
 use std::sync::{Arc, Wait};
+use tk_core::TaskRow;
 use tk_ids::{IdBlock, OpSpec, ResourceSpec, TaskSpec};
 use tk_ledgers::{OpOwner, ResourceOwner, TaskOwner};
 
@@ -188,7 +191,7 @@ impl Recorder {
             return Err((RecordError::OffersSpent, spec));
         }
         let (ids, id) = next_task(&self.ids);
-        match new_task(rt, alloc, id, spec, created) {
+        match new_task(rt, alloc, id, spec, TaskRow::opening(created)) {
             Ok((owner, event)) => Ok((owner, self.record(rt, event, ids))),
             Err(spec) => Err((RecordError::Memory, spec)),
         }
@@ -221,7 +224,41 @@ impl Recorder {
             return Err((RecordError::OffersSpent, spec));
         }
         let (ids, id) = next_task(&self.ids);
-        match new_timed_task(rt, alloc, id, spec, created) {
+        match new_timed_task(rt, alloc, id, spec, TaskRow::opening(created)) {
+            Ok((owner, event)) => Ok((owner, self.record(rt, event, ids))),
+            Err(spec) => Err((RecordError::Memory, spec)),
+        }
+    }
+
+    /// Makes a task of which this is counted, and offers it: as [`Recorder::task`] does, or [`Recorder::task_with_times`], and where
+    /// `counting.waits` is, its row begins as [`TaskRow::counting`].
+    ///
+    /// `OffersSpent` where the recorder has made all its offers, then `Memory`. No id is drawn then, no offer is made,
+    /// and the spec comes back.
+    pub fn task_counting<R: Wait>(
+        &mut self,
+        rt: &R,
+        alloc: Global,
+        spec: TaskSpec,
+        created: u64,
+        counting: Counting,
+    ) -> Result<(TaskOwner, Recorded), (RecordError, TaskSpec)>
+        ensures id { IfOk result (λ made. made.0.id ≡ next_task_id self.old) }
+        ensures owner { IfOk result (λ made. made.0.token.view ≡ owner_view EnlistTask (opening_as counting.waits created)) }
+        ensures times { IfOk result (λ made. HasTimesAs counting.times made.0.times) }
+        ensures kept { IfOk result (λ made. made.1 ≡ Kept → self.new ≡ with_kept self.old (next_offer self.old (MadeTask (task_info (next_task_id self.old) spec) made.0.token.ledger 1 (times_ledger made.0.times)))) }
+        ensures refused { IfOk result (λ made. made.1 ≡ DroppedFull → self.new ≡ with_refused self.old (next_offer self.old (MadeTask (task_info (next_task_id self.old) spec) made.0.token.ledger 1 (times_ledger made.0.times)))) }
+        ensures full { IfOk result (λ made. made.1 ≡ DroppedFull → Held self.old.capacity (HeldFor self.old)) }
+        ensures alone { IfOk result (λ made. made.1 ≡ DroppedFull → self.old.recorders ≡ 1 → self.old.capacity ≤ length self.old.kept) }
+        ensures same { IsSameRecorder self.old self.new }
+        ensures spent { (result ≡ Err (OffersSpent, spec)) ↔ (offers_made self.old ≡ self.old.limit) }
+        ensures err { IfErr result (λ back. (back.1 ≡ spec) × (self.new ≡ self.old)) }
+    {
+        if self.made >= self.limit {
+            return Err((RecordError::OffersSpent, spec));
+        }
+        let (ids, id) = next_task(&self.ids);
+        match new_counting_task(rt, alloc, id, spec, created, counting) {
             Ok((owner, event)) => Ok((owner, self.record(rt, event, ids))),
             Err(spec) => Err((RecordError::Memory, spec)),
         }

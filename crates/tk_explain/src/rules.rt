@@ -29,7 +29,7 @@ pub(crate) fn fault_rule(fault: Fault, lines: u64) -> &'static str {
         Fault::Memory => "there was no memory for it",
         Fault::BadJson => "it is no JSON text",
         Fault::BadShape => {
-            "it is JSON, and has not the keys of a line of version 1, 2 or 3: docs/FORMATS.md has them"
+            "it is JSON, and no line of version 1, 2, 3 or 4: docs/FORMATS.md has their keys and values"
         }
         Fault::Gap { .. } if lines == 0 => {
             "a stream begins with line 1 or with a snapshot: its front is missing"

@@ -6,6 +6,7 @@ pub(crate) fn shape_of(word: &str) -> Option<&'static str> {
         "capacity" => Some("capacity COUNT, from 1 to 65536"),
         "retention" => Some("retention SPAN"),
         "times" => Some("times"),
+        "waits" => Some("waits"),
         "publish" => Some("publish MOMENT"),
         "snapshot" => Some("snapshot MOMENT"),
         "par" => Some("par"),

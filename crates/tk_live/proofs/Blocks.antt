@@ -68,6 +68,7 @@ with_block i settings c kept sent b stands = record {
   capacity_said = stands.capacity_said;
   retention_said = stands.retention_said;
   times_said = stands.times_said;
+  waits_said = stands.waits_said;
   begun = stands.begun;
   times_is = stands.times_is;
 }
@@ -87,6 +88,7 @@ opened i new settings c kept sent stands is = subst (λ (n : Interpreter). Repre
   capacity_said = stands.capacity_said;
   retention_said = stands.retention_said;
   times_said = stands.times_said;
+  waits_said = stands.waits_said;
   begun = refl;
   times_is = stands.times_is;
 })
@@ -117,6 +119,7 @@ step_block c line (said.poll_op r o t name ready) = refl
 step_block c line (said.capacity n) = refl
 step_block c line (said.retention n) = refl
 step_block c line said.times = refl
+step_block c line said.waits = refl
 step_block c line (said.publish m whole) = refl
 
 none_some : {X : Type 0} {x : X} → None ≡ Some x → ⊥

@@ -50,6 +50,7 @@ unblocked i settings c b kept sent stands = record {
   capacity_said = stands.capacity_said;
   retention_said = stands.retention_said;
   times_said = stands.times_said;
+  waits_said = stands.waits_said;
   begun = stands.begun;
   times_is = stands.times_is;
 }

@@ -52,6 +52,7 @@ begun i new settings c line s kept sent stands b is same = subst (λ (n : Interp
   capacity_said = stands.capacity_said;
   retention_said = stands.retention_said;
   times_said = stands.times_said;
+  waits_said = stands.waits_said;
   begun = same;
   times_is = stands.times_is;
 })
@@ -94,6 +95,7 @@ no_front sent (said.poll_op r o t name ready) stop ne = refl
 no_front sent (said.capacity n) stop ne = refl
 no_front sent (said.retention n) stop ne = refl
 no_front sent said.times stop ne = refl
+no_front sent said.waits stop ne = refl
 no_front sent (said.publish m whole) stop ne = publish_front sent m whole stop ne
 
 -- a line more has the next number

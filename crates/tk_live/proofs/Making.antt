@@ -1,6 +1,6 @@
 -- What an interpreter stands for after the offer of a new item.
 use Rattle.std.proofs.Common.{◌≡◌, ℕ, ◌+◌, ◌<◌, ◌≤◌, ◌⊎◌, true, false, inr, List, [], ◌∷◌, ◌++◌, Bool, length, Some, None, Option, refl, sym, ap, ◌∙◌, subst, arith, length-append}
-use Rattle.std.specs.Prelude.{IsSome}
+use Rattle.std.specs.Prelude.{IsSome, is_some}
 use Rattle.std.specs.Global.{Vec}
 use Rattle.tk_ids.specs.Ids.{id_of}
 use Rattle.tk_ids.specs.declared.attr.AttrSpec.{AttrSpec}
@@ -20,7 +20,6 @@ use Rattle.tk_core.specs.Op as op_rules
 use Rattle.tk_core.specs.OpMeaning.{op_meaning}
 use Rattle.tk_core.specs.Resource as resource_rules
 use Rattle.tk_core.specs.ResourceMeaning.{resource_meaning}
-use Rattle.tk_core.specs.Task.{opening_row}
 use Rattle.tk_core.specs.TaskMeaning.{task_meaning}
 use Rattle.tk_cell.specs.Calls.{entry}
 use Rattle.tk_cell.specs.Views.{times}
@@ -30,7 +29,7 @@ use Rattle.tk_events.specs.declared.recorder.Recorded.{Recorded}
 use Rattle.tk_events.specs.declared.recorder.Recorded.TheVariants.{Kept, DroppedFull}
 use Rattle.tk_events.specs.Handles.{Recording, IsSameRecorder, next_offer, offers_made, next_task_id, next_resource_id, next_op_id, with_kept, with_refused}
 use Rattle.tk_events.specs.Items as events
-use Rattle.tk_events.specs.Items.{first_values}
+use Rattle.tk_events.specs.Items.{first_values, opening_as, HasTimesAs}
 use Rattle.tk_events.specs.Offers.{tasks_in, resources_in, ops_in, times_ledger}
 use Rattle.tk_ledgers.specs.Called.{HasCalled}
 use Rattle.tk_ledgers.specs.Callers.{HoldsAllBut, IsLive}
@@ -89,6 +88,11 @@ pub has_ledger : (times : Option KnownTimes) → IsSome times → IsSome (times_
 has_ledger None has = absurd cc
 has_ledger (Some known) has = refl
 
+-- an owner has a histogram where it was made with one
+pub has_times : (b : Bool) (times : Option KnownTimes) → HasTimesAs b times → b ≡ true → IsSome times
+has_times true times has is = ap is_some has.1
+has_times false times has is = absurd cc
+
 -- ---- the calls of a new item
 
 module _ {Row C : Type 0} (m : Meaning Row C (Reply Row)) (numbers : m.number (Number 1) ≡ Some 1) (enlist : C) (row : Row) where
@@ -110,14 +114,14 @@ module _ {Row C : Type 0} (m : Meaning Row C (Reply Row)) (numbers : m.number (N
   first_called = record { opened = refl; in_order = refl; accepted = (refl, tt); holds = holds_first }
 
 -- what is kept of a new task is one
-pub is_new_task : (item : TaskItem) (owner : TaskSight) (created n : ℕ) → item.callers.id ≡ owner.id → item.callers.token ≡ owner.token → item.closed ≡ false → owner.id ≡ id_of 1 n
-    → owner.token.view ≡ events.owner_view Enlist (opening_row created) → IsTask n (new_task created) item
+pub is_new_task : (item : TaskItem) (owner : TaskSight) (waits : Bool) (created n : ℕ) → item.callers.id ≡ owner.id → item.callers.token ≡ owner.token → item.closed ≡ false → owner.id ≡ id_of 1 n
+    → owner.token.view ≡ events.owner_view Enlist (opening_as waits created) → IsTask n (new_task waits created) item
 unfolding last_of
-is_new_task item owner created n id token unclosed id_is view = record {
+is_new_task item owner waits created n id token unclosed id_is view = record {
   id = id ∙ id_is;
   calls = Enlist ∷ [];
   order = ([], refl, refl);
-  called = subst (λ v. HasCalled task_meaning (1 ∷ []) (opening_row created) (Enlist ∷ []) v) (sym (ap (λ k. k.view) token ∙ view)) (first_called task_meaning refl Enlist (opening_row created));
+  called = subst (λ v. HasCalled task_meaning (1 ∷ []) (opening_as waits created) (Enlist ∷ []) v) (sym (ap (λ k. k.view) token ∙ view)) (first_called task_meaning refl Enlist (opening_as waits created));
   polled = refl;
   closed = refl;
   is_closed = unclosed;
@@ -142,10 +146,10 @@ is_new_resource item id created n attrs same unclosed live id_is called = record
 -- ---- the items with one more
 
 module _ (tasks : List TaskItem) (wakers : List (Option WakerItem)) (resources : List ResourceItem) (ops : List OpItem) (ps : Pasts) (holds : Holds tasks wakers resources ops ps) where
-  pub task_more : (created : ℕ) (item : TaskItem) → IsTask (length ps.tasks + 1) (new_task created) item → Holds (tasks ++ item ∷ []) wakers resources ops (record ps { tasks = ps.tasks ++ new_task created ∷ [] })
-  task_more created item is = record {
+  pub task_more : (waits : Bool) (created : ℕ) (item : TaskItem) → IsTask (length ps.tasks + 1) (new_task waits created) item → Holds (tasks ++ item ∷ []) wakers resources ops (record ps { tasks = ps.tasks ++ new_task waits created ∷ [] })
+  task_more waits created item is = record {
     tasks_are = record {
-      tasks_are = each_more IsTask ps.tasks tasks (new_task created) item holds.tasks_are.tasks_are is;
+      tasks_are = each_more IsTask ps.tasks tasks (new_task waits created) item holds.tasks_are.tasks_are is;
       wakers_are = holds.tasks_are.wakers_are;
       are_live = record {
         live = λ w a at. let l = holds.tasks_are.are_live.live w a at in (l.0, made_still tasks item a.task l.0 l.1, l.2);
@@ -194,12 +198,12 @@ module _ (i new : Interpreter) (settings : Settings) (c : Course) (kept : List B
   pub task_made : (spec : TaskSpec) (owner : TaskSight) (item : TaskItem) (line created : ℕ) (kind : TaskKind) (name : List ℕ)
       → (became ≡ Kept → new.recorder ≡ with_kept i.recorder (next_offer i.recorder (MadeTask (events.task_info (next_task_id i.recorder) spec) owner.token.ledger 1 (times_ledger owner.times))))
       → (became ≡ DroppedFull → new.recorder ≡ with_refused i.recorder (next_offer i.recorder (MadeTask (events.task_info (next_task_id i.recorder) spec) owner.token.ledger 1 (times_ledger owner.times))))
-      → (spec.kind ≡ kind) × (spec.name ≡ name) × (spec.location ≡ place line) → (settings.times ≡ true → IsSome owner.times) → ((n : ℕ) → owner.id ≡ id_of 1 n → IsTask n (new_task created) item)
+      → (spec.kind ≡ kind) × (spec.name ≡ name) × (spec.location ≡ place line) → (settings.times ≡ true → IsSome owner.times) → ((n : ℕ) → owner.id ≡ id_of 1 n → IsTask n (new_task c.waits_said created) item)
       → owner.id ≡ next_task_id i.recorder → item.callers.token.ledger ≡ owner.token.ledger → new ≡ record i { recorder = new.recorder; tasks = new.tasks } → new.tasks.items ≡ i.tasks.items ++ item ∷ []
       → (mark : Bool) × Represents new settings (step c line (said.task created kind name)) (kept ++ mark ∷ []) sent
   task_made spec owner item line created kind name keeps drops spec_is timed is id ledger rest items =
       let n = length c.pasts.tasks + 1 in
-      let ps : Pasts = record c.pasts { tasks = c.pasts.tasks ++ new_task created ∷ [] } in
+      let ps : Pasts = record c.pasts { tasks = c.pasts.tasks ++ new_task c.waits_said created ∷ [] } in
       let event = MadeTask (events.task_info (next_task_id i.recorder) spec) owner.token.ledger 1 (times_ledger owner.times) in
       let id_is : next_task_id i.recorder ≡ id_of 1 n = task_id_is i.recorder settings.capacity c.pasts c.told kept stands.offered in
       let resources : new.resources ≡ i.resources = ap (λ (x : Interpreter). x.resources) rest in
@@ -207,11 +211,11 @@ module _ (i new : Interpreter) (settings : Settings) (c : Course) (kept : List B
       let long : length c.pasts.tasks ≡ length i.tasks.items = each_length IsTask 1 c.pasts.tasks i.tasks.items stands.holds.tasks_are.tasks_are in
       stands_more i new settings c kept sent stands event became ps (made_task (script_task_info n line kind name)) same left keeps drops full
       (rest ∙ (λ j. record i { recorder = new.recorder; tasks = new.tasks; resources = sym resources j; ops = sym ops j }))
-      (λ j. record { tasks = sym (length-append c.pasts.tasks (new_task created ∷ [])) j; resources = nothing_more (length c.pasts.resources) j; ops = nothing_more (length c.pasts.ops) j })
+      (λ j. record { tasks = sym (length-append c.pasts.tasks (new_task c.waits_said created ∷ [])) j; resources = nothing_more (length c.pasts.resources) j; ops = nothing_more (length c.pasts.ops) j })
       (ap made_task (task_info_is i.recorder settings.capacity c.pasts c.told kept stands.offered spec line kind name spec_is))
       (λ t. has_ledger owner.times (timed t))
       (one_longer i.tasks.items new.tasks.items item items, as_long i.resources.items new.resources.items (ap (λ (v : Vec ResourceItem). v.items) resources), as_long i.ops.items new.ops.items (ap (λ (v : Vec OpItem). v.items) ops))
-      (subst (λ (l : List TaskItem × Vec ResourceItem × Vec OpItem). Holds l.0 i.wakers.items l.1.items l.2.items ps) (λ j. (sym items j, sym resources j, sym ops j)) (task_more i.tasks.items i.wakers.items i.resources.items i.ops.items c.pasts stands.holds created item (is n (id ∙ id_is))))
+      (subst (λ (l : List TaskItem × Vec ResourceItem × Vec OpItem). Holds l.0 i.wakers.items l.1.items l.2.items ps) (λ j. (sym items j, sym resources j, sym ops j)) (task_more i.tasks.items i.wakers.items i.resources.items i.ops.items c.pasts stands.holds c.waits_said created item (is n (id ∙ id_is))))
       (n, item, id_is, ap (made_item n) items ∙ made_last i.tasks.items item n (ap (λ m. m + 1) long), ledger)
 
   -- of a new resource

@@ -114,6 +114,7 @@ module _ (i new : Interpreter) (settings : Settings) (c : Course) (kept : List B
           capacity_said = stands.capacity_said;
           retention_said = stands.retention_said;
           times_said = stands.times_said;
+          waits_said = stands.waits_said;
           begun = stands.begun;
           times_is = stands.times_is;
         }),

@@ -146,6 +146,7 @@ went_on i new settings c ps kept sent stands holds tasks_stay resources_stay ops
   capacity_said = stands.capacity_said;
   retention_said = stands.retention_said;
   times_said = stands.times_said;
+  waits_said = stands.waits_said;
   begun = stands.begun;
   times_is = stands.times_is;
 }

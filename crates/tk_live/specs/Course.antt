@@ -13,7 +13,7 @@ use Rattle.tk_events.specs.Items.{infos_of}
 use Rattle.tk_aggregator.specs.Contents.{Content, made_task, made_resource, made_op, polled}
 use Rattle.tk_live.specs.Blocks.{Block, no_lines, with_line, after_block}
 use Rattle.tk_live.specs.Pasts.{Pasts, no_pasts, called_by}
-use Rattle.tk_script.specs.Commands.{Said, Line, says, opens, joins, works, task, resource, op, poll_op, capacity, retention, times, publish, is_setting}
+use Rattle.tk_script.specs.Commands.{Said, Line, says, opens, joins, works, task, resource, op, poll_op, capacity, retention, times, waits, publish, is_setting}
 
 -- a line that is due: its moment, whether it is a snapshot, how much was recorded before it, and what was called before it
 pub record Due : Type 0 where
@@ -32,12 +32,13 @@ pub record Course : Type 0 where
   pub capacity_said : Bool
   pub retention_said : Bool
   pub times_said : Bool
+  pub waits_said : Bool
   pub begun : Bool
   pub block : Option Block
 
 -- before any command
 abbrev pub start_of_all : Course
-start_of_all = record { pasts = no_pasts; told = []; due = []; now = 0; capacity_said = false; retention_said = false; times_said = false; begun = false; block = None }
+start_of_all = record { pasts = no_pasts; told = []; due = []; now = 0; capacity_said = false; retention_said = false; times_said = false; waits_said = false; begun = false; block = None }
 
 -- an item stands on a line of the script, at its first column
 abbrev pub place : ℕ → Location
@@ -72,8 +73,9 @@ abbrev pub step : Course → ℕ → Said → Course
 step c line (capacity n) = record c { capacity_said = true }
 step c line (retention n) = record c { retention_said = true }
 step c line times = record c { times_said = true }
+step c line waits = record c { waits_said = true }
 step c line (publish moment whole) = record c { due = c.due ++ due_at c moment whole ∷ []; now = moment }
-step c line s = record c { pasts = called_by c.pasts s; told = c.told ++ told_by c.pasts line s }
+step c line s = record c { pasts = called_by c.waits_said c.pasts s; told = c.told ++ told_by c.pasts line s }
 
 -- what one command more comes to. After one that isn't a setting no setting may stand
 abbrev pub step_on : Course → ℕ → Said → Course

@@ -22,7 +22,7 @@ use Rattle.tk_core.specs.OpMeaning.{op_meaning}
 use Rattle.tk_core.specs.ResourceMeaning.{resource_meaning}
 use Rattle.tk_core.specs.TaskMeaning.{task_meaning}
 use Rattle.tk_cell.specs.Ours.{Interleaves}
-use Rattle.tk_events.specs.Items.{first_values}
+use Rattle.tk_events.specs.Items.{first_values, opening_as}
 use Rattle.tk_script.specs.Commands.{Said, task, start, finish, polls, close, self_wake, clone, again, wake_ref, wake, release, resource, close_resource, change_resource, op, op_task, start_op, finish_op, close_op, change_op}
 use Rattle.tk_live.specs.Named.{made_item, live_item, with_item}
 
@@ -152,9 +152,9 @@ waker_spent w call ps = record (waker_called w call ps) { wakers = with_item w N
 abbrev pub waker_drawn : ℕ → Pasts → Pasts
 waker_drawn n ps = record (task_called n (CloneWaker ∷ []) ps) { wakers = ps.wakers ++ Some n ∷ [] }
 
--- a new task and a new operation have drawn an inspector; a new resource that and a user
-abbrev pub new_task : ℕ → TaskPast
-new_task created = record { opening = task_rules.opening_row created; called = one Enlist ∷ [] }
+-- a new task and a new operation have drawn an inspector; a new resource that and a user. The waits of a task are counted or not
+abbrev pub new_task : Bool → ℕ → TaskPast
+new_task counting created = record { opening = opening_as counting created; called = one Enlist ∷ [] }
 
 abbrev pub new_resource : ℕ → List AttrSpec → ResourcePast
 new_resource created attrs = record { opening = resource_rules.opening_row created (first_values attrs); called = resource_calls.Enlist ∷ resource_calls.Enlist ∷ [] }
@@ -166,26 +166,26 @@ new_op created attrs = record { opening = op_rules.opening_row created (first_va
 abbrev pub polls_of : ℕ → ℕ → ℕ → ℕ → List TaskCall
 polls_of count moment run every = flat_map (λ i. PollStart (moment + i * every) ∷ PollEnd ((moment + i * every) + run) ∷ []) (range_with_len 0 count)
 
--- what one command more makes of the items. The last calls of owners and of wakers are calls like others
-abbrev pub called_by : Pasts → Said → Pasts
-called_by ps (task created kind name) = record ps { tasks = ps.tasks ++ new_task created ∷ [] }
-called_by ps (start n moment) = task_called n (PollStart moment ∷ []) ps
-called_by ps (finish n moment) = task_called n (PollEnd moment ∷ []) ps
-called_by ps (polls n count moment run every) = task_called n (polls_of count moment run every) ps
-called_by ps (close n moment) = task_called n (Close moment ∷ []) ps
-called_by ps (self_wake n moment) = task_called n (WakeRef moment true ∷ []) ps
-called_by ps (clone n) = waker_drawn n ps
-called_by ps (again w) = option_map_or (λ n. waker_drawn n ps) (live_item w ps.wakers) ps
-called_by ps (wake_ref w moment) = waker_called w (WakeRef moment false) ps
-called_by ps (wake w moment) = waker_spent w (WakeVal moment false) ps
-called_by ps (release w) = waker_spent w Release ps
-called_by ps (resource created kind concrete attrs) = record ps { resources = ps.resources ++ new_resource created attrs ∷ [] }
-called_by ps (close_resource n moment) = resource_called n (resource_calls.Close moment) ps
-called_by ps (change_resource n index change) = resource_called n (resource_calls.Attr index change) ps
-called_by ps (op created r source attrs) = record ps { ops = ps.ops ++ new_op created attrs ∷ [] }
-called_by ps (op_task n t) = op_called n (op_calls.SetTask (id_of 1 t)) ps
-called_by ps (start_op n moment) = op_called n (op_calls.PollStart moment) ps
-called_by ps (finish_op n moment) = op_called n (op_calls.PollEnd moment) ps
-called_by ps (close_op n moment) = op_called n (op_calls.Close moment) ps
-called_by ps (change_op n index change) = op_called n (op_calls.Attr index change) ps
-called_by ps s = ps
+-- what one command more makes of the items, where waits of new tasks are counted or not. The last calls of owners and of wakers are calls like others
+abbrev pub called_by : Bool → Pasts → Said → Pasts
+called_by counting ps (task created kind name) = record ps { tasks = ps.tasks ++ new_task counting created ∷ [] }
+called_by counting ps (start n moment) = task_called n (PollStart moment ∷ []) ps
+called_by counting ps (finish n moment) = task_called n (PollEnd moment ∷ []) ps
+called_by counting ps (polls n count moment run every) = task_called n (polls_of count moment run every) ps
+called_by counting ps (close n moment) = task_called n (Close moment ∷ []) ps
+called_by counting ps (self_wake n moment) = task_called n (WakeRef moment true ∷ []) ps
+called_by counting ps (clone n) = waker_drawn n ps
+called_by counting ps (again w) = option_map_or (λ n. waker_drawn n ps) (live_item w ps.wakers) ps
+called_by counting ps (wake_ref w moment) = waker_called w (WakeRef moment false) ps
+called_by counting ps (wake w moment) = waker_spent w (WakeVal moment false) ps
+called_by counting ps (release w) = waker_spent w Release ps
+called_by counting ps (resource created kind concrete attrs) = record ps { resources = ps.resources ++ new_resource created attrs ∷ [] }
+called_by counting ps (close_resource n moment) = resource_called n (resource_calls.Close moment) ps
+called_by counting ps (change_resource n index change) = resource_called n (resource_calls.Attr index change) ps
+called_by counting ps (op created r source attrs) = record ps { ops = ps.ops ++ new_op created attrs ∷ [] }
+called_by counting ps (op_task n t) = op_called n (op_calls.SetTask (id_of 1 t)) ps
+called_by counting ps (start_op n moment) = op_called n (op_calls.PollStart moment) ps
+called_by counting ps (finish_op n moment) = op_called n (op_calls.PollEnd moment) ps
+called_by counting ps (close_op n moment) = op_called n (op_calls.Close moment) ps
+called_by counting ps (change_op n index change) = op_called n (op_calls.Attr index change) ps
+called_by counting ps s = ps

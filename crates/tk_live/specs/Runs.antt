@@ -160,6 +160,7 @@ pub record Represents (i : Interpreter) (settings : Settings) (c : Course) (kept
   pub capacity_said : i.capacity_said ≡ c.capacity_said
   pub retention_said : i.retention_said ≡ c.retention_said
   pub times_said : i.times_said ≡ c.times_said
+  pub waits_said : i.waits_said ≡ c.waits_said
   pub begun : i.begun ≡ c.begun
   pub times_is : i.times ≡ settings.times
 

@@ -17,7 +17,7 @@ use Rattle.tk_core.specs.ResourceMeaning.{resource_meaning}
 use Rattle.tk_core.specs.TaskMeaning.{task_meaning}
 use Rattle.tk_cell.specs.Calls.{entry}
 use Rattle.tk_live.specs.Blocks.{Block, is_named, spends, lines_of_worker, lines_of_other}
-use Rattle.tk_script.specs.Commands.{Said, Line, skipped, bad, says, opens, joins, works, task, start, finish, polls, close, self_wake, clone, again, wake_ref, wake, release, resource, close_resource, change_resource, op, op_task, start_op, finish_op, close_op, change_op, poll_op, capacity, retention, times, publish}
+use Rattle.tk_script.specs.Commands.{Said, Line, skipped, bad, says, opens, joins, works, task, start, finish, polls, close, self_wake, clone, again, wake_ref, wake, release, resource, close_resource, change_resource, op, op_task, start_op, finish_op, close_op, change_op, poll_op, capacity, retention, times, waits, publish}
 use Rattle.tk_live.specs.Course.{Course, line_after}
 use Rattle.tk_live.specs.Named.{made_item, live_item}
 use Rattle.tk_live.specs.Pasts.{Past, TaskPast, ResourcePast, Pasts, is_polled, is_polled_op, is_closed_resource, open_task, open_resource, open_op, new_resource}
@@ -78,6 +78,7 @@ stop_by_text c (poll_op r o t name ready) =
 stop_by_text c (capacity n) = if c.begun || c.capacity_said then Some BadCommand else None
 stop_by_text c (retention n) = if c.begun || c.retention_said then Some BadCommand else None
 stop_by_text c times = if c.begun || c.times_said then Some BadCommand else None
+stop_by_text c waits = if c.begun || c.waits_said then Some BadCommand else None
 stop_by_text c (publish moment whole) =
     if nat_lt moment c.now then Some Clock else
     (if nat_le (2 ^ 63) (length c.due) then Some NumbersSpent else None)

@@ -34,6 +34,7 @@ pub(crate) struct Interpreter {
     pub(crate) capacity_said: bool,
     pub(crate) retention_said: bool,
     pub(crate) times_said: bool,
+    pub(crate) waits_said: bool,
     pub(crate) begun: bool,
 }
 
@@ -52,7 +53,7 @@ fn aggregator_for(alloc: Global, settings: Settings) -> Result<Aggregator, Strea
 
 impl Interpreter {
     ghost use Rattle.std.specs.Prelude.{◌≡◌, ◌≤◌, ◌||◌, not, ℕ, [], IfOk};
-    ghost use Rattle.tk_script.specs.Commands.{view, IsGood, capacity, retention, times, is_setting};
+    ghost use Rattle.tk_script.specs.Commands.{view, IsGood, capacity, retention, times, waits, is_setting};
     ghost use Rattle.tk_live.specs.Course.{step, step_on, start_of_all};
     ghost use Rattle.tk_live.specs.Runs.{Represents, RepresentsSome, CommandSpec, SilentSpec};
 
@@ -86,6 +87,7 @@ impl Interpreter {
             capacity_said: false,
             retention_said: false,
             times_said: false,
+            waits_said: false,
             begun: false,
         })
     }
@@ -190,6 +192,7 @@ impl Interpreter {
             Command::Capacity { count: _ } => self.say_capacity(),
             Command::Retention { span: _ } => self.say_retention(),
             Command::Times => self.say_times(),
+            Command::Waits => self.say_waits(),
             Command::Publish { moment, whole } => self.publish(rt, moment, whole, writer),
         }
     }
@@ -224,6 +227,17 @@ impl Interpreter {
             return Err(Stop::BadCommand);
         }
         self.times_said = true;
+        Ok(())
+    }
+
+    // From here on tasks count their waits. It is said once, before every command that is no setting.
+    fn say_waits(&mut self) -> Result<(), Stop>
+        ensures { (line : ℕ) → SilentSpec line waits self.old self.new result }
+    {
+        if self.begun || self.waits_said {
+            return Err(Stop::BadCommand);
+        }
+        self.waits_said = true;
         Ok(())
     }
 }

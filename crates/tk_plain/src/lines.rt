@@ -16,8 +16,10 @@ const LAST_LINE: u64 = 1 << 63;
 // What each line begins with that has lost nothing.
 const NO_DROPS: &[u8] = b"{\"dropped\":[0,0,0],";
 
-// What each line of version 1 ends with.
+// What a line ends with that has the keys of version 1: its own version.
 const VERSION_1: &[u8] = b"\"v\":1}";
+
+const VERSION_4: &[u8] = b"\"v\":4}";
 
 const NONE_DROPPED: Dropped = Dropped {
     tasks: 0,
@@ -61,6 +63,15 @@ fn later_version(
     out.extend_from_slice(times.as_bytes())?;
     out.extend_from_slice(version)?;
     Ok(out)
+}
+
+// What a line ends with that has the keys of a later version: that one, or 4 where it tells a row that counts waits.
+fn end_of(line: &Line, later: &'static [u8]) -> &'static [u8] {
+    if line.version() == 4 {
+        VERSION_4
+    } else {
+        later
+    }
 }
 
 impl Plain {
@@ -110,7 +121,7 @@ impl Plain {
         whole: bool,
     ) -> Result<Vec<u8>, LineError> {
         let text = line.write()?;
-        let mut text = self.in_version(text, next, leaving, whole)?;
+        let mut text = self.in_version(line, text, next, leaving, whole)?;
         text.push(b'\n')?;
         Ok(text)
     }
@@ -118,6 +129,7 @@ impl Plain {
     // The text in the version of this run.
     fn in_version(
         &self,
+        line: &Line,
         text: Vec<u8>,
         next: &Tables,
         leaving: &Gone,
@@ -130,13 +142,14 @@ impl Plain {
                 text.as_slice(),
                 leaving,
                 times.as_str(),
-                b"\"v\":3}",
+                end_of(line, b"\"v\":3}"),
             );
         }
         if self.retention.is_none() {
             return Ok(text);
         }
-        later_version(self.alloc, text.as_slice(), leaving, "", b"\"v\":2}")
+        let end = end_of(line, b"\"v\":2}");
+        later_version(self.alloc, text.as_slice(), leaving, "", end)
     }
 
     fn text_to(

@@ -33,6 +33,8 @@ pub(crate) struct Plain {
     // Of each task in the order of the tables how long its polls ran, where that is said.
     pub(crate) times: Vec<Timed>,
     pub(crate) times_said: bool,
+    // Whether the waits of tasks are counted.
+    pub(crate) waits_said: bool,
     pub(crate) capacity_said: bool,
     pub(crate) begun: bool,
 }
@@ -65,6 +67,7 @@ impl Plain {
             left: Gone::none(alloc),
             times: Vec::new(alloc),
             times_said: false,
+            waits_said: false,
             capacity_said: false,
             begun: false,
         })
@@ -94,12 +97,21 @@ impl Plain {
         Ok(())
     }
 
+    fn say_waits(&mut self) -> Result<(), Stop> {
+        if self.begun || self.waits_said {
+            return Err(Stop::BadCommand);
+        }
+        self.waits_said = true;
+        Ok(())
+    }
+
     // A setting, or none.
     fn apply_setting(&mut self, command: &Command<'_>) -> Option<Result<(), Stop>> {
         match command {
             Command::Capacity { .. } => Some(self.say_capacity()),
             Command::Retention { span } => Some(self.say_retention(*span)),
             Command::Times => Some(self.say_times()),
+            Command::Waits => Some(self.say_waits()),
             _ => None,
         }
     }

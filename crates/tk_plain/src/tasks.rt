@@ -36,8 +36,13 @@ fn info_of(
 }
 
 // The row of a new task, which its one reader has enlisted at.
-fn first_row(created: u64) -> TaskRow {
-    let (row, _) = TaskRow::opening(created).step(TaskCall::Enlist);
+fn first_row(created: u64, waits: bool) -> TaskRow {
+    let opening = if waits {
+        TaskRow::counting(created)
+    } else {
+        TaskRow::opening(created)
+    };
+    let (row, _) = opening.step(TaskCall::Enlist);
     row
 }
 
@@ -96,7 +101,7 @@ impl Plain {
         let Ok(info) = info_of(self.alloc, id, line, kind, name) else {
             return Err(Stop::Memory);
         };
-        add(&mut self.tables, info, first_row(created))?;
+        add(&mut self.tables, info, first_row(created, self.waits_said))?;
         self.time(id)
     }
 

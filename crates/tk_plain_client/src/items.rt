@@ -170,14 +170,13 @@ pub(crate) fn new_of(kind: Kind, value: &Value) -> Option<New> {
     }
 }
 
-const TASK_NUMBERS: [&str; 9] = [
+const TASK_NUMBERS: [&str; 8] = [
     "busy",
     "clones",
     "created",
     "drops",
     "handles",
     "polls",
-    "sched",
     "self_wakes",
     "wakes",
 ];
@@ -190,8 +189,32 @@ const TASK_MOMENTS: [&str; 5] = [
     "last_wake",
 ];
 
+// Whether the value is a time that the task was scheduled, or this and the time that it waited.
+fn are_waits(value: &Value) -> bool {
+    match value.as_array() {
+        Some(values) => match values.as_slice() {
+            [sched, waited] => sched.as_u64().is_some() && waited.as_u64().is_some(),
+            _ => false,
+        },
+        None => value.as_u64().is_some(),
+    }
+}
+
+fn has_waits(value: &Value) -> bool {
+    match value.get("sched") {
+        Some(waits) => are_waits(waits),
+        None => false,
+    }
+}
+
+/// Whether these statistics of a task count its waits.
+pub(crate) fn counts_waits(value: &Value) -> bool {
+    list(value, "sched").is_some()
+}
+
 fn told_task(value: &Value) -> Option<Told> {
     let whole = has_members(value, 17)
+        && has_waits(value)
         && are_numbers(value, TASK_NUMBERS.as_slice())
         && are_moments(value, TASK_MOMENTS.as_slice())
         && are_flags(value, ["polling", "scheduled"].as_slice());

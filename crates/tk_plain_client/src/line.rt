@@ -49,9 +49,9 @@ pub struct Given {
     pub counts: Vec<(u64, u64, u64)>,
     pub seq: u64,
     pub snapshot: bool,
-    /// It is of version 2 or 3, which say what is gone.
+    /// It has the keys of version 2 or 3, which say what is gone.
     pub removes: bool,
-    /// The histograms that it tells, where it is of version 3.
+    /// The histograms that it tells, where it has the keys of version 3.
     pub times: Option<Vec<Histogram>>,
     pub now: u64,
     pub spoilt: Spoilt,

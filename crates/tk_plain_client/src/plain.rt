@@ -193,7 +193,7 @@ fn histogram_of(times: &[Histogram], id: u64) -> Option<Histogram> {
     None
 }
 
-// The histograms that a line tells: none, where it isn't of version 3.
+// The histograms that a line tells: none, where it hasn't the keys of version 3.
 fn times_told(line: &Given) -> &[Histogram] {
     match &line.times {
         Some(times) => times.as_slice(),

@@ -1,6 +1,6 @@
 //! A line, by its text.
 
-use crate::items::{Kind, new_of, told_of};
+use crate::items::{Kind, counts_waits, new_of, told_of};
 use crate::line::{Given, Histogram, New, Part, Spoilt, Told};
 use crate::values::{flag, has_members, id_of, list, number};
 use serde_json::Value;
@@ -180,16 +180,35 @@ fn times_at(alloc: Global, value: &Value) -> Result<Vec<Histogram>, Unread> {
     Ok(times)
 }
 
-// The version of a line, where the value has as many keys.
+// Which version has as many keys as the value.
+fn keys_of(value: &Value) -> Option<u64> {
+    match value.as_object()?.len() {
+        12 => Some(1),
+        15 => Some(2),
+        16 => Some(3),
+        _ => None,
+    }
+}
+
+// Whether a row of a task counts its waits.
+fn tells_waits(value: &Value) -> bool {
+    match list(value, "task_stats") {
+        Some(rows) => rows.iter().any(counts_waits),
+        None => false,
+    }
+}
+
+// The version whose keys a line has, where its own is that, or 4 in a line that tells a row that counts waits.
 fn framed(value: &Value) -> Option<u64> {
     if !are_three_numbers(value, "dropped") {
         return None;
     }
-    match number(value, "v") {
-        Some(1) if has_members(value, 12) => Some(1),
-        Some(2) if has_members(value, 15) => Some(2),
-        Some(3) if has_members(value, 16) => Some(3),
-        _ => None,
+    let keys = keys_of(value)?;
+    let version = if tells_waits(value) { 4 } else { keys };
+    if number(value, "v") == Some(version) {
+        Some(keys)
+    } else {
+        None
     }
 }
 
@@ -202,8 +221,8 @@ fn seq_of(value: &Value) -> Option<u64> {
 }
 
 fn of_value(alloc: Global, value: &Value) -> Result<Given, Unread> {
-    let version = framed(value).ok_or(Unread::NoLine)?;
-    let removes = version > 1;
+    let keys = framed(value).ok_or(Unread::NoLine)?;
+    let removes = keys > 1;
     let seq = seq_of(value).ok_or(Unread::NoLine)?;
     let now = number(value, "now").ok_or(Unread::NoLine)?;
     let snapshot = flag(value, "snapshot").ok_or(Unread::NoLine)?;
@@ -211,7 +230,7 @@ fn of_value(alloc: Global, value: &Value) -> Result<Given, Unread> {
     let resources = part_at(alloc, value, RESOURCES, Kind::Resource, removes)?;
     let ops = part_at(alloc, value, OPS, Kind::Op, removes)?;
     let counts = counts_at(alloc, value)?;
-    let times = if version == 3 {
+    let times = if keys == 3 {
         Some(times_at(alloc, value)?)
     } else {
         None

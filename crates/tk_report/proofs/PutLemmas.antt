@@ -3,7 +3,8 @@ use Rattle.std.proofs.Common.{◌≡◌, ℕ, zero, suc, ◌+◌, ◌≤◌, Lis
 use Rattle.std.specs.Prelude.{flat_map}
 use Rattle.std.specs.Option.{option_map_or}
 use Rattle.std.proofs.lemmas.List.{take_all}
-use Rattle.tk_report.specs.Pieces.{Puts}
+use Rattle.tk_report.specs.Pieces.{Puts, spaced}
+use Rattle.tk_report.specs.Report.{rest_of_line}
 
 -- two pieces were put
 pub both : {a b c p q : List ℕ} → Puts a b p → Puts b c q → Puts a c (p ++ q)
@@ -12,6 +13,11 @@ both {a} {b} {c} {p} {q} g h = record { is = h.is ∙ ap (λ xs. xs ++ q) g.is �
 -- nothing was put
 pub nothing : (a : List ℕ) → Puts a a []
 nothing a = record { is = sym (append-nil a) }
+
+-- the words of a line's rest after some of them
+pub after_words : (first words : List (List ℕ)) → rest_of_line (first ++ words) ≡ spaced first ++ rest_of_line words
+after_words [] words = refl
+after_words (word ∷ first) words = ap (λ xs. 32 ∷ xs) (ap (λ xs. word ++ xs) (after_words first words) ∙ sym (append_assoc word (spaced first) (rest_of_line words)))
 
 module _ {A : Type 0} (f : A → List ℕ) where
   -- the texts of items up to a place, and of the one that stands there, if one does

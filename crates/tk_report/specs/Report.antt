@@ -48,6 +48,11 @@ task_state x =
     (if x.polling then codes "polling" else
     (if x.scheduled then codes "scheduled" else codes "idle"))
 
+-- how long a task waited, where its row counts that
+abbrev pub waited_words : Option ℕ → List (List ℕ)
+waited_words None = []
+waited_words (Some time) = codes "waited" ∷ decimal time ∷ []
+
 -- the line of a task
 abbrev pub task_line : Task → List ℕ
 task_line t = line (codes "task") (id_text t.info.id ∷ kind_text t.info.kind ∷ task_state t.row
@@ -58,7 +63,7 @@ task_line t = line (codes "task") (id_text t.info.id ∷ kind_text t.info.kind �
     ∷ codes "drops" ∷ decimal t.row.drops
     ∷ codes "busy" ∷ decimal t.row.busy
     ∷ codes "sched" ∷ decimal t.row.sched
-    ∷ codes "name" ∷ t.info.name ∷ [])
+    ∷ (waited_words t.row.waited ++ (codes "name" ∷ t.info.name ∷ [])))
 
 -- ---- attributes
 

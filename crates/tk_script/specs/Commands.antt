@@ -62,6 +62,8 @@ pub data Said : Type 0 where
   retention : ℕ → Said
   -- tasks have histograms of how long their polls ran
   times : Said
+  -- of tasks it is counted how long they waited
+  waits : Said
   -- a line of the stream, as a snapshot or not
   publish : ℕ → Bool → Said
 
@@ -91,6 +93,7 @@ view (commands.PollOp r o t name ready) = poll_op r o t name.now ready
 view (commands.Capacity count) = capacity count
 view (commands.Retention span) = retention span
 view commands.Times = times
+view commands.Waits = waits
 view (commands.Publish moment whole) = publish moment whole
 
 -- what a command names is a name, a capacity is in range, and so are polls: 1 to 1,000,000, whose moments 64 bits hold
@@ -215,6 +218,7 @@ line_forms =
     ∷ (codes "capacity", capacity_by)
     ∷ (codes "retention", by_one retention)
     ∷ (codes "times", alone times)
+    ∷ (codes "waits", alone waits)
     ∷ []
 
 -- what declares no attributes
@@ -319,6 +323,7 @@ abbrev pub is_setting : Said → Bool
 is_setting (capacity n) = true
 is_setting (retention n) = true
 is_setting times = true
+is_setting waits = true
 is_setting _ = false
 
 -- settings by a command
@@ -342,7 +347,8 @@ abbrev pub settings_after : Settings → List Line → Settings
 settings_after settings [] = settings
 settings_after settings (line ∷ more) = option_map_or (λ s. settings_after s more) (settings_said settings line) settings
 
--- the settings of a script: those of its `capacity`, `retention` and `times` commands before all others
+-- the settings of a script: those of its `capacity`, `retention` and `times` commands before all others. `waits` tells how the tasks
+-- begin that stand after it
 abbrev pub settings_of : List Line → Settings
 settings_of ls = settings_after default_settings ls
 

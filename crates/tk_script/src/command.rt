@@ -147,6 +147,8 @@ pub enum Command<'a> {
     },
     /// Each task has a histogram of how long its polls ran, and lines tell them: once, before every command that is no setting.
     Times,
+    /// Of each task it is counted how long it waited, and lines tell it: once, before every command that is no setting.
+    Waits,
     /// A line of the stream, as a snapshot or not.
     Publish {
         moment: u64,
@@ -160,7 +162,8 @@ impl Command<'_> {
         ensures { result ≡ spec.is_setting (spec.view self.now) }
     {
         match self {
-            Command::Capacity { .. } | Command::Retention { .. } | Command::Times => true,
+            Command::Capacity { .. } | Command::Retention { .. } => true,
+            Command::Times | Command::Waits => true,
             _ => false,
         }
     }

@@ -8,7 +8,7 @@ use crate::lines::is_skipped;
 use crate::pieces::Pieces;
 use std::alloc::{AllocError, Global};
 
-/// What the settings of a script say.
+/// What a run has to know before its first command. That waits are counted it learns where the script says so.
 #[derive(Clone, Copy, Debug, PartialEq, Eq)]
 pub struct Settings {
     /// How many events the console holds, from 1 to 65,536.
@@ -55,6 +55,8 @@ fn settings_by(
             times: true,
             ..settings
         })),
+        // It holds from where it stands, and every task is made after it.
+        Some(Command::Waits) => Ok(Some(settings)),
         _ => Ok(None),
     }
 }

@@ -141,6 +141,7 @@ pub struct Answer {
 
 extern "C" {
     pub fn taskscope_task_open(created: u64, words: &mut Words);
+    pub fn taskscope_task_open_counting(created: u64, words: &mut Words);
     pub fn taskscope_task_start(words: &mut Words, moment: u64) -> u32;
     pub fn taskscope_task_end(words: &mut Words, moment: u64) -> u32;
     pub fn taskscope_task_close(words: &mut Words, moment: u64) -> u32;

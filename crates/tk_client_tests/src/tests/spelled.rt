@@ -3,7 +3,7 @@
 use std::alloc::{AllocError, Global};
 use tk_plain_client::{Given, Histogram, New, Spoilt, Told};
 
-/// What the warnings look at in a task's row.
+/// What the warnings look at in a task's row, and how long it waited, where that is counted.
 #[derive(Clone, Copy)]
 pub(super) struct Row {
     pub(super) clones: u64,
@@ -15,6 +15,7 @@ pub(super) struct Row {
     pub(super) last_started: Option<u64>,
     pub(super) polling: bool,
     pub(super) scheduled: bool,
+    pub(super) waited: Option<u64>,
 }
 
 /// The row that is made from a number.
@@ -29,6 +30,7 @@ pub(super) fn row_of(seed: u64) -> Row {
         last_started: (seed / 2048 % 4 != 0).then_some(seed / 2048 % 5000),
         polling: seed / 8192 % 2 == 0,
         scheduled: seed / 16384 % 4 == 0,
+        waited: (seed / 65536 % 4 == 0).then_some(seed / 65536),
     }
 }
 
@@ -124,6 +126,18 @@ fn put_wakers(text: &mut String, told: Told, row: Row) -> Result<(), AllocError>
     put_number(text, ",\"id\":", told.id)
 }
 
+// The time that a task was scheduled, and with it the time that it waited, where that is counted.
+fn put_waits(text: &mut String, sched: u64, waited: Option<u64>) -> Result<(), AllocError> {
+    match waited {
+        Some(waited) => {
+            put_number(text, ",\"sched\":[", sched)?;
+            put_number(text, ",", waited)?;
+            text.push_str("]")
+        }
+        None => put_number(text, ",\"sched\":", sched),
+    }
+}
+
 fn put_task_row(text: &mut String, told: Told) -> Result<(), AllocError> {
     let row = row_of(told.seed);
     put_wakers(text, told, row)?;
@@ -132,7 +146,7 @@ fn put_task_row(text: &mut String, told: Told) -> Result<(), AllocError> {
     put_moment(text, ",\"last_wake\":", row.dropped)?;
     put_flag(text, ",\"polling\":", row.polling)?;
     put_number(text, ",\"polls\":", row.polls)?;
-    put_number(text, ",\"sched\":", told.seed)?;
+    put_waits(text, told.seed, row.waited)?;
     put_flag(text, ",\"scheduled\":", row.scheduled)?;
     put_number(text, ",\"self_wakes\":", row.self_wakes)?;
     put_number(text, ",\"wakes\":", row.wakes)?;
@@ -271,6 +285,32 @@ fn put_infos(text: &mut String, line: &Given) -> Result<(), AllocError> {
     put_news(text, ",\"new_tasks\":[", Kind::Task, &line.tasks.news)
 }
 
+fn tells_waits(told: &[Told]) -> bool {
+    for one in told {
+        if row_of(one.seed).waited.is_some() {
+            return true;
+        }
+    }
+    false
+}
+
+// The version of a line: 4 where it tells a row that counts waits, and otherwise that of its keys. A line that is none has another one.
+fn version_of(line: &Given) -> u64 {
+    let is_line = line.spoilt != Spoilt::NoLine;
+    let tells_waits = tells_waits(&line.tasks.told);
+    if tells_waits && is_line {
+        return 4;
+    }
+    let says_two = line.removes == (is_line || tells_waits);
+    if line.times.is_some() && says_two {
+        3
+    } else if says_two {
+        2
+    } else {
+        1
+    }
+}
+
 /// The text of a line, without its end.
 pub(super) fn text_of(alloc: Global, line: &Given) -> Result<String, AllocError> {
     let mut text = String::new(alloc);
@@ -290,14 +330,7 @@ pub(super) fn text_of(alloc: Global, line: &Given) -> Result<String, AllocError>
     if let Some(times) = &line.times {
         put_times(&mut text, times)?;
     }
-    // A line that is none has the number of another version.
-    let says_two = line.removes != (line.spoilt == Spoilt::NoLine);
-    text.push_str(if line.times.is_some() && says_two {
-        ",\"v\":3}"
-    } else if says_two {
-        ",\"v\":2}"
-    } else {
-        ",\"v\":1}"
-    })?;
+    put_number(&mut text, ",\"v\":", version_of(line))?;
+    text.push_str("}")?;
     Ok(text)
 }

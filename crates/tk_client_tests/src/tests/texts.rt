@@ -147,6 +147,11 @@ pub(super) fn gone_line() -> &'static str {
     r#"{"dropped":[0,0,0],"gone_ops":[],"gone_resources":[],"gone_tasks":[],"new_ops":[],"new_resources":[],"new_tasks":[],"now":15,"op_stats":[],"poll_counts":[],"resource_stats":[],"seq":1,"snapshot":false,"task_stats":[],"v":2}"#
 }
 
+// A first line of version 4 with the keys of version 3: the first row counts its waits, and the second doesn't.
+pub(super) fn waits_line() -> &'static str {
+    r#"{"dropped":[0,0,0],"gone_ops":[],"gone_resources":[],"gone_tasks":[],"new_ops":[],"new_resources":[],"new_tasks":[{"id":1099511627777,"kind":"spawn","loc":["script",1,1],"name":"a"},{"id":1099511627778,"kind":"spawn","loc":["script",2,1],"name":"b"}],"now":15,"op_stats":[],"poll_counts":[],"resource_stats":[],"seq":1,"snapshot":false,"task_stats":[{"busy":0,"clones":0,"created":1,"dropped":null,"drops":0,"first_poll":null,"handles":1,"id":1099511627777,"last_ended":null,"last_started":null,"last_wake":null,"polling":false,"polls":0,"sched":[1,2],"scheduled":true,"self_wakes":0,"wakes":0},{"busy":0,"clones":0,"created":1,"dropped":null,"drops":0,"first_poll":null,"handles":1,"id":1099511627778,"last_ended":null,"last_started":null,"last_wake":null,"polling":false,"polls":0,"sched":0,"scheduled":true,"self_wakes":0,"wakes":0}],"task_times":[{"counts":[[0,1]],"id":1099511627777,"longest":5}],"v":4}"#
+}
+
 // Values that stand in another's place: of each kind, too wide or too deep for any that a line has, and no JSON.
 pub(super) fn other_values() -> [&'static str; 16] {
     [

@@ -4,7 +4,7 @@ ghost use Rattle.tk_core.specs.declared.task.call.TaskCall.TheVariants.{PollStar
 ghost use Rattle.tk_core.specs.declared.reply.Reply.TheVariants.{Done, Woken, Shown};
 ghost use Rattle.tk_core.specs.declared.reply.Reply.TheVariants.{Refused as NotDone};
 ghost use Rattle.tk_core.specs.Polls.{run_time};
-ghost use Rattle.tk_core.specs.Task.{opening_row, start_at, end_at};
+ghost use Rattle.tk_core.specs.Task.{IsOpening, opening_row, start_at, end_at};
 ghost use Rattle.tk_core.specs.TaskMeaning.{task_meaning};
 ghost use Rattle.tk_cell.specs.Views.{opened};
 ghost use Rattle.tk_cell.specs.Calls.{Calls};
@@ -66,13 +66,7 @@ impl TaskOwner {
         ensures opened { IfOk result (λ owner. owner.token.view ≡ opened (opening_row created)) }
         ensures times { IfOk result (λ owner. owner.times ≡ None) }
     {
-        let (ledger, token) = Shared::new(rt, alloc, TaskRow::opening(created))?;
-        Ok(TaskOwner {
-            id,
-            polling: false,
-            handle: Handle::new(ledger, token),
-            timed: None,
-        })
+        Self::with_opening(rt, alloc, id, TaskRow::opening(created))
     }
 
     /// A task's ledger, as [`TaskOwner::new`] makes it, and a histogram of how long its polls run, without times.
@@ -86,7 +80,43 @@ impl TaskOwner {
         ensures opened { IfOk result (λ owner. owner.token.view ≡ opened (opening_row created)) }
         ensures times { IfOk result (λ owner. IsNewHistogram owner.times) }
     {
-        let (ledger, token) = Shared::new(rt, alloc, TaskRow::opening(created))?;
+        Self::with_opening_and_times(rt, alloc, id, TaskRow::opening(created))
+    }
+
+    /// A task's ledger that begins with this row: [`TaskRow::counting`], if the task's waits are to be counted, or [`TaskRow::opening`].
+    pub fn with_opening<R: Wait>(
+        rt: &R,
+        alloc: Global,
+        id: TaskId,
+        opening: TaskRow,
+    ) -> Result<TaskOwner, AllocError>
+        requires { IsOpening opening }
+        ensures id { IfOk result (λ owner. owner.id ≡ id) }
+        ensures opened { IfOk result (λ owner. owner.token.view ≡ opened opening) }
+        ensures times { IfOk result (λ owner. owner.times ≡ None) }
+    {
+        let (ledger, token) = Shared::new(rt, alloc, opening)?;
+        Ok(TaskOwner {
+            id,
+            polling: false,
+            handle: Handle::new(ledger, token),
+            timed: None,
+        })
+    }
+
+    /// A task's ledger, as [`TaskOwner::with_opening`] makes it, and a histogram of how long its polls run, without times.
+    pub fn with_opening_and_times<R: Wait>(
+        rt: &R,
+        alloc: Global,
+        id: TaskId,
+        opening: TaskRow,
+    ) -> Result<TaskOwner, AllocError>
+        requires { IsOpening opening }
+        ensures id { IfOk result (λ owner. owner.id ≡ id) }
+        ensures opened { IfOk result (λ owner. owner.token.view ≡ opened opening) }
+        ensures times { IfOk result (λ owner. IsNewHistogram owner.times) }
+    {
+        let (ledger, token) = Shared::new(rt, alloc, opening)?;
         let timed = Timed::new(rt, alloc, id)?;
         Ok(TaskOwner {
             id,

@@ -1,11 +1,5 @@
 //! Tasks, and the calls of their owners.
-ghost use Rattle.std.specs.Prelude.{◌≡◌, ◌≤◌, ◌↔◌, ◌∷◌, [], Err, IfErr, IfOk, false, is_some, length};
-ghost use Rattle.tk_core.specs.Task.{opening_row};
-ghost use Rattle.tk_core.specs.declared.task.call.TaskCall.TheVariants.{Enlist};
-ghost use Rattle.tk_events.specs.Handles.{IsSameRecorder, next_offer, next_task_id, offers_made, with_kept, with_refused};
-ghost use Rattle.tk_events.specs.Items.{owner_view, task_info};
-ghost use Rattle.tk_events.specs.Offers.{times_ledger};
-ghost use Rattle.tk_events.specs.declared.event.Shown.TheVariants.{MadeTask};
+ghost use Rattle.std.specs.Prelude.{◌≡◌, ◌∷◌, [], IfOk, false};
 ghost use Rattle.tk_live.specs.Course as course;
 
 use super::Interpreter;
@@ -13,7 +7,7 @@ use crate::items::TaskItem;
 use crate::seats::open_task;
 use std::alloc::Global;
 use std::sync::Wait;
-use tk_events::{RecordError, Recorded, Recorder};
+use tk_events::{Counting, RecordError};
 use tk_ids::{IdError, Location, Name, TaskKind, TaskSpec};
 use tk_ledgers::TaskOwner;
 use tk_script::Stop;
@@ -41,34 +35,6 @@ fn spec_of(alloc: Global, line: u32, kind: TaskKind, name: &[u8]) -> Result<Task
         name,
         location,
     })
-}
-
-// A new task that is offered, with a histogram of how long its polls ran where tasks have such.
-fn record_task<R: Wait>(
-    recorder: &mut Recorder,
-    rt: &R,
-    alloc: Global,
-    spec: TaskSpec,
-    created: u64,
-    times: bool,
-) -> Result<(TaskOwner, Recorded), (RecordError, TaskSpec)>
-    ensures id { IfOk result (λ made. made.0.id ≡ next_task_id recorder.old) }
-    ensures owner { IfOk result (λ made. made.0.token.view ≡ owner_view Enlist (opening_row created)) }
-    ensures timed { IfOk result (λ made. is_some made.0.times ≡ times) }
-    ensures kept { IfOk result (λ made. made.1 ≡ Recorded.Kept → recorder.new ≡ with_kept recorder.old (next_offer recorder.old
-        (MadeTask (task_info (next_task_id recorder.old) spec) made.0.token.ledger 1 (times_ledger made.0.times)))) }
-    ensures refused { IfOk result (λ made. made.1 ≡ Recorded.DroppedFull → recorder.new ≡ with_refused recorder.old (next_offer recorder.old
-        (MadeTask (task_info (next_task_id recorder.old) spec) made.0.token.ledger 1 (times_ledger made.0.times)))) }
-    ensures alone { IfOk result (λ made. made.1 ≡ Recorded.DroppedFull → recorder.old.recorders ≡ 1 → recorder.old.capacity ≤ length recorder.old.kept) }
-    ensures same { IsSameRecorder recorder.old recorder.new }
-    ensures spent { (result ≡ Err (RecordError.OffersSpent, spec)) ↔ (offers_made recorder.old ≡ recorder.old.limit) }
-    ensures err { IfErr result (λ back. (back.1 ≡ spec) × (recorder.new ≡ recorder.old)) }
-{
-    if times {
-        recorder.task_with_times(rt, alloc, spec, created)
-    } else {
-        recorder.task(rt, alloc, spec, created)
-    }
 }
 
 // What is kept of a new task.
@@ -113,7 +79,14 @@ impl Interpreter {
         if let Err(_) = self.tasks.reserve(1) {
             return Err(Stop::Memory);
         }
-        match record_task(&mut self.recorder, rt, alloc, spec, created, self.times) {
+        let counting = Counting {
+            times: self.times,
+            waits: self.waits_said,
+        };
+        match self
+            .recorder
+            .task_counting(rt, alloc, spec, created, counting)
+        {
             Ok((owner, _became)) => {
                 self.tasks.push_reserved(item_of(owner));
                 Ok(())

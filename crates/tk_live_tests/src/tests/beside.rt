@@ -28,8 +28,9 @@ struct Came {
     dropped: u64,
     // Of those that lost nothing, how many let an item leave.
     left: u64,
-    // How many told histograms.
+    // How many told histograms, and how many rows that count waits.
     timed: u64,
+    waited: u64,
     // Which of their buckets were seen with a count.
     buckets: [bool; 14],
     // Which of the names were seen.
@@ -88,8 +89,11 @@ impl Came {
         let Ok(text) = str::from_utf8(stream) else {
             return;
         };
-        if text.contains("\"v\":3") {
+        if text.contains("\"task_times\":") {
             self.timed = self.timed.saturating_add(1);
+        }
+        if text.contains("\"v\":4") {
+            self.waited = self.waited.saturating_add(1);
         }
         for bucket in 0..14 {
             if tells_bucket(alloc, text, bucket) == Ok(true) {
@@ -158,7 +162,7 @@ fn assert_alike<R: Abort + Threads + Wait + Sync + AllocGlobal>(
 }
 
 // Of 1,000 scripts some hundreds run to their ends, some hundreds stop, by each name that a text can tell, some lose events, of some
-// items leave, and some hundreds tell histograms, with times of each bucket.
+// items leave, some hundreds tell histograms, with times of each bucket, and some hundreds count waits.
 #[test]
 fn random_scripts_run_as_on_plain_rows(rt: HostRuntime) {
     let mut random = Pcg32::new(20, 54);
@@ -168,6 +172,7 @@ fn random_scripts_run_as_on_plain_rows(rt: HostRuntime) {
         dropped: 0,
         left: 0,
         timed: 0,
+        waited: 0,
         buckets: [false; 14],
         names: [false; 9],
     };
@@ -179,6 +184,7 @@ fn random_scripts_run_as_on_plain_rows(rt: HostRuntime) {
     assert!(rt; came.dropped > 50, "{} lost something", came.dropped);
     assert!(rt; came.left > 50, "items left in {}", came.left);
     assert!(rt; came.timed > 300, "{} told histograms", came.timed);
+    assert!(rt; came.waited > 300, "{} counted waits", came.waited);
     assert!(rt; came.buckets == [true; 14], "{:?}", came.buckets);
     assert!(rt; came.names == [true; 9], "{:?}", came.names);
 }

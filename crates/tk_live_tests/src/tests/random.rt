@@ -473,8 +473,8 @@ fn nothing(alloc: Global) -> Made {
     }
 }
 
-/// A script of some lines, one in four with a small capacity of its own, one in three with a retention and half of them with histograms,
-/// that ends with a line of the stream.
+/// A script of some lines, one in four with a small capacity of its own, one in three with a retention, half of them with histograms and
+/// half of them with waits, that ends with a line of the stream.
 pub(super) fn script_of(alloc: Global, random: &mut Pcg32) -> Result<String, AllocError> {
     let mut out = String::new(alloc);
     let mut made = nothing(alloc);
@@ -491,6 +491,9 @@ pub(super) fn script_of(alloc: Global, random: &mut Pcg32) -> Result<String, All
     }
     if happens(random, 2) {
         put(&mut out, "times", &[], "")?;
+    }
+    if happens(random, 2) {
+        put(&mut out, "waits", &[], "")?;
     }
     for _ in 0..below(random, 80).saturating_add(8) {
         add_line(random, &mut made, &mut out)?;

@@ -34,6 +34,18 @@ fn times_of(words: Pieces<'_>) -> Option<Command<'_>>
     }
 }
 
+// Nor after the word for waits.
+fn waits_of(words: Pieces<'_>) -> Option<Command<'_>>
+    ensures said { option_map spec.view result ≡ spec.alone spec.waits (pieces_left words.entry) }
+    ensures good { IfSome result (λ c. spec.IsGood (spec.view c)) }
+{
+    let mut words = words;
+    if words.next().is_some() {
+        return None;
+    }
+    Some(Command::Waits)
+}
+
 // A line of the stream, or a setting.
 pub(super) fn line_command<'a>(word: &[u8], words: Pieces<'a>) -> Option<Command<'a>>
     ensures said { option_map spec.view result ≡ spec.said_in spec.line_forms word.now (pieces_left words.entry) }
@@ -55,6 +67,8 @@ pub(super) fn line_command<'a>(word: &[u8], words: Pieces<'a>) -> Option<Command
         one_number(words).map(|span| Command::Retention { span })
     } else if word == b"times".as_slice() {
         times_of(words)
+    } else if word == b"waits".as_slice() {
+        waits_of(words)
     } else {
         None
     }

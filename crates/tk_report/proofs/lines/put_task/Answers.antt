@@ -1,8 +1,8 @@
-use Rattle.tk_report.proofs.PutLemmas.{both}
+use Rattle.tk_report.proofs.PutLemmas.{both, after_words}
 use Rattle.tk_report.proofs.lines.put_task.Goals as goal
 
 pub returns : goal.returns
-returns c = rw (← c.kind_word.ensures, ← c.task_state.ensures)
+returns c = rw (← c.kind_word.ensures, ← c.task_state.ensures, after_words)
     (both c.in_ok-put.ensures
     (both c.in_ok-put-2.ensures
     (both c.in_ok-put-3.ensures
@@ -13,5 +13,6 @@ returns c = rw (← c.kind_word.ensures, ← c.task_state.ensures)
     (both c.in_ok-put-8.ensures
     (both c.in_ok-put-9.ensures
     (both c.in_ok-put-10.ensures
+    (both c.in_ok-put_waited.ensures
     (both c.in_ok-put-11.ensures
-    c.in_ok-put_end.ensures)))))))))))
+    c.in_ok-put_end.ensures))))))))))))

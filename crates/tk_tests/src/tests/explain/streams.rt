@@ -87,7 +87,7 @@ fn the_front_of_a_line_is_shown(rt: HostRuntime) {
 #[rattlefmt::skip]
 const RULES: [(u64, Fault, &str); 10] = [
     (1, Fault::Memory,     "  2 | b\n  there was no memory for it\n"),
-    (1, Fault::BadShape,   "  2 | b\n  it is JSON, and has not the keys of a line of version 1, 2 or 3: docs/FORMATS.md has them\n"),
+    (1, Fault::BadShape,   "  2 | b\n  it is JSON, and no line of version 1, 2, 3 or 4: docs/FORMATS.md has their keys and values\n"),
     (0, Fault::Gap { expected: 1, found: 2 }, "  1 | a\n  a stream begins with line 1 or with a snapshot: its front is missing\n"),
     (1, Fault::Gap { expected: 2, found: 3 }, "  2 | b\n  lines are numbered one by one: one is missing, or stands twice\n"),
     (1, Fault::UnknownId,  "  2 | b\n  it tells of an item that is neither there nor new\n"),

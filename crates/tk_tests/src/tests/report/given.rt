@@ -15,6 +15,15 @@ task 1.1 spawn idle polls 1 wakes 0 self 0 clones 0 drops 0 busy 20 sched 50 nam
 warn 1.1 lost-waker
 ";
 
+// A task whose waits are counted, polled from 100 to 120, woken at 200, 260 and 290, and polled since 300.
+pub(super) const WAITED: &[u8] =
+    b"{\"dropped\":[0,0,0],\"new_ops\":[],\"new_resources\":[],\"new_tasks\":[{\"id\":1099511627777,\"kind\":\"spawn\",\"loc\":[\"script\",1,1],\"name\":\"main\"}],\"now\":300,\"op_stats\":[],\"poll_counts\":[],\"resource_stats\":[],\"seq\":1,\"snapshot\":false,\"task_stats\":[{\"busy\":20,\"clones\":0,\"created\":100,\"dropped\":null,\"drops\":0,\"first_poll\":100,\"handles\":1,\"id\":1099511627777,\"last_ended\":120,\"last_started\":300,\"last_wake\":290,\"polling\":true,\"polls\":2,\"sched\":[10,100],\"scheduled\":false,\"self_wakes\":0,\"wakes\":3}],\"v\":4}\n";
+
+// Its report.
+pub(super) const WAITED_REPORT: &str = "now 300 dropped 0 0 0
+task 1.1 spawn polling polls 2 wakes 3 self 0 clones 0 drops 0 busy 20 sched 10 waited 100 name main
+";
+
 // A task that woke itself twice and has no waker left, and one in its first poll since 150, at 1000000150.
 pub(super) const ODD: &[u8] =
     b"{\"dropped\":[0,0,0],\"new_ops\":[],\"new_resources\":[],\"new_tasks\":[{\"id\":1099511627777,\"kind\":\"spawn\",\"loc\":[\"script\",1,1],\"name\":\"main\"},{\"id\":1099511627778,\"kind\":\"spawn\",\"loc\":[\"script\",2,1],\"name\":\"resize\"}],\"now\":1000000150,\"op_stats\":[],\"poll_counts\":[],\"resource_stats\":[],\"seq\":1,\"snapshot\":false,\"task_stats\":[{\"busy\":20,\"clones\":1,\"created\":100,\"dropped\":null,\"drops\":1,\"first_poll\":150,\"handles\":2,\"id\":1099511627777,\"last_ended\":370,\"last_started\":360,\"last_wake\":310,\"polling\":false,\"polls\":2,\"sched\":100,\"scheduled\":false,\"self_wakes\":2,\"wakes\":3},{\"busy\":0,\"clones\":0,\"created\":100,\"dropped\":null,\"drops\":0,\"first_poll\":150,\"handles\":1,\"id\":1099511627778,\"last_ended\":null,\"last_started\":150,\"last_wake\":null,\"polling\":true,\"polls\":1,\"sched\":50,\"scheduled\":false,\"self_wakes\":0,\"wakes\":0}],\"v\":1}\n";

@@ -2,7 +2,7 @@
 
 use super::given::{
     GONE, GONE_AT_FIRST, LOST, LOST_REPORT, ODD, ODD_WARNINGS, SEMAPHORE, SEMAPHORE_REPORT, SIGNED,
-    SIGNED_REPORT, UNSIGNED, is_text_of, shows_from,
+    SIGNED_REPORT, UNSIGNED, WAITED, WAITED_REPORT, is_text_of, shows_from,
 };
 use std::alloc::Global;
 use tk_client::Fault;
@@ -20,10 +20,11 @@ const GAP: &[u8] =
 
 // What the view of a stream writes and how many warnings it has, or the fault that it stops at.
 #[rattlefmt::skip]
-const VIEWS: [(&str, &[u8], View, u64, &str, &str); 14] = [
+const VIEWS: [(&str, &[u8], View, u64, &str, &str); 15] = [
     ("a task whose waker is lost",            LOST,                 View::Report, 1, "", LOST_REPORT),
     ("its warnings alone",                    LOST,                 View::Lint,   1, "", "warn 1.1 lost-waker\n"),
     ("each kind of warning",                  ODD,                  View::Lint,   3, "", ODD_WARNINGS),
+    ("a task whose waits are counted",        WAITED,               View::Report, 0, "", WAITED_REPORT),
     ("one item of each kind",                 SEMAPHORE,            View::Report, 0, "", SEMAPHORE_REPORT),
     ("no warning of them",                    SEMAPHORE,            View::Lint,   0, "", ""),
     ("signed attributes",                     SIGNED,               View::Report, 0, "", SIGNED_REPORT),

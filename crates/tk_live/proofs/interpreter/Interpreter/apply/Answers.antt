@@ -59,6 +59,10 @@ pub returns-in-Times : goal.returns-in-Times
 returns-in-Times g c =
     rw c.in-Times.is (quietly c.args.line said.times c.args.self.now c.say_times.new.self c.say_times.result (g.W.Write.contents c.args.writer.now) (c.say_times.ensures c.args.line) (λ sent stop. refl {A = List ℕ} {a = []}))
 
+pub returns-in-Waits : goal.returns-in-Waits
+returns-in-Waits g c =
+    rw c.in-Waits.is (quietly c.args.line said.waits c.args.self.now c.say_waits.new.self c.say_waits.result (g.W.Write.contents c.args.writer.now) (c.say_waits.ensures c.args.line) (λ sent stop. refl {A = List ℕ} {a = []}))
+
 pub returns-in-Resource : goal.returns-in-Resource
 returns-in-Resource g c =
     rw c.in-Resource.is (quietly c.args.line (said.resource c.in-Resource.moment c.in-Resource.kind.now c.in-Resource.concrete.now c.in-Resource.attrs) c.args.self.now c.make_resource.new.self c.make_resource.result (g.W.Write.contents c.args.writer.now) c.make_resource.ensures (λ sent stop. refl {A = List ℕ} {a = []}))

@@ -22,6 +22,7 @@ returns c =
       capacity_said = refl;
       retention_said = refl;
       times_said = refl;
+      waits_said = refl;
       begun = refl;
       times_is = refl;
     }

@@ -7,7 +7,7 @@ use Rattle.tk_cell.specs.Views.{Known}
 use Rattle.tk_ledgers.proofs.PollLemmas.{none_yet}
 use Rattle.tk_ledgers.proofs.TaskPollLemmas.{task_polls}
 use Rattle.tk_ledgers.proofs.TimedLemmas.{no_polls_yet}
-use Rattle.tk_ledgers.proofs.task.owner.TaskOwner.new_with_times.Goals as goal
+use Rattle.tk_ledgers.proofs.task.owner.TaskOwner.with_opening_and_times.Goals as goal
 
 pub invariant_of-result : goal.invariant_of-result
 invariant_of-result g c =
