@@ -22,7 +22,8 @@ TARGET = os.path.join(os.path.dirname(os.path.abspath(__file__)), "service.scrip
 HEAD = """\
 # A service of twenty tasks on an executor of one thread, with a line a second. `examples/service.py` writes this script.
 # `json-index` runs long polls from second 12 to 30, and the others wait. `cache-sweep` wakes itself. `mailbox` loses its waker
-# at 14.3 s. `report-builder` begins at 37.2 s, and its first poll never ends. One name has the letters of markup.
+# at 14.3 s. `report-builder` begins at 37.2 s, and its first poll never ends. One name has the letters of markup. `waits` counts each wait from its first wake on.
+waits
 resource 20 Sync Semaphore permits=8 closed=false
 resource 21 Sync Mutex locked=false
 resource 22 Channel Queue lag=+0 slots=64
