@@ -108,6 +108,11 @@ sent_gone before s = by s.told
 
 -- ---- one line
 
+-- of no histograms none is of a task twice
+pub none_twice : IsDistinct nat_eq []
+unfolding IsDistinct
+none_twice = tt
+
 -- where a line tells none, those stay whose tasks stay
 nothing_told : (xs : List TaskTimes) → times_told xs [] ≡ xs
 nothing_told xs = ap (λ ys. ys ++ []) (map-same xs) ∙ append-nil xs
@@ -146,7 +151,7 @@ module _ (before : TablesView) (times : List TaskTimes) (p : Publishing) (once_o
       (λ none. subst (λ (o : Option TimesGiven). ChangeTimes times o p.times_after) none h.times)
   leads_by everything e h begin =
       ap (λ b. times_after (if b then [] else times) line) h.whole
-      ∙ led_on [] p.times_after p.times line tt once_new tt (sent_times before s ∙ ap (λ b. told_by b times p.times p.times_after) h.whole) (leave_by everything true e h.whole)
+      ∙ led_on [] p.times_after p.times line none_twice once_new tt (sent_times before s ∙ ap (λ b. told_by b times p.times p.times_after) h.whole) (leave_by everything true e h.whole)
       (λ none. subst (λ (o : Option TimesGiven). AreAllTimes o p.times_after) none h.times)
   leads_by (leaving retention) e h begin =
       ap (λ b. times_after (if b then [] else times) line) h.plain
