@@ -1,11 +1,26 @@
 //! Attributes of resources and operations.
 
+use crate::border::{change, limit, value};
 use crate::ffi;
 use crate::name::Name;
 use std::borrow::Cow;
+use std::fmt;
 
 /// The value of an attribute. An attribute keeps the kind of the value that it was made with.
-#[derive(Clone, Copy, Debug, PartialEq, Eq)]
+///
+/// Each integer of Rust that one of the kinds holds becomes a value. A literal without a suffix is an `i32`, and so it is a
+/// number with a sign:
+///
+/// ```
+/// use taskscope::Value;
+///
+/// assert_eq!(Value::from(2u32), Value::U64(2));
+/// assert_eq!(Value::from("ab".len()), Value::U64(2));
+/// assert_eq!(Value::from(2), Value::I64(2));
+/// assert_eq!(Value::from(true).to_string(), "true");
+/// ```
+#[derive(Clone, Copy, Debug, PartialEq, Eq, Hash)]
+#[non_exhaustive]
 pub enum Value {
     /// A number.
     U64(u64),
@@ -21,6 +36,19 @@ impl From<u64> for Value {
     }
 }
 
+impl From<u32> for Value {
+    fn from(number: u32) -> Value {
+        Value::U64(number.into())
+    }
+}
+
+impl From<usize> for Value {
+    /// Rust has no `usize` of more than 64 bits.
+    fn from(number: usize) -> Value {
+        Value::U64(number as u64)
+    }
+}
+
 impl From<bool> for Value {
     fn from(flag: bool) -> Value {
         Value::Bool(flag)
@@ -33,19 +61,36 @@ impl From<i64> for Value {
     }
 }
 
+impl From<i32> for Value {
+    fn from(signed: i32) -> Value {
+        Value::I64(signed.into())
+    }
+}
+
+impl fmt::Display for Value {
+    fn fmt(&self, f: &mut fmt::Formatter<'_>) -> fmt::Result {
+        match self {
+            Value::U64(number) => number.fmt(f),
+            Value::Bool(flag) => flag.fmt(f),
+            Value::I64(signed) => signed.fmt(f),
+        }
+    }
+}
+
 impl Value {
     pub(crate) fn for_library(self) -> ffi::Attr {
         let none = ffi::Attr::default();
         match self {
-            Value::U64(number) => ffi::Attr { kind: 0, number, ..none },
-            Value::Bool(flag) => ffi::Attr { kind: 1, flag, ..none },
-            Value::I64(signed) => ffi::Attr { kind: 2, signed, ..none },
+            Value::U64(number) => ffi::Attr { kind: value::U64, number, ..none },
+            Value::Bool(flag) => ffi::Attr { kind: value::BOOL, flag, ..none },
+            Value::I64(signed) => ffi::Attr { kind: value::I64, signed, ..none },
         }
     }
 }
 
 /// A change of an attribute, by a value of its kind.
-#[derive(Clone, Copy, Debug, PartialEq, Eq)]
+#[derive(Clone, Copy, Debug, PartialEq, Eq, Hash)]
+#[non_exhaustive]
 pub enum Change {
     /// The value is added. Of a `bool` this is refused.
     Add(Value),
@@ -73,9 +118,9 @@ impl Change {
 
     pub(crate) fn for_library(self) -> (u32, ffi::Attr) {
         match self {
-            Change::Add(value) => (0, value.for_library()),
-            Change::Sub(value) => (1, value.for_library()),
-            Change::Set(value) => (2, value.for_library()),
+            Change::Add(value) => (change::ADD, value.for_library()),
+            Change::Sub(value) => (change::SUB, value.for_library()),
+            Change::Set(value) => (change::SET, value.for_library()),
         }
     }
 }
@@ -88,7 +133,7 @@ impl Change {
 /// let permits = Attr::new("permits", 2u64);
 /// let lag = Attr::new("lag", -5i64).with_unit("ms");
 /// ```
-#[derive(Clone, Debug, PartialEq, Eq)]
+#[derive(Clone, Debug, PartialEq, Eq, Hash)]
 pub struct Attr {
     pub(crate) name: Name,
     pub(crate) unit: Option<Name>,
@@ -107,9 +152,6 @@ impl Attr {
     }
 }
 
-/// How many attributes an item has at most.
-const MOST: usize = 6;
-
 /// The attributes of one item: at most 6, of different names.
 #[derive(Clone, Debug, Default)]
 pub(crate) struct Attrs(Vec<Attr>);
@@ -117,7 +159,7 @@ pub(crate) struct Attrs(Vec<Attr>);
 impl Attrs {
     /// Adds an attribute, where there is room for it and none has its name.
     pub(crate) fn add(&mut self, attr: Attr) {
-        if self.0.len() < MOST && self.0.iter().all(|other| other.name != attr.name) {
+        if self.0.len() < limit::ATTRIBUTES && self.0.iter().all(|other| other.name != attr.name) {
             self.0.push(attr);
         }
     }

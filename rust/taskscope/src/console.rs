@@ -1,8 +1,9 @@
 //! The console: it makes items, and publishes what became of them.
 
 use crate::book::{Book, Total};
+use crate::border::limit::LAST_NUMBER;
 use crate::fault::Fault;
-use crate::id::{id_of, NUMBERS};
+use crate::id::id_of;
 use crate::item::{Item, Lists};
 use crate::location::Location;
 use crate::op::OpBuilder;
@@ -17,7 +18,17 @@ use std::sync::{Arc, Mutex};
 use std::time::{Duration, Instant};
 
 /// How much a console keeps.
-#[derive(Clone, Debug)]
+///
+/// ```
+/// use std::time::Duration;
+/// use taskscope::{Console, Settings};
+///
+/// let settings = Settings::default().retention(Duration::from_secs(60)).capacity(4_096).times(false);
+/// let console = Console::open(settings);
+/// # drop(console);
+/// ```
+#[derive(Clone, Debug, PartialEq, Eq, Hash)]
+#[non_exhaustive]
 pub struct Settings {
     /// How many new items each of the 16 recorders holds until the next line: a thread's items all go to one recorder. What
     /// finds no room is counted as dropped.
@@ -34,6 +45,41 @@ impl Default for Settings {
     /// 65,536 new items, a retention of one hour, and histograms.
     fn default() -> Settings {
         Settings { capacity: 65_536, retention: Some(Duration::from_secs(3600)), times: true }
+    }
+}
+
+impl Settings {
+    /// How many new items each of the 16 recorders holds until the next line ([`capacity`](Settings#structfield.capacity)).
+    ///
+    /// ```
+    /// # use taskscope::Settings;
+    /// assert_eq!(Settings::default().capacity(4_096).capacity, 4_096);
+    /// ```
+    pub fn capacity(self, capacity: usize) -> Settings {
+        Settings { capacity, ..self }
+    }
+
+    /// How long after its close an item stays, and for good with `None` ([`retention`](Settings#structfield.retention)).
+    ///
+    /// ```
+    /// # use std::time::Duration;
+    /// # use taskscope::Settings;
+    /// let minute = Duration::from_secs(60);
+    /// assert_eq!(Settings::default().retention(minute).retention, Some(minute));
+    /// assert_eq!(Settings::default().retention(None).retention, None);
+    /// ```
+    pub fn retention(self, retention: impl Into<Option<Duration>>) -> Settings {
+        Settings { retention: retention.into(), ..self }
+    }
+
+    /// Whether a histogram is kept of how long each task's polls ran ([`times`](Settings#structfield.times)).
+    ///
+    /// ```
+    /// # use taskscope::Settings;
+    /// assert!(Settings::default().times && !Settings::default().times(false).times);
+    /// ```
+    pub fn times(self, times: bool) -> Settings {
+        Settings { times, ..self }
     }
 }
 
@@ -115,7 +161,7 @@ impl Inner {
         let mut shard = lock(&self.shards[number].0);
         let drawn = &mut shard.drawn[T::KIND as usize];
         let mut id = 0;
-        if *drawn < NUMBERS {
+        if *drawn < LAST_NUMBER {
             *drawn += 1;
             id = id_of(number + 1, *drawn);
         }
@@ -141,14 +187,22 @@ impl Inner {
         total
     }
 
-    fn line(&self, whole: bool) -> Result<Vec<u8>, Fault> {
+    fn publish(&self) -> Result<Vec<u8>, Fault> {
         let mut book = lock(&self.book);
         let dropped = self.take(&mut book);
-        if whole {
-            book.snapshot(dropped, || self.now(), self.retention)
-        } else {
-            book.publish(dropped, || self.now(), self.retention)
-        }
+        book.publish(dropped, || self.now(), self.retention)
+    }
+
+    fn publish_changes(&self) -> Result<Option<Vec<u8>>, Fault> {
+        let mut book = lock(&self.book);
+        let dropped = self.take(&mut book);
+        book.publish_changes(dropped, || self.now(), self.retention)
+    }
+
+    fn snapshot(&self) -> Result<Vec<u8>, Fault> {
+        let mut book = lock(&self.book);
+        let dropped = self.take(&mut book);
+        book.snapshot(dropped, || self.now(), self.retention)
     }
 }
 
@@ -158,7 +212,7 @@ impl Inner {
 /// use taskscope::{Console, Settings};
 ///
 /// let console = Console::open(Settings::default());
-/// let task = console.inspect("fetch", async { 7 });
+/// let task = console.instrument("fetch", async { 7 });
 /// // Hand `task` to an executor, and write what `publish` gives to a file or a socket from time to time.
 /// let line = console.publish()?;
 /// assert!(line.starts_with(b"{") && line.ends_with(b"}\n"));
@@ -192,7 +246,7 @@ impl Console {
 
     /// Begins a task of this name, made where this is called.
     ///
-    /// [`inspect`](Console::inspect) and [`blocking`](Console::blocking) make the task of a future or a call. This is for who
+    /// [`instrument`](Console::instrument) and [`blocking`](Console::blocking) make the task of a future or a call. This is for who
     /// starts and ends polls by hand.
     ///
     /// ```
@@ -211,13 +265,13 @@ impl Console {
         TaskBuilder::new(self, name.into(), Location::caller())
     }
 
-    /// Begins a resource of this type and kind, made where this is called.
+    /// Begins a resource of this type, made where this is called. [`ResourceBuilder::kind`] says its kind.
     ///
     /// ```
     /// use taskscope::{Attr, Change, Console, Settings};
     ///
     /// let console = Console::open(Settings::default());
-    /// let semaphore = console.resource("Semaphore", "Sync").attr(Attr::new("permits", 2u64)).open();
+    /// let semaphore = console.resource("Semaphore").kind("Sync").attr(Attr::new("permits", 2u64)).open();
     /// semaphore.change("permits", Change::sub(1u64))?;
     /// let mut acquire = console.op(&semaphore, "Semaphore::acquire").open();
     /// acquire.start_poll()?;
@@ -225,12 +279,8 @@ impl Console {
     /// # Ok::<(), taskscope::Refused>(())
     /// ```
     #[track_caller]
-    pub fn resource(
-        &self,
-        concrete: impl Into<Cow<'static, str>>,
-        kind: impl Into<Cow<'static, str>>,
-    ) -> ResourceBuilder<'_> {
-        ResourceBuilder::new(self, concrete.into(), kind.into(), Location::caller())
+    pub fn resource(&self, concrete: impl Into<Cow<'static, str>>) -> ResourceBuilder<'_> {
+        ResourceBuilder::new(self, concrete.into(), Location::caller())
     }
 
     /// Begins an async operation on a resource, by the call that makes it, as `Semaphore::acquire`.
@@ -249,7 +299,30 @@ impl Console {
     /// [`LinesSpent`](Fault::LinesSpent) after 2^63 lines. The others don't come while this crate and its library fit each
     /// other. Where a line was made and the one about what leaves was not, this is no error, and these items leave later.
     pub fn publish(&self) -> Result<Vec<u8>, Fault> {
-        self.0.line(false)
+        self.0.publish()
+    }
+
+    /// As [`publish`](Console::publish), or `None` where nothing changed since the line before: nothing is new, nothing leaves,
+    /// and no more was dropped. The next line then follows on the one before, and tells the time until its own moment.
+    ///
+    /// A program whose tasks rest so writes nothing. Its reader then can't tell it from one that is gone, so write a line of
+    /// `publish` now and then, as [`Publisher`](crate::Publisher) does each second.
+    ///
+    /// ```
+    /// use taskscope::{Console, Settings};
+    ///
+    /// let console = Console::open(Settings::default());
+    /// let task = console.task("fetch").open();
+    /// assert!(console.publish_changes()?.is_some());
+    /// assert!(console.publish_changes()?.is_none());
+    /// # drop(task);
+    /// # Ok::<(), taskscope::Fault>(())
+    /// ```
+    ///
+    /// # Errors
+    /// As of [`publish`](Console::publish).
+    pub fn publish_changes(&self) -> Result<Option<Vec<u8>>, Fault> {
+        self.0.publish_changes()
     }
 
     /// The next line of the stream, as one that tells all, from which a new reader can begin. Nothing leaves with it.
@@ -257,7 +330,7 @@ impl Console {
     /// # Errors
     /// As of [`publish`](Console::publish).
     pub fn snapshot(&self) -> Result<Vec<u8>, Fault> {
-        self.0.line(true)
+        self.0.snapshot()
     }
 }
 

@@ -1,9 +1,7 @@
 //! The ids of items.
 
+use crate::border::limit::LAST_NUMBER;
 use std::fmt;
-
-/// How many numbers a recorder gives to items of one kind.
-pub(crate) const NUMBERS: u64 = (1 << 40) - 1;
 
 /// The id of the item with this number, of a recorder from 1 to 64.
 pub(crate) fn id_of(recorder: usize, number: u64) -> u64 {
@@ -11,7 +9,7 @@ pub(crate) fn id_of(recorder: usize, number: u64) -> u64 {
 }
 
 pub(crate) fn print(id: u64, f: &mut fmt::Formatter<'_>) -> fmt::Result {
-    write!(f, "{}.{}", id >> 40, id & NUMBERS)
+    write!(f, "{}.{}", id >> 40, id & LAST_NUMBER)
 }
 
 /// The id of a task. It is printed as reports print it: its recorder, a full stop, and its number, as `1.12`.
@@ -62,5 +60,23 @@ impl fmt::Display for ResourceId {
 impl fmt::Display for OpId {
     fn fmt(&self, f: &mut fmt::Formatter<'_>) -> fmt::Result {
         print(self.0, f)
+    }
+}
+
+impl From<TaskId> for u64 {
+    fn from(id: TaskId) -> u64 {
+        id.0
+    }
+}
+
+impl From<ResourceId> for u64 {
+    fn from(id: ResourceId) -> u64 {
+        id.0
+    }
+}
+
+impl From<OpId> for u64 {
+    fn from(id: OpId) -> u64 {
+        id.0
     }
 }

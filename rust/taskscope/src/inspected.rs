@@ -262,8 +262,22 @@ impl<F: Future> Future for InspectedOp<F> {
 
 impl Task {
     /// The future, whose polls and wakers are recorded as those of this task.
-    pub fn inspect<F>(self, future: F) -> Inspected<F> {
+    ///
+    /// ```
+    /// # use taskscope::{Console, Location, Settings};
+    /// # let console = Console::open(Settings::default());
+    /// let task = console.task("fetch").location(Location::new("jobs.toml", 3, 1)).open();
+    /// let future = task.instrument(async { 7 });
+    /// # drop(future);
+    /// ```
+    pub fn instrument<F>(self, future: F) -> Inspected<F> {
         Inspected { future, task: self, lent: None }
+    }
+
+    /// As [`instrument`](Task::instrument).
+    #[deprecated(note = "it is `instrument` now, as elsewhere")]
+    pub fn inspect<F>(self, future: F) -> Inspected<F> {
+        self.instrument(future)
     }
 
     /// The call, recorded as the one poll of this task.
@@ -279,24 +293,40 @@ impl Op {
     /// # use taskscope::{Console, Settings};
     /// # async fn acquire() {}
     /// # let console = Console::open(Settings::default());
-    /// # let semaphore = console.resource("Semaphore", "Sync").open();
-    /// let task = console.inspect("worker", {
+    /// # let semaphore = console.resource("Semaphore").kind("Sync").open();
+    /// let task = console.instrument("worker", {
     ///     let console = console.clone();
-    ///     async move { console.op(&semaphore, "Semaphore::acquire").open().inspect(acquire()).await }
+    ///     async move { console.op(&semaphore, "Semaphore::acquire").open().instrument(acquire()).await }
     /// });
     /// # drop(task);
     /// ```
-    pub fn inspect<F>(self, future: F) -> InspectedOp<F> {
+    pub fn instrument<F>(self, future: F) -> InspectedOp<F> {
         InspectedOp { future, op: self, task: None }
+    }
+
+    /// As [`instrument`](Op::instrument).
+    #[deprecated(note = "it is `instrument` now, as elsewhere")]
+    pub fn inspect<F>(self, future: F) -> InspectedOp<F> {
+        self.instrument(future)
     }
 }
 
 impl Console {
     /// The future as a new task of this name, made where this is called. Hand it to an executor:
-    /// `tokio::spawn(console.inspect("fetch", future))`.
+    /// `tokio::spawn(console.instrument("fetch", future))`. [`InstrumentExt`] has the same as a method of the future.
+    ///
+    /// If a file has the trait `Instrument` of `tracing` in scope, write `Console::instrument(&console, "fetch", future)`: that
+    /// trait gives every type a method of this name.
+    #[track_caller]
+    pub fn instrument<F: Future>(&self, name: impl Into<Cow<'static, str>>, future: F) -> Inspected<F> {
+        self.task(name).open().instrument(future)
+    }
+
+    /// As [`instrument`](Console::instrument).
+    #[deprecated(note = "it is `instrument` now, as elsewhere")]
     #[track_caller]
     pub fn inspect<F: Future>(&self, name: impl Into<Cow<'static, str>>, future: F) -> Inspected<F> {
-        self.task(name).open().inspect(future)
+        self.instrument(name, future)
     }
 
     /// Hands the future, as a new task of this name, to `spawn`: `console.spawn("fetch", tokio::spawn, future)`.
@@ -315,7 +345,7 @@ impl Console {
         spawn: impl FnOnce(Inspected<F>) -> T,
         future: F,
     ) -> T {
-        spawn(self.inspect(name, future))
+        spawn(self.instrument(name, future))
     }
 
     /// The call as a new blocking task of this name, made where this is called.
@@ -332,3 +362,25 @@ impl Console {
         self.task(name).kind(TaskKind::Blocking).open().blocking(call)
     }
 }
+
+/// Futures become inspected tasks by a method of their own.
+///
+/// ```
+/// use taskscope::{Console, InstrumentExt, Settings};
+///
+/// let console = Console::open(Settings::default());
+/// let fetch = async { 7 }.instrument(&console, "fetch");
+/// # drop(fetch);
+/// ```
+///
+/// If a file has the trait `Instrument` of `tracing` in scope too, the compiler finds two methods of one name. Name the one that you
+/// mean: `Console::instrument(&console, "fetch", future)`.
+pub trait InstrumentExt: Future + Sized {
+    /// The future as a new task of this name, made where this is called, as [`Console::instrument`] makes it.
+    #[track_caller]
+    fn instrument(self, console: &Console, name: impl Into<Cow<'static, str>>) -> Inspected<Self> {
+        console.instrument(name, self)
+    }
+}
+
+impl<F: Future> InstrumentExt for F {}

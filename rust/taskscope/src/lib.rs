@@ -5,8 +5,8 @@
 //! view` shows such lines as a report, and `taskscope lint` the warnings about them.
 //!
 //! - [`Console`] makes items and publishes lines, by its [`Settings`]. [`Publisher`] does so each so often, on a thread.
-//! - [`Inspected`] is a future whose polls and wakers are recorded, [`Blocking`] a call that blocks its thread, and
-//!   [`InspectedOp`] a future that is an async operation. Most programs need no more.
+//! - [`Inspected`] is a future whose polls and wakers are recorded, which [`InstrumentExt`] makes of any; [`Blocking`] is a call
+//!   that blocks its thread, and [`InspectedOp`] a future that is an async operation. Most programs need no more.
 //! - [`Task`] is the owner of a task, for polls by hand, [`TaskWaker`] one of its wakers. [`Resource`] is what tasks wait for,
 //!   and [`Op`] one wait. [`TaskBuilder`], [`ResourceBuilder`] and [`OpBuilder`] make them. [`SharedTask`] is a task for who
 //!   learns of its polls and wakers by events.
@@ -64,6 +64,7 @@
 
 mod attr;
 mod book;
+mod border;
 mod console;
 mod fault;
 mod ffi;
@@ -87,7 +88,7 @@ pub use attr::{Attr, Change, Value};
 pub use console::{Console, Settings};
 pub use fault::{BadItem, Fault};
 pub use id::{OpId, ResourceId, TaskId};
-pub use inspected::{Blocking, Inspected, InspectedOp};
+pub use inspected::{Blocking, Inspected, InspectedOp, InstrumentExt};
 pub use item::ItemKind;
 pub use location::Location;
 pub use op::{Op, OpBuilder};

@@ -1,6 +1,7 @@
 //! The entries of one line, and the library's call that makes it.
 
 use crate::attr::Attrs;
+use crate::border::status;
 use crate::fault::{BadItem, Fault};
 use crate::ffi::{self, Answer, AttrEntry, CountEntry, Head, OpEntry, Piece, ResourceEntry, TaskEntry, TimesEntry};
 use crate::item::ItemKind;
@@ -33,6 +34,12 @@ impl Page {
     /// So many entries of the kind, the first of its list, were told by the lines before.
     pub(crate) fn set_told(&mut self, kind: ItemKind, count: usize) {
         self.told[kind as usize] = count;
+    }
+
+    /// Whether a line would list nothing.
+    pub(crate) fn is_empty(&self) -> bool {
+        // Histograms are those of the tasks.
+        self.tasks.is_empty() && self.resources.is_empty() && self.ops.is_empty() && self.counts.is_empty()
     }
 
     fn piece_of(&mut self, start: usize, end: usize) -> Piece {
@@ -92,11 +99,11 @@ impl Page {
         loop {
             let answer = write(&mut line);
             match answer.status {
-                0 => {
+                status::WRITTEN => {
                     line.truncate(answer.len);
                     return Ok(line);
                 }
-                1 if answer.len > line.len() => line.resize(answer.len, 0),
+                status::NO_ROOM if answer.len > line.len() => line.resize(answer.len, 0),
                 _ => return Err(self.fault(&answer)),
             }
         }
@@ -106,13 +113,13 @@ impl Page {
     fn fault(&self, answer: &Answer) -> Fault {
         let place = answer.place;
         let item = match answer.status {
-            2 => return Fault::Memory,
-            3 => return Fault::LinesSpent,
-            5 => self.tasks.get(place).map(|entry| (ItemKind::Task, entry.id)),
-            6 => self.resources.get(place).map(|entry| (ItemKind::Resource, entry.id)),
-            7 => self.ops.get(place).map(|entry| (ItemKind::Op, entry.id)),
-            8 => self.counts.get(place).map(|entry| (ItemKind::PollCounts, entry.resource)),
-            9 => self.times.get(place).map(|entry| (ItemKind::Task, entry.task)),
+            status::MEMORY => return Fault::Memory,
+            status::NO_NUMBER => return Fault::LinesSpent,
+            status::BAD_TASK => self.tasks.get(place).map(|entry| (ItemKind::Task, entry.id)),
+            status::BAD_RESOURCE => self.resources.get(place).map(|entry| (ItemKind::Resource, entry.id)),
+            status::BAD_OP => self.ops.get(place).map(|entry| (ItemKind::Op, entry.id)),
+            status::BAD_COUNT => self.counts.get(place).map(|entry| (ItemKind::PollCounts, entry.resource)),
+            status::BAD_TIMES => self.times.get(place).map(|entry| (ItemKind::Task, entry.task)),
             _ => None,
         };
         match (item, BadItem::from_number(answer.reason)) {

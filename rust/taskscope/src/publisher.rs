@@ -2,15 +2,56 @@
 
 use crate::console::Console;
 use crate::fault::Fault;
+use crate::row::lock;
 use std::fmt;
 use std::io::{self, Write};
 use std::panic::resume_unwind;
 use std::sync::atomic::{AtomicBool, Ordering};
-use std::sync::Arc;
+use std::sync::{Arc, Condvar, Mutex};
 use std::thread::{self, JoinHandle};
 use std::time::{Duration, Instant};
 
-/// A thread that writes a console's lines to a writer, one each so often, and a last one when it is stopped.
+/// How long a stop and a drop wait for the last line.
+const LAST_WAIT: Duration = Duration::from_secs(2);
+
+/// How long no line is written at most while nothing changes.
+const SIGN_OF_LIFE: Duration = Duration::from_secs(1);
+
+/// What the publishing thread and the one that stops it tell each other. The flags are atomic, and so the lock holds nothing: it
+/// is what the condition variable asks for.
+#[derive(Debug, Default)]
+struct Control {
+    is_stopped: AtomicBool,
+    has_ended: AtomicBool,
+    waits: Mutex<()>,
+    changed: Condvar,
+}
+
+impl Control {
+    fn raise(&self, flag: &AtomicBool) {
+        let _waits = lock(&self.waits);
+        flag.store(true, Ordering::SeqCst);
+        self.changed.notify_all();
+    }
+
+    /// Waits for a span, or until the flag is raised.
+    fn wait(&self, flag: &AtomicBool, span: Duration) {
+        let waits = lock(&self.waits);
+        let _ = self.changed.wait_timeout_while(waits, span, |()| !flag.load(Ordering::SeqCst));
+    }
+}
+
+/// Says that the thread has ended, also by a panic.
+struct Ends(Arc<Control>);
+
+impl Drop for Ends {
+    fn drop(&mut self) {
+        self.0.raise(&self.0.has_ended);
+    }
+}
+
+/// A thread that writes a console's lines to a writer, one each so often, and a last one when it is stopped. While nothing
+/// changes it writes one in a second, as a sign of life.
 ///
 /// ```
 /// use std::time::Duration;
@@ -18,44 +59,57 @@ use std::time::{Duration, Instant};
 ///
 /// let console = Console::open(Settings::default());
 /// let publisher = Publisher::start(&console, Duration::from_millis(100), Vec::new())?;
-/// let task = console.inspect("fetch", async { 7 });
+/// let task = console.instrument("fetch", async { 7 });
 /// // Here the program runs.
 /// # drop(task);
 /// let stream: Vec<u8> = publisher.stop()?;
 /// assert!(stream.ends_with(b"}\n"));
 /// # Ok::<(), std::io::Error>(())
 /// ```
+///
+/// # A writer that doesn't go on
+///
+/// A write may never return, as one to a pipe whose reader has stopped reading. So [`stop`](Publisher::stop) and the drop wait 2
+/// seconds at most for the last line. Then the thread is left to itself: it holds the writer, its part of the line, and a clone of the
+/// console, until the write returns. If that happens, it writes the rest and a last line, drops the writer, and ends.
 pub struct Publisher<W> {
-    stop: Arc<AtomicBool>,
-    // None once it was joined.
+    control: Arc<Control>,
+    // None once it was joined, or left to itself.
     thread: Option<JoinHandle<io::Result<W>>>,
 }
 
 impl<W: Write + Send + 'static> Publisher<W> {
-    /// Starts the thread, whose first line comes at once.
+    /// Starts the thread, whose first line comes at once, and the others each `every`. With [`Duration::MAX`] there is only the
+    /// first line and the last.
     ///
     /// It ends by itself at the first error of the writer. Want of memory for a line doesn't end it, as the next line tells
     /// what that one would have told.
     ///
     /// # Errors
-    /// Where the thread can't be started.
+    /// [`InvalidInput`](io::ErrorKind::InvalidInput) for an interval of 0, by which the thread would write without a pause. Else the
+    /// system's error where the thread can't be started. The writer is gone then.
     pub fn start(console: &Console, every: Duration, writer: W) -> io::Result<Publisher<W>> {
-        let stop = Arc::new(AtomicBool::new(false));
-        let (console, stopped) = (console.clone(), Arc::clone(&stop));
+        if every.is_zero() {
+            return Err(io::Error::new(io::ErrorKind::InvalidInput, "the interval from one line to the next is 0"));
+        }
+        let control = Arc::<Control>::default();
+        let ends = Ends(Arc::clone(&control));
+        let console = console.clone();
         let thread = thread::Builder::new()
             .name("taskscope".into())
-            .spawn(move || publish_until(&stopped, &console, every, writer))?;
-        Ok(Publisher { stop, thread: Some(thread) })
+            .spawn(move || publish_until_stopped(&ends.0, &console, every, writer))?;
+        Ok(Publisher { control, thread: Some(thread) })
     }
 }
 
 impl<W> Publisher<W> {
     /// Stops the thread, which writes a last line that tells of every call that returned before this one, and gives the writer
-    /// back.
+    /// back. It waits 2 seconds at most.
     ///
     /// # Errors
     /// The error that ended the thread: the writer's, or a [`Fault`] of the console, which stands in an
-    /// [`io::Error`] of kind [`Other`](io::ErrorKind::Other). The writer is gone then.
+    /// [`io::Error`] of kind [`Other`](io::ErrorKind::Other). The writer is gone then. [`TimedOut`](io::ErrorKind::TimedOut) where the
+    /// writer didn't take the last line in time: [the thread has it](Publisher#a-writer-that-doesnt-go-on).
     ///
     /// # Panics
     /// Where the writer did.
@@ -63,15 +117,16 @@ impl<W> Publisher<W> {
         match self.join() {
             Some(Ok(outcome)) => outcome,
             Some(Err(panic)) => resume_unwind(panic),
-            None => unreachable!("a publisher is joined by `stop` or by `drop`"),
+            None => Err(io::Error::new(io::ErrorKind::TimedOut, "the last line was not written within 2 seconds")),
         }
     }
 
+    /// How the thread ended. Nothing where it did not in time, or was joined before.
     fn join(&mut self) -> Option<thread::Result<io::Result<W>>> {
         let thread = self.thread.take()?;
-        self.stop.store(true, Ordering::SeqCst);
-        thread.thread().unpark();
-        Some(thread.join())
+        self.control.raise(&self.control.is_stopped);
+        self.control.wait(&self.control.has_ended, LAST_WAIT);
+        self.control.has_ended.load(Ordering::SeqCst).then(|| thread.join())
     }
 }
 
@@ -88,32 +143,31 @@ impl<W> fmt::Debug for Publisher<W> {
     }
 }
 
-fn publish_until<W: Write>(stop: &AtomicBool, console: &Console, every: Duration, mut writer: W) -> io::Result<W> {
+fn publish_until_stopped<W: Write>(
+    control: &Control,
+    console: &Console,
+    every: Duration,
+    mut writer: W,
+) -> io::Result<W> {
+    let mut written = None;
     loop {
         // Read before the line is made, so that the last line is made after `stop` was called.
-        let is_last = stop.load(Ordering::SeqCst);
-        match console.publish() {
-            Ok(line) => {
-                writer.write_all(&line)?;
+        let is_last = control.is_stopped.load(Ordering::SeqCst);
+        let is_due = is_last || written.map_or(true, |at: Instant| at.elapsed() >= SIGN_OF_LIFE);
+        let lines = if is_due { console.publish().map(Some) } else { console.publish_changes() };
+        match lines {
+            Ok(Some(lines)) => {
+                writer.write_all(&lines)?;
                 writer.flush()?;
+                written = Some(Instant::now());
             }
+            Ok(None) => {}
             Err(Fault::Memory) if !is_last => {}
             Err(fault) => return Err(io::Error::new(io::ErrorKind::Other, fault)),
         }
         if is_last {
             return Ok(writer);
         }
-        wait(stop, every);
-    }
-}
-
-/// Waits for a span, or until `stop` is set.
-fn wait(stop: &AtomicBool, span: Duration) {
-    let started = Instant::now();
-    while !stop.load(Ordering::SeqCst) {
-        match span.checked_sub(started.elapsed()) {
-            Some(rest) if !rest.is_zero() => thread::park_timeout(rest),
-            _ => return,
-        }
+        control.wait(&control.is_stopped, every);
     }
 }

@@ -76,6 +76,9 @@ impl Item for ResourceCell {
     }
 }
 
+/// The kind of a resource of which none was said.
+const OTHER: &str = "Other";
+
 /// A resource that is about to be made: [`Console::resource`] begins it, and [`open`](ResourceBuilder::open) makes it.
 #[derive(Debug)]
 #[must_use = "no resource is made before `open`"]
@@ -89,14 +92,21 @@ pub struct ResourceBuilder<'a> {
 }
 
 impl<'a> ResourceBuilder<'a> {
-    pub(crate) fn new(
-        console: &'a Console,
-        concrete: Cow<'static, str>,
-        kind: Cow<'static, str>,
-        location: Location,
-    ) -> ResourceBuilder<'a> {
-        let (concrete, kind) = (Name::new(concrete), Name::new(kind));
+    pub(crate) fn new(console: &'a Console, concrete: Cow<'static, str>, location: Location) -> ResourceBuilder<'a> {
+        let (concrete, kind) = (Name::new(concrete), Name::new(Cow::Borrowed(OTHER)));
         ResourceBuilder { console, parent: 0, concrete, kind, location, attrs: Attrs::default() }
+    }
+
+    /// What kind of resource it is, as `Sync` or `Timer`: without this it is `Other`.
+    ///
+    /// ```
+    /// # use taskscope::{Console, Settings};
+    /// # let console = Console::open(Settings::default());
+    /// let timer = console.resource("Sleep").kind("Timer").open();
+    /// # drop(timer);
+    /// ```
+    pub fn kind(self, kind: impl Into<Cow<'static, str>>) -> ResourceBuilder<'a> {
+        ResourceBuilder { kind: Name::new(kind.into()), ..self }
     }
 
     /// The resource is a part of this one.

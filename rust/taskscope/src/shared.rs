@@ -1,5 +1,6 @@
 //! Tasks whose polls and wakers are known by events alone.
 
+use crate::border::{flag, word};
 use crate::ffi::{self, Words};
 use crate::id::TaskId;
 use crate::refused::{done, Refused, Woken};
@@ -7,12 +8,12 @@ use crate::task::{Origin, Task, TaskWords};
 
 /// Whether the task waits for a poll, by the flags of its row.
 fn is_scheduled(words: &Words) -> bool {
-    words[0] & 64 != 0
+    words[word::FLAGS] & flag::SCHEDULED != 0
 }
 
 /// Whether a waker is out: more were cloned than dropped.
 fn has_waker(words: &Words) -> bool {
-    words[11] > words[12]
+    words[word::CLONES] > words[word::DROPS]
 }
 
 /// A task for who learns of its polls and wakers by events, as a layer of `tracing` does: threads share it, and a waker has no

@@ -1,5 +1,6 @@
 //! Tasks, and their wakers.
 
+use crate::border::kind;
 use crate::console::{Console, Inner};
 use crate::ffi::{self, TaskEntry, TimesEntry, Words};
 use crate::id::TaskId;
@@ -13,22 +14,51 @@ use std::borrow::Cow;
 use std::fmt;
 use std::sync::Arc;
 
-/// How a task runs.
-#[derive(Clone, Copy, Debug, PartialEq, Eq)]
+/// How a task runs. It is displayed as the stream has it: `spawn` or `blocking`.
+#[derive(Clone, Copy, Debug, Default, PartialEq, Eq, PartialOrd, Ord, Hash)]
+#[non_exhaustive]
 pub enum TaskKind {
     /// It is polled, as what an executor spawns.
+    #[default]
     Spawn,
     /// It is a call that blocks its thread, with one poll.
     Blocking,
 }
 
-/// Where a wake comes from.
-#[derive(Clone, Copy, Debug, PartialEq, Eq)]
+impl TaskKind {
+    fn for_library(self) -> u32 {
+        match self {
+            TaskKind::Spawn => kind::SPAWN,
+            TaskKind::Blocking => kind::BLOCKING,
+        }
+    }
+}
+
+impl fmt::Display for TaskKind {
+    fn fmt(&self, f: &mut fmt::Formatter<'_>) -> fmt::Result {
+        f.write_str(match self {
+            TaskKind::Spawn => "spawn",
+            TaskKind::Blocking => "blocking",
+        })
+    }
+}
+
+/// Where a wake comes from. It is displayed as `inside` or `outside`.
+#[derive(Clone, Copy, Debug, PartialEq, Eq, PartialOrd, Ord, Hash)]
 pub enum Origin {
     /// From within a poll of the task itself: a self-wake.
     Inside,
     /// From anywhere else.
     Outside,
+}
+
+impl fmt::Display for Origin {
+    fn fmt(&self, f: &mut fmt::Formatter<'_>) -> fmt::Result {
+        f.write_str(match self {
+            Origin::Inside => "inside",
+            Origin::Outside => "outside",
+        })
+    }
 }
 
 /// The words of a task: those of its row, and beside it those of the histogram of its poll times, all 0 where none is kept.
@@ -93,10 +123,7 @@ impl Item for TaskCell {
             file: page.piece(&self.location.file),
             line: self.location.line,
             column: self.location.column,
-            kind: match self.kind {
-                TaskKind::Spawn => 0,
-                TaskKind::Blocking => 1,
-            },
+            kind: self.kind.for_library(),
         };
         page.tasks.push(entry);
         if page.tells_times {

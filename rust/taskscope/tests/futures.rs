@@ -16,7 +16,7 @@ use taskscope::{Console, Origin, Settings, Woken};
 fn a_wake_within_the_poll_is_a_self_wake() {
     let console = Console::open(Settings::default());
     let mut polls = 0;
-    let mut future = Box::pin(console.inspect(
+    let mut future = Box::pin(console.instrument(
         "wakes itself",
         Calls(|cx: &mut Context<'_>| {
             polls += 1;
@@ -42,7 +42,7 @@ fn the_waker_of_two_polls_is_the_same_while_the_executors_is() {
     let console = Console::open(Settings::default());
     let kept: Arc<Mutex<Option<Waker>>> = Arc::default();
     let same = Arc::new(Mutex::new(Vec::new()));
-    let mut future = Box::pin(console.inspect("keeps its waker", {
+    let mut future = Box::pin(console.instrument("keeps its waker", {
         let (kept, same) = (Arc::clone(&kept), Arc::clone(&same));
         Calls(move |cx: &mut Context<'_>| {
             let mut kept = kept.lock().unwrap();
@@ -65,8 +65,9 @@ fn the_waker_of_two_polls_is_the_same_while_the_executors_is() {
 #[test]
 fn a_poll_that_panics_has_ended() {
     let console = Console::open(Settings::default());
-    let mut future =
-        Box::pin(console.inspect("panics", Calls(|_: &mut Context<'_>| -> Poll<()> { panic!("as the test wants") })));
+    let mut future = Box::pin(
+        console.instrument("panics", Calls(|_: &mut Context<'_>| -> Poll<()> { panic!("as the test wants") })),
+    );
     let id = future.id().value();
     let waker = noop();
     let poll = catch_unwind(AssertUnwindSafe(|| future.as_mut().poll(&mut Context::from_waker(&waker))));
@@ -75,7 +76,7 @@ fn a_poll_that_panics_has_ended() {
     let row = task(&told, id);
     assert_eq!((value(row, "polling"), number(row, "polls"), value(row, "dropped")), ("false", 1, "null"));
     // The thread polls the task no more, so this is no self-wake.
-    let mut other = Box::pin(console.inspect(
+    let mut other = Box::pin(console.instrument(
         "other",
         Calls(|cx: &mut Context<'_>| {
             cx.waker().wake_by_ref();
@@ -92,9 +93,9 @@ fn a_poll_that_panics_has_ended() {
 #[test]
 fn a_poll_of_an_operation_that_panics_has_ended_and_is_not_counted() {
     let console = Console::open(Settings::default());
-    let resource = console.resource("Semaphore", "Sync").open();
+    let resource = console.resource("Semaphore").kind("Sync").open();
     let op = console.op(&resource, "acquire").open();
-    let mut wait = Box::pin(op.inspect(Calls(|_: &mut Context<'_>| -> Poll<()> { panic!("as the test wants") })));
+    let mut wait = Box::pin(op.instrument(Calls(|_: &mut Context<'_>| -> Poll<()> { panic!("as the test wants") })));
     let waker = noop();
     let poll = catch_unwind(AssertUnwindSafe(|| wait.as_mut().poll(&mut Context::from_waker(&waker))));
     assert!(poll.is_err());
@@ -107,9 +108,9 @@ fn a_poll_of_an_operation_that_panics_has_ended_and_is_not_counted() {
 #[test]
 fn an_operation_is_of_the_task_that_polls_it() {
     let console = Console::open(Settings::default());
-    let resource = console.resource("Semaphore", "Sync").open();
+    let resource = console.resource("Semaphore").kind("Sync").open();
     let mut polls = 0;
-    let wait = console.op(&resource, "acquire").open().inspect(Calls(move |_: &mut Context<'_>| {
+    let wait = console.op(&resource, "acquire").open().instrument(Calls(move |_: &mut Context<'_>| {
         polls += 1;
         if polls < 3 {
             Poll::Pending
@@ -117,7 +118,7 @@ fn an_operation_is_of_the_task_that_polls_it() {
             Poll::Ready(())
         }
     }));
-    let mut future = Box::pin(console.inspect("waits", wait));
+    let mut future = Box::pin(console.instrument("waits", wait));
     let waker = noop();
     while future.as_mut().poll(&mut Context::from_waker(&waker)).is_pending() {}
     let told = publish(&console);
@@ -129,7 +130,7 @@ fn an_operation_is_of_the_task_that_polls_it() {
 #[test]
 fn a_future_within_another_is_a_task_of_its_own() {
     let console = Console::open(Settings::default());
-    let inner = console.inspect(
+    let inner = console.instrument(
         "inner",
         Calls(|cx: &mut Context<'_>| {
             cx.waker().wake_by_ref();
@@ -138,7 +139,7 @@ fn a_future_within_another_is_a_task_of_its_own() {
     );
     let inner_id = inner.id().value();
     let mut inner = Box::pin(inner);
-    let mut outer = Box::pin(console.inspect(
+    let mut outer = Box::pin(console.instrument(
         "outer",
         Calls(move |cx: &mut Context<'_>| {
             let _ = inner.as_mut().poll(cx);
@@ -160,7 +161,7 @@ fn tasks_of_two_consoles_are_not_taken_for_each_other() {
     let stranger = other.task("stranger").open();
     let kept: Arc<Mutex<Option<Waker>>> = Arc::default();
     let slot = Arc::clone(&kept);
-    let mut keeps = Box::pin(other.inspect(
+    let mut keeps = Box::pin(other.instrument(
         "keeps its waker",
         Calls(move |cx: &mut Context<'_>| {
             *slot.lock().unwrap() = Some(cx.waker().clone());
@@ -168,13 +169,14 @@ fn tasks_of_two_consoles_are_not_taken_for_each_other() {
         }),
     ));
     assert!(keeps.as_mut().poll(&mut Context::from_waker(&noop())).is_pending());
-    let resource = other.resource("Semaphore", "Sync").open();
-    let mut wait = Box::pin(other.op(&resource, "acquire").open().inspect(Calls(|_: &mut Context<'_>| Poll::Pending)));
+    let resource = other.resource("Semaphore").kind("Sync").open();
+    let mut wait =
+        Box::pin(other.op(&resource, "acquire").open().instrument(Calls(|_: &mut Context<'_>| Poll::Pending)));
     // `one`'s tasks have the ids of `other`'s, if this thread draws both from the same recorder.
     let same_ids: Vec<_> = (0..2)
         .map(|_| {
             let (waker, wait) = (kept.lock().unwrap().clone().expect("the waker"), &mut wait);
-            let mut future = Box::pin(one.inspect(
+            let mut future = Box::pin(one.instrument(
                 "wakes the other",
                 Calls(move |cx: &mut Context<'_>| {
                     waker.wake_by_ref();
@@ -211,10 +213,10 @@ fn a_blocking_call_is_one_poll() {
 
 #[test]
 fn what_finds_no_room_is_counted_and_works() {
-    let console = Console::open(Settings { capacity: 1, ..Settings::default() });
+    let console = Console::open(Settings::default().capacity(1));
     let kept = console.task("kept").open();
     let mut dropped = console.task("dropped").open();
-    let resources = ["first", "second"].map(|name| console.resource(name, "Sync").open());
+    let resources = ["first", "second"].map(|name| console.resource(name).kind("Sync").open());
     let ops = ["first", "second", "third"].map(|name| console.op(&resources[0], name).open());
     ops[0].count_poll(true);
     assert_eq!(dropped.start_poll(), Ok(()));
@@ -264,7 +266,7 @@ fn a_wake_stands_before_the_poll_to_which_it_leads() {
     let console = Console::open(Settings::default());
     let kept: Arc<Mutex<Option<Waker>>> = Arc::default();
     let slot = Arc::clone(&kept);
-    let future = console.inspect(
+    let future = console.instrument(
         "polled at once",
         Calls(move |cx: &mut Context<'_>| {
             *slot.lock().unwrap() = Some(cx.waker().clone());

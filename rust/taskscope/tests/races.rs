@@ -36,10 +36,9 @@ fn call(console: &Console, waker: &std::task::Waker, by_hand: &TaskWaker, resour
 }
 
 fn main() {
-    let console =
-        Console::open(Settings { capacity: 300, retention: Some(Duration::from_micros(300)), ..Settings::default() });
+    let console = Console::open(Settings::default().capacity(300).retention(Duration::from_micros(300)));
     let (sender, wakers) = channel();
-    let mut future = Box::pin(console.inspect(
+    let mut future = Box::pin(console.instrument(
         "shared",
         Calls(move |cx: &mut Context<'_>| {
             sender.send(cx.waker().clone()).unwrap();
@@ -50,7 +49,7 @@ fn main() {
     assert!(future.as_mut().poll(&mut Context::from_waker(&noop())).is_pending());
     let waker = wakers.recv().unwrap();
     let task = console.task("by hand").open();
-    let resource = console.resource("Semaphore", "Sync").attr(Attr::new("calls", 0u64)).open();
+    let resource = console.resource("Semaphore").kind("Sync").attr(Attr::new("calls", 0u64)).open();
     let publisher = Publisher::start(&console, Duration::from_millis(1), Vec::new()).unwrap();
     let threads: Vec<JoinHandle<()>> = (0..THREADS)
         .map(|_| {

@@ -31,7 +31,7 @@ fn keep(test: &str, stream: &str) {
 fn keeps_its_waker(console: &Console) -> (std::pin::Pin<Box<dyn Future<Output = ()> + Send>>, TaskId, Waker) {
     let slot = Arc::new(Mutex::new(None));
     let kept = Arc::clone(&slot);
-    let future = console.inspect(
+    let future = console.instrument(
         "shared",
         Calls(move |cx: &mut Context<'_>| {
             *kept.lock().unwrap() = Some(cx.waker().clone());
@@ -94,13 +94,13 @@ fn wakes_of_one_task_from_many_threads_are_all_counted() {
 fn items_of_many_threads_are_all_told() {
     const EACH: u64 = 400;
     // They stay within the recorders' room, also where all threads have one recorder.
-    let console = Console::open(Settings { retention: None, ..Settings::default() });
+    let console = Console::open(Settings::default().retention(None));
     let publisher = Publisher::start(&console, Duration::from_millis(1), Vec::new()).expect("a thread");
     let polls = AtomicU64::new(0);
     thread::scope(|scope| {
         for _ in 0..THREADS {
             scope.spawn(|| {
-                let resource = console.resource("Semaphore", "Sync").open();
+                let resource = console.resource("Semaphore").kind("Sync").open();
                 for turn in 0..EACH {
                     let mut task = console.task("made").open();
                     let mut op = console.op(&resource, "acquire").open();
@@ -140,7 +140,7 @@ fn items_of_many_threads_are_all_told() {
 
 #[test]
 fn lines_of_threads_that_publish_at_once_are_one_stream() {
-    let console = Console::open(Settings { retention: Some(Duration::ZERO), ..Settings::default() });
+    let console = Console::open(Settings::default().retention(Duration::ZERO));
     let lines = Mutex::new(Vec::new());
     thread::scope(|scope| {
         for turn in 0..THREADS {
@@ -172,14 +172,14 @@ fn lines_of_threads_that_publish_at_once_are_one_stream() {
 
 #[test]
 fn no_line_tells_of_calls_on_what_left() {
-    let console = Console::open(Settings { retention: Some(Duration::ZERO), ..Settings::default() });
+    let console = Console::open(Settings::default().retention(Duration::ZERO));
     let threads = AtomicU64::new(THREADS / 2);
     let mut tables = Tables::default();
     thread::scope(|scope| {
         for _ in 0..THREADS / 2 {
             scope.spawn(|| {
                 for _ in 0..300 {
-                    let resource = console.resource("Semaphore", "Sync").open();
+                    let resource = console.resource("Semaphore").kind("Sync").open();
                     let mut op = console.op(&resource, "acquire").open();
                     let waker = console.task("closed").open().waker();
                     drop(resource);
