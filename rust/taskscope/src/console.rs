@@ -13,7 +13,7 @@ use crate::task::TaskBuilder;
 use std::borrow::Cow;
 use std::cell::Cell;
 use std::fmt;
-use std::sync::atomic::{AtomicUsize, Ordering};
+use std::sync::atomic::{AtomicBool, AtomicUsize, Ordering};
 use std::sync::{Arc, Mutex};
 use std::time::{Duration, Instant};
 
@@ -99,9 +99,28 @@ struct Shard {
 #[repr(align(128))]
 struct ShardLock(Mutex<Shard>);
 
+/// Whether a recorder was half full since the last line, and what is called when one is.
+#[derive(Default)]
+struct Filling {
+    is_filling: AtomicBool,
+    call: Mutex<Option<Arc<dyn Fn() + Send + Sync>>>,
+}
+
+impl Filling {
+    #[cold]
+    fn tell(&self) {
+        self.is_filling.store(true, Ordering::SeqCst);
+        let call = lock(&self.call).clone();
+        if let Some(call) = call {
+            call();
+        }
+    }
+}
+
 pub(crate) struct Inner {
     opened: Instant,
     capacity: usize,
+    filling: Filling,
     /// In nanoseconds.
     retention: Option<u64>,
     times: bool,
@@ -168,6 +187,11 @@ impl Inner {
         let cell = Arc::new(make(id));
         if id != 0 && shard.fresh.held() < self.capacity {
             T::list(&mut shard.fresh).push(Arc::clone(&cell));
+            let is_half_full = shard.fresh.held() == self.capacity - self.capacity / 2;
+            drop(shard);
+            if is_half_full {
+                self.filling.tell();
+            }
         } else {
             shard.dropped.add(T::KIND);
             drop(shard);
@@ -179,6 +203,8 @@ impl Inner {
     /// Moves what the shards list to the book, and sums up what was dropped.
     fn take(&self, book: &mut Book) -> Total {
         let mut total = Total::default();
+        // Before the recorders are emptied, so that none fills up from here on without a word.
+        self.filling.is_filling.store(false, Ordering::SeqCst);
         for shard in &self.shards {
             let shard = &mut *lock(&shard.0);
             total.add_all(&shard.dropped);
@@ -228,6 +254,7 @@ impl Console {
         Console(Arc::new(Inner {
             opened: Instant::now(),
             capacity: settings.capacity,
+            filling: Filling::default(),
             retention: settings.retention.map(nanoseconds),
             times: settings.times,
             shards: Default::default(),
@@ -242,6 +269,40 @@ impl Console {
     /// How many nanoseconds ago the console was opened: the moment that a call records now.
     pub fn now(&self) -> u64 {
         self.0.now()
+    }
+
+    /// Whether a recorder was half full since the last line, so that the next line should be made at once. Otherwise what is
+    /// new may find no room, and is counted as dropped.
+    ///
+    /// ```
+    /// use taskscope::{Console, Settings};
+    ///
+    /// let console = Console::open(Settings::default().capacity(4));
+    /// let one = console.task("one").open();
+    /// assert!(!console.is_filling());
+    /// let two = console.task("two").open();
+    /// assert!(console.is_filling());
+    /// console.publish()?;
+    /// assert!(!console.is_filling());
+    /// # drop((one, two));
+    /// # Ok::<(), taskscope::Fault>(())
+    /// ```
+    pub fn is_filling(&self) -> bool {
+        self.0.filling.is_filling.load(Ordering::SeqCst)
+    }
+
+    /// From now on this is called when a recorder becomes half full, by the thread that made the item. It is there to wake a thread
+    /// that publishes, and should return soon. A console has one such call: a later one takes the place of the one before, also that
+    /// of a [`Publisher`](crate::Publisher).
+    ///
+    /// ```
+    /// # use taskscope::{Console, Settings};
+    /// # let console = Console::open(Settings::default());
+    /// let publishing = std::thread::current();
+    /// console.on_filling(move || publishing.unpark());
+    /// ```
+    pub fn on_filling(&self, call: impl Fn() + Send + Sync + 'static) {
+        *lock(&self.0.filling.call) = Some(Arc::new(call));
     }
 
     /// Begins a task of this name, made where this is called.

@@ -29,15 +29,29 @@ struct Control {
 
 impl Control {
     fn raise(&self, flag: &AtomicBool) {
-        let _waits = lock(&self.waits);
         flag.store(true, Ordering::SeqCst);
+        self.notify();
+    }
+
+    /// Has those who wait look again. What they wait for came before.
+    fn notify(&self) {
+        // A thread has looked and waits, or will look after this.
+        drop(lock(&self.waits));
         self.changed.notify_all();
     }
 
-    /// Waits for a span, or until the flag is raised.
-    fn wait(&self, flag: &AtomicBool, span: Duration) {
+    /// Waits for a span, or until the condition holds.
+    fn wait(&self, span: Duration, condition: impl Fn() -> bool) {
         let waits = lock(&self.waits);
-        let _ = self.changed.wait_timeout_while(waits, span, |()| !flag.load(Ordering::SeqCst));
+        let _ = self.changed.wait_timeout_while(waits, span, |()| !condition());
+    }
+
+    fn is_stopped(&self) -> bool {
+        self.is_stopped.load(Ordering::SeqCst)
+    }
+
+    fn has_ended(&self) -> bool {
+        self.has_ended.load(Ordering::SeqCst)
     }
 }
 
@@ -51,7 +65,7 @@ impl Drop for Ends {
 }
 
 /// A thread that writes a console's lines to a writer, one each so often, and a last one when it is stopped. While nothing
-/// changes it writes one in a second, as a sign of life.
+/// changes it writes one in a second, as a sign of life. While a recorder is half full it goes on to the next line at once.
 ///
 /// ```
 /// use std::time::Duration;
@@ -94,6 +108,8 @@ impl<W: Write + Send + 'static> Publisher<W> {
         }
         let control = Arc::<Control>::default();
         let ends = Ends(Arc::clone(&control));
+        let filling = Arc::downgrade(&control);
+        console.on_filling(move || filling.upgrade().map_or((), |control| control.notify()));
         let console = console.clone();
         let thread = thread::Builder::new()
             .name("taskscope".into())
@@ -125,8 +141,8 @@ impl<W> Publisher<W> {
     fn join(&mut self) -> Option<thread::Result<io::Result<W>>> {
         let thread = self.thread.take()?;
         self.control.raise(&self.control.is_stopped);
-        self.control.wait(&self.control.has_ended, LAST_WAIT);
-        self.control.has_ended.load(Ordering::SeqCst).then(|| thread.join())
+        self.control.wait(LAST_WAIT, || self.control.has_ended());
+        self.control.has_ended().then(|| thread.join())
     }
 }
 
@@ -152,7 +168,7 @@ fn publish_until_stopped<W: Write>(
     let mut written = None;
     loop {
         // Read before the line is made, so that the last line is made after `stop` was called.
-        let is_last = control.is_stopped.load(Ordering::SeqCst);
+        let is_last = control.is_stopped();
         let is_due = is_last || written.map_or(true, |at: Instant| at.elapsed() >= SIGN_OF_LIFE);
         let lines = if is_due { console.publish().map(Some) } else { console.publish_changes() };
         match lines {
@@ -168,6 +184,6 @@ fn publish_until_stopped<W: Write>(
         if is_last {
             return Ok(writer);
         }
-        control.wait(&control.is_stopped, every);
+        control.wait(every, || control.is_stopped() || console.is_filling());
     }
 }

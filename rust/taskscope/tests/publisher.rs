@@ -93,6 +93,24 @@ fn while_nothing_changes_there_is_a_line_each_second() {
 }
 
 #[test]
+fn the_next_line_comes_at_once_while_a_recorder_fills_up() {
+    // This thread's recorder has room for 100, and is half full after each round.
+    let console = Console::open(Settings::default().capacity(100));
+    let shared = Shared::default();
+    let publisher = Publisher::start(&console, LONG, shared.clone()).unwrap();
+    until(|| !shared.text().is_empty());
+    let mut tasks = Vec::new();
+    for round in 1..=50 {
+        tasks.extend((0..50).map(|_| console.task("of a burst").open()));
+        until(|| shared.text().matches("of a burst").count() == round * 50);
+    }
+    let stream = publisher.stop().unwrap().text();
+    let mut tables = Tables::default();
+    tables.apply(&stream);
+    assert_eq!((tables.items["task_stats"].len(), tables.dropped.as_str()), (50 * 50, "0,0,0"));
+}
+
+#[test]
 fn an_interval_of_0_is_refused() {
     let console = Console::open(Settings::default());
     let refused = Publisher::start(&console, Duration::ZERO, Vec::new()).expect_err("a refusal");
