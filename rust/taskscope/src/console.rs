@@ -3,10 +3,12 @@
 use crate::book::{Book, Total};
 use crate::border::limit::LAST_NUMBER;
 use crate::fault::Fault;
-use crate::id::id_of;
+use crate::ffi;
+use crate::id::{id_of, NO_ID};
 use crate::item::{Item, Lists};
 use crate::location::Location;
 use crate::op::OpBuilder;
+use crate::process::Process;
 use crate::resource::{Resource, ResourceBuilder};
 use crate::row::lock;
 use crate::task::TaskBuilder;
@@ -118,6 +120,8 @@ impl Filling {
 }
 
 pub(crate) struct Inner {
+    /// The process that opened it.
+    process: Process,
     opened: Instant,
     capacity: usize,
     filling: Filling,
@@ -149,6 +153,12 @@ fn nanoseconds(span: Duration) -> u64 {
 }
 
 impl Inner {
+    /// Whether calls are recorded. Where they are not, no lock may be taken.
+    #[inline]
+    pub(crate) fn is_active(&self) -> bool {
+        ffi::IS_LINKED && self.process.is_this()
+    }
+
     /// Nanoseconds since the console was opened.
     #[inline]
     pub(crate) fn now(&self) -> u64 {
@@ -161,9 +171,13 @@ impl Inner {
         self.times
     }
 
-    /// Makes a call on an item's words, and lists the item for the next line where it isn't.
+    /// Makes a call on an item's words, and lists the item for the next line where it isn't. Where nothing is recorded there is no
+    /// call, and the answer is 0, `false` or none: it was made.
     #[inline]
-    pub(crate) fn step<T: Item, R>(&self, cell: &Arc<T>, call: impl FnOnce(&mut T::Words) -> R) -> R {
+    pub(crate) fn step<T: Item, R: Default>(&self, cell: &Arc<T>, call: impl FnOnce(&mut T::Words) -> R) -> R {
+        if !self.is_active() {
+            return R::default();
+        }
         cell.row().step(call, |is_new| self.list(cell, is_new))
     }
 
@@ -174,18 +188,21 @@ impl Inner {
         T::list(lists).push(Arc::clone(cell));
     }
 
-    /// Makes an item and lists it as new, or counts it as dropped. Its id is 0 where the recorder has no number for it.
+    /// Makes an item and lists it as new, or counts it as dropped. It has no id where the recorder has no number for it.
     pub(crate) fn record<T: Item>(&self, make: impl FnOnce(u64) -> T) -> Arc<T> {
+        if !self.is_active() {
+            return Arc::new(make(NO_ID));
+        }
         let number = shard();
         let mut shard = lock(&self.shards[number].0);
         let drawn = &mut shard.drawn[T::KIND as usize];
-        let mut id = 0;
+        let mut id = NO_ID;
         if *drawn < LAST_NUMBER {
             *drawn += 1;
             id = id_of(number + 1, *drawn);
         }
         let cell = Arc::new(make(id));
-        if id != 0 && shard.fresh.held() < self.capacity {
+        if id != NO_ID && shard.fresh.held() < self.capacity {
             T::list(&mut shard.fresh).push(Arc::clone(&cell));
             let is_half_full = shard.fresh.held() == self.capacity - self.capacity / 2;
             drop(shard);
@@ -214,18 +231,27 @@ impl Inner {
     }
 
     fn publish(&self) -> Result<Vec<u8>, Fault> {
+        if !self.is_active() {
+            return Ok(Vec::new());
+        }
         let mut book = lock(&self.book);
         let dropped = self.take(&mut book);
         book.publish(dropped, || self.now(), self.retention)
     }
 
     fn publish_changes(&self) -> Result<Option<Vec<u8>>, Fault> {
+        if !self.is_active() {
+            return Ok(None);
+        }
         let mut book = lock(&self.book);
         let dropped = self.take(&mut book);
         book.publish_changes(dropped, || self.now(), self.retention)
     }
 
     fn snapshot(&self) -> Result<Vec<u8>, Fault> {
+        if !self.is_active() {
+            return Ok(Vec::new());
+        }
         let mut book = lock(&self.book);
         let dropped = self.take(&mut book);
         book.snapshot(dropped, || self.now(), self.retention)
@@ -252,6 +278,7 @@ impl Console {
     /// A console without items. The moments of its stream are counted from now.
     pub fn open(settings: Settings) -> Console {
         Console(Arc::new(Inner {
+            process: Process::this(),
             opened: Instant::now(),
             capacity: settings.capacity,
             filling: Filling::default(),
@@ -264,6 +291,24 @@ impl Console {
 
     pub(crate) fn inner(&self) -> &Arc<Inner> {
         &self.0
+    }
+
+    /// Whether calls are recorded. Where they are not, all calls work and cost little, no line is ever made, and ids are none. That
+    /// is so in two cases:
+    ///
+    /// - No library is kept for the processor and the system that the program is built for, as cargo warned when it was built.
+    /// - The process was forked from the one that opened the console. A console that it opens itself records.
+    ///
+    /// ```
+    /// # use taskscope::{Console, Settings};
+    /// let console = Console::open(Settings::default());
+    /// if !console.is_active() {
+    ///     eprintln!("nothing is inspected here");
+    /// }
+    /// # assert!(console.is_active());
+    /// ```
+    pub fn is_active(&self) -> bool {
+        self.0.is_active()
     }
 
     /// How many nanoseconds ago the console was opened: the moment that a call records now.
@@ -302,7 +347,9 @@ impl Console {
     /// console.on_filling(move || publishing.unpark());
     /// ```
     pub fn on_filling(&self, call: impl Fn() + Send + Sync + 'static) {
-        *lock(&self.0.filling.call) = Some(Arc::new(call));
+        if self.is_active() {
+            *lock(&self.0.filling.call) = Some(Arc::new(call));
+        }
     }
 
     /// Begins a task of this name, made where this is called.
@@ -350,7 +397,7 @@ impl Console {
     }
 
     /// The next line of the stream, with its line end: what is new or has changed since the line before. Where closed items
-    /// leave with it, a second line after it says which.
+    /// leave with it, a second line after it says which. Where nothing is recorded ([`is_active`](Console::is_active)) it is empty.
     ///
     /// Its cost is by what changed, not by how many items there are. Where several threads publish, their lines are to be
     /// written in the order of their numbers.

@@ -154,6 +154,9 @@ impl<F: Future> Future for Inspected<F> {
         let this = unsafe { self.get_unchecked_mut() };
         // SAFETY: as above.
         let future = unsafe { Pin::new_unchecked(&mut this.future) };
+        if !this.task.console.is_active() {
+            return future.poll(cx);
+        }
         let waker = lend(&mut this.lent, &this.task, cx.waker());
         let _polling = Polling::start(&mut this.task);
         future.poll(&mut Context::from_waker(&waker))

@@ -59,7 +59,7 @@
 
 #![deny(missing_docs, unsafe_op_in_unsafe_fn)]
 #![warn(missing_debug_implementations)]
-// `taskscope_races` is set for `tests/races.rs` alone, by `tests/rust.sh`.
+// `taskscope_inactive` is set by `build.rs`, and `taskscope_races` for `tests/races.rs` alone, by `tests/rust.sh`.
 #![allow(unknown_lints, unexpected_cfgs)]
 
 mod attr;
@@ -72,11 +72,13 @@ mod id;
 mod inspected;
 mod item;
 mod location;
+#[cfg(not(taskscope_inactive))]
 mod memory;
 mod name;
 mod op;
 mod page;
 mod poll_counts;
+mod process;
 mod publisher;
 mod refused;
 mod resource;

@@ -2,6 +2,7 @@
 
 use crate::console::Console;
 use crate::fault::Fault;
+use crate::process::Process;
 use crate::row::lock;
 use std::fmt;
 use std::io::{self, Write};
@@ -87,6 +88,8 @@ impl Drop for Ends {
 /// seconds at most for the last line. Then the thread is left to itself: it holds the writer, its part of the line, and a clone of the
 /// console, until the write returns. If that happens, it writes the rest and a last line, drops the writer, and ends.
 pub struct Publisher<W> {
+    /// The process that has the thread.
+    process: Process,
     control: Arc<Control>,
     // None once it was joined, or left to itself.
     thread: Option<JoinHandle<io::Result<W>>>,
@@ -114,7 +117,7 @@ impl<W: Write + Send + 'static> Publisher<W> {
         let thread = thread::Builder::new()
             .name("taskscope".into())
             .spawn(move || publish_until_stopped(&ends.0, &console, every, writer))?;
-        Ok(Publisher { control, thread: Some(thread) })
+        Ok(Publisher { process: Process::this(), control, thread: Some(thread) })
     }
 }
 
@@ -126,23 +129,38 @@ impl<W> Publisher<W> {
     /// The error that ended the thread: the writer's, or a [`Fault`] of the console, which stands in an
     /// [`io::Error`] of kind [`Other`](io::ErrorKind::Other). The writer is gone then. [`TimedOut`](io::ErrorKind::TimedOut) where the
     /// writer didn't take the last line in time: [the thread has it](Publisher#a-writer-that-doesnt-go-on).
+    /// [`Unsupported`](io::ErrorKind::Unsupported) in a process that was forked from the one with the thread, at once.
     ///
     /// # Panics
     /// Where the writer did.
     pub fn stop(mut self) -> io::Result<W> {
-        match self.join() {
-            Some(Ok(outcome)) => outcome,
-            Some(Err(panic)) => resume_unwind(panic),
-            None => Err(io::Error::new(io::ErrorKind::TimedOut, "the last line was not written within 2 seconds")),
+        match self.join()? {
+            Ok(outcome) => outcome,
+            Err(panic) => resume_unwind(panic),
         }
     }
 
-    /// How the thread ended. Nothing where it did not in time, or was joined before.
-    fn join(&mut self) -> Option<thread::Result<io::Result<W>>> {
-        let thread = self.thread.take()?;
+    /// How the thread ended.
+    fn join(&mut self) -> io::Result<thread::Result<io::Result<W>>> {
+        let thread = match self.thread.take() {
+            Some(thread) => thread,
+            None => return Err(io::Error::new(io::ErrorKind::NotFound, "the thread was stopped before")),
+        };
+        if !self.process.is_this() {
+            // The thread isn't there, and the system may not be asked to let go of it.
+            std::mem::forget(thread);
+            return Err(io::Error::new(
+                io::ErrorKind::Unsupported,
+                "the thread that publishes is that of another process",
+            ));
+        }
         self.control.raise(&self.control.is_stopped);
         self.control.wait(LAST_WAIT, || self.control.has_ended());
-        self.control.has_ended().then(|| thread.join())
+        if self.control.has_ended() {
+            Ok(thread.join())
+        } else {
+            Err(io::Error::new(io::ErrorKind::TimedOut, "the last line was not written within 2 seconds"))
+        }
     }
 }
 

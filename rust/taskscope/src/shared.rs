@@ -52,7 +52,7 @@ impl SharedTask {
     pub fn start_poll(&self) -> Result<(), Refused> {
         let now = self.0.console.now();
         // SAFETY: the row's lock lends the words to this call alone.
-        self.step(|words| done(unsafe { ffi::taskscope_task_start(&mut words.row, now) }))
+        done(self.step(|words| unsafe { ffi::taskscope_task_start(&mut words.row, now) }))
     }
 
     /// The open poll ends now.
@@ -62,7 +62,7 @@ impl SharedTask {
     #[inline]
     pub fn end_poll(&self) -> Result<(), Refused> {
         let (now, times) = (self.0.console.now(), self.0.console.keeps_times());
-        self.step(|words| done(words.end(now, times)))
+        done(self.step(|words| words.end(now, times)))
     }
 
     /// Whether the task waits for a poll: it was not polled yet, or was woken since its last poll started, and is not closed.
@@ -115,7 +115,7 @@ impl SharedTask {
     }
 
     #[inline]
-    fn step<R>(&self, call: impl FnOnce(&mut TaskWords) -> R) -> R {
+    fn step<R: Default>(&self, call: impl FnOnce(&mut TaskWords) -> R) -> R {
         self.0.console.step(&self.0.cell, call)
     }
 }
