@@ -71,6 +71,7 @@ mod ffi;
 mod id;
 mod inspected;
 mod item;
+mod lent;
 mod location;
 #[cfg(not(taskscope_inactive))]
 mod memory;
@@ -78,6 +79,7 @@ mod name;
 mod op;
 mod page;
 mod poll_counts;
+mod polled;
 mod process;
 mod publisher;
 mod refused;

@@ -8,9 +8,10 @@ mod common;
 use common::{list, noop, number, publish, task, value, Calls};
 use std::future::Future;
 use std::panic::{catch_unwind, AssertUnwindSafe};
+use std::pin::Pin;
 use std::sync::{Arc, Mutex};
 use std::task::{Context, Poll, Waker};
-use taskscope::{Console, Origin, Settings, Woken};
+use taskscope::{Console, InstrumentExt, Origin, Settings, Woken};
 
 #[test]
 fn a_wake_within_the_poll_is_a_self_wake() {
@@ -149,10 +150,65 @@ fn a_future_within_another_is_a_task_of_its_own() {
     ));
     assert!(outer.as_mut().poll(&mut Context::from_waker(&noop())).is_pending());
     let told = publish(&console);
-    // The inner task's wake goes on to the outer one's waker, from within the inner task's poll.
+    // The inner task's wake goes on to the outer one's waker, and the thread is within the polls of both.
     let (inner, outer) = (task(&told, inner_id), task(&told, outer.id().value()));
     assert_eq!((number(inner, "wakes"), number(inner, "self_wakes")), (1, 1));
-    assert_eq!((number(outer, "wakes"), number(outer, "self_wakes")), (2, 1));
+    assert_eq!((number(outer, "wakes"), number(outer, "self_wakes")), (2, 2));
+}
+
+#[test]
+fn a_wake_is_a_self_wake_of_each_task_that_the_thread_polls() {
+    const DEPTH: usize = 20;
+    const WAKES: u64 = 100;
+    let console = Console::open(Settings::default());
+    let mut left = WAKES;
+    let mut future: Pin<Box<dyn Future<Output = ()> + '_>> = Box::pin(Calls(|cx: &mut Context<'_>| {
+        if left == 0 {
+            return Poll::Ready(());
+        }
+        left -= 1;
+        cx.waker().wake_by_ref();
+        Poll::Pending
+    }));
+    let mut ids = Vec::new();
+    for _ in 0..DEPTH {
+        let outer = future.instrument(&console, "one within the other");
+        ids.push(outer.id().value());
+        future = Box::pin(outer);
+    }
+    // Another console's tasks around them make no difference.
+    let other = Console::open(Settings::default());
+    let mut future = Box::pin(future.instrument(&other, "of another console"));
+    while future.as_mut().poll(&mut Context::from_waker(&noop())).is_pending() {}
+    let told = publish(&console);
+    for id in ids {
+        let row = task(&told, id);
+        assert_eq!((number(row, "wakes"), number(row, "self_wakes")), (WAKES, WAKES), "{row}");
+    }
+    let told = publish(&other);
+    assert_eq!(number(task(&told, future.id().value()), "self_wakes"), WAKES);
+}
+
+#[test]
+fn a_wake_from_within_a_poll_of_another_task_is_none_of_its_own() {
+    let console = Console::open(Settings::default());
+    let kept: Arc<Mutex<Option<Waker>>> = Arc::default();
+    let slot = Arc::clone(&kept);
+    let keeps = Calls(move |cx: &mut Context<'_>| {
+        *slot.lock().unwrap() = Some(cx.waker().clone());
+        Poll::Pending
+    });
+    let mut woken = Box::pin(keeps.instrument(&console, "woken"));
+    assert!(woken.as_mut().poll(&mut Context::from_waker(&noop())).is_pending());
+    let wakes = Calls(|_: &mut Context<'_>| {
+        kept.lock().unwrap().as_ref().expect("a waker").wake_by_ref();
+        Poll::Ready(())
+    });
+    let mut wakes = Box::pin(wakes.instrument(&console, "inner").instrument(&console, "outer"));
+    assert!(wakes.as_mut().poll(&mut Context::from_waker(&noop())).is_ready());
+    let told = publish(&console);
+    let row = task(&told, woken.id().value());
+    assert_eq!((number(row, "wakes"), number(row, "self_wakes")), (1, 0), "{row}");
 }
 
 #[test]
@@ -286,4 +342,6 @@ fn a_wake_stands_before_the_poll_to_which_it_leads() {
         let told = publish(&console);
         assert_eq!(value(task(&told, id), "scheduled"), "false", "by value: {by_value}");
     }
+    // The future has the slot, and the waker in it has the executor, which has the future.
+    drop(kept.lock().unwrap().take());
 }
