@@ -150,20 +150,48 @@ impl Attr {
     pub fn with_unit(self, unit: impl Into<Cow<'static, str>>) -> Attr {
         Attr { unit: Some(Name::new(unit.into())), ..self }
     }
+
+    /// Its name, as a line holds it.
+    pub fn name(&self) -> &str {
+        self.name.as_str()
+    }
+
+    /// Its unit, where it has one.
+    pub fn unit(&self) -> Option<&str> {
+        self.unit.as_ref().map(Name::as_str)
+    }
+
+    /// Its first value.
+    pub fn first(&self) -> Value {
+        self.first
+    }
 }
 
 /// The attributes of one item: at most 6, of different names.
 #[derive(Clone, Debug, Default)]
 pub(crate) struct Attrs(Vec<Attr>);
 
-impl Attrs {
+/// The attributes of an item that is about to be made.
+#[derive(Clone, Debug, Default)]
+pub(crate) struct NewAttrs {
+    pub(crate) kept: Attrs,
+    /// Those that the item can't have.
+    pub(crate) left_out: Vec<Attr>,
+}
+
+impl NewAttrs {
     /// Adds an attribute, where there is room for it and none has its name.
     pub(crate) fn add(&mut self, attr: Attr) {
-        if self.0.len() < limit::ATTRIBUTES && self.0.iter().all(|other| other.name != attr.name) {
-            self.0.push(attr);
+        let kept = &mut self.kept.0;
+        if kept.len() < limit::ATTRIBUTES && kept.iter().all(|other| other.name != attr.name) {
+            kept.push(attr);
+        } else {
+            self.left_out.push(attr);
         }
     }
+}
 
+impl Attrs {
     pub(crate) fn as_slice(&self) -> &[Attr] {
         &self.0
     }

@@ -31,6 +31,7 @@ use std::time::{Duration, Instant};
 /// ```
 #[derive(Clone, Debug, PartialEq, Eq, Hash)]
 #[non_exhaustive]
+#[must_use = "settings are there for `Console::open`"]
 pub struct Settings {
     /// How many new items each of the 16 recorders holds until the next line: a thread's items all go to one recorder. What
     /// finds no room is counted as dropped.
@@ -188,6 +189,11 @@ impl Inner {
         T::list(lists).push(Arc::clone(cell));
     }
 
+    /// Whether lines tell of an item.
+    pub(crate) fn tells<T: Item>(&self, cell: &T) -> bool {
+        self.is_active() && !cell.row().is_gone()
+    }
+
     /// Makes an item and lists it as new, or counts it as dropped. It has no id where the recorder has no number for it.
     pub(crate) fn record<T: Item>(&self, make: impl FnOnce(u64) -> T) -> Arc<T> {
         if !self.is_active() {
@@ -272,6 +278,7 @@ impl Inner {
 /// # Ok::<(), taskscope::Fault>(())
 /// ```
 #[derive(Clone)]
+#[must_use = "a console makes no line by itself: publish its lines, or start a `Publisher`"]
 pub struct Console(Arc<Inner>);
 
 impl Console {
@@ -445,5 +452,27 @@ impl Console {
 impl fmt::Debug for Console {
     fn fmt(&self, f: &mut fmt::Formatter<'_>) -> fmt::Result {
         f.debug_struct("Console").finish_non_exhaustive()
+    }
+}
+
+#[cfg(test)]
+mod tests {
+    use super::*;
+
+    #[test]
+    fn an_item_for_which_there_is_no_number_has_no_id_and_is_counted() {
+        let console = Console::open(Settings::default());
+        for shard in &console.inner().shards {
+            lock(&shard.0).drawn = [LAST_NUMBER - 1; 3];
+        }
+        let (last, none) = (console.task("last").open(), console.task("none").open());
+        assert!(last.is_recorded() && last.id().value() & LAST_NUMBER == LAST_NUMBER, "{}", last.id());
+        assert!(!none.is_recorded() && none.id().is_none(), "{}", none.id());
+        assert_eq!(none.id().to_string(), "none");
+        // Each kind has numbers of its own.
+        let (resource, other) = (console.resource("Semaphore").open(), console.resource("Semaphore").open());
+        assert!(resource.is_recorded() && other.id().is_none());
+        let line = String::from_utf8(console.publish().expect("a line")).expect("text");
+        assert!(line.contains("\"dropped\":[1,1,0]"), "{line}");
     }
 }

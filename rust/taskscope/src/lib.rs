@@ -87,6 +87,8 @@ mod resource;
 mod row;
 mod shared;
 mod task;
+#[cfg(doctest)]
+mod unkept;
 
 pub use attr::{Attr, Change, Value};
 pub use console::{Console, Settings};

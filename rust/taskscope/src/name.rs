@@ -47,6 +47,10 @@ impl Name {
         self.0 == text || (!is_name(text) && self.0 == replaced(text))
     }
 
+    pub(crate) fn as_str(&self) -> &str {
+        &self.0
+    }
+
     pub(crate) fn as_bytes(&self) -> &[u8] {
         self.0.as_bytes()
     }

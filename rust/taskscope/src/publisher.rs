@@ -87,6 +87,7 @@ impl Drop for Ends {
 /// A write may never return, as one to a pipe whose reader has stopped reading. So [`stop`](Publisher::stop) and the drop wait 2
 /// seconds at most for the last line. Then the thread is left to itself: it holds the writer, its part of the line, and a clone of the
 /// console, until the write returns. If that happens, it writes the rest and a last line, drops the writer, and ends.
+#[must_use = "lines are published until this is dropped"]
 pub struct Publisher<W> {
     /// The process that has the thread.
     process: Process,

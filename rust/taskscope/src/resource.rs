@@ -1,6 +1,6 @@
 //! Resources: what tasks wait for.
 
-use crate::attr::{Attr, Attrs, Change};
+use crate::attr::{Attr, Attrs, Change, NewAttrs};
 use crate::console::{Console, Inner};
 use crate::ffi::{self, ResourceEntry, Words};
 use crate::id::ResourceId;
@@ -53,7 +53,7 @@ impl Item for ResourceCell {
             line: self.location.line,
             column: self.location.column,
         };
-        page.resources.push(entry);
+        page.add_resource(entry);
     }
 
     fn entered(page: &Page, place: usize) -> Reading<Words> {
@@ -88,13 +88,13 @@ pub struct ResourceBuilder<'a> {
     concrete: Name,
     kind: Name,
     location: Location,
-    attrs: Attrs,
+    attrs: NewAttrs,
 }
 
 impl<'a> ResourceBuilder<'a> {
     pub(crate) fn new(console: &'a Console, concrete: Cow<'static, str>, location: Location) -> ResourceBuilder<'a> {
         let (concrete, kind) = (Name::new(concrete), Name::new(Cow::Borrowed(OTHER)));
-        ResourceBuilder { console, parent: 0, concrete, kind, location, attrs: Attrs::default() }
+        ResourceBuilder { console, parent: 0, concrete, kind, location, attrs: NewAttrs::default() }
     }
 
     /// What kind of resource it is, as `Sync` or `Timer`: without this it is `Other`.
@@ -114,11 +114,31 @@ impl<'a> ResourceBuilder<'a> {
         ResourceBuilder { parent: parent.0, ..self }
     }
 
-    /// Adds an attribute. One that is more than 6, or whose name another has, is left out: its changes are refused with
-    /// [`NoAttribute`](Refused::NoAttribute), or are those of the other.
+    /// Adds an attribute. One that is more than 6, or whose name another has, is [left out](ResourceBuilder::left_out): its changes are
+    /// refused with [`NoAttribute`](Refused::NoAttribute), or are those of the other.
+    ///
+    /// ```
+    /// # use taskscope::{Attr, Console, Settings};
+    /// # let console = Console::open(Settings::default());
+    /// let cache = console.resource("Cache").attr(Attr::new("entries", 0u64)).attr(Attr::new("age", 0i64).with_unit("ms")).open();
+    /// # drop(cache);
+    /// ```
     pub fn attr(mut self, attr: Attr) -> ResourceBuilder<'a> {
         self.attrs.add(attr);
         self
+    }
+
+    /// The attributes that were left out, as the item can't have them: those after the sixth, and those of a name that another one has.
+    ///
+    /// ```
+    /// # use taskscope::{Attr, Console, Settings};
+    /// # let console = Console::open(Settings::default());
+    /// # let resource = console.resource("Semaphore").open();
+    /// let builder = console.resource("Semaphore").attr(Attr::new("permits", 2u64)).attr(Attr::new("permits", 3u64));
+    /// assert_eq!(builder.left_out(), [Attr::new("permits", 3u64)]);
+    /// ```
+    pub fn left_out(&self) -> &[Attr] {
+        &self.attrs.left_out
     }
 
     /// Where the resource was made: without this, where [`Console::resource`] was called.
@@ -132,7 +152,7 @@ impl<'a> ResourceBuilder<'a> {
         let console = self.console.inner();
         let created = console.now();
         let mut words = [0; 16];
-        let values = self.attrs.first_values();
+        let values = self.attrs.kept.first_values();
         // SAFETY: values and words are lent for the call, and the length is that of the values. It answers false for more than
         // 6 attributes alone, and `Attrs` has no more.
         unsafe { ffi::taskscope_resource_open(created, values.as_ptr(), values.len(), &mut words) };
@@ -142,7 +162,7 @@ impl<'a> ResourceBuilder<'a> {
             concrete: self.concrete,
             kind: self.kind,
             location: self.location,
-            attrs: self.attrs,
+            attrs: self.attrs.kept,
             row: Row::listed(words),
             counts: PollCounts::new(id),
         });
@@ -165,12 +185,19 @@ impl Drop for OpenResource {
 
 /// A resource, which threads share by its clones. It is closed when the last clone is dropped.
 #[derive(Clone)]
+#[must_use = "the resource is closed when its last clone is dropped"]
 pub struct Resource(Arc<OpenResource>);
 
 impl Resource {
     /// The resource's id.
     pub fn id(&self) -> ResourceId {
         ResourceId(self.0.cell.id)
+    }
+
+    /// Whether lines tell of the resource. They don't where its recorder was full or had no number for it, which counts it as dropped, and
+    /// where the console isn't [active](crate::Console::is_active).
+    pub fn is_recorded(&self) -> bool {
+        self.0.console.tells(&*self.0.cell)
     }
 
     pub(crate) fn counts(&self) -> &Arc<PollCounts> {

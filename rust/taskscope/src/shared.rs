@@ -36,12 +36,19 @@ fn has_waker(words: &Words) -> bool {
 /// # Ok::<(), taskscope::Refused>(())
 /// ```
 #[derive(Debug)]
+#[must_use = "the task is closed when this is dropped"]
 pub struct SharedTask(Task);
 
 impl SharedTask {
     /// The task's id.
     pub fn id(&self) -> TaskId {
         self.0.id()
+    }
+
+    /// Whether lines tell of the task. They don't where its recorder was full or had no number for it, which counts it as dropped, and
+    /// where the console isn't [active](crate::Console::is_active).
+    pub fn is_recorded(&self) -> bool {
+        self.0.is_recorded()
     }
 
     /// A poll starts now.

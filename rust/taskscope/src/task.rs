@@ -125,10 +125,7 @@ impl Item for TaskCell {
             column: self.location.column,
             kind: self.kind.for_library(),
         };
-        page.tasks.push(entry);
-        if page.tells_times {
-            page.times.push(TimesEntry { row: reading.now.times, told: reading.told.times, task: self.id });
-        }
+        page.add_task(entry, TimesEntry { row: reading.now.times, told: reading.told.times, task: self.id });
     }
 
     fn entered(page: &Page, place: usize) -> Reading<TaskWords> {
@@ -227,6 +224,7 @@ impl<'a> TaskBuilder<'a> {
 }
 
 /// The owner of a task, which polls it. The task is closed when this is dropped.
+#[must_use = "the task is closed when this is dropped"]
 pub struct Task {
     pub(crate) console: Arc<Inner>,
     pub(crate) cell: Arc<TaskCell>,
@@ -236,6 +234,12 @@ impl Task {
     /// The task's id.
     pub fn id(&self) -> TaskId {
         TaskId(self.cell.id)
+    }
+
+    /// Whether lines tell of the task. They don't where its recorder was full or had no number for it, which counts it as dropped, and
+    /// where the console isn't [active](crate::Console::is_active).
+    pub fn is_recorded(&self) -> bool {
+        self.console.tells(&*self.cell)
     }
 
     /// A poll starts now.
@@ -294,6 +298,7 @@ impl fmt::Debug for Task {
 }
 
 /// A waker of a task. Each is counted as a clone when it is made, and as dropped when it is dropped or wakes by value.
+#[must_use = "the waker is counted as dropped when this is dropped"]
 pub struct TaskWaker {
     console: Arc<Inner>,
     cell: Arc<TaskCell>,

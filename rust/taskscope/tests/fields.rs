@@ -105,9 +105,16 @@ fn a_seventh_attribute_and_a_second_of_one_name_are_left_out() {
     for name in ["a", "b", "c", "d", "e", "f", "g"] {
         seven = seven.attr(Attr::new(name, 1u64));
     }
+    assert_eq!(seven.left_out(), [Attr::new("g", 1u64)]);
     let seven = seven.open();
     // Both names become `?`.
-    let twice = console.resource("Twice").kind("Sync").attr(Attr::new("\u{e9}", 1u64)).attr(Attr::new("", true)).open();
+    let twice = console.resource("Twice").kind("Sync").attr(Attr::new("\u{e9}", 1u64)).attr(Attr::new("", true));
+    let left_out = twice.left_out();
+    assert_eq!((left_out.len(), left_out[0].name(), left_out[0].first()), (1, "?", Value::Bool(true)));
+    let twice = twice.open();
+    let op = console.op(&seven, "acquire").attr(Attr::new("n", 1u64)).attr(Attr::new("n", 2u64).with_unit("ms"));
+    assert_eq!((op.left_out().len(), op.left_out()[0].unit()), (1, Some("ms")));
+    drop(op.open());
     assert_eq!(seven.change("f", Change::add(1u64)), Ok(()));
     assert_eq!(seven.change("g", Change::add(1u64)), Err(Refused::NoAttribute));
     assert_eq!(twice.change("\u{e8}", Change::add(4u64)), Ok(()));

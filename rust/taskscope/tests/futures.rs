@@ -275,6 +275,8 @@ fn what_finds_no_room_is_counted_and_works() {
     let resources = ["first", "second"].map(|name| console.resource(name).kind("Sync").open());
     let ops = ["first", "second", "third"].map(|name| console.op(&resources[0], name).open());
     ops[0].count_poll(true);
+    assert!(kept.is_recorded() && !dropped.is_recorded());
+    assert!(!resources.iter().any(taskscope::Resource::is_recorded) && !ops.iter().any(taskscope::Op::is_recorded));
     assert_eq!(dropped.start_poll(), Ok(()));
     assert_eq!(dropped.wake_by_ref(Origin::Outside), Woken::Scheduled);
     assert_eq!(dropped.waker().wake(Origin::Outside), Woken::Already);
