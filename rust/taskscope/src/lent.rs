@@ -4,47 +4,52 @@
 //! waker only while somebody could wake by it: a poll that lends it, or a clone. That waker may hold the executor's task, and so the
 //! future, which has the block: if the block kept it, no task would be freed by an executor that frees a task with its last waker.
 //!
+//! A poll puts a copy of the executor's waker there, which it borrows and nobody drops. The first clone makes it the block's own. So a
+//! poll whose waker is not cloned leaves the executor's waker alone.
+//!
 //! One word says who has a block. Its holders are the poll that lends it and the clones:
 //!
-//! | `OWNED` | holders | `EMPTYING` | the block |
-//! |---|---|---|---|
-//! | yes | none | no | has no waker, and is the future's alone: its next poll fills it |
-//! | yes or no | some | no | has a waker of the executor, which nobody changes |
-//! | yes or no | none | yes | is that of the last holder alone, which takes the waker out |
-//! | no | none | no | is nobody's: who brought it there frees it |
+//! | `OWNED` | holders | `BORROWED` | `EMPTYING` | the block |
+//! |---|---|---|---|---|
+//! | yes | none | no | no | has no waker, and is the future's alone: its next poll fills it |
+//! | yes | the poll | yes | no | has a waker that the poll borrows |
+//! | yes or no | some | no | no | has a waker of its own, which nobody changes |
+//! | yes or no | none | no | yes | is that of the last holder alone, which takes the waker out |
+//! | no | none | no | no | is nobody's: who brought it there frees it |
 
 use crate::console::Inner;
 use crate::polled::is_polled;
 use crate::task::{Origin, Task, TaskCell};
 use std::cell::UnsafeCell;
 use std::marker::PhantomData;
-use std::mem::ManuallyDrop;
+use std::mem::{ManuallyDrop, MaybeUninit};
 use std::process::abort;
-use std::ptr::NonNull;
+use std::ptr::{self, NonNull};
 use std::sync::atomic::{AtomicUsize, Ordering};
 use std::sync::Arc;
 use std::task::{RawWaker, RawWakerVTable, Waker};
 
 /// The future has the block.
 const OWNED: usize = 1;
+/// The poll that holds the block borrows the executor's waker.
+const BORROWED: usize = 2;
 /// The last holder takes the waker out.
-const EMPTYING: usize = 2;
-/// One holder. Their number stands above the two flags.
-const HOLDER: usize = 4;
+const EMPTYING: usize = 4;
+/// One holder. Their number stands above the flags.
+const HOLDER: usize = 8;
 
 struct Block {
     state: AtomicUsize,
     /// The executor's waker, while there are holders.
-    waker: UnsafeCell<Option<Waker>>,
+    waker: UnsafeCell<MaybeUninit<Waker>>,
     console: Arc<Inner>,
     cell: Arc<TaskCell>,
 }
 
 impl Block {
-    /// A block of the future, without holders.
-    fn new(task: &Task) -> NonNull<Block> {
-        let (console, cell) = (Arc::clone(&task.console), Arc::clone(&task.cell));
-        let block = Block { state: AtomicUsize::new(OWNED), waker: UnsafeCell::new(None), console, cell };
+    fn new(state: usize, waker: MaybeUninit<Waker>, console: &Arc<Inner>, cell: &Arc<TaskCell>) -> NonNull<Block> {
+        let (console, cell) = (Arc::clone(console), Arc::clone(cell));
+        let block = Block { state: AtomicUsize::new(state), waker: UnsafeCell::new(waker), console, cell };
         NonNull::from(Box::leak(Box::new(block)))
     }
 
@@ -56,26 +61,43 @@ impl Block {
         }
     }
 
-    /// One holder more.
+    /// The executor's waker.
     ///
     /// # Safety
-    /// The caller is a holder.
-    unsafe fn add_holder(&self) {
-        let before = self.state.fetch_add(HOLDER, Ordering::Relaxed);
-        // As the standard library does of its counts: so many clones can only be forgotten ones.
-        if before > usize::MAX / 2 {
-            abort();
-        }
+    /// The caller is a holder, for as long as this is used.
+    unsafe fn waker(&self) -> &Waker {
+        // SAFETY: while there are holders, the waker is there and nobody changes it.
+        unsafe { (*self.waker.get()).assume_init_ref() }
     }
 
-    /// Wakes the executor's task.
+    /// Makes a clone of a waker a holder. The answer is a block for it, where this one can't have the executor's waker as its own.
     ///
     /// # Safety
     /// The caller is a holder.
-    unsafe fn wake_executor(&self) {
-        // SAFETY: while there are holders, nobody changes the waker.
-        if let Some(waker) = unsafe { &*self.waker.get() } {
-            waker.wake_by_ref();
+    unsafe fn add_holder(&self) -> Option<NonNull<Block>> {
+        let mut now = self.state.load(Ordering::Acquire);
+        loop {
+            // As the standard library does of its counts: so many clones can only be forgotten ones.
+            if now > usize::MAX / 2 {
+                abort();
+            }
+            // SAFETY: the caller is a holder.
+            let own = (now & BORROWED != 0).then(|| unsafe { self.waker() }.clone());
+            // SAFETY: as above.
+            if own.as_ref().map_or(false, |own| !own.will_wake(unsafe { self.waker() })) {
+                let own = own.map_or_else(MaybeUninit::uninit, MaybeUninit::new);
+                return Some(Block::new(HOLDER, own, &self.console, &self.cell));
+            }
+            let next = (now & !BORROWED) + HOLDER;
+            match self.state.compare_exchange_weak(now, next, Ordering::AcqRel, Ordering::Acquire) {
+                Ok(_) => {
+                    // Its data and its functions are those of the borrowed one, so that one stands for it from now on.
+                    std::mem::forget(own);
+                    return None;
+                }
+                // Another clone may have come first.
+                Err(other) => now = other,
+            }
         }
     }
 }
@@ -84,17 +106,17 @@ impl Block {
 /// executor, and clones that wake by that.
 ///
 /// # Safety
-/// The future has the block, and is being polled.
+/// The future has the block, and is being polled. The waker is there until [`end_of_poll`].
 unsafe fn lend_to_poll(owned: NonNull<Block>, waker: &Waker) -> bool {
     // SAFETY: the future keeps the block.
     let block = unsafe { owned.as_ref() };
     let mut now = block.state.load(Ordering::Acquire);
     loop {
         if now == OWNED {
-            let waker = waker.clone();
-            // SAFETY: there is no holder, and only this poll could make one. The load above has seen all that the last one did.
-            unsafe { *block.waker.get() = Some(waker) };
-            block.state.store(OWNED | HOLDER, Ordering::Release);
+            // SAFETY: there is no holder, and only this poll could make one. The load above has seen all that the last one did. The copy
+            // is used as a reference to the executor's waker would be, which is there for the poll.
+            unsafe { ptr::copy_nonoverlapping(waker, block.waker.get().cast::<Waker>(), 1) };
+            block.state.store(OWNED | BORROWED | HOLDER, Ordering::Release);
             return true;
         }
         if now & EMPTYING != 0 {
@@ -102,9 +124,8 @@ unsafe fn lend_to_poll(owned: NonNull<Block>, waker: &Waker) -> bool {
         }
         match block.state.compare_exchange_weak(now, now + HOLDER, Ordering::Acquire, Ordering::Acquire) {
             Ok(_) => {
-                // SAFETY: this poll is a holder, so nobody changes the waker.
-                let is_same = unsafe { &*block.waker.get() }.as_ref().map_or(false, |held| held.will_wake(waker));
-                if is_same {
+                // SAFETY: this poll is a holder.
+                if unsafe { block.waker() }.will_wake(waker) {
                     return true;
                 }
                 // SAFETY: it was a holder, and is none from here on.
@@ -119,7 +140,23 @@ unsafe fn lend_to_poll(owned: NonNull<Block>, waker: &Waker) -> bool {
     }
 }
 
-/// One holder less. The last one takes the executor's waker out, and frees the block if the future is gone.
+/// The poll is no holder any more.
+///
+/// # Safety
+/// `lend_to_poll` made the future's poll a holder, which has ended.
+unsafe fn end_of_poll(owned: NonNull<Block>) {
+    // SAFETY: the future keeps the block.
+    let state = unsafe { &owned.as_ref().state };
+    if state.load(Ordering::Acquire) == OWNED | BORROWED | HOLDER {
+        // There was no clone, and as the poll is the only holder there is nobody to make one. Nothing is dropped, as it was borrowed.
+        state.store(OWNED, Ordering::Release);
+    } else {
+        // SAFETY: it was a holder, and is none from here on. The waker is the block's own.
+        unsafe { remove_holder(owned) };
+    }
+}
+
+/// One holder less, of a block with a waker of its own. The last one takes the waker out, and frees the block if the future is gone.
 ///
 /// # Safety
 /// The caller was a holder, and is none any more.
@@ -136,8 +173,9 @@ unsafe fn remove_holder(block: NonNull<Block>) {
             Err(other) => now = other,
         }
     }
-    // SAFETY: with `EMPTYING` the block is this call's alone, and stays. The exchange has seen what the other holders did.
-    let waker = unsafe { (*block.as_ref().waker.get()).take() };
+    // SAFETY: with `EMPTYING` the block is this call's alone, and stays. The exchange has seen what the other holders did. The waker is
+    // the block's own, and goes over to this call.
+    let waker = unsafe { (*block.as_ref().waker.get()).assume_init_read() };
     // SAFETY: as above; from here on the block is the future's, or if there is none it is nobody's.
     let before = unsafe { block.as_ref() }.state.fetch_and(!EMPTYING, Ordering::AcqRel);
     if before & OWNED == 0 {
@@ -160,10 +198,10 @@ unsafe impl Sync for Lent {}
 
 impl Lent {
     /// Lends a waker for one poll: no clone, so neither it nor its drop is counted.
-    pub(crate) fn lend(&mut self, task: &Task, waker: &Waker) -> Lending<'_> {
-        // SAFETY: the block is the future's, which is being polled.
+    pub(crate) fn lend<'a>(&'a mut self, task: &Task, waker: &'a Waker) -> Lending<'a> {
+        // SAFETY: the block is the future's, which is being polled. `Lending` has the lifetime of the waker, and ends the poll.
         let block = self.0.filter(|block| unsafe { lend_to_poll(*block, waker) }).unwrap_or_else(|| {
-            let block = Block::new(task);
+            let block = Block::new(OWNED, MaybeUninit::uninit(), &task.console, &task.cell);
             // The one before goes on with its clones.
             *self = Lent(Some(block));
             // SAFETY: as above. It is new, so that it has no other waker.
@@ -195,7 +233,7 @@ impl Drop for Lent {
 pub(crate) struct Lending<'a> {
     waker: ManuallyDrop<Waker>,
     block: NonNull<Block>,
-    lent: PhantomData<&'a mut Lent>,
+    lent: PhantomData<(&'a mut Lent, &'a Waker)>,
 }
 
 impl Lending<'_> {
@@ -206,8 +244,8 @@ impl Lending<'_> {
 
 impl Drop for Lending<'_> {
     fn drop(&mut self) {
-        // SAFETY: the poll was a holder, and has ended.
-        unsafe { remove_holder(self.block) };
+        // SAFETY: the poll was made a holder, and has ended.
+        unsafe { end_of_poll(self.block) };
     }
 }
 
@@ -244,10 +282,10 @@ static VTABLE: RawWakerVTable = RawWakerVTable::new(clone, wake, wake_by_ref, re
 unsafe fn clone(data: *const ()) -> RawWaker {
     // SAFETY: the waker, or the poll that lends it, is a holder, and keeps the block for this call.
     let block = unsafe { &*data.cast::<Block>() };
-    block.cell.clone_waker(&block.console);
     // SAFETY: as above.
-    unsafe { block.add_holder() };
-    RawWaker::new(data, &VTABLE)
+    let other = unsafe { block.add_holder() };
+    block.cell.clone_waker(&block.console);
+    RawWaker::new(other.map_or(data, |other| other.as_ptr() as *const ()), &VTABLE)
 }
 
 /// # Safety
@@ -258,7 +296,7 @@ unsafe fn wake(data: *const ()) {
     let block = holder.block();
     block.cell.wake(&block.console, block.origin());
     // SAFETY: it is a holder.
-    unsafe { block.wake_executor() };
+    unsafe { block.waker() }.wake_by_ref();
 }
 
 /// # Safety
@@ -268,7 +306,7 @@ unsafe fn wake_by_ref(data: *const ()) {
     let block = unsafe { &*data.cast::<Block>() };
     block.cell.wake_by_ref(&block.console, block.origin());
     // SAFETY: as above.
-    unsafe { block.wake_executor() };
+    unsafe { block.waker() }.wake_by_ref();
 }
 
 /// # Safety

@@ -347,3 +347,75 @@ fn a_wake_stands_before_the_poll_to_which_it_leads() {
     // The future has the slot, and the waker in it has the executor, which has the future.
     drop(kept.lock().unwrap().take());
 }
+
+/// Wakers of an executor of which each has data of its own, so that no clone is the same as another to `Waker::will_wake`.
+mod boxed {
+    use std::sync::atomic::{AtomicUsize, Ordering};
+    use std::sync::Arc;
+    use std::task::{RawWaker, RawWakerVTable, Waker};
+
+    static TABLE: RawWakerVTable = RawWakerVTable::new(clone, wake, wake_by_ref, release);
+
+    fn raw(wakes: Arc<AtomicUsize>) -> RawWaker {
+        RawWaker::new(Box::into_raw(Box::new(wakes)) as *const (), &TABLE)
+    }
+
+    pub fn waker(wakes: &Arc<AtomicUsize>) -> Waker {
+        // SAFETY: the functions take this data, each as the rules of wakers have it.
+        unsafe { Waker::from_raw(raw(Arc::clone(wakes))) }
+    }
+
+    unsafe fn clone(data: *const ()) -> RawWaker {
+        // SAFETY: the data is a box of a waker that stays.
+        raw(Arc::clone(unsafe { &*data.cast::<Arc<AtomicUsize>>() }))
+    }
+
+    unsafe fn wake(data: *const ()) {
+        // SAFETY: as of the two.
+        unsafe {
+            wake_by_ref(data);
+            release(data);
+        }
+    }
+
+    unsafe fn wake_by_ref(data: *const ()) {
+        // SAFETY: the data is a box of a waker that stays.
+        unsafe { &*data.cast::<Arc<AtomicUsize>>() }.fetch_add(1, Ordering::SeqCst);
+    }
+
+    unsafe fn release(data: *const ()) {
+        // SAFETY: the data is a box of a waker that is gone.
+        drop(unsafe { Box::from_raw(data as *mut Arc<AtomicUsize>) });
+    }
+}
+
+#[test]
+fn an_executor_may_have_wakers_of_which_no_two_are_the_same() {
+    let console = Console::open(Settings::default());
+    let wakes = Arc::default();
+    let kept: Arc<Mutex<Vec<Waker>>> = Arc::default();
+    let slot = Arc::clone(&kept);
+    let mut future = Box::pin(console.instrument(
+        "keeps two wakers",
+        Calls(move |cx: &mut Context<'_>| {
+            let first = cx.waker().clone();
+            slot.lock().unwrap().extend([first.clone(), cx.waker().clone()]);
+            cx.waker().wake_by_ref();
+            drop(first);
+            Poll::Pending
+        }),
+    ));
+    for poll in 1..=3 {
+        let waker = boxed::waker(&wakes);
+        assert!(future.as_mut().poll(&mut Context::from_waker(&waker)).is_pending());
+        drop(waker);
+        let wakers = std::mem::take(&mut *kept.lock().unwrap());
+        std::thread::spawn(move || wakers.into_iter().for_each(Waker::wake)).join().unwrap();
+        assert_eq!(wakes.load(std::sync::atomic::Ordering::SeqCst), 3 * poll, "poll {poll}");
+        assert_eq!(Arc::strong_count(&wakes), 1, "poll {poll}: no waker of the executor is kept");
+    }
+    let told = publish(&console);
+    let row = task(&told, future.id().value());
+    let counts = ["wakes", "self_wakes", "clones", "drops"].map(|key| number(row, key));
+    assert_eq!(counts, [9, 3, 9, 9], "{row}");
+}

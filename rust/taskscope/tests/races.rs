@@ -59,6 +59,7 @@ fn polls_and_last_wakers() {
             spawn(move || loop {
                 match take(&kept) {
                     Some(Some(Some(waker))) if number == 0 => waker.wake(),
+                    Some(Some(Some(waker))) if number == 1 => waker.wake_by_ref(),
                     Some(Some(waker)) => drop(waker),
                     Some(None) => return,
                     None => std::hint::spin_loop(),
