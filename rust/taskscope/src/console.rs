@@ -34,7 +34,8 @@ use std::time::{Duration, Instant};
 #[must_use = "settings are there for `Console::open`"]
 pub struct Settings {
     /// How many new items each of the 16 recorders holds until the next line: a thread's items all go to one recorder. What
-    /// finds no room is counted as dropped.
+    /// finds no room is counted as dropped. Room that isn't used takes no memory, so a program that makes a million tasks at once may
+    /// have a capacity of a million. Items that are closed before a line told them stay in memory until then, some 500 bytes each.
     pub capacity: usize,
     /// How long after its close an item stays in the tables of the stream. `None`: for good, and so the memory of a program
     /// that goes on making items has no bound.
@@ -399,6 +400,19 @@ impl Console {
     }
 
     /// Begins an async operation on a resource, by the call that makes it, as `Semaphore::acquire`.
+    ///
+    /// ```
+    /// use taskscope::{Attr, Change, Console, Settings};
+    ///
+    /// let console = Console::open(Settings::default());
+    /// let semaphore = console.resource("Semaphore").kind("Sync").open();
+    /// let mut acquire = console.op(&semaphore, "Semaphore::acquire").attr(Attr::new("permits_obtained", 0u64)).open();
+    /// acquire.start_poll()?;
+    /// acquire.change("permits_obtained", Change::add(1u64))?;
+    /// acquire.end_poll()?;
+    /// acquire.count_poll(true);
+    /// # Ok::<(), taskscope::Refused>(())
+    /// ```
     pub fn op(&self, resource: &Resource, source: impl Into<Cow<'static, str>>) -> OpBuilder<'_> {
         OpBuilder::new(self, resource, source.into())
     }
@@ -441,6 +455,22 @@ impl Console {
     }
 
     /// The next line of the stream, as one that tells all, from which a new reader can begin. Nothing leaves with it.
+    ///
+    /// It has some 390 bytes for each task, and as much memory is needed for it twice. The program `taskscope` takes lines of 256 MiB,
+    /// so it can't begin at one that tells more than some 690,000 tasks.
+    ///
+    /// ```
+    /// use taskscope::{Console, Settings};
+    ///
+    /// let console = Console::open(Settings::default());
+    /// let task = console.task("fetch").open();
+    /// let told = console.publish()?;
+    /// // A reader that comes now begins here, and goes on with the lines after it.
+    /// let all = String::from_utf8(console.snapshot()?).expect("text");
+    /// assert!(all.contains("\"snapshot\":true") && all.contains("fetch"));
+    /// # drop((task, told));
+    /// # Ok::<(), taskscope::Fault>(())
+    /// ```
     ///
     /// # Errors
     /// As of [`publish`](Console::publish).

@@ -1,4 +1,6 @@
-//! Inspects the tasks of a program, and the resources and async operations that they wait for.
+#![doc = include_str!("../README.md")]
+//!
+//! # The types
 //!
 //! Each call on an item is one step on its row, which a proved library makes; the rows of two items never meet. From time to time
 //! [`Console::publish`] gives a line of JSON that tells what is new and what changed, which the same library writes. `taskscope

@@ -110,6 +110,14 @@ impl<'a> ResourceBuilder<'a> {
     }
 
     /// The resource is a part of this one.
+    ///
+    /// ```
+    /// # use taskscope::{Console, Settings};
+    /// # let console = Console::open(Settings::default());
+    /// let channel = console.resource("Channel").open();
+    /// let semaphore = console.resource("Semaphore").kind("Sync").parent(channel.id()).open();
+    /// # drop(semaphore);
+    /// ```
     pub fn parent(self, parent: ResourceId) -> ResourceBuilder<'a> {
         ResourceBuilder { parent: parent.0, ..self }
     }
@@ -142,6 +150,13 @@ impl<'a> ResourceBuilder<'a> {
     }
 
     /// Where the resource was made: without this, where [`Console::resource`] was called.
+    ///
+    /// ```
+    /// # use taskscope::{Console, Location, Settings};
+    /// # let console = Console::open(Settings::default());
+    /// let semaphore = console.resource("Semaphore").location(Location::new("src/pool.rs", 12, 9)).open();
+    /// # drop(semaphore);
+    /// ```
     pub fn location(self, location: impl Into<Location>) -> ResourceBuilder<'a> {
         ResourceBuilder { location: location.into(), ..self }
     }
