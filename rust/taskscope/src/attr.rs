@@ -184,7 +184,7 @@ impl Attr {
         self.name.as_str()
     }
 
-    /// Its unit, where it has one.
+    /// Its unit, if it has one.
     pub fn unit(&self) -> Option<&str> {
         self.unit.as_ref().map(Name::as_str)
     }

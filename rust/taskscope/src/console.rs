@@ -35,7 +35,7 @@ use std::time::{Duration, Instant};
 pub struct Settings {
     /// How many new items each of the 16 recorders holds until the next line: a thread's items all go to one recorder. What
     /// finds no room is counted as dropped. Room that isn't used takes no memory, so a program that makes a million tasks at once may
-    /// have a capacity of a million. Items that are closed before a line told them stay in memory until then, some 500 bytes each.
+    /// have a capacity of a million. Items that are closed before the line stay in memory until then, some 500 bytes each.
     pub capacity: usize,
     /// How long after its close an item stays in the tables of the stream. `None`: for good, and so the memory of a program
     /// that goes on making items has no bound.
@@ -301,7 +301,7 @@ impl Console {
         &self.0
     }
 
-    /// Whether calls are recorded. Where they are not, all calls work and cost little, no line is ever made, and ids are none. That
+    /// Whether calls are recorded. If they are not, all calls work and cost little, no line is ever made, and ids are none. That
     /// is so in two cases:
     ///
     /// - No library is kept for the processor and the system that the program is built for, as cargo warned when it was built.
@@ -418,7 +418,7 @@ impl Console {
     }
 
     /// The next line of the stream, with its line end: what is new or has changed since the line before. Where closed items
-    /// leave with it, a second line after it says which. Where nothing is recorded ([`is_active`](Console::is_active)) it is empty.
+    /// leave with it, a second line after it says which. If nothing is recorded ([`is_active`](Console::is_active)) it is empty.
     ///
     /// Its cost is by what changed, not by how many items there are. Where several threads publish, their lines are to be
     /// written in the order of their numbers.
@@ -431,10 +431,10 @@ impl Console {
         self.0.publish()
     }
 
-    /// As [`publish`](Console::publish), or `None` where nothing changed since the line before: nothing is new, nothing leaves,
-    /// and no more was dropped. The next line then follows on the one before, and tells the time until its own moment.
+    /// As [`publish`](Console::publish), or `None` if nothing changed since the line before: nothing is new, nothing leaves,
+    /// and no more was dropped. The next line then follows on the one before, and the time until its own moment counts as watched.
     ///
-    /// A program whose tasks rest so writes nothing. Its reader then can't tell it from one that is gone, so write a line of
+    /// A program whose tasks rest so writes nothing. To its reader it looks like one that is gone, so write a line of
     /// `publish` now and then, as [`Publisher`](crate::Publisher) does each second.
     ///
     /// ```
@@ -457,18 +457,18 @@ impl Console {
     /// The next line of the stream, as one that tells all, from which a new reader can begin. Nothing leaves with it.
     ///
     /// It has some 390 bytes for each task, and as much memory is needed for it twice. The program `taskscope` takes lines of 256 MiB,
-    /// so it can't begin at one that tells more than some 690,000 tasks.
+    /// so it can't begin at one with more than some 690,000 tasks.
     ///
     /// ```
     /// use taskscope::{Console, Settings};
     ///
     /// let console = Console::open(Settings::default());
     /// let task = console.task("fetch").open();
-    /// let told = console.publish()?;
+    /// let first = console.publish()?;
     /// // A reader that comes now begins here, and goes on with the lines after it.
     /// let all = String::from_utf8(console.snapshot()?).expect("text");
     /// assert!(all.contains("\"snapshot\":true") && all.contains("fetch"));
-    /// # drop((task, told));
+    /// # drop((task, first));
     /// # Ok::<(), taskscope::Fault>(())
     /// ```
     ///

@@ -44,7 +44,8 @@
 //! let other = task.clone();
 //! ```
 //!
-//! and what is dropped is closed or released, once. All go to other threads, and all but futures and calls are shared:
+//! and what is dropped is closed or released, once. A global allocator must make no call on an item: it is called while a row is
+//! locked. All go to other threads, and all but futures and calls are shared:
 //!
 //! ```
 //! use taskscope::{Console, Op, Publisher, Resource, SharedTask, Task, TaskWaker};

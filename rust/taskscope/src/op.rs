@@ -160,8 +160,8 @@ impl Op {
         OpId(self.cell.id)
     }
 
-    /// Whether lines tell of the operation. They don't where its recorder was full or had no number for it, which counts it as dropped, and
-    /// where the console isn't [active](crate::Console::is_active).
+    /// Whether lines have the operation. They don't if its recorder was full or had no number for it, which counts it as dropped, or if the
+    /// console isn't [active](crate::Console::is_active).
     pub fn is_recorded(&self) -> bool {
         self.console.tells(&*self.cell)
     }

@@ -209,8 +209,8 @@ impl Resource {
         ResourceId(self.0.cell.id)
     }
 
-    /// Whether lines tell of the resource. They don't where its recorder was full or had no number for it, which counts it as dropped, and
-    /// where the console isn't [active](crate::Console::is_active).
+    /// Whether lines have the resource. They don't if its recorder was full or had no number for it, which counts it as dropped, or if the
+    /// console isn't [active](crate::Console::is_active).
     pub fn is_recorded(&self) -> bool {
         self.0.console.tells(&*self.0.cell)
     }

@@ -250,8 +250,8 @@ impl Task {
         TaskId(self.cell.id)
     }
 
-    /// Whether lines tell of the task. They don't where its recorder was full or had no number for it, which counts it as dropped, and
-    /// where the console isn't [active](crate::Console::is_active).
+    /// Whether lines have the task. They don't if its recorder was full or had no number for it, which counts it as dropped, or if the
+    /// console isn't [active](crate::Console::is_active).
     pub fn is_recorded(&self) -> bool {
         self.console.tells(&*self.cell)
     }
