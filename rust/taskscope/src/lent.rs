@@ -23,6 +23,7 @@ use crate::task::{Origin, Task, TaskCell};
 use std::cell::UnsafeCell;
 use std::marker::PhantomData;
 use std::mem::{ManuallyDrop, MaybeUninit};
+use std::panic::{RefUnwindSafe, UnwindSafe};
 use std::process::abort;
 use std::ptr::{self, NonNull};
 use std::sync::atomic::{AtomicUsize, Ordering};
@@ -195,6 +196,10 @@ pub(crate) struct Lent(Option<NonNull<Block>>);
 unsafe impl Send for Lent {}
 // SAFETY: as above. By `&Lent` nothing is reached.
 unsafe impl Sync for Lent {}
+
+// A panic leaves a block whole: each of its changes is one exchange of its word.
+impl UnwindSafe for Lent {}
+impl RefUnwindSafe for Lent {}
 
 impl Lent {
     /// Lends a waker for one poll: no clone, so neither it nor its drop is counted.
