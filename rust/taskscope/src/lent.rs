@@ -83,12 +83,13 @@ impl Block {
                 abort();
             }
             // SAFETY: the caller is a holder.
-            let own = (now & BORROWED != 0).then(|| unsafe { self.waker() }.clone());
-            // SAFETY: as above.
-            if own.as_ref().map_or(false, |own| !own.will_wake(unsafe { self.waker() })) {
-                let own = own.map_or_else(MaybeUninit::uninit, MaybeUninit::new);
-                return Some(Block::new(HOLDER, own, &self.console, &self.cell));
-            }
+            let held = unsafe { self.waker() };
+            let own = match (now & BORROWED != 0).then(|| held.clone()) {
+                Some(own) if !own.will_wake(held) => {
+                    return Some(Block::new(HOLDER, MaybeUninit::new(own), &self.console, &self.cell));
+                }
+                own => own,
+            };
             let next = (now & !BORROWED) + HOLDER;
             match self.state.compare_exchange_weak(now, next, Ordering::AcqRel, Ordering::Acquire) {
                 Ok(_) => {
