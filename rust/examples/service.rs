@@ -108,14 +108,14 @@ struct Service {
 }
 
 impl Service {
-    fn inspect(
+    fn instrument(
         &mut self,
         name: impl Into<String>,
         work: impl Future<Output = ()> + Send + 'static,
     ) -> Inspected<Counted> {
         let (name, polls) = (name.into(), Arc::<AtomicU64>::default());
         let counted = Counted { work: Box::pin(work), polls: Arc::clone(&polls) };
-        let inspected = self.console.inspect(name.clone(), counted);
+        let inspected = self.console.instrument(name.clone(), counted);
         self.tasks.push((inspected.id(), name, polls));
         inspected
     }
@@ -126,14 +126,14 @@ impl Service {
         let mut joins = Vec::new();
         for producer in 0..3 {
             let to = to.clone();
-            let work = self.inspect(format!("producer-{producer}"), async move {
+            let work = self.instrument(format!("producer-{producer}"), async move {
                 for number in 0..2_000 {
                     to.send(number).await.expect("the consumer takes all");
                 }
             });
             joins.push(tokio::spawn(work));
         }
-        let work = self.inspect("consumer", async move {
+        let work = self.instrument("consumer", async move {
             let mut sum = 0;
             while let Some(number) = from.recv().await {
                 sum += number;
@@ -151,10 +151,10 @@ impl Service {
         for limited in 0..6 {
             let (semaphore, resource) = (Arc::clone(&semaphore), resource.clone());
             let (console, counts) = (self.console.clone(), Arc::clone(&self.waits));
-            let work = self.inspect(format!("limited-{limited}"), async move {
+            let work = self.instrument(format!("limited-{limited}"), async move {
                 for _ in 0..20 {
                     let wait = CountedWait { wait: Box::pin(semaphore.acquire()), counts: Arc::clone(&counts) };
-                    let acquire = console.op(&resource, "Semaphore::acquire").open().inspect(wait);
+                    let acquire = console.op(&resource, "Semaphore::acquire").open().instrument(wait);
                     let permit = acquire.await.expect("the semaphore stays open");
                     resource.change("permits", Change::sub(1u64)).expect("there was a permit");
                     sleep(Duration::from_millis(2)).await;
@@ -169,12 +169,12 @@ impl Service {
 
     /// Tasks that end by themselves.
     fn start_others(&mut self) -> Vec<JoinHandle<()>> {
-        let sleeper = self.inspect("sleeper", async {
+        let sleeper = self.instrument("sleeper", async {
             for _ in 0..5 {
                 sleep(Duration::from_millis(30)).await;
             }
         });
-        let self_waker = self.inspect("self-waker", SelfWaker(1_000));
+        let self_waker = self.instrument("self-waker", SelfWaker(1_000));
         let calls = Arc::<AtomicU64>::default();
         let called = Arc::clone(&calls);
         let hash = self.console.blocking("hash", move || {
@@ -189,7 +189,7 @@ impl Service {
         let mut joins = self.start_channel();
         joins.extend(self.start_limited(resource));
         joins.extend(self.start_others());
-        let lost = self.inspect("lost", LosesItsWaker);
+        let lost = self.instrument("lost", LosesItsWaker);
         let lost_polls = Arc::clone(&self.tasks[self.tasks.len() - 1].2);
         tokio::spawn(lost);
         for join in joins {
@@ -224,7 +224,7 @@ fn main() -> Result<(), Box<dyn Error>> {
     let console = Console::open(Settings::default());
     let publisher = Publisher::start(&console, Duration::from_millis(100), writer)?;
     let runtime = runtime()?;
-    let resource = console.resource("tokio::sync::Semaphore", "Sync").attr(Attr::new("permits", 2u64)).open();
+    let resource = console.resource("tokio::sync::Semaphore").kind("Sync").attr(Attr::new("permits", 2u64)).open();
     let mut service = Service { console, tasks: Vec::new(), waits: Arc::default() };
     runtime.block_on(service.run(&resource));
     // The last line is written while the lost task is there: the runtime drops it at its own end.

@@ -66,7 +66,7 @@ fn console() -> Console {
 
 /// The same, with histograms of poll times or without.
 fn with_times(times: bool) -> Console {
-    Console::open(Settings { capacity: usize::MAX, retention: Some(Duration::ZERO), times })
+    Console::open(Settings::default().capacity(usize::MAX).retention(Duration::ZERO).times(times))
 }
 
 /// A row of the table of calls.
@@ -79,7 +79,7 @@ fn tell(what: &str, clock: f64, plain: f64, inspected: f64, span: Option<f64>) {
 fn wakes(clock: f64) {
     let (_plain, plain) = waker_of(|future| future);
     let console = console();
-    let (_inspected, inspected) = waker_of(|future| console.inspect("woken", future));
+    let (_inspected, inspected) = waker_of(|future| Console::instrument(&console, "woken", future));
     let (_span, span) = waker_of(|future| future.instrument(tracing::info_span!("woken")));
     let wake = |waker: &Waker| least(200, 20_000, |calls| (0..calls).for_each(|_| black_box(waker).wake_by_ref()));
     tell("a wake by reference", clock, wake(&plain), wake(&inspected), Some(wake(&span)));
@@ -98,10 +98,10 @@ fn polls(clock: f64) {
         })
     }
     let console = console();
-    let inspected = poll(console.inspect("polled", Pending(None)));
+    let inspected = poll(Console::instrument(&console, "polled", Pending(None)));
     let span = poll(Pending(None).instrument(tracing::info_span!("polled")));
     tell("a poll", clock, poll(Pending(None)), inspected, Some(span));
-    let plain = poll(with_times(false).inspect("polled", Pending(None)));
+    let plain = poll(Console::instrument(&with_times(false), "polled", Pending(None)));
     tell("a poll, without histograms", clock, poll(Pending(None)), plain, None);
 }
 
@@ -123,11 +123,11 @@ fn spawns(clock: f64) -> std::io::Result<()> {
     }
     let console = console();
     let plain = spawn(&runtime, || (), || async {});
-    let inspected = spawn(&runtime, || (), || console.inspect("spawned", async {}));
+    let inspected = spawn(&runtime, || (), || Console::instrument(&console, "spawned", async {}));
     let span = spawn(&runtime, || (), || async {}.instrument(tracing::info_span!("spawned")));
     tell("a spawn and join on tokio", clock, plain, inspected, Some(span));
     let publish = || drop(console.publish());
-    let published = spawn(&runtime, publish, || console.inspect("spawned", async {}));
+    let published = spawn(&runtime, publish, || Console::instrument(&console, "spawned", async {}));
     tell("the same, with its share of a line", clock, plain, published, None);
     Ok(())
 }

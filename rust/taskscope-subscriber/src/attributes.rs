@@ -86,7 +86,7 @@ impl Types {
             Some(Value::U64(_)) => NONE,
             Some(Value::I64(_)) => ZERO,
             Some(Value::Bool(_)) => NO,
-            None => return,
+            _ => return,
         };
         let mut types = self.0.write().unwrap_or_else(PoisonError::into_inner);
         let list = types.get(name).map_or(&[][..], |list| list);
@@ -135,7 +135,7 @@ fn number(value: Value) -> i128 {
     match value {
         Value::U64(number) => number.into(),
         Value::I64(signed) => signed.into(),
-        Value::Bool(_) => 0,
+        _ => 0,
     }
 }
 
@@ -147,7 +147,7 @@ fn nearest(like: Value, exact: i128) -> Value {
             let limit = if exact < 0 { i64::MIN } else { i64::MAX };
             Value::I64(i64::try_from(exact).unwrap_or(limit))
         }
-        Value::Bool(flag) => Value::Bool(flag),
+        _ => like,
     }
 }
 

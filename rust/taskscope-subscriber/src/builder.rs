@@ -28,7 +28,7 @@ impl Default for Builder {
         Builder {
             output: None,
             interval: Duration::from_millis(100),
-            settings: Settings { retention: Some(Duration::from_secs(60)), ..Settings::default() },
+            settings: Settings::default().retention(Duration::from_secs(60)),
             items: Items::default(),
             polls: Polls::default(),
         }

@@ -186,7 +186,7 @@ impl TaskscopeLayer {
         let values = self.resource_types.begin(&fields.concrete);
         let parent = entered.innermost(self.number, |item| item.resource().map(|_| Arc::clone(item)));
         let location = self.places.tell(&fields.place).location();
-        let mut builder = self.console.resource(fields.concrete.clone(), fields.kind).location(location);
+        let mut builder = self.console.resource(fields.concrete.clone()).kind(fields.kind).location(location);
         if let Some(id) = parent.as_deref().and_then(Item::resource).and_then(Resource::id) {
             builder = builder.parent(id);
         }

@@ -1,6 +1,5 @@
 //! A task that spawned another one ends when it does, and not when the other one ends.
 
-#[path = "../../taskscope/tests/common/mod.rs"]
 mod common;
 
 use common::{list, number, publish, value};

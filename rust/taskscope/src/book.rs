@@ -13,7 +13,7 @@ use std::collections::{BTreeMap, BinaryHeap};
 use std::sync::Arc;
 
 /// How many tasks, resources and operations were dropped. Each stays at the greatest `u64`.
-#[derive(Clone, Copy, Debug, Default)]
+#[derive(Clone, Copy, Debug, Default, PartialEq, Eq)]
 pub(crate) struct Total([u64; 3]);
 
 impl Total {
@@ -72,6 +72,9 @@ trait Told {
     /// Enters the items that a line lists.
     fn enter(&mut self, listed: Listed, page: &mut Page);
 
+    /// Whether an item may leave at a moment.
+    fn may_leave(&self, moment: u64) -> bool;
+
     /// The page that these were entered in was told.
     fn tell(&mut self, listed: Listed, page: &Page, retention: Option<u64>);
 }
@@ -88,6 +91,10 @@ impl<T: Item> Told for Table<T> {
             Listed::All => self.enter_all(page),
         }
         self.enter_fresh(page);
+    }
+
+    fn may_leave(&self, moment: u64) -> bool {
+        self.closed.peek().map_or(false, |&Reverse((from, _))| from <= moment)
     }
 
     fn tell(&mut self, listed: Listed, page: &Page, retention: Option<u64>) {
@@ -238,6 +245,8 @@ fn note_close<T: Item>(
 pub(crate) struct Book {
     /// The number of the last line.
     seq: u64,
+    /// How many were dropped, as the last line told it.
+    dropped: Total,
     /// Whether lines tell histograms of poll times.
     times: bool,
     tasks: Table<TaskCell>,
@@ -263,6 +272,11 @@ impl Book {
         }
     }
 
+    /// Whether the next line would tell nothing but its moment. `page` has what it lists.
+    fn is_unchanged(&mut self, page: &Page, dropped: Total, moment: u64) -> bool {
+        page.is_empty() && dropped == self.dropped && !self.tables().iter().any(|table| table.may_leave(moment))
+    }
+
     /// The line of what changed, and where items leave with it the line that says so after it.
     pub(crate) fn publish(
         &mut self,
@@ -270,7 +284,33 @@ impl Book {
         now: impl Fn() -> u64,
         retention: Option<u64>,
     ) -> Result<Vec<u8>, Fault> {
-        let (moment, mut lines) = self.line(Listed::Changed, dropped, now, retention)?;
+        let page = self.page(Listed::Changed);
+        self.publish_page(&page, dropped, now(), retention)
+    }
+
+    /// The same, or nothing where nothing changed.
+    pub(crate) fn publish_changes(
+        &mut self,
+        dropped: Total,
+        now: impl Fn() -> u64,
+        retention: Option<u64>,
+    ) -> Result<Option<Vec<u8>>, Fault> {
+        let page = self.page(Listed::Changed);
+        let moment = now();
+        if self.is_unchanged(&page, dropped, moment) {
+            return Ok(None);
+        }
+        self.publish_page(&page, dropped, moment, retention).map(Some)
+    }
+
+    fn publish_page(
+        &mut self,
+        page: &Page,
+        dropped: Total,
+        moment: u64,
+        retention: Option<u64>,
+    ) -> Result<Vec<u8>, Fault> {
+        let mut lines = self.line(Listed::Changed, page, dropped, moment, retention)?;
         if let Some(retention) = retention {
             lines.extend(self.gone_line(moment, dropped, retention));
         }
@@ -284,31 +324,37 @@ impl Book {
         now: impl Fn() -> u64,
         retention: Option<u64>,
     ) -> Result<Vec<u8>, Fault> {
-        let (_, line) = self.line(Listed::All, dropped, now, retention)?;
-        Ok(line)
+        let page = self.page(Listed::All);
+        self.line(Listed::All, &page, dropped, now(), retention)
     }
 
-    /// A line of these items and the new ones, with its moment.
+    /// The entries of a line of these items and the new ones.
     ///
-    /// The moment is read once the rows were, so that no moment in a line is above the line's own.
-    fn line(
-        &mut self,
-        listed: Listed,
-        dropped: Total,
-        now: impl Fn() -> u64,
-        retention: Option<u64>,
-    ) -> Result<(u64, Vec<u8>), Fault> {
+    /// The moment of the line is to be read after this, so that no moment in it is above its own.
+    fn page(&mut self, listed: Listed) -> Page {
         let mut page = Page::new(self.times);
         for table in self.tables() {
             table.enter(listed, &mut page);
         }
-        let moment = now();
+        page
+    }
+
+    /// The line of a page, which counts as told.
+    fn line(
+        &mut self,
+        listed: Listed,
+        page: &Page,
+        dropped: Total,
+        moment: u64,
+        retention: Option<u64>,
+    ) -> Result<Vec<u8>, Fault> {
         let line = page.line(&self.head(moment, dropped, listed == Listed::All))?;
         self.seq += 1;
+        self.dropped = dropped;
         for table in self.tables() {
-            table.tell(listed, &page, retention);
+            table.tell(listed, page, retention);
         }
-        Ok((moment, line))
+        Ok(line)
     }
 
     /// The line that says what leaves, or no bytes where nothing does, or where the line can't be made: what leaves then stays

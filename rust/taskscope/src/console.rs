@@ -1,26 +1,41 @@
 //! The console: it makes items, and publishes what became of them.
 
 use crate::book::{Book, Total};
+use crate::border::limit::LAST_NUMBER;
 use crate::fault::Fault;
-use crate::id::{id_of, NUMBERS};
+use crate::ffi;
+use crate::id::{id_of, NO_ID};
 use crate::item::{Item, Lists};
 use crate::location::Location;
 use crate::op::OpBuilder;
+use crate::process::Process;
 use crate::resource::{Resource, ResourceBuilder};
 use crate::row::lock;
 use crate::task::TaskBuilder;
 use std::borrow::Cow;
 use std::cell::Cell;
 use std::fmt;
-use std::sync::atomic::{AtomicUsize, Ordering};
+use std::sync::atomic::{AtomicBool, AtomicUsize, Ordering};
 use std::sync::{Arc, Mutex};
 use std::time::{Duration, Instant};
 
 /// How much a console keeps.
-#[derive(Clone, Debug)]
+///
+/// ```
+/// use std::time::Duration;
+/// use taskscope::{Console, Settings};
+///
+/// let settings = Settings::default().retention(Duration::from_secs(60)).capacity(4_096).times(false);
+/// let console = Console::open(settings);
+/// # drop(console);
+/// ```
+#[derive(Clone, Debug, PartialEq, Eq, Hash)]
+#[non_exhaustive]
+#[must_use = "settings are there for `Console::open`"]
 pub struct Settings {
     /// How many new items each of the 16 recorders holds until the next line: a thread's items all go to one recorder. What
-    /// finds no room is counted as dropped.
+    /// finds no room is counted as dropped. Room that isn't used takes no memory, so a program that makes a million tasks at once may
+    /// have a capacity of a million. Items that are closed before the line stay in memory until then, some 500 bytes each.
     pub capacity: usize,
     /// How long after its close an item stays in the tables of the stream. `None`: for good, and so the memory of a program
     /// that goes on making items has no bound.
@@ -34,6 +49,41 @@ impl Default for Settings {
     /// 65,536 new items, a retention of one hour, and histograms.
     fn default() -> Settings {
         Settings { capacity: 65_536, retention: Some(Duration::from_secs(3600)), times: true }
+    }
+}
+
+impl Settings {
+    /// How many new items each of the 16 recorders holds until the next line ([`capacity`](Settings#structfield.capacity)).
+    ///
+    /// ```
+    /// # use taskscope::Settings;
+    /// assert_eq!(Settings::default().capacity(4_096).capacity, 4_096);
+    /// ```
+    pub fn capacity(self, capacity: usize) -> Settings {
+        Settings { capacity, ..self }
+    }
+
+    /// How long after its close an item stays, and for good with `None` ([`retention`](Settings#structfield.retention)).
+    ///
+    /// ```
+    /// # use std::time::Duration;
+    /// # use taskscope::Settings;
+    /// let minute = Duration::from_secs(60);
+    /// assert_eq!(Settings::default().retention(minute).retention, Some(minute));
+    /// assert_eq!(Settings::default().retention(None).retention, None);
+    /// ```
+    pub fn retention(self, retention: impl Into<Option<Duration>>) -> Settings {
+        Settings { retention: retention.into(), ..self }
+    }
+
+    /// Whether a histogram is kept of how long each task's polls ran ([`times`](Settings#structfield.times)).
+    ///
+    /// ```
+    /// # use taskscope::Settings;
+    /// assert!(Settings::default().times && !Settings::default().times(false).times);
+    /// ```
+    pub fn times(self, times: bool) -> Settings {
+        Settings { times, ..self }
     }
 }
 
@@ -53,9 +103,30 @@ struct Shard {
 #[repr(align(128))]
 struct ShardLock(Mutex<Shard>);
 
+/// Whether a recorder was half full since the last line, and what is called when one is.
+#[derive(Default)]
+struct Filling {
+    is_filling: AtomicBool,
+    call: Mutex<Option<Arc<dyn Fn() + Send + Sync>>>,
+}
+
+impl Filling {
+    #[cold]
+    fn tell(&self) {
+        self.is_filling.store(true, Ordering::SeqCst);
+        let call = lock(&self.call).clone();
+        if let Some(call) = call {
+            call();
+        }
+    }
+}
+
 pub(crate) struct Inner {
+    /// The process that opened it.
+    process: Process,
     opened: Instant,
     capacity: usize,
+    filling: Filling,
     /// In nanoseconds.
     retention: Option<u64>,
     times: bool,
@@ -84,6 +155,12 @@ fn nanoseconds(span: Duration) -> u64 {
 }
 
 impl Inner {
+    /// Whether calls are recorded. Where they are not, no lock may be taken.
+    #[inline]
+    pub(crate) fn is_active(&self) -> bool {
+        ffi::IS_LINKED && self.process.is_this()
+    }
+
     /// Nanoseconds since the console was opened.
     #[inline]
     pub(crate) fn now(&self) -> u64 {
@@ -96,9 +173,13 @@ impl Inner {
         self.times
     }
 
-    /// Makes a call on an item's words, and lists the item for the next line where it isn't.
+    /// Makes a call on an item's words, and lists the item for the next line where it isn't. Where nothing is recorded there is no
+    /// call, and the answer is 0, `false` or none: it was made.
     #[inline]
-    pub(crate) fn step<T: Item, R>(&self, cell: &Arc<T>, call: impl FnOnce(&mut T::Words) -> R) -> R {
+    pub(crate) fn step<T: Item, R: Default>(&self, cell: &Arc<T>, call: impl FnOnce(&mut T::Words) -> R) -> R {
+        if !self.is_active() {
+            return R::default();
+        }
         cell.row().step(call, |is_new| self.list(cell, is_new))
     }
 
@@ -109,19 +190,32 @@ impl Inner {
         T::list(lists).push(Arc::clone(cell));
     }
 
-    /// Makes an item and lists it as new, or counts it as dropped. Its id is 0 where the recorder has no number for it.
+    /// Whether lines tell of an item.
+    pub(crate) fn tells<T: Item>(&self, cell: &T) -> bool {
+        self.is_active() && !cell.row().is_gone()
+    }
+
+    /// Makes an item and lists it as new, or counts it as dropped. It has no id where the recorder has no number for it.
     pub(crate) fn record<T: Item>(&self, make: impl FnOnce(u64) -> T) -> Arc<T> {
+        if !self.is_active() {
+            return Arc::new(make(NO_ID));
+        }
         let number = shard();
         let mut shard = lock(&self.shards[number].0);
         let drawn = &mut shard.drawn[T::KIND as usize];
-        let mut id = 0;
-        if *drawn < NUMBERS {
+        let mut id = NO_ID;
+        if *drawn < LAST_NUMBER {
             *drawn += 1;
             id = id_of(number + 1, *drawn);
         }
         let cell = Arc::new(make(id));
-        if id != 0 && shard.fresh.held() < self.capacity {
+        if id != NO_ID && shard.fresh.held() < self.capacity {
             T::list(&mut shard.fresh).push(Arc::clone(&cell));
+            let is_half_full = shard.fresh.held() == self.capacity - self.capacity / 2;
+            drop(shard);
+            if is_half_full {
+                self.filling.tell();
+            }
         } else {
             shard.dropped.add(T::KIND);
             drop(shard);
@@ -133,6 +227,8 @@ impl Inner {
     /// Moves what the shards list to the book, and sums up what was dropped.
     fn take(&self, book: &mut Book) -> Total {
         let mut total = Total::default();
+        // Before the recorders are emptied, so that none fills up from here on without a word.
+        self.filling.is_filling.store(false, Ordering::SeqCst);
         for shard in &self.shards {
             let shard = &mut *lock(&shard.0);
             total.add_all(&shard.dropped);
@@ -141,14 +237,31 @@ impl Inner {
         total
     }
 
-    fn line(&self, whole: bool) -> Result<Vec<u8>, Fault> {
+    fn publish(&self) -> Result<Vec<u8>, Fault> {
+        if !self.is_active() {
+            return Ok(Vec::new());
+        }
         let mut book = lock(&self.book);
         let dropped = self.take(&mut book);
-        if whole {
-            book.snapshot(dropped, || self.now(), self.retention)
-        } else {
-            book.publish(dropped, || self.now(), self.retention)
+        book.publish(dropped, || self.now(), self.retention)
+    }
+
+    fn publish_changes(&self) -> Result<Option<Vec<u8>>, Fault> {
+        if !self.is_active() {
+            return Ok(None);
         }
+        let mut book = lock(&self.book);
+        let dropped = self.take(&mut book);
+        book.publish_changes(dropped, || self.now(), self.retention)
+    }
+
+    fn snapshot(&self) -> Result<Vec<u8>, Fault> {
+        if !self.is_active() {
+            return Ok(Vec::new());
+        }
+        let mut book = lock(&self.book);
+        let dropped = self.take(&mut book);
+        book.snapshot(dropped, || self.now(), self.retention)
     }
 }
 
@@ -158,7 +271,7 @@ impl Inner {
 /// use taskscope::{Console, Settings};
 ///
 /// let console = Console::open(Settings::default());
-/// let task = console.inspect("fetch", async { 7 });
+/// let task = console.instrument("fetch", async { 7 });
 /// // Hand `task` to an executor, and write what `publish` gives to a file or a socket from time to time.
 /// let line = console.publish()?;
 /// assert!(line.starts_with(b"{") && line.ends_with(b"}\n"));
@@ -166,14 +279,17 @@ impl Inner {
 /// # Ok::<(), taskscope::Fault>(())
 /// ```
 #[derive(Clone)]
+#[must_use = "a console makes no line by itself: publish its lines, or start a `Publisher`"]
 pub struct Console(Arc<Inner>);
 
 impl Console {
     /// A console without items. The moments of its stream are counted from now.
     pub fn open(settings: Settings) -> Console {
         Console(Arc::new(Inner {
+            process: Process::this(),
             opened: Instant::now(),
             capacity: settings.capacity,
+            filling: Filling::default(),
             retention: settings.retention.map(nanoseconds),
             times: settings.times,
             shards: Default::default(),
@@ -185,14 +301,68 @@ impl Console {
         &self.0
     }
 
+    /// Whether calls are recorded. If they are not, all calls work and cost little, no line is ever made, and ids are none. That
+    /// is so in two cases:
+    ///
+    /// - No library is kept for the processor and the system that the program is built for, as cargo warned when it was built.
+    /// - The process was forked from the one that opened the console. A console that it opens itself records.
+    ///
+    /// ```
+    /// # use taskscope::{Console, Settings};
+    /// let console = Console::open(Settings::default());
+    /// if !console.is_active() {
+    ///     eprintln!("nothing is inspected here");
+    /// }
+    /// # assert!(console.is_active());
+    /// ```
+    pub fn is_active(&self) -> bool {
+        self.0.is_active()
+    }
+
     /// How many nanoseconds ago the console was opened: the moment that a call records now.
     pub fn now(&self) -> u64 {
         self.0.now()
     }
 
+    /// Whether a recorder was half full since the last line, so that the next line should be made at once. Otherwise what is
+    /// new may find no room, and is counted as dropped.
+    ///
+    /// ```
+    /// use taskscope::{Console, Settings};
+    ///
+    /// let console = Console::open(Settings::default().capacity(4));
+    /// let one = console.task("one").open();
+    /// assert!(!console.is_filling());
+    /// let two = console.task("two").open();
+    /// assert!(console.is_filling());
+    /// console.publish()?;
+    /// assert!(!console.is_filling());
+    /// # drop((one, two));
+    /// # Ok::<(), taskscope::Fault>(())
+    /// ```
+    pub fn is_filling(&self) -> bool {
+        self.0.filling.is_filling.load(Ordering::SeqCst)
+    }
+
+    /// From now on this is called when a recorder becomes half full, by the thread that made the item. It is there to wake a thread
+    /// that publishes, and should return soon. A console has one such call: a later one takes the place of the one before, also that
+    /// of a [`Publisher`](crate::Publisher).
+    ///
+    /// ```
+    /// # use taskscope::{Console, Settings};
+    /// # let console = Console::open(Settings::default());
+    /// let publishing = std::thread::current();
+    /// console.on_filling(move || publishing.unpark());
+    /// ```
+    pub fn on_filling(&self, call: impl Fn() + Send + Sync + 'static) {
+        if self.is_active() {
+            *lock(&self.0.filling.call) = Some(Arc::new(call));
+        }
+    }
+
     /// Begins a task of this name, made where this is called.
     ///
-    /// [`inspect`](Console::inspect) and [`blocking`](Console::blocking) make the task of a future or a call. This is for who
+    /// [`instrument`](Console::instrument) and [`blocking`](Console::blocking) make the task of a future or a call. This is for who
     /// starts and ends polls by hand.
     ///
     /// ```
@@ -211,13 +381,13 @@ impl Console {
         TaskBuilder::new(self, name.into(), Location::caller())
     }
 
-    /// Begins a resource of this type and kind, made where this is called.
+    /// Begins a resource of this type, made where this is called. [`ResourceBuilder::kind`] says its kind.
     ///
     /// ```
     /// use taskscope::{Attr, Change, Console, Settings};
     ///
     /// let console = Console::open(Settings::default());
-    /// let semaphore = console.resource("Semaphore", "Sync").attr(Attr::new("permits", 2u64)).open();
+    /// let semaphore = console.resource("Semaphore").kind("Sync").attr(Attr::new("permits", 2u64)).open();
     /// semaphore.change("permits", Change::sub(1u64))?;
     /// let mut acquire = console.op(&semaphore, "Semaphore::acquire").open();
     /// acquire.start_poll()?;
@@ -225,21 +395,30 @@ impl Console {
     /// # Ok::<(), taskscope::Refused>(())
     /// ```
     #[track_caller]
-    pub fn resource(
-        &self,
-        concrete: impl Into<Cow<'static, str>>,
-        kind: impl Into<Cow<'static, str>>,
-    ) -> ResourceBuilder<'_> {
-        ResourceBuilder::new(self, concrete.into(), kind.into(), Location::caller())
+    pub fn resource(&self, concrete: impl Into<Cow<'static, str>>) -> ResourceBuilder<'_> {
+        ResourceBuilder::new(self, concrete.into(), Location::caller())
     }
 
     /// Begins an async operation on a resource, by the call that makes it, as `Semaphore::acquire`.
+    ///
+    /// ```
+    /// use taskscope::{Attr, Change, Console, Settings};
+    ///
+    /// let console = Console::open(Settings::default());
+    /// let semaphore = console.resource("Semaphore").kind("Sync").open();
+    /// let mut acquire = console.op(&semaphore, "Semaphore::acquire").attr(Attr::new("permits_obtained", 0u64)).open();
+    /// acquire.start_poll()?;
+    /// acquire.change("permits_obtained", Change::add(1u64))?;
+    /// acquire.end_poll()?;
+    /// acquire.count_poll(true);
+    /// # Ok::<(), taskscope::Refused>(())
+    /// ```
     pub fn op(&self, resource: &Resource, source: impl Into<Cow<'static, str>>) -> OpBuilder<'_> {
         OpBuilder::new(self, resource, source.into())
     }
 
     /// The next line of the stream, with its line end: what is new or has changed since the line before. Where closed items
-    /// leave with it, a second line after it says which.
+    /// leave with it, a second line after it says which. If nothing is recorded ([`is_active`](Console::is_active)) it is empty.
     ///
     /// Its cost is by what changed, not by how many items there are. Where several threads publish, their lines are to be
     /// written in the order of their numbers.
@@ -249,20 +428,81 @@ impl Console {
     /// [`LinesSpent`](Fault::LinesSpent) after 2^63 lines. The others don't come while this crate and its library fit each
     /// other. Where a line was made and the one about what leaves was not, this is no error, and these items leave later.
     pub fn publish(&self) -> Result<Vec<u8>, Fault> {
-        self.0.line(false)
+        self.0.publish()
+    }
+
+    /// As [`publish`](Console::publish), or `None` if nothing changed since the line before: nothing is new, nothing leaves,
+    /// and no more was dropped. The next line then follows on the one before, and the time until its own moment counts as watched.
+    ///
+    /// A program whose tasks rest so writes nothing. To its reader it looks like one that is gone, so write a line of
+    /// `publish` now and then, as [`Publisher`](crate::Publisher) does each second.
+    ///
+    /// ```
+    /// use taskscope::{Console, Settings};
+    ///
+    /// let console = Console::open(Settings::default());
+    /// let task = console.task("fetch").open();
+    /// assert!(console.publish_changes()?.is_some());
+    /// assert!(console.publish_changes()?.is_none());
+    /// # drop(task);
+    /// # Ok::<(), taskscope::Fault>(())
+    /// ```
+    ///
+    /// # Errors
+    /// As of [`publish`](Console::publish).
+    pub fn publish_changes(&self) -> Result<Option<Vec<u8>>, Fault> {
+        self.0.publish_changes()
     }
 
     /// The next line of the stream, as one that tells all, from which a new reader can begin. Nothing leaves with it.
     ///
+    /// It has some 390 bytes for each task, and as much memory is needed for it twice. The program `taskscope` takes lines of 256 MiB,
+    /// so it can't begin at one with more than some 690,000 tasks.
+    ///
+    /// ```
+    /// use taskscope::{Console, Settings};
+    ///
+    /// let console = Console::open(Settings::default());
+    /// let task = console.task("fetch").open();
+    /// let first = console.publish()?;
+    /// // A reader that comes now begins here, and goes on with the lines after it.
+    /// let all = String::from_utf8(console.snapshot()?).expect("text");
+    /// assert!(all.contains("\"snapshot\":true") && all.contains("fetch"));
+    /// # drop((task, first));
+    /// # Ok::<(), taskscope::Fault>(())
+    /// ```
+    ///
     /// # Errors
     /// As of [`publish`](Console::publish).
     pub fn snapshot(&self) -> Result<Vec<u8>, Fault> {
-        self.0.line(true)
+        self.0.snapshot()
     }
 }
 
 impl fmt::Debug for Console {
     fn fmt(&self, f: &mut fmt::Formatter<'_>) -> fmt::Result {
         f.debug_struct("Console").finish_non_exhaustive()
+    }
+}
+
+#[cfg(test)]
+mod tests {
+    use super::*;
+
+    #[test]
+    fn an_item_for_which_there_is_no_number_has_no_id_and_is_counted() {
+        let console = Console::open(Settings::default());
+        for shard in &console.inner().shards {
+            lock(&shard.0).drawn = [LAST_NUMBER - 1; 3];
+        }
+        let (last, none) = (console.task("last").open(), console.task("none").open());
+        assert!(last.is_recorded() && last.id().value() & LAST_NUMBER == LAST_NUMBER, "{}", last.id());
+        assert!(!none.is_recorded() && none.id().is_none(), "{}", none.id());
+        assert_eq!(none.id().to_string(), "none");
+        // Each kind has numbers of its own.
+        let (resource, other) = (console.resource("Semaphore").open(), console.resource("Semaphore").open());
+        assert!(resource.is_recorded() && other.id().is_none());
+        let line = String::from_utf8(console.publish().expect("a line")).expect("text");
+        assert!(line.contains("\"dropped\":[1,1,0]"), "{line}");
     }
 }

@@ -1,12 +1,14 @@
 //! Why no line was made.
 
+use crate::border::reason;
 use crate::id;
 use crate::item::ItemKind;
 use std::error::Error;
 use std::fmt;
 
 /// Why no line was made. Nothing counts as told then, and the next call tells it.
-#[derive(Clone, Copy, Debug, PartialEq, Eq)]
+#[derive(Clone, Copy, Debug, PartialEq, Eq, Hash)]
+#[non_exhaustive]
 pub enum Fault {
     /// There was no memory for the line.
     Memory,
@@ -29,7 +31,8 @@ pub enum Fault {
 }
 
 /// What is wrong with an item.
-#[derive(Clone, Copy, Debug, PartialEq, Eq)]
+#[derive(Clone, Copy, Debug, PartialEq, Eq, Hash)]
+#[non_exhaustive]
 pub enum BadItem {
     /// An id is none: its own, its resource's or its parent's.
     Id,
@@ -46,14 +49,14 @@ pub enum BadItem {
 }
 
 impl BadItem {
-    pub(crate) fn from_number(reason: u32) -> Option<BadItem> {
-        Some(match reason {
-            1 => BadItem::Id,
-            2 => BadItem::Name,
-            3 => BadItem::Piece,
-            4 => BadItem::Attrs,
-            5 => BadItem::Words,
-            6 => BadItem::Repeated,
+    pub(crate) fn from_number(number: u32) -> Option<BadItem> {
+        Some(match number {
+            reason::ID => BadItem::Id,
+            reason::NAME => BadItem::Name,
+            reason::PIECE => BadItem::Piece,
+            reason::ATTRIBUTES => BadItem::Attrs,
+            reason::ROW => BadItem::Words,
+            reason::TWICE => BadItem::Repeated,
             _ => return None,
         })
     }

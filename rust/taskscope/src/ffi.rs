@@ -5,6 +5,9 @@
 //! No export requires more of its arguments than their types say, so whoever calls one owes this alone: references and
 //! pointers are valid for the call, a pointer for as many elements as the length after it says, and what is lent as `&mut`
 //! or `*mut` is lent to this call only.
+//!
+//! Where no library fits the target, `build.rs` says so by `taskscope_inactive`. The exports then are functions that do nothing, and
+//! a console makes no use of them.
 
 /// A row: the statistics of one item.
 pub type Words = [u64; 16];
@@ -131,7 +134,7 @@ pub struct Head {
 /// | 5 | the words are those of no row |
 /// | 6 | the id stood before in the list |
 #[repr(C)]
-#[derive(Clone, Copy, Debug)]
+#[derive(Clone, Copy, Debug, Default)]
 pub struct Answer {
     pub status: u32,
     pub reason: u32,
@@ -139,7 +142,26 @@ pub struct Answer {
     pub len: usize,
 }
 
-extern "C" {
+/// Whether the library is linked.
+pub const IS_LINKED: bool = cfg!(not(taskscope_inactive));
+
+macro_rules! library {
+    ($(pub fn $name:ident($($argument:ident: $kind:ty),* $(,)?) $(-> $result:ty)?;)*) => {
+        #[cfg(not(taskscope_inactive))]
+        extern "C" {
+            $(pub fn $name($($argument: $kind),*) $(-> $result)?;)*
+        }
+        $(
+            #[cfg(taskscope_inactive)]
+            #[allow(unused_variables, clippy::too_many_arguments)]
+            pub unsafe extern "C" fn $name($($argument: $kind),*) $(-> $result)? {
+                Default::default()
+            }
+        )*
+    };
+}
+
+library! {
     pub fn taskscope_task_open(created: u64, words: &mut Words);
     pub fn taskscope_task_open_counting(created: u64, words: &mut Words);
     pub fn taskscope_task_start(words: &mut Words, moment: u64) -> u32;

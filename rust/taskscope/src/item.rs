@@ -1,5 +1,6 @@
 //! What the kinds of items have in common, for recorders, lists and lines.
 
+use crate::border::{flag, word};
 use crate::ffi::Words;
 use crate::page::Page;
 use crate::poll_counts::PollCounts;
@@ -9,7 +10,8 @@ use std::fmt;
 use std::sync::Arc;
 
 /// What a line lists: three kinds of items, and poll counts.
-#[derive(Clone, Copy, Debug, PartialEq, Eq)]
+#[derive(Clone, Copy, Debug, PartialEq, Eq, Hash)]
+#[non_exhaustive]
 pub enum ItemKind {
     /// A task.
     Task,
@@ -76,7 +78,7 @@ pub(crate) trait Item: Sized {
     }
 }
 
-/// When an item was closed, by the words of its row: the first flag of word 0 says whether it was, and word 2 when.
+/// When an item was closed, by the words of its row.
 pub(crate) fn closed(words: &Words) -> Option<u64> {
-    (words[0] & 1 == 1).then_some(words[2])
+    (words[word::FLAGS] & flag::CLOSED != 0).then_some(words[word::CLOSED])
 }

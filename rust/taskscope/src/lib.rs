@@ -1,12 +1,14 @@
-//! Inspects the tasks of a program, and the resources and async operations that they wait for.
+#![doc = include_str!("../README.md")]
+//!
+//! # The types
 //!
 //! Each call on an item is one step on its row, which a proved library makes; the rows of two items never meet. From time to time
 //! [`Console::publish`] gives a line of JSON that tells what is new and what changed, which the same library writes. `taskscope
 //! view` shows such lines as a report, and `taskscope lint` the warnings about them.
 //!
 //! - [`Console`] makes items and publishes lines, by its [`Settings`]. [`Publisher`] does so each so often, on a thread.
-//! - [`Inspected`] is a future whose polls and wakers are recorded, [`Blocking`] a call that blocks its thread, and
-//!   [`InspectedOp`] a future that is an async operation. Most programs need no more.
+//! - [`Inspected`] is a future whose polls and wakers are recorded, which [`InstrumentExt`] makes of any; [`Blocking`] is a call
+//!   that blocks its thread, and [`InspectedOp`] a future that is an async operation. Most programs need no more.
 //! - [`Task`] is the owner of a task, for polls by hand, [`TaskWaker`] one of its wakers. [`Resource`] is what tasks wait for,
 //!   and [`Op`] one wait. [`TaskBuilder`], [`ResourceBuilder`] and [`OpBuilder`] make them. [`SharedTask`] is a task for who
 //!   learns of its polls and wakers by events.
@@ -42,7 +44,8 @@
 //! let other = task.clone();
 //! ```
 //!
-//! and what is dropped is closed or released, once. All go to other threads, and all but futures and calls are shared:
+//! and what is dropped is closed or released, once. A global allocator must make no call on an item: it is called while a row is
+//! locked. All go to other threads, and all but futures and calls are shared:
 //!
 //! ```
 //! use taskscope::{Console, Op, Publisher, Resource, SharedTask, Task, TaskWaker};
@@ -59,35 +62,42 @@
 
 #![deny(missing_docs, unsafe_op_in_unsafe_fn)]
 #![warn(missing_debug_implementations)]
-// `taskscope_races` is set for `tests/races.rs` alone, by `tests/rust.sh`.
+// `taskscope_inactive` is set by `build.rs`, and `taskscope_races` for `tests/races.rs` alone, by `tests/rust.sh`.
 #![allow(unknown_lints, unexpected_cfgs)]
 
 mod attr;
 mod book;
+mod border;
 mod console;
 mod fault;
 mod ffi;
 mod id;
 mod inspected;
 mod item;
+mod lent;
 mod location;
+#[cfg(not(taskscope_inactive))]
 mod memory;
 mod name;
 mod op;
 mod page;
 mod poll_counts;
+mod polled;
+mod process;
 mod publisher;
 mod refused;
 mod resource;
 mod row;
 mod shared;
 mod task;
+#[cfg(doctest)]
+mod unkept;
 
 pub use attr::{Attr, Change, Value};
 pub use console::{Console, Settings};
 pub use fault::{BadItem, Fault};
 pub use id::{OpId, ResourceId, TaskId};
-pub use inspected::{Blocking, Inspected, InspectedOp};
+pub use inspected::{Blocking, Inspected, InspectedOp, InstrumentExt};
 pub use item::ItemKind;
 pub use location::Location;
 pub use op::{Op, OpBuilder};

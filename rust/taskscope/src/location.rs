@@ -2,9 +2,10 @@
 
 use crate::name::Name;
 use std::borrow::Cow;
+use std::fmt;
 use std::panic;
 
-/// Where in the sources an item was made.
+/// Where in the sources an item was made. It is displayed as `FILE:LINE:COLUMN`, and ordered by file, line and column.
 ///
 /// ```
 /// use taskscope::Location;
@@ -12,8 +13,9 @@ use std::panic;
 /// let here = Location::caller();
 /// let there = Location::new("src/main.rs", 10, 5);
 /// assert_ne!(here, there);
+/// assert_eq!(there.to_string(), "src/main.rs:10:5");
 /// ```
-#[derive(Clone, Debug, PartialEq, Eq)]
+#[derive(Clone, Debug, PartialEq, Eq, PartialOrd, Ord, Hash)]
 pub struct Location {
     pub(crate) file: Name,
     pub(crate) line: u32,
@@ -36,5 +38,11 @@ impl Location {
 impl From<&'static panic::Location<'static>> for Location {
     fn from(at: &'static panic::Location<'static>) -> Location {
         Location::new(at.file(), at.line(), at.column())
+    }
+}
+
+impl fmt::Display for Location {
+    fn fmt(&self, f: &mut fmt::Formatter<'_>) -> fmt::Result {
+        write!(f, "{}:{}:{}", self.file, self.line, self.column)
     }
 }

@@ -1,11 +1,12 @@
 //! What a line can hold in the place of a name.
 
 use std::borrow::Cow;
+use std::fmt;
 
 const LONGEST: usize = 1024;
 
 /// A name as a line holds it: 1 to 1,024 bytes of printable ASCII.
-#[derive(Clone, Debug, PartialEq, Eq)]
+#[derive(Clone, Debug, PartialEq, Eq, PartialOrd, Ord, Hash)]
 pub(crate) struct Name(Cow<'static, str>);
 
 fn is_printable(byte: u8) -> bool {
@@ -46,8 +47,18 @@ impl Name {
         self.0 == text || (!is_name(text) && self.0 == replaced(text))
     }
 
+    pub(crate) fn as_str(&self) -> &str {
+        &self.0
+    }
+
     pub(crate) fn as_bytes(&self) -> &[u8] {
         self.0.as_bytes()
+    }
+}
+
+impl fmt::Display for Name {
+    fn fmt(&self, f: &mut fmt::Formatter<'_>) -> fmt::Result {
+        f.write_str(&self.0)
     }
 }
 

@@ -1,6 +1,6 @@
 //! Async operations: the waits of tasks for resources.
 
-use crate::attr::{Attr, Attrs, Change};
+use crate::attr::{Attr, Attrs, Change, NewAttrs};
 use crate::console::{Console, Inner};
 use crate::ffi::{self, OpEntry, Words};
 use crate::id::{OpId, TaskId};
@@ -49,7 +49,7 @@ impl Item for OpCell {
             source: page.piece(&self.source),
             attrs: page.attrs(&self.attrs),
         };
-        page.ops.push(entry);
+        page.add_op(entry);
     }
 
     fn entered(page: &Page, place: usize) -> Reading<Words> {
@@ -74,25 +74,55 @@ pub struct OpBuilder<'a> {
     console: &'a Console,
     parent: u64,
     source: Name,
-    attrs: Attrs,
+    attrs: NewAttrs,
     counts: Arc<PollCounts>,
 }
 
 impl<'a> OpBuilder<'a> {
     pub(crate) fn new(console: &'a Console, resource: &Resource, source: Cow<'static, str>) -> OpBuilder<'a> {
         let counts = Arc::clone(resource.counts());
-        OpBuilder { console, parent: 0, source: Name::new(source), attrs: Attrs::default(), counts }
+        OpBuilder { console, parent: 0, source: Name::new(source), attrs: NewAttrs::default(), counts }
     }
 
     /// The operation is a part of this one.
+    ///
+    /// ```
+    /// # use taskscope::{Console, Settings};
+    /// # let console = Console::open(Settings::default());
+    /// # let semaphore = console.resource("Semaphore").open();
+    /// let acquire = console.op(&semaphore, "Semaphore::acquire").open();
+    /// let poll = console.op(&semaphore, "Acquire::poll").parent(acquire.id()).open();
+    /// # drop(poll);
+    /// ```
     pub fn parent(self, parent: OpId) -> OpBuilder<'a> {
         OpBuilder { parent: parent.0, ..self }
     }
 
     /// Adds an attribute, as [`ResourceBuilder::attr`](crate::ResourceBuilder::attr) does.
+    ///
+    /// ```
+    /// # use taskscope::{Attr, Console, Settings};
+    /// # let console = Console::open(Settings::default());
+    /// # let semaphore = console.resource("Semaphore").open();
+    /// let acquire = console.op(&semaphore, "Semaphore::acquire_many").attr(Attr::new("permits", 3u64)).open();
+    /// # drop(acquire);
+    /// ```
     pub fn attr(mut self, attr: Attr) -> OpBuilder<'a> {
         self.attrs.add(attr);
         self
+    }
+
+    /// The attributes that were left out, as the item can't have them: those after the sixth, and those of a name that another one has.
+    ///
+    /// ```
+    /// # use taskscope::{Attr, Console, Settings};
+    /// # let console = Console::open(Settings::default());
+    /// # let resource = console.resource("Semaphore").open();
+    /// let builder = console.op(&resource, "acquire").attr(Attr::new("permits", 2u64)).attr(Attr::new("permits", 3u64));
+    /// assert_eq!(builder.left_out(), [Attr::new("permits", 3u64)]);
+    /// ```
+    pub fn left_out(&self) -> &[Attr] {
+        &self.attrs.left_out
     }
 
     /// Makes the operation, created now. Where the thread's recorder is full it is counted as dropped: its calls work all the
@@ -101,7 +131,7 @@ impl<'a> OpBuilder<'a> {
         let console = self.console.inner();
         let created = console.now();
         let mut words = [0; 16];
-        let values = self.attrs.first_values();
+        let values = self.attrs.kept.first_values();
         // SAFETY: values and words are lent for the call, and the length is that of the values. It answers false for more than
         // 6 attributes alone, and `Attrs` has no more.
         unsafe { ffi::taskscope_op_open(created, values.as_ptr(), values.len(), &mut words) };
@@ -109,7 +139,7 @@ impl<'a> OpBuilder<'a> {
             id,
             parent: self.parent,
             source: self.source,
-            attrs: self.attrs,
+            attrs: self.attrs.kept,
             row: Row::listed(words),
             counts: self.counts,
         });
@@ -118,6 +148,7 @@ impl<'a> OpBuilder<'a> {
 }
 
 /// The owner of an async operation, which polls it. The operation is closed when this is dropped.
+#[must_use = "the operation is closed when this is dropped"]
 pub struct Op {
     pub(crate) console: Arc<Inner>,
     cell: Arc<OpCell>,
@@ -127,6 +158,12 @@ impl Op {
     /// The operation's id.
     pub fn id(&self) -> OpId {
         OpId(self.cell.id)
+    }
+
+    /// Whether lines have the operation. They don't if its recorder was full or had no number for it, which counts it as dropped, or if the
+    /// console isn't [active](crate::Console::is_active).
+    pub fn is_recorded(&self) -> bool {
+        self.console.tells(&*self.cell)
     }
 
     /// A poll starts now.

@@ -1,10 +1,12 @@
 //! The entries of one line, and the library's call that makes it.
 
 use crate::attr::Attrs;
+use crate::border::status;
 use crate::fault::{BadItem, Fault};
 use crate::ffi::{self, Answer, AttrEntry, CountEntry, Head, OpEntry, Piece, ResourceEntry, TaskEntry, TimesEntry};
 use crate::item::ItemKind;
 use crate::name::Name;
+use std::alloc::{alloc_zeroed, Layout};
 
 /// The entries of one line, with the text and the attributes of which they have pieces.
 #[derive(Debug, Default)]
@@ -14,14 +16,31 @@ pub(crate) struct Page {
     pub(crate) ops: Vec<OpEntry>,
     pub(crate) counts: Vec<CountEntry>,
     /// Whether the line tells histograms of poll times, and then those of the tasks, in their order.
-    pub(crate) tells_times: bool,
+    tells_times: bool,
     pub(crate) times: Vec<TimesEntry>,
     attrs: Vec<AttrEntry>,
     text: Vec<u8>,
     /// How many entries of each kind were told.
     told: [usize; 4],
-    /// Whether a piece lies beyond what 32 bits count.
-    is_too_long: bool,
+    /// Whether there was no memory for an entry, or a piece lies beyond what 32 bits count.
+    lacks_room: bool,
+}
+
+/// Room for so many more in a list, where there is memory.
+fn has_room<T>(list: &mut Vec<T>, more: usize) -> bool {
+    list.try_reserve(more).is_ok()
+}
+
+/// So many zeros, at least one. The system has them at hand for large blocks, where a `resize` would write each.
+fn zeros(len: usize) -> Result<Vec<u8>, Fault> {
+    let layout = Layout::array::<u8>(len.max(1)).map_err(|_| Fault::Memory)?;
+    // SAFETY: the layout is of at least one byte.
+    let block = unsafe { alloc_zeroed(layout) };
+    if block.is_null() {
+        return Err(Fault::Memory);
+    }
+    // SAFETY: the block is of this allocator and layout, and all its bytes are 0.
+    Ok(unsafe { Vec::from_raw_parts(block, layout.size(), layout.size()) })
 }
 
 impl Page {
@@ -35,11 +54,21 @@ impl Page {
         self.told[kind as usize] = count;
     }
 
+    /// Whether a line would list nothing.
+    pub(crate) fn is_empty(&self) -> bool {
+        // Histograms are those of the tasks.
+        self.tasks.is_empty()
+            && self.resources.is_empty()
+            && self.ops.is_empty()
+            && self.counts.is_empty()
+            && !self.lacks_room
+    }
+
     fn piece_of(&mut self, start: usize, end: usize) -> Piece {
         match (u32::try_from(start), u32::try_from(end)) {
             (Ok(start), Ok(end)) => Piece { start, len: end - start },
             _ => {
-                self.is_too_long = true;
+                self.lacks_room = true;
                 Piece::default()
             }
         }
@@ -48,7 +77,11 @@ impl Page {
     /// Adds a name to the text.
     pub(crate) fn piece(&mut self, name: &Name) -> Piece {
         let start = self.text.len();
-        self.text.extend_from_slice(name.as_bytes());
+        if has_room(&mut self.text, name.as_bytes().len()) {
+            self.text.extend_from_slice(name.as_bytes());
+        } else {
+            self.lacks_room = true;
+        }
         self.piece_of(start, self.text.len())
     }
 
@@ -62,9 +95,37 @@ impl Page {
                 kind: attr.first.for_library().kind,
                 has_unit: attr.unit.is_some(),
             };
-            self.attrs.push(entry);
+            Page::add(&mut self.attrs, entry, &mut self.lacks_room);
         }
         self.piece_of(start, self.attrs.len())
+    }
+
+    fn add<T>(list: &mut Vec<T>, entry: T, lacks_room: &mut bool) {
+        if has_room(list, 1) {
+            list.push(entry);
+        } else {
+            *lacks_room = true;
+        }
+    }
+
+    /// Adds a task, and its histogram where the line tells those.
+    pub(crate) fn add_task(&mut self, task: TaskEntry, times: TimesEntry) {
+        if self.tells_times {
+            Page::add(&mut self.times, times, &mut self.lacks_room);
+        }
+        Page::add(&mut self.tasks, task, &mut self.lacks_room);
+    }
+
+    pub(crate) fn add_resource(&mut self, resource: ResourceEntry) {
+        Page::add(&mut self.resources, resource, &mut self.lacks_room);
+    }
+
+    pub(crate) fn add_op(&mut self, op: OpEntry) {
+        Page::add(&mut self.ops, op, &mut self.lacks_room);
+    }
+
+    pub(crate) fn add_counts(&mut self, counts: CountEntry) {
+        Page::add(&mut self.counts, counts, &mut self.lacks_room);
     }
 
     /// The line that leads from what was told to what is, or with `snapshot` the line that tells all.
@@ -85,18 +146,21 @@ impl Page {
 
     /// Has a line written, in more room where it doesn't fit.
     fn fill(&self, write: impl Fn(&mut [u8]) -> Answer) -> Result<Vec<u8>, Fault> {
-        if self.is_too_long {
+        if self.lacks_room {
             return Err(Fault::Memory);
         }
-        let mut line = vec![0; self.likely_len()];
+        let mut line = zeros(self.likely_len())?;
         loop {
             let answer = write(&mut line);
             match answer.status {
-                0 => {
+                status::WRITTEN => {
                     line.truncate(answer.len);
                     return Ok(line);
                 }
-                1 if answer.len > line.len() => line.resize(answer.len, 0),
+                status::NO_ROOM if answer.len > line.len() => {
+                    drop(line);
+                    line = zeros(answer.len)?;
+                }
                 _ => return Err(self.fault(&answer)),
             }
         }
@@ -106,13 +170,13 @@ impl Page {
     fn fault(&self, answer: &Answer) -> Fault {
         let place = answer.place;
         let item = match answer.status {
-            2 => return Fault::Memory,
-            3 => return Fault::LinesSpent,
-            5 => self.tasks.get(place).map(|entry| (ItemKind::Task, entry.id)),
-            6 => self.resources.get(place).map(|entry| (ItemKind::Resource, entry.id)),
-            7 => self.ops.get(place).map(|entry| (ItemKind::Op, entry.id)),
-            8 => self.counts.get(place).map(|entry| (ItemKind::PollCounts, entry.resource)),
-            9 => self.times.get(place).map(|entry| (ItemKind::Task, entry.task)),
+            status::MEMORY => return Fault::Memory,
+            status::NO_NUMBER => return Fault::LinesSpent,
+            status::BAD_TASK => self.tasks.get(place).map(|entry| (ItemKind::Task, entry.id)),
+            status::BAD_RESOURCE => self.resources.get(place).map(|entry| (ItemKind::Resource, entry.id)),
+            status::BAD_OP => self.ops.get(place).map(|entry| (ItemKind::Op, entry.id)),
+            status::BAD_COUNT => self.counts.get(place).map(|entry| (ItemKind::PollCounts, entry.resource)),
+            status::BAD_TIMES => self.times.get(place).map(|entry| (ItemKind::Task, entry.task)),
             _ => None,
         };
         match (item, BadItem::from_number(answer.reason)) {
@@ -211,6 +275,8 @@ impl Page {
 mod tests {
     use super::*;
     use crate::ffi::Words;
+    use std::alloc::{GlobalAlloc, System};
+    use std::cell::Cell;
 
     const ID: u64 = (1 << 40) + 1;
 
@@ -354,8 +420,83 @@ mod tests {
         assert_eq!((&room[..whole.len()], room[whole.len()]), (&whole[..], 1));
     }
 
+    /// Refuses a thread blocks of more than so many bytes.
+    struct Refusing;
+
+    thread_local! {
+        static MOST: Cell<usize> = const { Cell::new(usize::MAX) };
+    }
+
+    // SAFETY: it hands on what `System` does, or has no memory.
+    unsafe impl GlobalAlloc for Refusing {
+        unsafe fn alloc(&self, layout: Layout) -> *mut u8 {
+            if layout.size() > MOST.with(Cell::get) {
+                return std::ptr::null_mut();
+            }
+            // SAFETY: as of this call.
+            unsafe { System.alloc(layout) }
+        }
+
+        unsafe fn dealloc(&self, block: *mut u8, layout: Layout) {
+            // SAFETY: as of this call.
+            unsafe { System.dealloc(block, layout) }
+        }
+    }
+
+    #[global_allocator]
+    static REFUSING: Refusing = Refusing;
+
+    /// Makes a call with no more than so much memory at a time.
+    fn with_most<T>(most: usize, call: impl FnOnce() -> T) -> T {
+        MOST.with(|cell| cell.set(most));
+        let answer = call();
+        MOST.with(|cell| cell.set(usize::MAX));
+        answer
+    }
+
+    #[test]
+    fn want_of_memory_for_a_line_is_told() {
+        let long = long_page();
+        let likely = long.likely_len();
+        assert_eq!(with_most(likely - 1, || long.line(&head())), Err(Fault::Memory), "the first try");
+        assert_eq!(with_most(likely, || long.line(&head())), Err(Fault::Memory), "in more room");
+        assert_eq!(
+            with_most(likely, || long.gone_line(&head(), 0)).map(|_| ()),
+            long.gone_line(&head(), 0).map(|_| ())
+        );
+        assert!(long.line(&head()).is_ok(), "the page is as it was");
+    }
+
+    #[test]
+    fn want_of_memory_for_an_entry_is_told() {
+        let mut good = page();
+        let (task, resource, op, counts) = (task(&mut good), good.resources[0], good.ops[0], good.counts[0]);
+        let times = TimesEntry { row: [0; 16], told: [0; 16], task: ID };
+        let none = |call: &mut dyn FnMut(&mut Page)| {
+            let mut page = Page::new(true);
+            with_most(0, || call(&mut page));
+            page.line(&head())
+        };
+        let longest = name("a name");
+        assert_eq!(none(&mut |_| ()).map(|_| ()), Ok(()), "nothing is entered");
+        assert_eq!(none(&mut |page| page.add_task(task, times)), Err(Fault::Memory), "a task");
+        assert_eq!(none(&mut |page| page.add_resource(resource)), Err(Fault::Memory), "a resource");
+        assert_eq!(none(&mut |page| page.add_op(op)), Err(Fault::Memory), "an operation");
+        assert_eq!(none(&mut |page| page.add_counts(counts)), Err(Fault::Memory), "poll counts");
+        assert_eq!(none(&mut |page| assert!(page.piece(&longest).len == 0)), Err(Fault::Memory), "a name");
+    }
+
     #[test]
     fn a_line_longer_than_likely_is_written() {
+        let page = long_page();
+        let line = page.line(&head()).expect("a line");
+        assert!(line.len() > page.likely_len());
+        let told = String::from_utf8(line).expect("text").matches(&format!("\"polls\":{}", u64::MAX)).count();
+        assert_eq!(told, 200);
+    }
+
+    /// A page whose line is longer than likely.
+    fn long_page() -> Page {
         let mut page = Page::default();
         for number in 1..=200 {
             let mut entry = task(&mut page);
@@ -367,9 +508,6 @@ mod tests {
             (entry.line, entry.column) = (u32::MAX, u32::MAX);
             page.tasks.push(entry);
         }
-        let line = page.line(&head()).expect("a line");
-        assert!(line.len() > page.likely_len());
-        let told = String::from_utf8(line).expect("text").matches(&format!("\"polls\":{}", u64::MAX)).count();
-        assert_eq!(told, 200);
+        page
     }
 }

@@ -43,7 +43,7 @@ impl Item for PollCounts {
 
     fn enter(&self, page: &mut Page, reading: &Reading<[u64; 2]>) {
         let ([ready, pending], [told_ready, told_pending]) = (reading.now, reading.told);
-        page.counts.push(CountEntry { resource: self.resource, ready, pending, told_ready, told_pending });
+        page.add_counts(CountEntry { resource: self.resource, ready, pending, told_ready, told_pending });
     }
 
     fn entered(page: &Page, place: usize) -> Reading<[u64; 2]> {

@@ -1,10 +1,12 @@
 //! What the library answers to a call on a row.
 
+use crate::border::reply;
 use std::error::Error;
 use std::fmt;
 
 /// Why a call was refused. It then changed nothing.
-#[derive(Clone, Copy, Debug, PartialEq, Eq)]
+#[derive(Clone, Copy, Debug, PartialEq, Eq, Hash)]
+#[non_exhaustive]
 pub enum Refused {
     /// A poll is open: another one can't start.
     AlreadyPolling,
@@ -36,34 +38,35 @@ impl fmt::Display for Refused {
 impl Error for Refused {}
 
 /// Whether a call was made, by the number of its reply.
-pub(crate) fn done(reply: u32) -> Result<(), Refused> {
-    match reply {
-        1 => Err(Refused::AlreadyPolling),
-        2 => Err(Refused::NotPolling),
-        3 => Err(Refused::Closed),
-        5 => Err(Refused::NoAttribute),
-        6 => Err(Refused::WrongKind),
-        7 => Err(Refused::OutOfRange),
+pub(crate) fn done(answer: u32) -> Result<(), Refused> {
+    match answer {
+        reply::ALREADY_POLLING => Err(Refused::AlreadyPolling),
+        reply::NOT_POLLING => Err(Refused::NotPolling),
+        reply::CLOSED => Err(Refused::Closed),
+        reply::NO_ATTRIBUTE => Err(Refused::NoAttribute),
+        reply::WRONG_KIND => Err(Refused::WrongKind),
+        reply::OUT_OF_RANGE => Err(Refused::OutOfRange),
         _ => Ok(()),
     }
 }
 
 /// What a wake found.
-#[derive(Clone, Copy, Debug, PartialEq, Eq)]
+#[derive(Clone, Copy, Debug, PartialEq, Eq, Hash)]
+#[non_exhaustive]
 pub enum Woken {
     /// The task was not scheduled, and is now.
     Scheduled,
     /// The task was scheduled already.
     Already,
-    /// The task is closed.
+    /// The task is closed, or its console isn't [active](crate::Console::is_active).
     Gone,
 }
 
 /// What a wake found, by the number of its reply.
-pub(crate) fn woken(reply: u32) -> Woken {
-    match reply {
-        16 => Woken::Scheduled,
-        17 => Woken::Already,
+pub(crate) fn woken(answer: u32) -> Woken {
+    match answer {
+        reply::WOKEN_SCHEDULED => Woken::Scheduled,
+        reply::WOKEN_ALREADY => Woken::Already,
         _ => Woken::Gone,
     }
 }

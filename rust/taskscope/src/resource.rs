@@ -1,6 +1,6 @@
 //! Resources: what tasks wait for.
 
-use crate::attr::{Attr, Attrs, Change};
+use crate::attr::{Attr, Attrs, Change, NewAttrs};
 use crate::console::{Console, Inner};
 use crate::ffi::{self, ResourceEntry, Words};
 use crate::id::ResourceId;
@@ -53,7 +53,7 @@ impl Item for ResourceCell {
             line: self.location.line,
             column: self.location.column,
         };
-        page.resources.push(entry);
+        page.add_resource(entry);
     }
 
     fn entered(page: &Page, place: usize) -> Reading<Words> {
@@ -76,6 +76,9 @@ impl Item for ResourceCell {
     }
 }
 
+/// The kind of a resource of which none was said.
+const OTHER: &str = "Other";
+
 /// A resource that is about to be made: [`Console::resource`] begins it, and [`open`](ResourceBuilder::open) makes it.
 #[derive(Debug)]
 #[must_use = "no resource is made before `open`"]
@@ -85,33 +88,75 @@ pub struct ResourceBuilder<'a> {
     concrete: Name,
     kind: Name,
     location: Location,
-    attrs: Attrs,
+    attrs: NewAttrs,
 }
 
 impl<'a> ResourceBuilder<'a> {
-    pub(crate) fn new(
-        console: &'a Console,
-        concrete: Cow<'static, str>,
-        kind: Cow<'static, str>,
-        location: Location,
-    ) -> ResourceBuilder<'a> {
-        let (concrete, kind) = (Name::new(concrete), Name::new(kind));
-        ResourceBuilder { console, parent: 0, concrete, kind, location, attrs: Attrs::default() }
+    pub(crate) fn new(console: &'a Console, concrete: Cow<'static, str>, location: Location) -> ResourceBuilder<'a> {
+        let (concrete, kind) = (Name::new(concrete), Name::new(Cow::Borrowed(OTHER)));
+        ResourceBuilder { console, parent: 0, concrete, kind, location, attrs: NewAttrs::default() }
+    }
+
+    /// What kind of resource it is, as `Sync` or `Timer`: without this it is `Other`.
+    ///
+    /// ```
+    /// # use taskscope::{Console, Settings};
+    /// # let console = Console::open(Settings::default());
+    /// let timer = console.resource("Sleep").kind("Timer").open();
+    /// # drop(timer);
+    /// ```
+    pub fn kind(self, kind: impl Into<Cow<'static, str>>) -> ResourceBuilder<'a> {
+        ResourceBuilder { kind: Name::new(kind.into()), ..self }
     }
 
     /// The resource is a part of this one.
+    ///
+    /// ```
+    /// # use taskscope::{Console, Settings};
+    /// # let console = Console::open(Settings::default());
+    /// let channel = console.resource("Channel").open();
+    /// let semaphore = console.resource("Semaphore").kind("Sync").parent(channel.id()).open();
+    /// # drop(semaphore);
+    /// ```
     pub fn parent(self, parent: ResourceId) -> ResourceBuilder<'a> {
         ResourceBuilder { parent: parent.0, ..self }
     }
 
-    /// Adds an attribute. One that is more than 6, or whose name another has, is left out: its changes are refused with
-    /// [`NoAttribute`](Refused::NoAttribute), or are those of the other.
+    /// Adds an attribute. One that is more than 6, or whose name another has, is [left out](ResourceBuilder::left_out): its changes are
+    /// refused with [`NoAttribute`](Refused::NoAttribute), or are those of the other.
+    ///
+    /// ```
+    /// # use taskscope::{Attr, Console, Settings};
+    /// # let console = Console::open(Settings::default());
+    /// let cache = console.resource("Cache").attr(Attr::new("entries", 0u64)).attr(Attr::new("age", 0i64).with_unit("ms")).open();
+    /// # drop(cache);
+    /// ```
     pub fn attr(mut self, attr: Attr) -> ResourceBuilder<'a> {
         self.attrs.add(attr);
         self
     }
 
+    /// The attributes that were left out, as the item can't have them: those after the sixth, and those of a name that another one has.
+    ///
+    /// ```
+    /// # use taskscope::{Attr, Console, Settings};
+    /// # let console = Console::open(Settings::default());
+    /// # let resource = console.resource("Semaphore").open();
+    /// let builder = console.resource("Semaphore").attr(Attr::new("permits", 2u64)).attr(Attr::new("permits", 3u64));
+    /// assert_eq!(builder.left_out(), [Attr::new("permits", 3u64)]);
+    /// ```
+    pub fn left_out(&self) -> &[Attr] {
+        &self.attrs.left_out
+    }
+
     /// Where the resource was made: without this, where [`Console::resource`] was called.
+    ///
+    /// ```
+    /// # use taskscope::{Console, Location, Settings};
+    /// # let console = Console::open(Settings::default());
+    /// let semaphore = console.resource("Semaphore").location(Location::new("src/pool.rs", 12, 9)).open();
+    /// # drop(semaphore);
+    /// ```
     pub fn location(self, location: impl Into<Location>) -> ResourceBuilder<'a> {
         ResourceBuilder { location: location.into(), ..self }
     }
@@ -122,7 +167,7 @@ impl<'a> ResourceBuilder<'a> {
         let console = self.console.inner();
         let created = console.now();
         let mut words = [0; 16];
-        let values = self.attrs.first_values();
+        let values = self.attrs.kept.first_values();
         // SAFETY: values and words are lent for the call, and the length is that of the values. It answers false for more than
         // 6 attributes alone, and `Attrs` has no more.
         unsafe { ffi::taskscope_resource_open(created, values.as_ptr(), values.len(), &mut words) };
@@ -132,7 +177,7 @@ impl<'a> ResourceBuilder<'a> {
             concrete: self.concrete,
             kind: self.kind,
             location: self.location,
-            attrs: self.attrs,
+            attrs: self.attrs.kept,
             row: Row::listed(words),
             counts: PollCounts::new(id),
         });
@@ -155,12 +200,19 @@ impl Drop for OpenResource {
 
 /// A resource, which threads share by its clones. It is closed when the last clone is dropped.
 #[derive(Clone)]
+#[must_use = "the resource is closed when its last clone is dropped"]
 pub struct Resource(Arc<OpenResource>);
 
 impl Resource {
     /// The resource's id.
     pub fn id(&self) -> ResourceId {
         ResourceId(self.0.cell.id)
+    }
+
+    /// Whether lines have the resource. They don't if its recorder was full or had no number for it, which counts it as dropped, or if the
+    /// console isn't [active](crate::Console::is_active).
+    pub fn is_recorded(&self) -> bool {
+        self.0.console.tells(&*self.0.cell)
     }
 
     pub(crate) fn counts(&self) -> &Arc<PollCounts> {

@@ -1,5 +1,6 @@
 //! Tasks whose polls and wakers are known by events alone.
 
+use crate::border::{flag, word};
 use crate::ffi::{self, Words};
 use crate::id::TaskId;
 use crate::refused::{done, Refused, Woken};
@@ -7,12 +8,12 @@ use crate::task::{Origin, Task, TaskWords};
 
 /// Whether the task waits for a poll, by the flags of its row.
 fn is_scheduled(words: &Words) -> bool {
-    words[0] & 64 != 0
+    words[word::FLAGS] & flag::SCHEDULED != 0
 }
 
 /// Whether a waker is out: more were cloned than dropped.
 fn has_waker(words: &Words) -> bool {
-    words[11] > words[12]
+    words[word::CLONES] > words[word::DROPS]
 }
 
 /// A task for who learns of its polls and wakers by events, as a layer of `tracing` does: threads share it, and a waker has no
@@ -35,12 +36,19 @@ fn has_waker(words: &Words) -> bool {
 /// # Ok::<(), taskscope::Refused>(())
 /// ```
 #[derive(Debug)]
+#[must_use = "the task is closed when this is dropped"]
 pub struct SharedTask(Task);
 
 impl SharedTask {
     /// The task's id.
     pub fn id(&self) -> TaskId {
         self.0.id()
+    }
+
+    /// Whether lines have the task. They don't if its recorder was full or had no number for it, which counts it as dropped, or if the
+    /// console isn't [active](crate::Console::is_active).
+    pub fn is_recorded(&self) -> bool {
+        self.0.is_recorded()
     }
 
     /// A poll starts now.
@@ -51,7 +59,7 @@ impl SharedTask {
     pub fn start_poll(&self) -> Result<(), Refused> {
         let now = self.0.console.now();
         // SAFETY: the row's lock lends the words to this call alone.
-        self.step(|words| done(unsafe { ffi::taskscope_task_start(&mut words.row, now) }))
+        done(self.step(|words| unsafe { ffi::taskscope_task_start(&mut words.row, now) }))
     }
 
     /// The open poll ends now.
@@ -61,7 +69,7 @@ impl SharedTask {
     #[inline]
     pub fn end_poll(&self) -> Result<(), Refused> {
         let (now, times) = (self.0.console.now(), self.0.console.keeps_times());
-        self.step(|words| done(words.end(now, times)))
+        done(self.step(|words| words.end(now, times)))
     }
 
     /// Whether the task waits for a poll: it was not polled yet, or was woken since its last poll started, and is not closed.
@@ -114,7 +122,7 @@ impl SharedTask {
     }
 
     #[inline]
-    fn step<R>(&self, call: impl FnOnce(&mut TaskWords) -> R) -> R {
+    fn step<R: Default>(&self, call: impl FnOnce(&mut TaskWords) -> R) -> R {
         self.0.console.step(&self.0.cell, call)
     }
 }

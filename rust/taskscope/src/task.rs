@@ -1,5 +1,6 @@
 //! Tasks, and their wakers.
 
+use crate::border::kind;
 use crate::console::{Console, Inner};
 use crate::ffi::{self, TaskEntry, TimesEntry, Words};
 use crate::id::TaskId;
@@ -13,22 +14,51 @@ use std::borrow::Cow;
 use std::fmt;
 use std::sync::Arc;
 
-/// How a task runs.
-#[derive(Clone, Copy, Debug, PartialEq, Eq)]
+/// How a task runs. It is displayed as the stream has it: `spawn` or `blocking`.
+#[derive(Clone, Copy, Debug, Default, PartialEq, Eq, PartialOrd, Ord, Hash)]
+#[non_exhaustive]
 pub enum TaskKind {
     /// It is polled, as what an executor spawns.
+    #[default]
     Spawn,
     /// It is a call that blocks its thread, with one poll.
     Blocking,
 }
 
-/// Where a wake comes from.
-#[derive(Clone, Copy, Debug, PartialEq, Eq)]
+impl TaskKind {
+    fn for_library(self) -> u32 {
+        match self {
+            TaskKind::Spawn => kind::SPAWN,
+            TaskKind::Blocking => kind::BLOCKING,
+        }
+    }
+}
+
+impl fmt::Display for TaskKind {
+    fn fmt(&self, f: &mut fmt::Formatter<'_>) -> fmt::Result {
+        f.write_str(match self {
+            TaskKind::Spawn => "spawn",
+            TaskKind::Blocking => "blocking",
+        })
+    }
+}
+
+/// Where a wake comes from. It is displayed as `inside` or `outside`.
+#[derive(Clone, Copy, Debug, PartialEq, Eq, PartialOrd, Ord, Hash)]
 pub enum Origin {
     /// From within a poll of the task itself: a self-wake.
     Inside,
     /// From anywhere else.
     Outside,
+}
+
+impl fmt::Display for Origin {
+    fn fmt(&self, f: &mut fmt::Formatter<'_>) -> fmt::Result {
+        f.write_str(match self {
+            Origin::Inside => "inside",
+            Origin::Outside => "outside",
+        })
+    }
 }
 
 /// The words of a task: those of its row, and beside it those of the histogram of its poll times, all 0 where none is kept.
@@ -93,15 +123,9 @@ impl Item for TaskCell {
             file: page.piece(&self.location.file),
             line: self.location.line,
             column: self.location.column,
-            kind: match self.kind {
-                TaskKind::Spawn => 0,
-                TaskKind::Blocking => 1,
-            },
+            kind: self.kind.for_library(),
         };
-        page.tasks.push(entry);
-        if page.tells_times {
-            page.times.push(TimesEntry { row: reading.now.times, told: reading.told.times, task: self.id });
-        }
+        page.add_task(entry, TimesEntry { row: reading.now.times, told: reading.told.times, task: self.id });
     }
 
     fn entered(page: &Page, place: usize) -> Reading<TaskWords> {
@@ -173,11 +197,25 @@ impl<'a> TaskBuilder<'a> {
     }
 
     /// How the task runs: without this it is of kind [`Spawn`](TaskKind::Spawn).
+    ///
+    /// ```
+    /// # use taskscope::{Console, Settings, TaskKind};
+    /// # let console = Console::open(Settings::default());
+    /// let task = console.task("hash").kind(TaskKind::Blocking).open();
+    /// # drop(task);
+    /// ```
     pub fn kind(self, kind: TaskKind) -> TaskBuilder<'a> {
         TaskBuilder { kind, ..self }
     }
 
     /// Where the task was made: without this, where [`Console::task`] was called.
+    ///
+    /// ```
+    /// # use taskscope::{Console, Location, Settings};
+    /// # let console = Console::open(Settings::default());
+    /// let task = console.task("fetch").location(Location::new("src/jobs.rs", 40, 5)).open();
+    /// # drop(task);
+    /// ```
     pub fn location(self, location: impl Into<Location>) -> TaskBuilder<'a> {
         TaskBuilder { location: location.into(), ..self }
     }
@@ -200,6 +238,7 @@ impl<'a> TaskBuilder<'a> {
 }
 
 /// The owner of a task, which polls it. The task is closed when this is dropped.
+#[must_use = "the task is closed when this is dropped"]
 pub struct Task {
     pub(crate) console: Arc<Inner>,
     pub(crate) cell: Arc<TaskCell>,
@@ -209,6 +248,12 @@ impl Task {
     /// The task's id.
     pub fn id(&self) -> TaskId {
         TaskId(self.cell.id)
+    }
+
+    /// Whether lines have the task. They don't if its recorder was full or had no number for it, which counts it as dropped, or if the
+    /// console isn't [active](crate::Console::is_active).
+    pub fn is_recorded(&self) -> bool {
+        self.console.tells(&*self.cell)
     }
 
     /// A poll starts now.
@@ -267,6 +312,7 @@ impl fmt::Debug for Task {
 }
 
 /// A waker of a task. Each is counted as a clone when it is made, and as dropped when it is dropped or wakes by value.
+#[must_use = "the waker is counted as dropped when this is dropped"]
 pub struct TaskWaker {
     console: Arc<Inner>,
     cell: Arc<TaskCell>,

@@ -1,4 +1,5 @@
-//! The exports as `src/ffi.rs` declares them, beside the declarations of the static library itself.
+//! The exports as `src/ffi.rs` declares them, beside the declarations of the static library itself, and the numbers of
+//! `src/border.rs` beside those of its sources.
 //!
 //! Compared are the names of the exports, the kinds of their parameters and results in order, and of each struct that crosses
 //! the border the fields in order with their types. A slice of the library is a pointer and a length here, and its allocator, which
@@ -97,8 +98,23 @@ fn here() -> PathBuf {
     PathBuf::from(env!("CARGO_MANIFEST_DIR"))
 }
 
+fn source(file: &str) -> String {
+    fs::read_to_string(here().join("src").join(file)).unwrap_or_else(|error| panic!("src/{file}: {error}"))
+}
+
 fn declared() -> String {
-    fs::read_to_string(here().join("src/ffi.rs")).expect("src/ffi.rs")
+    source("ffi.rs")
+}
+
+/// The folder of the library's crates, or nothing where they aren't, as in a package of this crate.
+fn crates() -> Option<PathBuf> {
+    let folder = here().join("../../crates");
+    if folder.is_dir() {
+        return Some(folder);
+    }
+    // Not by `eprintln`, of which nothing is seen where a test passes.
+    let _ = writeln!(io::stderr(), "SKIPPED: the library's sources are not at {}", folder.display());
+    None
 }
 
 fn of_rust(source: &str) -> Border {
@@ -107,28 +123,22 @@ fn of_rust(source: &str) -> Border {
     border
 }
 
-/// Nothing where the library's sources aren't there, as in a package of this crate.
-fn of_library(folder: &Path) -> Option<Border> {
+fn of_library(folder: &Path) -> Border {
     let mut border = Border::default();
-    for file in fs::read_dir(folder).ok()? {
+    for file in fs::read_dir(folder).expect("the library's sources") {
         let path = file.expect("a file").path();
         if path.extension().map_or(false, |kind| kind == "rt") {
             read(&mut border, &fs::read_to_string(&path).expect("a source"), "pub extern \"C\" fn ");
         }
     }
-    Some(border)
+    border
 }
 
 #[test]
 fn both_sides_declare_the_same() {
-    let folder = here().join("../../crates/tk_embed/src");
-    let library = match of_library(&folder) {
-        Some(border) => border,
-        None => {
-            // Not by `eprintln`, of which nothing is seen where a test passes.
-            let _ = writeln!(io::stderr(), "SKIPPED: the library's sources are not at {}", folder.display());
-            return;
-        }
+    let library = match crates() {
+        Some(folder) => of_library(&folder.join("tk_embed/src")),
+        None => return,
     };
     let rust = of_rust(&declared());
     assert_eq!(rust.exports, library.exports);
@@ -173,4 +183,99 @@ fn a_slice_is_a_pointer_and_a_length() {
         border.exports["taskscope_x"],
         ["&mut [u64; 16]", "*const Piece", "usize", "*mut u8", "usize", "-> Answer"]
     );
+}
+
+/// The numbers of `src/border.rs`, by module and name.
+fn numbers_of(source: &str) -> BTreeMap<String, String> {
+    let code = words_of(source);
+    let mut numbers = BTreeMap::new();
+    for text in code.split("pub mod ").skip(1) {
+        let (module, rest) = text.split_once('{').expect("a module with constants");
+        for constant in inside(rest, '{', '}').split("pub const ").skip(1) {
+            let (name, rest) = constant.split_once(':').expect("a constant with a type");
+            let (_, number) = rest.split_once(" = ").expect("a constant with a value");
+            let number = number.split(';').next().unwrap_or("");
+            numbers.insert(format!("{}::{name}", module.trim()), number.to_string());
+        }
+    }
+    numbers
+}
+
+// Each number, the source that has it, and what it says there, with `#` in the number's place. Where the source says `_`, any
+// number that no other of the module has will do.
+#[rustfmt::skip]
+const NUMBERS: [(&str, &str, &str); 41] = [
+    ("reply::ALREADY_POLLING", "tk_core/src/reply.rt",  "Refusal::AlreadyPolling => #,"),
+    ("reply::NOT_POLLING",     "tk_core/src/reply.rt",  "Refusal::NotPolling => #,"),
+    ("reply::CLOSED",          "tk_core/src/reply.rt",  "Refusal::Closed => #,"),
+    ("reply::NO_ATTRIBUTE",    "tk_core/src/reply.rt",  "Refusal::NoAttribute => #,"),
+    ("reply::WRONG_KIND",      "tk_core/src/reply.rt",  "Refusal::WrongKind => #,"),
+    ("reply::OUT_OF_RANGE",    "tk_core/src/reply.rt",  "Refusal::OutOfRange => #,"),
+    ("reply::WOKEN_SCHEDULED", "tk_embed/src/reply.rt", "Reply::Woken(WakeReply::Scheduled) => #,"),
+    ("reply::WOKEN_ALREADY",   "tk_embed/src/reply.rt", "Reply::Woken(WakeReply::Already) => #,"),
+    ("status::WRITTEN",        "tk_embed/src/line.rt",  ".copy_from_slice(text); answer_of_text(#, len) }"),
+    ("status::NO_ROOM",        "tk_embed/src/line.rt",  "return answer_of_text(#, len);"),
+    ("status::MEMORY",         "tk_embed/src/fault.rt", "Fault::Memory => simple(#),"),
+    ("status::NO_NUMBER",      "tk_embed/src/fault.rt", "Fault::NoNumber => simple(#),"),
+    ("status::BAD_TASK",       "tk_embed/src/fault.rt", "Fault::BadTask(place, reason) => at_entry(#, place, reason),"),
+    ("status::BAD_RESOURCE",   "tk_embed/src/fault.rt", "Fault::BadResource(place, reason) => at_entry(#, place, reason),"),
+    ("status::BAD_OP",         "tk_embed/src/fault.rt", "Fault::BadOp(place, reason) => at_entry(#, place, reason),"),
+    ("status::BAD_COUNT",      "tk_embed/src/fault.rt", "Fault::BadCount(place, reason) => at_entry(#, place, reason),"),
+    ("status::BAD_TIMES",      "tk_embed/src/fault.rt", "Fault::BadTimes(place, reason) => at_entry(#, place, reason),"),
+    ("reason::ID",             "tk_embed/src/fault.rt", "Reason::Id => #,"),
+    ("reason::NAME",           "tk_embed/src/fault.rt", "Reason::Name => #,"),
+    ("reason::PIECE",          "tk_embed/src/fault.rt", "Reason::Piece => #,"),
+    ("reason::ATTRIBUTES",     "tk_embed/src/fault.rt", "Reason::Attributes => #,"),
+    ("reason::ROW",            "tk_embed/src/fault.rt", "Reason::Row => #,"),
+    ("reason::TWICE",          "tk_embed/src/fault.rt", "Reason::Twice => #,"),
+    ("value::U64",             "tk_embed/src/attr.rt",  "# => AttrValue::U64(attr.number),"),
+    ("value::BOOL",            "tk_embed/src/attr.rt",  "# => AttrValue::Bool(attr.flag),"),
+    ("value::I64",             "tk_embed/src/attr.rt",  "_ => AttrValue::I64(attr.signed),"),
+    ("change::ADD",            "tk_embed/src/attr.rt",  "# => AttrOp::Add(value(attr)),"),
+    ("change::SUB",            "tk_embed/src/attr.rt",  "# => AttrOp::Sub(value(attr)),"),
+    ("change::SET",            "tk_embed/src/attr.rt",  "_ => AttrOp::Override(value(attr)),"),
+    ("kind::SPAWN",            "tk_embed/src/infos.rt", "if entry.kind == # { TaskKind::Spawn }"),
+    ("kind::BLOCKING",         "tk_embed/src/infos.rt", "else { TaskKind::Blocking }"),
+    ("word::FLAGS",            "tk_core/src/task/words.rt", "let flags = words[#];"),
+    ("word::CLOSED",           "tk_core/src/task/words.rt", "dropped: moment_of(flags % 2 == 1, words[#]),"),
+    ("word::CLOSED",           "tk_core/src/resource/words.rt", "dropped: moment_of(flags % 2 == 1, words[#]),"),
+    ("word::CLOSED",           "tk_core/src/op/words.rt", "dropped: moment_of(flags % 2 == 1, words[#]),"),
+    ("word::CLONES",           "tk_core/src/task/words.rt", "clones: words[#],"),
+    ("word::DROPS",            "tk_core/src/task/words.rt", "drops: words[#],"),
+    ("flag::CLOSED",           "tk_core/src/task/words.rt", "dropped: moment_of(flags % 2 == #,"),
+    ("flag::SCHEDULED",        "tk_core/src/task/words.rt", "+ # * scheduled"),
+    ("limit::ATTRIBUTES",      "tk_ids/src/attrs.rt", "pub const MOST_ATTRIBUTES: usize = #;"),
+    ("limit::LAST_NUMBER",     "tk_ids/src/id_block.rt", "const LAST_NUMBER: u64 = #;"),
+];
+
+/// The numbers that the library's sources don't have.
+fn misfits(numbers: &BTreeMap<String, String>, crates: &Path) -> Vec<&'static str> {
+    let fits = |&(name, file, says): &(&'static str, &str, &str)| {
+        let source = fs::read_to_string(crates.join(file)).unwrap_or_else(|error| panic!("{file}: {error}"));
+        let number = &numbers[name];
+        let module = name.split("::").next().unwrap_or("");
+        let others = numbers.iter().filter(|(other, _)| *other != name && other.split("::").next() == Some(module));
+        words_of(&source).contains(&says.replace('#', number)) && others.clone().all(|(_, other)| other != number)
+    };
+    NUMBERS.iter().filter(|row| !fits(row)).map(|row| row.0).collect()
+}
+
+#[test]
+fn both_sides_have_the_same_numbers() {
+    let crates = match crates() {
+        Some(crates) => crates,
+        None => return,
+    };
+    let numbers = numbers_of(&source("border.rs"));
+    for name in numbers.keys() {
+        assert!(NUMBERS.iter().any(|row| row.0 == name), "{name} is compared with nothing");
+    }
+    assert_eq!(misfits(&numbers, &crates), [""; 0]);
+    // Another number is noticed, whichever it is.
+    for (name, number) in &numbers {
+        let mut others = numbers.clone();
+        others.insert(name.clone(), if number == "1" { "7000".to_string() } else { "1".to_string() });
+        let any_will_do = ["value::I64", "change::SET", "kind::BLOCKING"].contains(&name.as_str());
+        assert!(misfits(&others, &crates).contains(&name.as_str()) || any_will_do, "{name}: {number}");
+    }
 }

@@ -38,7 +38,7 @@ fn a_line_tells_what_changed_since_the_one_before() {
 #[test]
 fn what_changes_back_and_what_is_refused_is_not_told() {
     let console = Console::open(Settings::default());
-    let resource = console.resource("Semaphore", "Sync").attr(Attr::new("permits", 2u64)).open();
+    let resource = console.resource("Semaphore").kind("Sync").attr(Attr::new("permits", 2u64)).open();
     let mut task = console.task("polled").open();
     publish(&console);
     resource.change("permits", Change::add(1u64)).unwrap();
@@ -79,6 +79,68 @@ fn a_moment_of_a_line_is_not_before_those_that_it_tells() {
     }
 }
 
+/// Whether something changed, by the call that tells changes alone.
+fn has_changed(console: &Console) -> bool {
+    let lines = console.publish_changes().expect("no fault");
+    assert_ne!(lines.as_deref(), Some(&[][..]), "no bytes are no line");
+    lines.is_some()
+}
+
+#[test]
+fn a_line_in_which_nothing_changed_can_be_left_out() {
+    let console = Console::open(Settings::default().capacity(3).retention(Duration::from_millis(20)));
+    assert!(!has_changed(&console), "nothing was made");
+    let mut task = console.task("task").open();
+    let resource = console.resource("Semaphore").kind("Sync").attr(Attr::new("permits", 2u64)).open();
+    let mut op = console.op(&resource, "acquire").open();
+    let first = publish(&console);
+    let mut tells = |case: &str, call: &mut dyn FnMut(&mut Task, &mut Op), is_told: bool| {
+        call(&mut task, &mut op);
+        assert_eq!(has_changed(&console), is_told, "{case}");
+        assert!(!has_changed(&console), "{case}: it is told once");
+    };
+    tells("nothing is called", &mut |_, _| (), false);
+    tells("a poll starts", &mut |task, _| task.start_poll().unwrap(), true);
+    tells("a call is refused", &mut |task, _| assert!(task.start_poll().is_err()), false);
+    tells("an operation is polled", &mut |_, op| op.start_poll().unwrap(), true);
+    tells("a poll operation is counted", &mut |_, op| op.count_poll(true), true);
+    tells("a change", &mut |_, _| resource.change("permits", Change::sub(1u64)).unwrap(), true);
+    let twice = &mut |_: &mut Task, _: &mut Op| {
+        resource.change("permits", Change::sub(1u64)).unwrap();
+        resource.change("permits", Change::add(1u64)).unwrap();
+    };
+    tells("a change and back", twice, false);
+    // Four find no room for one, in a recorder of three.
+    let mut kept = Vec::new();
+    let four = &mut |_: &mut Task, _: &mut Op| kept.extend((0..4).map(|_| console.task("new").open()));
+    tells("something is new, and something was dropped", four, true);
+    drop(kept);
+    let late = console.publish_changes().unwrap();
+    assert!(late.is_some(), "tasks were closed");
+    // They leave some time after it, with a line of their own.
+    let started = std::time::Instant::now();
+    let gone = loop {
+        if let Some(lines) = console.publish_changes().unwrap() {
+            break String::from_utf8(lines).unwrap();
+        }
+        assert!(started.elapsed() < Duration::from_secs(60), "nothing leaves");
+        sleep(Duration::from_millis(1));
+    };
+    assert_eq!((gone.lines().count(), list(gone.lines().last().unwrap(), "gone_tasks").len()), (2, 3), "{gone}");
+    assert!(!has_changed(&console), "what left is told once");
+    // No number was used up by what was left out: five calls and the closes were told by a line each, and what left by two.
+    let last = publish(&console);
+    assert_eq!((number(&first, "seq"), number(&last, "seq")), (1, 1 + 5 + 1 + 2 + 1), "{last}");
+}
+
+#[test]
+fn what_was_dropped_is_a_change() {
+    let console = Console::open(Settings::default().capacity(0));
+    drop(console.task("finds no room").open());
+    assert!(has_changed(&console), "one was dropped");
+    assert!(!has_changed(&console), "no more were dropped");
+}
+
 /// Numbers that look like chance, the same in each run: xorshift64.
 struct Chance(u64);
 
@@ -114,7 +176,7 @@ impl Program {
     fn call(&mut self) {
         match self.chance.below(10) {
             0 => self.tasks.push(self.console.task("task").open()),
-            1 => self.resources.push(self.console.resource("R", "K").attr(Attr::new("n", 0u64)).open()),
+            1 => self.resources.push(self.console.resource("R").kind("K").attr(Attr::new("n", 0u64)).open()),
             2 | 3 => self.wait(),
             4 => drop(self.chance.take(&mut self.tasks)),
             5 => drop(self.chance.take(&mut self.ops)),
@@ -171,7 +233,7 @@ impl Program {
 fn a_stream_leads_to_what_a_snapshot_tells() {
     for (seed, retention) in [(1, None), (2, Some(0)), (3, Some(100)), (4, Some(2_000)), (5, Some(3_600_000_000))] {
         let retention = retention.map(Duration::from_micros);
-        let console = Console::open(Settings { capacity: 20, retention, ..Settings::default() });
+        let console = Console::open(Settings::default().capacity(20).retention(retention));
         let mut program = Program {
             console: console.clone(),
             chance: Chance(seed),

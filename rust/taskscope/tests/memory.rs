@@ -32,14 +32,14 @@ const ROUND: u64 = 1_000;
 /// Makes and closes a thousand tasks, each with an operation on one resource, and a resource of its own with poll counts for
 /// each hundredth.
 fn round(console: &Console) {
-    let shared = console.resource("Semaphore", "Sync").open();
+    let shared = console.resource("Semaphore").kind("Sync").open();
     for turn in 0..ROUND {
         let mut task = console.task("made").open();
         task.start_poll().unwrap();
         let op = console.op(&shared, "acquire").open();
         op.count_poll(true);
         if turn % 100 == 0 {
-            console.resource(format!("Own-{turn}"), "Sync").open().count_poll(false);
+            console.resource(format!("Own-{turn}")).kind("Sync").open().count_poll(false);
         }
         task.end_poll().unwrap();
     }
@@ -49,7 +49,7 @@ fn round(console: &Console) {
 
 #[test]
 fn a_million_tasks_that_left_take_no_memory() {
-    let console = Console::open(Settings { retention: Some(Duration::ZERO), ..Settings::default() });
+    let console = Console::open(Settings::default().retention(Duration::ZERO));
     (0..10).for_each(|_| round(&console));
     let early = HELD.load(Ordering::Relaxed);
     (10..1_000).for_each(|_| round(&console));

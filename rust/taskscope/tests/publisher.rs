@@ -1,11 +1,12 @@
-//! How a publisher ends: stopped, dropped, by an error of its writer, by a panic of it.
+//! How often a publisher writes, and how it ends: stopped, dropped, by an error of its writer, by a panic of it, or not in time.
 
 mod common;
 
-use common::{list, Tables};
+use common::{list, number, Tables};
 use std::io::{self, Write};
 use std::panic::{catch_unwind, AssertUnwindSafe};
 use std::sync::atomic::{AtomicBool, Ordering};
+use std::sync::mpsc::{channel, Receiver};
 use std::sync::{Arc, Mutex};
 use std::thread::sleep;
 use std::time::{Duration, Instant};
@@ -75,6 +76,58 @@ fn lines_come_each_so_often() {
 }
 
 #[test]
+fn while_nothing_changes_there_is_a_line_each_second() {
+    let console = Console::open(Settings::default());
+    let started = Instant::now();
+    let publisher = Publisher::start(&console, Duration::from_millis(5), Vec::new()).unwrap();
+    sleep(Duration::from_millis(2_300));
+    let stream = String::from_utf8(publisher.stop().unwrap()).unwrap();
+    // The first one, those of the seconds after it, and the last one: 500 intervals passed.
+    let most = 2 + started.elapsed().as_secs();
+    let lines = stream.lines().count() as u64;
+    assert!(3 <= lines && lines <= most, "{lines} lines of at most {most}");
+    // No number is left out, and the last line tells the time until it.
+    let numbers: Vec<u64> = stream.lines().map(|line| number(line, "seq")).collect();
+    assert_eq!(numbers, (1..=lines).collect::<Vec<_>>());
+    assert!(number(stream.lines().last().unwrap(), "now") >= 2_300_000_000, "{stream}");
+}
+
+#[test]
+fn the_next_line_comes_at_once_while_a_recorder_fills_up() {
+    // This thread's recorder has room for 100, and is half full after each round.
+    let console = Console::open(Settings::default().capacity(100));
+    let shared = Shared::default();
+    let publisher = Publisher::start(&console, LONG, shared.clone()).unwrap();
+    until(|| !shared.text().is_empty());
+    let mut tasks = Vec::new();
+    for round in 1..=50 {
+        tasks.extend((0..50).map(|_| console.task("of a burst").open()));
+        until(|| shared.text().matches("of a burst").count() == round * 50);
+    }
+    let stream = publisher.stop().unwrap().text();
+    let mut tables = Tables::default();
+    tables.apply(&stream);
+    assert_eq!((tables.items["task_stats"].len(), tables.dropped.as_str()), (50 * 50, "0,0,0"));
+}
+
+#[test]
+fn an_interval_of_0_is_refused() {
+    let console = Console::open(Settings::default());
+    let refused = Publisher::start(&console, Duration::ZERO, Vec::new()).expect_err("a refusal");
+    assert_eq!(refused.kind(), io::ErrorKind::InvalidInput, "{refused}");
+}
+
+#[test]
+fn the_longest_interval_waits_for_the_stop() {
+    let console = Console::open(Settings::default());
+    let publisher = Publisher::start(&console, Duration::MAX, Vec::new()).unwrap();
+    sleep(Duration::from_millis(50));
+    drop(console.task("told at the end").open());
+    let stream = String::from_utf8(publisher.stop().unwrap()).unwrap();
+    assert_eq!((stream.lines().count(), stream.matches("told at the end").count()), (2, 1), "{stream}");
+}
+
+#[test]
 fn a_stop_and_a_drop_do_not_wait_and_write_a_last_line() {
     for drops in [false, true] {
         let console = Console::open(Settings::default());
@@ -120,4 +173,60 @@ fn a_panic_of_the_writer_goes_on_in_the_stop_and_not_in_the_drop() {
     drop(start());
     let publisher = start();
     assert!(catch_unwind(AssertUnwindSafe(|| publisher.stop())).is_err());
+}
+
+/// A writer that takes nothing until the other side of the channel is dropped.
+struct Stuck {
+    released: Receiver<()>,
+    taken: Shared,
+}
+
+impl Write for Stuck {
+    fn write(&mut self, bytes: &[u8]) -> io::Result<usize> {
+        let _ = self.released.recv();
+        self.taken.write(bytes)
+    }
+
+    fn flush(&mut self) -> io::Result<()> {
+        Ok(())
+    }
+}
+
+#[test]
+fn a_stop_and_a_drop_wait_two_seconds_at_most_for_a_writer_that_is_stuck() {
+    for drops in [false, true] {
+        let console = Console::open(Settings::default());
+        let ((release, released), taken) = (channel::<()>(), Shared::default());
+        let writer = Stuck { released, taken: taken.clone() };
+        let publisher = Publisher::start(&console, Duration::from_millis(1), writer).unwrap();
+        let _task = console.task("made later").open();
+        let started = Instant::now();
+        if drops {
+            drop(publisher);
+        } else {
+            let error = publisher.stop().err().expect("no writer");
+            assert_eq!(error.kind(), io::ErrorKind::TimedOut, "{error}");
+        }
+        let waited = started.elapsed();
+        assert!(Duration::from_secs(2) <= waited && waited < LONG / 2, "drops: {drops}: it waited for {waited:?}");
+        // The thread goes on with its writer, writes the last line, and lets go of it.
+        assert_eq!((taken.text().as_str(), Arc::strong_count(&taken.0)), ("", 2), "drops: {drops}");
+        drop(release);
+        until(|| Arc::strong_count(&taken.0) == 1);
+        assert_eq!(list(taken.text().lines().last().unwrap(), "new_tasks").len(), 1, "drops: {drops}");
+    }
+}
+
+#[cfg(unix)]
+#[test]
+fn a_program_ends_where_the_reader_of_its_pipe_has_stopped_reading() {
+    let (writer, reader) = std::os::unix::net::UnixStream::pair().unwrap();
+    let console = Console::open(Settings::default());
+    // More than the system keeps for a reader.
+    let tasks: Vec<_> = (0..20_000).map(|number| console.task(format!("task {number}")).open()).collect();
+    let publisher = Publisher::start(&console, Duration::from_millis(5), writer).unwrap();
+    let started = Instant::now();
+    drop(publisher);
+    assert!(started.elapsed() < LONG / 2, "it waited for {:?}", started.elapsed());
+    drop((tasks, reader));
 }

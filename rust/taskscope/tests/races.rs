@@ -7,7 +7,8 @@ mod common;
 use common::{list, noop, number, snapshot, value, Calls};
 use std::future::Future;
 use std::sync::mpsc::channel;
-use std::task::{Context, Poll};
+use std::sync::{Arc, Mutex};
+use std::task::{Context, Poll, Waker};
 use std::thread::{spawn, JoinHandle};
 use std::time::Duration;
 use taskscope::{Attr, Change, Console, Publisher, Resource, Settings, TaskWaker};
@@ -16,7 +17,7 @@ const THREADS: u64 = 8;
 const TURNS: u64 = 3_000;
 
 /// The calls of one thread: on a waker that all threads have, on a resource, and on items of its own.
-fn call(console: &Console, waker: &std::task::Waker, by_hand: &TaskWaker, resource: &Resource) {
+fn call(console: &Console, waker: &Waker, by_hand: &TaskWaker, resource: &Resource) {
     for turn in 0..TURNS {
         match turn % 3 {
             0 => drop(waker.clone()),
@@ -35,11 +36,58 @@ fn call(console: &Console, waker: &std::task::Waker, by_hand: &TaskWaker, resour
     }
 }
 
+/// Polls of one future on this thread, whose wakers others drop and wake by at the same time: the last one may go as a poll starts.
+fn polls_and_last_wakers() {
+    let console = Console::open(Settings::default());
+    // By `try_lock`, which ThreadSanitizer can follow.
+    let kept = Arc::new(Mutex::new(Some(Vec::new())));
+    let take =
+        |kept: &Mutex<Option<Vec<Waker>>>| kept.try_lock().ok().map(|mut kept| kept.as_mut().map(|list| list.pop()));
+    let slot = Arc::clone(&kept);
+    let mut future = Box::pin(console.instrument(
+        "gives its wakers away",
+        Calls(move |cx: &mut Context<'_>| {
+            if let Ok(mut kept) = slot.try_lock() {
+                kept.as_mut().expect("a list").push(cx.waker().clone());
+            }
+            Poll::Pending
+        }),
+    ));
+    let threads: Vec<JoinHandle<()>> = (0..3)
+        .map(|number| {
+            let kept = Arc::clone(&kept);
+            spawn(move || loop {
+                match take(&kept) {
+                    Some(Some(Some(waker))) if number == 0 => waker.wake(),
+                    Some(Some(Some(waker))) if number == 1 => waker.wake_by_ref(),
+                    Some(Some(waker)) => drop(waker),
+                    Some(None) => return,
+                    None => std::hint::spin_loop(),
+                }
+            })
+        })
+        .collect();
+    let wakers = [noop(), noop()];
+    for turn in 0..10 * TURNS as usize {
+        assert!(future.as_mut().poll(&mut Context::from_waker(&wakers[turn / 64 % 2])).is_pending());
+    }
+    // The wakers that are left, without the lock.
+    drop(loop {
+        if let Ok(mut kept) = kept.try_lock() {
+            break kept.take();
+        }
+    });
+    threads.into_iter().for_each(|thread| thread.join().unwrap());
+    let told = snapshot(&console);
+    let row = common::task(&told, future.id().value());
+    assert!(number(row, "clones") == number(row, "drops") && number(row, "clones") > 0, "{row}");
+}
+
 fn main() {
-    let console =
-        Console::open(Settings { capacity: 300, retention: Some(Duration::from_micros(300)), ..Settings::default() });
+    polls_and_last_wakers();
+    let console = Console::open(Settings::default().capacity(300).retention(Duration::from_micros(300)));
     let (sender, wakers) = channel();
-    let mut future = Box::pin(console.inspect(
+    let mut future = Box::pin(console.instrument(
         "shared",
         Calls(move |cx: &mut Context<'_>| {
             sender.send(cx.waker().clone()).unwrap();
@@ -50,7 +98,7 @@ fn main() {
     assert!(future.as_mut().poll(&mut Context::from_waker(&noop())).is_pending());
     let waker = wakers.recv().unwrap();
     let task = console.task("by hand").open();
-    let resource = console.resource("Semaphore", "Sync").attr(Attr::new("calls", 0u64)).open();
+    let resource = console.resource("Semaphore").kind("Sync").attr(Attr::new("calls", 0u64)).open();
     let publisher = Publisher::start(&console, Duration::from_millis(1), Vec::new()).unwrap();
     let threads: Vec<JoinHandle<()>> = (0..THREADS)
         .map(|_| {

@@ -8,7 +8,7 @@ use std::time::Duration;
 use taskscope::{Console, Origin, Settings, Task};
 
 fn keeps_for(retention: Duration) -> Console {
-    Console::open(Settings { retention: Some(retention), ..Settings::default() })
+    Console::open(Settings::default().retention(retention))
 }
 
 /// What leaves: the last line of a text says it, where any does.
@@ -74,7 +74,7 @@ fn an_item_stays_for_its_retention() {
 
 #[test]
 fn without_a_retention_nothing_leaves() {
-    let console = Console::open(Settings { retention: None, ..Settings::default() });
+    let console = Console::open(Settings::default().retention(None));
     drop(console.task("closed").open());
     for _ in 0..3 {
         assert_eq!(publish(&console).lines().count(), 1);
@@ -127,7 +127,7 @@ fn wakers_of_a_task_that_left_are_told_of_no_more() {
 #[test]
 fn poll_counts_of_a_resource_that_left_stay_with_the_reader_alone() {
     let console = keeps_for(Duration::ZERO);
-    let resource = console.resource("Semaphore", "Sync").open();
+    let resource = console.resource("Semaphore").kind("Sync").open();
     let op = console.op(&resource, "acquire").open();
     op.count_poll(true);
     let id = resource.id().value();
@@ -151,7 +151,7 @@ fn poll_counts_of_a_resource_that_left_stay_with_the_reader_alone() {
 #[test]
 fn poll_counts_that_no_line_told_are_told_before_their_resource_leaves() {
     let console = keeps_for(Duration::ZERO);
-    let resource = console.resource("Semaphore", "Sync").open();
+    let resource = console.resource("Semaphore").kind("Sync").open();
     resource.count_poll(true);
     let id = resource.id().value();
     drop(resource);

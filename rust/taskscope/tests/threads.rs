@@ -8,7 +8,7 @@
 
 mod common;
 
-use common::{list, noop, number, publish, snapshot, value, Calls, Tables};
+use common::{list, noop, number, publish, snapshot, task, value, Calls, Tables};
 use std::future::Future;
 use std::sync::atomic::{AtomicU64, Ordering};
 use std::sync::{Arc, Mutex};
@@ -31,7 +31,7 @@ fn keep(test: &str, stream: &str) {
 fn keeps_its_waker(console: &Console) -> (std::pin::Pin<Box<dyn Future<Output = ()> + Send>>, TaskId, Waker) {
     let slot = Arc::new(Mutex::new(None));
     let kept = Arc::clone(&slot);
-    let future = console.inspect(
+    let future = console.instrument(
         "shared",
         Calls(move |cx: &mut Context<'_>| {
             *kept.lock().unwrap() = Some(cx.waker().clone());
@@ -90,17 +90,86 @@ fn wakes_of_one_task_from_many_threads_are_all_counted() {
     keep("wakes_of_one_task", &stream);
 }
 
+/// An executor's waker that counts.
+#[derive(Default)]
+struct Counts(AtomicU64);
+
+impl std::task::Wake for Counts {
+    fn wake(self: Arc<Self>) {
+        self.0.fetch_add(1, Ordering::SeqCst);
+    }
+}
+
+#[test]
+fn the_last_wakers_may_go_on_other_threads_while_polls_start() {
+    const POLLS: u64 = 100_000;
+    let console = Console::open(Settings::default());
+    let (sender, wakers) = std::sync::mpsc::sync_channel::<Waker>(4);
+    let wakers = Mutex::new(wakers);
+    let counts = [Arc::new(Counts::default()), Arc::new(Counts::default())];
+    let mut future = Box::pin(console.instrument(
+        "sends its wakers",
+        Calls(move |cx: &mut Context<'_>| {
+            let _ = sender.try_send(cx.waker().clone());
+            Poll::Pending
+        }),
+    ));
+    let id = future.id().value();
+    let woken = thread::scope(|scope| {
+        let threads: Vec<_> = (0..3)
+            .map(|number| {
+                let wakers = &wakers;
+                scope.spawn(move || {
+                    let mut woken = 0;
+                    loop {
+                        // Let go of the lock before the waker is used.
+                        let waker = wakers.lock().unwrap().recv();
+                        match waker {
+                            Ok(waker) if number == 0 => waker.wake(),
+                            Ok(waker) if number == 1 => waker.wake_by_ref(),
+                            Ok(_) => continue,
+                            Err(_) => return woken,
+                        }
+                        woken += 1;
+                    }
+                })
+            })
+            .collect();
+        // The executor's waker is another one now and then.
+        let wakers = [0, 1].map(|place: usize| Waker::from(Arc::clone(&counts[place])));
+        for turn in 0..POLLS {
+            let waker = &wakers[usize::from(turn % 64 == 0)];
+            assert!(future.as_mut().poll(&mut Context::from_waker(waker)).is_pending());
+        }
+        let told = publish(&console);
+        assert_eq!(number(task(&told, id), "clones"), POLLS);
+        // The sender goes with the future, and so the threads end.
+        drop(future);
+        threads.into_iter().map(|thread| thread.join().unwrap()).sum::<u64>()
+    });
+    let told = publish(&console);
+    let row = task(&told, id);
+    assert_eq!((number(row, "wakes"), number(row, "clones"), number(row, "drops")), (woken, POLLS, POLLS), "{row}");
+    assert_eq!(
+        counts.iter().map(|counts| counts.0.load(Ordering::SeqCst)).sum::<u64>(),
+        woken,
+        "each wake came through"
+    );
+    // None of the executor's wakers is kept.
+    assert_eq!(counts.map(|counts| Arc::strong_count(&counts)), [1, 1]);
+}
+
 #[test]
 fn items_of_many_threads_are_all_told() {
     const EACH: u64 = 400;
     // They stay within the recorders' room, also where all threads have one recorder.
-    let console = Console::open(Settings { retention: None, ..Settings::default() });
+    let console = Console::open(Settings::default().retention(None));
     let publisher = Publisher::start(&console, Duration::from_millis(1), Vec::new()).expect("a thread");
     let polls = AtomicU64::new(0);
     thread::scope(|scope| {
         for _ in 0..THREADS {
             scope.spawn(|| {
-                let resource = console.resource("Semaphore", "Sync").open();
+                let resource = console.resource("Semaphore").kind("Sync").open();
                 for turn in 0..EACH {
                     let mut task = console.task("made").open();
                     let mut op = console.op(&resource, "acquire").open();
@@ -140,7 +209,7 @@ fn items_of_many_threads_are_all_told() {
 
 #[test]
 fn lines_of_threads_that_publish_at_once_are_one_stream() {
-    let console = Console::open(Settings { retention: Some(Duration::ZERO), ..Settings::default() });
+    let console = Console::open(Settings::default().retention(Duration::ZERO));
     let lines = Mutex::new(Vec::new());
     thread::scope(|scope| {
         for turn in 0..THREADS {
@@ -172,14 +241,14 @@ fn lines_of_threads_that_publish_at_once_are_one_stream() {
 
 #[test]
 fn no_line_tells_of_calls_on_what_left() {
-    let console = Console::open(Settings { retention: Some(Duration::ZERO), ..Settings::default() });
+    let console = Console::open(Settings::default().retention(Duration::ZERO));
     let threads = AtomicU64::new(THREADS / 2);
     let mut tables = Tables::default();
     thread::scope(|scope| {
         for _ in 0..THREADS / 2 {
             scope.spawn(|| {
                 for _ in 0..300 {
-                    let resource = console.resource("Semaphore", "Sync").open();
+                    let resource = console.resource("Semaphore").kind("Sync").open();
                     let mut op = console.op(&resource, "acquire").open();
                     let waker = console.task("closed").open().waker();
                     drop(resource);

@@ -40,7 +40,7 @@ impl Times {
 }
 
 fn with_times(times: bool) -> Console {
-    Console::open(Settings { times, ..Settings::default() })
+    Console::open(Settings::default().times(times))
 }
 
 fn spin(span: Duration) {
@@ -137,7 +137,7 @@ fn without_times_lines_are_as_they_were() {
 
 #[test]
 fn histograms_leave_with_their_tasks() {
-    let console = Console::open(Settings { retention: Some(Duration::ZERO), ..Settings::default() });
+    let console = Console::open(Settings::default().retention(Duration::ZERO));
     let mut tables = Tables::default();
     let task = console.task("leaves").open();
     tables.apply(&publish(&console));

@@ -1,0 +1,1 @@
+../../../taskscope/tests/common/mod.rs

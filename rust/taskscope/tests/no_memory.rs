@@ -1,0 +1,57 @@
+//! Want of memory for a line is told, and the next line tells what that one would have told.
+//!
+//! The test refuses memory to this program, so it stands alone in its file.
+
+mod common;
+
+use common::{list, number};
+use std::alloc::{GlobalAlloc, Layout, System};
+use std::sync::atomic::{AtomicUsize, Ordering};
+use taskscope::{Console, Fault, Settings, Task};
+
+/// Refuses blocks of more than so many bytes.
+struct Refusing;
+
+static MOST: AtomicUsize = AtomicUsize::new(usize::MAX);
+
+// SAFETY: it hands on what `System` does, or has no memory.
+unsafe impl GlobalAlloc for Refusing {
+    unsafe fn alloc(&self, layout: Layout) -> *mut u8 {
+        if layout.size() > MOST.load(Ordering::SeqCst) {
+            return std::ptr::null_mut();
+        }
+        System.alloc(layout)
+    }
+
+    unsafe fn dealloc(&self, block: *mut u8, layout: Layout) {
+        System.dealloc(block, layout);
+    }
+}
+
+#[global_allocator]
+static REFUSING: Refusing = Refusing;
+
+/// Makes a call with no more than so much memory at a time.
+fn with_most<T>(most: usize, call: impl FnOnce() -> T) -> T {
+    MOST.store(most, Ordering::SeqCst);
+    let answer = call();
+    MOST.store(usize::MAX, Ordering::SeqCst);
+    answer
+}
+
+#[test]
+fn a_line_for_which_there_is_no_memory_is_told_by_the_next() {
+    let console = Console::open(Settings::default());
+    let tasks: Vec<Task> = (0..2_000).map(|_| console.task("listed").open()).collect();
+    // Too little for the entries of so many tasks, and too little for the line alone.
+    for most in [200_000, 800_000] {
+        with_most(most, || {
+            assert_eq!(console.publish(), Err(Fault::Memory), "{most}");
+            assert_eq!(console.publish_changes(), Err(Fault::Memory), "{most}");
+            assert_eq!(console.snapshot(), Err(Fault::Memory), "{most}");
+        });
+    }
+    let told = common::publish(&console);
+    assert_eq!((number(&told, "seq"), list(&told, "task_stats").len()), (1, tasks.len()));
+    assert_eq!(console.publish_changes(), Ok(None));
+}
