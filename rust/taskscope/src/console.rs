@@ -43,12 +43,16 @@ pub struct Settings {
     /// Whether a histogram is kept of how long each task's polls ran, which the lines tell: `taskscope view --times` shows it, and
     /// `taskscope lint --long-poll` warns by it.
     pub times: bool,
+    /// Whether it is counted of each task how long it waited in all, which the lines tell in version 4: each wait from its first
+    /// wake on, where `sched` counts from the last one. `taskscope view` shows it as `waited`. A `taskscope` that is older than
+    /// version 4 refuses such lines.
+    pub waits: bool,
 }
 
 impl Default for Settings {
-    /// 65,536 new items, a retention of one hour, and histograms.
+    /// 65,536 new items, a retention of one hour, histograms, and waits.
     fn default() -> Settings {
-        Settings { capacity: 65_536, retention: Some(Duration::from_secs(3600)), times: true }
+        Settings { capacity: 65_536, retention: Some(Duration::from_secs(3600)), times: true, waits: true }
     }
 }
 
@@ -84,6 +88,16 @@ impl Settings {
     /// ```
     pub fn times(self, times: bool) -> Settings {
         Settings { times, ..self }
+    }
+
+    /// Whether it is counted of each task how long it waited ([`waits`](Settings#structfield.waits)).
+    ///
+    /// ```
+    /// # use taskscope::Settings;
+    /// assert!(Settings::default().waits && !Settings::default().waits(false).waits);
+    /// ```
+    pub fn waits(self, waits: bool) -> Settings {
+        Settings { waits, ..self }
     }
 }
 
@@ -130,6 +144,7 @@ pub(crate) struct Inner {
     /// In nanoseconds.
     retention: Option<u64>,
     times: bool,
+    waits: bool,
     shards: [ShardLock; SHARDS],
     book: Mutex<Book>,
 }
@@ -171,6 +186,12 @@ impl Inner {
     #[inline]
     pub(crate) fn keeps_times(&self) -> bool {
         self.times
+    }
+
+    /// Whether the waits of tasks are counted.
+    #[inline]
+    pub(crate) fn counts_waits(&self) -> bool {
+        self.waits
     }
 
     /// Makes a call on an item's words, and lists the item for the next line where it isn't. Where nothing is recorded there is no
@@ -292,6 +313,7 @@ impl Console {
             filling: Filling::default(),
             retention: settings.retention.map(nanoseconds),
             times: settings.times,
+            waits: settings.waits,
             shards: Default::default(),
             book: Mutex::new(Book::new(settings.times)),
         }))

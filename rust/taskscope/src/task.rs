@@ -69,11 +69,16 @@ pub(crate) struct TaskWords {
 }
 
 impl TaskWords {
-    fn opening(created: u64) -> TaskWords {
+    /// The words of a new task, whose waits are counted or not.
+    fn opening(created: u64, waits: bool) -> TaskWords {
         let mut words = TaskWords::default();
         // SAFETY: the words are lent for the calls.
         unsafe {
-            ffi::taskscope_task_open(created, &mut words.row);
+            if waits {
+                ffi::taskscope_task_open_counting(created, &mut words.row);
+            } else {
+                ffi::taskscope_task_open(created, &mut words.row);
+            }
             ffi::taskscope_times_open(&mut words.times);
         }
         words
@@ -225,7 +230,7 @@ impl<'a> TaskBuilder<'a> {
     pub fn open(self) -> Task {
         let console = self.console.inner();
         let created = console.now();
-        let words = TaskWords::opening(created);
+        let words = TaskWords::opening(created, console.counts_waits());
         let cell = console.record(|id| TaskCell {
             id,
             kind: self.kind,
