@@ -28,7 +28,7 @@ fn a_close_is_told_before_its_item_leaves() {
     let lines: Vec<&str> = told.lines().collect();
     assert_eq!(lines.len(), 2, "{told}");
     assert_ne!(value(common::task(lines[0], id), "dropped"), "null");
-    assert_eq!((number(lines[0], "v"), number(lines[0], "seq")), (3, 2));
+    assert_eq!((number(lines[0], "v"), number(lines[0], "seq")), (4, 2));
     assert_eq!(list(lines[1], "gone_tasks"), [id.to_string()]);
     assert_eq!((number(lines[1], "v"), number(lines[1], "seq")), (2, 3));
     assert_eq!(value(lines[0], "now"), value(lines[1], "now"));

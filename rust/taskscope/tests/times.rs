@@ -40,7 +40,7 @@ impl Times {
 }
 
 fn with_times(times: bool) -> Console {
-    Console::open(Settings::default().times(times))
+    Console::open(Settings::default().times(times).waits(false))
 }
 
 fn spin(span: Duration) {

@@ -43,7 +43,10 @@ fn a_wait_is_counted_from_its_first_wake() {
     let (sched, waited) = told(&publish(&console), task.id());
     let (sched, waited) = (sched - sched_before, waited - waited_before);
     assert!(least <= waited && waited <= most, "it waited {waited}, and that is from {least} to {most}");
-    assert!(after_last <= sched && sched <= waited - 20 * MILLISECOND, "sched {sched} is from the last wake on: {after_last}");
+    assert!(
+        after_last <= sched && sched <= waited - 20 * MILLISECOND,
+        "sched {sched} is from the last wake on: {after_last}"
+    );
 }
 
 #[test]
