@@ -2,7 +2,7 @@
 # Tries the Rust crate of rust/ over the proved library, and shows a service's stream by the proved program.
 #
 # Usage: tests/rust.sh            after `rt ci`, or `rt run` in crates/taskscope.
-#        tests/rust.sh --renew    builds the archive that rust/taskscope/prebuilt keeps anew, with the sum of its sources, and tries nothing.
+#        tests/rust.sh --renew    builds the archives that rust/taskscope/prebuilt keeps anew, with the sum of their sources, and tries nothing.
 #
 # It builds the archive (tests/archive.py), sees that the one that is kept is of the same sources and says whether it has the
 # same bytes, and runs the crate's tests with the new one, and with the kept one where their bytes differ; also under the sanitizers of
@@ -37,21 +37,22 @@ build_archive() {
     fi
 }
 
+# Keeps both archives, with the sum of their sources.
 renew() {
-    mkdir -p "$kept" && cp "$work/new/libtk_embed.a" "$kept" && "$root/tests/archive_sum.sh" > "$kept/sources.sha256"
+    for processor in x86_64 aarch64; do
+        folder=$root/rust/taskscope/prebuilt/$processor-linux
+        mkdir -p "$folder" && "$root/tests/archive_sum.sh" > "$folder/sources.sha256" || return 1
+    done
+    cp "$work/new/libtk_embed.a" "$kept" && "$root/tests/archive.py" --target aarch64-unknown-linux-gnu "$folder/libtk_embed.a"
 }
 
 mkdir "$work/new" "$work/streams" || exit 2
 if [ "$1" = --renew ]; then
-    step 'the archive is built' build_archive && step 'it is kept, with the sum of its sources' renew
+    step 'the archive is built' build_archive && step 'it and the one for arm64 are kept, with the sum of their sources' renew
     finish
 fi
 
 # What is needed
-
-as_root() {
-    if [ "$(id -u)" -eq 0 ]; then "$@"; else sudo -n "$@"; fi
-}
 
 # The folder with the sources of Debian's crates.
 crates_folder() {
@@ -202,7 +203,7 @@ first_page_holds() {
     for list in "$work/report" "$work/rust/taskscope/README.md"; do
         sed -n 's/^\(task [0-9.]* [a-z]* [a-z]* polls [0-9]*\) .* \(name .*\)$/\1 \2/p' "$list"
     done | sort | uniq -c | awk '{ rows++ } $1 != 2 { bad = 1; print } END { exit bad || rows != 2 }' || return 1
-    "$root/taskscope" lint --long-poll 100 < "$work/pasted/service.stream" > "$work/warnings"
+    "$program" lint --long-poll 100 < "$work/pasted/service.stream" > "$work/warnings"
     [ $? -eq 3 ] && grep -q '^warn 1.2 long-poll 2[0-9]*$' "$work/warnings" && [ "$(wc -l < "$work/warnings")" -eq 1 ]
 }
 
@@ -253,7 +254,7 @@ run_service() {
 }
 
 view() {
-    "$root/taskscope" view < "$1" > "$2"
+    "$program" view < "$1" > "$2"
 }
 
 # Each line of what the service counted has its line in the report.
@@ -278,7 +279,7 @@ id_of() {
 }
 
 warnings_are_due() {
-    "$root/taskscope" lint < "$work/service.stream" > "$work/warnings"
+    "$program" lint < "$work/service.stream" > "$work/warnings"
     [ $? -eq 3 ] || return 1
     printf 'warn %s self-wakes 1000 of 1000\nwarn %s lost-waker\n' "$(id_of self-waker)" "$(id_of lost)" > "$work/due"
     diff "$work/due" "$work/warnings"
@@ -364,7 +365,7 @@ echo_agrees() {
 
 faults_are_warned_of() {
     TASKSCOPE_STREAM=$work/faults.stream "$unstable/debug/examples/faults" || return 1
-    "$root/taskscope" lint < "$work/faults.stream" > "$work/warnings"
+    "$program" lint < "$work/faults.stream" > "$work/warnings"
     [ $? -eq 3 ] || return 1
     view "$work/faults.stream" "$work/report" || return 1
     # The warnings, with the names of their tasks.
@@ -378,7 +379,7 @@ faults_are_warned_of() {
 # millisecond more, but where the system took the processor away between the two readings of the clock.
 times_agree() {
     TASKSCOPE_ITEMS=tasks TASKSCOPE_STREAM=$work/starving.stream "$unstable/debug/examples/starving" > "$work/measured" || return 1
-    "$root/taskscope" view --times < "$work/starving.stream" > "$work/report" || return 1
+    "$program" view --times < "$work/starving.stream" > "$work/report" || return 1
     awk '
         NR == FNR { polls[$2] = $4; longest[$2] = $6; p[$2, 50] = $8; p[$2, 90] = $10; p[$2, 99] = $12; next }
         $1 == "task" { name = $NF; next }
@@ -393,7 +394,7 @@ times_agree() {
         }
         END { print seen " tasks, " late + 0 " late"; exit bad || seen != 9 || late > 3 }
     ' "$work/measured" "$work/report" || return 1
-    "$root/taskscope" lint --long-poll 20 < "$work/starving.stream" > "$work/warnings"
+    "$program" lint --long-poll 20 < "$work/starving.stream" > "$work/warnings"
     [ $? -eq 3 ] || return 1
     id=$(sed -n 's/^task \([0-9.]*\) .* name json-index$/\1/p' "$work/report")
     grep "^warn $id long-poll " "$work/warnings"
@@ -403,7 +404,7 @@ times_agree() {
 requests_are_fine() {
     TASKSCOPE_STREAM=$work/requests.stream "$unstable/debug/examples/requests" > "$work/logs" || return 1
     view "$work/requests.stream" "$work/report" || return 1
-    "$root/taskscope" lint < "$work/requests.stream" || return 1
+    "$program" lint < "$work/requests.stream" || return 1
     [ "$(grep -c '^task .* spawn closed polls 2 ' "$work/report")" -eq 5 ] &&
         [ "$(grep -c '^task .* spawn idle polls 1 .* clones 1 drops 0 ' "$work/report")" -eq 5 ] &&
         [ "$(grep -c 'request{number=[1-5]}: requests: begun' "$work/logs")" -eq 5 ] && ! grep -q runtime.spawn "$work/logs" || {
@@ -442,7 +443,7 @@ subscriber_page_holds() {
     for list in "$work/report" "$page"; do
         sed -n 's/^\(task [0-9.]* [a-z]* [a-z]* polls [0-9]*\) .* \(name .*\)$/\1 \2/p' "$list"
     done | sort | uniq -c | awk '{ rows++ } $1 != 2 { bad = 1; print } END { exit bad || rows != 2 }' || return 1
-    "$root/taskscope" lint --long-poll 100 < "$work/page/program.stream" > "$work/warnings"
+    "$program" lint --long-poll 100 < "$work/page/program.stream" > "$work/warnings"
     [ $? -eq 3 ] && grep -q '^warn 1.2 long-poll 2[0-9]*$' "$work/warnings" && [ "$(wc -l < "$work/warnings")" -eq 1 ]
 }
 

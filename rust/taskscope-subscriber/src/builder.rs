@@ -121,6 +121,9 @@ impl Builder {
         if let Some(times) = choice("TASKSCOPE_TIMES", [("on", true), ("off", false)])? {
             builder.settings.times = times;
         }
+        if let Some(waits) = choice("TASKSCOPE_WAITS", [("on", true), ("off", false)])? {
+            builder.settings.waits = waits;
+        }
         if let Some(items) = choice("TASKSCOPE_ITEMS", [("all", Items::All), ("tasks", Items::Tasks)])? {
             builder.items = items;
         }
@@ -162,6 +165,12 @@ impl Builder {
     /// Whether a histogram is kept of how long each task's polls ran, and lines tell it: so it is without this.
     pub fn times(mut self, times: bool) -> Builder {
         self.settings.times = times;
+        self
+    }
+
+    /// Whether it is counted of each task how long it waited in all, and lines tell it: so it is without this.
+    pub fn waits(mut self, waits: bool) -> Builder {
+        self.settings.waits = waits;
         self
     }
 

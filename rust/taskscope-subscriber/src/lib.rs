@@ -35,6 +35,7 @@
 //! | `TASKSCOPE_INTERVAL_MS` | milliseconds from one line to the next, from 1 on | 100 |
 //! | `TASKSCOPE_ITEMS` | `all`: resources and operations are told too, and locks and channels cost many times as much; or `tasks` | `tasks` |
 //! | `TASKSCOPE_TIMES` | `on`: a histogram of how long its polls ran is kept of each task, for `view --times` and `lint --long-poll`; or `off` | `on` |
+//! | `TASKSCOPE_WAITS` | `on`: it is counted of each task how long it waited in all, for `view`, `page` and `watch`; or `off` | `on` |
 //! | `TASKSCOPE_MAX_BYTES` | how many bytes a file has, until it is kept with `.1` after its name and begun anew | a file grows for as long as the program runs |
 //! | `TASKSCOPE_RETENTION_MS` | milliseconds that an item stays in the tables after its close; or `none`: for good | 60000 |
 //! | `TASKSCOPE_CAPACITY` | how many new items each of the 16 recorders holds until the next line | 65536 |
