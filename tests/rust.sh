@@ -124,6 +124,15 @@ has_bytes() {
     cmp -s "$work/new/libtk_embed.a" "$kept/libtk_embed.a"
 }
 
+# `rt ci` takes no links, so what packages share stands in each.
+shares_files() {
+    for package in taskscope taskscope-subscriber taskscope-cli; do
+        cmp "$root/LICENSE-MIT" "$root/rust/$package/LICENSE-MIT" && cmp "$root/LICENSE-APACHE" "$root/rust/$package/LICENSE-APACHE" || return 1
+    done
+    cmp "$root/rust/taskscope/tests/common/mod.rs" "$root/rust/taskscope-subscriber/tests/common/mod.rs"
+}
+
+step 'what packages share is the same in each' shares_files
 step 'the archive is built' build_archive || finish
 step 'the kept archive is of these sources' sum_fits
 step 'the tests of the crate pass' try_crate "$work/new"
