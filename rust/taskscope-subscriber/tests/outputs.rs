@@ -1,6 +1,5 @@
 //! Where lines go: files, pipes and sockets, readers that come late, that go away and that don't read, and a full disk.
 
-#[path = "../../taskscope/tests/common/mod.rs"]
 mod common;
 
 use common::{number, value, Tables};

@@ -1,6 +1,5 @@
 //! What tokio says of tasks, wakers, resources and operations comes through to the rows.
 
-#[path = "../../taskscope/tests/common/mod.rs"]
 mod common;
 
 use common::{list, number, publish, value, with_id};
