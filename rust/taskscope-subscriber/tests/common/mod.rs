@@ -3,6 +3,8 @@
 // Each test file is a program of its own, and uses a part of these.
 #![allow(dead_code)]
 
+pub mod program;
+
 use std::collections::BTreeMap;
 use std::future::Future;
 use std::pin::Pin;
