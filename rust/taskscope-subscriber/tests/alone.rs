@@ -1,7 +1,6 @@
 //! `Builder::init`: the layer as the subscriber of the whole program. No future takes a task's span along, so a task ends when it does,
 //! and a runtime may stand in a thread local.
 
-#[path = "../../taskscope/tests/common/mod.rs"]
 mod common;
 
 use common::{number, value, Tables};

@@ -1,7 +1,6 @@
 //! One program under two layers: the rows have the counts of a layer that counts by tokio-console's rules, and that has nothing in
 //! common with the first one but the events.
 
-#[path = "../../taskscope/tests/common/mod.rs"]
 mod common;
 
 use common::{list, number, value};

@@ -1,6 +1,5 @@
 //! Futures and calls that enter the span of another task: what counts as a poll of that task.
 
-#[path = "../../taskscope/tests/common/mod.rs"]
 mod common;
 
 use common::{list, number, publish, value};
