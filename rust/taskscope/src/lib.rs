@@ -85,7 +85,9 @@ mod publisher;
 mod refused;
 mod resource;
 mod row;
+mod running;
 mod shared;
+mod table;
 mod task;
 #[cfg(doctest)]
 mod unkept;
