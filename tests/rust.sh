@@ -5,7 +5,9 @@
 #        tests/rust.sh --renew    builds the archive that rust/taskscope/prebuilt keeps anew, with the sum of its sources, and tries nothing.
 #
 # It builds the archive (tests/archive.py), sees that the one that is kept is of the same sources and says whether it has the
-# same bytes, and runs the crate's tests with the new one, and with the kept one where their bytes differ. Then it runs the service of
+# same bytes, and runs the crate's tests with the new one, and with the kept one where their bytes differ; also under the sanitizers of
+# threads and of addresses, and without the archive, where nothing is recorded. It pastes the programs of the two READMEs, packs the
+# crate, and runs the packed tests elsewhere. Then it runs the service of
 # rust/examples/service.rs: `view` of its stream must tell of each task as many polls as the service counted itself, and of the semaphore as
 # many poll operations, and `lint` the two warnings that are due and no other. `view` must take the streams of the tests with threads too.
 #
@@ -81,7 +83,7 @@ fi
 folder=$(crates_folder)
 cp -R "$root/rust" "$work/rust" && rm -rf "$work/rust/bench" "$work/rust"/target "$work/rust"/Cargo.lock \
     "$work/rust"/taskscope-subscriber/target "$work/rust"/taskscope-subscriber/Cargo.lock || exit 2
-ln -s "$root/crates" "$work/crates" || exit 2
+ln -s "$root/crates" "$root/LICENSE-MIT" "$root/LICENSE-APACHE" "$work" || exit 2
 CARGO_TARGET_DIR=${CARGO_TARGET_DIR:-$work/target}
 export CARGO_TARGET_DIR
 
@@ -141,11 +143,87 @@ look_for_races() {
     TASKSCOPE_LIB=$work/new RUSTC_BOOTSTRAP=1 RUSTFLAGS=$flags over_debian test -p taskscope --test races --target "$target"
 }
 
+# Blocks that are used once they are free, freed twice, or never.
+look_for_blocks() {
+    TASKSCOPE_LIB=$work/new RUSTC_BOOTSTRAP=1 RUSTFLAGS='-Zsanitizer=address -Cunsafe-allow-abi-mismatch=sanitizer' \
+        over_debian test -p taskscope --target "$target" --test freed --test futures --test threads --test races --test polls \
+        --test forked --test publisher --test shared --test together
+}
+
 if has_sanitizer > "$work/said" 2>&1; then
     step 'ThreadSanitizer sees no race' look_for_races
+    step 'AddressSanitizer sees no misuse of memory' look_for_blocks
 else
-    echo 'nothing looked for races, as this rustc has no ThreadSanitizer'
+    echo 'nothing looked for races and misuse of memory, as this rustc has no sanitizers'
 fi
+
+# Without the archive the crate builds, cargo warns, and a program does what it does by itself.
+try_without_archive() {
+    CARGO_TARGET_DIR=$CARGO_TARGET_DIR/none TASKSCOPE_LIB=none over_debian test -p taskscope --test inactive > "$work/tests" 2>&1
+    tests=$?
+    cat "$work/tests"
+    [ "$tests" -eq 0 ] && grep -q 'warning: .*taskscope records nothing in this build' "$work/tests" &&
+        grep -q '^test result: ok. 2 passed' "$work/tests"
+}
+
+run_without_archive() {
+    CARGO_TARGET_DIR=$CARGO_TARGET_DIR/none TASKSCOPE_LIB=none over_debian build -p taskscope-examples &&
+        "$CARGO_TARGET_DIR/none/debug/service" "$work/none.stream" > "$work/counted" && [ ! -s "$work/none.stream" ] &&
+        grep -q '^mine none producer-0 polls [1-9]' "$work/counted"
+}
+
+step 'without an archive the tests pass and cargo warns' try_without_archive
+step 'without an archive the service runs, and its stream is empty' run_without_archive
+
+# The program of a README, in a crate of its own beside tokio, whose stream is viewed.
+paste() {
+    mkdir -p "$work/pasted/src" && rm -f "$work/pasted/service.stream" || return 1
+    cat > "$work/pasted/Cargo.toml" << END
+[package]
+name = "pasted"
+version = "0.1.0"
+edition = "2021"
+
+[workspace]
+
+[dependencies]
+taskscope = { path = "$work/rust/taskscope" }
+tokio = { version = "1", features = ["full"] }
+END
+    awk '/^```rust/ { inside = 1; next } /^```/ { inside = 0 } inside' "$1" > "$work/pasted/src/main.rs"
+    TASKSCOPE_LIB=$work/new over_debian_in "$work/pasted" run && view "$work/pasted/service.stream" "$work/report"
+}
+
+# What the crate's first page says of its program, but for the nanoseconds.
+first_page_holds() {
+    paste "$work/rust/taskscope/README.md" || return 1
+    for list in "$work/report" "$work/rust/taskscope/README.md"; do
+        sed -n 's/^\(task [0-9.]* [a-z]* [a-z]* polls [0-9]*\) .* \(name .*\)$/\1 \2/p' "$list"
+    done | sort | uniq -c | awk '{ rows++ } $1 != 2 { bad = 1; print } END { exit bad || rows != 2 }' || return 1
+    "$root/taskscope" lint --long-poll 100 < "$work/pasted/service.stream" > "$work/warnings"
+    [ $? -eq 3 ] && grep -q '^warn 1.2 long-poll 2[0-9]*$' "$work/warnings" && [ "$(wc -l < "$work/warnings")" -eq 1 ]
+}
+
+readme_holds() {
+    paste "$work/rust/README.md" || return 1
+    grep -c '^task .* spawn closed polls [2-9] .* name fetch$' "$work/report" | grep -qx 5 &&
+        grep -q '^task .* blocking closed polls 1 .* name hash$' "$work/report" &&
+        [ "$(grep -c '^op ' "$work/report")" -eq 5 ] && grep -q '^resource .* ready 5 pending 3 .*type Semaphore' "$work/report" || {
+        cat "$work/report"
+        return 1
+    }
+}
+
+# As cargo would upload it, and its tests elsewhere.
+packed() {
+    over_debian package -p taskscope && mkdir -p "$work/packed/far" &&
+        tar -x -f "$CARGO_TARGET_DIR/package/taskscope-0.1.0.crate" -C "$work/packed/far" &&
+        over_debian_in "$work/packed/far/taskscope-0.1.0" test > "$work/tests" 2>&1
+    tests=$?
+    cat "$work/tests"
+    # The library's sources are not there, which the tests that read them say.
+    [ "$tests" -eq 0 ] && [ "$(grep -c "SKIPPED: the library's sources" "$work/tests")" -eq 2 ]
+}
 
 document() {
     TASKSCOPE_LIB=$work/new RUSTDOCFLAGS='-D warnings' over_debian doc --no-deps -p taskscope
@@ -216,6 +294,28 @@ view_streams() {
         esac || { head -n 3 "$work/report"; return 1; }
     done
 }
+
+# The same of the subscriber, over a registry that has the packed crate too. All its tests are built, and one file of them runs, since
+# all take long and run below.
+packed_subscriber() {
+    mkdir -p "$work/registry" && ln -s "$folder"/* "$work/registry" && cp -R "$work/packed/far/taskscope-0.1.0" "$work/registry" &&
+        echo '{"package":"none","files":{}}' > "$work/registry/taskscope-0.1.0/.cargo-checksum.json" || return 1
+    (
+        folder=$work/registry
+        CARGO_TARGET_DIR=$CARGO_TARGET_DIR/unstable
+        RUSTFLAGS='--cfg tokio_unstable'
+        export CARGO_TARGET_DIR RUSTFLAGS
+        over_debian_in "$work/rust/taskscope-subscriber" package &&
+            tar -x -f "$CARGO_TARGET_DIR/package/taskscope-subscriber-0.1.0.crate" -C "$work/packed/far" &&
+            over_debian_in "$work/packed/far/taskscope-subscriber-0.1.0" test --no-run &&
+            over_debian_in "$work/packed/far/taskscope-subscriber-0.1.0" test --test rows
+    )
+}
+
+step 'the program of the first page can be pasted, and is viewed as it says' first_page_holds
+step 'the program of rust/README.md can be pasted, and is viewed as it says' readme_holds
+step 'the crate is packed, and its tests pass elsewhere' packed &&
+    step 'the subscriber is packed, and its tests are whole elsewhere' packed_subscriber
 
 if step 'the service runs' run_service && step 'its stream is viewed' view "$work/service.stream" "$work/report"; then
     step 'each task has the polls that the service counted' counts_agree

@@ -89,6 +89,19 @@ impl Value {
 }
 
 /// A change of an attribute, by a value of its kind.
+///
+/// ```
+/// use taskscope::{Attr, Change, Console, Refused, Settings};
+///
+/// let console = Console::open(Settings::default());
+/// let lock = console.resource("RwLock").attr(Attr::new("readers", 0u64)).attr(Attr::new("locked", false)).open();
+/// lock.change("readers", Change::add(2u64))?;
+/// lock.change("readers", Change::sub(1u64))?;
+/// lock.change("locked", Change::set(true))?;
+/// assert_eq!(lock.change("readers", Change::sub(2u64)), Err(Refused::OutOfRange));
+/// assert_eq!(lock.change("locked", Change::add(1u64)), Err(Refused::WrongKind));
+/// # Ok::<(), Refused>(())
+/// ```
 #[derive(Clone, Copy, Debug, PartialEq, Eq, Hash)]
 #[non_exhaustive]
 pub enum Change {
@@ -102,16 +115,31 @@ pub enum Change {
 
 impl Change {
     /// Adds a value.
+    ///
+    /// ```
+    /// # use taskscope::{Change, Value};
+    /// assert_eq!(Change::add(2u64), Change::Add(Value::U64(2)));
+    /// ```
     pub fn add(value: impl Into<Value>) -> Change {
         Change::Add(value.into())
     }
 
     /// Takes a value away.
+    ///
+    /// ```
+    /// # use taskscope::{Change, Value};
+    /// assert_eq!(Change::sub(-2i64), Change::Sub(Value::I64(-2)));
+    /// ```
     pub fn sub(value: impl Into<Value>) -> Change {
         Change::Sub(value.into())
     }
 
     /// Sets a value.
+    ///
+    /// ```
+    /// # use taskscope::{Change, Value};
+    /// assert_eq!(Change::set(true), Change::Set(Value::Bool(true)));
+    /// ```
     pub fn set(value: impl Into<Value>) -> Change {
         Change::Set(value.into())
     }
@@ -156,7 +184,7 @@ impl Attr {
         self.name.as_str()
     }
 
-    /// Its unit, where it has one.
+    /// Its unit, if it has one.
     pub fn unit(&self) -> Option<&str> {
         self.unit.as_ref().map(Name::as_str)
     }

@@ -34,7 +34,8 @@ use std::time::{Duration, Instant};
 #[must_use = "settings are there for `Console::open`"]
 pub struct Settings {
     /// How many new items each of the 16 recorders holds until the next line: a thread's items all go to one recorder. What
-    /// finds no room is counted as dropped.
+    /// finds no room is counted as dropped. Room that isn't used takes no memory, so a program that makes a million tasks at once may
+    /// have a capacity of a million. Items that are closed before the line stay in memory until then, some 500 bytes each.
     pub capacity: usize,
     /// How long after its close an item stays in the tables of the stream. `None`: for good, and so the memory of a program
     /// that goes on making items has no bound.
@@ -344,7 +345,7 @@ impl Console {
         &self.0
     }
 
-    /// Whether calls are recorded. Where they are not, all calls work and cost little, no line is ever made, and ids are none. That
+    /// Whether calls are recorded. If they are not, all calls work and cost little, no line is ever made, and ids are none. That
     /// is so in two cases:
     ///
     /// - No library is kept for the processor and the system that the program is built for, as cargo warned when it was built.
@@ -443,12 +444,25 @@ impl Console {
     }
 
     /// Begins an async operation on a resource, by the call that makes it, as `Semaphore::acquire`.
+    ///
+    /// ```
+    /// use taskscope::{Attr, Change, Console, Settings};
+    ///
+    /// let console = Console::open(Settings::default());
+    /// let semaphore = console.resource("Semaphore").kind("Sync").open();
+    /// let mut acquire = console.op(&semaphore, "Semaphore::acquire").attr(Attr::new("permits_obtained", 0u64)).open();
+    /// acquire.start_poll()?;
+    /// acquire.change("permits_obtained", Change::add(1u64))?;
+    /// acquire.end_poll()?;
+    /// acquire.count_poll(true);
+    /// # Ok::<(), taskscope::Refused>(())
+    /// ```
     pub fn op(&self, resource: &Resource, source: impl Into<Cow<'static, str>>) -> OpBuilder<'_> {
         OpBuilder::new(self, resource, source.into())
     }
 
     /// The next line of the stream, with its line end: what is new or has changed since the line before. Where closed items
-    /// leave with it, a second line after it says which. Where nothing is recorded ([`is_active`](Console::is_active)) it is empty.
+    /// leave with it, a second line after it says which. If nothing is recorded ([`is_active`](Console::is_active)) it is empty.
     ///
     /// Its cost is by what changed, not by how many items there are. Where several threads publish, their lines are to be
     /// written in the order of their numbers.
@@ -463,10 +477,10 @@ impl Console {
         self.0.publish()
     }
 
-    /// As [`publish`](Console::publish), or `None` where nothing changed since the line before: nothing is new, nothing leaves,
-    /// and no more was dropped. The next line then follows on the one before, and tells the time until its own moment.
+    /// As [`publish`](Console::publish), or `None` if nothing changed since the line before: nothing is new, nothing leaves,
+    /// and no more was dropped. The next line then follows on the one before, and the time until its own moment counts as watched.
     ///
-    /// A program whose tasks rest so writes nothing. Its reader then can't tell it from one that is gone, so write a line of
+    /// A program whose tasks rest so writes nothing. To its reader it looks like one that is gone, so write a line of
     /// `publish` now and then, as [`Publisher`](crate::Publisher) does each second.
     ///
     /// ```
@@ -488,6 +502,22 @@ impl Console {
     }
 
     /// The next line of the stream, as one that tells all, from which a new reader can begin. Nothing leaves with it.
+    ///
+    /// It has some 390 bytes for each task, and as much memory is needed for it twice. The program `taskscope` takes lines of 256 MiB,
+    /// so it can't begin at one with more than some 690,000 tasks.
+    ///
+    /// ```
+    /// use taskscope::{Console, Settings};
+    ///
+    /// let console = Console::open(Settings::default());
+    /// let task = console.task("fetch").open();
+    /// let first = console.publish()?;
+    /// // A reader that comes now begins here, and goes on with the lines after it.
+    /// let all = String::from_utf8(console.snapshot()?).expect("text");
+    /// assert!(all.contains("\"snapshot\":true") && all.contains("fetch"));
+    /// # drop((task, first));
+    /// # Ok::<(), taskscope::Fault>(())
+    /// ```
     ///
     /// # Errors
     /// As of [`publish`](Console::publish).

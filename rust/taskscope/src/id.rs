@@ -20,8 +20,8 @@ pub(crate) fn print(id: u64, f: &mut fmt::Formatter<'_>) -> fmt::Result {
 
 /// The id of a task. It is printed as reports print it: its recorder, a full stop, and its number, as `1.12`.
 ///
-/// A task that no line tells of may have none, which is printed so: `none`. That is where the console isn't
-/// [active](crate::Console::is_active), or where its recorder has given all of its 2^40 - 1 numbers.
+/// A task that no line has may have no id, which is printed so: `none`. Its console isn't [active](crate::Console::is_active), or
+/// its recorder has given all of its 2^40 - 1 numbers.
 #[derive(Clone, Copy, Debug, PartialEq, Eq, PartialOrd, Ord, Hash)]
 pub struct TaskId(pub(crate) u64);
 

@@ -23,6 +23,7 @@ use crate::task::{Origin, Task, TaskCell};
 use std::cell::UnsafeCell;
 use std::marker::PhantomData;
 use std::mem::{ManuallyDrop, MaybeUninit};
+use std::panic::{RefUnwindSafe, UnwindSafe};
 use std::process::abort;
 use std::ptr::{self, NonNull};
 use std::sync::atomic::{AtomicUsize, Ordering};
@@ -82,12 +83,13 @@ impl Block {
                 abort();
             }
             // SAFETY: the caller is a holder.
-            let own = (now & BORROWED != 0).then(|| unsafe { self.waker() }.clone());
-            // SAFETY: as above.
-            if own.as_ref().map_or(false, |own| !own.will_wake(unsafe { self.waker() })) {
-                let own = own.map_or_else(MaybeUninit::uninit, MaybeUninit::new);
-                return Some(Block::new(HOLDER, own, &self.console, &self.cell));
-            }
+            let held = unsafe { self.waker() };
+            let own = match (now & BORROWED != 0).then(|| held.clone()) {
+                Some(own) if !own.will_wake(held) => {
+                    return Some(Block::new(HOLDER, MaybeUninit::new(own), &self.console, &self.cell));
+                }
+                own => own,
+            };
             let next = (now & !BORROWED) + HOLDER;
             match self.state.compare_exchange_weak(now, next, Ordering::AcqRel, Ordering::Acquire) {
                 Ok(_) => {
@@ -195,6 +197,10 @@ pub(crate) struct Lent(Option<NonNull<Block>>);
 unsafe impl Send for Lent {}
 // SAFETY: as above. By `&Lent` nothing is reached.
 unsafe impl Sync for Lent {}
+
+// A panic leaves a block whole: each of its changes is one exchange of its word.
+impl UnwindSafe for Lent {}
+impl RefUnwindSafe for Lent {}
 
 impl Lent {
     /// Lends a waker for one poll: no clone, so neither it nor its drop is counted.

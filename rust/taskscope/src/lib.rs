@@ -1,4 +1,6 @@
-//! Inspects the tasks of a program, and the resources and async operations that they wait for.
+#![doc = include_str!("../README.md")]
+//!
+//! # The types
 //!
 //! Each call on an item is one step on its row, which a proved library makes; the rows of two items never meet. From time to time
 //! [`Console::publish`] gives a line of JSON that tells what is new and what changed, which the same library writes. `taskscope
@@ -43,7 +45,8 @@
 //! let other = task.clone();
 //! ```
 //!
-//! and what is dropped is closed or released, once. All go to other threads, and all but futures and calls are shared:
+//! and what is dropped is closed or released, once. A global allocator must make no call on an item: it is called while a row is
+//! locked. All go to other threads, and all but futures and calls are shared:
 //!
 //! ```
 //! use taskscope::{Console, Op, Publisher, Resource, SharedTask, Task, TaskWaker};

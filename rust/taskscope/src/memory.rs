@@ -31,6 +31,7 @@ impl Tried {
 
 /// What is asked of the C library: never 0 bytes, for which it may answer null.
 fn asked(size: usize, align: usize) -> usize {
+    debug_assert!(align <= 16, "the C library aligns to 16 bytes, and not to {align}");
     if size == 0 {
         align
     } else {

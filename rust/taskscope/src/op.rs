@@ -85,11 +85,28 @@ impl<'a> OpBuilder<'a> {
     }
 
     /// The operation is a part of this one.
+    ///
+    /// ```
+    /// # use taskscope::{Console, Settings};
+    /// # let console = Console::open(Settings::default());
+    /// # let semaphore = console.resource("Semaphore").open();
+    /// let acquire = console.op(&semaphore, "Semaphore::acquire").open();
+    /// let poll = console.op(&semaphore, "Acquire::poll").parent(acquire.id()).open();
+    /// # drop(poll);
+    /// ```
     pub fn parent(self, parent: OpId) -> OpBuilder<'a> {
         OpBuilder { parent: parent.0, ..self }
     }
 
     /// Adds an attribute, as [`ResourceBuilder::attr`](crate::ResourceBuilder::attr) does.
+    ///
+    /// ```
+    /// # use taskscope::{Attr, Console, Settings};
+    /// # let console = Console::open(Settings::default());
+    /// # let semaphore = console.resource("Semaphore").open();
+    /// let acquire = console.op(&semaphore, "Semaphore::acquire_many").attr(Attr::new("permits", 3u64)).open();
+    /// # drop(acquire);
+    /// ```
     pub fn attr(mut self, attr: Attr) -> OpBuilder<'a> {
         self.attrs.add(attr);
         self
@@ -143,8 +160,8 @@ impl Op {
         OpId(self.cell.id)
     }
 
-    /// Whether lines tell of the operation. They don't where its recorder was full or had no number for it, which counts it as dropped, and
-    /// where the console isn't [active](crate::Console::is_active).
+    /// Whether lines have the operation. They don't if its recorder was full or had no number for it, which counts it as dropped, or if the
+    /// console isn't [active](crate::Console::is_active).
     pub fn is_recorded(&self) -> bool {
         self.console.tells(&*self.cell)
     }

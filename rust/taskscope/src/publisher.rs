@@ -47,9 +47,9 @@ impl<W: Write + Send + 'static> Publisher<W> {
     /// what that one would have told.
     ///
     /// # Errors
-    /// [`InvalidInput`](io::ErrorKind::InvalidInput) for an interval of 0, by which the thread would write without a pause, and
-    /// [`AlreadyExists`](io::ErrorKind::AlreadyExists) where another publisher or a `Server` publishes the lines of this console.
-    /// Else the system's error where the thread can't be started. The writer is gone then.
+    /// [`InvalidInput`](io::ErrorKind::InvalidInput) for an interval of 0, by which the thread would write without a pause.
+    /// [`AlreadyExists`](io::ErrorKind::AlreadyExists) if another publisher or a [`Server`](crate::Server) publishes the lines of this
+    /// console. Else the system's error if the thread can't be started. The writer is gone then.
     pub fn start(console: &Console, every: Duration, writer: W) -> io::Result<Publisher<W>> {
         if every.is_zero() {
             return Err(io::Error::new(io::ErrorKind::InvalidInput, "the interval from one line to the next is 0"));
@@ -69,7 +69,7 @@ impl<W> Publisher<W> {
     ///
     /// # Errors
     /// The error that ended the thread: the writer's, or a [`Fault`] of the console, which stands in an
-    /// [`io::Error`] of kind [`Other`](io::ErrorKind::Other). The writer is gone then. [`TimedOut`](io::ErrorKind::TimedOut) where the
+    /// [`io::Error`] of kind [`Other`](io::ErrorKind::Other). The writer is gone then. [`TimedOut`](io::ErrorKind::TimedOut) if the
     /// writer didn't take the last line in time: [the thread has it](Publisher#a-writer-that-doesnt-go-on).
     /// [`Unsupported`](io::ErrorKind::Unsupported) in a process that was forked from the one with the thread, at once.
     ///

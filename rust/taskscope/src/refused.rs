@@ -58,7 +58,7 @@ pub enum Woken {
     Scheduled,
     /// The task was scheduled already.
     Already,
-    /// The task is closed.
+    /// The task is closed, or its console isn't [active](crate::Console::is_active).
     Gone,
 }
 

@@ -110,6 +110,14 @@ impl<'a> ResourceBuilder<'a> {
     }
 
     /// The resource is a part of this one.
+    ///
+    /// ```
+    /// # use taskscope::{Console, Settings};
+    /// # let console = Console::open(Settings::default());
+    /// let channel = console.resource("Channel").open();
+    /// let semaphore = console.resource("Semaphore").kind("Sync").parent(channel.id()).open();
+    /// # drop(semaphore);
+    /// ```
     pub fn parent(self, parent: ResourceId) -> ResourceBuilder<'a> {
         ResourceBuilder { parent: parent.0, ..self }
     }
@@ -142,6 +150,13 @@ impl<'a> ResourceBuilder<'a> {
     }
 
     /// Where the resource was made: without this, where [`Console::resource`] was called.
+    ///
+    /// ```
+    /// # use taskscope::{Console, Location, Settings};
+    /// # let console = Console::open(Settings::default());
+    /// let semaphore = console.resource("Semaphore").location(Location::new("src/pool.rs", 12, 9)).open();
+    /// # drop(semaphore);
+    /// ```
     pub fn location(self, location: impl Into<Location>) -> ResourceBuilder<'a> {
         ResourceBuilder { location: location.into(), ..self }
     }
@@ -194,8 +209,8 @@ impl Resource {
         ResourceId(self.0.cell.id)
     }
 
-    /// Whether lines tell of the resource. They don't where its recorder was full or had no number for it, which counts it as dropped, and
-    /// where the console isn't [active](crate::Console::is_active).
+    /// Whether lines have the resource. They don't if its recorder was full or had no number for it, which counts it as dropped, or if the
+    /// console isn't [active](crate::Console::is_active).
     pub fn is_recorded(&self) -> bool {
         self.0.console.tells(&*self.0.cell)
     }

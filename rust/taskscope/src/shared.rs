@@ -45,8 +45,8 @@ impl SharedTask {
         self.0.id()
     }
 
-    /// Whether lines tell of the task. They don't where its recorder was full or had no number for it, which counts it as dropped, and
-    /// where the console isn't [active](crate::Console::is_active).
+    /// Whether lines have the task. They don't if its recorder was full or had no number for it, which counts it as dropped, or if the
+    /// console isn't [active](crate::Console::is_active).
     pub fn is_recorded(&self) -> bool {
         self.0.is_recorded()
     }

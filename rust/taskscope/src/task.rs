@@ -197,11 +197,25 @@ impl<'a> TaskBuilder<'a> {
     }
 
     /// How the task runs: without this it is of kind [`Spawn`](TaskKind::Spawn).
+    ///
+    /// ```
+    /// # use taskscope::{Console, Settings, TaskKind};
+    /// # let console = Console::open(Settings::default());
+    /// let task = console.task("hash").kind(TaskKind::Blocking).open();
+    /// # drop(task);
+    /// ```
     pub fn kind(self, kind: TaskKind) -> TaskBuilder<'a> {
         TaskBuilder { kind, ..self }
     }
 
     /// Where the task was made: without this, where [`Console::task`] was called.
+    ///
+    /// ```
+    /// # use taskscope::{Console, Location, Settings};
+    /// # let console = Console::open(Settings::default());
+    /// let task = console.task("fetch").location(Location::new("src/jobs.rs", 40, 5)).open();
+    /// # drop(task);
+    /// ```
     pub fn location(self, location: impl Into<Location>) -> TaskBuilder<'a> {
         TaskBuilder { location: location.into(), ..self }
     }
@@ -236,8 +250,8 @@ impl Task {
         TaskId(self.cell.id)
     }
 
-    /// Whether lines tell of the task. They don't where its recorder was full or had no number for it, which counts it as dropped, and
-    /// where the console isn't [active](crate::Console::is_active).
+    /// Whether lines have the task. They don't if its recorder was full or had no number for it, which counts it as dropped, or if the
+    /// console isn't [active](crate::Console::is_active).
     pub fn is_recorded(&self) -> bool {
         self.console.tells(&*self.cell)
     }

@@ -1,254 +1,42 @@
-//! What ends at once if it isn't kept, which the compiler warns of. The first of each two programs compiles, and the second, which
-//! keeps nothing, doesn't.
-//!
-//! ```
-//! #![deny(unused_must_use)]
-//! # use std::time::Duration;
-//! # use taskscope::*;
-//! # let console = Console::open(Settings::default());
-//! # let (task, resource) = (console.task("fetch").open(), console.resource("Semaphore").open());
-//! let _kept = console.task("fetch").open();
-//! ```
-//!
-//! ```compile_fail
-//! #![deny(unused_must_use)]
-//! # use std::time::Duration;
-//! # use taskscope::*;
-//! # let console = Console::open(Settings::default());
-//! # let (task, resource) = (console.task("fetch").open(), console.resource("Semaphore").open());
-//! console.task("fetch").open();
-//! ```
-//!
-//! ```
-//! #![deny(unused_must_use)]
-//! # use std::time::Duration;
-//! # use taskscope::*;
-//! # let console = Console::open(Settings::default());
-//! # let (task, resource) = (console.task("fetch").open(), console.resource("Semaphore").open());
-//! let _kept = console.task("fetch").open().share();
-//! ```
-//!
-//! ```compile_fail
-//! #![deny(unused_must_use)]
-//! # use std::time::Duration;
-//! # use taskscope::*;
-//! # let console = Console::open(Settings::default());
-//! # let (task, resource) = (console.task("fetch").open(), console.resource("Semaphore").open());
-//! console.task("fetch").open().share();
-//! ```
-//!
-//! ```
-//! #![deny(unused_must_use)]
-//! # use std::time::Duration;
-//! # use taskscope::*;
-//! # let console = Console::open(Settings::default());
-//! # let (task, resource) = (console.task("fetch").open(), console.resource("Semaphore").open());
-//! let _kept = task.waker();
-//! ```
-//!
-//! ```compile_fail
-//! #![deny(unused_must_use)]
-//! # use std::time::Duration;
-//! # use taskscope::*;
-//! # let console = Console::open(Settings::default());
-//! # let (task, resource) = (console.task("fetch").open(), console.resource("Semaphore").open());
-//! task.waker();
-//! ```
-//!
-//! ```
-//! #![deny(unused_must_use)]
-//! # use std::time::Duration;
-//! # use taskscope::*;
-//! # let console = Console::open(Settings::default());
-//! # let (task, resource) = (console.task("fetch").open(), console.resource("Semaphore").open());
-//! let _kept = console.resource("Semaphore").open();
-//! ```
-//!
-//! ```compile_fail
-//! #![deny(unused_must_use)]
-//! # use std::time::Duration;
-//! # use taskscope::*;
-//! # let console = Console::open(Settings::default());
-//! # let (task, resource) = (console.task("fetch").open(), console.resource("Semaphore").open());
-//! console.resource("Semaphore").open();
-//! ```
-//!
-//! ```
-//! #![deny(unused_must_use)]
-//! # use std::time::Duration;
-//! # use taskscope::*;
-//! # let console = Console::open(Settings::default());
-//! # let (task, resource) = (console.task("fetch").open(), console.resource("Semaphore").open());
-//! let _kept = console.op(&resource, "acquire").open();
-//! ```
-//!
-//! ```compile_fail
-//! #![deny(unused_must_use)]
-//! # use std::time::Duration;
-//! # use taskscope::*;
-//! # let console = Console::open(Settings::default());
-//! # let (task, resource) = (console.task("fetch").open(), console.resource("Semaphore").open());
-//! console.op(&resource, "acquire").open();
-//! ```
-//!
-//! ```
-//! #![deny(unused_must_use)]
-//! # use std::time::Duration;
-//! # use taskscope::*;
-//! # let console = Console::open(Settings::default());
-//! # let (task, resource) = (console.task("fetch").open(), console.resource("Semaphore").open());
-//! let _kept = Publisher::start(&console, Duration::from_millis(100), Vec::new()).unwrap();
-//! ```
-//!
-//! ```compile_fail
-//! #![deny(unused_must_use)]
-//! # use std::time::Duration;
-//! # use taskscope::*;
-//! # let console = Console::open(Settings::default());
-//! # let (task, resource) = (console.task("fetch").open(), console.resource("Semaphore").open());
-//! Publisher::start(&console, Duration::from_millis(100), Vec::new()).unwrap();
-//! ```
-//!
-//! ```
-//! #![deny(unused_must_use)]
-//! # use std::time::Duration;
-//! # use taskscope::*;
-//! # let console = Console::open(Settings::default());
-//! # let (task, resource) = (console.task("fetch").open(), console.resource("Semaphore").open());
-//! let _kept = Console::open(Settings::default());
-//! ```
-//!
-//! ```compile_fail
-//! #![deny(unused_must_use)]
-//! # use std::time::Duration;
-//! # use taskscope::*;
-//! # let console = Console::open(Settings::default());
-//! # let (task, resource) = (console.task("fetch").open(), console.resource("Semaphore").open());
-//! Console::open(Settings::default());
-//! ```
-//!
-//! ```
-//! #![deny(unused_must_use)]
-//! # use std::time::Duration;
-//! # use taskscope::*;
-//! # let console = Console::open(Settings::default());
-//! # let (task, resource) = (console.task("fetch").open(), console.resource("Semaphore").open());
-//! let _kept = console.instrument("fetch", async {});
-//! ```
-//!
-//! ```compile_fail
-//! #![deny(unused_must_use)]
-//! # use std::time::Duration;
-//! # use taskscope::*;
-//! # let console = Console::open(Settings::default());
-//! # let (task, resource) = (console.task("fetch").open(), console.resource("Semaphore").open());
-//! console.instrument("fetch", async {});
-//! ```
-//!
-//! ```
-//! #![deny(unused_must_use)]
-//! # use std::time::Duration;
-//! # use taskscope::*;
-//! # let console = Console::open(Settings::default());
-//! # let (task, resource) = (console.task("fetch").open(), console.resource("Semaphore").open());
-//! let _kept = console.op(&resource, "acquire").open().instrument(async {});
-//! ```
-//!
-//! ```compile_fail
-//! #![deny(unused_must_use)]
-//! # use std::time::Duration;
-//! # use taskscope::*;
-//! # let console = Console::open(Settings::default());
-//! # let (task, resource) = (console.task("fetch").open(), console.resource("Semaphore").open());
-//! console.op(&resource, "acquire").open().instrument(async {});
-//! ```
-//!
-//! ```
-//! #![deny(unused_must_use)]
-//! # use std::time::Duration;
-//! # use taskscope::*;
-//! # let console = Console::open(Settings::default());
-//! # let (task, resource) = (console.task("fetch").open(), console.resource("Semaphore").open());
-//! let _kept = console.blocking("hash", || 7);
-//! ```
-//!
-//! ```compile_fail
-//! #![deny(unused_must_use)]
-//! # use std::time::Duration;
-//! # use taskscope::*;
-//! # let console = Console::open(Settings::default());
-//! # let (task, resource) = (console.task("fetch").open(), console.resource("Semaphore").open());
-//! console.blocking("hash", || 7);
-//! ```
-//!
-//! ```
-//! #![deny(unused_must_use)]
-//! # use std::time::Duration;
-//! # use taskscope::*;
-//! # let console = Console::open(Settings::default());
-//! # let (task, resource) = (console.task("fetch").open(), console.resource("Semaphore").open());
-//! let _kept = console.task("fetch");
-//! ```
-//!
-//! ```compile_fail
-//! #![deny(unused_must_use)]
-//! # use std::time::Duration;
-//! # use taskscope::*;
-//! # let console = Console::open(Settings::default());
-//! # let (task, resource) = (console.task("fetch").open(), console.resource("Semaphore").open());
-//! console.task("fetch");
-//! ```
-//!
-//! ```
-//! #![deny(unused_must_use)]
-//! # use std::time::Duration;
-//! # use taskscope::*;
-//! # let console = Console::open(Settings::default());
-//! # let (task, resource) = (console.task("fetch").open(), console.resource("Semaphore").open());
-//! let _kept = console.resource("Semaphore");
-//! ```
-//!
-//! ```compile_fail
-//! #![deny(unused_must_use)]
-//! # use std::time::Duration;
-//! # use taskscope::*;
-//! # let console = Console::open(Settings::default());
-//! # let (task, resource) = (console.task("fetch").open(), console.resource("Semaphore").open());
-//! console.resource("Semaphore");
-//! ```
-//!
-//! ```
-//! #![deny(unused_must_use)]
-//! # use std::time::Duration;
-//! # use taskscope::*;
-//! # let console = Console::open(Settings::default());
-//! # let (task, resource) = (console.task("fetch").open(), console.resource("Semaphore").open());
-//! let _kept = console.op(&resource, "acquire");
-//! ```
-//!
-//! ```compile_fail
-//! #![deny(unused_must_use)]
-//! # use std::time::Duration;
-//! # use taskscope::*;
-//! # let console = Console::open(Settings::default());
-//! # let (task, resource) = (console.task("fetch").open(), console.resource("Semaphore").open());
-//! console.op(&resource, "acquire");
-//! ```
-//!
-//! ```
-//! #![deny(unused_must_use)]
-//! # use std::time::Duration;
-//! # use taskscope::*;
-//! # let console = Console::open(Settings::default());
-//! # let (task, resource) = (console.task("fetch").open(), console.resource("Semaphore").open());
-//! let _kept = Settings::default().times(false);
-//! ```
-//!
-//! ```compile_fail
-//! #![deny(unused_must_use)]
-//! # use std::time::Duration;
-//! # use taskscope::*;
-//! # let console = Console::open(Settings::default());
-//! # let (task, resource) = (console.task("fetch").open(), console.resource("Semaphore").open());
-//! Settings::default().times(false);
-//! ```
+//! What ends at once if it isn't kept, or does nothing: the compiler warns of it.
+
+#![allow(dead_code)]
+
+macro_rules! given {
+    () => {
+        "#![deny(unused_must_use)]
+use std::time::Duration;
+use taskscope::*;
+let console = Console::open(Settings::default());
+let (task, resource) = (console.task(\"fetch\").open(), console.resource(\"Semaphore\").open());
+"
+    };
+}
+
+/// Two programs of each: the first one keeps what it made, and compiles. The second one doesn't.
+macro_rules! is_to_be_kept {
+    ($($what:ident: $made:literal,)*) => {
+        $(
+            #[doc = concat!("```\n", given!(), "let _kept = ", $made, ";\n```\n")]
+            #[doc = concat!("```compile_fail\n", given!(), $made, ";\n```\n")]
+            struct $what;
+        )*
+    };
+}
+
+is_to_be_kept! {
+    Console: "Console::open(Settings::default())",
+    Settings: "Settings::default().times(false)",
+    TaskBuilder: "console.task(\"fetch\")",
+    Task: "console.task(\"fetch\").open()",
+    SharedTask: "console.task(\"fetch\").open().share()",
+    TaskWaker: "task.waker()",
+    Inspected: "console.instrument(\"fetch\", async {})",
+    Blocking: "console.blocking(\"hash\", || 7)",
+    ResourceBuilder: "console.resource(\"Semaphore\")",
+    Resource: "console.resource(\"Semaphore\").open()",
+    OpBuilder: "console.op(&resource, \"acquire\")",
+    Op: "console.op(&resource, \"acquire\").open()",
+    InspectedOp: "console.op(&resource, \"acquire\").open().instrument(async {})",
+    Publisher: "Publisher::start(&console, Duration::from_millis(100), Vec::new()).unwrap()",
+}

@@ -3,7 +3,7 @@
 mod common;
 
 use common::{list, number, publish, value, with_id};
-use std::panic::Location as Caller;
+use std::panic::{Location as Caller, RefUnwindSafe, UnwindSafe};
 use taskscope::{Attr, Change, Console, InstrumentExt, Location, Refused, Settings, TaskKind, Value};
 
 fn attrs() -> [Attr; 3] {
@@ -192,6 +192,16 @@ fn numbers_of_other_widths_are_values() {
 fn what_a_program_keeps_has_the_common_traits() {
     fn is_common<T: Clone + std::fmt::Debug + Eq + std::hash::Hash>() {}
     fn is_ordered<T: Copy + Ord + std::fmt::Display>() {}
+    fn is_shared<T: Send + Sync + Unpin + UnwindSafe + RefUnwindSafe>() {}
+    is_shared::<Console>();
+    is_shared::<taskscope::Task>();
+    is_shared::<taskscope::SharedTask>();
+    is_shared::<taskscope::TaskWaker>();
+    is_shared::<taskscope::Resource>();
+    is_shared::<taskscope::Op>();
+    is_shared::<taskscope::Inspected<std::future::Ready<()>>>();
+    is_shared::<taskscope::InspectedOp<std::future::Ready<()>>>();
+    is_shared::<taskscope::Blocking<fn()>>();
     is_common::<Settings>();
     is_common::<Location>();
     is_common::<Value>();

@@ -17,19 +17,19 @@ type Work = Pin<Box<dyn Future<Output = ()> + Send>>;
 /// A task that is its own waker. It lives as long as a queue or a waker has it.
 struct Job {
     work: Mutex<Option<Work>>,
-    queue: Sender<Arc<Job>>,
+    queue: Mutex<Sender<Arc<Job>>>,
 }
 
 impl Wake for Job {
     fn wake(self: Arc<Self>) {
-        let queue = self.queue.clone();
+        let queue = self.queue.lock().unwrap().clone();
         // The queue may be gone, and the task then goes with this.
         let _ = queue.send(self);
     }
 }
 
 fn spawn(queue: &Sender<Arc<Job>>, work: Work) {
-    let job = Job { work: Mutex::new(Some(work)), queue: queue.clone() };
+    let job = Job { work: Mutex::new(Some(work)), queue: Mutex::new(queue.clone()) };
     queue.send(Arc::new(job)).expect("the queue is there");
 }
 

@@ -1,5 +1,6 @@
 //! What is recorded of futures, also of those that panic, hold others, or outlive what they wait for.
 
+#![deny(unsafe_op_in_unsafe_fn)]
 // A clone that wakes at once is what is tested.
 #![allow(clippy::waker_clone_wake)]
 
