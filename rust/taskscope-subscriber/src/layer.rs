@@ -6,8 +6,9 @@ use crate::fields::{ItemFields, Kind, PollFields, TaskFields, UpdateFields, Wake
 use crate::heard::{say_if_unflagged, Heard};
 use crate::item::{Item, Op, Part, Resource, What};
 use crate::left_out::LeftOut;
+use crate::mark;
 use crate::places::Places;
-use crate::task::{Home, Polls, Task};
+use crate::task::{Polls, Task};
 use std::fmt;
 use std::sync::atomic::{AtomicBool, AtomicU64, Ordering};
 use std::sync::Arc;
@@ -23,7 +24,8 @@ use tracing_subscriber::registry::{LookupSpan, SpanRef};
 #[derive(Clone, Copy, Debug, Default, PartialEq, Eq)]
 #[non_exhaustive]
 pub enum Items {
-    /// Tasks alone. A lock or a channel costs what it costs without the layer.
+    /// Tasks alone. A lock or a channel costs what it costs without the layer, as tokio's spans of resources and operations are turned
+    /// off, for other layers too.
     #[default]
     Tasks,
     /// Tasks, resources and async operations. A lock or a channel costs many times as much, and each makes two items.
@@ -114,7 +116,7 @@ impl Source {
     }
 }
 
-/// Whether a span or an event is one of tokio's that a [`TaskscopeLayer`] reads: a filter for the layer where it stands beside
+/// Whether a span or an event is one of tokio's that a [`TaskscopeLayer`] reads: a filter for the layer if it stands beside
 /// others.
 pub fn is_of_tokio(metadata: &Metadata<'_>) -> bool {
     Source::of(metadata) != Source::Other
@@ -223,7 +225,7 @@ impl TaskscopeLayer {
         }
     }
 
-    fn new_task(&self, entered: &mut Entered, attributes: &Attributes<'_>) -> What {
+    fn new_task(&self, attributes: &Attributes<'_>) -> What {
         self.heard.task();
         let mut fields = TaskFields::default();
         attributes.record(&mut fields);
@@ -236,8 +238,7 @@ impl TaskscopeLayer {
             Kind::BlockOn | Kind::Blocking => TaskKind::Blocking,
         };
         let shared = self.console.task(name).kind(kind).location(location).open().share();
-        let home = Home { thread: entered.thread(), within: entered.polled(self.number).map(Task::id) };
-        What::Task(Task::new(shared, fields.kind, home))
+        What::Task(Task::new(shared, mark::is_made()))
     }
 
     fn new_resource(&self, entered: &Entered, attributes: &Attributes<'_>) -> What {
@@ -278,7 +279,7 @@ impl TaskscopeLayer {
 
     fn new_item(&self, entered: &mut Entered, source: Source, attributes: &Attributes<'_>) -> Option<What> {
         match source {
-            Source::Task => Some(self.new_task(entered, attributes)),
+            Source::Task => Some(self.new_task(attributes)),
             Source::Resource => Some(self.new_resource(entered, attributes)),
             Source::Op => self.new_op(entered, attributes),
             Source::OpPoll => {
@@ -359,17 +360,13 @@ impl TaskscopeLayer {
 
     #[inline]
     fn starts_task_poll(&self, entered: &mut Entered, key: Key, task: &Task, has_ended: bool) -> bool {
-        if has_ended {
+        let is_foreign = self.polls == Polls::Own && task.is_marked && !mark::is_entered(key.span);
+        if has_ended || is_foreign {
             self.left_out.foreign.add();
             return false;
         }
         if entered.frames(self.number).any(|frame| frame.key == key && frame.is_poll) {
             self.left_out.nested.add();
-            return false;
-        }
-        let thread = entered.thread();
-        if self.polls == Polls::Own && !task.is_polled(thread, entered.polled(self.number)) {
-            self.left_out.foreign.add();
             return false;
         }
         let starts = task.start_poll();
@@ -387,11 +384,23 @@ impl TaskscopeLayer {
         if source == Source::Task {
             self.heard.spans(metadata);
         }
-        if self.is_alone && !(self.switch.is_on() && source.is_told(self.items)) {
-            Interest::never()
-        } else {
+        if self.wants(source) {
             Interest::always()
+        } else {
+            Interest::never()
         }
+    }
+
+    /// Whether a span or an event is to be made. What is of tokio is so where it is told, and all else for other layers.
+    fn wants(&self, source: Source) -> bool {
+        match source {
+            Source::Other => !self.is_alone,
+            _ => self.switch.is_on() && source.is_told(self.items),
+        }
+    }
+
+    pub(crate) fn is_enabled(&self, metadata: &Metadata<'_>) -> bool {
+        self.wants(Source::of(metadata))
     }
 
     pub(crate) fn make<'a, S: LookupSpan<'a>>(
@@ -465,6 +474,10 @@ where
 {
     fn register_callsite(&self, metadata: &'static Metadata<'static>) -> Interest {
         self.interest(metadata)
+    }
+
+    fn enabled(&self, metadata: &Metadata<'_>, _: Context<'_, S>) -> bool {
+        self.is_enabled(metadata)
     }
 
     fn on_new_span(&self, attributes: &Attributes<'_>, id: &Id, ctx: Context<'_, S>) {
