@@ -470,8 +470,8 @@ impl Console {
     /// # Errors
     /// Nothing counts as told then, and the next call tells it. [`Memory`](Fault::Memory) may come at any call, and
     /// [`LinesSpent`](Fault::LinesSpent) after 2^63 lines. The others don't come while this crate and its library fit each
-    /// other. Where a line was made and the one about what leaves was not, this is no error, and these items leave later.
-    /// [`OtherWriter`](Fault::OtherWriter) where a [`Publisher`](crate::Publisher) or a `Server` publishes the lines of this console.
+    /// other. If a line was made and the one about what leaves was not, this is no error, and these items leave later.
+    /// [`OtherWriter`](Fault::OtherWriter) if a [`Publisher`](crate::Publisher) or a [`Server`](crate::Server) publishes the lines of this console.
     pub fn publish(&self) -> Result<Vec<u8>, Fault> {
         self.0.unclaimed()?;
         self.0.publish()
@@ -526,7 +526,7 @@ impl Console {
         self.0.snapshot(None, usize::MAX).map(Option::unwrap_or_default)
     }
 
-    /// As [`snapshot`](Console::snapshot), or `None` where the line has more than `most` bytes. Nothing counts as told then, and the
+    /// As [`snapshot`](Console::snapshot), or `None` if the line has more than `most` bytes. Nothing counts as told then, and the
     /// next line is as if this one had not been asked for.
     ///
     /// The line is made to see how long it is.
@@ -590,7 +590,7 @@ impl Console {
     /// ```
     ///
     /// # Errors
-    /// [`OtherWriter`](Fault::OtherWriter) where a [`Publisher`](crate::Publisher) or a `Server` publishes the lines of this console.
+    /// [`OtherWriter`](Fault::OtherWriter) if a [`Publisher`](crate::Publisher) or a [`Server`](crate::Server) publishes the lines of this console.
     pub fn pass(&self) -> Result<(), Fault> {
         self.0.unclaimed()?;
         self.0.pass();

@@ -14,7 +14,7 @@ pub enum Fault {
     Memory,
     /// The stream has all of its 2^63 lines.
     LinesSpent,
-    /// A [`Publisher`](crate::Publisher) or a `Server` publishes the lines of this console. A second stream of them would lack what the
+    /// A [`Publisher`](crate::Publisher) or a [`Server`](crate::Server) publishes the lines of this console. A second stream of them would lack what the
     /// first one told.
     OtherWriter,
     /// The library refused an item of the line. It refuses none that this crate makes while the two fit each other.

@@ -76,7 +76,7 @@ use system::Wake;
 ///
 /// # A console that records nothing
 ///
-/// Where the console isn't [active](Console::is_active) the server listens too, and closes each connection.
+/// If the console isn't [active](Console::is_active) the server listens too, and closes each connection.
 #[must_use = "readers are served until this is dropped"]
 pub struct Server {
     address: Address,
@@ -93,12 +93,12 @@ impl Server {
     /// Each names the address, and nothing listens or runs then.
     ///
     /// - [`InvalidInput`](ErrorKind::InvalidInput) for an interval of 0, and for the path of a socket that the system finds too long.
-    /// - [`AlreadyExists`](ErrorKind::AlreadyExists) where a [`Publisher`](crate::Publisher) or another server publishes the lines of
-    ///   this console, and where a file that is no socket stands at the path.
-    /// - [`AddrInUse`](ErrorKind::AddrInUse) where another program listens there.
+    /// - [`AlreadyExists`](ErrorKind::AlreadyExists) if a [`Publisher`](crate::Publisher) or another server publishes the lines of
+    ///   this console, and if a file that is no socket stands at the path.
+    /// - [`AddrInUse`](ErrorKind::AddrInUse) if another program listens there.
     /// - [`PermissionDenied`](ErrorKind::PermissionDenied) for an address that other machines reach, unless
     ///   [`Limits::beyond_loopback`](Limits#structfield.beyond_loopback) allows it.
-    /// - Else the system's error where it can't listen, as on a file system without hard links, or where the thread can't be started.
+    /// - Otherwise the system's error if it can't listen, as on a file system without hard links, or if the thread can't be started.
     pub fn start(console: &Console, every: Duration, address: &Address, limits: Limits) -> io::Result<Server> {
         Server::start_unnamed(console, every, address, limits)
             .map_err(|error| io::Error::new(error.kind(), format!("{address}: {error}")))
@@ -157,7 +157,7 @@ impl Server {
     ///
     /// # Errors
     /// A [`Fault`](crate::Fault) of the console that ended the thread, in an [`io::Error`] of kind [`Other`](ErrorKind::Other).
-    /// [`TimedOut`](ErrorKind::TimedOut) where the last line wasn't made in time: the thread is left to itself.
+    /// [`TimedOut`](ErrorKind::TimedOut) if the last line wasn't made in time: the thread is left to itself.
     /// [`Unsupported`](ErrorKind::Unsupported) in a process that was forked from the one with the thread, at once.
     pub fn stop(mut self) -> io::Result<()> {
         match self.end()? {

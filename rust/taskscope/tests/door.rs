@@ -2,9 +2,11 @@
 #![cfg(unix)]
 
 mod common;
+#[path = "common/served.rs"]
+mod served;
 
-use common::served::{connect, ids, join, path, rest, start, start_port, tables, until, LONG, OFTEN};
 use common::value;
+use served::{connect, ids, join, path, rest, start, start_port, tables, until, LONG, OFTEN};
 use std::fs;
 use std::io::{BufRead, BufReader, ErrorKind, Write};
 use std::net::{Shutdown, SocketAddr, TcpStream};

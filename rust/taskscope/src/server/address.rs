@@ -34,11 +34,11 @@ fn invalid(what: String) -> io::Error {
 impl FromStr for Address {
     type Err = io::Error;
 
-    /// Reads `unix:PATH` or `tcp:HOST:PORT`. Of a name with several addresses it takes one of this machine, where there is one, and of
+    /// Reads `unix:PATH` or `tcp:HOST:PORT`. Of a name with several addresses it takes one of this machine, if there is one, and of
     /// these IPv4.
     ///
     /// # Errors
-    /// [`InvalidInput`](ErrorKind::InvalidInput) for any other text, and the system's error where it doesn't know the name of a host.
+    /// [`InvalidInput`](ErrorKind::InvalidInput) for any other text, and the system's error if it doesn't know the name of a host.
     fn from_str(text: &str) -> io::Result<Address> {
         if let Some(path) = text.strip_prefix("unix:") {
             return match path {

@@ -2,8 +2,8 @@
 
 use super::address::Address;
 use super::limits::Limits;
-use super::system::{keep_little, Awaited, Polled};
-use std::fs::{self, DirBuilder, Permissions};
+use super::system::{is_locked, keep_little, Awaited, Polled};
+use std::fs::{self, DirBuilder, File, Permissions};
 use std::io::{self, ErrorKind, Read, Write};
 use std::net::{SocketAddr, TcpListener, TcpStream};
 use std::os::raw::c_int;
@@ -11,6 +11,8 @@ use std::os::unix::fs::{DirBuilderExt, FileTypeExt, MetadataExt, PermissionsExt}
 use std::os::unix::net::{self, UnixListener, UnixStream};
 use std::path::{Path, PathBuf};
 use std::process;
+use std::thread::sleep;
+use std::time::{Duration, Instant};
 
 /// How many bytes the system keeps at most that a reader of a port has not taken.
 const MOST_IN_SYSTEM: c_int = 128 << 10;
@@ -138,9 +140,11 @@ fn bind(path: &Path) -> io::Result<UnixListener> {
     let own = private.0.join("s");
     let listener = UnixListener::bind(&own)?;
     fs::set_permissions(&own, Permissions::from_mode(0o600))?;
+    // Of programs that start at the same time one is the first.
+    let _lock = lock_folder(path);
     match fs::hard_link(&own, path) {
         Err(error) if error.kind() == ErrorKind::AlreadyExists => {
-            remove_abandoned(path, &private)?;
+            remove_abandoned(path)?;
             fs::hard_link(&own, path)?;
         }
         linked => linked?,
@@ -148,27 +152,32 @@ fn bind(path: &Path) -> io::Result<UnixListener> {
     Ok(listener)
 }
 
+/// How long the lock is waited for. Who can read the folder can hold it for ever, and then it is done without.
+const LOCKED: Duration = Duration::from_secs(1);
+
+/// Locks the folder of a path, as long as the answer is kept.
+fn lock_folder(path: &Path) -> io::Result<File> {
+    let folder = path.parent().filter(|folder| !folder.as_os_str().is_empty());
+    let folder = File::open(folder.unwrap_or_else(|| Path::new(".")))?;
+    let until = Instant::now() + LOCKED;
+    while !is_locked(&folder) {
+        if Instant::now() >= until {
+            return Err(ErrorKind::TimedOut.into());
+        }
+        sleep(Duration::from_millis(1));
+    }
+    Ok(folder)
+}
+
 /// Removes the socket of a program that was killed.
-///
-/// Two programs that start at the same time may find the same one. So it is taken away before it is looked at again, and given back
-/// where it is that of the other program.
-fn remove_abandoned(path: &Path, private: &Private) -> io::Result<()> {
-    let in_use = || io::Error::new(ErrorKind::AddrInUse, "another program listens there");
-    let found = FileId::of(path)?;
+fn remove_abandoned(path: &Path) -> io::Result<()> {
     if !fs::symlink_metadata(path)?.file_type().is_socket() {
         return Err(io::Error::new(ErrorKind::AlreadyExists, "there is a file that is no socket"));
     }
     match UnixStream::connect(path) {
-        Err(error) if error.kind() == ErrorKind::ConnectionRefused => {}
-        _ => return Err(in_use()),
+        Err(error) if error.kind() == ErrorKind::ConnectionRefused => fs::remove_file(path),
+        _ => Err(io::Error::new(ErrorKind::AddrInUse, "another program listens there")),
     }
-    let taken = private.0.join("old");
-    fs::rename(path, &taken)?;
-    if FileId::of(&taken)? == found {
-        return Ok(());
-    }
-    let _ = fs::hard_link(&taken, path);
-    Err(in_use())
 }
 
 /// The connection of a reader.

@@ -21,7 +21,7 @@ pub struct Limits {
     /// How many bytes may wait for one reader behind the text that it is taking: 4 MiB. With more it is behind: it gets none of
     /// them, and once it has taken its text a line that tells all.
     pub waiting: usize,
-    /// How many bytes may wait for all readers together, where what several wait for counts once: 128 MiB. With more, the reader that
+    /// How many bytes may wait for all readers together, and what several wait for counts once: 128 MiB. With more, the reader that
     /// has been taking one text for the longest is sent away, until one reader is left for which something waits.
     pub memory: u64,
     /// How long a reader for which bytes wait may take none: ten minutes. Then it is sent away.
@@ -104,7 +104,7 @@ impl Limits {
 pub struct Served {
     /// How many readers are there.
     pub readers: u64,
-    /// How many bytes wait for them, where what several wait for counts once.
+    /// How many bytes wait for them, and what several wait for counts once.
     pub waiting: u64,
     /// How many came.
     pub came: u64,

@@ -1,5 +1,6 @@
 //! Calls of the system that the standard library doesn't have.
 
+use std::fs::File;
 use std::io::{self, ErrorKind, Read, Write};
 use std::os::raw::{c_int, c_short, c_ulong};
 use std::os::unix::io::{AsRawFd, RawFd};
@@ -46,6 +47,16 @@ impl Polled {
 
 extern "C" {
     fn poll(polled: *mut Polled, count: c_ulong, milliseconds: c_int) -> c_int;
+    fn flock(file: RawFd, operation: c_int) -> c_int;
+}
+
+/// `LOCK_EX` and `LOCK_NB`: the lock for one, or an answer at once.
+const LOCK: c_int = 2 | 4;
+
+/// Whether this file could be locked. It is for as long as it is open.
+pub(super) fn is_locked(file: &File) -> bool {
+    // SAFETY: the descriptor is open while it is lent.
+    unsafe { flock(file.as_raw_fd(), LOCK) == 0 }
 }
 
 /// Waits until one of these has what is awaited, for a span at most, or for good without any. A signal may end it early.

@@ -3,9 +3,6 @@
 // Each test file is a program of its own, and uses a part of these.
 #![allow(dead_code)]
 
-#[cfg(unix)]
-pub mod served;
-
 use std::collections::BTreeMap;
 use std::future::Future;
 use std::pin::Pin;

@@ -1,6 +1,9 @@
 //! Servers of tests, and what their readers hold.
 
-use super::{number, value, Tables};
+// Each test file is a program of its own, and uses a part of these.
+#![allow(dead_code)]
+
+use crate::common::{number, value, Tables};
 use std::io::{BufRead, BufReader, Read};
 use std::net::TcpStream;
 use std::os::unix::net::UnixStream;
