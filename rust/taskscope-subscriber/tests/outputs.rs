@@ -303,8 +303,12 @@ fn a_file_that_can_not_grow_has_whole_lines_and_goes_on_with_all() {
     let mut command = command("ulimit -S -f 32 &&", "long", &[("TASKSCOPE_STREAM", &path)]);
     let child = command.stderr(Stdio::piped()).spawn().expect("it runs");
     let lines = || fs::read_to_string(&path).unwrap_or_default();
-    until(|| lines().len() > 16_000);
-    sleep(Duration::from_millis(100));
+    // It grows no more, as the next line doesn't fit.
+    until(|| {
+        let before = lines().len();
+        sleep(Duration::from_millis(200));
+        before > 10_000 && lines().len() == before
+    });
     let limited = lines();
     assert!(limited.len() <= 16_384 && limited.ends_with("}\n") && names(&limited) == ["first"], "{limited}");
     let unlimited = ["--fsize=unlimited", "--pid", &child.id().to_string()];

@@ -178,8 +178,8 @@ fn while_nothing_changes_a_reader_gets_a_line_in_a_second() {
     assert!(started.elapsed() > Duration::from_millis(800), "it came after {:?}", started.elapsed());
     server.stop().expect("no fault");
     lines.push_str(&rest(reader));
-    // The first, one in each second, and the last.
-    let most = 2 + started.elapsed().as_secs() as usize;
+    // The first, that one, the last, and one for each second that a busy machine takes longer.
+    let most = 3 + started.elapsed().as_secs() as usize;
     assert!((3..=most).contains(&lines.lines().count()), "{most} lines at most: {lines}");
     assert_eq!(ids(&tables(&lines)), [task.id().value()], "{lines}");
 }
