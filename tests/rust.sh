@@ -194,7 +194,7 @@ edition = "2021"
 taskscope = { path = "$work/rust/taskscope" }
 tokio = { version = "1", features = ["full"] }
 END
-    awk '/^```rust/ { inside = 1; next } /^```/ { inside = 0 } inside' "$1" > "$work/pasted/src/main.rs"
+    awk '/^```rust/ { inside = 1; next } /^```/ && inside { exit } inside' "$1" > "$work/pasted/src/main.rs"
     TASKSCOPE_LIB=$work/new over_debian_in "$work/pasted" run && view "$work/pasted/service.stream" "$work/report"
 }
 
