@@ -1,24 +1,27 @@
 //! A poll takes no memory, whether its waker is kept, cloned or left alone.
 //!
-//! The test counts the bytes that this program asks for, so it stands alone in its file.
+//! The test counts the bytes that its thread asks for, so it stands alone in its file.
 
 mod common;
 
 use common::{noop, Calls};
 use std::alloc::{GlobalAlloc, Layout, System};
+use std::cell::Cell;
 use std::future::Future;
-use std::sync::atomic::{AtomicUsize, Ordering};
 use std::task::{Context, Poll, Waker};
 use taskscope::{Console, InstrumentExt, Settings};
 
 struct Counting;
 
-static ASKED: AtomicUsize = AtomicUsize::new(0);
+thread_local! {
+    // Of this thread alone: that of the tests' harness asks for some now and then.
+    static ASKED: Cell<usize> = const { Cell::new(0) };
+}
 
 // SAFETY: it hands on what `System` does.
 unsafe impl GlobalAlloc for Counting {
     unsafe fn alloc(&self, layout: Layout) -> *mut u8 {
-        ASKED.fetch_add(layout.size(), Ordering::Relaxed);
+        ASKED.with(|asked| asked.set(asked.get() + layout.size()));
         System.alloc(layout)
     }
 
@@ -43,9 +46,9 @@ fn asked(console: &Console, wakers: &[Waker], mut poll: impl FnMut(&mut Context<
         }
     };
     polls(10);
-    let before = ASKED.load(Ordering::Relaxed);
+    let before = ASKED.with(Cell::get);
     polls(1_000);
-    ASKED.load(Ordering::Relaxed) - before
+    ASKED.with(Cell::get) - before
 }
 
 #[test]
