@@ -3,6 +3,7 @@
 use super::address::Address;
 use super::limits::Limits;
 use super::system::{is_locked, keep_little, Awaited, Polled};
+use std::env;
 use std::fs::{self, DirBuilder, File, Permissions};
 use std::io::{self, ErrorKind, Read, Write};
 use std::net::{SocketAddr, TcpListener, TcpStream};
@@ -19,8 +20,8 @@ const MOST_IN_SYSTEM: c_int = 128 << 10;
 
 /// What is listened at. Nothing of it blocks.
 pub(super) enum Door {
-    /// A socket, its path, and the file that it is: another one of that path is not removed at the end.
-    Unix { listener: UnixListener, path: PathBuf, file: FileId },
+    /// A socket, its path as it was given, and the whole path and the file that it is: another one is not removed at the end.
+    Unix { listener: UnixListener, path: PathBuf, whole: PathBuf, file: FileId },
     /// A port.
     Tcp { listener: TcpListener, address: SocketAddr },
 }
@@ -33,7 +34,9 @@ impl Door {
             Address::Unix(path) => {
                 let listener = bind(path)?;
                 listener.set_nonblocking(true)?;
-                Ok(Door::Unix { listener, path: path.clone(), file: FileId::of(path)? })
+                // The program may change its folder.
+                let whole = env::current_dir().map_or_else(|_| path.clone(), |folder| folder.join(path));
+                Ok(Door::Unix { listener, path: path.clone(), file: FileId::of(&whole)?, whole })
             }
             Address::Tcp(address) if address.ip().is_loopback() || limits.beyond_loopback => {
                 let listener = TcpListener::bind(address)?;
@@ -83,9 +86,9 @@ impl Door {
 
 impl Drop for Door {
     fn drop(&mut self) {
-        if let Door::Unix { path, file, .. } = self {
-            if FileId::of(path).ok() == Some(*file) {
-                let _ = fs::remove_file(path);
+        if let Door::Unix { whole, file, .. } = self {
+            if FileId::of(whole).ok() == Some(*file) {
+                let _ = fs::remove_file(whole);
             }
         }
     }
