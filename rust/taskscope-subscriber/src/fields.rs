@@ -167,6 +167,20 @@ pub(crate) struct WakerFields {
     pub(crate) call: Option<WakerCall>,
 }
 
+impl WakerCall {
+    const ALL: [WakerCall; 4] = [WakerCall::Clone, WakerCall::Drop, WakerCall::Wake, WakerCall::WakeByRef];
+
+    /// What tokio calls it.
+    pub(crate) fn op(self) -> &'static str {
+        match self {
+            WakerCall::Clone => "waker.clone",
+            WakerCall::Drop => "waker.drop",
+            WakerCall::Wake => "waker.wake",
+            WakerCall::WakeByRef => "waker.wake_by_ref",
+        }
+    }
+}
+
 impl Visit for WakerFields {
     fn record_debug(&mut self, _: &Field, _: &dyn Debug) {}
 
@@ -178,13 +192,7 @@ impl Visit for WakerFields {
 
     fn record_str(&mut self, field: &Field, value: &str) {
         if field.name() == "op" {
-            self.call = match value {
-                "waker.clone" => Some(WakerCall::Clone),
-                "waker.drop" => Some(WakerCall::Drop),
-                "waker.wake" => Some(WakerCall::Wake),
-                "waker.wake_by_ref" => Some(WakerCall::WakeByRef),
-                _ => None,
-            };
+            self.call = WakerCall::ALL.into_iter().find(|call| call.op() == value);
         }
     }
 }

@@ -38,9 +38,11 @@ impl Item {
         self.is_closed.load(Ordering::Acquire)
     }
 
-    /// The span was closed.
+    /// The span was closed, or before that the task ended.
     pub(crate) fn close(&self) {
-        self.is_closed.store(true, Ordering::Release);
+        if self.is_closed.swap(true, Ordering::AcqRel) {
+            return;
+        }
         match &self.what {
             What::Task(task) => task.close(),
             What::Resource(resource) => drop(lock(&resource.0.state).owner.take()),

@@ -86,6 +86,17 @@ pub fn is_of_tokio(metadata: &Metadata<'_>) -> bool {
     Source::of(metadata) != Source::Other
 }
 
+/// Whether a span is one of a task.
+pub(crate) fn is_of_task(metadata: &Metadata<'_>) -> bool {
+    Source::of(metadata) == Source::Task
+}
+
+/// Whether an event tells of a waker.
+#[inline]
+pub(crate) fn is_of_waker(metadata: &Metadata<'_>) -> bool {
+    Source::of(metadata) == Source::Waker
+}
+
 /// Tells a console what tokio's spans and events say. A registry has one at most.
 ///
 /// [`Builder::layer`](crate::Builder::layer) makes one with a console and a thread that publishes. This is for a program that has
@@ -288,7 +299,7 @@ impl TaskscopeLayer {
     #[inline]
     fn starts_poll(&self, entered: &mut Entered, key: Key, item: &Item) -> bool {
         match &item.what {
-            What::Task(task) => self.starts_task_poll(entered, key, task),
+            What::Task(task) => self.starts_task_poll(entered, key, task, item.is_closed()),
             What::OpPoll(op) => {
                 let task = entered.polled(self.number).map(Task::id);
                 op.op().map_or(false, |op| op.start_poll(task))
@@ -298,7 +309,11 @@ impl TaskscopeLayer {
     }
 
     #[inline]
-    fn starts_task_poll(&self, entered: &mut Entered, key: Key, task: &Task) -> bool {
+    fn starts_task_poll(&self, entered: &mut Entered, key: Key, task: &Task, has_ended: bool) -> bool {
+        if has_ended {
+            self.left_out.foreign.add();
+            return false;
+        }
         if entered.frames(self.number).any(|frame| frame.key == key && frame.is_poll) {
             self.left_out.nested.add();
             return false;
@@ -382,7 +397,7 @@ impl TaskscopeLayer {
         });
     }
 
-    /// Also on a thread that ends.
+    /// The span was closed, or before that the task ended. Also on a thread that ends.
     pub(crate) fn close(&self, id: &Id, find: impl FnOnce() -> Option<Arc<Item>>) {
         let kept = entered::with(|entered| entered.take(self.key(id.into_u64()))).flatten();
         if let Some(item) = kept.or_else(find) {

@@ -1,24 +1,91 @@
-//! A task's span ends when the task does.
+//! A task ends when its future does, and not when its span does.
+//!
+//! tokio holds one handle of a task's span, beside the task's future, and drops both when the task ends. But a span lives on while
+//! anybody holds a handle of it, or a child of it lives. So the handle that tokio gets has an id of its own: that of the span, with a
+//! mark. Nobody else gets it, as the handle of `Span::current` and a clone have the span's id. When the mark is dropped, the task has
+//! ended.
 
+use crate::fields::WakerFields;
+use crate::layer::{extension, is_of_task, is_of_waker, TaskscopeLayer};
 use std::any::TypeId;
+use tracing_core::field::{Field, Value};
 use tracing_core::span::{Attributes, Current, Id, Record};
 use tracing_core::subscriber::Interest;
-use tracing_core::{Event, LevelFilter, Metadata, Subscriber};
+use tracing_core::{Dispatch, Event, LevelFilter, Metadata, Subscriber};
+use tracing_subscriber::registry::{LookupSpan, Registry};
 
-/// Makes each of tokio's spans a root on its way to a registry.
+/// The subscriber around a [`TaskscopeLayer`] that stands beside others. It sees when a task ends, and makes each of tokio's spans a
+/// root.
 ///
-/// Before tokio 1.36 the span of a task is a child of the span of the task that spawns it, and a registry closes no span before its
-/// children. So a task that spawned another one would seem to live on, idle and without wakers, until the other one ends.
+/// A registry closes no span before its children, nor while a handle of it is held. So without this a task that opened a span, or
+/// whose span another one took along, would seem to live on, idle and without wakers, until that other one ends.
+///
+/// The layers see the ids of the registry alone, and the program's own spans keep their parents.
 #[derive(Debug)]
 pub struct Rootless<S>(pub S);
 
-impl<S: Subscriber> Subscriber for Rootless<S> {
-    fn new_span(&self, attributes: &Attributes<'_>) -> Id {
-        let metadata = attributes.metadata();
+/// The mark of an id: a bit that is 0 in each id of a [`Registry`].
+///
+/// Such an id is a place in 38 bits, the number of a thread, below 4096, in 13, and a generation in the others.
+const MARK: u64 = 1 << 50;
+
+fn marked(id: &Id) -> Id {
+    Id::from_u64(id.into_u64() | MARK)
+}
+
+/// The id without its mark, where it has one.
+#[inline]
+fn unmarked(id: &Id) -> Option<Id> {
+    let number = id.into_u64();
+    (number & MARK != 0).then(|| Id::from_u64(number & !MARK))
+}
+
+impl<S: Subscriber> Rootless<S> {
+    fn part<T: 'static>(&self) -> Option<&T> {
+        let subscriber: &dyn Subscriber = &self.0;
+        subscriber.downcast_ref()
+    }
+
+    /// The id that the registry has for a span. Of a subscriber that is no registry, any id is its own.
+    #[inline]
+    fn id(&self, id: &Id) -> Id {
+        unmarked(id).filter(|_| self.part::<Registry>().is_some()).unwrap_or_else(|| id.clone())
+    }
+
+    /// The mark of a task was dropped.
+    fn end(&self, id: &Id) {
+        if let (Some(layer), Some(registry)) = (self.part::<TaskscopeLayer>(), self.part::<Registry>()) {
+            layer.close(id, || extension(&registry.span(id)?));
+        }
+    }
+
+    /// Makes a span, with the registry's ids alone.
+    fn new_inner(&self, attributes: &Attributes<'_>) -> Id {
+        let (metadata, values) = (attributes.metadata(), attributes.values());
         if metadata.name().starts_with("runtime.") && !attributes.is_root() {
-            self.0.new_span(&Attributes::new_root(metadata, attributes.values()))
+            return self.0.new_span(&Attributes::new_root(metadata, values));
+        }
+        match attributes.parent().filter(|parent| unmarked(parent).is_some()) {
+            Some(parent) => self.0.new_span(&Attributes::child_of(self.id(parent), metadata, values)),
+            None => self.0.new_span(attributes),
+        }
+    }
+}
+
+impl<S: Subscriber> Subscriber for Rootless<S> {
+    fn on_register_dispatch(&self, subscriber: &Dispatch) {
+        self.0.on_register_dispatch(subscriber);
+    }
+
+    fn new_span(&self, attributes: &Attributes<'_>) -> Id {
+        let id = self.new_inner(attributes);
+        let is_marked = is_of_task(attributes.metadata())
+            && self.part::<TaskscopeLayer>().is_some()
+            && self.part::<Registry>().is_some();
+        if is_marked {
+            marked(&id)
         } else {
-            self.0.new_span(attributes)
+            id
         }
     }
 
@@ -35,35 +102,59 @@ impl<S: Subscriber> Subscriber for Rootless<S> {
     }
 
     fn record(&self, span: &Id, values: &Record<'_>) {
-        self.0.record(span, values);
+        self.0.record(&self.id(span), values);
     }
 
     fn record_follows_from(&self, span: &Id, follows: &Id) {
-        self.0.record_follows_from(span, follows);
+        self.0.record_follows_from(&self.id(span), &self.id(follows));
     }
 
     fn event_enabled(&self, event: &Event<'_>) -> bool {
         self.0.event_enabled(event)
     }
 
+    /// tokio's events of wakers name a task by the id of its handle.
     fn event(&self, event: &Event<'_>) {
-        self.0.event(event);
+        let metadata = event.metadata();
+        if !is_of_waker(metadata) {
+            return self.0.event(event);
+        }
+        let mut fields = WakerFields::default();
+        event.record(&mut fields);
+        let mut names = metadata.fields().iter();
+        match (fields, names.next(), names.next(), names.next()) {
+            (WakerFields { span: Some(span), call: Some(call) }, Some(first), Some(second), None) if span != 0 => {
+                let (op, span) = (call.op(), self.id(&Id::from_u64(span)).into_u64());
+                let value =
+                    |field: &Field| -> Option<&dyn Value> { Some(if field.name() == "op" { &op } else { &span }) };
+                let values = [(&first, value(&first)), (&second, value(&second))];
+                self.0.event(&Event::new(metadata, &metadata.fields().value_set(&values)));
+            }
+            _ => self.0.event(event),
+        }
     }
 
+    #[inline]
     fn enter(&self, span: &Id) {
-        self.0.enter(span);
+        self.0.enter(&self.id(span));
     }
 
+    #[inline]
     fn exit(&self, span: &Id) {
-        self.0.exit(span);
+        self.0.exit(&self.id(span));
     }
 
+    /// A clone is no mark of the task's end.
     fn clone_span(&self, span: &Id) -> Id {
-        self.0.clone_span(span)
+        self.0.clone_span(&self.id(span))
     }
 
     fn try_close(&self, span: Id) -> bool {
-        self.0.try_close(span)
+        let id = self.id(&span);
+        if id != span {
+            self.end(&id);
+        }
+        self.0.try_close(id)
     }
 
     fn current_span(&self) -> Current {
