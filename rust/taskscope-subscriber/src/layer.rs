@@ -3,14 +3,16 @@
 use crate::attributes::Types;
 use crate::entered::{self, Entered, Frame, Key};
 use crate::fields::{ItemFields, Kind, PollFields, TaskFields, UpdateFields, WakerFields};
+use crate::heard::{say_if_unflagged, Heard};
 use crate::item::{Item, Op, Part, Resource, What};
 use crate::left_out::LeftOut;
 use crate::places::Places;
 use crate::task::{Home, Polls, Task};
 use std::fmt;
-use std::sync::atomic::{AtomicU64, Ordering};
+use std::sync::atomic::{AtomicBool, AtomicU64, Ordering};
 use std::sync::Arc;
 use taskscope::{Console, Origin, TaskKind};
+use tracing_core::callsite::rebuild_interest_cache;
 use tracing_core::span::{Attributes, Id};
 use tracing_core::subscriber::Interest;
 use tracing_core::{Event, Metadata, Subscriber};
@@ -19,12 +21,44 @@ use tracing_subscriber::registry::{LookupSpan, SpanRef};
 
 /// Which items are told.
 #[derive(Clone, Copy, Debug, Default, PartialEq, Eq)]
+#[non_exhaustive]
 pub enum Items {
-    /// Tasks, resources and async operations.
+    /// Tasks alone. A lock or a channel costs what it costs without the layer.
     #[default]
-    All,
-    /// Tasks alone. A lock or a channel then costs what it costs without the layer.
     Tasks,
+    /// Tasks, resources and async operations. A lock or a channel costs many times as much, and each makes two items.
+    All,
+}
+
+/// Whether a layer wants anything.
+#[derive(Clone, Debug)]
+pub(crate) struct Switch(Arc<AtomicBool>);
+
+impl Default for Switch {
+    fn default() -> Switch {
+        Switch(Arc::new(AtomicBool::new(true)))
+    }
+}
+
+impl Switch {
+    pub(crate) fn off() -> Switch {
+        Switch(Arc::default())
+    }
+
+    fn is_on(&self) -> bool {
+        self.0.load(Ordering::Relaxed)
+    }
+
+    /// From now on the layer of a subscriber wants what it reads.
+    pub(crate) fn turn_on(&self) {
+        self.0.store(true, Ordering::Relaxed);
+        rebuild_interest_cache();
+    }
+}
+
+/// A filter for a layer that stands beside others, which lets pass what it tells of.
+pub(crate) fn is_told(items: Items, switch: Switch) -> impl Fn(&Metadata<'_>) -> bool {
+    move |metadata| switch.is_on() && Source::of(metadata).is_told(items)
 }
 
 /// A span's item, as the span's extension.
@@ -120,23 +154,28 @@ pub struct TaskscopeLayer {
     polls: Polls,
     /// Whether no other layer stands beside it, so that what it doesn't read is turned off.
     is_alone: bool,
+    switch: Switch,
     left_out: Arc<LeftOut>,
+    heard: Arc<Heard>,
     places: Places,
     resource_types: Types,
     op_types: Types,
 }
 
 impl TaskscopeLayer {
-    /// A layer that tells this console of all items, and counts a task's own polls.
+    /// A layer that tells this console of tasks, and counts a task's own polls.
     pub fn new(console: &Console) -> TaskscopeLayer {
         static LAST: AtomicU64 = AtomicU64::new(0);
+        say_if_unflagged();
         TaskscopeLayer {
             number: LAST.fetch_add(1, Ordering::Relaxed) + 1,
             console: console.clone(),
             items: Items::default(),
             polls: Polls::default(),
             is_alone: false,
+            switch: Switch::default(),
             left_out: Arc::default(),
+            heard: Arc::default(),
             places: Places::default(),
             resource_types: Types::of_resources(),
             op_types: Types::of_ops(),
@@ -158,6 +197,15 @@ impl TaskscopeLayer {
         TaskscopeLayer { is_alone: true, ..self }
     }
 
+    /// It wants nothing until the switch is turned on.
+    pub(crate) fn switched(self, switch: &Switch) -> TaskscopeLayer {
+        TaskscopeLayer { switch: switch.clone(), ..self }
+    }
+
+    pub(crate) fn heard(&self) -> Arc<Heard> {
+        Arc::clone(&self.heard)
+    }
+
     /// What of the program's events no row has. It is kept when the layer becomes a part of a subscriber.
     pub fn left_out(&self) -> Arc<LeftOut> {
         Arc::clone(&self.left_out)
@@ -176,6 +224,7 @@ impl TaskscopeLayer {
     }
 
     fn new_task(&self, entered: &mut Entered, attributes: &Attributes<'_>) -> What {
+        self.heard.task();
         let mut fields = TaskFields::default();
         attributes.record(&mut fields);
         let place = self.places.tell(&fields.place);
@@ -211,7 +260,7 @@ impl TaskscopeLayer {
         let resource = match resource {
             Some(resource) => resource,
             None => {
-                self.left_out.stray.add();
+                self.left_out.older.add();
                 return None;
             }
         };
@@ -275,7 +324,7 @@ impl TaskscopeLayer {
         let counted =
             entered.innermost(self.number, |item| item.resource().map(|resource| resource.count_poll(is_ready)));
         if counted.is_none() {
-            self.left_out.stray.add();
+            self.left_out.older.add();
         }
     }
 
@@ -291,7 +340,7 @@ impl TaskscopeLayer {
             entered.innermost(self.number, |item| item.resource().map(update))
         };
         if updated.is_none() {
-            self.left_out.stray.add();
+            self.left_out.older.add();
         }
     }
 
@@ -334,7 +383,11 @@ impl TaskscopeLayer {
 /// What becomes of spans and events. `find` looks for the item of a span in a registry.
 impl TaskscopeLayer {
     pub(crate) fn interest(&self, metadata: &'static Metadata<'static>) -> Interest {
-        if self.is_alone && !Source::of(metadata).is_told(self.items) {
+        let source = Source::of(metadata);
+        if source == Source::Task {
+            self.heard.spans(metadata);
+        }
+        if self.is_alone && !(self.switch.is_on() && source.is_told(self.items)) {
             Interest::never()
         } else {
             Interest::always()

@@ -10,6 +10,7 @@ use std::sync::atomic::{AtomicU64, Ordering};
 pub struct LeftOut {
     pub(crate) late: Count,
     pub(crate) stray: Count,
+    pub(crate) older: Count,
     pub(crate) unsayable: Count,
     pub(crate) clamped: Count,
     pub(crate) nested: Count,
@@ -37,11 +38,15 @@ impl LeftOut {
         self.late.get()
     }
 
-    /// What came outside of the items that it belongs to: poll operations and attributes outside of any resource, operations of
-    /// no resource, and drops and wakes of a waker of which no clone was told. It comes of what was made before the layer was there,
-    /// and of a thread that is ending.
+    /// Drops and wakes of a waker of which no clone was told, and what a thread said while it ended.
     pub fn stray(&self) -> u64 {
         self.stray.get()
+    }
+
+    /// Poll operations, changes of attributes and operations of a resource that was made before the layer was there. A runtime has
+    /// some that was built before.
+    pub fn older(&self) -> u64 {
+        self.older.get()
     }
 
     /// Changes of attributes that the item doesn't have, or that are texts.

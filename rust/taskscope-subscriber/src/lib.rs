@@ -49,18 +49,23 @@
 
 #![deny(missing_docs, unsafe_op_in_unsafe_fn)]
 #![warn(missing_debug_implementations)]
+// `tokio_unstable` is set by who builds the program.
+#![allow(unknown_lints, unexpected_cfgs)]
 
 mod alone;
 mod attributes;
 mod builder;
 mod entered;
 mod fields;
+mod file;
+mod heard;
 mod item;
 mod layer;
 mod left_out;
 mod output;
 mod places;
 mod publishing;
+mod readers;
 mod rootless;
 mod task;
 
@@ -72,13 +77,47 @@ pub use publishing::Guard;
 pub use rootless::Rootless;
 pub use task::Polls;
 
+use tracing_subscriber::layer::Layer;
+use tracing_subscriber::registry::Registry;
+
 /// Inspects the program as the environment says, by the variables in the [head](crate#variables) of this crate. It is the first line
-/// of `main`, as tasks that were spawned before are not told.
+/// of `main`, as tasks that were spawned before are not told. A program that logs by `tracing` calls [`init_with`] in its place.
 ///
 /// Where that can't be done, as a variable has a wrong value or a file can't be made, it says so on standard error, and the program
 /// goes on without.
 pub fn init() {
-    if let Err(error) = Builder::from_env().and_then(Builder::init) {
+    say_if_failed(Builder::from_env().and_then(Builder::init));
+}
+
+/// Makes the subscriber of a program that logs, and inspects the program as [`init`] does. `logs` are its layers, as `fmt::layer()`,
+/// with their filters.
+///
+/// ```
+/// use tracing_subscriber::{fmt, prelude::*, EnvFilter};
+///
+/// fn main() {
+///     taskscope_subscriber::init_with(fmt::layer().with_filter(EnvFilter::new("info")));
+///     tracing::info!("the program logs, and is inspected where TASKSCOPE_STREAM says so");
+/// }
+/// ```
+///
+/// Where the program can't be inspected, it says so on standard error, and the program logs all the same. Records of the crate `log`
+/// are events of `tracing` after `tracing_log::LogTracer::init`.
+pub fn init_with<L>(logs: L)
+where
+    L: Layer<Registry> + Send + Sync + 'static,
+{
+    let (builder, error) = match Builder::from_env() {
+        Ok(builder) => (builder, None),
+        // Without an output it logs alone.
+        Err(error) => (Builder::new(), Some(error)),
+    };
+    say_if_failed(error.map_or(Ok(()), Err));
+    say_if_failed(builder.init_with(logs));
+}
+
+fn say_if_failed(result: std::io::Result<()>) {
+    if let Err(error) = result {
         output::say(format_args!("nothing is inspected: {error}"));
     }
 }

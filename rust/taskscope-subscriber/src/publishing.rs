@@ -1,8 +1,10 @@
 //! The thread that publishes.
 
+use crate::heard::Heard;
 use crate::item::lock;
+use crate::layer::TaskscopeLayer;
 use crate::left_out::LeftOut;
-use crate::output::{say, Output, Target};
+use crate::output::{say, Output, Target, LONGEST_LINE};
 use std::io;
 use std::mem::MaybeUninit;
 use std::os::raw::c_int;
@@ -18,6 +20,8 @@ const LAST_WAIT: Duration = Duration::from_secs(2);
 const LAST_HAND_ON: Duration = Duration::from_secs(1);
 /// How soon a reader is asked again that was slow.
 const SLOW_READER: Duration = Duration::from_millis(2);
+/// How long no line is written at most while nothing changes.
+const SIGN_OF_LIFE: Duration = Duration::from_secs(1);
 
 #[derive(Debug, Default)]
 struct State {
@@ -35,11 +39,26 @@ struct Control {
 }
 
 impl Control {
-    /// Waits for a span or for the stop, and answers whether it came.
-    fn wait(&self, span: Duration) -> bool {
+    /// Waits for a span, or for good, or until a condition holds, which comes before a [`notify`](Control::notify). The answer is
+    /// whether the stop came.
+    fn wait(&self, span: Option<Duration>, condition: impl Fn() -> bool) -> bool {
         let state = lock(&self.state);
-        let waited = self.changed.wait_timeout_while(state, span, |state| !state.is_stopped);
-        waited.unwrap_or_else(PoisonError::into_inner).0.is_stopped
+        let waits = |state: &mut State| !state.is_stopped && !condition();
+        let state = match span {
+            Some(span) => {
+                let waited = self.changed.wait_timeout_while(state, span, waits);
+                waited.unwrap_or_else(PoisonError::into_inner).0
+            }
+            None => self.changed.wait_while(state, waits).unwrap_or_else(PoisonError::into_inner),
+        };
+        state.is_stopped
+    }
+
+    /// Has those who wait look again.
+    fn notify(&self) {
+        // A thread has looked and waits, or will look after this.
+        drop(lock(&self.state));
+        self.changed.notify_all();
     }
 
     fn stop(&self) {
@@ -71,24 +90,45 @@ pub struct Guard {
     left_out: Arc<LeftOut>,
 }
 
-impl Guard {
-    pub(crate) fn start(
-        console: Console,
-        left_out: Arc<LeftOut>,
-        output: &Output,
-        interval: Duration,
-    ) -> io::Result<Guard> {
-        let state = Mutex::default();
-        let control = Arc::new(Control { state, changed: Condvar::new(), process: process::id() });
-        let target = output.open()?;
-        // A reader of standard error reads lines alone.
-        let told = (*output != Output::Stderr).then(|| Arc::clone(&left_out));
-        let publishing = Publishing { console, target, interval, left_out: told, has_failed: false };
+/// What a [`Guard`] publishes, and how.
+pub(crate) struct Plan {
+    console: Console,
+    left_out: Arc<LeftOut>,
+    heard: Arc<Heard>,
+    interval: Duration,
+    /// How many bytes a file has at most before it is begun anew.
+    most: Option<u64>,
+}
+
+impl Plan {
+    /// What a layer tells is published each so often.
+    pub(crate) fn new(console: &Console, layer: &TaskscopeLayer, interval: Duration, most: Option<u64>) -> Plan {
+        Plan { console: console.clone(), left_out: layer.left_out(), heard: layer.heard(), interval, most }
+    }
+
+    /// Opens an output, and starts the thread that publishes there.
+    pub(crate) fn start(self, output: &Output) -> io::Result<Guard> {
+        let target = output.open(self.most)?;
+        let control = Arc::new(Control { state: Mutex::default(), changed: Condvar::new(), process: process::id() });
+        let filling = Arc::downgrade(&control);
+        self.console.on_filling(move || filling.upgrade().map_or((), |control| control.notify()));
+        let left_out = Arc::clone(&self.left_out);
+        let publishing = Publishing {
+            plan: self,
+            target,
+            // A reader of standard error reads lines alone.
+            says_left_out: *output != Output::Stderr,
+            started: Instant::now(),
+            written: None,
+            has_failed: false,
+        };
         let ends = Ends(Arc::clone(&control));
         thread::Builder::new().name("taskscope".into()).spawn(move || publishing.run(&ends.0))?;
         Ok(Guard { control, left_out })
     }
+}
 
+impl Guard {
     /// Writes a last line, and waits until it is written, for 2 seconds at most. What comes later is told no more.
     pub fn finish(&self) {
         self.control.stop();
@@ -107,11 +147,12 @@ impl Drop for Guard {
 }
 
 struct Publishing {
-    console: Console,
+    plan: Plan,
     target: Box<dyn Target>,
-    interval: Duration,
-    /// Where it is to be said what was left out.
-    left_out: Option<Arc<LeftOut>>,
+    says_left_out: bool,
+    started: Instant,
+    /// When the last line was written.
+    written: Option<Instant>,
     has_failed: bool,
 }
 
@@ -121,6 +162,7 @@ impl Publishing {
         let mut is_last = false;
         loop {
             self.publish(is_last);
+            self.plan.heard.say_if_nothing(self.started.elapsed(), is_last);
             if is_last {
                 break;
             }
@@ -130,19 +172,16 @@ impl Publishing {
         while self.target.hand_on() && Instant::now() < until {
             thread::sleep(SLOW_READER);
         }
-        if let Some(left_out) = &self.left_out {
-            let left_out = left_out.to_string();
-            if left_out != "nothing" {
-                say(format_args!("left out: {left_out}"));
-            }
+        let left_out = self.plan.left_out.to_string();
+        if self.says_left_out && left_out != "nothing" {
+            say(format_args!("left out: {left_out}"));
         }
     }
 
     fn publish(&mut self, is_last: bool) {
-        let tells_all = self.target.needs_all(is_last);
-        let lines = if tells_all { self.console.snapshot() } else { self.console.publish() };
+        let lines = if self.target.needs_all(is_last) { self.tell_all(is_last) } else { self.tell_changes(is_last) };
         match lines {
-            Ok(lines) => self.target.write(&lines, tells_all),
+            Ok(()) => {}
             // The next line tells what this one would have told.
             Err(Fault::Memory) => {}
             Err(fault) => {
@@ -153,16 +192,49 @@ impl Publishing {
         }
     }
 
-    /// Waits for the next line, and answers whether it is the last.
+    fn write(&mut self, lines: &[u8], tells_all: bool) {
+        self.target.write(lines, tells_all);
+        self.written = Some(Instant::now());
+    }
+
+    /// Writes a line that tells all. Where that is longer than readers take, a line that tells what changed.
+    fn tell_all(&mut self, is_last: bool) -> Result<(), Fault> {
+        match self.plan.console.snapshot_within(LONGEST_LINE)? {
+            Some(line) => {
+                self.write(&line, true);
+                Ok(())
+            }
+            None => {
+                self.target.refuse("a line that tells all would have more than the 256 MiB that readers take");
+                self.tell_changes(is_last)
+            }
+        }
+    }
+
+    /// Writes what changed. Where nothing did, a line is written once in a while, as a sign of life.
+    fn tell_changes(&mut self, is_last: bool) -> Result<(), Fault> {
+        let is_due = is_last || self.written.map_or(true, |written| written.elapsed() >= SIGN_OF_LIFE);
+        let console = &self.plan.console;
+        let lines = if is_due { Some(console.publish()?) } else { console.publish_changes()? };
+        if let Some(lines) = lines {
+            self.write(&lines, false);
+        }
+        Ok(())
+    }
+
+    /// Waits for the next line, and answers whether it is the last. It comes at once while a recorder fills up.
     fn wait(&mut self, control: &Control) -> bool {
-        let until = Instant::now() + self.interval;
+        // With a span that no clock counts, it waits for the stop.
+        let until = Instant::now().checked_add(self.plan.interval);
+        let console = self.plan.console.clone();
         loop {
-            let rest = until.saturating_duration_since(Instant::now());
-            let span = if self.target.hand_on() { rest.min(SLOW_READER) } else { rest };
-            if control.wait(span) {
+            let rest = until.map(|until| until.saturating_duration_since(Instant::now()));
+            let is_slow = self.target.hand_on();
+            let span = if is_slow { Some(rest.map_or(SLOW_READER, |rest| rest.min(SLOW_READER))) } else { rest };
+            if control.wait(span, || console.is_filling()) {
                 return true;
             }
-            if Instant::now() >= until {
+            if console.is_filling() || until.map_or(false, |until| Instant::now() >= until) {
                 return false;
             }
         }

@@ -11,6 +11,7 @@ use taskscope::{Origin, SharedTask, TaskId};
 /// too when it is polled itself. So does a call on another thread, by `in_scope`. This is where the layer stands beside others: with
 /// [`init`](crate::init) there is no current span, so nothing takes one along.
 #[derive(Clone, Copy, Debug, Default, PartialEq, Eq)]
+#[non_exhaustive]
 pub enum Polls {
     /// Those by which an executor polls the task. The enter is one of these where
     ///

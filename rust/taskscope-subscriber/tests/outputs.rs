@@ -2,46 +2,17 @@
 
 mod common;
 
-use common::{number, value, Tables};
+use common::program::{command, names, said, until, Folder, PROGRAM};
+use common::value;
 use std::fs::{self, File};
 use std::io::{BufRead, BufReader, ErrorKind, Read};
 use std::os::unix::net::{UnixListener, UnixStream};
-use std::path::{Path, PathBuf};
+use std::path::Path;
 use std::process::{Command, Stdio};
-use std::sync::atomic::{AtomicUsize, Ordering};
 use std::thread::sleep;
 use std::time::{Duration, Instant};
 use taskscope_subscriber::{Builder, Guard, Output, Rootless, TaskscopeLayer};
 use tracing_subscriber::layer::SubscriberExt;
-
-/// A folder that is removed with what it has.
-struct Folder(PathBuf);
-
-impl Folder {
-    fn new() -> Folder {
-        static LAST: AtomicUsize = AtomicUsize::new(0);
-        let number = LAST.fetch_add(1, Ordering::Relaxed);
-        let path = std::env::temp_dir().join(format!("taskscope-outputs-{}-{number}", std::process::id()));
-        fs::create_dir(&path).expect("a folder");
-        Folder(path)
-    }
-
-    fn path(&self, name: &str) -> PathBuf {
-        self.0.join(name)
-    }
-
-    fn pipe(&self) -> PathBuf {
-        let path = self.path("pipe");
-        assert!(Command::new("mkfifo").arg(&path).status().expect("mkfifo").success());
-        path
-    }
-}
-
-impl Drop for Folder {
-    fn drop(&mut self) {
-        let _ = fs::remove_dir_all(&self.0);
-    }
-}
 
 const OFTEN: Duration = Duration::from_millis(2);
 
@@ -62,23 +33,6 @@ fn run_more(subscriber: &tracing::Dispatch, name: &str) {
         let spawn = || tokio::task::Builder::new().name(name).spawn(async {}).expect("a runtime");
         runtime.block_on(async { spawn().await.expect("no panic") });
     });
-}
-
-/// The names of the tasks that lines lead to. Each line is whole, and the numbers of lines follow each other.
-fn names(lines: &str) -> Vec<String> {
-    let mut tables = Tables::default();
-    let mut last = None;
-    for line in lines.lines() {
-        assert!(line.starts_with('{') && line.ends_with('}'), "{line}");
-        let seq = number(line, "seq");
-        assert!(last.map_or(true, |last| seq == last + 1) || value(line, "snapshot") == "true", "{last:?} {line}");
-        last = Some(seq);
-        tables.apply(line);
-    }
-    let tasks = tables.items.get("task_stats").map_or(&[][..], |tasks| tasks);
-    let names = tasks.iter().map(|(_, info, _)| value(info, "name").trim_matches('"').to_owned());
-    // The others have places for names.
-    names.filter(|name| !name.contains(".rs:")).collect()
 }
 
 /// Reads lines until they have this text.
@@ -102,14 +56,6 @@ fn read_pipe(path: &Path) -> (BufReader<File>, String) {
         }
         drop(reader);
         sleep(Duration::from_millis(50));
-    }
-}
-
-fn until(condition: impl Fn() -> bool) {
-    let started = Instant::now();
-    while !condition() {
-        assert!(started.elapsed() < Duration::from_secs(60), "it took more than a minute");
-        sleep(Duration::from_millis(1));
     }
 }
 
@@ -221,8 +167,6 @@ fn what_can_not_be_opened_is_an_error() {
 
 // What follows runs this program again, as one that a variable inspects.
 
-const PROGRAM: &str = "TASKSCOPE_TEST_PROGRAM";
-
 /// The program, where it is asked for by the variable. It ends by `exit`.
 #[test]
 fn program() {
@@ -237,27 +181,16 @@ fn program() {
         let spawn = |name| tokio::task::Builder::new().name(name).spawn(std::future::ready(())).expect("a runtime");
         spawn("first").await.expect("no panic");
         let pause = if how == "long" { 2500 } else { 30 };
+        // So that each line has something to tell.
+        tokio::spawn(async {
+            loop {
+                tokio::time::sleep(Duration::from_millis(1)).await;
+            }
+        });
         tokio::time::sleep(Duration::from_millis(pause)).await;
         spawn("told last").await.expect("no panic");
     });
     std::process::exit(7);
-}
-
-/// The program with these variables, started by a shell after its words.
-fn command(shell: &str, how: &str, variables: &[(&str, &Path)]) -> Command {
-    let program = std::env::current_exe().expect("this program");
-    let mut command = Command::new("sh");
-    command.args(["-c", &format!("{shell} exec \"$0\" --exact program --nocapture")]).arg(program);
-    command.env(PROGRAM, how).env("TASKSCOPE_INTERVAL_MS", "5").env_remove("RUST_TEST_THREADS");
-    command.envs(variables.iter().copied());
-    command
-}
-
-/// Runs it to its end, and answers what it said on standard error.
-fn said(mut command: Command) -> String {
-    let output = command.output().expect("it runs");
-    assert_eq!(output.status.code(), Some(7), "{output:?}");
-    String::from_utf8(output.stderr).expect("text")
 }
 
 #[test]

@@ -223,7 +223,7 @@ fn an_unknown_attribute_is_counted_and_known_from_then_on() {
 }
 
 #[test]
-fn what_belongs_to_nothing_is_stray() {
+fn what_belongs_to_nothing_is_older_or_stray() {
     let (line, left_out) = inspected(Items::All, async {
         tracing::trace!(target: "runtime::resource::state_update", lag = 1u64);
         tracing::trace!(target: "runtime::resource::async_op::state_update", lag = 1u64);
@@ -235,8 +235,8 @@ fn what_belongs_to_nothing_is_stray() {
         tracing::trace!(target: "tokio::task::waker", op = "waker.wake", task.id = id);
         tracing::trace!(target: "tokio::task::waker", op = "waker.nudge", task.id = id);
     });
-    assert_eq!(left_out.to_string(), "stray 6, unknown 1");
-    assert_eq!((left_out.stray(), left_out.unknown(), left_out.late()), (6, 1, 0));
+    assert_eq!(left_out.to_string(), "stray 2, unknown 1", "what is older is no fault");
+    assert_eq!((left_out.older(), left_out.stray(), left_out.unknown(), left_out.late()), (4, 2, 1, 0));
     let row = common::task(&line, number(list(&line, "new_tasks")[1], "id"));
     assert_eq!(numbers(row, ["wakes", "clones", "drops"]), [0, 0, 0]);
 }

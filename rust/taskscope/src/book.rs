@@ -310,22 +310,29 @@ impl Book {
         moment: u64,
         retention: Option<u64>,
     ) -> Result<Vec<u8>, Fault> {
-        let mut lines = self.line(Listed::Changed, page, dropped, moment, retention)?;
+        let mut lines = page.line(&self.head(moment, dropped, false))?;
+        self.tell(Listed::Changed, page, dropped, retention);
         if let Some(retention) = retention {
             lines.extend(self.gone_line(moment, dropped, retention));
         }
         Ok(lines)
     }
 
-    /// The line that tells all.
+    /// The line that tells all, or nothing where it has more than `most` bytes.
     pub(crate) fn snapshot(
         &mut self,
+        most: usize,
         dropped: Total,
         now: impl Fn() -> u64,
         retention: Option<u64>,
-    ) -> Result<Vec<u8>, Fault> {
+    ) -> Result<Option<Vec<u8>>, Fault> {
         let page = self.page(Listed::All);
-        self.line(Listed::All, &page, dropped, now(), retention)
+        let line = page.line(&self.head(now(), dropped, true))?;
+        if line.len() > most {
+            return Ok(None);
+        }
+        self.tell(Listed::All, &page, dropped, retention);
+        Ok(Some(line))
     }
 
     /// The entries of a line of these items and the new ones.
@@ -339,22 +346,13 @@ impl Book {
         page
     }
 
-    /// The line of a page, which counts as told.
-    fn line(
-        &mut self,
-        listed: Listed,
-        page: &Page,
-        dropped: Total,
-        moment: u64,
-        retention: Option<u64>,
-    ) -> Result<Vec<u8>, Fault> {
-        let line = page.line(&self.head(moment, dropped, listed == Listed::All))?;
+    /// The line of a page was made, and counts as told.
+    fn tell(&mut self, listed: Listed, page: &Page, dropped: Total, retention: Option<u64>) {
         self.seq += 1;
         self.dropped = dropped;
         for table in self.tables() {
             table.tell(listed, page, retention);
         }
-        Ok(line)
     }
 
     /// The line that says what leaves, or no bytes where nothing does, or where the line can't be made: what leaves then stays

@@ -255,13 +255,13 @@ impl Inner {
         book.publish_changes(dropped, || self.now(), self.retention)
     }
 
-    fn snapshot(&self) -> Result<Vec<u8>, Fault> {
+    fn snapshot(&self, most: usize) -> Result<Option<Vec<u8>>, Fault> {
         if !self.is_active() {
-            return Ok(Vec::new());
+            return Ok(Some(Vec::new()));
         }
         let mut book = lock(&self.book);
         let dropped = self.take(&mut book);
-        book.snapshot(dropped, || self.now(), self.retention)
+        book.snapshot(most, dropped, || self.now(), self.retention)
     }
 }
 
@@ -475,7 +475,29 @@ impl Console {
     /// # Errors
     /// As of [`publish`](Console::publish).
     pub fn snapshot(&self) -> Result<Vec<u8>, Fault> {
-        self.0.snapshot()
+        self.0.snapshot(usize::MAX).map(Option::unwrap_or_default)
+    }
+
+    /// As [`snapshot`](Console::snapshot), or `None` where the line has more than `most` bytes. Nothing counts as told then, and the
+    /// next line is as if this one had not been asked for.
+    ///
+    /// The line is made to see how long it is.
+    ///
+    /// ```
+    /// use taskscope::{Console, Settings};
+    ///
+    /// let console = Console::open(Settings::default());
+    /// let task = console.task("fetch").open();
+    /// assert!(console.snapshot_within(100)?.is_none());
+    /// assert!(console.snapshot_within(1 << 20)?.is_some());
+    /// # drop(task);
+    /// # Ok::<(), taskscope::Fault>(())
+    /// ```
+    ///
+    /// # Errors
+    /// As of [`publish`](Console::publish).
+    pub fn snapshot_within(&self, most: usize) -> Result<Option<Vec<u8>>, Fault> {
+        self.0.snapshot(most)
     }
 }
 
