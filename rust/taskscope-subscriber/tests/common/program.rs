@@ -75,9 +75,15 @@ pub fn command(shell: &str, how: &str, variables: &[(&str, &Path)]) -> Command {
     command
 }
 
-/// Runs it to its end, and answers what it said on standard error.
-pub fn said(mut command: Command) -> String {
+/// Runs it to its end, and answers what it said on standard output and on standard error.
+pub fn ran(mut command: Command) -> (String, String) {
     let output = command.output().expect("it runs");
     assert_eq!(output.status.code(), Some(7), "{output:?}");
-    String::from_utf8(output.stderr).expect("text")
+    let text = |bytes| String::from_utf8(bytes).expect("text");
+    (text(output.stdout), text(output.stderr))
+}
+
+/// Runs it to its end, and answers what it said on standard error.
+pub fn said(command: Command) -> String {
+    ran(command).1
 }
