@@ -3,7 +3,6 @@
 use crate::item::Item;
 use crate::task::Task;
 use std::cell::RefCell;
-use std::sync::atomic::{AtomicU64, Ordering};
 use std::sync::Arc;
 
 /// A span of a layer's registry.
@@ -33,12 +32,10 @@ const RECENT: usize = 128;
 pub(crate) struct Entered {
     frames: Vec<Frame>,
     recent: Vec<Option<(Key, Arc<Item>)>>,
-    thread: u64,
 }
 
 thread_local! {
-    static ENTERED: RefCell<Entered> =
-        const { RefCell::new(Entered { frames: Vec::new(), recent: Vec::new(), thread: 0 }) };
+    static ENTERED: RefCell<Entered> = const { RefCell::new(Entered { frames: Vec::new(), recent: Vec::new() }) };
 }
 
 /// Calls with what this thread entered. Where the thread is ending, or this is called within itself, nothing is called.
@@ -48,15 +45,6 @@ pub(crate) fn with<R>(call: impl FnOnce(&mut Entered) -> R) -> Option<R> {
 }
 
 impl Entered {
-    /// The thread's number, which no other has.
-    pub(crate) fn thread(&mut self) -> u64 {
-        static LAST: AtomicU64 = AtomicU64::new(0);
-        if self.thread == 0 {
-            self.thread = LAST.fetch_add(1, Ordering::Relaxed) + 1;
-        }
-        self.thread
-    }
-
     #[inline]
     fn place(key: Key) -> usize {
         // The low bits are the span's place in its registry, and those of threads and generations stand above.

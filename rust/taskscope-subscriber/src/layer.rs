@@ -6,8 +6,9 @@ use crate::fields::{ItemFields, Kind, PollFields, TaskFields, UpdateFields, Wake
 use crate::heard::{say_if_unflagged, Heard};
 use crate::item::{Item, Op, Part, Resource, What};
 use crate::left_out::LeftOut;
+use crate::mark;
 use crate::places::Places;
-use crate::task::{Home, Polls, Task};
+use crate::task::{Polls, Task};
 use std::fmt;
 use std::sync::atomic::{AtomicBool, AtomicU64, Ordering};
 use std::sync::Arc;
@@ -223,7 +224,7 @@ impl TaskscopeLayer {
         }
     }
 
-    fn new_task(&self, entered: &mut Entered, attributes: &Attributes<'_>) -> What {
+    fn new_task(&self, attributes: &Attributes<'_>) -> What {
         self.heard.task();
         let mut fields = TaskFields::default();
         attributes.record(&mut fields);
@@ -236,8 +237,7 @@ impl TaskscopeLayer {
             Kind::BlockOn | Kind::Blocking => TaskKind::Blocking,
         };
         let shared = self.console.task(name).kind(kind).location(location).open().share();
-        let home = Home { thread: entered.thread(), within: entered.polled(self.number).map(Task::id) };
-        What::Task(Task::new(shared, fields.kind, home))
+        What::Task(Task::new(shared, mark::is_made()))
     }
 
     fn new_resource(&self, entered: &Entered, attributes: &Attributes<'_>) -> What {
@@ -278,7 +278,7 @@ impl TaskscopeLayer {
 
     fn new_item(&self, entered: &mut Entered, source: Source, attributes: &Attributes<'_>) -> Option<What> {
         match source {
-            Source::Task => Some(self.new_task(entered, attributes)),
+            Source::Task => Some(self.new_task(attributes)),
             Source::Resource => Some(self.new_resource(entered, attributes)),
             Source::Op => self.new_op(entered, attributes),
             Source::OpPoll => {
@@ -359,17 +359,13 @@ impl TaskscopeLayer {
 
     #[inline]
     fn starts_task_poll(&self, entered: &mut Entered, key: Key, task: &Task, has_ended: bool) -> bool {
-        if has_ended {
+        let is_foreign = self.polls == Polls::Own && task.is_marked && !mark::is_entered(key.span);
+        if has_ended || is_foreign {
             self.left_out.foreign.add();
             return false;
         }
         if entered.frames(self.number).any(|frame| frame.key == key && frame.is_poll) {
             self.left_out.nested.add();
-            return false;
-        }
-        let thread = entered.thread();
-        if self.polls == Polls::Own && !task.is_polled(thread, entered.polled(self.number)) {
-            self.left_out.foreign.add();
             return false;
         }
         let starts = task.start_poll();

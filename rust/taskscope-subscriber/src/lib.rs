@@ -62,6 +62,7 @@ mod heard;
 mod item;
 mod layer;
 mod left_out;
+mod mark;
 mod output;
 mod places;
 mod publishing;

@@ -1,12 +1,13 @@
 //! A task ends when its future does, and not when its span does.
 //!
-//! tokio holds one handle of a task's span, beside the task's future, and drops both when the task ends. But a span lives on while
-//! anybody holds a handle of it, or a child of it lives. So the handle that tokio gets has an id of its own: that of the span, with a
-//! mark. Nobody else gets it, as the handle of `Span::current` and a clone have the span's id. When the mark is dropped, the task has
-//! ended.
+//! tokio holds one handle of a task's span, beside the task's future. It enters by that to poll the task, and drops it when the task
+//! ends. But anybody may hold other handles of the span, or make it the parent of others, and then it lives on. So the handle that
+//! tokio gets has an id of its own: that of the span, with a mark. Nobody else gets it: the handle of `Span::current`, a clone, and
+//! all that layers hear have the span's id. An enter by the mark is a poll, and when the mark is dropped, the task has ended.
 
 use crate::fields::WakerFields;
 use crate::layer::{extension, is_of_task, is_of_waker, TaskscopeLayer};
+use crate::mark::{self, unmarked};
 use std::any::TypeId;
 use tracing_core::field::{Field, Value};
 use tracing_core::span::{Attributes, Current, Id, Record};
@@ -14,31 +15,19 @@ use tracing_core::subscriber::Interest;
 use tracing_core::{Dispatch, Event, LevelFilter, Metadata, Subscriber};
 use tracing_subscriber::registry::{LookupSpan, Registry};
 
-/// The subscriber around a [`TaskscopeLayer`] that stands beside others. It sees when a task ends, and makes each of tokio's spans a
-/// root.
+/// The subscriber around a [`TaskscopeLayer`] that stands beside others. It sees what tokio does with a task's span: a poll, and the
+/// task's end. And it makes each of tokio's spans a root.
 ///
 /// A registry closes no span before its children, nor while a handle of it is held. So without this a task that opened a span, or
-/// whose span another one took along, would seem to live on, idle and without wakers, until that other one ends.
+/// whose span another one took along, would seem to live on, idle and without wakers, until that other one ends. With it a task is
+/// closed when it ends, also where a span of the program is its span's child, contextual or by name, and where its span is held or
+/// was taken along by `in_current_span`.
 ///
-/// The layers see the ids of the registry alone, and the program's own spans keep their parents.
+/// The program's own spans keep their parents, and all layers hear the registry's ids. It is so over the [`Registry`] of
+/// `tracing-subscriber` alone, and where [`Subscriber::downcast_ref`](tracing_core::Subscriber) finds the layer, which it doesn't
+/// behind a `reload::Layer`: there the span's end is the task's.
 #[derive(Debug)]
 pub struct Rootless<S>(pub S);
-
-/// The mark of an id: a bit that is 0 in each id of a [`Registry`].
-///
-/// Such an id is a place in 38 bits, the number of a thread, below 4096, in 13, and a generation in the others.
-const MARK: u64 = 1 << 50;
-
-fn marked(id: &Id) -> Id {
-    Id::from_u64(id.into_u64() | MARK)
-}
-
-/// The id without its mark, where it has one.
-#[inline]
-fn unmarked(id: &Id) -> Option<Id> {
-    let number = id.into_u64();
-    (number & MARK != 0).then(|| Id::from_u64(number & !MARK))
-}
 
 impl<S: Subscriber> Rootless<S> {
     fn part<T: 'static>(&self) -> Option<&T> {
@@ -78,14 +67,13 @@ impl<S: Subscriber> Subscriber for Rootless<S> {
     }
 
     fn new_span(&self, attributes: &Attributes<'_>) -> Id {
-        let id = self.new_inner(attributes);
         let is_marked = is_of_task(attributes.metadata())
             && self.part::<TaskscopeLayer>().is_some()
             && self.part::<Registry>().is_some();
         if is_marked {
-            marked(&id)
+            mark::make(|| self.new_inner(attributes))
         } else {
-            id
+            self.new_inner(attributes)
         }
     }
 
@@ -136,7 +124,12 @@ impl<S: Subscriber> Subscriber for Rootless<S> {
 
     #[inline]
     fn enter(&self, span: &Id) {
-        self.0.enter(&self.id(span));
+        let id = self.id(span);
+        if id == *span {
+            self.0.enter(&id);
+        } else {
+            mark::enter(&id, || self.0.enter(&id));
+        }
     }
 
     #[inline]

@@ -1,8 +1,7 @@
 //! Tasks, and which enters of their spans are polls.
 
-use crate::fields::{Kind, WakerCall};
+use crate::fields::WakerCall;
 use crate::left_out::LeftOut;
-use std::sync::atomic::{AtomicBool, Ordering};
 use taskscope::{Origin, SharedTask, TaskId};
 
 /// Which enters of a task's span are polls of the task.
@@ -13,65 +12,29 @@ use taskscope::{Origin, SharedTask, TaskId};
 #[derive(Clone, Copy, Debug, Default, PartialEq, Eq)]
 #[non_exhaustive]
 pub enum Polls {
-    /// Those by which an executor polls the task. The enter is one of these where
-    ///
-    /// - the thread is within no poll of another task,
-    /// - or is within what runs others: a `blocking` or `block_on` task within which a task was entered before that waited for
-    ///   its poll, as this one may now,
-    /// - or is within any other task, and the entered one is a `local` task that waits for its poll;
-    ///
-    /// and of what `block_on` runs, where the thread is the one that made it, within the same task as then.
-    ///
-    /// So one that is made by a thread outside of all tasks counts as a poll, as does one that a blocking call makes at a moment at
-    /// which the entered task waits for its poll.
+    /// Those by which tokio polls the task. It enters by the handle that it holds itself, as [`Rootless`](crate::Rootless) sees.
+    /// Without that around the layer, nothing tells its handle from others, and all enters are polls.
     #[default]
     Own,
     /// All, as tokio-console counts them.
     All,
 }
 
-/// Where the future of a `block_on` is polled.
-#[derive(Clone, Copy, Debug, PartialEq, Eq)]
-pub(crate) struct Home {
-    /// The number of the thread.
-    pub(crate) thread: u64,
-    /// The task that it is within.
-    pub(crate) within: Option<TaskId>,
-}
-
 /// A task that is told.
 #[derive(Debug)]
 pub(crate) struct Task {
     shared: SharedTask,
-    kind: Kind,
-    /// Where it was made.
-    home: Home,
-    /// Whether another task, which waited, was entered within this one.
-    runs_others: AtomicBool,
+    /// Whether tokio's handle of the span is told from others.
+    pub(crate) is_marked: bool,
 }
 
 impl Task {
-    pub(crate) fn new(shared: SharedTask, kind: Kind, home: Home) -> Task {
-        Task { shared, kind, home, runs_others: AtomicBool::new(false) }
+    pub(crate) fn new(shared: SharedTask, is_marked: bool) -> Task {
+        Task { shared, is_marked }
     }
 
     pub(crate) fn id(&self) -> TaskId {
         self.shared.id()
-    }
-
-    /// Whether an enter of the span is a poll of the task ([`Polls::Own`]): one by this thread, within a poll of that task.
-    pub(crate) fn is_polled(&self, thread: u64, within: Option<&Task>) -> bool {
-        match (self.kind, within) {
-            (Kind::BlockOn, _) => self.home == Home { thread, within: within.map(Task::id) },
-            (_, None) => true,
-            (_, Some(Task { kind: Kind::BlockOn | Kind::Blocking, runs_others, .. })) => {
-                if !runs_others.load(Ordering::Relaxed) && self.shared.is_scheduled() {
-                    runs_others.store(true, Ordering::Relaxed);
-                }
-                runs_others.load(Ordering::Relaxed)
-            }
-            (kind, Some(_)) => kind == Kind::Local && self.shared.is_scheduled(),
-        }
     }
 
     /// A poll starts. The answer is `false` where one is open.

@@ -112,6 +112,58 @@ fn a_call_within_the_span_of_a_task_is_no_poll() {
     assert_eq!(left_out.foreign(), 4);
 }
 
+#[test]
+fn a_thread_outside_of_all_tasks_polls_none() {
+    let console = Console::open(Settings::default());
+    let layer = TaskscopeLayer::new(&console);
+    let left_out = layer.left_out();
+    let subscriber = tracing::Dispatch::new(Rootless(tracing_subscriber::registry().with(layer)));
+    tracing::dispatcher::with_default(&subscriber, || {
+        let runtime = tokio::runtime::Builder::new_current_thread().build().expect("a runtime");
+        let task = async { tracing::Span::current() };
+        let span = runtime.block_on(async { spawn("task", task).await.expect("no panic") });
+        let waits = runtime.block_on(async {
+            let waits = spawn("waits", async { (tracing::Span::current(), yields(1).await).0 });
+            yields(1).await;
+            waits
+        });
+        // The first task has ended, and the second one waits for its poll.
+        for _ in 0..3 {
+            span.in_scope(|| ());
+        }
+        let waiting = runtime.block_on(async { waits.await.expect("no panic") });
+        waiting.in_scope(|| ());
+    });
+    let line = publish(&console);
+    for (name, polls) in [("task", 1), ("waits", 2)] {
+        let info = list(&line, "new_tasks").into_iter().find(|info| value(info, "name") == format!("\"{name}\""));
+        let row = common::task(&line, number(info.expect("the task"), "id"));
+        assert_eq!(number(row, "polls"), polls, "{name}");
+    }
+    assert_eq!(left_out.foreign(), 4, "{left_out}");
+}
+
+/// A task hands its span to a thread, which enters it while the task waits for its poll.
+#[test]
+fn a_thread_polls_no_task_that_waits_for_its_poll() {
+    let names = ["task"];
+    let work = async {
+        let (sender, receiver) = tokio::sync::oneshot::channel();
+        let task = spawn("task", async {
+            sender.send(tracing::Span::current()).expect("it is received");
+            yields(3).await;
+        });
+        // What `block_on` runs is polled between the polls of the task.
+        let span = receiver.await.expect("it is sent");
+        for _ in 0..2 {
+            span.in_scope(|| ());
+            yields(1).await;
+        }
+        task.await.expect("no panic");
+    };
+    assert_eq!(polls(Polls::Own, names, work), ([4], 2));
+}
+
 /// Local tasks are polled within a poll of what `block_on` runs.
 async fn local_tasks() {
     let local = tokio::task::LocalSet::new();

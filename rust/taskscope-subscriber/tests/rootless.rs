@@ -11,6 +11,7 @@ use tracing::field::{Field, Visit};
 use tracing::span::{Attributes, Id, Record};
 use tracing::{Dispatch, Event, Metadata, Subscriber};
 use tracing_subscriber::layer::{Context, Layer, SubscriberExt};
+use tracing_subscriber::reload;
 
 /// Runs a task that spawns another one and ends, and answers whether it was closed while the other one goes on.
 fn parent_is_closed(console: &Console, subscriber: impl Subscriber + Send + Sync) -> bool {
@@ -140,4 +141,18 @@ fn a_layer_hears_one_id_of_a_task() {
     let line = publish(&console);
     let row = list(&line, "task_stats")[0];
     assert_eq!((number(row, "clones"), number(row, "drops")), (1, 1), "{row}");
+}
+
+#[test]
+fn a_layer_that_is_not_found_tells_all_the_same() {
+    let console = Console::open(Settings::default());
+    let (layer, _handle) = reload::Layer::new(TaskscopeLayer::new(&console));
+    assert!(
+        parent_is_closed(&console, Rootless(tracing_subscriber::registry().with(layer))),
+        "spans are roots here too"
+    );
+    let line = common::snapshot(&console);
+    let polls = list(&line, "task_stats").iter().map(|row| number(row, "polls")).collect::<Vec<_>>();
+    assert_eq!(polls.len(), 3, "{line}");
+    assert!(polls.iter().all(|polls| *polls > 0), "all enters are polls: {line}");
 }
