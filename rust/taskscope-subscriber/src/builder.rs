@@ -283,7 +283,9 @@ fn install(subscriber: impl Subscriber + Send + Sync) -> io::Result<()> {
 /// Opens the output and publishes there. Then the switch of the layer is turned on.
 fn publish_until_exit(plan: Plan, output: &Output, switch: &Switch) -> io::Result<()> {
     let guard = plan.start(output)?;
-    switch.turn_on();
-    keep_until_exit(guard);
+    if guard.is_active() {
+        switch.turn_on();
+        keep_until_exit(guard);
+    }
     Ok(())
 }

@@ -86,7 +86,8 @@ impl Drop for Ends {
 #[derive(Debug)]
 #[must_use = "lines are published until this is dropped"]
 pub struct Guard {
-    control: Arc<Control>,
+    /// None where nothing is published.
+    control: Option<Arc<Control>>,
     left_out: Arc<LeftOut>,
 }
 
@@ -107,7 +108,13 @@ impl Plan {
     }
 
     /// Opens an output, and starts the thread that publishes there.
+    ///
+    /// Where no library is kept for the processor and the system, it does neither, and says so.
     pub(crate) fn start(self, output: &Output) -> io::Result<Guard> {
+        if !self.console.is_active() {
+            say("nothing is inspected, as taskscope has no library for this processor and system");
+            return Ok(Guard { control: None, left_out: self.left_out });
+        }
         let target = output.open(self.most)?;
         let control = Arc::new(Control { state: Mutex::default(), changed: Condvar::new(), process: process::id() });
         let filling = Arc::downgrade(&control);
@@ -124,14 +131,21 @@ impl Plan {
         };
         let ends = Ends(Arc::clone(&control));
         thread::Builder::new().name("taskscope".into()).spawn(move || publishing.run(&ends.0))?;
-        Ok(Guard { control, left_out })
+        Ok(Guard { control: Some(control), left_out })
     }
 }
 
 impl Guard {
     /// Writes a last line, and waits until it is written, for 2 seconds at most. What comes later is told no more.
     pub fn finish(&self) {
-        self.control.stop();
+        if let Some(control) = &self.control {
+            control.stop();
+        }
+    }
+
+    /// Whether lines are published.
+    pub(crate) fn is_active(&self) -> bool {
+        self.control.is_some()
     }
 
     /// What of the program's events no row has.

@@ -122,10 +122,10 @@ fn a_thread_outside_of_all_tasks_polls_none() {
         let runtime = tokio::runtime::Builder::new_current_thread().build().expect("a runtime");
         let task = async { tracing::Span::current() };
         let span = runtime.block_on(async { spawn("task", task).await.expect("no panic") });
-        let waits = runtime.block_on(async {
+        let (waits,) = runtime.block_on(async {
             let waits = spawn("waits", async { (tracing::Span::current(), yields(1).await).0 });
             yields(1).await;
-            waits
+            (waits,)
         });
         // The first task has ended, and the second one waits for its poll.
         for _ in 0..3 {
