@@ -24,7 +24,8 @@ use tracing_subscriber::registry::{LookupSpan, SpanRef};
 #[derive(Clone, Copy, Debug, Default, PartialEq, Eq)]
 #[non_exhaustive]
 pub enum Items {
-    /// Tasks alone. A lock or a channel costs what it costs without the layer.
+    /// Tasks alone. A lock or a channel costs what it costs without the layer, as tokio's spans of resources and operations are turned
+    /// off, for other layers too.
     #[default]
     Tasks,
     /// Tasks, resources and async operations. A lock or a channel costs many times as much, and each makes two items.
@@ -383,10 +384,11 @@ impl TaskscopeLayer {
         if source == Source::Task {
             self.heard.spans(metadata);
         }
-        if self.is_alone && !(self.switch.is_on() && source.is_told(self.items)) {
-            Interest::never()
-        } else {
+        let is_of_others = source == Source::Other && !self.is_alone;
+        if is_of_others || (self.switch.is_on() && source.is_told(self.items)) {
             Interest::always()
+        } else {
+            Interest::never()
         }
     }
 

@@ -233,3 +233,64 @@ impl<D: Door> Target for Readers<D> {
         self.readers.iter().any(|reader| !reader.waiting.is_empty())
     }
 }
+
+#[cfg(test)]
+mod tests {
+    use super::*;
+    use std::io::Read;
+
+    /// Readers that came, each once.
+    struct Came(Vec<UnixStream>);
+
+    impl Door for Came {
+        fn admit(&mut self, _readers: usize) -> io::Result<Option<Box<dyn End>>> {
+            Ok(self.0.pop().map(|stream| Box::new(stream) as Box<dyn End>))
+        }
+    }
+
+    /// A reader comes. What it reads is the other end.
+    fn come(readers: &mut Readers<Came>) -> UnixStream {
+        let (written, read) = UnixStream::pair().expect("two ends");
+        written.set_nonblocking(true).expect("an end");
+        readers.door.0.push(written);
+        read
+    }
+
+    fn all_of(mut read: UnixStream) -> String {
+        let mut text = String::new();
+        read.read_to_string(&mut text).expect("text");
+        text
+    }
+
+    #[test]
+    fn a_reader_that_can_not_join_is_let_go_and_the_others_stay() {
+        let mut readers = Readers::new(Came(Vec::new()), "a test".to_owned());
+        let first = come(&mut readers);
+        assert!(readers.needs_all(false), "the first one came");
+        readers.write(b"all\n", true);
+        let refused = come(&mut readers);
+        assert!(readers.needs_all(false), "another one came");
+        readers.refuse("as it should be");
+        readers.write(b"changes\n", false);
+        assert_eq!(all_of(refused), "", "the one that was refused");
+        let at_once = come(&mut readers);
+        assert!(!readers.needs_all(false), "no line is made that tells all for one that comes soon after");
+        assert_eq!(all_of(at_once), "", "the one that came soon after");
+        readers.write(b"more\n", false);
+        drop(readers);
+        assert_eq!(all_of(first), "all\nchanges\nmore\n", "the one that had joined");
+    }
+
+    #[test]
+    fn a_reader_that_is_gone_is_let_go_before_a_line() {
+        let mut readers = Readers::new(Came(Vec::new()), "a test".to_owned());
+        let goes = come(&mut readers);
+        assert!(readers.needs_all(false));
+        readers.write(b"all\n", true);
+        assert!(!readers.needs_all(false));
+        assert_eq!(readers.readers.len(), 1, "it is there");
+        drop(goes);
+        assert!(!readers.needs_all(false));
+        assert!(readers.readers.is_empty(), "it is gone");
+    }
+}

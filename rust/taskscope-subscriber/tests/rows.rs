@@ -5,13 +5,15 @@ mod common;
 use common::{list, number, publish, value, with_id};
 use std::future::Future;
 use std::mem::forget;
+use std::sync::atomic::{AtomicUsize, Ordering};
 use std::sync::{Arc, Mutex};
 use std::task::{Context, Poll, Waker};
 use std::time::Duration;
 use taskscope::{Console, Settings};
 use taskscope_subscriber::{Items, LeftOut, Rootless, TaskscopeLayer};
 use tracing::dispatcher::{set_default, with_default, Dispatch};
-use tracing_subscriber::layer::SubscriberExt;
+use tracing::span::{Attributes, Id};
+use tracing_subscriber::layer::{Context as LayerContext, Layer, SubscriberExt};
 
 /// Runs a future under a layer, and answers the line of what it did, and what was left out.
 fn inspected(items: Items, future: impl Future<Output = ()>) -> (String, Arc<LeftOut>) {
@@ -197,6 +199,32 @@ fn of_tasks_alone_nothing_else_is_told() {
     assert_eq!(list(&line, "new_tasks").len(), 2);
     assert!(list(&line, "new_resources").is_empty() && list(&line, "new_ops").is_empty(), "{line}");
     assert_eq!(left_out.to_string(), "nothing");
+}
+
+/// Counts the spans of resources and operations that tokio makes.
+struct CountsResources(Arc<AtomicUsize>);
+
+impl<S: tracing::Subscriber> Layer<S> for CountsResources {
+    fn on_new_span(&self, attributes: &Attributes<'_>, _: &Id, _: LayerContext<'_, S>) {
+        if attributes.metadata().name().starts_with("runtime.resource") {
+            self.0.fetch_add(1, Ordering::Relaxed);
+        }
+    }
+}
+
+#[test]
+fn of_tasks_alone_tokio_makes_no_spans_of_resources() {
+    for (items, has_spans) in [(Items::All, true), (Items::Tasks, false)] {
+        let console = Console::open(Settings::default());
+        let made = Arc::<AtomicUsize>::default();
+        let counts = CountsResources(Arc::clone(&made));
+        let layer = TaskscopeLayer::new(&console).items(items);
+        with_default(&Dispatch::new(Rootless(tracing_subscriber::registry().with(layer).with(counts))), || {
+            let runtime = tokio::runtime::Builder::new_current_thread().build().expect("a runtime");
+            runtime.block_on(async { *tokio::sync::Mutex::new(0).lock().await += 1 });
+        });
+        assert_eq!(made.load(Ordering::Relaxed) > 0, has_spans, "{items:?}");
+    }
 }
 
 /// A resource of a type that is not known, as tokio would tell of it.

@@ -36,6 +36,23 @@ fn a_line_tells_what_changed_since_the_one_before() {
 }
 
 #[test]
+fn a_snapshot_that_would_be_too_long_counts_as_none() {
+    let console = Console::open(Settings::default());
+    let told = console.task("told").open();
+    assert_eq!(number(&publish(&console), "seq"), 1);
+    let new = console.task("new").open();
+    let _ = told.wake_by_ref(Origin::Outside);
+    let line = snapshot(&Console::open(Settings::default()));
+    assert_eq!(console.snapshot_within(line.len()), Ok(None), "a line with items is longer than one without");
+    let line = publish(&console);
+    assert_eq!((number(&line, "seq"), value(&line, "snapshot")), (2, "false"));
+    assert_eq!(ids(&line, "new_tasks"), [new.id().value()], "what is new");
+    assert_eq!(ids(&line, "task_stats"), [told.id().value(), new.id().value()], "what changed");
+    let whole = console.snapshot_within(usize::MAX).expect("a line").expect("it is not too long");
+    assert_eq!(number(std::str::from_utf8(&whole).expect("text"), "seq"), 3);
+}
+
+#[test]
 fn what_changes_back_and_what_is_refused_is_not_told() {
     let console = Console::open(Settings::default());
     let resource = console.resource("Semaphore").kind("Sync").attr(Attr::new("permits", 2u64)).open();
