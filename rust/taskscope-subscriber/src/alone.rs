@@ -20,6 +20,10 @@ where
         self.0.interest(metadata)
     }
 
+    fn enabled(&self, metadata: &Metadata<'_>, _: Context<'_, S>) -> bool {
+        self.0.is_enabled(metadata)
+    }
+
     fn on_new_span(&self, attributes: &Attributes<'_>, id: &Id, ctx: Context<'_, S>) {
         self.0.make(attributes, id, ctx.span(id));
     }

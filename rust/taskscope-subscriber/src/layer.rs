@@ -384,12 +384,23 @@ impl TaskscopeLayer {
         if source == Source::Task {
             self.heard.spans(metadata);
         }
-        let is_of_others = source == Source::Other && !self.is_alone;
-        if is_of_others || (self.switch.is_on() && source.is_told(self.items)) {
+        if self.wants(source) {
             Interest::always()
         } else {
             Interest::never()
         }
+    }
+
+    /// Whether a span or an event is to be made. What is of tokio is so where it is told, and all else for other layers.
+    fn wants(&self, source: Source) -> bool {
+        match source {
+            Source::Other => !self.is_alone,
+            _ => self.switch.is_on() && source.is_told(self.items),
+        }
+    }
+
+    pub(crate) fn is_enabled(&self, metadata: &Metadata<'_>) -> bool {
+        self.wants(Source::of(metadata))
     }
 
     pub(crate) fn make<'a, S: LookupSpan<'a>>(
@@ -463,6 +474,10 @@ where
 {
     fn register_callsite(&self, metadata: &'static Metadata<'static>) -> Interest {
         self.interest(metadata)
+    }
+
+    fn enabled(&self, metadata: &Metadata<'_>, _: Context<'_, S>) -> bool {
+        self.is_enabled(metadata)
     }
 
     fn on_new_span(&self, attributes: &Attributes<'_>, id: &Id, ctx: Context<'_, S>) {

@@ -4,19 +4,21 @@
 mod common;
 
 use common::{list, number, value};
-use std::cell::RefCell;
+use std::cell::{Cell, RefCell};
 use std::collections::HashMap;
 use std::fmt::Debug;
 use std::sync::{Arc, Mutex};
 use std::task::{Context as PollContext, Poll, Waker};
 use std::time::Duration;
 use taskscope::{Console, Settings};
-use taskscope_subscriber::{Polls, Rootless, TaskscopeLayer};
+use taskscope_subscriber::{Items, Polls, Rootless, TaskscopeLayer};
 use tokio::task::yield_now;
 use tracing::dispatcher::{set_default, with_default, Dispatch};
 use tracing::field::{Field, Visit};
-use tracing::span::{Attributes, Id};
-use tracing::{Event, Instrument, Subscriber};
+use tracing::span::{Attributes, Id, Record};
+use tracing::subscriber::Interest;
+use tracing::{Event, Instrument, Metadata, Subscriber};
+use tracing_core::span::Current;
 use tracing_subscriber::layer::{Context, Layer, SubscriberExt};
 
 /// What was counted of one task.
@@ -141,6 +143,66 @@ impl<S: Subscriber> Layer<S> for Reference {
         if let Some((place, _)) = seen.open.remove(&id.into_u64()) {
             seen.tasks[place].is_closed = true;
         }
+    }
+}
+
+/// Hands one call on at a time, so that no other thread's call comes between those of two layers.
+struct InTurn<S>(S, Mutex<()>);
+
+impl<S> InTurn<S> {
+    /// A call within a call of the same thread has its turn.
+    fn take<R>(&self, call: impl FnOnce(&S) -> R) -> R {
+        thread_local!(static IS_WITHIN: Cell<bool> = const { Cell::new(false) });
+        if IS_WITHIN.with(|is_within| is_within.replace(true)) {
+            return call(&self.0);
+        }
+        let turn = self.1.lock().unwrap();
+        let answer = call(&self.0);
+        drop(turn);
+        IS_WITHIN.with(|is_within| is_within.set(false));
+        answer
+    }
+}
+
+impl<S: Subscriber> Subscriber for InTurn<S> {
+    fn register_callsite(&self, metadata: &'static Metadata<'static>) -> Interest {
+        self.0.register_callsite(metadata)
+    }
+
+    fn enabled(&self, metadata: &Metadata<'_>) -> bool {
+        self.0.enabled(metadata)
+    }
+
+    fn new_span(&self, attributes: &Attributes<'_>) -> Id {
+        self.take(|subscriber| subscriber.new_span(attributes))
+    }
+
+    fn record(&self, _: &Id, _: &Record<'_>) {}
+
+    fn record_follows_from(&self, _: &Id, _: &Id) {}
+
+    fn event(&self, event: &Event<'_>) {
+        self.take(|subscriber| subscriber.event(event));
+    }
+
+    fn enter(&self, id: &Id) {
+        self.take(|subscriber| subscriber.enter(id));
+    }
+
+    fn exit(&self, id: &Id) {
+        self.take(|subscriber| subscriber.exit(id));
+    }
+
+    fn clone_span(&self, id: &Id) -> Id {
+        self.take(|subscriber| subscriber.clone_span(id))
+    }
+
+    fn try_close(&self, id: Id) -> bool {
+        self.take(|subscriber| subscriber.try_close(id))
+    }
+
+    fn current_span(&self) -> Current {
+        self.0.current_span()
     }
 }
 
@@ -276,11 +338,11 @@ async fn work(takes_along: bool) {
 /// Ten runtimes under both layers, half of them with threads.
 fn counts_are_those_of_the_reference(polls: Polls) {
     let console = Console::open(Settings::default());
-    let layer = TaskscopeLayer::new(&console).polls(polls);
+    let layer = TaskscopeLayer::new(&console).items(Items::All).polls(polls);
     let left_out = layer.left_out();
     let reference = Reference::default();
     let subscriber = tracing_subscriber::registry().with(layer).with(reference.clone());
-    let subscriber = Dispatch::new(Rootless(subscriber));
+    let subscriber = Dispatch::new(InTurn(Rootless(subscriber), Mutex::default()));
     with_default(&subscriber, || {
         for round in 0..10 {
             let is_threaded = round % 2 == 0;

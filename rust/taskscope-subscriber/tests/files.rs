@@ -2,9 +2,11 @@
 //! lines in which nothing changed.
 
 mod common;
+#[path = "common/program.rs"]
+mod program;
 
-use common::program::{command, names, said, until, Folder, PROGRAM};
 use common::{list, number, value, Tables};
+use program::{command, names, said, until, Folder, PROGRAM};
 use std::fs;
 use std::path::{Path, PathBuf};
 use std::process::Stdio;

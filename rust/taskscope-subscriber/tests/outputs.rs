@@ -1,9 +1,11 @@
 //! Where lines go: files, pipes and sockets, readers that come late, that go away and that don't read, and a full disk.
 
 mod common;
+#[path = "common/program.rs"]
+mod program;
 
-use common::program::{command, names, said, until, Folder, PROGRAM};
 use common::value;
+use program::{command, names, said, until, Folder, PROGRAM};
 use std::fs::{self, File};
 use std::io::{BufRead, BufReader, ErrorKind, Read};
 use std::os::unix::net::{UnixListener, UnixStream};

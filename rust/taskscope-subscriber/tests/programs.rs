@@ -1,9 +1,11 @@
 //! Programs of many kinds under `init`: of the tasks that were spawned the stream has as many polls as a future around each counted.
 
 mod common;
+#[path = "common/program.rs"]
+mod program;
 
-use common::program::{command, ran, Folder, PROGRAM};
 use common::{number, value, Tables};
+use program::{command, ran, Folder, PROGRAM};
 use std::fs;
 use std::future::{pending, Future};
 use std::path::Path;

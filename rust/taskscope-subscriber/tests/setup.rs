@@ -2,8 +2,10 @@
 //! is wrong is said once, with what to do.
 
 mod common;
+#[path = "common/program.rs"]
+mod program;
 
-use common::program::{command, names, ran, Folder, PROGRAM};
+use program::{command, names, ran, Folder, PROGRAM};
 use std::fs;
 use std::path::Path;
 use taskscope_subscriber::{Builder, Output, Rootless};

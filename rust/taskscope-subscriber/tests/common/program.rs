@@ -1,6 +1,9 @@
 //! Folders, streams, and programs that tests run: a test file runs itself again, as a program that variables inspect.
 
-use super::{number, value, Tables};
+// Each test file is a program of its own, and uses a part of these.
+#![allow(dead_code)]
+
+use crate::common::{number, value, Tables};
 use std::fs;
 use std::path::{Path, PathBuf};
 use std::process::Command;
