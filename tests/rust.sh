@@ -12,7 +12,9 @@
 # many poll operations, and `lint` the two warnings that are due and no other. `view` must take the streams of the tests with threads too.
 #
 # Of rust/taskscope-subscriber it runs the tests, then tokio's echo server: `view` must tell of as many polls and tasks as the runtime's own
-# metrics; and a program with three faults, of which `lint` must warn and of no other.
+# metrics; a program with three faults, of which `lint` must warn and of no other; and one that logs and hands its requests on, of which
+# `lint` must warn of nothing. It pastes the program of the README. A build without tokio's flag, one without tokio's feature and one without
+# the archive must each say so once.
 #
 # It works on a copy of rust/ and without network, over the crates that Debian's packages have: cargo, rustc, librust-tokio-dev,
 # librust-tracing-dev, librust-tracing-subscriber-dev. Where one is missing it tries to install it by apt-get. Where it can't, it says so
@@ -393,11 +395,95 @@ times_agree() {
     grep "^warn $id long-poll " "$work/warnings"
 }
 
+# Those that accepted a request have ended, and those that answer one sleep. The logs have the program's own spans alone.
+requests_are_fine() {
+    TASKSCOPE_STREAM=$work/requests.stream "$unstable/debug/examples/requests" > "$work/logs" || return 1
+    view "$work/requests.stream" "$work/report" || return 1
+    "$root/taskscope" lint < "$work/requests.stream" || return 1
+    [ "$(grep -c '^task .* spawn closed polls 2 ' "$work/report")" -eq 5 ] &&
+        [ "$(grep -c '^task .* spawn idle polls 1 .* clones 1 drops 0 ' "$work/report")" -eq 5 ] &&
+        [ "$(grep -c 'request{number=[1-5]}: requests: begun' "$work/logs")" -eq 5 ] && ! grep -q runtime.spawn "$work/logs" || {
+        cat "$work/logs" "$work/report"
+        return 1
+    }
+}
+
+# A package of its own beside the subscriber: its name, what tokio has, and its program.
+make_package() {
+    mkdir -p "$work/$1/src" && cp "$3" "$work/$1/src/main.rs" || return 1
+    cat > "$work/$1/Cargo.toml" << END
+[package]
+name = "$1"
+version = "0.1.0"
+edition = "2021"
+
+[workspace]
+
+[dependencies]
+taskscope-subscriber = { path = "$work/rust/taskscope-subscriber" }
+tokio = { version = "1", features = [$2] }
+tracing = { version = "0.1", default-features = false, features = ["std"] }
+tracing-subscriber = { version = "0.3", default-features = false, features = ["env-filter", "fmt"] }
+END
+}
+
+# What the first page of the README says of its program, but for the nanoseconds.
+subscriber_page_holds() {
+    page=$work/rust/taskscope-subscriber/README.md
+    awk '/^```rust/ { inside = 1; next } /^```/ && inside { exit } inside' "$page" > "$work/main.rs"
+    make_package page '"full", "tracing"' "$work/main.rs" &&
+        CARGO_TARGET_DIR=$unstable RUSTFLAGS='--cfg tokio_unstable' TASKSCOPE_LIB=$work/new over_debian_in "$work/page" build &&
+        (cd "$work/page" && TASKSCOPE_STREAM=program.stream "$unstable/debug/page") &&
+        view "$work/page/program.stream" "$work/report" || return 1
+    for list in "$work/report" "$page"; do
+        sed -n 's/^\(task [0-9.]* [a-z]* [a-z]* polls [0-9]*\) .* \(name .*\)$/\1 \2/p' "$list"
+    done | sort | uniq -c | awk '{ rows++ } $1 != 2 { bad = 1; print } END { exit bad || rows != 2 }' || return 1
+    "$root/taskscope" lint --long-poll 100 < "$work/page/program.stream" > "$work/warnings"
+    [ $? -eq 3 ] && grep -q '^warn 1.2 long-poll 2[0-9]*$' "$work/warnings" && [ "$(wc -l < "$work/warnings")" -eq 1 ]
+}
+
+# A program runs to its end, and says one line on standard error that begins so.
+says_once() {
+    TASKSCOPE_STREAM=$work/said.stream "$1" > "$work/logs" 2> "$work/said"
+    status=$?
+    cat "$work/said"
+    [ "$status" -eq 0 ] && [ "$(wc -l < "$work/said")" -eq 1 ] && grep -q "^taskscope: $2" "$work/said"
+}
+
+unflagged_is_said() {
+    (
+        CARGO_TARGET_DIR=$CARGO_TARGET_DIR/unflagged
+        export CARGO_TARGET_DIR
+        RUSTFLAGS='' TASKSCOPE_LIB=$work/new over_debian_in "$work/rust/taskscope-subscriber" build --example requests &&
+            says_once "$CARGO_TARGET_DIR/debug/examples/requests" 'nothing is told of tokio, as the program is built without `--cfg tokio_unstable`'
+    )
+}
+
+untraced_is_said() {
+    make_package untraced '"macros", "rt-multi-thread", "time"' "$root/rust/taskscope-subscriber/examples/requests.rs" &&
+        CARGO_TARGET_DIR=$unstable RUSTFLAGS='--cfg tokio_unstable' TASKSCOPE_LIB=$work/new over_debian_in "$work/untraced" build &&
+        says_once "$unstable/debug/untraced" 'tokio has told of no task. If the program has one, tokio needs its feature `tracing`'
+}
+
+# The program logs all the same, and no file is made.
+inactive_is_said() {
+    rm -f "$work/said.stream"
+    CARGO_TARGET_DIR=$unstable/none RUSTFLAGS='--cfg tokio_unstable' TASKSCOPE_LIB=none \
+        over_debian_in "$work/rust/taskscope-subscriber" build --example requests &&
+        says_once "$unstable/none/debug/examples/requests" 'nothing is inspected, as taskscope has no library' &&
+        [ "$(grep -c 'request{number=[1-5]}: requests: begun' "$work/logs")" -eq 5 ] && [ ! -e "$work/said.stream" ]
+}
+
 if step 'the tests of the subscriber pass' try_subscriber; then
     step 'the echo server has the polls that its metrics have' echo_agrees
     step 'the warnings of the three faults are due' faults_are_warned_of
     step 'the times of a task that starves others are told' times_agree
+    step 'a program that logs and hands its requests on has no warning' requests_are_fine
 fi
+step 'the first page of the subscriber can be pasted, and is viewed as it says' subscriber_page_holds
+step "a build without tokio's flag says so" unflagged_is_said
+step "a build without tokio's feature says so" untraced_is_said
+step 'a build without the archive says so' inactive_is_said
 step 'the documentation of the subscriber has no warning' document_subscriber
 if cargo fmt --version > "$work/said" 2>&1; then
     step 'the sources of the subscriber are formatted' sh -c "cd '$work/rust/taskscope-subscriber' && cargo fmt --check"

@@ -102,7 +102,7 @@ impl Builder {
     /// The settings that the environment says, by the variables in the [head](crate#variables) of this crate.
     ///
     /// # Errors
-    /// [`InvalidInput`](ErrorKind::InvalidInput) where a variable has a value that it can't have.
+    /// [`InvalidInput`](ErrorKind::InvalidInput) if a variable has a value that it can't have.
     pub fn from_env() -> io::Result<Builder> {
         let mut builder = Builder::new();
         builder.output = env::var_os("TASKSCOPE_STREAM").filter(|value| !value.is_empty()).map(named).transpose()?;
@@ -207,22 +207,22 @@ impl Builder {
     /// ```
     ///
     /// # Errors
-    /// [`InvalidInput`](ErrorKind::InvalidInput) for an interval of 0. Else where the output can't be opened, as the text says with its
-    /// path, or the thread not be started.
+    /// [`InvalidInput`](ErrorKind::InvalidInput) for an interval of 0. Otherwise if the output can't be opened, as the text says with its
+    /// path, or the thread can't be started.
     pub fn layer(self, output: Output) -> io::Result<(TaskscopeLayer, Guard)> {
         let (layer, plan) = self.open(&Switch::default())?;
         Ok((layer, plan.start(&output)?))
     }
 
     /// Makes a layer the subscriber of the whole program, and publishes until the process ends by `exit` or by the end of `main`,
-    /// which waits 2 seconds at most for the last line. Where there is no output, nothing is installed.
+    /// which waits 2 seconds at most for the last line. If there is no output, nothing is installed.
     ///
     /// A program that logs by `tracing` has a subscriber already: see [`init_with`](Builder::init_with).
     ///
     /// # Errors
-    /// [`InvalidInput`](ErrorKind::InvalidInput) for an interval of 0, and [`AlreadyExists`](ErrorKind::AlreadyExists) where the program
-    /// has a subscriber already: then nothing is opened. Where the output can't be opened, as the text says with its path, or the
-    /// thread not be started, the subscriber stays, hears nothing, and costs nothing.
+    /// [`InvalidInput`](ErrorKind::InvalidInput) for an interval of 0, and [`AlreadyExists`](ErrorKind::AlreadyExists) if the program
+    /// has a subscriber already: then nothing is opened. If the output can't be opened, as the text says with its path, or the thread
+    /// can't be started, the subscriber stays, hears nothing, and costs nothing.
     pub fn init(mut self) -> io::Result<()> {
         let output = match self.output.take() {
             Some(output) => output,
@@ -235,8 +235,8 @@ impl Builder {
     }
 
     /// Makes the subscriber of a program that logs: `logs` are its layers, as `fmt::layer()`, with their filters. A layer that inspects
-    /// the program stands beside them, and all else is as of [`init`](Builder::init). Where there is no output, the program logs, and
-    /// is not inspected.
+    /// the program stands beside them, and all else is as of [`init`](Builder::init). If there is no output, the program logs, and is
+    /// not inspected.
     ///
     /// A filter among `logs` holds for them alone, and they don't hear what [`is_of_tokio`](crate::is_of_tokio) says.
     ///
@@ -247,13 +247,13 @@ impl Builder {
     /// fn main() -> std::io::Result<()> {
     ///     let logs = EnvFilter::new("info").and_then(fmt::layer());
     ///     Builder::from_env()?.init_with(logs)?;
-    ///     tracing::info!("the program logs, and is inspected where TASKSCOPE_STREAM says so");
+    ///     tracing::info!("the program logs, and is inspected if TASKSCOPE_STREAM says so");
     ///     Ok(())
     /// }
     /// ```
     ///
     /// # Errors
-    /// As of [`init`](Builder::init). Where the output can't be opened, or the thread not be started, the program logs all the same.
+    /// As of [`init`](Builder::init). If the output can't be opened, or the thread can't be started, the program logs all the same.
     pub fn init_with<L>(mut self, logs: L) -> io::Result<()>
     where
         L: Layer<Registry> + Send + Sync + 'static,

@@ -116,7 +116,7 @@ impl Source {
     }
 }
 
-/// Whether a span or an event is one of tokio's that a [`TaskscopeLayer`] reads: a filter for the layer where it stands beside
+/// Whether a span or an event is one of tokio's that a [`TaskscopeLayer`] reads: a filter for the layer if it stands beside
 /// others.
 pub fn is_of_tokio(metadata: &Metadata<'_>) -> bool {
     Source::of(metadata) != Source::Other

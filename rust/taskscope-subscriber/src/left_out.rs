@@ -3,7 +3,7 @@
 use std::fmt;
 use std::sync::atomic::{AtomicU64, Ordering};
 
-/// What of a program's events no row has, counted by kind. All are 0 where the rows have everything.
+/// What of a program's events no row has, counted by kind. All are 0 if the rows have everything.
 ///
 /// It is displayed as the kinds that are not 0: `late 12, unsayable 1`, or `nothing`.
 #[derive(Debug, Default)]

@@ -1,7 +1,15 @@
 //! Inspects a tokio program by one line in its `main`.
 //!
 //! ```no_run
-//! taskscope_subscriber::init();
+//! use std::time::Duration;
+//!
+//! #[tokio::main]
+//! async fn main() {
+//!     taskscope_subscriber::init();
+//!     let fetch = tokio::spawn(tokio::time::sleep(Duration::from_millis(20)));
+//!     let index = tokio::spawn(async { std::thread::sleep(Duration::from_millis(200)) });
+//!     let _ = tokio::join!(fetch, index);
+//! }
 //! ```
 //!
 //! The program is built with tokio's feature `tracing` and with `--cfg tokio_unstable`, and is started with a variable that says
@@ -9,11 +17,12 @@
 //!
 //! ```sh
 //! RUSTFLAGS="--cfg tokio_unstable" cargo build
-//! TASKSCOPE_STREAM=program.stream ./program
+//! TASKSCOPE_STREAM=program.stream target/debug/program
 //! taskscope view < program.stream
 //! ```
 //!
-//! - [`init`] reads the variables. [`Builder`] says the same in the program, and [`Output`] where lines go.
+//! - [`init`] reads the variables, and [`init_with`] does so for a program that logs. [`Builder`] says the same in the program, and
+//!   [`Output`] where lines go.
 //! - [`TaskscopeLayer`] stands beside other layers, with [`Rootless`] around them; [`Items`] and [`Polls`] say what it tells, and
 //!   [`is_of_tokio`] what it reads. [`Guard`] is the thread that publishes.
 //! - [`LeftOut`] counts what of the program's events no row has.
@@ -22,10 +31,11 @@
 //!
 //! | Variable | What it says | Without it |
 //! |---|---|---|
-//! | `TASKSCOPE_STREAM` | where lines go: the path of a file or of a pipe (`mkfifo`), `unix:PATH` for a socket, or `stderr` | nothing is inspected, and nothing costs more |
-//! | `TASKSCOPE_INTERVAL_MS` | milliseconds from one line to the next | 100 |
-//! | `TASKSCOPE_ITEMS` | `tasks`: resources and operations are not told, and locks and channels cost no more; or `all` | `all` |
+//! | `TASKSCOPE_STREAM` | where lines go: the path of a file or of a pipe (`mkfifo`), `unix:PATH` for a socket, or `stderr`. In a path `%p` is the number of the process | nothing is inspected, and nothing costs more |
+//! | `TASKSCOPE_INTERVAL_MS` | milliseconds from one line to the next, from 1 on | 100 |
+//! | `TASKSCOPE_ITEMS` | `all`: resources and operations are told too, and locks and channels cost many times as much; or `tasks` | `tasks` |
 //! | `TASKSCOPE_TIMES` | `on`: a histogram of how long its polls ran is kept of each task, for `view --times` and `lint --long-poll`; or `off` | `on` |
+//! | `TASKSCOPE_MAX_BYTES` | how many bytes a file has, until it is kept with `.1` after its name and begun anew | a file grows for as long as the program runs |
 //! | `TASKSCOPE_RETENTION_MS` | milliseconds that an item stays in the tables after its close; or `none`: for good | 60000 |
 //! | `TASKSCOPE_CAPACITY` | how many new items each of the 16 recorders holds until the next line | 65536 |
 //!
@@ -33,12 +43,12 @@
 //!
 //! | tokio says | What is told |
 //! |---|---|
-//! | a span `runtime.spawn` is made | a task. Its name is its place where it has none. `task` and `local` are of kind `spawn`, `blocking` and `block_on` of kind `blocking` |
-//! | it is entered and left | a poll starts and ends, where it is one of the task ([`Polls`]) |
-//! | it is closed | the task is closed |
+//! | a span `runtime.spawn` is made | a task. If it has no name, its place is its name. `task` and `local` are of kind `spawn`, `blocking` and `block_on` of kind `blocking` |
+//! | it is entered and left | a poll starts and ends, if it is one of the task ([`Polls`]) |
+//! | it is closed, or in [`Rootless`] before that the task's future is dropped | the task is closed |
 //! | `waker.clone`, `waker.drop` | a waker is cloned, dropped |
-//! | `waker.wake_by_ref`, `waker.wake` | a wake, and by value also a drop; from within where this thread is within a poll of the task |
-//! | the same once the span is closed | nothing: `late` in [`LeftOut`] |
+//! | `waker.wake_by_ref`, `waker.wake` | a wake, and by value also a drop; from within if this thread is within a poll of the task |
+//! | the same once the task is closed | nothing: `late` in [`LeftOut`] |
 //! | a span `runtime.resource`, `runtime.resource.async_op` | a resource, an operation of the innermost resource. The parent is the innermost of its kind |
 //! | a span `runtime.resource.async_op.poll` is entered and left | a poll of the operation, by the task that the thread polls, starts and ends |
 //! | `poll_op` | a poll operation of the innermost resource |
@@ -84,7 +94,7 @@ use tracing_subscriber::registry::Registry;
 /// Inspects the program as the environment says, by the variables in the [head](crate#variables) of this crate. It is the first line
 /// of `main`, as tasks that were spawned before are not told. A program that logs by `tracing` calls [`init_with`] in its place.
 ///
-/// Where that can't be done, as a variable has a wrong value or a file can't be made, it says so on standard error, and the program
+/// If that can't be done, as a variable has a wrong value or a file can't be made, it says so on standard error, and the program
 /// goes on without.
 pub fn init() {
     say_if_failed(Builder::from_env().and_then(Builder::init));
@@ -98,11 +108,11 @@ pub fn init() {
 ///
 /// fn main() {
 ///     taskscope_subscriber::init_with(fmt::layer().with_filter(EnvFilter::new("info")));
-///     tracing::info!("the program logs, and is inspected where TASKSCOPE_STREAM says so");
+///     tracing::info!("the program logs, and is inspected if TASKSCOPE_STREAM says so");
 /// }
 /// ```
 ///
-/// Where the program can't be inspected, it says so on standard error, and the program logs all the same. Records of the crate `log`
+/// If the program can't be inspected, it says so on standard error, and the program logs all the same. Records of the crate `log`
 /// are events of `tracing` after `tracing_log::LogTracer::init`.
 pub fn init_with<L>(logs: L)
 where

@@ -20,12 +20,11 @@ use tracing_subscriber::registry::{LookupSpan, Registry};
 ///
 /// A registry closes no span before its children, nor while a handle of it is held. So without this a task that opened a span, or
 /// whose span another one took along, would seem to live on, idle and without wakers, until that other one ends. With it a task is
-/// closed when it ends, also where a span of the program is its span's child, contextual or by name, and where its span is held or
-/// was taken along by `in_current_span`.
+/// closed when it ends, whoever holds its span, made it the parent of others, or took it along by `in_current_span`.
 ///
 /// The program's own spans keep their parents, and all layers hear the registry's ids. It is so over the [`Registry`] of
-/// `tracing-subscriber` alone, and where [`Subscriber::downcast_ref`](tracing_core::Subscriber) finds the layer, which it doesn't
-/// behind a `reload::Layer`: there the span's end is the task's.
+/// `tracing-subscriber` alone, and if `downcast_ref` of the subscriber finds the layer. Behind a `reload::Layer` it doesn't: there the
+/// span's end is the task's.
 #[derive(Debug)]
 pub struct Rootless<S>(pub S);
 

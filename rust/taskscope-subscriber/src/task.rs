@@ -7,7 +7,7 @@ use taskscope::{Origin, SharedTask, TaskId};
 /// Which enters of a task's span are polls of the task.
 ///
 /// A future that takes along the span of the task which spawned it, by `in_current_span` or `instrument`, enters that task's span
-/// too when it is polled itself. So does a call on another thread, by `in_scope`. This is where the layer stands beside others: with
+/// too when it is polled itself. So does a call on another thread, by `in_scope`. This is so if the layer stands beside others: with
 /// [`init`](crate::init) there is no current span, so nothing takes one along.
 #[derive(Clone, Copy, Debug, Default, PartialEq, Eq)]
 #[non_exhaustive]

@@ -2,7 +2,7 @@
 //!
 //! Usage: taskscope-bench-tokio [PLAIN]   measures, and writes a table to standard output. PLAIN is this program, built with
 //!                                        `--no-default-features`: tokio without its feature `tracing`.
-//!        taskscope-bench-tokio MODE      measures one column: `none`, `registry`, `untimed`, `tasks` or `all`.
+//!        taskscope-bench-tokio MODE      measures one column: `none`, `registry`, `untimed`, `tasks`, `all`, `beside` or `with`.
 //!
 //! Figures are nanoseconds of processor time, of the thread that does the work, or with workers of the whole process, which has the
 //! publishing thread too: each the least of some rounds, as other programs of the machine take its caches in between.
@@ -16,7 +16,17 @@ use std::task::{Context, Poll, Waker};
 use tokio::runtime::{Builder, Runtime};
 use tokio::sync::{mpsc, oneshot, Mutex};
 
-const MODES: [&str; 5] = ["none", "registry", "untimed", "tasks", "all"];
+/// The modes, and below what their columns are called.
+const MODES: [&str; 7] = ["none", "registry", "untimed", "tasks", "all", "beside", "with"];
+const NAMES: [&str; 7] = [
+    "no subscriber",
+    "bare registry",
+    "tasks without histograms",
+    "tasks alone",
+    "all items",
+    "tasks beside others",
+    "tasks by `init_with`",
+];
 const ROUNDS: usize = 9;
 
 /// The processor time of this thread, or of the process.
@@ -144,14 +154,22 @@ fn measure() -> std::io::Result<()> {
 
 #[cfg(feature = "tracing")]
 fn install(mode: &str) -> std::io::Result<()> {
-    use taskscope_subscriber::{Builder, Items, Output};
-    use tracing_subscriber::util::SubscriberInitExt;
-    let builder = Builder::new().output(Output::File("/dev/null".into())).retention(std::time::Duration::ZERO);
+    use taskscope_subscriber::{Builder, Items, Output, Rootless};
+    use tracing_subscriber::{layer::Identity, prelude::*};
+    let output = Output::File("/dev/null".into());
+    let builder = Builder::new().output(output.clone()).retention(std::time::Duration::ZERO);
     match mode {
         "registry" => tracing_subscriber::registry().init(),
         "untimed" => builder.items(Items::Tasks).times(false).init()?,
         "tasks" => builder.items(Items::Tasks).init()?,
         "all" => builder.items(Items::All).init()?,
+        "beside" => {
+            let (layer, guard) = builder.layer(output)?;
+            // Lines are published to the end.
+            std::mem::forget(guard);
+            Rootless(tracing_subscriber::registry().with(layer)).init();
+        }
+        "with" => builder.init_with(Identity::new())?,
         _ => {}
     }
     Ok(())
@@ -185,7 +203,7 @@ fn main() -> std::io::Result<()> {
         columns.push(column(&plain, "none")?);
         names.push("without the feature");
     }
-    for (mode, name) in MODES.iter().zip(["no subscriber", "bare registry", "tasks without histograms", "tasks alone", "all items"]) {
+    for (mode, name) in MODES.iter().zip(NAMES) {
         columns.push(column(&this, mode)?);
         names.push(name);
     }
