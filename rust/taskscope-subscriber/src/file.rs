@@ -1,6 +1,7 @@
 //! A file that has whole lines alone, and those of one process.
 
 use crate::output::{say, Notice, Target};
+use std::env;
 use std::ffi::OsString;
 use std::fmt::Display;
 use std::fs::{self, File, OpenOptions};
@@ -104,8 +105,9 @@ impl Rewindable {
     /// Opens the file of a path. Once it has `most` bytes it is begun anew.
     pub(crate) fn open(path: &Path, most: Option<u64>) -> io::Result<Rewindable> {
         let notice = Notice::new(path.display().to_string());
-        // What a link names is kept, and not the link.
-        let path = fs::canonicalize(path).unwrap_or_else(|_| path.to_owned());
+        // What a link names is kept, and not the link; and the program may change its folder.
+        let whole = || env::current_dir().map_or_else(|_| path.to_owned(), |folder| folder.join(path));
+        let path = fs::canonicalize(path).unwrap_or_else(|_| whole());
         Ok(Rewindable { file: open(&path)?, path, len: 0, first_len: 0, most, state: Writing::Goes, notice })
     }
 

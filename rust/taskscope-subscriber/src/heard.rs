@@ -1,5 +1,6 @@
 //! Whether tokio tells of any task, and if not, why.
 
+use crate::item::lock;
 use crate::layer::TaskscopeLayer;
 use crate::output::say;
 use std::sync::atomic::{AtomicBool, Ordering};
@@ -33,7 +34,7 @@ pub(crate) struct Heard {
     is_said: AtomicBool,
 }
 
-/// Says it where the program is built without the flag by which tokio tells anything.
+/// Says it if the program is built without the flag by which tokio tells anything.
 pub(crate) fn say_if_unflagged() {
     static SAID: Once = Once::new();
     if cfg!(not(tokio_unstable)) {
@@ -52,7 +53,7 @@ impl Heard {
 
     /// Whether spans like these are wanted was asked of the layer.
     pub(crate) fn spans(&self, metadata: &'static Metadata<'static>) {
-        *crate::item::lock(&self.spans) = Some(metadata);
+        *lock(&self.spans) = Some(metadata);
     }
 
     /// Whether a filter turns off spans of tasks, for certain.
@@ -62,7 +63,7 @@ impl Heard {
         if level != LevelFilter::OFF && level < LevelFilter::TRACE {
             return true;
         }
-        let spans = *crate::item::lock(&self.spans);
+        let spans = *lock(&self.spans);
         spans.map_or(false, |spans| {
             get_default(|subscriber| {
                 let layer = subscriber.downcast_ref::<TaskscopeLayer>();
@@ -79,7 +80,7 @@ impl Heard {
         }
         let why = if self.is_filtered() {
             FILTERED
-        } else if (is_last || span >= LIKELY) && crate::item::lock(&self.spans).is_none() {
+        } else if (is_last || span >= LIKELY) && lock(&self.spans).is_none() {
             UNHEARD
         } else {
             return;

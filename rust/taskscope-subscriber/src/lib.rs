@@ -31,7 +31,7 @@
 //!
 //! | Variable | What it says | Without it |
 //! |---|---|---|
-//! | `TASKSCOPE_STREAM` | where lines go: the path of a file or of a pipe (`mkfifo`), `unix:PATH` for a socket, or `stderr`. In a path `%p` is the number of the process | nothing is inspected, and nothing costs more |
+//! | `TASKSCOPE_STREAM` | where lines go: the path of a file or of a pipe (`mkfifo`), `unix:PATH` for a socket, or `stderr`. In a path `%p` is the process id | nothing is inspected, and nothing costs more |
 //! | `TASKSCOPE_INTERVAL_MS` | milliseconds from one line to the next, from 1 on | 100 |
 //! | `TASKSCOPE_ITEMS` | `all`: resources and operations are told too, and locks and channels cost many times as much; or `tasks` | `tasks` |
 //! | `TASKSCOPE_TIMES` | `on`: a histogram of how long its polls ran is kept of each task, for `view --times` and `lint --long-poll`; or `off` | `on` |

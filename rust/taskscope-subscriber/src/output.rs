@@ -12,7 +12,7 @@ use std::path::{Path, PathBuf};
 
 /// Where the lines of the stream go.
 ///
-/// In each path `%p` stands for the number of the process, so that several processes with the same settings have a stream each.
+/// In each path `%p` stands for the process id, so that several processes with the same settings have a stream each.
 #[derive(Clone, Debug, PartialEq, Eq)]
 #[non_exhaustive]
 pub enum Output {
@@ -42,7 +42,7 @@ fn scheme(text: &str) -> Option<&str> {
     is_one.then_some(scheme)
 }
 
-/// A path with the number of this process in the place of each `%p`.
+/// A path with the id of this process in the place of each `%p`.
 fn expanded(path: &Path) -> PathBuf {
     let process = std::process::id().to_string();
     let mut rest = path.as_os_str().as_bytes();
@@ -77,7 +77,7 @@ impl Output {
         }
     }
 
-    /// The same with the number of this process in its path.
+    /// The same with the id of this process in its path.
     fn expanded(&self) -> Output {
         match self {
             Output::File(path) => Output::File(expanded(path)),

@@ -55,6 +55,9 @@ impl Inspected {
 
 // What follows runs this program again, as one that a variable inspects.
 
+/// The variable with the path of a file for which the program waits.
+const UNTIL: &str = "TASKSCOPE_TEST_UNTIL";
+
 /// The program, where it is asked for by the variable. It ends by `exit`.
 #[test]
 fn program() {
@@ -67,8 +70,8 @@ fn program() {
     runtime.block_on(async {
         let spawn = |name| tokio::task::Builder::new().name(name).spawn(std::future::ready(())).expect("a runtime");
         spawn(&how).await.expect("no panic");
-        if how == "long" {
-            tokio::time::sleep(Duration::from_millis(600)).await;
+        if let Some(path) = std::env::var_os(UNTIL) {
+            until(|| Path::new(&path).exists());
             spawn("told last").await.expect("no panic");
         }
     });
@@ -98,27 +101,29 @@ fn a_stream_that_stands_there_is_kept_once() {
 fn the_stream_of_another_process_is_left_alone() {
     let folder = Folder::new();
     let path = folder.path("stream");
-    let stream = [("TASKSCOPE_STREAM", path.as_path())];
-    let first = command("", "long", &stream).stderr(Stdio::piped()).spawn().expect("it runs");
-    until(|| fs::read_to_string(&path).map_or(false, |lines| lines.contains("\"long\"")));
-    let second = said(command("", "second", &stream));
+    let goes_on = folder.path("goes on");
+    let variables = [("TASKSCOPE_STREAM", path.as_path()), (UNTIL, goes_on.as_path())];
+    let first = command("", "first", &variables).stderr(Stdio::piped()).spawn().expect("it runs");
+    until(|| fs::read_to_string(&path).map_or(false, |lines| lines.contains("\"first\"")));
+    let second = said(command("", "second", &variables[..1]));
+    fs::write(goes_on, "").expect("a file");
     let wanted =
         format!("taskscope: nothing is inspected: {}: another process writes its stream there", path.display());
     assert!(second.starts_with(&wanted) && second.contains("`%p`"), "{second}");
     assert_eq!(first.wait_with_output().expect("it ends").status.code(), Some(7));
-    assert_eq!(names(&read(&path)), ["long", "told last"]);
+    assert_eq!(names(&read(&path)), ["first", "told last"]);
     assert!(!older(&path).exists(), "nothing was kept");
 }
 
 #[test]
-fn each_process_has_a_file_of_its_number() {
+fn each_process_has_a_file_of_its_id() {
     let folder = Folder::new();
     let path = folder.path("stream-%p.%p");
     let start = |how| command("", how, &[("TASKSCOPE_STREAM", &path)]).spawn().expect("it runs");
     for (how, mut child) in [("first", start("first")), ("second", start("second"))] {
-        let number = child.id();
+        let id = child.id();
         assert_eq!(child.wait().expect("it ends").code(), Some(7), "{how}");
-        assert_eq!(names(&read(&folder.path(&format!("stream-{number}.{number}")))), [how]);
+        assert_eq!(names(&read(&folder.path(&format!("stream-{id}.{id}")))), [how]);
     }
 }
 
@@ -176,13 +181,13 @@ fn at_least_half_of_a_file_is_no_line_that_tells_all() {
 fn nothing_is_written_while_nothing_changes_but_once_in_a_second() {
     let folder = Folder::new();
     let path = folder.path("stream");
-    let inspected = Inspected::start(Builder::new().interval(OFTEN), &path);
     let started = Instant::now();
-    sleep(Duration::from_millis(2_500));
-    let seconds = started.elapsed().as_secs() as usize;
-    let lines = read(&path).lines().count();
+    let inspected = Inspected::start(Builder::new().interval(OFTEN), &path);
+    let lines = || read(&path).lines().count();
+    until(|| lines() >= 3);
     // The first line, and one each second from then on.
-    assert!((3..=1 + seconds).contains(&lines), "{lines} lines in {seconds} seconds");
+    let (lines, seconds) = (lines(), started.elapsed().as_secs() as usize);
+    assert!(lines <= 1 + seconds, "{lines} lines in {seconds} seconds");
     inspected.run(["told at once"]);
     until(|| read(&path).contains("told at once"));
     inspected.guard.finish();
