@@ -444,10 +444,10 @@ subscriber_page_holds() {
 
 # A program runs to its end, and says one line on standard error that begins so.
 says_once() {
-    TASKSCOPE_STREAM=$work/said.stream "$1" > "$work/logs" 2> "$work/said"
+    TASKSCOPE_STREAM=$work/said.stream "$1" > "$work/logs" 2> "$work/words"
     status=$?
-    cat "$work/said"
-    [ "$status" -eq 0 ] && [ "$(wc -l < "$work/said")" -eq 1 ] && grep -q "^taskscope: $2" "$work/said"
+    cat "$work/words"
+    [ "$status" -eq 0 ] && [ "$(wc -l < "$work/words")" -eq 1 ] && grep -q "^taskscope: $2" "$work/words"
 }
 
 unflagged_is_said() {
