@@ -6,7 +6,7 @@ mod common;
 mod served;
 
 use common::value;
-use served::{connect, ids, join, path, rest, start, start_port, tables, until, LONG, OFTEN};
+use served::{connect, ids, join, path, rest, start, start_port, tables, until, Ends, LONG, OFTEN};
 use std::fs;
 use std::io::{BufRead, BufReader, ErrorKind, Write};
 use std::net::{Shutdown, SocketAddr, TcpStream};
@@ -235,10 +235,11 @@ fn a_socket_is_its_owners_alone_at_each_moment() {
             }
             (looked, open)
         });
+        let stop = Ends(&ends);
         for _ in 0..200 {
             start_at(&socket).expect("a socket").stop().expect("no fault");
         }
-        ends.store(true, Ordering::SeqCst);
+        drop(stop);
         looks.join().expect("no panic")
     });
     let left: Vec<PathBuf> = fs::read_dir(&folder).expect("a folder").flatten().map(|entry| entry.path()).collect();

@@ -6,9 +6,11 @@ mod common;
 mod served;
 
 use common::{list, number, value, Tables};
-use served::{connect, ids, join, path, read_to, rest, start, start_port, tables, until, LONG, OFTEN};
+use served::{connect, ids, join, path, read_to, rest, start, start_port, tables, until, Ends, LONG, OFTEN};
+use std::collections::VecDeque;
 use std::io::{BufRead, BufReader, Read};
 use std::path::PathBuf;
+use std::sync::atomic::{AtomicBool, Ordering};
 use std::thread::{self, sleep, JoinHandle};
 use std::time::{Duration, Instant};
 use taskscope::{Address, Attr, Change, Console, Limits, Server, Settings, Task};
@@ -99,18 +101,34 @@ fn a_reader_that_comes_costs_no_other_anything() {
 #[test]
 fn readers_that_come_again_and_again_keep_nothing_from_leaving() {
     let console = Console::open(Settings::default().retention(Duration::from_millis(1)));
-    let server = start(&console, Limits::default());
-    let (stays, mut lines) = join(&server);
-    for _ in 0..100 {
-        drop(console.task("goes").open());
-        // Each interval has a reader that is new.
-        join(&server);
-    }
-    let (_, line) = join(&server);
-    assert!(ids(&tables(&line)).len() < 20, "of 100 tasks few are there: {line}");
+    let every = Duration::from_millis(50);
+    let server = Server::start(&console, every, &Address::Unix(path()), Limits::default()).expect("a server");
+    let stays = reads(&server);
+    let ends = AtomicBool::new(false);
+    thread::scope(|scope| {
+        let _ends = Ends(&ends);
+        // Each reading of the rows finds a reader that is new.
+        scope.spawn(|| {
+            let mut readers = VecDeque::new();
+            while !ends.load(Ordering::SeqCst) {
+                readers.push_back(connect(&server));
+                if readers.len() > 40 {
+                    readers.pop_front();
+                }
+                sleep(Duration::from_millis(3));
+            }
+        });
+        for _ in 0..500 {
+            drop(console.task("goes").open());
+            sleep(Duration::from_millis(2));
+        }
+        let (_, line) = join(&server);
+        let served = server.served();
+        assert!(ids(&tables(&line)).len() < 100, "of 500 tasks few are there: {served:?}");
+    });
     server.stop().expect("no fault");
-    lines.push_str(&rest(stays));
-    assert!(ids(&tables(&lines)).len() < 20, "and a reader of all time holds no more");
+    let held = ids(&tables(&stays.join().expect("lines"))).len();
+    assert!(held < 100, "a reader of all time holds {held}");
 }
 
 #[test]

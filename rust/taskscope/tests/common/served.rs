@@ -8,7 +8,7 @@ use std::io::{BufRead, BufReader, Read};
 use std::net::TcpStream;
 use std::os::unix::net::UnixStream;
 use std::path::PathBuf;
-use std::sync::atomic::{AtomicUsize, Ordering};
+use std::sync::atomic::{AtomicBool, AtomicUsize, Ordering};
 use std::thread::sleep;
 use std::time::{Duration, Instant};
 use taskscope::{Address, Console, Limits, Server};
@@ -90,6 +90,15 @@ pub fn read_to(reader: &mut impl BufRead, text: &str) -> String {
         assert_ne!(reader.read_line(&mut lines).expect("a line"), 0, "the end came before {text}");
     }
     lines
+}
+
+/// Ends what other threads do until then, also when the test fails.
+pub struct Ends<'a>(pub &'a AtomicBool);
+
+impl Drop for Ends<'_> {
+    fn drop(&mut self) {
+        self.0.store(true, Ordering::SeqCst);
+    }
 }
 
 pub type Joined = BufReader<Box<dyn Read + Send>>;
