@@ -218,11 +218,14 @@ readme_holds() {
     }
 }
 
-# As cargo would upload it, and its tests elsewhere.
+# As cargo would upload it, and its tests elsewhere, with the archive that it keeps.
 packed() {
-    over_debian package -p taskscope && mkdir -p "$work/packed/far" &&
-        tar -x -f "$CARGO_TARGET_DIR/package/taskscope-0.1.0.crate" -C "$work/packed/far" &&
-        over_debian_in "$work/packed/far/taskscope-0.1.0" test > "$work/tests" 2>&1
+    (
+        unset TASKSCOPE_LIB
+        over_debian package -p taskscope && mkdir -p "$work/packed/far" &&
+            tar -x -f "$CARGO_TARGET_DIR/package/taskscope-0.1.0.crate" -C "$work/packed/far" &&
+            over_debian_in "$work/packed/far/taskscope-0.1.0" test > "$work/tests" 2>&1
+    )
     tests=$?
     cat "$work/tests"
     # The library's sources are not there, which the tests that read them say.
@@ -305,6 +308,7 @@ packed_subscriber() {
     mkdir -p "$work/registry" && ln -s "$folder"/* "$work/registry" && cp -R "$work/packed/far/taskscope-0.1.0" "$work/registry" &&
         echo '{"package":"none","files":{}}' > "$work/registry/taskscope-0.1.0/.cargo-checksum.json" || return 1
     (
+        unset TASKSCOPE_LIB
         folder=$work/registry
         CARGO_TARGET_DIR=$CARGO_TARGET_DIR/unstable
         RUSTFLAGS='--cfg tokio_unstable'
