@@ -53,3 +53,43 @@ pub(crate) fn enter(id: &Id, enter: impl FnOnce()) {
 pub(crate) fn is_entered(id: u64) -> bool {
     ENTERED.with(Cell::get) == id
 }
+
+#[cfg(test)]
+mod tests {
+    use super::*;
+    use std::sync::{Arc, Barrier};
+    use tracing::dispatcher::{with_default, Dispatch};
+
+    /// How many threads have numbers of their own at once.
+    const THREADS: usize = 70;
+    /// More than there are generations of a place.
+    const SPANS: usize = 9_000;
+
+    #[test]
+    fn no_id_of_a_registry_has_the_mark() {
+        let registry = Dispatch::new(tracing_subscriber::registry());
+        let all_are_there = Arc::new(Barrier::new(THREADS));
+        let make_spans = |spans: usize| {
+            let (registry, all_are_there) = (registry.clone(), Arc::clone(&all_are_there));
+            std::thread::spawn(move || {
+                let has_mark = with_default(&registry, || {
+                    (0..spans).any(|_| unmarked(&tracing::trace_span!("a span").id().expect("it is enabled")).is_some())
+                });
+                all_are_there.wait();
+                has_mark
+            })
+        };
+        let threads: Vec<_> = (0..THREADS).map(|thread| make_spans(if thread < 2 { SPANS } else { 10 })).collect();
+        for thread in threads {
+            assert!(!thread.join().expect("no panic"), "an id with the mark");
+        }
+    }
+
+    #[test]
+    fn a_mark_is_taken_off_again() {
+        let id = Id::from_u64(7 + (3 << 38) + (5 << 51));
+        assert_eq!(make(|| id.clone()), Id::from_u64(id.into_u64() + MARK));
+        assert_eq!(unmarked(&marked(&id)), Some(id.clone()));
+        assert_eq!(unmarked(&id), None);
+    }
+}
