@@ -237,8 +237,6 @@ fn a_reader_that_stops_beside_100_000_spawns_costs_little_and_gets_all_when_it_g
         poll(&mut stays, 1);
     }
     assert!(server.served().behind > 0, "the reader was behind");
-    // What waits behind the text that it is in, this text, and the one that was just made: each line has some 100 KB.
-    assert!(most < 10 * WAITING as u64, "{most} bytes waited for the two");
     assert!(slowest < Duration::from_secs(2), "100 spawns took {slowest:?}");
     drop(stays.split_off(100));
     let snapshots = server.served().snapshots;
@@ -258,6 +256,10 @@ fn a_reader_that_stops_beside_100_000_spawns_costs_little_and_gets_all_when_it_g
     assert_eq!(tables(&of_reads).items, tables(&fresh).items, "who read all the time and who comes now");
     assert_eq!(ids(&tables(&fresh)).len(), 101, "100 that stay, and the last");
     assert!(of_stopped.matches("\"snapshot\":true").count() > 1, "it is told all again, and not what it missed");
+    // For each of the two what waits behind the text that it is in, and this text; and the one that was just made. A text is two lines.
+    let longest = of_reads.lines().chain(of_stopped.lines()).map(str::len).max().unwrap_or(0);
+    let bound = 2 * WAITING + 3 * 2 * longest;
+    assert!(most <= bound as u64, "{most} bytes waited for the two, and lines have {longest} at most");
     drop(last);
 }
 
