@@ -14,10 +14,11 @@
 # Of rust/taskscope-subscriber it runs the tests, then tokio's echo server: `view` must tell of as many polls and tasks as the runtime's own
 # metrics; a program with three faults, of which `lint` must warn and of no other; and one that logs and hands its requests on, of which
 # `lint` must warn of nothing. It pastes the program of the README. A build without tokio's flag, one without tokio's feature and one without
-# the archive must each say so once.
+# the archive must each say so once. Then readers attach to a service, at a port and at a socket, and follow it when it starts anew; and the
+# stream of a disk that was full for a while must be viewed.
 #
-# It works on a copy of rust/ and without network, over the crates that Debian's packages have: cargo, rustc, librust-tokio-dev,
-# librust-tracing-dev, librust-tracing-subscriber-dev. Where one is missing it tries to install it by apt-get. Where it can't, it says so
+# It works on a copy of rust/ and without network, over the crates that Debian's packages have: cargo, rustc, curl,
+# librust-tokio-dev, librust-tracing-dev, librust-tracing-subscriber-dev. Where one is missing it tries to install it by apt-get. Where it can't, it says so
 # and skips all; with CI=true that is a failure.
 # TASKSCOPE_ARCHIVE may name an archive that tests/archive.py has just built, as the gate does.
 # CARGO_TARGET_DIR may name a folder that keeps what cargo builds; otherwise it is a temporary one.
@@ -62,6 +63,7 @@ crates_folder() {
 missing() {
     command -v cargo > /dev/null || echo cargo
     command -v rustc > /dev/null || echo rustc
+    command -v curl > /dev/null || echo curl
     [ -n "$(crates_folder)" ] || echo librust-tokio-dev
     for package in librust-tracing-dev librust-tracing-subscriber-dev; do
         dpkg -L "$package" > /dev/null 2>&1 || echo "$package"
@@ -202,7 +204,7 @@ edition = "2021"
 taskscope = { path = "$work/rust/taskscope" }
 tokio = { version = "1", features = ["full"] }
 END
-    awk '/^```rust/ { inside = 1; next } /^```/ { inside = 0 } inside' "$1" > "$work/pasted/src/main.rs"
+    awk '/^```rust/ { inside = 1; next } /^```/ && inside { exit } inside' "$1" > "$work/pasted/src/main.rs"
     TASKSCOPE_LIB=$work/new over_debian_in "$work/pasted" run && view "$work/pasted/service.stream" "$work/report"
 }
 
@@ -504,5 +506,92 @@ if cargo fmt --version > "$work/said" 2>&1; then
 fi
 if cargo clippy --version > "$work/said" 2>&1; then
     step 'clippy has no warning of the subscriber' lint_subscriber
+fi
+
+# Readers attach to a service that runs.
+
+readers_agree() {
+    first=
+    for stream in "$work"/streams/reader-[0-5].stream; do
+        view "$stream" "$stream.report" || return 1
+        first=${first:-$stream.report}
+        cmp "$first" "$stream.report" || return 1
+    done
+    [ "$(grep -c '^task ' "$first")" -eq 300 ]
+}
+
+# A service at an address, with so many tasks that stay, for so many seconds, and so many that come and go each second. It listens once
+# this returns.
+start_service() {
+    TASKSCOPE_STREAM=$1 "$unstable/debug/examples/load" "$2" "$4" "$3" > "$work/load" 2> "$work/said" &
+    service=$!
+    for _ in $(seq 100); do
+        "$root/taskscope" view "$1" > "$work/report" 2>&1 && return 0
+        sleep 0.1
+    done
+    cat "$work/report" "$work/said"
+    return 1
+}
+
+# It ends by itself, and has said nothing: that readers come and go is no fault.
+service_was_silent() {
+    wait "$service" && [ ! -s "$work/said" ] || { cat "$work/said"; return 1; }
+}
+
+# How many of the tasks that stay the report has that comes to standard input.
+living_of() {
+    "$root/taskscope" view "$@" | grep -c ' name live$'
+}
+
+# A port, free with some luck.
+port=$((20000 + $$ % 20000))
+
+attached_at_port() {
+    start_service "tcp:127.0.0.1:$port" 5 6 50 || return 1
+    [ "$(living_of "tcp:127.0.0.1:$port")" -eq 5 ] &&
+        [ "$(curl -s "http://127.0.0.1:$port/snapshot" | living_of)" -eq 5 ] &&
+        [ "$(curl -sN --max-time 1 "http://127.0.0.1:$port/stream" | living_of)" -eq 5 ] &&
+        curl -s "http://127.0.0.1:$port/" | grep -q "^taskscope watch tcp:127.0.0.1:$port " &&
+        [ "$(curl -s -o /dev/null -w '%{http_code}' "http://127.0.0.1:$port/other")" = 404 ] &&
+        [ "$(curl -s -o /dev/null -w '%{http_code}' -H 'Host: evil.example' "http://127.0.0.1:$port/snapshot")" = 403 ] &&
+        service_was_silent
+}
+
+attached_at_socket() {
+    socket=$work/service.socket
+    start_service "unix:$socket" 5 3 50 || return 1
+    [ "$(living_of "unix:$socket")" -eq 5 ] && [ "$(stat -c %a "$socket")" = 600 ] && service_was_silent && [ ! -e "$socket" ]
+}
+
+# `watch` shows the first service, then the second, which has more tasks.
+watch_goes_on() {
+    start_service "unix:$work/again.socket" 3 3 0 || return 1
+    timeout 20 "$root/taskscope" watch "unix:$work/again.socket" > "$work/watched" &
+    watching=$!
+    service_was_silent && start_service "unix:$work/again.socket" 7 4 0 && service_was_silent || return 1
+    kill "$watching"
+    wait "$watching"
+    # With the task that measures.
+    grep -q '  tasks 4: ' "$work/watched" && grep -q '  tasks 8: ' "$work/watched" || { head -n 3 "$work/watched"; return 1; }
+}
+
+# The disk is full, as the file may have no more blocks, and then it isn't.
+full_disk_is_read() {
+    (
+        ulimit -S -f 100
+        TASKSCOPE_STREAM=$work/full.stream exec "$unstable/debug/examples/load" 20 50 6 > "$work/load" 2> "$work/said"
+    ) &
+    service=$!
+    sleep 3
+    prlimit --pid "$service" --fsize=unlimited && wait "$service" && cat "$work/said" || return 1
+    grep -q 'the stream goes on when there is room' "$work/said" && [ "$(living_of "$work/full.stream")" -eq 20 ]
+}
+
+step 'readers that came at six times have one report' readers_agree
+if step 'a service is built' over_unstable build --example load; then
+    step 'readers attach to a port' attached_at_port
+    step 'readers attach to a socket' attached_at_socket
+    step 'watch goes on when the service starts anew' watch_goes_on
+    step 'the stream of a disk that was full is read' full_disk_is_read
 fi
 finish

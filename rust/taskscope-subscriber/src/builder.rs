@@ -11,7 +11,7 @@ use std::ffi::OsStr;
 use std::io::{self, ErrorKind};
 use std::str::FromStr;
 use std::time::Duration;
-use taskscope::{Console, Settings};
+use taskscope::{Console, Limits, Settings};
 use tracing_core::dispatcher::{set_global_default, Dispatch};
 use tracing_core::Subscriber;
 use tracing_subscriber::filter::filter_fn;
@@ -24,6 +24,7 @@ pub struct Builder {
     output: Option<Output>,
     interval: Duration,
     max_bytes: Option<u64>,
+    limits: Limits,
     settings: Settings,
     items: Items,
     polls: Polls,
@@ -36,6 +37,7 @@ impl Default for Builder {
             output: None,
             interval: Duration::from_millis(100),
             max_bytes: None,
+            limits: Limits::default(),
             settings: Settings::default().retention(Duration::from_secs(60)),
             items: Items::default(),
             polls: Polls::default(),
@@ -52,7 +54,7 @@ fn refused(name: &str, value: &str, wanted: &str) -> io::Error {
 fn named(words: impl AsRef<OsStr>) -> io::Result<Output> {
     let words = words.as_ref();
     Output::named(words).map_err(|why| {
-        let wanted = "the path of a file or of a pipe, `unix:PATH` or `stderr`";
+        let wanted = "`tcp:HOST:PORT`, `unix:PATH`, the path of a file or of a pipe, or `stderr`";
         let error = refused("TASKSCOPE_STREAM", &words.to_string_lossy(), wanted);
         io::Error::new(error.kind(), format!("{error}: {why}"))
     })
@@ -149,6 +151,19 @@ impl Builder {
         Builder { max_bytes: max_bytes.into(), ..self }
     }
 
+    /// How much is done for readers that connect to a socket or a port, and whether other machines may: the
+    /// [defaults](Limits::default) without this, which no variable changes.
+    ///
+    /// ```
+    /// use taskscope_subscriber::{Builder, Limits};
+    ///
+    /// let builder = Builder::new().limits(Limits::default().readers(8));
+    /// # drop(builder);
+    /// ```
+    pub fn limits(self, limits: Limits) -> Builder {
+        Builder { limits, ..self }
+    }
+
     /// How long after its close an item stays in the tables of the stream: a minute without this, and for good with `None`. Until it
     /// leaves it takes memory, as the README of this crate says, and each lock of a mutex makes two items.
     pub fn retention(mut self, retention: impl Into<Option<Duration>>) -> Builder {
@@ -192,7 +207,7 @@ impl Builder {
         }
         let console = Console::open(self.settings);
         let layer = TaskscopeLayer::new(&console).items(self.items).polls(self.polls).switched(switch);
-        let plan = Plan::new(&console, &layer, self.interval, self.max_bytes);
+        let plan = Plan::new(&console, &layer, self.interval, self.max_bytes, self.limits);
         Ok((layer, plan))
     }
 

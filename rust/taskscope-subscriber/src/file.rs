@@ -1,6 +1,6 @@
 //! A file that has whole lines alone, and those of one process.
 
-use crate::output::{say, Notice, Target};
+use crate::output::{say, Notice, Target, Wants};
 use std::env;
 use std::ffi::OsString;
 use std::fmt::Display;
@@ -81,10 +81,14 @@ pub(crate) struct Rewindable {
     path: PathBuf,
     /// The length of its whole lines.
     len: u64,
-    /// That of its first line, if it was begun anew.
+    /// The number of its next line.
+    next: u64,
+    /// The length of its first line, if it was begun anew.
     first_len: u64,
     /// The length from which on it is begun anew.
     most: Option<u64>,
+    /// Whether the next line tells all, as it is the first of the file that is begun anew.
+    begins_anew: bool,
     state: Writing,
     notice: Notice,
 }
@@ -108,7 +112,17 @@ impl Rewindable {
         // What a link names is kept, and not the link; and the program may change its folder.
         let whole = || env::current_dir().map_or_else(|_| path.to_owned(), |folder| folder.join(path));
         let path = fs::canonicalize(path).unwrap_or_else(|_| whole());
-        Ok(Rewindable { file: open(&path)?, path, len: 0, first_len: 0, most, state: Writing::Goes, notice })
+        Ok(Rewindable {
+            file: open(&path)?,
+            path,
+            len: 0,
+            next: 1,
+            first_len: 0,
+            most,
+            begins_anew: false,
+            state: Writing::Goes,
+            notice,
+        })
     }
 
     /// Whether it is begun anew by the next line that tells all. At least half of a file are other lines.
@@ -149,30 +163,25 @@ impl Rewindable {
 }
 
 impl Target for Rewindable {
-    fn needs_all(&mut self, is_last: bool) -> bool {
+    fn wants(&mut self, is_last: bool) -> Wants {
+        self.begins_anew = matches!(self.state, Writing::Goes) && self.is_full() && !is_last;
         match self.state {
-            Writing::Goes => self.is_full() && !is_last,
-            Writing::Lost { retry, .. } => is_last || Instant::now() >= retry,
-            Writing::Ended => false,
+            Writing::Goes if self.begins_anew => Wants::All(self.next),
+            Writing::Goes => Wants::Changes,
+            // Only a line that tells all follows lines that were lost, and it has the number of the first of them.
+            Writing::Lost { retry, .. } if is_last || Instant::now() >= retry => Wants::All(self.next),
+            Writing::Lost { .. } | Writing::Ended => Wants::Nothing,
         }
     }
 
-    fn write(&mut self, lines: &[u8], tells_all: bool) {
-        let is_due = match self.state {
-            Writing::Goes => true,
-            // Only a line that tells all follows lines that were lost.
-            Writing::Lost { .. } => tells_all,
-            Writing::Ended => false,
-        };
-        if !is_due {
-            return;
-        }
-        if tells_all && self.is_full() {
+    fn write(&mut self, lines: &[u8]) {
+        if std::mem::take(&mut self.begins_anew) {
             self.begin_anew(lines.len());
         }
         match self.file.write_all(lines) {
             Ok(()) => {
                 self.len += lines.len() as u64;
+                self.next += lines.iter().filter(|&&byte| byte == b'\n').count() as u64;
                 self.state = Writing::Goes;
             }
             Err(error) => self.failed(&error),
@@ -180,6 +189,7 @@ impl Target for Rewindable {
     }
 
     fn refuse(&mut self, why: &str) {
+        self.begins_anew = false;
         match self.state {
             Writing::Goes => self.grow_on(why),
             Writing::Lost { .. } => {

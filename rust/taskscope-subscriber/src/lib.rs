@@ -31,7 +31,7 @@
 //!
 //! | Variable | What it says | Without it |
 //! |---|---|---|
-//! | `TASKSCOPE_STREAM` | where lines go: the path of a file or of a pipe (`mkfifo`), `unix:PATH` for a socket, or `stderr`. In a path `%p` is the process id | nothing is inspected, and nothing costs more |
+//! | `TASKSCOPE_STREAM` | where lines go: `tcp:HOST:PORT` or `unix:PATH`, to which readers connect; the path of a file or of a pipe (`mkfifo`); or `stderr`. In a path `%p` is the process id | nothing is inspected, and nothing costs more |
 //! | `TASKSCOPE_INTERVAL_MS` | milliseconds from one line to the next, from 1 on | 100 |
 //! | `TASKSCOPE_ITEMS` | `all`: resources and operations are told too, and locks and channels cost many times as much; or `tasks` | `tasks` |
 //! | `TASKSCOPE_TIMES` | `on`: a histogram of how long its polls ran is kept of each task, for `view --times` and `lint --long-poll`; or `off` | `on` |
@@ -75,10 +75,11 @@ mod layer;
 mod left_out;
 mod mark;
 mod output;
+mod pipe;
 mod places;
 mod publishing;
-mod readers;
 mod rootless;
+mod serving;
 mod task;
 
 pub use builder::Builder;
@@ -88,6 +89,7 @@ pub use output::Output;
 pub use publishing::Guard;
 pub use rootless::Rootless;
 pub use task::Polls;
+pub use taskscope::Limits;
 
 use tracing_subscriber::layer::Layer;
 use tracing_subscriber::registry::Registry;

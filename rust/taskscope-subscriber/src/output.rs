@@ -1,14 +1,16 @@
 //! Where lines go: a file, standard error, or readers that come and go.
 
 use crate::file::Rewindable;
-use crate::readers::{Pipe, Readers, Socket};
+use crate::pipe::{OneReader, Pipe};
 use std::ffi::{OsStr, OsString};
 use std::fmt;
 use std::fs;
 use std::io::{self, ErrorKind, Write};
+use std::net::SocketAddr;
 use std::os::unix::ffi::{OsStrExt, OsStringExt};
 use std::os::unix::fs::FileTypeExt;
 use std::path::{Path, PathBuf};
+use taskscope::Address;
 
 /// Where the lines of the stream go.
 ///
@@ -24,9 +26,12 @@ pub enum Output {
     /// A pipe that `mkfifo` made. A reader may open it at any time; the first line that it gets tells all. So it is with another one
     /// that opens it an interval after the first has gone: one that comes before gets the lines on which the first stopped.
     Pipe(PathBuf),
-    /// A unix socket, which is made, and removed at the end. Several readers may connect at any time; the first line that each gets
-    /// tells all.
+    /// A unix socket, which is made for its owner alone, and removed at the end. Readers connect and go as they like; the first line that
+    /// each gets tells all.
     Socket(PathBuf),
+    /// A TCP port, for readers as of a socket, and for requests of HTTP: `/` says what to type. It is one of this machine, unless
+    /// [`Builder::limits`](crate::Builder::limits) allows another. Each user of the machine may read.
+    Port(SocketAddr),
     /// Standard error. What else the program writes there stands between the lines.
     Stderr,
 }
@@ -57,7 +62,7 @@ fn expanded(path: &Path) -> PathBuf {
 }
 
 impl Output {
-    /// What the words of a variable name: `stderr`, `unix:PATH`, or the path of a file or of a pipe.
+    /// What the words of a variable name: `stderr`, `unix:PATH`, `tcp:HOST:PORT`, or the path of a file or of a pipe.
     ///
     /// # Errors
     /// What is wrong with words that look like something else.
@@ -68,6 +73,12 @@ impl Output {
             ("-" | "stdout", _) => Err("there is no stream to standard output".to_owned()),
             ("unix:", _) => Err("the path is missing".to_owned()),
             (_, Some("unix")) => Ok(Output::Socket(PathBuf::from(&text["unix:".len()..]))),
+            (_, Some("tcp")) => match text.parse() {
+                Ok(Address::Tcp(port)) => Ok(Output::Port(port)),
+                Ok(other) => Err(format!("{other} is no port")),
+                Err(error) => Err(error.to_string()),
+            },
+            _ if text.parse::<SocketAddr>().is_ok() => Err(format!("a port is written `tcp:{text}`")),
             (_, Some(scheme)) => Err(format!("`{scheme}:` is not known; a file of that name is `./{text}`")),
             _ => {
                 let path = PathBuf::from(words);
@@ -83,7 +94,16 @@ impl Output {
             Output::File(path) => Output::File(expanded(path)),
             Output::Pipe(path) => Output::Pipe(expanded(path)),
             Output::Socket(path) => Output::Socket(expanded(path)),
-            Output::Stderr => Output::Stderr,
+            Output::Port(_) | Output::Stderr => self.clone(),
+        }
+    }
+
+    /// Where readers connect, if they do.
+    pub(crate) fn address(&self) -> Option<Address> {
+        match self.expanded() {
+            Output::Socket(path) => Some(Address::Unix(path)),
+            Output::Port(port) => Some(Address::Tcp(port)),
+            Output::File(_) | Output::Pipe(_) | Output::Stderr => None,
         }
     }
 
@@ -103,9 +123,9 @@ impl Output {
                 if !file_type(path)?.is_fifo() {
                     return Err(io::Error::new(ErrorKind::InvalidInput, "it is no pipe"));
                 }
-                Box::new(Readers::new(Pipe::new(path), self.to_string()))
+                Box::new(OneReader::new(Pipe::new(path), self.to_string()))
             }
-            Output::Socket(path) => Box::new(Readers::new(Socket::bind(path)?, self.to_string())),
+            Output::Socket(_) | Output::Port(_) => return Err(ErrorKind::Unsupported.into()),
             Output::Stderr => Box::new(Plain { writer: Some(io::stderr()) }),
         })
     }
@@ -115,6 +135,7 @@ impl fmt::Display for Output {
     fn fmt(&self, f: &mut fmt::Formatter<'_>) -> fmt::Result {
         match self {
             Output::File(path) | Output::Pipe(path) | Output::Socket(path) => path.display().fmt(f),
+            Output::Port(port) => write!(f, "tcp:{port}"),
             Output::Stderr => f.write_str("standard error"),
         }
     }
@@ -129,13 +150,24 @@ pub(crate) fn say(what: impl fmt::Display) {
     let _ = writeln!(io::stderr(), "taskscope: {what}");
 }
 
+/// Which line a target wants.
+#[derive(Clone, Copy, Debug, PartialEq, Eq)]
+pub(crate) enum Wants {
+    /// None, as nobody reads or nothing can be written.
+    Nothing,
+    /// What changed.
+    Changes,
+    /// All, under this number: a reader came, or lines were lost.
+    All(u64),
+}
+
 /// Takes lines. No error comes back: it is said once, and the target goes on as well as it can.
 pub(crate) trait Target: Send {
-    /// Whether the next line has to be one that tells all: a reader came, or lines were lost.
-    fn needs_all(&mut self, is_last: bool) -> bool;
+    /// Which line it wants next.
+    fn wants(&mut self, is_last: bool) -> Wants;
 
-    /// Takes whole lines. Where one was asked for that tells all, the first does.
-    fn write(&mut self, lines: &[u8], tells_all: bool);
+    /// Takes whole lines, as it wanted them.
+    fn write(&mut self, lines: &[u8]);
 
     /// The line that was asked for tells too much, as the text says: nobody takes it.
     fn refuse(&mut self, _why: &str) {}
@@ -171,11 +203,11 @@ struct Plain<W> {
 }
 
 impl<W: Write + Send> Target for Plain<W> {
-    fn needs_all(&mut self, _is_last: bool) -> bool {
-        false
+    fn wants(&mut self, _is_last: bool) -> Wants {
+        self.writer.as_ref().map_or(Wants::Nothing, |_| Wants::Changes)
     }
 
-    fn write(&mut self, lines: &[u8], _tells_all: bool) {
+    fn write(&mut self, lines: &[u8]) {
         if let Some(writer) = &mut self.writer {
             if writer.write_all(lines).and_then(|()| writer.flush()).is_err() {
                 self.writer = None;

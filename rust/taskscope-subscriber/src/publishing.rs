@@ -4,7 +4,8 @@ use crate::heard::Heard;
 use crate::item::lock;
 use crate::layer::TaskscopeLayer;
 use crate::left_out::LeftOut;
-use crate::output::{say, Output, Target, LONGEST_LINE};
+use crate::output::{say, Output, Target, Wants, LONGEST_LINE};
+use crate::serving::Serving;
 use std::io;
 use std::mem::MaybeUninit;
 use std::os::raw::c_int;
@@ -12,7 +13,7 @@ use std::process;
 use std::sync::{Arc, Condvar, Mutex, PoisonError};
 use std::thread;
 use std::time::{Duration, Instant};
-use taskscope::{Console, Fault};
+use taskscope::{Console, Fault, Limits, Server};
 
 /// How long the end of the program waits for the last line at most.
 const LAST_WAIT: Duration = Duration::from_secs(2);
@@ -31,7 +32,7 @@ struct State {
 
 /// What the publishing thread and the one that stops it share.
 #[derive(Debug)]
-struct Control {
+pub(crate) struct Control {
     state: Mutex<State>,
     changed: Condvar,
     /// A process that was forked has no publishing thread.
@@ -41,7 +42,7 @@ struct Control {
 impl Control {
     /// Waits for a span, or for good, or until a condition holds, which comes before a [`notify`](Control::notify). The answer is
     /// whether the stop came.
-    fn wait(&self, span: Option<Duration>, condition: impl Fn() -> bool) -> bool {
+    pub(crate) fn wait(&self, span: Option<Duration>, condition: impl Fn() -> bool) -> bool {
         let state = lock(&self.state);
         let waits = |state: &mut State| !state.is_stopped && !condition();
         let state = match span {
@@ -99,28 +100,51 @@ pub(crate) struct Plan {
     interval: Duration,
     /// How many bytes a file has at most before it is begun anew.
     most: Option<u64>,
+    /// What is done for readers that connect.
+    limits: Limits,
 }
 
 impl Plan {
     /// What a layer tells is published each so often.
-    pub(crate) fn new(console: &Console, layer: &TaskscopeLayer, interval: Duration, most: Option<u64>) -> Plan {
-        Plan { console: console.clone(), left_out: layer.left_out(), heard: layer.heard(), interval, most }
+    pub(crate) fn new(
+        console: &Console,
+        layer: &TaskscopeLayer,
+        interval: Duration,
+        most: Option<u64>,
+        limits: Limits,
+    ) -> Plan {
+        Plan { console: console.clone(), left_out: layer.left_out(), heard: layer.heard(), interval, most, limits }
     }
 
     /// Opens an output, and starts the thread that publishes there.
     ///
     /// Where no library is kept for the processor and the system, it does neither, and says so.
     pub(crate) fn start(self, output: &Output) -> io::Result<Guard> {
+        let left_out = Arc::clone(&self.left_out);
         if !self.console.is_active() {
             say("nothing is inspected, as taskscope has no library for this processor and system");
-            return Ok(Guard { control: None, left_out: self.left_out });
+            return Ok(Guard { control: None, left_out });
         }
-        let target = output.open(self.most)?;
         let control = Arc::new(Control { state: Mutex::default(), changed: Condvar::new(), process: process::id() });
-        let filling = Arc::downgrade(&control);
+        let ends = Ends(Arc::clone(&control));
+        let thread = thread::Builder::new().name("taskscope".into());
+        if let Some(address) = output.address() {
+            let server = Server::start(&self.console, self.interval, &address, self.limits)?;
+            let serving = Serving::new(server, self.heard, self.left_out);
+            thread.spawn(move || serving.run(&ends.0))?;
+        } else {
+            let publishing = self.publishing(output, &control)?;
+            thread.spawn(move || publishing.run(&ends.0))?;
+        }
+        Ok(Guard { control: Some(control), left_out })
+    }
+
+    /// Opens an output that is written.
+    fn publishing(self, output: &Output, control: &Arc<Control>) -> io::Result<Publishing> {
+        let target = output.open(self.most)?;
+        let filling = Arc::downgrade(control);
         self.console.on_filling(move || filling.upgrade().map_or((), |control| control.notify()));
-        let left_out = Arc::clone(&self.left_out);
-        let publishing = Publishing {
+        Ok(Publishing {
             plan: self,
             target,
             // A reader of standard error reads lines alone.
@@ -128,10 +152,7 @@ impl Plan {
             started: Instant::now(),
             written: None,
             has_failed: false,
-        };
-        let ends = Ends(Arc::clone(&control));
-        thread::Builder::new().name("taskscope".into()).spawn(move || publishing.run(&ends.0))?;
-        Ok(Guard { control: Some(control), left_out })
+        })
     }
 }
 
@@ -157,6 +178,14 @@ impl Guard {
 impl Drop for Guard {
     fn drop(&mut self) {
         self.finish();
+    }
+}
+
+/// Says what of the program's events no row has, if there is any.
+pub(crate) fn say_left_out(left_out: &LeftOut) {
+    let left_out = left_out.to_string();
+    if left_out != "nothing" {
+        say(format_args!("left out: {left_out}"));
     }
 }
 
@@ -186,14 +215,17 @@ impl Publishing {
         while self.target.hand_on() && Instant::now() < until {
             thread::sleep(SLOW_READER);
         }
-        let left_out = self.plan.left_out.to_string();
-        if self.says_left_out && left_out != "nothing" {
-            say(format_args!("left out: {left_out}"));
+        if self.says_left_out {
+            say_left_out(&self.plan.left_out);
         }
     }
 
     fn publish(&mut self, is_last: bool) {
-        let lines = if self.target.needs_all(is_last) { self.tell_all(is_last) } else { self.tell_changes(is_last) };
+        let lines = match self.target.wants(is_last) {
+            Wants::Nothing => self.plan.console.pass(),
+            Wants::Changes => self.tell_changes(is_last),
+            Wants::All(number) => self.tell_all(number, is_last),
+        };
         match lines {
             Ok(()) => {}
             // The next line tells what this one would have told.
@@ -206,22 +238,21 @@ impl Publishing {
         }
     }
 
-    fn write(&mut self, lines: &[u8], tells_all: bool) {
-        self.target.write(lines, tells_all);
+    fn write(&mut self, lines: &[u8]) {
+        self.target.write(lines);
         self.written = Some(Instant::now());
     }
 
-    /// Writes a line that tells all. Where that is longer than readers take, a line that tells what changed.
-    fn tell_all(&mut self, is_last: bool) -> Result<(), Fault> {
-        match self.plan.console.snapshot_within(LONGEST_LINE)? {
-            Some(line) => {
-                self.write(&line, true);
-                Ok(())
-            }
-            None => {
-                self.target.refuse("a line that tells all would have more than the 256 MiB that readers take");
-                self.tell_changes(is_last)
-            }
+    /// Writes a line that tells all. If that is longer than readers take, what the target wants then.
+    fn tell_all(&mut self, number: u64, is_last: bool) -> Result<(), Fault> {
+        if let Some(line) = self.plan.console.snapshot_as(number, LONGEST_LINE)? {
+            self.write(&line);
+            return Ok(());
+        }
+        self.target.refuse("a line that tells all would have more than the 256 MiB that readers take");
+        match self.target.wants(is_last) {
+            Wants::Changes => self.tell_changes(is_last),
+            Wants::Nothing | Wants::All(_) => self.plan.console.pass(),
         }
     }
 
@@ -231,7 +262,7 @@ impl Publishing {
         let console = &self.plan.console;
         let lines = if is_due { Some(console.publish()?) } else { console.publish_changes()? };
         if let Some(lines) = lines {
-            self.write(&lines, false);
+            self.write(&lines);
         }
         Ok(())
     }
@@ -270,7 +301,7 @@ const BLOCK: c_int = 0;
 
 /// Signals of the process go to the program's own threads; and those that a write brings, as a reader is gone or a file too long,
 /// end no program: the write answers an error.
-fn block_signals() {
+pub(crate) fn block_signals() {
     let mut set = MaybeUninit::<SignalSet>::uninit();
     // SAFETY: the set is lent for the calls, and is full after the first.
     unsafe {

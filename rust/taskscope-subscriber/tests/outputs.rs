@@ -4,16 +4,17 @@ mod common;
 #[path = "common/program.rs"]
 mod program;
 
-use common::value;
+use common::{number, value};
 use program::{command, names, said, until, Folder, PROGRAM};
 use std::fs::{self, File};
-use std::io::{BufRead, BufReader, ErrorKind, Read};
+use std::io::{BufRead, BufReader, ErrorKind, Read, Write};
+use std::net::{TcpListener, TcpStream};
 use std::os::unix::net::{UnixListener, UnixStream};
 use std::path::Path;
 use std::process::{Command, Stdio};
 use std::thread::sleep;
 use std::time::{Duration, Instant};
-use taskscope_subscriber::{Builder, Guard, Output, Rootless, TaskscopeLayer};
+use taskscope_subscriber::{Builder, Guard, Limits, Output, Rootless, TaskscopeLayer};
 use tracing_subscriber::layer::SubscriberExt;
 
 const OFTEN: Duration = Duration::from_millis(2);
@@ -52,7 +53,7 @@ fn read_pipe(path: &Path) -> (BufReader<File>, String) {
         let mut reader = BufReader::new(File::open(path).expect("a writer comes"));
         let mut line = String::new();
         reader.read_line(&mut line).expect("a line");
-        // That the reader before is gone, the program learns by its next line.
+        // That the reader before is gone, the program learns before its next line.
         if line.contains("\"snapshot\":true") {
             return (reader, line);
         }
@@ -118,6 +119,48 @@ fn readers_of_a_socket_come_late_and_go() {
     assert_eq!(names(&of_stays), ["before", "told last"]);
     drop(guard);
     until(|| !path.exists());
+}
+
+#[test]
+fn readers_of_a_port_come_late_and_go() {
+    // A port that is free, as it was had just now.
+    let port = TcpListener::bind("127.0.0.1:0").and_then(|port| port.local_addr()).expect("a port");
+    let (layer, guard) = start(Output::Port(port));
+    let subscriber = run(layer, "before");
+    let connect = || BufReader::new(TcpStream::connect(port).expect("it listens"));
+    let mut stays = connect();
+    let mut of_stays = read_until(&mut stays, "before");
+    assert_eq!(value(&of_stays, "snapshot"), "true", "{of_stays}");
+    drop(connect());
+    let mut asks = TcpStream::connect(port).expect("it listens");
+    asks.write_all(b"GET /snapshot HTTP/1.1\r\nHost: localhost\r\n\r\n").expect("it listens");
+    let mut answer = String::new();
+    asks.read_to_string(&mut answer).expect("an answer");
+    assert!(answer.starts_with("HTTP/1.1 200 OK\r\n"), "{answer}");
+    assert_eq!(names(answer.lines().last().expect("a line")), ["before"], "{answer}");
+    run_more(&subscriber, "told last");
+    guard.finish();
+    stays.read_to_string(&mut of_stays).expect("lines");
+    assert_eq!(names(&of_stays), ["before", "told last"], "{of_stays}");
+    let everywhere = Output::Port(([0, 0, 0, 0], 0).into());
+    let refused = Builder::new().layer(everywhere.clone()).expect_err("other machines reach it");
+    assert_eq!(refused.kind(), ErrorKind::PermissionDenied, "{refused}");
+    let allowed = Builder::new().limits(Limits::default().beyond_loopback(true)).layer(everywhere);
+    assert!(allowed.is_ok(), "it was allowed in code");
+}
+
+#[test]
+fn a_first_line_comes_at_once_however_long_the_interval() {
+    let folder = Folder::new();
+    let path = folder.path("socket");
+    let started = Instant::now();
+    let hour = Builder::new().interval(Duration::from_secs(3600));
+    let (_layer, _guard) = hour.layer(Output::Socket(path.clone())).expect("it can be opened");
+    let mut reader = BufReader::new(UnixStream::connect(&path).expect("it listens"));
+    let mut line = String::new();
+    reader.read_line(&mut line).expect("a line");
+    assert!(started.elapsed() < Duration::from_secs(30), "it came after {:?}", started.elapsed());
+    assert_eq!(value(&line, "snapshot"), "true", "{line}");
 }
 
 #[test]
@@ -222,7 +265,7 @@ fn standard_error_has_lines_alone() {
 }
 
 #[test]
-fn a_reader_that_goes_away_is_said_once() {
+fn a_reader_that_goes_away_is_no_alarm() {
     let folder = Folder::new();
     let path = folder.pipe();
     // SIGPIPE ends a program that doesn't ignore it.
@@ -230,9 +273,19 @@ fn a_reader_that_goes_away_is_said_once() {
     drop(read_pipe(&path));
     drop(read_pipe(&path));
     let output = child.wait_with_output().expect("it ends");
-    assert_eq!(output.status.code(), Some(7));
-    let said = String::from_utf8(output.stderr).expect("text");
-    assert_eq!(said.matches("a reader is gone").count(), 1, "{said}");
+    assert_eq!((output.status.code(), output.stderr), (Some(7), Vec::new()), "a pipe");
+    let socket = folder.path("socket");
+    let words = format!("unix:{}", socket.display());
+    let variables = [("TASKSCOPE_STREAM", Path::new(&words))];
+    let child = command("", "long", &variables).stderr(Stdio::piped()).spawn().expect("it runs");
+    until(|| socket.exists());
+    for turn in 0..3 {
+        let mut reader = BufReader::new(UnixStream::connect(&socket).expect("it listens"));
+        assert_ne!(reader.read_line(&mut String::new()).expect("a line"), 0, "reader {turn}");
+    }
+    let output = child.wait_with_output().expect("it ends");
+    assert_eq!((output.status.code(), output.stderr), (Some(7), Vec::new()), "a socket");
+    assert!(!socket.exists(), "the socket is removed at the exit");
 }
 
 #[test]
@@ -250,8 +303,12 @@ fn a_file_that_can_not_grow_has_whole_lines_and_goes_on_with_all() {
     let mut command = command("ulimit -S -f 32 &&", "long", &[("TASKSCOPE_STREAM", &path)]);
     let child = command.stderr(Stdio::piped()).spawn().expect("it runs");
     let lines = || fs::read_to_string(&path).unwrap_or_default();
-    until(|| lines().len() > 16_000);
-    sleep(Duration::from_millis(100));
+    // It grows no more, as the next line doesn't fit.
+    until(|| {
+        let before = lines().len();
+        sleep(Duration::from_millis(200));
+        before > 10_000 && lines().len() == before
+    });
     let limited = lines();
     assert!(limited.len() <= 16_384 && limited.ends_with("}\n") && names(&limited) == ["first"], "{limited}");
     let unlimited = ["--fsize=unlimited", "--pid", &child.id().to_string()];
@@ -261,6 +318,10 @@ fn a_file_that_can_not_grow_has_whole_lines_and_goes_on_with_all() {
     let said = String::from_utf8(output.stderr).expect("text");
     assert_eq!(said.matches("the stream goes on when there is room").count(), 1, "{said}");
     let all = lines();
-    assert!(all.starts_with(&limited) && all[limited.len()..].contains("\"snapshot\":true"), "{all}");
+    let after = &all[limited.len()..];
+    assert!(all.starts_with(&limited) && after.contains("\"snapshot\":true"), "{all}");
+    // It goes on under the number of the line that was lost.
+    let last_before = number(limited.lines().last().expect("a line"), "seq");
+    assert_eq!(number(after.lines().next().expect("a line"), "seq"), last_before + 1, "{all}");
     assert_eq!(names(&all), ["first", "told last"]);
 }

@@ -166,8 +166,9 @@ fn of_what_came_before_nothing_is_said() {
 #[test]
 fn words_that_name_no_output_are_refused_and_make_no_file() {
     // A word, and the end of what is said of it.
-    const WORDS: [(&str, &str); 6] = [
-        ("tcp:127.0.0.1:9999", "`tcp:` is not known; a file of that name is `./tcp:127.0.0.1:9999`"),
+    const WORDS: [(&str, &str); 7] = [
+        ("127.0.0.1:9999", "a port is written `tcp:127.0.0.1:9999`"),
+        ("tcp:9999", "invalid socket address"),
         ("file:stream", "`file:` is not known; a file of that name is `./file:stream`"),
         ("unix+tls:x", "`unix+tls:` is not known; a file of that name is `./unix+tls:x`"),
         ("unix:", "the path is missing"),
@@ -180,7 +181,7 @@ fn words_that_name_no_output_are_refused_and_make_no_file() {
     for (word, why) in WORDS {
         let mut command = command("", "init", &[("TASKSCOPE_STREAM", Path::new(word))]);
         command.current_dir(&inside);
-        let wanted = "taskscope: nothing is inspected: TASKSCOPE_STREAM is the path of a file or of a pipe, `unix:PATH` or `stderr`";
+        let wanted = "taskscope: nothing is inspected: TASKSCOPE_STREAM is `tcp:HOST:PORT`, `unix:PATH`, the path of a file or of a pipe, or `stderr`";
         assert_eq!(ran(command).1, format!("{wanted}, and not {word:?}: {why}\n"), "{word}");
     }
     assert_eq!(fs::read_dir(&inside).expect("a folder").count(), 0, "no file was made");
@@ -194,10 +195,9 @@ fn words_that_name_no_output_are_refused_and_make_no_file() {
 fn what_can_not_be_opened_is_said_with_its_path() {
     let folder = Folder::new();
     let path = folder.path("none/stream");
-    let wanted =
-        format!("taskscope: nothing is inspected: {}: No such file or directory (os error 2)\n", path.display());
     for scheme in ["", "unix:"] {
         let words = format!("{scheme}{}", path.display());
+        let wanted = format!("taskscope: nothing is inspected: {words}: No such file or directory (os error 2)\n");
         assert_eq!(ran(command("", "init", &[("TASKSCOPE_STREAM", Path::new(&words))])).1, wanted, "{words}");
     }
 }

@@ -2,15 +2,13 @@
 
 use crate::fault::Fault;
 use crate::ffi::Head;
-use crate::item::{Item, ItemKind, Lists};
+use crate::item::{ItemKind, Lists};
 use crate::op::OpCell;
 use crate::page::Page;
 use crate::poll_counts::PollCounts;
 use crate::resource::ResourceCell;
+use crate::table::{Listed, Table, Told};
 use crate::task::TaskCell;
-use std::cmp::Reverse;
-use std::collections::{BTreeMap, BinaryHeap};
-use std::sync::Arc;
 
 /// How many tasks, resources and operations were dropped. Each stays at the greatest `u64`.
 #[derive(Clone, Copy, Debug, Default, PartialEq, Eq)]
@@ -29,222 +27,40 @@ impl Total {
     }
 }
 
-/// The items of one kind.
-///
-/// A line lists those that were told before in the order in which they were first told, and new ones after them: this order
-/// is that of the tables to which the lines lead.
-#[derive(Debug)]
-struct Table<T> {
-    /// The items that were told and did not leave, by their places.
-    told: BTreeMap<u64, Arc<T>>,
-    last_place: u64,
-    /// Told items that are listed as changed.
-    changed: Vec<Arc<T>>,
-    fresh: Vec<Arc<T>>,
-    /// The told items that are closed, by the moment from which on they may leave, and their places.
-    closed: BinaryHeap<Reverse<(u64, u64)>>,
+/// Which lines are wanted of one reading of the rows, each under the number that its reader takes next.
+#[derive(Debug, Default)]
+pub(crate) struct Wanted {
+    /// The line of what changed, under each of these numbers: for readers that hold the tables of the line before.
+    pub(crate) changes: Vec<u64>,
+    /// The line that tells all, under this number: for readers that hold other tables or none.
+    pub(crate) all: Option<u64>,
+    /// How many bytes the line that tells all may have.
+    pub(crate) most: usize,
+    /// Whether there is to be no line of changes that tells nothing new.
+    pub(crate) unless_unchanged: bool,
 }
 
-impl<T> Default for Table<T> {
-    fn default() -> Table<T> {
-        Table {
-            told: BTreeMap::new(),
-            last_place: 0,
-            changed: Vec::new(),
-            fresh: Vec::new(),
-            closed: BinaryHeap::new(),
-        }
-    }
-}
-
-/// Which of the told items a line lists, before the new ones.
-#[derive(Clone, Copy, Debug, PartialEq, Eq)]
-enum Listed {
-    Changed,
-    All,
-}
-
-/// What the tables do alike, whatever their items are.
-trait Told {
-    /// Takes the lists of this kind out of a shard.
-    fn take(&mut self, fresh: &mut Lists, changed: &mut Lists);
-
-    /// Enters the items that a line lists.
-    fn enter(&mut self, listed: Listed, page: &mut Page);
-
-    /// Whether an item may leave at a moment.
-    fn may_leave(&self, moment: u64) -> bool;
-
-    /// The page that these were entered in was told.
-    fn tell(&mut self, listed: Listed, page: &Page, retention: Option<u64>);
-}
-
-impl<T: Item> Told for Table<T> {
-    fn take(&mut self, fresh: &mut Lists, changed: &mut Lists) {
-        self.fresh.append(T::list(fresh));
-        self.changed.append(T::list(changed));
-    }
-
-    fn enter(&mut self, listed: Listed, page: &mut Page) {
-        match listed {
-            Listed::Changed => self.enter_changes(page),
-            Listed::All => self.enter_all(page),
-        }
-        self.enter_fresh(page);
-    }
-
-    fn may_leave(&self, moment: u64) -> bool {
-        self.closed.peek().map_or(false, |&Reverse((from, _))| from <= moment)
-    }
-
-    fn tell(&mut self, listed: Listed, page: &Page, retention: Option<u64>) {
-        let first_fresh = match listed {
-            Listed::Changed => self.tell_changes(page, retention),
-            Listed::All => self.tell_all(page, retention),
-        };
-        self.tell_fresh(page, first_fresh, retention);
-    }
-}
-
-impl<T: Item> Table<T> {
-    /// Enters what changed, in the order of the places.
-    fn enter_changes(&mut self, page: &mut Page) {
-        let mut changed: Vec<(u64, Arc<T>)> = std::mem::take(&mut self.changed)
-            .into_iter()
-            .filter_map(|cell| Some((cell.row().changed_place()?, cell)))
-            .collect();
-        changed.sort_unstable_by_key(|(place, _)| *place);
-        self.changed = changed.into_iter().map(|(_, cell)| cell).collect();
-        for cell in &self.changed {
-            cell.enter(page, &cell.row().reading());
-        }
-        page.set_told(T::KIND, self.changed.len());
-    }
-
-    /// Enters all items that were told.
-    fn enter_all(&mut self, page: &mut Page) {
-        for cell in self.told.values() {
-            cell.enter(page, &cell.row().reading());
-        }
-        page.set_told(T::KIND, self.told.len());
-    }
-
-    fn enter_fresh(&mut self, page: &mut Page) {
-        // Poll counts may be gone before a line told of them.
-        self.fresh.retain(|cell| !cell.row().is_gone());
-        for cell in &self.fresh {
-            cell.enter(page, &cell.row().reading());
-        }
-    }
-
-    /// What changed was told. Gives how many entries that were.
-    fn tell_changes(&mut self, page: &Page, retention: Option<u64>) -> usize {
-        for (entry, cell) in self.changed.iter().enumerate() {
-            let place = cell.row().tell(T::entered(page, entry).now);
-            note_close::<T>(&mut self.closed, page, entry, place, retention);
-        }
-        self.changed.len()
-    }
-
-    /// All told items were told again. Gives how many entries that were.
-    fn tell_all(&mut self, page: &Page, retention: Option<u64>) -> usize {
-        for (entry, (place, cell)) in self.told.iter().enumerate() {
-            cell.row().tell(T::entered(page, entry).now);
-            note_close::<T>(&mut self.closed, page, entry, Some(*place), retention);
-        }
-        self.told.len()
-    }
-
-    /// The new items became told ones. `entry` is the first of theirs.
-    fn tell_fresh(&mut self, page: &Page, mut entry: usize, retention: Option<u64>) {
-        for cell in self.fresh.drain(..) {
-            self.last_place += 1;
-            cell.row().tell_first(T::entered(page, entry).now, self.last_place);
-            note_close::<T>(&mut self.closed, page, entry, Some(self.last_place), retention);
-            self.told.insert(self.last_place, Arc::clone(&cell));
-            self.changed.push(cell);
-            entry += 1;
-        }
-        self.changed.retain(|cell| cell.row().stays_listed());
-    }
-
-    /// Enters the items that leave at a moment, and gives their places, with what they stood at in `closed`.
-    fn enter_leaving(&mut self, page: &mut Page, moment: u64, retention: u64) -> Vec<(u64, u64)> {
-        let mut due = Vec::new();
-        while let Some(&Reverse((from, place))) = self.closed.peek() {
-            if from > moment {
-                break;
-            }
-            self.closed.pop();
-            due.push((place, from));
-        }
-        due.sort_unstable();
-        due.retain(|&(place, from)| {
-            let leaves = self.enter_if_it_leaves(page, place, moment, retention);
-            if !leaves {
-                self.closed.push(Reverse((from, place)));
-            }
-            leaves
-        });
-        page.set_told(T::KIND, due.len());
-        due
-    }
-
-    fn enter_if_it_leaves(&self, page: &mut Page, place: u64, moment: u64, retention: u64) -> bool {
-        let cell = match self.told.get(&place) {
-            Some(cell) => cell,
-            None => return false,
-        };
-        let mut reading = cell.row().reading();
-        reading.now = reading.told;
-        let leaves = T::leaves(&reading.told, moment, retention);
-        if leaves {
-            cell.enter(page, &reading);
-        }
-        leaves
-    }
-
-    /// These items left. They are gone from the tables.
-    fn leave(&mut self, leaving: &[(u64, u64)]) -> Vec<Arc<T>> {
-        let left: Vec<Arc<T>> = leaving.iter().filter_map(|(place, _)| self.told.remove(place)).collect();
-        left.iter().for_each(|cell| cell.row().leave());
-        left
-    }
-
-    /// Nothing is kept of an item, which no line tells of any more.
-    fn forget(&mut self, cell: &T) {
-        if let Some(place) = cell.row().place() {
-            self.told.remove(&place);
-        }
-        cell.row().leave();
-    }
-
-    /// These items did not leave, as their line was not made.
-    fn stay(&mut self, leaving: &[(u64, u64)]) {
-        self.closed.extend(leaving.iter().map(|&(place, from)| Reverse((from, place))));
-    }
-}
-
-/// Where a line is the first to tell an item's close, notes from when on the item may leave.
-fn note_close<T: Item>(
-    closed: &mut BinaryHeap<Reverse<(u64, u64)>>,
-    page: &Page,
-    entry: usize,
-    place: Option<u64>,
-    retention: Option<u64>,
-) {
-    let reading = T::entered(page, entry);
-    let first_told = T::closed(&reading.now).filter(|_| T::closed(&reading.told).is_none());
-    if let (Some(at), Some(place), Some(retention)) = (first_told, place, retention) {
-        closed.push(Reverse((at.saturating_add(retention), place)));
-    }
+/// Lines of one moment.
+#[derive(Debug, Default)]
+pub(crate) struct Lines {
+    /// For each number the line of what changed, and after it the one of what leaves, where something does.
+    pub(crate) changes: Vec<Vec<u8>>,
+    /// The line that tells all, and after it the same line of what leaves. None where it was not wanted or is too long.
+    pub(crate) all: Option<Vec<u8>>,
+    /// How many lines each of these is: 1 or 2.
+    pub(crate) count: u64,
 }
 
 /// The tables of the items that were told, and the lists of what the next line tells.
+///
+/// What was told is what a reader knows that took the last line, under whatever number. It is the same for all readers that are in step,
+/// and so one reading of the rows makes the lines of all.
 #[derive(Debug, Default)]
 pub(crate) struct Book {
-    /// The number of the last line.
+    /// The number of the last line that was published.
     seq: u64,
+    /// Whether nobody knows what was told, so that only a line that tells all may follow.
+    owes_all: bool,
     /// How many were dropped, as the last line told it.
     dropped: Total,
     /// Whether lines tell histograms of poll times.
@@ -272,20 +88,19 @@ impl Book {
         }
     }
 
-    /// Whether the next line would tell nothing but its moment. `page` has what it lists.
-    fn is_unchanged(&mut self, page: &Page, dropped: Total, moment: u64) -> bool {
-        page.is_empty() && dropped == self.dropped && !self.tables().iter().any(|table| table.may_leave(moment))
+    /// From now on nobody knows what was told.
+    pub(crate) fn owe_all(&mut self) {
+        self.owes_all = true;
     }
 
-    /// The line of what changed, and where items leave with it the line that says so after it.
+    /// The next line, and where items leave with it the line that says so after it.
     pub(crate) fn publish(
         &mut self,
         dropped: Total,
         now: impl Fn() -> u64,
         retention: Option<u64>,
     ) -> Result<Vec<u8>, Fault> {
-        let page = self.page(Listed::Changed);
-        self.publish_page(&page, dropped, now(), retention)
+        self.published(false, dropped, now, retention).map(Option::unwrap_or_default)
     }
 
     /// The same, or nothing where nothing changed.
@@ -295,49 +110,98 @@ impl Book {
         now: impl Fn() -> u64,
         retention: Option<u64>,
     ) -> Result<Option<Vec<u8>>, Fault> {
-        let page = self.page(Listed::Changed);
-        let moment = now();
-        if self.is_unchanged(&page, dropped, moment) {
-            return Ok(None);
-        }
-        self.publish_page(&page, dropped, moment, retention).map(Some)
+        self.published(true, dropped, now, retention)
     }
 
-    fn publish_page(
+    fn published(
         &mut self,
-        page: &Page,
+        unless_unchanged: bool,
         dropped: Total,
-        moment: u64,
+        now: impl Fn() -> u64,
         retention: Option<u64>,
-    ) -> Result<Vec<u8>, Fault> {
-        let mut lines = page.line(&self.head(moment, dropped, false))?;
-        self.tell(Listed::Changed, page, dropped, retention);
-        if let Some(retention) = retention {
-            lines.extend(self.gone_line(moment, dropped, retention));
-        }
-        Ok(lines)
+    ) -> Result<Option<Vec<u8>>, Fault> {
+        let next = self.seq + 1;
+        let wanted = match self.owes_all {
+            true => Wanted { all: Some(next), most: usize::MAX, ..Wanted::default() },
+            false => Wanted { changes: vec![next], unless_unchanged, ..Wanted::default() },
+        };
+        let lines = self.lines(&wanted, dropped, now, retention)?;
+        self.seq += lines.count;
+        Ok(lines.all.or_else(|| lines.changes.into_iter().next()))
     }
 
-    /// The line that tells all, or nothing where it has more than `most` bytes.
+    /// The line that tells all under a number, the next one without any, or nothing where it has more than `most` bytes. Nothing leaves.
+    /// The lines after it are numbered on.
     pub(crate) fn snapshot(
         &mut self,
+        number: Option<u64>,
         most: usize,
         dropped: Total,
         now: impl Fn() -> u64,
         retention: Option<u64>,
     ) -> Result<Option<Vec<u8>>, Fault> {
-        let page = self.page(Listed::All);
-        let line = page.line(&self.head(now(), dropped, true))?;
-        if line.len() > most {
-            return Ok(None);
+        let number = number.unwrap_or(self.seq + 1);
+        let wanted = Wanted { all: Some(number), most, ..Wanted::default() };
+        let (lines, _) = self.lines_of_what_stays(&wanted, dropped, now, retention)?;
+        if lines.all.is_some() {
+            self.seq = number;
         }
-        self.tell(Listed::All, &page, dropped, retention);
-        Ok(Some(line))
+        Ok(lines.all)
+    }
+
+    /// Lines of one reading of the rows. There may be none, where they would tell nothing new and are not wanted then, or where the only
+    /// one is too long. Then, and with a fault, nothing counts as told.
+    ///
+    /// For a line that tells all, all rows are read, and otherwise those that changed.
+    pub(crate) fn lines(
+        &mut self,
+        wanted: &Wanted,
+        dropped: Total,
+        now: impl Fn() -> u64,
+        retention: Option<u64>,
+    ) -> Result<Lines, Fault> {
+        let (mut lines, moment) = self.lines_of_what_stays(wanted, dropped, now, retention)?;
+        if let (Some(retention), true) = (retention, lines.count > 0) {
+            self.add_leaving(&mut lines, wanted, moment, dropped, retention);
+        }
+        Ok(lines)
+    }
+
+    /// The same, without those of what leaves, and their moment.
+    fn lines_of_what_stays(
+        &mut self,
+        wanted: &Wanted,
+        dropped: Total,
+        now: impl Fn() -> u64,
+        retention: Option<u64>,
+    ) -> Result<(Lines, u64), Fault> {
+        let listed = if wanted.all.is_some() { Listed::All } else { Listed::Changed };
+        let page = self.page(listed);
+        // Read after the rows, so that no moment in a line is above its own.
+        let moment = now();
+        if wanted.unless_unchanged && wanted.all.is_none() && self.is_unchanged(&page, dropped, moment) {
+            return Ok((Lines::default(), moment));
+        }
+        let write = |seq, snapshot| page.line(&head(seq, moment, dropped, snapshot));
+        let all = wanted.all.map(|seq| write(seq, true)).transpose()?.filter(|line| line.len() <= wanted.most);
+        let changes = wanted.changes.iter().map(|&seq| write(seq, false)).collect::<Result<Vec<_>, _>>()?;
+        if all.is_none() && changes.is_empty() {
+            return Ok((Lines::default(), moment));
+        }
+        self.dropped = dropped;
+        self.owes_all = false;
+        for table in self.tables() {
+            table.tell(listed, &page, retention);
+        }
+        Ok((Lines { changes, all, count: 1 }, moment))
+    }
+
+    /// Whether the next line would tell nothing but its moment. `page` has what it lists.
+    fn is_unchanged(&mut self, page: &Page, dropped: Total, moment: u64) -> bool {
+        page.is_empty() && dropped == self.dropped && !self.tables().iter().any(|table| table.may_leave(moment))
     }
 
     /// The entries of a line of these items and the new ones.
-    ///
-    /// The moment of the line is to be read after this, so that no moment in it is above its own.
     fn page(&mut self, listed: Listed) -> Page {
         let mut page = Page::new(self.times);
         for table in self.tables() {
@@ -346,60 +210,73 @@ impl Book {
         page
     }
 
-    /// The line of a page was made, and counts as told.
-    fn tell(&mut self, listed: Listed, page: &Page, dropped: Total, retention: Option<u64>) {
-        self.seq += 1;
-        self.dropped = dropped;
-        for table in self.tables() {
-            table.tell(listed, page, retention);
-        }
-    }
-
-    /// The line that says what leaves, or no bytes where nothing does, or where the line can't be made: what leaves then stays
-    /// for the next call.
-    fn gone_line(&mut self, moment: u64, dropped: Total, retention: u64) -> Vec<u8> {
+    /// Adds the line that says what leaves to each of the lines, under the number after its own. Where nothing leaves, and where one of
+    /// them can't be made, none is added: what leaves then stays for the next call.
+    fn add_leaving(&mut self, lines: &mut Lines, wanted: &Wanted, moment: u64, dropped: Total, retention: u64) {
         let mut page = Page::default();
         let tasks = self.tasks.enter_leaving(&mut page, moment, retention);
         let resources = self.resources.enter_leaving(&mut page, moment, retention);
         let ops = self.ops.enter_leaving(&mut page, moment, retention);
         if tasks.is_empty() && resources.is_empty() && ops.is_empty() {
-            return Vec::new();
+            return;
         }
-        match page.gone_line(&self.head(moment, dropped, false), retention) {
-            Ok(line) => {
-                self.seq += 1;
-                self.tasks.leave(&tasks);
-                self.ops.leave(&ops);
-                // A reader keeps the counts of a resource that left; here nothing is kept.
-                for resource in self.resources.leave(&resources) {
-                    self.counts.forget(&resource.counts);
-                }
-                line
-            }
-            Err(_) => {
+        let write = |&seq: &u64| page.gone_line(&head(seq.saturating_add(1), moment, dropped, false), retention);
+        let after_changes: Result<Vec<_>, _> = wanted.changes.iter().map(write).collect();
+        let after_all = wanted.all.as_ref().map(write).transpose();
+        let (after_changes, after_all) = match (after_changes, after_all) {
+            (Ok(after_changes), Ok(after_all)) => (after_changes, after_all),
+            _ => {
                 self.tasks.stay(&tasks);
                 self.resources.stay(&resources);
                 self.ops.stay(&ops);
-                Vec::new()
+                return;
             }
+        };
+        for (line, leaving) in
+            lines.changes.iter_mut().chain(&mut lines.all).zip(after_changes.iter().chain(&after_all))
+        {
+            line.extend_from_slice(leaving);
+        }
+        lines.count = 2;
+        self.tasks.leave(&tasks);
+        self.ops.leave(&ops);
+        // A reader keeps the counts of a resource that left; here nothing is kept.
+        for resource in self.resources.leave(&resources) {
+            self.counts.forget(&resource.counts);
         }
     }
 
-    /// The head of the next line, but for how many entries were told, which the page says.
-    fn head(&self, moment: u64, dropped: Total, snapshot: bool) -> Head {
-        let Total([dropped_tasks, dropped_resources, dropped_ops]) = dropped;
-        Head {
-            // After the last number that a line can have, the library refuses the next one.
-            seq: self.seq.saturating_add(1),
-            moment,
-            dropped_tasks,
-            dropped_resources,
-            dropped_ops,
-            told_tasks: 0,
-            told_resources: 0,
-            told_ops: 0,
-            told_counts: 0,
-            snapshot,
+    /// Takes what is new and what changed as told, and lets go of what leaves, as a line would, though none is made. Only a line that
+    /// tells all may follow, and the next one does.
+    pub(crate) fn pass(&mut self, now: impl Fn() -> u64, retention: Option<u64>) {
+        self.owe_all();
+        for table in self.tables() {
+            table.pass(retention);
         }
+        if let Some(retention) = retention {
+            let moment = now();
+            self.tasks.pass_leaving(moment, retention);
+            self.ops.pass_leaving(moment, retention);
+            for resource in self.resources.pass_leaving(moment, retention) {
+                self.counts.forget(&resource.counts);
+            }
+        }
+    }
+}
+
+/// The head of a line, but for how many entries were told, which the page says. The library refuses a number that no line can have.
+fn head(seq: u64, moment: u64, dropped: Total, snapshot: bool) -> Head {
+    let Total([dropped_tasks, dropped_resources, dropped_ops]) = dropped;
+    Head {
+        seq,
+        moment,
+        dropped_tasks,
+        dropped_resources,
+        dropped_ops,
+        told_tasks: 0,
+        told_resources: 0,
+        told_ops: 0,
+        told_counts: 0,
+        snapshot,
     }
 }

@@ -1,6 +1,6 @@
 //! The console: it makes items, and publishes what became of them.
 
-use crate::book::{Book, Total};
+use crate::book::{Book, Lines, Total, Wanted};
 use crate::border::limit::LAST_NUMBER;
 use crate::fault::Fault;
 use crate::ffi;
@@ -16,7 +16,7 @@ use std::borrow::Cow;
 use std::cell::Cell;
 use std::fmt;
 use std::sync::atomic::{AtomicBool, AtomicUsize, Ordering};
-use std::sync::{Arc, Mutex};
+use std::sync::{Arc, Mutex, MutexGuard};
 use std::time::{Duration, Instant};
 
 /// How much a console keeps.
@@ -147,6 +147,8 @@ pub(crate) struct Inner {
     waits: bool,
     shards: [ShardLock; SHARDS],
     book: Mutex<Book>,
+    /// Whether a thread publishes the lines.
+    is_claimed: AtomicBool,
 }
 
 /// The shard of this thread. Threads are given the shards in turn.
@@ -258,31 +260,72 @@ impl Inner {
         total
     }
 
-    fn publish(&self) -> Result<Vec<u8>, Fault> {
+    /// Takes the book, with what the shards list in it and how many were dropped. There is none where nothing is recorded.
+    fn book(&self) -> Option<(MutexGuard<'_, Book>, Total)> {
         if !self.is_active() {
-            return Ok(Vec::new());
+            return None;
         }
         let mut book = lock(&self.book);
         let dropped = self.take(&mut book);
-        book.publish(dropped, || self.now(), self.retention)
+        Some((book, dropped))
     }
 
-    fn publish_changes(&self) -> Result<Option<Vec<u8>>, Fault> {
-        if !self.is_active() {
-            return Ok(None);
+    pub(crate) fn publish(&self) -> Result<Vec<u8>, Fault> {
+        match self.book() {
+            Some((mut book, dropped)) => book.publish(dropped, || self.now(), self.retention),
+            None => Ok(Vec::new()),
         }
-        let mut book = lock(&self.book);
-        let dropped = self.take(&mut book);
-        book.publish_changes(dropped, || self.now(), self.retention)
     }
 
-    fn snapshot(&self, most: usize) -> Result<Option<Vec<u8>>, Fault> {
-        if !self.is_active() {
-            return Ok(Some(Vec::new()));
+    pub(crate) fn publish_changes(&self) -> Result<Option<Vec<u8>>, Fault> {
+        match self.book() {
+            Some((mut book, dropped)) => book.publish_changes(dropped, || self.now(), self.retention),
+            None => Ok(None),
         }
-        let mut book = lock(&self.book);
-        let dropped = self.take(&mut book);
-        book.snapshot(most, dropped, || self.now(), self.retention)
+    }
+
+    fn snapshot(&self, number: Option<u64>, most: usize) -> Result<Option<Vec<u8>>, Fault> {
+        match self.book() {
+            Some((mut book, dropped)) => book.snapshot(number, most, dropped, || self.now(), self.retention),
+            None => Ok(Some(Vec::new())),
+        }
+    }
+
+    /// Lines for readers that stand differently, as [`Book::lines`] says.
+    #[cfg(unix)]
+    pub(crate) fn lines(&self, wanted: &Wanted) -> Result<Lines, Fault> {
+        match self.book() {
+            Some((mut book, dropped)) => book.lines(wanted, dropped, || self.now(), self.retention),
+            None => Ok(Lines::default()),
+        }
+    }
+
+    /// Lets items come, change and leave, while nobody reads.
+    pub(crate) fn pass(&self) {
+        if let Some((mut book, _)) = self.book() {
+            book.pass(|| self.now(), self.retention);
+        }
+    }
+
+    /// Has one thread alone publish the lines, until [`give_back`](Inner::give_back). The answer is whether no other thread does.
+    pub(crate) fn claim(&self) -> bool {
+        !self.is_claimed.swap(true, Ordering::SeqCst)
+    }
+
+    /// Others may publish again. The next line tells all, unless it goes on with the same stream.
+    pub(crate) fn give_back(&self, goes_on: bool) {
+        if self.is_active() && !goes_on {
+            lock(&self.book).owe_all();
+        }
+        self.is_claimed.store(false, Ordering::SeqCst);
+    }
+
+    /// Whether a call on the console may publish a line.
+    fn unclaimed(&self) -> Result<(), Fault> {
+        if self.is_active() && self.is_claimed.load(Ordering::SeqCst) {
+            return Err(Fault::OtherWriter);
+        }
+        Ok(())
     }
 }
 
@@ -316,6 +359,7 @@ impl Console {
             waits: settings.waits,
             shards: Default::default(),
             book: Mutex::new(Book::new(settings.times)),
+            is_claimed: AtomicBool::new(false),
         }))
     }
 
@@ -448,8 +492,10 @@ impl Console {
     /// # Errors
     /// Nothing counts as told then, and the next call tells it. [`Memory`](Fault::Memory) may come at any call, and
     /// [`LinesSpent`](Fault::LinesSpent) after 2^63 lines. The others don't come while this crate and its library fit each
-    /// other. Where a line was made and the one about what leaves was not, this is no error, and these items leave later.
+    /// other. If a line was made and the one about what leaves was not, this is no error, and these items leave later.
+    /// [`OtherWriter`](Fault::OtherWriter) if a [`Publisher`](crate::Publisher) or a [`Server`](crate::Server) publishes the lines of this console.
     pub fn publish(&self) -> Result<Vec<u8>, Fault> {
+        self.0.unclaimed()?;
         self.0.publish()
     }
 
@@ -473,6 +519,7 @@ impl Console {
     /// # Errors
     /// As of [`publish`](Console::publish).
     pub fn publish_changes(&self) -> Result<Option<Vec<u8>>, Fault> {
+        self.0.unclaimed()?;
         self.0.publish_changes()
     }
 
@@ -497,10 +544,11 @@ impl Console {
     /// # Errors
     /// As of [`publish`](Console::publish).
     pub fn snapshot(&self) -> Result<Vec<u8>, Fault> {
-        self.0.snapshot(usize::MAX).map(Option::unwrap_or_default)
+        self.0.unclaimed()?;
+        self.0.snapshot(None, usize::MAX).map(Option::unwrap_or_default)
     }
 
-    /// As [`snapshot`](Console::snapshot), or `None` where the line has more than `most` bytes. Nothing counts as told then, and the
+    /// As [`snapshot`](Console::snapshot), or `None` if the line has more than `most` bytes. Nothing counts as told then, and the
     /// next line is as if this one had not been asked for.
     ///
     /// The line is made to see how long it is.
@@ -519,7 +567,56 @@ impl Console {
     /// # Errors
     /// As of [`publish`](Console::publish).
     pub fn snapshot_within(&self, most: usize) -> Result<Option<Vec<u8>>, Fault> {
-        self.0.snapshot(most)
+        self.0.unclaimed()?;
+        self.0.snapshot(None, most)
+    }
+
+    /// As [`snapshot_within`](Console::snapshot_within), under this number, from which on the lines after it are numbered.
+    ///
+    /// This is for a reader that lost lines, as a file does on a full disk: with the number of the first line that it lost its
+    /// stream goes on, as a reader takes no other number.
+    ///
+    /// ```
+    /// use taskscope::{Console, Settings};
+    ///
+    /// let console = Console::open(Settings::default());
+    /// let kept = console.publish()?;
+    /// let lost = console.publish()?;
+    /// let goes_on = console.snapshot_as(2, usize::MAX)?.unwrap_or_default();
+    /// assert!(String::from_utf8_lossy(&goes_on).contains(r#""seq":2"#));
+    /// assert!(String::from_utf8_lossy(&console.publish()?).contains(r#""seq":3"#));
+    /// # drop((kept, lost));
+    /// # Ok::<(), taskscope::Fault>(())
+    /// ```
+    ///
+    /// # Errors
+    /// As of [`publish`](Console::publish), and [`LinesSpent`](Fault::LinesSpent) for a number that no line has: 0, and those above 2^63.
+    pub fn snapshot_as(&self, number: u64, most: usize) -> Result<Option<Vec<u8>>, Fault> {
+        self.0.unclaimed()?;
+        self.0.snapshot(Some(number), most)
+    }
+
+    /// Lets items come, change and leave without a line, while nobody reads: what is new is taken up, so that recorders have room, and
+    /// closed items leave once they are due. The next line tells all, whichever call asks for it. It costs as a line does, less its text.
+    ///
+    /// ```
+    /// use taskscope::{Console, Settings};
+    ///
+    /// let console = Console::open(Settings::default());
+    /// let task = console.task("fetch").open();
+    /// console.pass()?;
+    /// let line = console.publish()?;
+    /// assert!(String::from_utf8_lossy(&line).contains(r#""snapshot":true"#));
+    /// # drop(task);
+    /// # Ok::<(), taskscope::Fault>(())
+    /// ```
+    ///
+    /// # Errors
+    /// [`OtherWriter`](Fault::OtherWriter) if a [`Publisher`](crate::Publisher) or a [`Server`](crate::Server) publishes the lines of this console.
+    pub fn pass(&self) -> Result<(), Fault> {
+        self.0.unclaimed()?;
+        self.0.pass();
+        Ok(())
     }
 }
 

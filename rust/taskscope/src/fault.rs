@@ -14,6 +14,9 @@ pub enum Fault {
     Memory,
     /// The stream has all of its 2^63 lines.
     LinesSpent,
+    /// A [`Publisher`](crate::Publisher) or a [`Server`](crate::Server) publishes the lines of this console. A second stream of them would lack what the
+    /// first one told.
+    OtherWriter,
     /// The library refused an item of the line. It refuses none that this crate makes while the two fit each other.
     BadItem {
         /// The kind of the item.
@@ -80,6 +83,7 @@ impl fmt::Display for Fault {
         match self {
             Fault::Memory => f.write_str("out of memory"),
             Fault::LinesSpent => f.write_str("no line is left in the stream"),
+            Fault::OtherWriter => f.write_str("another writer publishes the lines of this console"),
             Fault::BadItem { kind, id, reason } => {
                 write!(f, "{kind} ")?;
                 id::print(*id, f)?;

@@ -6,7 +6,8 @@
 //! [`Console::publish`] gives a line of JSON that tells what is new and what changed, which the same library writes. `taskscope
 //! view` shows such lines as a report, and `taskscope lint` the warnings about them.
 //!
-//! - [`Console`] makes items and publishes lines, by its [`Settings`]. [`Publisher`] does so each so often, on a thread.
+//! - [`Console`] makes items and publishes lines, by its [`Settings`]. [`Publisher`] writes them each so often, on a thread, and
+//!   [`Server`] serves them at an [`Address`], to readers that connect and go as they like, within [`Limits`].
 //! - [`Inspected`] is a future whose polls and wakers are recorded, which [`InstrumentExt`] makes of any; [`Blocking`] is a call
 //!   that blocks its thread, and [`InspectedOp`] a future that is an async operation. Most programs need no more.
 //! - [`Task`] is the owner of a task, for polls by hand, [`TaskWaker`] one of its wakers. [`Resource`] is what tasks wait for,
@@ -88,7 +89,11 @@ mod publisher;
 mod refused;
 mod resource;
 mod row;
+mod running;
+#[cfg(unix)]
+mod server;
 mod shared;
+mod table;
 mod task;
 #[cfg(doctest)]
 mod unkept;
@@ -104,5 +109,7 @@ pub use op::{Op, OpBuilder};
 pub use publisher::Publisher;
 pub use refused::{Refused, Woken};
 pub use resource::{Resource, ResourceBuilder};
+#[cfg(unix)]
+pub use server::{Address, Limits, Served, Server};
 pub use shared::SharedTask;
 pub use task::{Origin, Task, TaskBuilder, TaskKind, TaskWaker};

@@ -160,6 +160,21 @@ impl<W: Copy + Default + PartialEq> Row<W> {
         state.standing = Standing::Told(place);
     }
 
+    /// Takes the words of now as told, though no line told them. An item that is new gets this place. The answer is the item's place, and
+    /// its words now and as they were told before. The item is in no list from now on, and without an answer where it is gone.
+    pub(crate) fn pass(&self, new_place: u64) -> Option<(u64, Reading<W>)> {
+        let mut state = lock(&self.0);
+        if state.standing == Standing::Gone {
+            return None;
+        }
+        let reading = Reading { now: state.now, told: state.told() };
+        let place = state.standing.place().unwrap_or(new_place);
+        state.standing = Standing::Told(place);
+        state.told = None;
+        state.listed = false;
+        Some((place, reading))
+    }
+
     /// Whether a listed item that was just told has changed since. If not, or where it is gone, it is in no list from now on.
     pub(crate) fn stays_listed(&self) -> bool {
         let mut state = lock(&self.0);

@@ -39,4 +39,6 @@ is_to_be_kept! {
     Op: "console.op(&resource, \"acquire\").open()",
     InspectedOp: "console.op(&resource, \"acquire\").open().instrument(async {})",
     Publisher: "Publisher::start(&console, Duration::from_millis(100), Vec::new()).unwrap()",
+    Server: "Server::start(&console, Duration::from_millis(100), &\"tcp:127.0.0.1:0\".parse().unwrap(), Limits::default()).unwrap()",
+    Limits: "Limits::default().readers(8)",
 }

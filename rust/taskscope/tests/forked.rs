@@ -12,7 +12,8 @@ use std::task::{Context, Poll};
 use std::thread;
 use std::time::Duration;
 use taskscope::{
-    Attr, Change, Console, InstrumentExt, Op, Origin, Publisher, Resource, Settings, SharedTask, Task, Woken,
+    Address, Attr, Change, Console, InstrumentExt, Limits, Op, Origin, Publisher, Resource, Server, Settings,
+    SharedTask, Task, Woken,
 };
 
 extern "C" {
@@ -80,7 +81,8 @@ fn status_of_child(items: &mut Option<Items>) -> c_int {
 
 #[test]
 fn a_child_of_a_fork_records_nothing_and_never_hangs() {
-    let console = Console::open(Settings::default());
+    // With lines that are short enough for the publisher to be within one after the other.
+    let console = Console::open(Settings::default().capacity(1_000));
     let shared = console.task("shared").open().share();
     let (task, woken) = (console.task("task").open(), console.task("woken").open());
     let resource = console.resource("Semaphore").kind("Sync").attr(Attr::new("permits", 1u64 << 40)).open();
@@ -96,7 +98,6 @@ fn a_child_of_a_fork_records_nothing_and_never_hangs() {
                     let _ = woken.wake_by_ref(Origin::Outside);
                     let _ = resource.change("permits", Change::sub(1u64));
                     drop(console.task("made").open());
-                    drop(console.publish());
                 }
             });
         }
@@ -137,4 +138,30 @@ fn a_fork_within_a_poll_leaves_the_poll_to_the_parent() {
     assert_eq!((common::number(row, "polls"), common::value(row, "polling")), (1, "false"));
     drop(future);
     assert_eq!(status, 0);
+}
+
+#[test]
+fn a_server_and_its_socket_are_the_parents() {
+    let console = Console::open(Settings::default());
+    let path = std::env::temp_dir().join(format!("ts-forked-{}", std::process::id()));
+    let address = Address::Unix(path.clone());
+    let mut server = Some(Server::start(&console, Duration::from_millis(1), &address, Limits::default()).unwrap());
+    let mut status = -1;
+    // SAFETY: as above. The child drops its copy of the server, and ends.
+    unsafe {
+        let child = fork();
+        if child == 0 {
+            alarm(20);
+            drop(server.take());
+            _exit(if path.exists() { 0 } else { 1 });
+        }
+        assert_eq!(waitpid(child, &mut status, 0), child, "the child is waited for");
+    }
+    assert_eq!(status, 0, "1 << 8: the socket was removed; 14: it hung");
+    let mut line = String::new();
+    let reader = std::os::unix::net::UnixStream::connect(&path).expect("it listens");
+    std::io::BufRead::read_line(&mut std::io::BufReader::new(reader), &mut line).expect("a line");
+    assert_eq!(common::value(&line, "snapshot"), "true", "the parent serves on: {line}");
+    server.take().expect("a server").stop().expect("no fault");
+    assert!(!path.exists(), "the parent removes it");
 }

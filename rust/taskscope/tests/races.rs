@@ -99,19 +99,21 @@ fn main() {
     let waker = wakers.recv().unwrap();
     let task = console.task("by hand").open();
     let resource = console.resource("Semaphore").kind("Sync").attr(Attr::new("calls", 0u64)).open();
-    let publisher = Publisher::start(&console, Duration::from_millis(1), Vec::new()).unwrap();
     let threads: Vec<JoinHandle<()>> = (0..THREADS)
         .map(|_| {
             let (console, waker, by_hand, resource) = (console.clone(), waker.clone(), task.waker(), resource.clone());
             spawn(move || call(&console, &waker, &by_hand, &resource))
         })
         .collect();
-    let snapshots = {
+    let lines = |make: fn(&Console) -> usize| {
         let console = console.clone();
-        spawn(move || (0..50).map(|_| console.snapshot().unwrap().len()).sum::<usize>())
+        spawn(move || (0..50).map(|_| make(&console)).sum::<usize>())
     };
+    let snapshots = lines(|console| console.snapshot().unwrap().len());
+    let changes = lines(|console| console.publish().unwrap().len());
+    assert!(snapshots.join().unwrap() > 0 && changes.join().unwrap() > 0);
+    let publisher = Publisher::start(&console, Duration::from_millis(1), Vec::new()).unwrap();
     threads.into_iter().for_each(|thread| thread.join().unwrap());
-    assert!(snapshots.join().unwrap() > 0);
     assert!(!publisher.stop().unwrap().is_empty());
     let told = snapshot(&console);
     let row = common::task(&told, id);

@@ -47,7 +47,8 @@ pub fn names(lines: &str) -> Vec<String> {
     for line in lines.lines() {
         assert!(line.starts_with('{') && line.ends_with('}'), "{line}");
         let seq = number(line, "seq");
-        assert!(last.map_or(true, |last| seq == last + 1) || value(line, "snapshot") == "true", "{last:?} {line}");
+        // A reader takes no other number, also where the line tells all.
+        assert!(last.map_or(true, |last| seq == last + 1), "after {last:?} comes {line}");
         last = Some(seq);
         tables.apply(line);
     }
