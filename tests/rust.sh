@@ -526,7 +526,7 @@ start_service() {
     TASKSCOPE_STREAM=$1 "$unstable/debug/examples/load" "$2" "$4" "$3" > "$work/load" 2> "$work/said" &
     service=$!
     for _ in $(seq 100); do
-        "$root/taskscope" view "$1" > "$work/report" 2>&1 && return 0
+        "$program" view "$1" > "$work/report" 2>&1 && return 0
         sleep 0.1
     done
     cat "$work/report" "$work/said"
@@ -540,7 +540,7 @@ service_was_silent() {
 
 # How many of the tasks that stay the report has that comes to standard input.
 living_of() {
-    "$root/taskscope" view "$@" | grep -c ' name live$'
+    "$program" view "$@" | grep -c ' name live$'
 }
 
 # A port, free with some luck.
@@ -566,7 +566,7 @@ attached_at_socket() {
 # `watch` shows the first service, then the second, which has more tasks.
 watch_goes_on() {
     start_service "unix:$work/again.socket" 3 3 0 || return 1
-    timeout 20 "$root/taskscope" watch "unix:$work/again.socket" > "$work/watched" &
+    timeout 20 "$program" watch "unix:$work/again.socket" > "$work/watched" &
     watching=$!
     service_was_silent && start_service "unix:$work/again.socket" 7 4 0 && service_was_silent || return 1
     kill "$watching"
