@@ -165,10 +165,10 @@ fn an_error_of_the_writer_ends_the_thread_and_is_told() {
 
 #[test]
 fn a_panic_of_the_writer_goes_on_in_the_stop_and_not_in_the_drop() {
-    let console = Console::open(Settings::default());
+    // A console each: a drop leaves a thread to itself after two seconds, and then it still publishes.
     let start = || {
         let writer = Fails(0, || -> io::Result<usize> { panic!("as the test wants") });
-        Publisher::start(&console, LONG, writer).unwrap()
+        Publisher::start(&Console::open(Settings::default()), LONG, writer).unwrap()
     };
     drop(start());
     let publisher = start();
