@@ -150,6 +150,22 @@ fn readers_of_a_port_come_late_and_go() {
 }
 
 #[test]
+fn a_port_is_named_by_a_word_and_makes_no_file() {
+    let folder = Folder::new();
+    let port = TcpListener::bind("127.0.0.1:0").and_then(|port| port.local_addr()).expect("a port");
+    let word = format!("tcp:{port}");
+    let mut child = command("", "long", &[("TASKSCOPE_STREAM", Path::new(&word))])
+        .current_dir(folder.path("."))
+        .spawn()
+        .expect("it runs");
+    until(|| TcpStream::connect(port).is_ok());
+    let line = read_until(&mut BufReader::new(TcpStream::connect(port).expect("it listens")), "first");
+    assert_eq!(value(&line, "snapshot"), "true", "{line}");
+    assert_eq!(child.wait().expect("it ends").code(), Some(7), "the status of the program");
+    assert!(!folder.path(&word).exists(), "a file has the name {word}");
+}
+
+#[test]
 fn a_first_line_comes_at_once_however_long_the_interval() {
     let folder = Folder::new();
     let path = folder.path("socket");
