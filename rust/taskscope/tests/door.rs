@@ -15,6 +15,7 @@ use std::os::unix::net::{UnixListener, UnixStream};
 use std::path::{Path, PathBuf};
 use std::process::Command;
 use std::sync::atomic::{AtomicBool, Ordering};
+use std::sync::{PoisonError, RwLock, RwLockReadGuard};
 use std::thread::{self, sleep};
 use std::time::{Duration, Instant};
 use taskscope::{Address, Console, Limits, Server, Settings, Task};
@@ -34,6 +35,15 @@ fn connect_port(server: &Server) -> TcpStream {
     }
 }
 
+/// Whether a child is being started: up to its own program it has a copy of each socket of this process, so that one which was let go listens
+/// on for a moment.
+static FORKS: RwLock<()> = RwLock::new(());
+
+/// While this is held no test starts a child.
+fn without_forks() -> RwLockReadGuard<'static, ()> {
+    FORKS.read().unwrap_or_else(PoisonError::into_inner)
+}
+
 /// Runs a test of this name again, in a process of its own. The answer is whether this is it.
 fn is_alone(name: &str) -> bool {
     const ALONE: &str = "TASKSCOPE_TEST_ALONE";
@@ -41,7 +51,11 @@ fn is_alone(name: &str) -> bool {
         return true;
     }
     let mut alone = Command::new(std::env::current_exe().expect("this program"));
-    let status = alone.args(["--exact", name]).env(ALONE, name).status().expect("it runs");
+    let begun = {
+        let _forking = FORKS.write().unwrap_or_else(PoisonError::into_inner);
+        alone.args(["--exact", name]).env(ALONE, name).spawn()
+    };
+    let status = begun.and_then(|mut child| child.wait()).expect("it runs");
     assert!(status.success(), "{name} by itself: {status}");
     false
 }
@@ -251,6 +265,7 @@ fn a_socket_is_its_owners_alone_at_each_moment() {
 
 #[test]
 fn a_socket_takes_the_place_of_nobodys_file() {
+    let _forks = without_forks();
     let path = path();
     drop(UnixListener::bind(&path).expect("a socket"));
     let server = start_at(&path).expect("a socket that was left behind is made anew");
@@ -277,6 +292,7 @@ fn a_socket_takes_the_place_of_nobodys_file() {
 
 #[test]
 fn of_programs_that_start_together_one_gets_a_socket_that_was_left_behind() {
+    let _forks = without_forks();
     for round in 0..30 {
         let path = path();
         drop(UnixListener::bind(&path).expect("a socket"));
@@ -323,6 +339,7 @@ fn addresses_are_read_as_they_are_written() {
 
 #[test]
 fn a_port_is_had_again_at_once() {
+    let _forks = without_forks();
     let first = start_port(&console(), OFTEN);
     let address = first.address().clone();
     let (_reader, line) = join(&first);
