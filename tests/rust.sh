@@ -523,19 +523,19 @@ readers_agree() {
 # A service at an address, with so many tasks that stay, for so many seconds, and so many that come and go each second. It listens once
 # this returns.
 start_service() {
-    TASKSCOPE_STREAM=$1 "$unstable/debug/examples/load" "$2" "$4" "$3" > "$work/load" 2> "$work/said" &
+    TASKSCOPE_STREAM=$1 "$unstable/debug/examples/load" "$2" "$4" "$3" > "$work/load" 2> "$work/service-said" &
     service=$!
     for _ in $(seq 100); do
         "$program" view "$1" > "$work/report" 2>&1 && return 0
         sleep 0.1
     done
-    cat "$work/report" "$work/said"
+    cat "$work/report" "$work/service-said"
     return 1
 }
 
 # It ends by itself, and has said nothing: that readers come and go is no fault.
 service_was_silent() {
-    wait "$service" && [ ! -s "$work/said" ] || { cat "$work/said"; return 1; }
+    wait "$service" && [ ! -s "$work/service-said" ] || { cat "$work/service-said"; return 1; }
 }
 
 # How many of the tasks that stay the report has that comes to standard input.
@@ -579,12 +579,12 @@ watch_goes_on() {
 full_disk_is_read() {
     (
         ulimit -S -f 100
-        TASKSCOPE_STREAM=$work/full.stream exec "$unstable/debug/examples/load" 20 50 6 > "$work/load" 2> "$work/said"
+        TASKSCOPE_STREAM=$work/full.stream exec "$unstable/debug/examples/load" 20 50 6 > "$work/load" 2> "$work/service-said"
     ) &
     service=$!
     sleep 3
-    prlimit --pid "$service" --fsize=unlimited && wait "$service" && cat "$work/said" || return 1
-    grep -q 'the stream goes on when there is room' "$work/said" && [ "$(living_of "$work/full.stream")" -eq 20 ]
+    prlimit --pid "$service" --fsize=unlimited && wait "$service" && cat "$work/service-said" || return 1
+    grep -q 'the stream goes on when there is room' "$work/service-said" && [ "$(living_of "$work/full.stream")" -eq 20 ]
 }
 
 step 'readers that came at six times have one report' readers_agree
