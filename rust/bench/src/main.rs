@@ -64,9 +64,14 @@ fn console() -> Console {
     with_times(true)
 }
 
-/// The same, with histograms of poll times or without.
+/// The same, with histograms of poll times or without. Some lines were made, as by a program that runs for a while: its clock goes by them.
 fn with_times(times: bool) -> Console {
-    Console::open(Settings::default().capacity(usize::MAX).retention(Duration::ZERO).times(times))
+    let console = Console::open(Settings::default().capacity(usize::MAX).retention(Duration::ZERO).times(times));
+    for _ in 0..3 {
+        std::thread::sleep(Duration::from_millis(60));
+        console.publish().expect("a line");
+    }
+    console
 }
 
 /// A row of the table of calls.

@@ -5,7 +5,7 @@
 
 use crate::fields::{How, UpdateFields};
 use std::borrow::Cow;
-use std::collections::HashMap;
+use std::collections::BTreeMap;
 use std::sync::{Arc, PoisonError, RwLock};
 use taskscope::{Attr, Change, Value};
 
@@ -58,7 +58,7 @@ const ACQUIRE: &[Known] = &[known("permits_requested", NONE), known("permits_obt
 
 /// The attributes of types, by the types' names.
 #[derive(Debug)]
-pub(crate) struct Types(RwLock<HashMap<Cow<'static, str>, Arc<[Known]>>>);
+pub(crate) struct Types(RwLock<BTreeMap<Cow<'static, str>, Arc<[Known]>>>);
 
 impl Types {
     pub(crate) fn of_resources() -> Types {
@@ -74,10 +74,13 @@ impl Types {
         Types(RwLock::new(table.iter().map(entry).collect()))
     }
 
-    /// The attributes that an item of this type begins with.
-    pub(crate) fn begin(&self, name: &str) -> Values {
+    /// The name of a type, and the attributes that an item of it begins with.
+    pub(crate) fn begin(&self, name: &str) -> (Cow<'static, str>, Values) {
         let types = self.0.read().unwrap_or_else(PoisonError::into_inner);
-        Values::new(types.get(name).map_or_else(|| Arc::from([]), Arc::clone))
+        match types.get_key_value(name) {
+            Some((name, list)) => (name.clone(), Values::new(Arc::clone(list))),
+            None => (Cow::Owned(name.to_owned()), Values::new(Arc::from([]))),
+        }
     }
 
     /// From now on items of this type begin with the attribute that an update names, where they can.
@@ -219,7 +222,7 @@ mod tests {
 
     #[test]
     fn a_sum_that_is_told_out_of_order_comes_right() {
-        let mut permits = Types::of_resources().begin("Semaphore");
+        let mut permits = Types::of_resources().begin("Semaphore").1;
         let mut told = |how, value: u64| permits.update(&update("permits", how, value));
         assert_eq!(told(How::Sub, 1), Update::Clamped(Change::set(0u64)));
         assert_eq!(told(How::Add, 3), Update::Clamped(Change::set(2u64)));
@@ -231,7 +234,7 @@ mod tests {
 
     #[test]
     fn signed_sums_stay_in_range() {
-        let mut readers = Types::of_resources().begin("RwLock");
+        let mut readers = Types::of_resources().begin("RwLock").1;
         let mut told = |how, value: i64| readers.update(&update("current_readers", how, value));
         assert_eq!(told(How::Sub, 1), Update::Change(Change::sub(1i64)));
         assert_eq!(told(How::Add, i64::MIN), Update::Clamped(Change::set(i64::MIN)));
@@ -249,7 +252,7 @@ mod tests {
 
     #[test]
     fn what_an_attribute_cannot_be_is_answered() {
-        let mut mutex = Types::of_resources().begin("Mutex");
+        let mut mutex = Types::of_resources().begin("Mutex").1;
         assert_eq!(mutex.update(&update("locked", How::Set, true)), Update::Change(Change::set(true)));
         assert_eq!(mutex.update(&update("locked", How::Add, true)), Update::WrongKind);
         assert_eq!(mutex.update(&update("locked", How::Set, 1u64)), Update::WrongKind);
@@ -265,8 +268,8 @@ mod tests {
         for name in names.into_iter().chain(["a"]) {
             let lag = UpdateFields { unit: Some("ms".to_owned()), ..update(name, How::Add, -5i64) };
             assert_eq!(
-                types.begin("Queue").update(&lag),
-                if name == "a" && types.begin("Queue").slots.len() == 6 {
+                types.begin("Queue").1.update(&lag),
+                if name == "a" && types.begin("Queue").1.slots.len() == 6 {
                     Update::Change(Change::add(-5i64))
                 } else {
                     Update::Unknown
@@ -274,9 +277,9 @@ mod tests {
             );
             types.learn("Queue", &lag);
         }
-        let attrs: Vec<Attr> = types.begin("Queue").attrs().collect();
+        let attrs: Vec<Attr> = types.begin("Queue").1.attrs().collect();
         assert_eq!(attrs.len(), 6);
         assert_eq!(attrs[0], Attr::new("a", 0i64).with_unit("ms"));
-        assert!(types.begin("Stack").attrs().next().is_none());
+        assert!(types.begin("Stack").1.attrs().next().is_none());
     }
 }

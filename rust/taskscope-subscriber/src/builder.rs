@@ -1,6 +1,6 @@
 //! What is told, how often, and where it goes.
 
-use crate::alone::Alone;
+use crate::direct::Direct;
 use crate::layer::{is_of_tokio, is_told, Items, Switch, TaskscopeLayer};
 use crate::output::Output;
 use crate::publishing::{keep_until_exit, Guard, Plan};
@@ -254,7 +254,7 @@ impl Builder {
         };
         let switch = Switch::off();
         let (layer, plan) = self.open(&switch)?;
-        install(Alone::new(layer.alone()))?;
+        install(Direct::new(layer))?;
         publish_until_exit(plan, &output, &switch)
     }
 

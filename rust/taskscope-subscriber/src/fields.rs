@@ -1,5 +1,6 @@
 //! Reads the fields of tokio's spans and events.
 
+use std::borrow::Cow;
 use std::fmt::{self, Debug, Write};
 use taskscope::Value;
 use tracing_core::field::{Field, Visit};
@@ -55,16 +56,40 @@ impl Kind {
     }
 }
 
+/// The path of a source from the crate's name on, if it is one of those that cargo keeps in its own folders.
+///
+/// Those folders say nothing of the program, differ between machines, and name whoever built it.
+pub(crate) fn shortened(file: &str) -> &str {
+    let after = |folder: &str| file.rsplit_once(folder).map(|(_, rest)| rest);
+    let of_index = after("/registry/src/").and_then(|rest| rest.split_once('/')).map(|(_, rest)| rest);
+    of_index.or_else(|| after("/cargo/registry/")).or_else(|| after("/git/checkouts/")).unwrap_or(file)
+}
+
 /// A place in the sources, of which parts may be missing.
-#[derive(Debug, Default)]
+#[derive(Debug, Default, PartialEq, Eq)]
 pub(crate) struct Place {
+    /// As tokio tells it.
     pub(crate) file: String,
     pub(crate) line: u32,
     pub(crate) column: u32,
 }
 
 impl Place {
-    /// Whether the field is one of a place.
+    /// Forgets all, and keeps the room.
+    #[inline]
+    pub(crate) fn clear(&mut self) {
+        self.file.clear();
+        (self.line, self.column) = (0, 0);
+    }
+
+    #[inline]
+    fn file(&mut self, file: &str) {
+        self.file.clear();
+        self.file.push_str(file);
+    }
+
+    /// Takes the field if it is one of a place.
+    #[inline]
     fn number(&mut self, name: &str, value: u64) {
         let value = u32::try_from(value).unwrap_or(u32::MAX);
         match name {
@@ -91,11 +116,25 @@ pub(crate) struct TaskFields {
     pub(crate) place: Place,
 }
 
+impl TaskFields {
+    /// Forgets all, and keeps the room.
+    #[inline]
+    pub(crate) fn clear(&mut self) {
+        self.kind = Kind::default();
+        self.name.clear();
+        self.place.clear();
+    }
+}
+
 impl Visit for TaskFields {
     fn record_debug(&mut self, field: &Field, value: &dyn Debug) {
         match field.name() {
             "kind" => self.kind = Kind::read(value),
-            "task.name" => self.name = text(value),
+            "task.name" => {
+                self.name.clear();
+                // A `String` takes all that is written.
+                let _ = write!(self.name, "{value:?}");
+            }
             "spawn.location" => self.place = Place::read(&text(value)),
             _ => {}
         }
@@ -103,8 +142,11 @@ impl Visit for TaskFields {
 
     fn record_str(&mut self, field: &Field, value: &str) {
         match field.name() {
-            "loc.file" => self.place.file = value.to_owned(),
-            "task.name" => self.name = value.to_owned(),
+            "loc.file" => self.place.file(value),
+            "task.name" => {
+                self.name.clear();
+                self.name.push_str(value);
+            }
             _ => {}
         }
     }
@@ -117,25 +159,57 @@ impl Visit for TaskFields {
 /// The span of a resource, `runtime.resource`, or of an operation, `runtime.resource.async_op`.
 #[derive(Debug, Default)]
 pub(crate) struct ItemFields {
-    pub(crate) kind: String,
+    kind: String,
     pub(crate) concrete: String,
     pub(crate) source: String,
     pub(crate) inherits: bool,
     pub(crate) place: Place,
 }
 
+impl ItemFields {
+    /// Forgets all, and keeps the room.
+    pub(crate) fn clear(&mut self) {
+        self.kind.clear();
+        self.concrete.clear();
+        self.source.clear();
+        self.inherits = false;
+        self.place.clear();
+    }
+
+    /// The kind. Those that tokio has are known.
+    pub(crate) fn kind(&self) -> Cow<'static, str> {
+        match &*self.kind {
+            "Sync" => Cow::Borrowed("Sync"),
+            "timer" => Cow::Borrowed("timer"),
+            other => Cow::Owned(other.to_owned()),
+        }
+    }
+
+    /// The text of a field.
+    fn text(&mut self, field: &Field) -> Option<&mut String> {
+        match field.name() {
+            "kind" => Some(&mut self.kind),
+            "concrete_type" => Some(&mut self.concrete),
+            "source" => Some(&mut self.source),
+            "loc.file" => Some(&mut self.place.file),
+            _ => None,
+        }
+    }
+}
+
 impl Visit for ItemFields {
     fn record_debug(&mut self, field: &Field, value: &dyn Debug) {
-        self.record_str(field, &text(value));
+        if let Some(text) = self.text(field) {
+            text.clear();
+            // A `String` takes all that is written.
+            let _ = write!(text, "{value:?}");
+        }
     }
 
     fn record_str(&mut self, field: &Field, value: &str) {
-        match field.name() {
-            "kind" => self.kind = value.to_owned(),
-            "concrete_type" => self.concrete = value.to_owned(),
-            "source" => self.source = value.to_owned(),
-            "loc.file" => self.place.file = value.to_owned(),
-            _ => {}
+        if let Some(text) = self.text(field) {
+            text.clear();
+            text.push_str(value);
         }
     }
 
@@ -168,7 +242,16 @@ pub(crate) struct WakerFields {
 }
 
 impl WakerCall {
-    const ALL: [WakerCall; 4] = [WakerCall::Clone, WakerCall::Drop, WakerCall::Wake, WakerCall::WakeByRef];
+    #[inline]
+    fn of(op: &str) -> Option<WakerCall> {
+        match op {
+            "waker.clone" => Some(WakerCall::Clone),
+            "waker.drop" => Some(WakerCall::Drop),
+            "waker.wake" => Some(WakerCall::Wake),
+            "waker.wake_by_ref" => Some(WakerCall::WakeByRef),
+            _ => None,
+        }
+    }
 
     /// What tokio calls it.
     pub(crate) fn op(self) -> &'static str {
@@ -192,7 +275,7 @@ impl Visit for WakerFields {
 
     fn record_str(&mut self, field: &Field, value: &str) {
         if field.name() == "op" {
-            self.call = WakerCall::ALL.into_iter().find(|call| call.op() == value);
+            self.call = WakerCall::of(value);
         }
     }
 }
@@ -268,6 +351,42 @@ impl Visit for UpdateFields {
             };
         } else {
             self.name = name;
+        }
+    }
+}
+
+#[cfg(test)]
+mod tests {
+    use super::*;
+
+    #[test]
+    fn a_source_that_cargo_keeps_is_named_from_its_crate_on() {
+        for (file, short) in [
+            ("src/main.rs", "src/main.rs"),
+            ("/home/me/service/src/main.rs", "/home/me/service/src/main.rs"),
+            (
+                "/home/me/.cargo/registry/src/index.crates.io-6f17d22bba15001f/hyper-0.14.19/src/common/exec.rs",
+                "hyper-0.14.19/src/common/exec.rs",
+            ),
+            ("/home/me/.cargo/registry/src/hyper.rs", "/home/me/.cargo/registry/src/hyper.rs"),
+            ("/usr/share/cargo/registry/tokio-1.24.2/src/fs/mod.rs", "tokio-1.24.2/src/fs/mod.rs"),
+            (
+                "/home/me/.cargo/git/checkouts/axum-0f5e1c/2f3a1b7/axum/src/serve.rs",
+                "axum-0f5e1c/2f3a1b7/axum/src/serve.rs",
+            ),
+        ] {
+            assert_eq!(shortened(file), short, "{file}");
+        }
+    }
+
+    #[test]
+    fn a_place_is_a_path_a_line_and_a_column() {
+        for (text, file, line, column) in [
+            ("/usr/share/tokio-1.24.2/src/fs/mod.rs:137:11", "/usr/share/tokio-1.24.2/src/fs/mod.rs", 137, 11),
+            ("C:\\src\\main.rs:7:5", "C:\\src\\main.rs", 7, 5),
+            ("", "", 0, 0),
+        ] {
+            assert_eq!(Place::read(text), Place { file: file.to_owned(), line, column }, "{text:?}");
         }
     }
 }

@@ -4,6 +4,7 @@ use crate::attributes::{Types, Update, Values};
 use crate::fields::UpdateFields;
 use crate::left_out::LeftOut;
 use crate::task::Task;
+use std::borrow::Cow;
 use std::sync::atomic::{AtomicBool, AtomicU64, Ordering};
 use std::sync::{Arc, Mutex, MutexGuard, PoisonError};
 use taskscope::{Change, OpId, Refused, ResourceId, TaskId};
@@ -40,9 +41,11 @@ impl Item {
 
     /// The span was closed, or before that the task ended.
     pub(crate) fn close(&self) {
-        if self.is_closed.swap(true, Ordering::AcqRel) {
+        if self.is_closed() {
             return;
         }
+        // Two threads may both come here: each close below closes what is open, and nothing else.
+        self.is_closed.store(true, Ordering::Release);
         match &self.what {
             What::Task(task) => task.close(),
             What::Resource(resource) => drop(lock(&resource.0.state).owner.take()),
@@ -84,7 +87,7 @@ struct State<T> {
 #[derive(Debug)]
 pub(crate) struct Part<T> {
     /// The name of the type by which its attributes are known.
-    name: String,
+    name: Cow<'static, str>,
     parent: Option<Arc<Item>>,
     /// Whether it has the attributes of its children too.
     inherits: bool,
@@ -109,7 +112,13 @@ impl Owner for taskscope::Op {
 }
 
 impl<T: Owner> Part<T> {
-    pub(crate) fn new(name: String, parent: Option<Arc<Item>>, inherits: bool, owner: T, values: Values) -> Part<T> {
+    pub(crate) fn new(
+        name: Cow<'static, str>,
+        parent: Option<Arc<Item>>,
+        inherits: bool,
+        owner: T,
+        values: Values,
+    ) -> Part<T> {
         Part { name, parent, inherits, state: Mutex::new(State { owner: Some(owner), values }) }
     }
 

@@ -1,13 +1,13 @@
 //! tokio's spans and events become calls on rows.
 
 use crate::attributes::Types;
-use crate::entered::{self, Entered, Frame, Key};
-use crate::fields::{ItemFields, Kind, PollFields, TaskFields, UpdateFields, WakerFields};
+use crate::entered::{self, Entered, Key};
+use crate::fields::{Kind, PollFields, UpdateFields, WakerFields};
 use crate::heard::{say_if_unflagged, Heard};
 use crate::item::{Item, Op, Part, Resource, What};
 use crate::left_out::LeftOut;
 use crate::mark;
-use crate::places::Places;
+use crate::places::{Places, Told};
 use crate::task::{Polls, Task};
 use std::fmt;
 use std::sync::atomic::{AtomicBool, AtomicU64, Ordering};
@@ -72,8 +72,8 @@ pub(crate) fn extension<'a, S: LookupSpan<'a>>(span: &SpanRef<'a, S>) -> Option<
 }
 
 /// What spans and events are of tokio.
-#[derive(Clone, Copy, PartialEq, Eq)]
-enum Source {
+#[derive(Clone, Copy, Debug, PartialEq, Eq)]
+pub(crate) enum Source {
     Task,
     Waker,
     Resource,
@@ -86,8 +86,21 @@ enum Source {
 }
 
 impl Source {
+    /// Each at the place of its number.
+    pub(crate) const ALL: [Source; 9] = [
+        Source::Task,
+        Source::Waker,
+        Source::Resource,
+        Source::Op,
+        Source::OpPoll,
+        Source::Poll,
+        Source::ResourceUpdate,
+        Source::OpUpdate,
+        Source::Other,
+    ];
+
     #[inline]
-    fn of(metadata: &Metadata<'_>) -> Source {
+    pub(crate) fn of(metadata: &Metadata<'_>) -> Source {
         if metadata.is_event() {
             match metadata.target() {
                 "tokio::task::waker" | "runtime::waker" => Source::Waker,
@@ -107,6 +120,7 @@ impl Source {
         }
     }
 
+    #[inline]
     fn is_told(self, items: Items) -> bool {
         match self {
             Source::Task | Source::Waker => true,
@@ -213,6 +227,7 @@ impl TaskscopeLayer {
         Arc::clone(&self.left_out)
     }
 
+    #[inline]
     fn key(&self, span: u64) -> Key {
         Key { layer: self.number, span }
     }
@@ -225,38 +240,44 @@ impl TaskscopeLayer {
         }
     }
 
-    fn new_task(&self, attributes: &Attributes<'_>) -> What {
+    fn new_task(&self, entered: &mut Entered, attributes: &Attributes<'_>, is_marked: bool) -> What {
         self.heard.task();
-        let mut fields = TaskFields::default();
-        attributes.record(&mut fields);
-        let place = self.places.tell(&fields.place);
-        let location = place.location();
-        let name = if fields.name.is_empty() { place.name() } else { fields.name.into() };
+        let mut room = entered.take_room();
+        let fields = &mut room.task;
+        fields.clear();
+        attributes.record(fields);
         // No waker of what `block_on` runs is told of, so it can't be told from a task that nobody will wake.
         let kind = match fields.kind {
             Kind::Task | Kind::Local => TaskKind::Spawn,
             Kind::BlockOn | Kind::Blocking => TaskKind::Blocking,
         };
+        let Told { text, location } = self.places.tell(&mut entered.places, &fields.place);
+        let name = if fields.name.is_empty() { text } else { fields.name.clone().into() };
         let shared = self.console.task(name).kind(kind).location(location).open().share();
-        What::Task(Task::new(shared, mark::is_made()))
+        entered.give_room(room);
+        What::Task(Task::new(shared, is_marked))
     }
 
-    fn new_resource(&self, entered: &Entered, attributes: &Attributes<'_>) -> What {
-        let mut fields = ItemFields::default();
-        attributes.record(&mut fields);
-        let values = self.resource_types.begin(&fields.concrete);
+    fn new_resource(&self, entered: &mut Entered, attributes: &Attributes<'_>) -> What {
+        let mut room = entered.take_room();
+        let fields = &mut room.item;
+        fields.clear();
+        attributes.record(fields);
+        let (name, values) = self.resource_types.begin(&fields.concrete);
         let parent = entered.innermost(self.number, |item| item.resource().map(|_| Arc::clone(item)));
-        let location = self.places.tell(&fields.place).location();
-        let mut builder = self.console.resource(fields.concrete.clone()).kind(fields.kind).location(location);
+        let Told { location, .. } = self.places.tell(&mut entered.places, &fields.place);
+        let mut builder = self.console.resource(name.clone()).kind(fields.kind()).location(location);
         if let Some(id) = parent.as_deref().and_then(Item::resource).and_then(Resource::id) {
             builder = builder.parent(id);
         }
         let owner = values.attrs().fold(builder, |builder, attr| builder.attr(attr)).open();
-        What::Resource(Resource(Part::new(fields.concrete, parent, fields.inherits, owner, values)))
+        let inherits = fields.inherits;
+        entered.give_room(room);
+        What::Resource(Resource(Part::new(name, parent, inherits, owner, values)))
     }
 
     /// An operation of the innermost resource.
-    fn new_op(&self, entered: &Entered, attributes: &Attributes<'_>) -> Option<What> {
+    fn new_op(&self, entered: &mut Entered, attributes: &Attributes<'_>) -> Option<What> {
         let resource = entered.innermost(self.number, |item| item.resource().map(Resource::owner)).flatten();
         let resource = match resource {
             Some(resource) => resource,
@@ -265,21 +286,31 @@ impl TaskscopeLayer {
                 return None;
             }
         };
-        let mut fields = ItemFields::default();
-        attributes.record(&mut fields);
-        let values = self.op_types.begin(&fields.source);
+        let mut room = entered.take_room();
+        let fields = &mut room.item;
+        fields.clear();
+        attributes.record(fields);
+        let (name, values) = self.op_types.begin(&fields.source);
         let parent = entered.innermost(self.number, |item| item.op().map(|_| Arc::clone(item)));
-        let mut builder = self.console.op(&resource, fields.source.clone());
+        let mut builder = self.console.op(&resource, name.clone());
         if let Some(id) = parent.as_deref().and_then(Item::op).and_then(Op::id) {
             builder = builder.parent(id);
         }
         let owner = values.attrs().fold(builder, |builder, attr| builder.attr(attr)).open();
-        Some(What::Op(Op::new(Part::new(fields.source, parent, fields.inherits, owner, values))))
+        let inherits = fields.inherits;
+        entered.give_room(room);
+        Some(What::Op(Op::new(Part::new(name, parent, inherits, owner, values))))
     }
 
-    fn new_item(&self, entered: &mut Entered, source: Source, attributes: &Attributes<'_>) -> Option<What> {
+    fn new_item(
+        &self,
+        entered: &mut Entered,
+        source: Source,
+        attributes: &Attributes<'_>,
+        is_marked: bool,
+    ) -> Option<What> {
         match source {
-            Source::Task => Some(self.new_task(attributes)),
+            Source::Task => Some(self.new_task(entered, attributes, is_marked)),
             Source::Resource => Some(self.new_resource(entered, attributes)),
             Source::Op => self.new_op(entered, attributes),
             Source::OpPoll => {
@@ -290,27 +321,32 @@ impl TaskscopeLayer {
     }
 
     /// A call on a waker. A wake while this thread is within a poll of the task is the task's own.
-    fn call_waker(&self, entered: &mut Entered, event: &Event<'_>, find: impl FnOnce(&Id) -> Option<Arc<Item>>) {
+    #[inline]
+    fn call_waker(
+        &self,
+        entered: &mut Entered,
+        event: &Event<'_>,
+        number: impl FnOnce(u64) -> u64,
+        find: impl FnOnce(u64) -> Option<Arc<Item>>,
+    ) {
         let mut fields = WakerFields::default();
         event.record(&mut fields);
         let (span, call) = match (fields.span, fields.call) {
-            (Some(span), Some(call)) if span != 0 => (span, call),
+            (Some(span), Some(call)) if span != 0 => (number(span), call),
             _ => return self.left_out.unknown.add(),
         };
-        let key = self.key(span);
-        let polled = entered.frames(self.number).find(|frame| frame.key == key && frame.is_poll);
-        if let Some(task) = polled.and_then(|frame| frame.item.task()) {
-            return task.call_waker(call, Origin::Inside, &self.left_out);
-        }
-        let item = entered.take(key).or_else(|| find(&Id::from_u64(span)));
-        match item.filter(|item| !item.is_closed()) {
-            Some(item) => {
+        let called = entered.look(
+            self.key(span),
+            || find(span),
+            |item, is_polled| {
+                let origin = if is_polled { Origin::Inside } else { Origin::Outside };
                 if let Some(task) = item.task() {
-                    task.call_waker(call, Origin::Outside, &self.left_out);
+                    task.call_waker(call, origin, &self.left_out);
                 }
-                entered.keep(key, item);
-            }
-            None => self.left_out.late.add(),
+            },
+        );
+        if called.is_none() {
+            self.left_out.late.add();
         }
     }
 
@@ -345,11 +381,11 @@ impl TaskscopeLayer {
         }
     }
 
-    /// Whether a poll starts as a span is entered.
+    /// Whether a poll starts as a span is entered, of which this thread is within a poll or not.
     #[inline]
-    fn starts_poll(&self, entered: &mut Entered, key: Key, item: &Item) -> bool {
+    fn starts_poll(&self, entered: &Entered, item: &Item, is_polled: bool, is_own: impl FnOnce() -> bool) -> bool {
         match &item.what {
-            What::Task(task) => self.starts_task_poll(entered, key, task, item.is_closed()),
+            What::Task(task) => self.starts_task_poll(task, item.is_closed(), is_polled, is_own),
             What::OpPoll(op) => {
                 let task = entered.polled(self.number).map(Task::id);
                 op.op().map_or(false, |op| op.start_poll(task))
@@ -359,17 +395,12 @@ impl TaskscopeLayer {
     }
 
     #[inline]
-    fn starts_task_poll(&self, entered: &mut Entered, key: Key, task: &Task, has_ended: bool) -> bool {
-        let is_foreign = self.polls == Polls::Own && task.is_marked && !mark::is_entered(key.span);
-        if has_ended || is_foreign {
+    fn starts_task_poll(&self, task: &Task, has_ended: bool, is_polled: bool, is_own: impl FnOnce() -> bool) -> bool {
+        if has_ended || (self.polls == Polls::Own && task.is_marked && !is_own()) {
             self.left_out.foreign.add();
             return false;
         }
-        if entered.frames(self.number).any(|frame| frame.key == key && frame.is_poll) {
-            self.left_out.nested.add();
-            return false;
-        }
-        let starts = task.start_poll();
+        let starts = !is_polled && task.start_poll();
         if !starts {
             self.left_out.nested.add();
         }
@@ -377,7 +408,7 @@ impl TaskscopeLayer {
     }
 }
 
-/// What becomes of spans and events. `find` looks for the item of a span in a registry.
+/// What becomes of spans and events. A span is known by a number, and `find` looks for its item where its subscriber has it.
 impl TaskscopeLayer {
     pub(crate) fn interest(&self, metadata: &'static Metadata<'static>) -> Interest {
         let source = Source::of(metadata);
@@ -403,33 +434,35 @@ impl TaskscopeLayer {
         self.wants(Source::of(metadata))
     }
 
-    pub(crate) fn make<'a, S: LookupSpan<'a>>(
-        &self,
-        attributes: &Attributes<'_>,
-        id: &Id,
-        span: Option<SpanRef<'a, S>>,
-    ) {
-        let source = Source::of(attributes.metadata());
-        if !source.is_told(self.items) {
-            return;
+    /// Makes the item of a span that is told. A task is marked if enters by the handle that tokio holds itself are told from others.
+    #[inline]
+    pub(crate) fn make(&self, source: Source, attributes: &Attributes<'_>, is_marked: bool) -> Option<Arc<Item>> {
+        let mut what = None;
+        if source.is_told(self.items) {
+            self.with_entered(|entered| what = self.new_item(entered, source, attributes, is_marked));
         }
-        self.with_entered(|entered| {
-            let item = self.new_item(entered, source, attributes).map(Item::new);
-            if let (Some(item), Some(span)) = (item, span) {
-                span.extensions_mut().replace(Extension(Arc::clone(&item)));
-                entered.keep(self.key(id.into_u64()), item);
-            }
-        });
+        what.map(Item::new)
     }
 
+    /// The item is that of this span, which is open.
+    pub(crate) fn keep(&self, span: u64, item: Arc<Item>) {
+        let _ = entered::with(|entered| entered.keep(self.key(span), item));
+    }
+
+    /// Reads an event. `number` gives the number of a span by an id.
     #[inline]
-    pub(crate) fn read(&self, event: &Event<'_>, find: impl FnOnce(&Id) -> Option<Arc<Item>>) {
-        let source = Source::of(event.metadata());
+    pub(crate) fn read(
+        &self,
+        source: Source,
+        event: &Event<'_>,
+        number: impl FnOnce(u64) -> u64,
+        find: impl FnOnce(u64) -> Option<Arc<Item>>,
+    ) {
         if !source.is_told(self.items) {
             return;
         }
         self.with_entered(|entered| match source {
-            Source::Waker => self.call_waker(entered, event, find),
+            Source::Waker => self.call_waker(entered, event, number, find),
             Source::Poll => self.count_poll(entered, event),
             Source::ResourceUpdate => self.update(entered, event, false),
             Source::OpUpdate => self.update(entered, event, true),
@@ -437,31 +470,29 @@ impl TaskscopeLayer {
         });
     }
 
+    /// Enters a span. `is_own` says whether it is by the handle that tokio holds itself.
     #[inline]
-    pub(crate) fn enter(&self, id: &Id, find: impl FnOnce() -> Option<Arc<Item>>) {
-        let key = self.key(id.into_u64());
+    pub(crate) fn enter(&self, span: u64, is_own: impl FnOnce() -> bool, find: impl FnOnce() -> Option<Arc<Item>>) {
         self.with_entered(|entered| {
-            if let Some(item) = entered.take(key).or_else(find) {
-                let is_poll = self.starts_poll(entered, key, &item);
-                entered.push(Frame { key, item, is_poll });
-            }
+            let starts = |entered: &Entered, item: &Item, is_polled| self.starts_poll(entered, item, is_polled, is_own);
+            entered.enter(self.key(span), find, starts);
         });
     }
 
     #[inline]
-    pub(crate) fn exit(&self, id: &Id) {
+    pub(crate) fn exit(&self, span: u64) {
         self.with_entered(|entered| {
-            entered.leave(self.key(id.into_u64()), |frame| match &frame.item.what {
-                What::Task(task) if frame.is_poll => task.end_poll(),
-                What::OpPoll(op) if frame.is_poll => op.op().map_or((), Op::end_poll),
-                _ => {}
+            entered.leave(self.key(span), |item| match &item.what {
+                What::Task(task) => task.end_poll(),
+                What::OpPoll(op) => op.op().map_or((), Op::end_poll),
+                What::Resource(_) | What::Op(_) => {}
             });
         });
     }
 
     /// The span was closed, or before that the task ended. Also on a thread that ends.
-    pub(crate) fn close(&self, id: &Id, find: impl FnOnce() -> Option<Arc<Item>>) {
-        let kept = entered::with(|entered| entered.take(self.key(id.into_u64()))).flatten();
+    pub(crate) fn close(&self, span: u64, find: impl FnOnce() -> Option<Arc<Item>>) {
+        let kept = entered::with(|entered| entered.take(self.key(span))).flatten();
         if let Some(item) = kept.or_else(find) {
             item.close();
         }
@@ -481,26 +512,32 @@ where
     }
 
     fn on_new_span(&self, attributes: &Attributes<'_>, id: &Id, ctx: Context<'_, S>) {
-        self.make(attributes, id, ctx.span(id));
+        let item = self.make(Source::of(attributes.metadata()), attributes, mark::is_made());
+        if let (Some(item), Some(span)) = (item, ctx.span(id)) {
+            span.extensions_mut().replace(Extension(Arc::clone(&item)));
+            self.keep(id.into_u64(), item);
+        }
     }
 
     #[inline]
     fn on_event(&self, event: &Event<'_>, ctx: Context<'_, S>) {
-        self.read(event, |id| extension(&ctx.span(id)?));
+        let find = |number| extension(&ctx.span(&Id::from_u64(number))?);
+        self.read(Source::of(event.metadata()), event, |id| id, find);
     }
 
     #[inline]
     fn on_enter(&self, id: &Id, ctx: Context<'_, S>) {
-        self.enter(id, || extension(&ctx.span(id)?));
+        let number = id.into_u64();
+        self.enter(number, || mark::is_entered(number), || extension(&ctx.span(id)?));
     }
 
     #[inline]
     fn on_exit(&self, id: &Id, _: Context<'_, S>) {
-        self.exit(id);
+        self.exit(id.into_u64());
     }
 
     fn on_close(&self, id: Id, ctx: Context<'_, S>) {
-        self.close(&id, || extension(&ctx.span(&id)?));
+        self.close(id.into_u64(), || extension(&ctx.span(&id)?));
     }
 }
 

@@ -23,6 +23,7 @@
 //!
 //! - [`init`] reads the variables, and [`init_with`] does so for a program that logs. [`Builder`] says the same in the program, and
 //!   [`Output`] where lines go.
+//! - [`Direct`] is the subscriber that [`init`] makes: it has tokio's spans alone, and needs no registry.
 //! - [`TaskscopeLayer`] stands beside other layers, with [`Rootless`] around them; [`Items`] and [`Polls`] say what it tells, and
 //!   [`is_of_tokio`] what it reads. [`Guard`] is the thread that publishes.
 //! - [`LeftOut`] counts what of the program's events no row has.
@@ -63,9 +64,9 @@
 // `tokio_unstable` is set by who builds the program.
 #![allow(unknown_lints, unexpected_cfgs)]
 
-mod alone;
 mod attributes;
 mod builder;
+mod direct;
 mod entered;
 mod fields;
 mod file;
@@ -77,12 +78,15 @@ mod mark;
 mod output;
 mod pipe;
 mod places;
+mod plan;
 mod publishing;
 mod rootless;
 mod serving;
+mod spans;
 mod task;
 
 pub use builder::Builder;
+pub use direct::Direct;
 pub use layer::{is_of_tokio, Items, TaskscopeLayer};
 pub use left_out::LeftOut;
 pub use output::Output;

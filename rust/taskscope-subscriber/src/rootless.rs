@@ -43,7 +43,7 @@ impl<S: Subscriber> Rootless<S> {
     /// The mark of a task was dropped.
     fn end(&self, id: &Id) {
         if let (Some(layer), Some(registry)) = (self.part::<TaskscopeLayer>(), self.part::<Registry>()) {
-            layer.close(id, || extension(&registry.span(id)?));
+            layer.close(id.into_u64(), || extension(&registry.span(id)?));
         }
     }
 

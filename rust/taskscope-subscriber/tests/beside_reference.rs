@@ -2,8 +2,11 @@
 //! common with the first one but the events.
 
 mod common;
+#[path = "common/forms.rs"]
+mod forms;
 
 use common::{list, number, value};
+use forms::{Form, WithCurrent};
 use std::cell::{Cell, RefCell};
 use std::collections::HashMap;
 use std::fmt::Debug;
@@ -11,7 +14,7 @@ use std::sync::{Arc, Mutex};
 use std::task::{Context as PollContext, Poll, Waker};
 use std::time::Duration;
 use taskscope::{Console, Settings};
-use taskscope_subscriber::{Items, Polls, Rootless, TaskscopeLayer};
+use taskscope_subscriber::{Direct, Items, Polls, Rootless, TaskscopeLayer};
 use tokio::task::yield_now;
 use tracing::dispatcher::{set_default, with_default, Dispatch};
 use tracing::field::{Field, Visit};
@@ -20,6 +23,16 @@ use tracing::subscriber::Interest;
 use tracing::{Event, Instrument, Metadata, Subscriber};
 use tracing_core::span::Current;
 use tracing_subscriber::layer::{Context, Layer, SubscriberExt};
+
+/// A place from the crate's name on, if cargo keeps its source.
+fn without_folders(place: String) -> String {
+    match place.rsplit_once("/registry/") {
+        Some((_, kept)) => {
+            kept.strip_prefix("src/").and_then(|kept| kept.split_once('/')).map_or(kept, |(_, rest)| rest).to_owned()
+        }
+        None => place,
+    }
+}
 
 /// What was counted of one task.
 #[derive(Clone, Debug, Default, PartialEq, Eq, PartialOrd, Ord)]
@@ -65,15 +78,15 @@ impl Fields {
     /// The name, or the place where there is none.
     fn name(&self) -> String {
         match (self.get("task.name"), self.get("spawn.location")) {
-            ("", "") => ["loc.file", "loc.line", "loc.col"].map(|part| self.get(part)).join(":"),
-            ("", place) => place.to_owned(),
+            ("", "") => without_folders(["loc.file", "loc.line", "loc.col"].map(|part| self.get(part)).join(":")),
+            ("", place) => without_folders(place.to_owned()),
             (name, _) => name.to_owned(),
         }
     }
 }
 
-impl<S: Subscriber> Layer<S> for Reference {
-    fn on_new_span(&self, attributes: &Attributes<'_>, id: &Id, _: Context<'_, S>) {
+impl Reference {
+    fn new_span(&self, attributes: &Attributes<'_>, id: &Id) {
         if attributes.metadata().name() == "runtime.spawn" {
             let mut fields = Fields::default();
             attributes.record(&mut fields);
@@ -84,7 +97,7 @@ impl<S: Subscriber> Layer<S> for Reference {
         }
     }
 
-    fn on_enter(&self, id: &Id, _: Context<'_, S>) {
+    fn enter(&self, id: &Id) {
         let id = id.into_u64();
         let seen = &mut *self.0.lock().unwrap();
         seen.events += 1;
@@ -97,7 +110,7 @@ impl<S: Subscriber> Layer<S> for Reference {
         }
     }
 
-    fn on_exit(&self, id: &Id, _: Context<'_, S>) {
+    fn exit(&self, id: &Id) {
         let id = id.into_u64();
         let seen = &mut *self.0.lock().unwrap();
         seen.events += 1;
@@ -111,7 +124,7 @@ impl<S: Subscriber> Layer<S> for Reference {
         }
     }
 
-    fn on_event(&self, event: &Event<'_>, _: Context<'_, S>) {
+    fn event(&self, event: &Event<'_>) {
         let seen = &mut *self.0.lock().unwrap();
         seen.events += 1;
         if event.metadata().target() != "tokio::task::waker" {
@@ -138,11 +151,96 @@ impl<S: Subscriber> Layer<S> for Reference {
         counts.drops += drops;
     }
 
-    fn on_close(&self, id: Id, _: Context<'_, S>) {
+    fn close(&self, id: &Id) {
         let seen = &mut *self.0.lock().unwrap();
         if let Some((place, _)) = seen.open.remove(&id.into_u64()) {
             seen.tasks[place].is_closed = true;
         }
+    }
+}
+
+impl<S: Subscriber> Layer<S> for Reference {
+    fn on_new_span(&self, attributes: &Attributes<'_>, id: &Id, _: Context<'_, S>) {
+        self.new_span(attributes, id);
+    }
+
+    fn on_enter(&self, id: &Id, _: Context<'_, S>) {
+        self.enter(id);
+    }
+
+    fn on_exit(&self, id: &Id, _: Context<'_, S>) {
+        self.exit(id);
+    }
+
+    fn on_event(&self, event: &Event<'_>, _: Context<'_, S>) {
+        self.event(event);
+    }
+
+    fn on_close(&self, id: Id, _: Context<'_, S>) {
+        self.close(&id);
+    }
+}
+
+/// The reference beside a subscriber that takes no layers. All ids of a span are one to it: the one that tokio's handle has.
+struct Beside<S>(S, Reference, Mutex<HashMap<u64, Id>>);
+
+impl<S: Subscriber> Beside<S> {
+    /// The id of tokio's handle. That of a clone has other upper bits.
+    fn handle(&self, id: &Id) -> Id {
+        self.2.lock().unwrap().get(&(id.into_u64() << 1)).unwrap_or(id).clone()
+    }
+}
+
+impl<S: Subscriber> Subscriber for Beside<S> {
+    fn register_callsite(&self, metadata: &'static Metadata<'static>) -> Interest {
+        self.0.register_callsite(metadata)
+    }
+
+    fn enabled(&self, metadata: &Metadata<'_>) -> bool {
+        self.0.enabled(metadata)
+    }
+
+    fn new_span(&self, attributes: &Attributes<'_>) -> Id {
+        let id = self.0.new_span(attributes);
+        self.2.lock().unwrap().insert(id.into_u64() << 1, id.clone());
+        self.1.new_span(attributes, &id);
+        id
+    }
+
+    fn record(&self, _: &Id, _: &Record<'_>) {}
+
+    fn record_follows_from(&self, _: &Id, _: &Id) {}
+
+    fn event(&self, event: &Event<'_>) {
+        self.0.event(event);
+        self.1.event(event);
+    }
+
+    fn enter(&self, id: &Id) {
+        self.0.enter(id);
+        self.1.enter(&self.handle(id));
+    }
+
+    fn exit(&self, id: &Id) {
+        self.0.exit(id);
+        self.1.exit(&self.handle(id));
+    }
+
+    fn clone_span(&self, id: &Id) -> Id {
+        self.0.clone_span(id)
+    }
+
+    /// A task ends as its handle is dropped, and any other span with its last one.
+    fn try_close(&self, id: Id) -> bool {
+        let is_closed = self.0.try_close(id.clone());
+        if is_closed || self.handle(&id) == id {
+            self.1.close(&self.handle(&id));
+        }
+        is_closed
+    }
+
+    fn current_span(&self) -> Current {
+        self.0.current_span()
     }
 }
 
@@ -335,14 +433,27 @@ async fn work(takes_along: bool) {
     }
 }
 
+/// The layer in this form, and the reference, which hear the same.
+fn beside(form: Form, layer: TaskscopeLayer, reference: &Reference) -> Dispatch {
+    let turns = Mutex::default();
+    let beside = |direct| Beside(direct, reference.clone(), Mutex::default());
+    match form {
+        Form::Layer => {
+            let subscriber = tracing_subscriber::registry().with(layer).with(reference.clone());
+            Dispatch::new(InTurn(Rootless(subscriber), turns))
+        }
+        Form::Direct => Dispatch::new(InTurn(beside(Direct::new(layer)), turns)),
+        Form::DirectWithCurrent => Dispatch::new(InTurn(WithCurrent(beside(Direct::new(layer))), turns)),
+    }
+}
+
 /// Ten runtimes under both layers, half of them with threads.
-fn counts_are_those_of_the_reference(polls: Polls) {
+fn counts_are_those_of_the_reference(form: Form, polls: Polls) {
     let console = Console::open(Settings::default());
     let layer = TaskscopeLayer::new(&console).items(Items::All).polls(polls);
     let left_out = layer.left_out();
     let reference = Reference::default();
-    let subscriber = tracing_subscriber::registry().with(layer).with(reference.clone());
-    let subscriber = Dispatch::new(InTurn(Rootless(subscriber), Mutex::default()));
+    let subscriber = beside(form, layer, &reference);
     with_default(&subscriber, || {
         for round in 0..10 {
             let is_threaded = round % 2 == 0;
@@ -373,12 +484,15 @@ fn counts_are_those_of_the_reference(polls: Polls) {
     assert_eq!((left_out.stray(), left_out.unsayable(), left_out.unknown(), left_out.foreign()), (0, 0, 0, 0));
 }
 
-#[test]
-fn all_polls_are_those_of_the_reference() {
-    counts_are_those_of_the_reference(Polls::All);
+in_each_form! {
+    all_polls_are_those_of_the_reference
+    where_no_span_is_taken_along_own_polls_are_all
 }
 
-#[test]
-fn where_no_span_is_taken_along_own_polls_are_all() {
-    counts_are_those_of_the_reference(Polls::Own);
+fn all_polls_are_those_of_the_reference(form: Form) {
+    counts_are_those_of_the_reference(form, Polls::All);
+}
+
+fn where_no_span_is_taken_along_own_polls_are_all(form: Form) {
+    counts_are_those_of_the_reference(form, Polls::Own);
 }

@@ -2,8 +2,11 @@
 //! sets them up.
 
 mod common;
+#[path = "common/forms.rs"]
+mod forms;
 
 use common::{list, number, publish, value};
+use forms::{Form, FORMS, FORMS_WITH_CURRENT};
 use std::future::{pending, Future};
 use std::io::{self, Write};
 use std::sync::{Arc, Mutex};
@@ -43,9 +46,14 @@ struct Program {
 }
 
 impl Program {
-    fn new() -> Program {
+    /// Beside a subscriber of tokio's spans alone there are no logs.
+    fn new(form: Form) -> Program {
         let console = Console::open(Settings::default());
         let logs = Logs::default();
+        if form != Form::Layer {
+            let subscriber = form.subscriber(TaskscopeLayer::new(&console));
+            return Program { console, logs, subscriber };
+        }
         let writer = logs.clone();
         let layer = fmt::layer().with_writer(move || writer.clone());
         let layer = layer.with_filter(EnvFilter::new("info"));
@@ -123,9 +131,9 @@ enum Ends {
 
 #[test]
 fn a_task_is_closed_when_it_ends_and_not_before() {
-    for leaves in LEAVES {
+    for (form, leaves) in FORMS.into_iter().flat_map(|form| LEAVES.map(|leaves| (form, leaves))) {
         for ends in [Ends::Ready, Ends::Aborted, Ends::Panics] {
-            let program = Program::new();
+            let program = Program::new(form);
             program.run(async {
                 let accepts = spawn("accepts", async move {
                     spawn_long(leaves);
@@ -139,17 +147,17 @@ fn a_task_is_closed_when_it_ends_and_not_before() {
                 // The first poll of each.
                 yield_now().await;
                 let line = publish(&program.console);
-                assert!(!is_closed(&row(&line, "accepts")), "{leaves:?} {ends:?}: before its end: {line}");
+                assert!(!is_closed(&row(&line, "accepts")), "{form:?} {leaves:?} {ends:?}: before its end: {line}");
                 yield_now().await;
                 if let Ends::Aborted = ends {
                     accepts.abort();
                 }
-                assert_eq!(accepts.await.is_ok(), matches!(ends, Ends::Ready), "{leaves:?} {ends:?}");
+                assert_eq!(accepts.await.is_ok(), matches!(ends, Ends::Ready), "{form:?} {leaves:?} {ends:?}");
                 let line = common::snapshot(&program.console);
                 let accepts = row(&line, "accepts");
-                assert!(is_closed(&accepts), "{leaves:?} {ends:?}: after its end: {accepts}");
-                assert_eq!(number(&accepts, "polls"), 2, "{leaves:?} {ends:?}");
-                assert!(!is_closed(&row(&line, "long")), "{leaves:?} {ends:?}: the one that lives on");
+                assert!(is_closed(&accepts), "{form:?} {leaves:?} {ends:?}: after its end: {accepts}");
+                assert_eq!(number(&accepts, "polls"), 2, "{form:?} {leaves:?} {ends:?}");
+                assert!(!is_closed(&row(&line, "long")), "{form:?} {leaves:?} {ends:?}: the one that lives on");
             });
         }
     }
@@ -157,7 +165,11 @@ fn a_task_is_closed_when_it_ends_and_not_before() {
 
 #[test]
 fn a_handle_that_is_dropped_does_not_close_the_task() {
-    let program = Program::new();
+    FORMS_WITH_CURRENT.into_iter().for_each(handles_are_dropped);
+}
+
+fn handles_are_dropped(form: Form) {
+    let program = Program::new(form);
     program.run(async {
         let waits = spawn("waits", async {
             let span = Span::current();
@@ -170,8 +182,8 @@ fn a_handle_that_is_dropped_does_not_close_the_task() {
             yield_now().await;
         }
         let line = publish(&program.console);
-        assert!(is_closed(&row(&line, "other")), "the other one has ended: {line}");
-        assert!(!is_closed(&row(&line, "waits")), "it waits: {line}");
+        assert!(is_closed(&row(&line, "other")), "{form:?}: the other one has ended: {line}");
+        assert!(!is_closed(&row(&line, "waits")), "{form:?}: it waits: {line}");
         waits.abort();
     });
 }
@@ -179,7 +191,7 @@ fn a_handle_that_is_dropped_does_not_close_the_task() {
 #[test]
 fn logs_keep_the_spans_of_the_program() {
     for leaves in [Leaves::Child, Leaves::ChildByName, Leaves::GrandChild] {
-        let program = Program::new();
+        let program = Program::new(Form::Layer);
         program.run(async {
             spawn("accepts", async move { spawn_long(leaves) }).await.expect("no panic");
             yield_now().await;

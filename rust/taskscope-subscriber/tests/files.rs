@@ -199,11 +199,11 @@ fn a_line_comes_before_a_recorder_is_full() {
     let folder = Folder::new();
     let path = folder.path("stream");
     let hour = Duration::from_secs(3600);
-    let inspected = Inspected::start(Builder::new().interval(hour).capacity(100), &path);
-    // By one thread, each time more than half of what a recorder holds. Less than half may wait for the next line.
+    let inspected = Inspected::start(Builder::new().interval(hour).capacity(200), &path);
+    // By one thread. Less than half of what a recorder holds may wait for the next line, and with one more round it isn't full.
     for round in 1..=20 {
         inspected.run(std::iter::repeat("one of many").take(60));
-        until(|| read(&path).matches("one of many").count() > 60 * round - 50);
+        until(|| read(&path).matches("one of many").count() + 100 > 60 * round);
     }
     inspected.guard.finish();
     let mut tables = Tables::default();

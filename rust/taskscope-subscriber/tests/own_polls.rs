@@ -1,21 +1,29 @@
 //! Futures and calls that enter the span of another task: what counts as a poll of that task.
 
 mod common;
+#[path = "common/forms.rs"]
+mod forms;
 
 use common::{list, number, publish, value};
+use forms::{Form, FORMS, FORMS_WITH_CURRENT};
 use std::future::Future;
 use taskscope::{Console, Settings};
-use taskscope_subscriber::{Polls, Rootless, TaskscopeLayer};
+use taskscope_subscriber::{Polls, TaskscopeLayer};
 use tokio::task::yield_now;
+use tracing::dispatcher::{set_default, with_default};
 use tracing::Instrument;
-use tracing_subscriber::layer::SubscriberExt;
 
 /// How many polls each task had whose name is asked for: `main` is the first `block_on`.
-fn polls<const N: usize>(polls: Polls, names: [&str; N], work: impl Future<Output = ()>) -> ([u64; N], u64) {
+fn polls<const N: usize>(
+    form: Form,
+    polls: Polls,
+    names: [&str; N],
+    work: impl Future<Output = ()>,
+) -> ([u64; N], u64) {
     let console = Console::open(Settings::default());
     let layer = TaskscopeLayer::new(&console).polls(polls);
     let left_out = layer.left_out();
-    tracing::subscriber::with_default(Rootless(tracing_subscriber::registry().with(layer)), || {
+    with_default(&form.subscriber(layer), || {
         let runtime = tokio::runtime::Builder::new_current_thread().enable_all().build().expect("a runtime");
         runtime.block_on(work);
     });
@@ -49,8 +57,15 @@ async fn taken_along() {
 
 #[test]
 fn a_span_that_is_taken_along_counts_for_one_or_for_both() {
-    assert_eq!(polls(Polls::Own, ["outer", "inner"], taken_along()), ([2, 6], 6));
-    assert_eq!(polls(Polls::All, ["outer", "inner"], taken_along()), ([8, 6], 0));
+    for form in FORMS_WITH_CURRENT {
+        assert_eq!(polls(form, Polls::Own, ["outer", "inner"], taken_along()), ([2, 6], 6), "{form:?}");
+        assert_eq!(polls(form, Polls::All, ["outer", "inner"], taken_along()), ([8, 6], 0), "{form:?}");
+    }
+    assert_eq!(
+        polls(Form::Direct, Polls::All, ["outer", "inner"], taken_along()),
+        ([2, 6], 0),
+        "nothing is taken along"
+    );
 }
 
 /// The same while the outer task waits for a poll of its own whenever the inner one is polled.
@@ -65,8 +80,10 @@ async fn taken_along_while_it_waits() {
 
 #[test]
 fn a_task_that_waits_for_its_poll_is_not_polled_by_another_task() {
-    let ([outer, inner], foreign) = polls(Polls::Own, ["outer", "inner"], taken_along_while_it_waits());
-    assert_eq!((outer, inner, foreign), (10, 6, 6));
+    for form in FORMS_WITH_CURRENT {
+        let ([outer, inner], foreign) = polls(form, Polls::Own, ["outer", "inner"], taken_along_while_it_waits());
+        assert_eq!((outer, inner, foreign), (10, 6, 6), "{form:?}");
+    }
 }
 
 /// What `block_on` runs has its span taken along by a task.
@@ -76,8 +93,10 @@ async fn main_is_taken_along() {
 
 #[test]
 fn a_task_does_not_poll_what_block_on_runs() {
-    assert_eq!(polls(Polls::Own, ["main", "task"], main_is_taken_along()), ([2, 4], 4));
-    assert_eq!(polls(Polls::All, ["main", "task"], main_is_taken_along()), ([6, 4], 0));
+    for form in FORMS_WITH_CURRENT {
+        assert_eq!(polls(form, Polls::Own, ["main", "task"], main_is_taken_along()), ([2, 4], 4), "{form:?}");
+        assert_eq!(polls(form, Polls::All, ["main", "task"], main_is_taken_along()), ([6, 4], 0), "{form:?}");
+    }
 }
 
 /// A blocking call is within the span of a task that waits for it.
@@ -98,27 +117,37 @@ async fn within_a_blocking_call() {
 
 #[test]
 fn a_call_within_the_span_of_a_task_is_no_poll() {
-    // The thread of the call has no subscriber of its own, so this layer is the whole program's.
-    let console = Console::open(Settings::default());
-    let layer = TaskscopeLayer::new(&console);
-    let left_out = layer.left_out();
-    tracing::subscriber::set_global_default(Rootless(tracing_subscriber::registry().with(layer)))
-        .expect("the only one");
-    let runtime = tokio::runtime::Builder::new_current_thread().build().expect("a runtime");
-    runtime.block_on(within_a_blocking_call());
-    let line = publish(&console);
-    let info = list(&line, "new_tasks").into_iter().find(|info| value(info, "name") == "\"task\"").expect("the task");
-    assert_eq!(number(common::task(&line, number(info, "id")), "polls"), 2);
-    assert_eq!(left_out.foreign(), 4);
+    for form in FORMS_WITH_CURRENT {
+        let console = Console::open(Settings::default());
+        let layer = TaskscopeLayer::new(&console);
+        let left_out = layer.left_out();
+        let subscriber = form.subscriber(layer);
+        with_default(&subscriber, || {
+            let of_threads = subscriber.clone();
+            // The thread of the call has the subscriber for good.
+            let runtime = tokio::runtime::Builder::new_current_thread()
+                .on_thread_start(move || std::mem::forget(set_default(&of_threads)))
+                .build()
+                .expect("a runtime");
+            runtime.block_on(within_a_blocking_call());
+        });
+        let line = publish(&console);
+        let info = list(&line, "new_tasks").into_iter().find(|info| value(info, "name") == "\"task\"");
+        assert_eq!(number(common::task(&line, number(info.expect("the task"), "id")), "polls"), 2, "{form:?}");
+        assert_eq!(left_out.foreign(), 4, "{form:?}");
+    }
 }
 
 #[test]
 fn a_thread_outside_of_all_tasks_polls_none() {
+    FORMS_WITH_CURRENT.into_iter().for_each(polls_none_from_outside);
+}
+
+fn polls_none_from_outside(form: Form) {
     let console = Console::open(Settings::default());
     let layer = TaskscopeLayer::new(&console);
     let left_out = layer.left_out();
-    let subscriber = tracing::Dispatch::new(Rootless(tracing_subscriber::registry().with(layer)));
-    tracing::dispatcher::with_default(&subscriber, || {
+    with_default(&form.subscriber(layer), || {
         let runtime = tokio::runtime::Builder::new_current_thread().build().expect("a runtime");
         let task = async { tracing::Span::current() };
         let span = runtime.block_on(async { spawn("task", task).await.expect("no panic") });
@@ -138,16 +167,16 @@ fn a_thread_outside_of_all_tasks_polls_none() {
     for (name, polls) in [("task", 1), ("waits", 2)] {
         let info = list(&line, "new_tasks").into_iter().find(|info| value(info, "name") == format!("\"{name}\""));
         let row = common::task(&line, number(info.expect("the task"), "id"));
-        assert_eq!(number(row, "polls"), polls, "{name}");
+        assert_eq!(number(row, "polls"), polls, "{form:?}: {name}");
     }
-    assert_eq!(left_out.foreign(), 4, "{left_out}");
+    assert_eq!(left_out.foreign(), 4, "{form:?}: {left_out}");
 }
 
 /// A task hands its span to a thread, which enters it while the task waits for its poll.
 #[test]
 fn a_thread_polls_no_task_that_waits_for_its_poll() {
     let names = ["task"];
-    let work = async {
+    let work = || async {
         let (sender, receiver) = tokio::sync::oneshot::channel();
         let task = spawn("task", async {
             sender.send(tracing::Span::current()).expect("it is received");
@@ -161,7 +190,9 @@ fn a_thread_polls_no_task_that_waits_for_its_poll() {
         }
         task.await.expect("no panic");
     };
-    assert_eq!(polls(Polls::Own, names, work), ([4], 2));
+    for form in FORMS_WITH_CURRENT {
+        assert_eq!(polls(form, Polls::Own, names, work()), ([4], 2), "{form:?}");
+    }
 }
 
 /// Local tasks are polled within a poll of what `block_on` runs.
@@ -180,10 +211,12 @@ async fn local_tasks() {
 
 #[test]
 fn local_tasks_are_polled_within_others() {
-    let (own, foreign) = polls(Polls::Own, ["local", "nested"], local_tasks());
-    assert_eq!(foreign, 0);
-    assert_eq!(own, polls(Polls::All, ["local", "nested"], local_tasks()).0);
-    assert_eq!(own[1], 5);
+    for form in FORMS {
+        let (own, foreign) = polls(form, Polls::Own, ["local", "nested"], local_tasks());
+        assert_eq!(foreign, 0, "{form:?}");
+        assert_eq!(own, polls(form, Polls::All, ["local", "nested"], local_tasks()).0, "{form:?}");
+        assert_eq!(own[1], 5, "{form:?}");
+    }
 }
 
 /// A runtime of its own within a blocking call, and one within a task.
@@ -198,22 +231,26 @@ async fn runtimes_within() {
 
 #[test]
 fn a_runtime_within_a_blocking_call_polls_its_tasks() {
+    FORMS.into_iter().for_each(polls_within_a_blocking_call);
+}
+
+fn polls_within_a_blocking_call(form: Form) {
     let console = Console::open(Settings::default());
     let layer = TaskscopeLayer::new(&console);
     let left_out = layer.left_out();
-    let subscriber = tracing::Dispatch::new(Rootless(tracing_subscriber::registry().with(layer)));
-    tracing::dispatcher::with_default(&subscriber, || {
+    let subscriber = form.subscriber(layer);
+    with_default(&subscriber, || {
         let of_threads = subscriber.clone();
         // Each thread of the runtime has the subscriber for good.
         let runtime = tokio::runtime::Builder::new_multi_thread()
             .worker_threads(1)
-            .on_thread_start(move || std::mem::forget(tracing::dispatcher::set_default(&of_threads)))
+            .on_thread_start(move || std::mem::forget(set_default(&of_threads)))
             .build()
             .expect("a runtime");
         runtime.block_on(runtimes_within());
     });
     let line = publish(&console);
     let info = list(&line, "new_tasks").into_iter().find(|info| value(info, "name") == "\"within\"").expect("the task");
-    assert_eq!(number(common::task(&line, number(info, "id")), "polls"), 4);
-    assert_eq!(left_out.foreign(), 0, "{left_out}");
+    assert_eq!(number(common::task(&line, number(info, "id")), "polls"), 4, "{form:?}");
+    assert_eq!(left_out.foreign(), 0, "{form:?}: {left_out}");
 }

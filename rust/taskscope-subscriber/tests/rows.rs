@@ -1,8 +1,11 @@
 //! What tokio says of tasks, wakers, resources and operations comes through to the rows.
 
 mod common;
+#[path = "common/forms.rs"]
+mod forms;
 
 use common::{list, number, publish, value, with_id};
+use forms::Form;
 use std::future::Future;
 use std::mem::forget;
 use std::sync::atomic::{AtomicUsize, Ordering};
@@ -15,12 +18,25 @@ use tracing::dispatcher::{set_default, with_default, Dispatch};
 use tracing::span::{Attributes, Id};
 use tracing_subscriber::layer::{Context as LayerContext, Layer, SubscriberExt};
 
+in_each_form! {
+    tasks_have_their_kinds_names_and_places
+    polls_and_wakers_come_through
+    wakers_after_the_end_of_their_task_are_late
+    attributes_have_their_values_and_units
+    operations_have_their_tasks_polls_and_parents
+    of_tasks_alone_nothing_else_is_told
+    an_unknown_attribute_is_counted_and_known_from_then_on
+    what_belongs_to_nothing_is_older_or_stray
+    a_thread_that_ends_closes_its_tasks
+    values_that_panic_or_log_leave_all_as_it_was
+}
+
 /// Runs a future under a layer, and answers the line of what it did, and what was left out.
-fn inspected(items: Items, future: impl Future<Output = ()>) -> (String, Arc<LeftOut>) {
+fn inspected(form: Form, items: Items, future: impl Future<Output = ()>) -> (String, Arc<LeftOut>) {
     let console = Console::open(Settings::default());
     let layer = TaskscopeLayer::new(&console).items(items);
     let left_out = layer.left_out();
-    let subscriber = Dispatch::new(Rootless(tracing_subscriber::registry().with(layer)));
+    let subscriber = form.subscriber(layer);
     with_default(&subscriber, || {
         let of_threads = subscriber.clone();
         // The threads of blocking calls keep the subscriber for good.
@@ -52,9 +68,8 @@ fn attrs<'a>(line: &'a str, concrete: &str, file: &str) -> Vec<&'a str> {
     list(with_id(line, "resource_stats", id).expect("its row"), "attrs")
 }
 
-#[test]
-fn tasks_have_their_kinds_names_and_places() {
-    let (line, left_out) = inspected(Items::All, async {
+fn tasks_have_their_kinds_names_and_places(form: Form) {
+    let (line, left_out) = inspected(form, Items::All, async {
         tokio::spawn(async {}).await.expect("no panic");
         tokio::task::Builder::new().name("a \"name\"").spawn(async {}).expect("a runtime").await.expect("no panic");
         tokio::task::spawn_blocking(|| ()).await.expect("no panic");
@@ -78,9 +93,8 @@ fn tasks_have_their_kinds_names_and_places() {
     assert_eq!(left_out.to_string(), "nothing");
 }
 
-#[test]
-fn polls_and_wakers_come_through() {
-    let (line, left_out) = inspected(Items::All, async {
+fn polls_and_wakers_come_through(form: Form) {
+    let (line, left_out) = inspected(form, Items::All, async {
         let mut left = 7;
         let wakes = common::Calls(move |cx: &mut Context<'_>| {
             left -= 1;
@@ -105,10 +119,9 @@ fn polls_and_wakers_come_through() {
     assert_eq!(left_out.to_string(), "nothing");
 }
 
-#[test]
-fn wakers_after_the_end_of_their_task_are_late() {
+fn wakers_after_the_end_of_their_task_are_late(form: Form) {
     let kept = Arc::new(Mutex::new(None::<Waker>));
-    let (line, left_out) = inspected(Items::All, async {
+    let (line, left_out) = inspected(form, Items::All, async {
         let keeper = Arc::clone(&kept);
         let keeps = common::Calls(move |cx: &mut Context<'_>| {
             *keeper.lock().unwrap() = Some(cx.waker().clone());
@@ -127,9 +140,8 @@ fn wakers_after_the_end_of_their_task_are_late() {
     assert_eq!(left_out.to_string(), "late 1");
 }
 
-#[test]
-fn attributes_have_their_values_and_units() {
-    let (line, left_out) = inspected(Items::All, async {
+fn attributes_have_their_values_and_units(form: Form) {
+    let (line, left_out) = inspected(form, Items::All, async {
         let semaphore = tokio::sync::Semaphore::new(5);
         semaphore.acquire_many(2).await.expect("it is open").forget();
         let mutex = tokio::sync::Mutex::new(());
@@ -155,9 +167,8 @@ fn attributes_have_their_values_and_units() {
     assert_eq!(left_out.unsayable(), 0, "{left_out}");
 }
 
-#[test]
-fn operations_have_their_tasks_polls_and_parents() {
-    let (line, left_out) = inspected(Items::All, async {
+fn operations_have_their_tasks_polls_and_parents(form: Form) {
+    let (line, left_out) = inspected(form, Items::All, async {
         let semaphore = Arc::new(tokio::sync::Semaphore::new(0));
         let of_task = Arc::clone(&semaphore);
         let waits = async move { of_task.acquire_many(2).await.expect("it is open").forget() };
@@ -189,9 +200,8 @@ fn operations_have_their_tasks_polls_and_parents() {
     assert_eq!(left_out.to_string(), "nothing");
 }
 
-#[test]
-fn of_tasks_alone_nothing_else_is_told() {
-    let (line, left_out) = inspected(Items::Tasks, async {
+fn of_tasks_alone_nothing_else_is_told(form: Form) {
+    let (line, left_out) = inspected(form, Items::Tasks, async {
         let mutex = Arc::new(tokio::sync::Mutex::new(0));
         *mutex.lock().await += 1;
         tokio::spawn(async move { *mutex.lock().await += 1 }).await.expect("no panic");
@@ -236,9 +246,8 @@ fn unknown_resource(lag: i64) {
     });
 }
 
-#[test]
-fn an_unknown_attribute_is_counted_and_known_from_then_on() {
-    let (line, left_out) = inspected(Items::All, async {
+fn an_unknown_attribute_is_counted_and_known_from_then_on(form: Form) {
+    let (line, left_out) = inspected(form, Items::All, async {
         unknown_resource(-1);
         unknown_resource(-2);
     });
@@ -250,9 +259,8 @@ fn an_unknown_attribute_is_counted_and_known_from_then_on() {
     assert_eq!(left_out.to_string(), "unsayable 3");
 }
 
-#[test]
-fn what_belongs_to_nothing_is_older_or_stray() {
-    let (line, left_out) = inspected(Items::All, async {
+fn what_belongs_to_nothing_is_older_or_stray(form: Form) {
+    let (line, left_out) = inspected(form, Items::All, async {
         tracing::trace!(target: "runtime::resource::state_update", lag = 1u64);
         tracing::trace!(target: "runtime::resource::async_op::state_update", lag = 1u64);
         tracing::trace!(target: "runtime::resource::poll_op", op_name = "poll", is_ready = true);
@@ -271,12 +279,11 @@ fn what_belongs_to_nothing_is_older_or_stray() {
 
 thread_local!(static KEPT: std::cell::RefCell<Option<tracing::Span>> = const { std::cell::RefCell::new(None) });
 
-#[test]
-fn a_thread_that_ends_closes_its_tasks() {
+fn a_thread_that_ends_closes_its_tasks(form: Form) {
     let console = Console::open(Settings::default());
     let layer = TaskscopeLayer::new(&console);
     let left_out = layer.left_out();
-    let subscriber = Dispatch::new(Rootless(tracing_subscriber::registry().with(layer)));
+    let subscriber = form.subscriber(layer);
     let keeps = move || {
         // It is dropped after what was first used after it, so after what the layer keeps for this thread.
         KEPT.with(|kept| {
@@ -288,5 +295,41 @@ fn a_thread_that_ends_closes_its_tasks() {
     };
     std::thread::spawn(keeps).join().expect("no panic");
     assert_ne!(value(row(&publish(&console), "kept"), "dropped"), "null");
+    assert_eq!(left_out.to_string(), "nothing");
+}
+
+/// A value of a field that can't be told.
+struct Fails;
+
+impl std::fmt::Display for Fails {
+    fn fmt(&self, _: &mut std::fmt::Formatter<'_>) -> std::fmt::Result {
+        panic!("as it should");
+    }
+}
+
+/// A value of a field that makes a span of a task itself, while it is told.
+struct Nests;
+
+impl std::fmt::Display for Nests {
+    fn fmt(&self, f: &mut std::fmt::Formatter<'_>) -> std::fmt::Result {
+        drop(tracing::trace_span!(target: "tokio::task", "runtime.spawn", kind = %"task", task.name = "nested"));
+        f.write_str("task")
+    }
+}
+
+fn values_that_panic_or_log_leave_all_as_it_was(form: Form) {
+    let (line, left_out) = inspected(form, Items::All, async {
+        let fails = || drop(tracing::trace_span!(target: "tokio::task", "runtime.spawn", kind = %Fails));
+        assert!(std::panic::catch_unwind(fails).is_err(), "the value panics");
+        drop(tracing::trace_span!(target: "tokio::task", "runtime.spawn", kind = %Nests, task.name = "nests"));
+        tokio::task::Builder::new().name("after").spawn(async {}).expect("a runtime").await.expect("no panic");
+    });
+    for (name, polls) in [("nests", 0), ("after", 1)] {
+        let row = row(&line, name);
+        assert_eq!(number(row, "polls"), polls, "{name}: {row}");
+        assert_ne!(value(row, "dropped"), "null", "{name}: {row}");
+    }
+    assert_eq!(list(&line, "new_tasks").len(), 3, "with what `block_on` runs: {line}");
+    // `tracing` hands on nothing of what a value does while it is told.
     assert_eq!(left_out.to_string(), "nothing");
 }

@@ -4,7 +4,7 @@ use crate::fault::Fault;
 use crate::ffi::Head;
 use crate::item::{ItemKind, Lists};
 use crate::op::OpCell;
-use crate::page::Page;
+use crate::page::{has_room, Page};
 use crate::poll_counts::PollCounts;
 use crate::resource::ResourceCell;
 use crate::table::{Listed, Table, Told};
@@ -81,11 +81,9 @@ impl Book {
         [&mut self.tasks, &mut self.resources, &mut self.ops, &mut self.counts]
     }
 
-    /// Empties the lists of a shard into those for the next line.
-    pub(crate) fn take(&mut self, fresh: &mut Lists, changed: &mut Lists) {
-        for table in self.tables() {
-            table.take(fresh, changed);
-        }
+    /// Empties the lists of a shard into those for the next line. What there is no memory for stays there.
+    pub(crate) fn take(&mut self, fresh: &mut Lists, changed: &mut Lists) -> Result<(), Fault> {
+        self.tables().into_iter().try_for_each(|table| table.take(fresh, changed))
     }
 
     /// From now on nobody knows what was told.
@@ -221,29 +219,24 @@ impl Book {
             return;
         }
         let write = |&seq: &u64| page.gone_line(&head(seq.saturating_add(1), moment, dropped, false), retention);
-        let after_changes: Result<Vec<_>, _> = wanted.changes.iter().map(write).collect();
-        let after_all = wanted.all.as_ref().map(write).transpose();
-        let (after_changes, after_all) = match (after_changes, after_all) {
-            (Ok(after_changes), Ok(after_all)) => (after_changes, after_all),
-            _ => {
+        let after: Result<Vec<_>, _> = wanted.changes.iter().chain(&wanted.all).map(write).collect();
+        let after = after.ok().filter(|after| each_with(lines, after).all(|(line, after)| has_room(line, after.len())));
+        let after = match after {
+            Some(after) => after,
+            None => {
                 self.tasks.stay(&tasks);
                 self.resources.stay(&resources);
                 self.ops.stay(&ops);
                 return;
             }
         };
-        for (line, leaving) in
-            lines.changes.iter_mut().chain(&mut lines.all).zip(after_changes.iter().chain(&after_all))
-        {
-            line.extend_from_slice(leaving);
-        }
+        each_with(lines, &after).for_each(|(line, after)| line.extend_from_slice(after));
         lines.count = 2;
-        self.tasks.leave(&tasks);
-        self.ops.leave(&ops);
+        self.tasks.leave(&tasks, |_| ());
+        self.ops.leave(&ops, |_| ());
+        let counts = &mut self.counts;
         // A reader keeps the counts of a resource that left; here nothing is kept.
-        for resource in self.resources.leave(&resources) {
-            self.counts.forget(&resource.counts);
-        }
+        self.resources.leave(&resources, |resource| counts.forget(&resource.counts));
     }
 
     /// Takes what is new and what changed as told, and lets go of what leaves, as a line would, though none is made. Only a line that
@@ -255,13 +248,17 @@ impl Book {
         }
         if let Some(retention) = retention {
             let moment = now();
-            self.tasks.pass_leaving(moment, retention);
-            self.ops.pass_leaving(moment, retention);
-            for resource in self.resources.pass_leaving(moment, retention) {
-                self.counts.forget(&resource.counts);
-            }
+            self.tasks.pass_leaving(moment, retention, |_| ());
+            self.ops.pass_leaving(moment, retention, |_| ());
+            let counts = &mut self.counts;
+            self.resources.pass_leaving(moment, retention, |resource| counts.forget(&resource.counts));
         }
     }
+}
+
+/// Each of these lines, with the text that belongs after it.
+fn each_with<'a>(lines: &'a mut Lines, after: &'a [Vec<u8>]) -> impl Iterator<Item = (&'a mut Vec<u8>, &'a Vec<u8>)> {
+    lines.changes.iter_mut().chain(&mut lines.all).zip(after)
 }
 
 /// The head of a line, but for how many entries were told, which the page says. The library refuses a number that no line can have.

@@ -2,22 +2,24 @@
 
 use crate::book::{Book, Lines, Total, Wanted};
 use crate::border::limit::LAST_NUMBER;
+use crate::clock::{nanoseconds, Clock};
 use crate::fault::Fault;
 use crate::ffi;
 use crate::id::{id_of, NO_ID};
 use crate::item::{Item, Lists};
-use crate::location::Location;
+use crate::light::Light;
+use crate::location::Made;
+use crate::lock::lock;
 use crate::op::OpBuilder;
 use crate::process::Process;
 use crate::resource::{Resource, ResourceBuilder};
-use crate::row::lock;
 use crate::task::TaskBuilder;
 use std::borrow::Cow;
 use std::cell::Cell;
 use std::fmt;
 use std::sync::atomic::{AtomicBool, AtomicUsize, Ordering};
 use std::sync::{Arc, Mutex, MutexGuard};
-use std::time::{Duration, Instant};
+use std::time::Duration;
 
 /// How much a console keeps.
 ///
@@ -115,7 +117,7 @@ struct Shard {
 /// A shard's lock, apart from the others' in memory, so that threads of different shards don't meet.
 #[derive(Debug, Default)]
 #[repr(align(128))]
-struct ShardLock(Mutex<Shard>);
+struct ShardLock(Light<Shard>);
 
 /// Whether a recorder was half full since the last line, and what is called when one is.
 #[derive(Default)]
@@ -138,7 +140,7 @@ impl Filling {
 pub(crate) struct Inner {
     /// The process that opened it.
     process: Process,
-    opened: Instant,
+    clock: Clock,
     capacity: usize,
     filling: Filling,
     /// In nanoseconds.
@@ -166,11 +168,6 @@ fn shard() -> usize {
     })
 }
 
-/// A span in nanoseconds, which stays at the greatest `u64`.
-fn nanoseconds(span: Duration) -> u64 {
-    span.as_secs().saturating_mul(1_000_000_000).saturating_add(span.subsec_nanos().into())
-}
-
 impl Inner {
     /// Whether calls are recorded. Where they are not, no lock may be taken.
     #[inline]
@@ -178,10 +175,15 @@ impl Inner {
         ffi::IS_LINKED && self.process.is_this()
     }
 
-    /// Nanoseconds since the console was opened.
+    /// Nanoseconds since the console was opened: the moment of a call.
     #[inline]
     pub(crate) fn now(&self) -> u64 {
-        nanoseconds(self.opened.elapsed())
+        self.clock.now()
+    }
+
+    /// The moment of a line whose rows were read before this.
+    fn now_after(&self) -> u64 {
+        self.clock.now_after()
     }
 
     /// Whether histograms of poll times are kept.
@@ -208,7 +210,7 @@ impl Inner {
 
     #[cold]
     fn list<T: Item>(&self, cell: &Arc<T>, is_new: bool) {
-        let mut shard = lock(&self.shards[shard()].0);
+        let mut shard = self.shards[shard()].0.lock();
         let lists = if is_new { &mut shard.fresh } else { &mut shard.changed };
         T::list(lists).push(Arc::clone(cell));
     }
@@ -224,7 +226,7 @@ impl Inner {
             return Arc::new(make(NO_ID));
         }
         let number = shard();
-        let mut shard = lock(&self.shards[number].0);
+        let mut shard = self.shards[number].0.lock();
         let drawn = &mut shard.drawn[T::KIND as usize];
         let mut id = NO_ID;
         if *drawn < LAST_NUMBER {
@@ -248,45 +250,46 @@ impl Inner {
     }
 
     /// Moves what the shards list to the book, and sums up what was dropped.
-    fn take(&self, book: &mut Book) -> Total {
+    fn take(&self, book: &mut Book) -> Result<Total, Fault> {
         let mut total = Total::default();
         // Before the recorders are emptied, so that none fills up from here on without a word.
         self.filling.is_filling.store(false, Ordering::SeqCst);
         for shard in &self.shards {
-            let shard = &mut *lock(&shard.0);
+            let shard = &mut *shard.0.lock();
             total.add_all(&shard.dropped);
-            book.take(&mut shard.fresh, &mut shard.changed);
+            book.take(&mut shard.fresh, &mut shard.changed)?;
         }
-        total
+        Ok(total)
     }
 
     /// Takes the book, with what the shards list in it and how many were dropped. There is none where nothing is recorded.
-    fn book(&self) -> Option<(MutexGuard<'_, Book>, Total)> {
+    fn book(&self) -> Result<Option<(MutexGuard<'_, Book>, Total)>, Fault> {
         if !self.is_active() {
-            return None;
+            return Ok(None);
         }
         let mut book = lock(&self.book);
-        let dropped = self.take(&mut book);
-        Some((book, dropped))
+        self.clock.follow();
+        let dropped = self.take(&mut book)?;
+        Ok(Some((book, dropped)))
     }
 
     pub(crate) fn publish(&self) -> Result<Vec<u8>, Fault> {
-        match self.book() {
-            Some((mut book, dropped)) => book.publish(dropped, || self.now(), self.retention),
+        match self.book()? {
+            Some((mut book, dropped)) => book.publish(dropped, || self.now_after(), self.retention),
             None => Ok(Vec::new()),
         }
     }
 
     pub(crate) fn publish_changes(&self) -> Result<Option<Vec<u8>>, Fault> {
-        match self.book() {
-            Some((mut book, dropped)) => book.publish_changes(dropped, || self.now(), self.retention),
+        match self.book()? {
+            Some((mut book, dropped)) => book.publish_changes(dropped, || self.now_after(), self.retention),
             None => Ok(None),
         }
     }
 
     fn snapshot(&self, number: Option<u64>, most: usize) -> Result<Option<Vec<u8>>, Fault> {
-        match self.book() {
-            Some((mut book, dropped)) => book.snapshot(number, most, dropped, || self.now(), self.retention),
+        match self.book()? {
+            Some((mut book, dropped)) => book.snapshot(number, most, dropped, || self.now_after(), self.retention),
             None => Ok(Some(Vec::new())),
         }
     }
@@ -294,16 +297,17 @@ impl Inner {
     /// Lines for readers that stand differently, as [`Book::lines`] says.
     #[cfg(unix)]
     pub(crate) fn lines(&self, wanted: &Wanted) -> Result<Lines, Fault> {
-        match self.book() {
-            Some((mut book, dropped)) => book.lines(wanted, dropped, || self.now(), self.retention),
+        match self.book()? {
+            Some((mut book, dropped)) => book.lines(wanted, dropped, || self.now_after(), self.retention),
             None => Ok(Lines::default()),
         }
     }
 
     /// Lets items come, change and leave, while nobody reads.
     pub(crate) fn pass(&self) {
-        if let Some((mut book, _)) = self.book() {
-            book.pass(|| self.now(), self.retention);
+        // Without memory all stays for the next call.
+        if let Ok(Some((mut book, _))) = self.book() {
+            book.pass(|| self.now_after(), self.retention);
         }
     }
 
@@ -351,7 +355,7 @@ impl Console {
     pub fn open(settings: Settings) -> Console {
         Console(Arc::new(Inner {
             process: Process::this(),
-            opened: Instant::now(),
+            clock: Clock::open(),
             capacity: settings.capacity,
             filling: Filling::default(),
             retention: settings.retention.map(nanoseconds),
@@ -387,7 +391,7 @@ impl Console {
 
     /// How many nanoseconds ago the console was opened: the moment that a call records now.
     pub fn now(&self) -> u64 {
-        self.0.now()
+        self.0.now_after()
     }
 
     /// Whether a recorder was half full since the last line, so that the next line should be made at once. Otherwise what is
@@ -444,7 +448,7 @@ impl Console {
     /// ```
     #[track_caller]
     pub fn task(&self, name: impl Into<Cow<'static, str>>) -> TaskBuilder<'_> {
-        TaskBuilder::new(self, name.into(), Location::caller())
+        TaskBuilder::new(self, name.into(), Made::here())
     }
 
     /// Begins a resource of this type, made where this is called. [`ResourceBuilder::kind`] says its kind.
@@ -462,7 +466,7 @@ impl Console {
     /// ```
     #[track_caller]
     pub fn resource(&self, concrete: impl Into<Cow<'static, str>>) -> ResourceBuilder<'_> {
-        ResourceBuilder::new(self, concrete.into(), Location::caller())
+        ResourceBuilder::new(self, concrete.into(), Made::here())
     }
 
     /// Begins an async operation on a resource, by the call that makes it, as `Semaphore::acquire`.
@@ -634,7 +638,7 @@ mod tests {
     fn an_item_for_which_there_is_no_number_has_no_id_and_is_counted() {
         let console = Console::open(Settings::default());
         for shard in &console.inner().shards {
-            lock(&shard.0).drawn = [LAST_NUMBER - 1; 3];
+            shard.0.lock().drawn = [LAST_NUMBER - 1; 3];
         }
         let (last, none) = (console.task("last").open(), console.task("none").open());
         assert!(last.is_recorded() && last.id().value() & LAST_NUMBER == LAST_NUMBER, "{}", last.id());

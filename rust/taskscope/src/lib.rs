@@ -69,6 +69,7 @@
 mod attr;
 mod book;
 mod border;
+mod clock;
 mod console;
 mod fault;
 mod ffi;
@@ -76,7 +77,9 @@ mod id;
 mod inspected;
 mod item;
 mod lent;
+mod light;
 mod location;
+mod lock;
 #[cfg(not(taskscope_inactive))]
 mod memory;
 mod name;

@@ -41,6 +41,29 @@ impl From<&'static panic::Location<'static>> for Location {
     }
 }
 
+/// The location of an item that is about to be made. That of the caller becomes a name only if no other is said.
+#[derive(Debug)]
+pub(crate) enum Made {
+    ByCaller(&'static panic::Location<'static>),
+    At(Location),
+}
+
+impl Made {
+    #[track_caller]
+    #[inline]
+    pub(crate) fn here() -> Made {
+        Made::ByCaller(panic::Location::caller())
+    }
+
+    #[inline]
+    pub(crate) fn location(self) -> Location {
+        match self {
+            Made::ByCaller(caller) => caller.into(),
+            Made::At(location) => location,
+        }
+    }
+}
+
 impl fmt::Display for Location {
     fn fmt(&self, f: &mut fmt::Formatter<'_>) -> fmt::Result {
         write!(f, "{}:{}:{}", self.file, self.line, self.column)

@@ -27,7 +27,7 @@ pub(crate) struct Page {
 }
 
 /// Room for so many more in a list, where there is memory.
-fn has_room<T>(list: &mut Vec<T>, more: usize) -> bool {
+pub(crate) fn has_room<T>(list: &mut Vec<T>, more: usize) -> bool {
     list.try_reserve(more).is_ok()
 }
 
@@ -62,6 +62,11 @@ impl Page {
             && self.ops.is_empty()
             && self.counts.is_empty()
             && !self.lacks_room
+    }
+
+    /// There is no memory for what goes with an entry.
+    pub(crate) fn lack_room(&mut self) {
+        self.lacks_room = true;
     }
 
     fn piece_of(&mut self, start: usize, end: usize) -> Piece {

@@ -5,7 +5,7 @@ use crate::console::{Console, Inner};
 use crate::ffi::{self, ResourceEntry, Words};
 use crate::id::ResourceId;
 use crate::item::{closed, Item, ItemKind, Lists};
-use crate::location::Location;
+use crate::location::{Location, Made};
 use crate::name::Name;
 use crate::page::Page;
 use crate::poll_counts::PollCounts;
@@ -87,14 +87,14 @@ pub struct ResourceBuilder<'a> {
     parent: u64,
     concrete: Name,
     kind: Name,
-    location: Location,
+    made: Made,
     attrs: NewAttrs,
 }
 
 impl<'a> ResourceBuilder<'a> {
-    pub(crate) fn new(console: &'a Console, concrete: Cow<'static, str>, location: Location) -> ResourceBuilder<'a> {
+    pub(crate) fn new(console: &'a Console, concrete: Cow<'static, str>, made: Made) -> ResourceBuilder<'a> {
         let (concrete, kind) = (Name::new(concrete), Name::new(Cow::Borrowed(OTHER)));
-        ResourceBuilder { console, parent: 0, concrete, kind, location, attrs: NewAttrs::default() }
+        ResourceBuilder { console, parent: 0, concrete, kind, made, attrs: NewAttrs::default() }
     }
 
     /// What kind of resource it is, as `Sync` or `Timer`: without this it is `Other`.
@@ -158,7 +158,7 @@ impl<'a> ResourceBuilder<'a> {
     /// # drop(semaphore);
     /// ```
     pub fn location(self, location: impl Into<Location>) -> ResourceBuilder<'a> {
-        ResourceBuilder { location: location.into(), ..self }
+        ResourceBuilder { made: Made::At(location.into()), ..self }
     }
 
     /// Makes the resource, created now. Where the thread's recorder is full it is counted as dropped: its calls work all the
@@ -176,7 +176,7 @@ impl<'a> ResourceBuilder<'a> {
             parent: self.parent,
             concrete: self.concrete,
             kind: self.kind,
-            location: self.location,
+            location: self.made.location(),
             attrs: self.attrs.kept,
             row: Row::listed(words),
             counts: PollCounts::new(id),

@@ -11,29 +11,7 @@
 //! The call that finds a row unlisted lists it, under the row's lock: a list's lock is taken after that of a row, and never
 //! the other way round.
 
-use std::sync::{Mutex, MutexGuard, PoisonError};
-
-/// Locks, also where a thread panicked with the lock: what is under the locks of this crate is whole between any two
-/// statements that may panic.
-#[cfg(not(taskscope_races))]
-#[inline]
-pub(crate) fn lock<T>(mutex: &Mutex<T>) -> MutexGuard<'_, T> {
-    mutex.lock().unwrap_or_else(PoisonError::into_inner)
-}
-
-/// The same for `tests/races.rs`: the standard library is not compiled for ThreadSanitizer, which so can't see the order that
-/// a wait within it makes.
-#[cfg(taskscope_races)]
-pub(crate) fn lock<T>(mutex: &Mutex<T>) -> MutexGuard<'_, T> {
-    use std::sync::TryLockError;
-    loop {
-        match mutex.try_lock() {
-            Ok(guard) => return guard,
-            Err(TryLockError::Poisoned(error)) => return PoisonError::into_inner(error),
-            Err(TryLockError::WouldBlock) => std::thread::yield_now(),
-        }
-    }
-}
+use crate::light::Light;
 
 /// Which lines tell of an item.
 #[derive(Clone, Copy, Debug, PartialEq, Eq)]
@@ -96,7 +74,7 @@ impl<W: Copy + Default + PartialEq> State<W> {
 
 /// The words `W` of one item.
 #[derive(Debug)]
-pub(crate) struct Row<W>(Mutex<State<W>>);
+pub(crate) struct Row<W>(Light<State<W>>);
 
 /// The words of a row, now and as they were told.
 #[derive(Clone, Copy, Debug)]
@@ -117,13 +95,13 @@ impl<W: Copy + Default + PartialEq> Row<W> {
     }
 
     fn new(now: W, listed: bool) -> Row<W> {
-        Row(Mutex::new(State { now, told: None, listed, standing: Standing::New }))
+        Row(Light::new(State { now, told: None, listed, standing: Standing::New }))
     }
 
     /// Makes a call on the words, and has the item listed where it isn't: `list` learns whether it is new.
     #[inline]
     pub(crate) fn step<T>(&self, call: impl FnOnce(&mut W) -> T, list: impl FnOnce(bool)) -> T {
-        let mut state = lock(&self.0);
+        let mut state = self.0.lock();
         state.keep_told();
         if !state.listed {
             state.listed = true;
@@ -134,7 +112,7 @@ impl<W: Copy + Default + PartialEq> Row<W> {
 
     /// The place of a listed item among those told, where it differs from what was told. Otherwise it is in no list from now on.
     pub(crate) fn changed_place(&self) -> Option<u64> {
-        let mut state = lock(&self.0);
+        let mut state = self.0.lock();
         let place = state.standing.place()?;
         state.listed = state.differs();
         state.listed.then_some(place)
@@ -142,20 +120,20 @@ impl<W: Copy + Default + PartialEq> Row<W> {
 
     /// The words now, and as they were told.
     pub(crate) fn reading(&self) -> Reading<W> {
-        let state = lock(&self.0);
+        let state = self.0.lock();
         Reading { now: state.now, told: state.told() }
     }
 
     /// A line told these words. The answer is the item's place among those told.
     pub(crate) fn tell(&self, words: W) -> Option<u64> {
-        let mut state = lock(&self.0);
+        let mut state = self.0.lock();
         state.tell(words);
         state.standing.place()
     }
 
     /// The first line that tells of the item told these words.
     pub(crate) fn tell_first(&self, words: W, place: u64) {
-        let mut state = lock(&self.0);
+        let mut state = self.0.lock();
         state.tell(words);
         state.standing = Standing::Told(place);
     }
@@ -163,7 +141,7 @@ impl<W: Copy + Default + PartialEq> Row<W> {
     /// Takes the words of now as told, though no line told them. An item that is new gets this place. The answer is the item's place, and
     /// its words now and as they were told before. The item is in no list from now on, and without an answer where it is gone.
     pub(crate) fn pass(&self, new_place: u64) -> Option<(u64, Reading<W>)> {
-        let mut state = lock(&self.0);
+        let mut state = self.0.lock();
         if state.standing == Standing::Gone {
             return None;
         }
@@ -177,7 +155,7 @@ impl<W: Copy + Default + PartialEq> Row<W> {
 
     /// Whether a listed item that was just told has changed since. If not, or where it is gone, it is in no list from now on.
     pub(crate) fn stays_listed(&self) -> bool {
-        let mut state = lock(&self.0);
+        let mut state = self.0.lock();
         if state.standing == Standing::Gone {
             return false;
         }
@@ -187,18 +165,18 @@ impl<W: Copy + Default + PartialEq> Row<W> {
 
     /// No line tells of the item any more.
     pub(crate) fn leave(&self) {
-        let mut state = lock(&self.0);
+        let mut state = self.0.lock();
         state.standing = Standing::Gone;
         state.told = None;
         state.listed = true;
     }
 
     pub(crate) fn is_gone(&self) -> bool {
-        lock(&self.0).standing == Standing::Gone
+        self.0.lock().standing == Standing::Gone
     }
 
     /// The item's place among those told, where it is one of them.
     pub(crate) fn place(&self) -> Option<u64> {
-        lock(&self.0).standing.place()
+        self.0.lock().standing.place()
     }
 }

@@ -1,8 +1,8 @@
 //! A thread that publishes a console's lines as the only one, and whose end is waited for in bounded time.
 
 use crate::console::{Console, Inner};
+use crate::lock::lock;
 use crate::process::Process;
-use crate::row::lock;
 use std::io;
 use std::sync::atomic::{AtomicBool, Ordering};
 use std::sync::{Arc, Condvar, Mutex};

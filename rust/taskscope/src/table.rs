@@ -1,5 +1,6 @@
 //! The items of one kind, as lines tell of them.
 
+use crate::fault::Fault;
 use crate::item::{Item, Lists};
 use crate::page::Page;
 use crate::row::Reading;
@@ -44,10 +45,10 @@ pub(crate) enum Listed {
 
 /// What the tables do alike, whatever their items are.
 pub(crate) trait Told {
-    /// Takes the lists of this kind out of a shard.
-    fn take(&mut self, fresh: &mut Lists, changed: &mut Lists);
+    /// Takes the lists of this kind out of a shard, or without memory for them leaves them there.
+    fn take(&mut self, fresh: &mut Lists, changed: &mut Lists) -> Result<(), Fault>;
 
-    /// Enters the items that a line lists.
+    /// Enters the items that a line lists, if there is memory to tell them.
     fn enter(&mut self, listed: Listed, page: &mut Page);
 
     /// Whether an item may leave at a moment.
@@ -56,22 +57,28 @@ pub(crate) trait Told {
     /// The page that these were entered in was told.
     fn tell(&mut self, listed: Listed, page: &Page, retention: Option<u64>);
 
-    /// Takes what is new and what changed as told, though no line tells it.
+    /// Takes what is new and what changed as told, though no line tells it. Without memory it stays for the next call.
     fn pass(&mut self, retention: Option<u64>);
 }
 
 impl<T: Item> Told for Table<T> {
-    fn take(&mut self, fresh: &mut Lists, changed: &mut Lists) {
-        self.fresh.append(T::list(fresh));
-        self.changed.append(T::list(changed));
+    fn take(&mut self, fresh: &mut Lists, changed: &mut Lists) -> Result<(), Fault> {
+        move_all(T::list(fresh), &mut self.fresh)?;
+        move_all(T::list(changed), &mut self.changed)
     }
 
     fn enter(&mut self, listed: Listed, page: &mut Page) {
-        match listed {
+        let closed_told = match listed {
             Listed::Changed => self.enter_changes(page),
             Listed::All => self.enter_all(page),
+        };
+        let closed_new = self.enter_fresh(page);
+        // What `tell` adds to these has room.
+        if self.changed.try_reserve(self.fresh.len()).is_err()
+            || self.closed.try_reserve(closed_told + closed_new).is_err()
+        {
+            page.lack_room();
         }
-        self.enter_fresh(page);
     }
 
     fn may_leave(&self, moment: u64) -> bool {
@@ -87,6 +94,9 @@ impl<T: Item> Told for Table<T> {
     }
 
     fn pass(&mut self, retention: Option<u64>) {
+        if self.closed.try_reserve(self.changed.len() + self.fresh.len()).is_err() {
+            return;
+        }
         for cell in self.changed.drain(..).chain(self.fresh.drain(..)) {
             if let Some((place, reading)) = cell.row().pass(self.last_place + 1) {
                 note_close::<T>(&mut self.closed, &reading, Some(place), retention);
@@ -100,34 +110,31 @@ impl<T: Item> Told for Table<T> {
 }
 
 impl<T: Item> Table<T> {
-    /// Enters what changed, in the order of the places.
-    fn enter_changes(&mut self, page: &mut Page) {
-        let mut changed: Vec<(u64, Arc<T>)> = std::mem::take(&mut self.changed)
-            .into_iter()
-            .filter_map(|cell| Some((cell.row().changed_place()?, cell)))
-            .collect();
-        changed.sort_unstable_by_key(|(place, _)| *place);
-        self.changed = changed.into_iter().map(|(_, cell)| cell).collect();
-        for cell in &self.changed {
-            cell.enter(page, &cell.row().reading());
+    /// Enters what changed, in the order of the places. Gives of how many items this tells the close first, as do the two below.
+    fn enter_changes(&mut self, page: &mut Page) -> usize {
+        let mut changed: Vec<(u64, Arc<T>)> = Vec::new();
+        if changed.try_reserve(self.changed.len()).is_err() {
+            page.lack_room();
+            return 0;
         }
+        changed.extend(self.changed.drain(..).filter_map(|cell| Some((cell.row().changed_place()?, cell))));
+        changed.sort_unstable_by_key(|(place, _)| *place);
+        // Which has the room that it had.
+        self.changed.extend(changed.into_iter().map(|(_, cell)| cell));
         page.set_told(T::KIND, self.changed.len());
+        enter_each(self.changed.iter(), page)
     }
 
     /// Enters all items that were told.
-    fn enter_all(&mut self, page: &mut Page) {
-        for cell in self.told.values() {
-            cell.enter(page, &cell.row().reading());
-        }
+    fn enter_all(&mut self, page: &mut Page) -> usize {
         page.set_told(T::KIND, self.told.len());
+        enter_each(self.told.values(), page)
     }
 
-    fn enter_fresh(&mut self, page: &mut Page) {
+    fn enter_fresh(&mut self, page: &mut Page) -> usize {
         // Poll counts may be gone before a line told of them.
         self.fresh.retain(|cell| !cell.row().is_gone());
-        for cell in &self.fresh {
-            cell.enter(page, &cell.row().reading());
-        }
+        enter_each(self.fresh.iter(), page)
     }
 
     /// What changed was told. Gives how many entries that were.
@@ -174,36 +181,41 @@ impl<T: Item> Table<T> {
         leaving
     }
 
-    /// Takes the items that leave at a moment out of `closed`, in the order of their places.
+    /// Takes the items that leave at a moment out of `closed`, in the order of their places. Those for which there is no memory stay.
     fn take_leaving(&mut self, moment: u64, retention: u64) -> Vec<(u64, u64)> {
-        let mut due = Vec::new();
-        while let Some(&Reverse((from, place))) = self.closed.peek() {
-            if from > moment {
+        let Table { told, closed, .. } = self;
+        let mut leaving: Vec<(u64, u64)> = Vec::new();
+        while let Some(&Reverse((from, place))) = closed.peek() {
+            if from > moment || leaving.try_reserve(1).is_err() {
                 break;
             }
-            self.closed.pop();
-            due.push((place, from));
+            closed.pop();
+            leaving.push((place, from));
         }
-        due.sort_unstable();
-        let (leaving, staying): (Vec<_>, Vec<_>) = due.into_iter().partition(|(place, _)| {
-            let told = self.told.get(place).map(|cell| cell.row().reading().told);
-            told.map_or(false, |told| T::leaves(&told, moment, retention))
+        leaving.sort_unstable();
+        leaving.retain(|&(place, from)| {
+            let words = told.get(&place).map(|cell| cell.row().reading().told);
+            let leaves = words.map_or(false, |words| T::leaves(&words, moment, retention));
+            if !leaves {
+                closed.push(Reverse((from, place)));
+            }
+            leaves
         });
-        self.stay(&staying);
         leaving
     }
 
     /// Lets go of the items that leave at a moment, though no line says so.
-    pub(crate) fn pass_leaving(&mut self, moment: u64, retention: u64) -> Vec<Arc<T>> {
+    pub(crate) fn pass_leaving(&mut self, moment: u64, retention: u64, left: impl FnMut(&T)) {
         let leaving = self.take_leaving(moment, retention);
-        self.leave(&leaving)
+        self.leave(&leaving, left);
     }
 
-    /// These items left. They are gone from the tables.
-    pub(crate) fn leave(&mut self, leaving: &[(u64, u64)]) -> Vec<Arc<T>> {
-        let left: Vec<Arc<T>> = leaving.iter().filter_map(|(place, _)| self.told.remove(place)).collect();
-        left.iter().for_each(|cell| cell.row().leave());
-        left
+    /// These items left. They are gone from the tables, and each is handed to `left`.
+    pub(crate) fn leave(&mut self, leaving: &[(u64, u64)], mut left: impl FnMut(&T)) {
+        for cell in leaving.iter().filter_map(|(place, _)| self.told.remove(place)) {
+            cell.row().leave();
+            left(&cell);
+        }
     }
 
     /// Nothing is kept of an item, which no line tells of any more.
@@ -220,6 +232,29 @@ impl<T: Item> Table<T> {
     }
 }
 
+/// Moves all of a shard's list, or leaves it as it is where there is no memory.
+fn move_all<T>(from: &mut Vec<T>, to: &mut Vec<T>) -> Result<(), Fault> {
+    to.try_reserve(from.len()).map_err(|_| Fault::Memory)?;
+    to.append(from);
+    Ok(())
+}
+
+/// Enters items, and gives of how many a line of the page tells the close first.
+fn enter_each<'a, T: Item + 'a>(cells: impl Iterator<Item = &'a Arc<T>>, page: &mut Page) -> usize {
+    let mut closed = 0;
+    for cell in cells {
+        let reading = cell.row().reading();
+        closed += usize::from(close_first_told::<T>(&reading).is_some());
+        cell.enter(page, &reading);
+    }
+    closed
+}
+
+/// When the item was closed, where its close was not told before.
+fn close_first_told<T: Item>(reading: &Reading<T::Words>) -> Option<u64> {
+    T::closed(&reading.now).filter(|_| T::closed(&reading.told).is_none())
+}
+
 /// Where a line is the first to tell an item's close, notes from when on the item may leave.
 fn note_close<T: Item>(
     closed: &mut BinaryHeap<Reverse<(u64, u64)>>,
@@ -227,8 +262,7 @@ fn note_close<T: Item>(
     place: Option<u64>,
     retention: Option<u64>,
 ) {
-    let first_told = T::closed(&reading.now).filter(|_| T::closed(&reading.told).is_none());
-    if let (Some(at), Some(place), Some(retention)) = (first_told, place, retention) {
+    if let (Some(at), Some(place), Some(retention)) = (close_first_told::<T>(reading), place, retention) {
         closed.push(Reverse((at.saturating_add(retention), place)));
     }
 }

@@ -5,13 +5,14 @@ use crate::console::{Console, Inner};
 use crate::ffi::{self, TaskEntry, TimesEntry, Words};
 use crate::id::TaskId;
 use crate::item::{closed, Item, ItemKind, Lists};
-use crate::location::Location;
+use crate::location::{Location, Made};
 use crate::name::Name;
 use crate::page::Page;
 use crate::refused::{done, woken, Refused, Woken};
 use crate::row::{Reading, Row};
 use std::borrow::Cow;
 use std::fmt;
+use std::sync::atomic::{AtomicBool, Ordering};
 use std::sync::Arc;
 
 /// How a task runs. It is displayed as the stream has it: `spawn` or `blocking`.
@@ -192,13 +193,13 @@ impl TaskCell {
 pub struct TaskBuilder<'a> {
     console: &'a Console,
     name: Name,
-    location: Location,
+    made: Made,
     kind: TaskKind,
 }
 
 impl<'a> TaskBuilder<'a> {
-    pub(crate) fn new(console: &'a Console, name: Cow<'static, str>, location: Location) -> TaskBuilder<'a> {
-        TaskBuilder { console, name: Name::new(name), location, kind: TaskKind::Spawn }
+    pub(crate) fn new(console: &'a Console, name: Cow<'static, str>, made: Made) -> TaskBuilder<'a> {
+        TaskBuilder { console, name: Name::new(name), made, kind: TaskKind::Spawn }
     }
 
     /// How the task runs: without this it is of kind [`Spawn`](TaskKind::Spawn).
@@ -222,7 +223,7 @@ impl<'a> TaskBuilder<'a> {
     /// # drop(task);
     /// ```
     pub fn location(self, location: impl Into<Location>) -> TaskBuilder<'a> {
-        TaskBuilder { location: location.into(), ..self }
+        TaskBuilder { made: Made::At(location.into()), ..self }
     }
 
     /// Makes the task, created now, and gives its owner. Where the thread's recorder is full it is counted as dropped: its
@@ -235,10 +236,10 @@ impl<'a> TaskBuilder<'a> {
             id,
             kind: self.kind,
             name: self.name,
-            location: self.location,
+            location: self.made.location(),
             row: Row::listed(words),
         });
-        Task { console: Arc::clone(console), cell }
+        Task { console: Arc::clone(console), cell, is_closed: AtomicBool::new(false) }
     }
 }
 
@@ -247,6 +248,8 @@ impl<'a> TaskBuilder<'a> {
 pub struct Task {
     pub(crate) console: Arc<Inner>,
     pub(crate) cell: Arc<TaskCell>,
+    /// Whether a close was made, so that the drop makes none.
+    is_closed: AtomicBool,
 }
 
 impl Task {
@@ -293,6 +296,9 @@ impl Task {
 
     /// Closes the task, and ends its poll where one is open. A closed task stays as it is.
     pub(crate) fn close(&self) {
+        if self.is_closed.load(Ordering::Relaxed) {
+            return;
+        }
         let (now, times) = (self.console.now(), self.console.keeps_times());
         self.console.step(&self.cell, |words| {
             // What is refused changes nothing: `end` where no poll is open, and both where the task is closed.
@@ -300,6 +306,7 @@ impl Task {
             // SAFETY: the row's lock lends the words to this call alone.
             unsafe { ffi::taskscope_task_close(&mut words.row, now) }
         });
+        self.is_closed.store(true, Ordering::Relaxed);
     }
 }
 

@@ -7,7 +7,8 @@ mod common;
 use common::{list, number};
 use std::alloc::{GlobalAlloc, Layout, System};
 use std::sync::atomic::{AtomicUsize, Ordering};
-use taskscope::{Console, Fault, Settings, Task};
+use std::time::Duration;
+use taskscope::{Console, Fault, Origin, Settings, Task, Woken};
 
 /// Refuses blocks of more than so many bytes.
 struct Refusing;
@@ -41,10 +42,16 @@ fn with_most<T>(most: usize, call: impl FnOnce() -> T) -> T {
 
 #[test]
 fn a_line_for_which_there_is_no_memory_is_told_by_the_next() {
+    lines_of_what_is_new();
+    lines_of_what_changed();
+    lines_after_what_leaves();
+}
+
+fn lines_of_what_is_new() {
     let console = Console::open(Settings::default());
     let tasks: Vec<Task> = (0..2_000).map(|_| console.task("listed").open()).collect();
-    // Too little for the entries of so many tasks, and too little for the line alone.
-    for most in [200_000, 800_000] {
+    // Too little for lists of so many tasks, for their entries, and for the line alone.
+    for most in [2_000, 20_000, 200_000, 800_000] {
         with_most(most, || {
             assert_eq!(console.publish(), Err(Fault::Memory), "{most}");
             assert_eq!(console.publish_changes(), Err(Fault::Memory), "{most}");
@@ -54,4 +61,37 @@ fn a_line_for_which_there_is_no_memory_is_told_by_the_next() {
     let told = common::publish(&console);
     assert_eq!((number(&told, "seq"), list(&told, "task_stats").len()), (1, tasks.len()));
     assert_eq!(console.publish_changes(), Ok(None));
+}
+
+fn lines_of_what_changed() {
+    let console = Console::open(Settings::default());
+    let tasks: Vec<Task> = (0..2_000).map(|_| console.task("listed").open()).collect();
+    common::publish(&console);
+    let wake = || tasks.iter().for_each(|task| assert_eq!(task.wake_by_ref(Origin::Outside), Woken::Already));
+    for most in [2_000, 20_000, 200_000, 800_000] {
+        wake();
+        with_most(most, || {
+            assert_eq!(console.publish(), Err(Fault::Memory), "{most}");
+            assert_eq!(console.publish_changes(), Err(Fault::Memory), "{most}");
+            assert_eq!(console.snapshot(), Err(Fault::Memory), "{most}");
+        });
+        let told = common::publish(&console);
+        assert_eq!(list(&told, "task_stats").len(), tasks.len(), "{most}");
+    }
+}
+
+/// That there is no memory to say what leaves is no fault of a line: all leaves with a later one.
+fn lines_after_what_leaves() {
+    let console = Console::open(Settings::default().retention(Duration::from_millis(50)));
+    let tasks: Vec<Task> = (0..2_000).map(|_| console.task("closed").open()).collect();
+    drop(tasks);
+    common::publish(&console);
+    std::thread::sleep(Duration::from_millis(60));
+    for most in [2_000, 20_000, 200_000] {
+        let line = with_most(most, || console.publish()).expect("a line that tells nothing");
+        let line = String::from_utf8(line).expect("text");
+        assert!(line.lines().count() == 1, "{most}: {line}");
+    }
+    let told = common::publish(&console);
+    assert_eq!(list(told.lines().last().expect("a line"), "gone_tasks").len(), 2_000);
 }
