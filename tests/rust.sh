@@ -355,13 +355,13 @@ try_subscriber() {
 }
 
 # Its own tests with the sanitizers of threads and of addresses. The standard library is not compiled for the first, which so doesn't see
-# the fence in the drop of an `Arc`: what its last drop does is left out. Blocks that are never freed aren't looked for, as the tests forget
-# what threads keep for good, and texts of places stay.
+# the fence in the drop of an `Arc`: what its last drop does is left out, and so is the registry. Blocks that are never freed aren't
+# looked for, as the tests forget what threads keep for good, and texts of places stay.
 look_for_races_of_subscriber() {
     echo 'race:*Arc<*>::drop_slow' > "$work/suppressed"
     CARGO_TARGET_DIR=$unstable/thread TASKSCOPE_LIB=$work/new RUSTC_BOOTSTRAP=1 RUSTFLAGS="$flags --cfg tokio_unstable" \
         TSAN_OPTIONS="suppressions=$work/suppressed" \
-        over_debian_in "$work/rust/taskscope-subscriber" test --test races --target "$target"
+        over_debian_in "$work/rust/taskscope-subscriber" test --test races --target "$target" -- direct
 }
 
 look_for_blocks_of_subscriber() {

@@ -1,6 +1,9 @@
 //! Threads that make every kind of call on one subscriber at once, while others publish: for ThreadSanitizer, by `tests/rust.sh`.
 //!
 //! It ends by a panic where a count is wrong. Threads are joined one by one, as ThreadSanitizer knows that order.
+//!
+//! With the word `direct` it leaves the registry out. A registry's threads wait for each other within the standard library, which is not
+//! compiled for ThreadSanitizer. So it can't see the order that a wait makes, and reports races that are none.
 
 mod common;
 #[path = "common/forms.rs"]
@@ -148,7 +151,9 @@ fn counts_are_right(form: Form, line: &str, left_out: &LeftOut) {
 }
 
 fn main() {
-    for form in [Form::Direct, Form::Layer] {
+    let forms =
+        if std::env::args().any(|word| word == "direct") { &[Form::Direct][..] } else { &[Form::Direct, Form::Layer] };
+    for &form in forms {
         let console = Console::open(Settings::default().retention(None));
         let layer = TaskscopeLayer::new(&console).items(Items::All);
         let left_out = layer.left_out();
