@@ -166,6 +166,12 @@ sum_in_report() {
     "$program" view "$stream" | awk -v key="$1" '$1 == "task" { for (i = 1; i < NF; i++) if ($i == key) { sum += $(i + 1); break } } END { printf "%d\n", sum }'
 }
 
+# How many names have a task that has waited for more than a second.
+waiting_in_report() {
+    "$program" view --times "$stream" | awk '$1 == "now" { now = $2 } $1 == "task" { name = $NF } $1 == "waits" && $(NF - 1) == "since" && now - $NF > 1000000000 { print name }' |
+        sort -u | wc -l
+}
+
 try_prometheus() {
     stream=$examples/service.script.stdout
     start_servers && "$program" metrics --to "$work/collected/tasks.prom" "$stream" || return 1
@@ -173,7 +179,9 @@ try_prometheus() {
         answers_with 'sum(taskscope_task_wakes_total)' "$(sum_in_report wakes)" &&
         answers_with 'sum(taskscope_tasks)' "$("$program" view "$stream" | grep -c '^task ')" &&
         answers_with 'sum(taskscope_warnings)' "$("$program" view "$stream" | grep -c '^warn ')" &&
-        answers_with 'count(taskscope_task_polls_total)' "$("$program" view "$stream" | awk '$1 == "task" { print $NF, $3 }' | sort -u | wc -l)"
+        answers_with 'count(taskscope_task_polls_total)' "$("$program" view "$stream" | awk '$1 == "task" { print $NF, $3 }' | sort -u | wc -l)" &&
+        answers_with 'count(taskscope_task_open_wait_seconds > 1)' "$(waiting_in_report)" &&
+        answers_with 'count(taskscope_task_open_poll_seconds > 1)' 1
 }
 
 for script in "$examples"/*.script; do

@@ -19,6 +19,12 @@ COUNTS = (
     ("taskscope_task_waker_drops_total", "drops", None, "Drops of wakers of tasks."),
 )
 
+LASTING = (
+    ("taskscope_task_open_poll_seconds", max, "How long the longest poll has run that has not ended."),
+    ("taskscope_task_open_wait_seconds", max, "How long the longest wait for a poll has lasted that has not ended."),
+    ("taskscope_task_waiting_seconds", lambda a, b: min(a + b, MOST), "How long all tasks that wait for a poll have waited for it."),
+)
+
 
 class Stream:
     """Tables that the lines of a stream lead to, and what has left them."""
@@ -53,8 +59,21 @@ def state_of(row):
     return "polling" if row["polling"] else "scheduled" if row["scheduled"] else "idle"
 
 
+def runs_for(row, now):
+    return max(0, now - row["last_started"]) if row["polling"] else 0
+
+
+def waits_for(row, now):
+    """How long a task that waits has waited: of a row that counts its waits all of it, of another one since its last wake."""
+    if not row["scheduled"] or row["polling"]:
+        return 0
+    since = max(row["created"], row["last_wake"] or 0, row["last_ended"] or 0)
+    lasts = max(0, now - since)
+    return min(row["sched"][2] + lasts, 2**56 - 1) if isinstance(row["sched"], list) else lasts
+
+
 def count_of(row, key):
-    """A statistic of a task. `sched` of a row that counts its waits is [scheduled, waited], of which the second is told."""
+    """A statistic of a task. `sched` of a row that counts its waits is [scheduled, waited, so far], of which the second is told."""
     return row[key][1] if isinstance(row[key], list) else row[key]
 
 
@@ -80,11 +99,15 @@ def head(name, kind, unit, text):
     yield f"# HELP {name} {text}"
 
 
-def summed(pairs):
+def joined(pairs, join):
     sums = {}
     for labels, number in pairs:
-        sums[labels] = min(sums.get(labels, 0) + number, MOST)
+        sums[labels] = join(sums.get(labels, 0), number)
     return sums
+
+
+def summed(pairs):
+    return joined(pairs, lambda a, b: min(a + b, MOST))
 
 
 def warnings_of(stream):
@@ -111,6 +134,12 @@ def lines_of(stream, by):
     for labels in dict.fromkeys(labels_of(info, by) for info, _ in tasks):
         for state in STATES:
             yield f'taskscope_tasks{{{labels},state="{state}"}} {states[labels, state]}'
+    for (name, join, text), lasts in zip(LASTING, (runs_for, waits_for, waits_for)):
+        yield from head(name, "gauge", "seconds", text)
+        gone = [(labels_of(info, by), 0) for info, _ in left]
+        now = [(labels_of(info, by), lasts(row, stream.now)) for info, row in stream.tasks.values()]
+        for labels, number in joined(gone + now, join).items():
+            yield f"{name}{{{labels}}} {seconds(number)}"
     name = "taskscope_resource_poll_ops_total"
     yield from head(name, "counter", None, "Poll operations of resources by what they answered.")
     resources = stream.left_resources if by == "name" else []

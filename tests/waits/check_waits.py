@@ -5,7 +5,8 @@ Usage: check_waits.py PROGRAM [COUNT]
 
 It makes COUNT scripts at random, 200 where none is said, half of them with moments that rise and half with moments in any order, runs each with
 PROGRAM, and compares `sched` of each task in each line, to the nanosecond. Where moments rise, a wait is an interval: from when the task could
-have run to its start or close. Where they don't, it is the sum of the stretches by which each call finds it waiting longer.
+have run to its start or close. Where they don't, it is the sum of the stretches by which each call finds it waiting longer. Both tell all
+waits, and what of it belongs to the last one, until the poll after it ends.
 """
 import json
 import random
@@ -33,33 +34,38 @@ class Task:
         return total
 
     def waited_in_stretches(self):
-        """Each start, wake or close that finds the task waiting counts from the greatest of the creation, the wakes and the last end before it."""
-        total, woken, ended, scheduled, polled, closed = 0, self.created, self.created, True, False, False
+        """Each start, wake or close that finds the task waiting counts from the greatest of the creation, the wakes and the last end before it.
+
+        Those since the last end of a poll are the last wait."""
+        total, so_far, woken, ended, scheduled, polled, closed = 0, 0, self.created, self.created, True, False, False
         for kind, moment in self.calls:
             if kind != "end" and scheduled and not polled and not closed:
-                total += max(0, moment - max(self.created, woken, ended))
+                stretch = max(0, moment - max(self.created, woken, ended))
+                total, so_far = total + stretch, so_far + stretch
             if kind == "start":
                 scheduled, polled = False, True
             elif kind == "wake":
                 woken, scheduled = max(woken, moment), scheduled or not closed
             elif kind == "end":
-                ended, polled = moment, False
+                so_far, ended, polled = 0, moment, False
             else:
                 scheduled, closed = False, True
-        return total
+        return [total, so_far]
 
     def waited_in_intervals(self):
-        """The intervals in which the task could have run, up to the last call that found it so."""
-        total, since, polled, woken_within, closed, last = 0, self.created, False, False, False, self.created
+        """The intervals in which the task could have run, up to the last call that found it so; and the last of them, until the poll after it ends."""
+        total, since, polled, woken_within, closed, last, over = 0, self.created, False, False, False, self.created, 0
         for kind, moment in self.calls:
             if kind == "start":
-                total += moment - since if since is not None else 0
+                over = moment - since if since is not None else 0
+                total += over
                 since, polled, woken_within = None, True, False
             elif kind == "end":
-                polled = False
+                polled, over = False, 0
                 since = last = moment if woken_within else None
             elif kind == "close":
-                total += moment - since if since is not None else 0
+                over = moment - since if since is not None else 0
+                total += over
                 since, closed = None, True
             elif polled:
                 woken_within = True
@@ -67,7 +73,8 @@ class Task:
                 last = moment
             elif not closed:
                 since = last = moment
-        return total + (last - since if since is not None else 0)
+        lasts = last - since if since is not None else 0
+        return [total + lasts, over + lasts]
 
 
 class Script:
@@ -127,7 +134,7 @@ class Script:
         self.now = self.published if self.rises else self.now
         self.lines.append(f"publish {self.published}")
         by = Task.waited_in_intervals if self.rises else Task.waited_in_stretches
-        self.wanted.append([[task.scheduled_time(), by(task)] for task in self.tasks])
+        self.wanted.append([[task.scheduled_time(), *by(task)] for task in self.tasks])
 
 
 def check(program, seed, rises):

@@ -23,13 +23,12 @@ use Rattle.clap.specs.declared.parser.matches.ValueSource.TheVariants.{CommandLi
 use Rattle.clap.proofs.ValueTestLemmas.{Accepts-accepts, accepts-Accepts}
 use Rattle.clap.proofs.WalkLemmas.{both}
 use Rattle.tk_client.specs.Warnings.{LintsView}
-use Rattle.tk_report.specs.declared.options.TimesOptions.{TimesOptions}
 use Rattle.tk_report.specs.declared.view.View.{View}
 use Rattle.tk_report.specs.declared.view.View.TheVariants.{Report, Lint}
 use Rattle.tk_frame.specs.declared.query.Column.{Column}
-use Rattle.taskscope.specs.declared.command_line.Request.TheVariants.{Metrics, Page, Show, Watch}
+use Rattle.taskscope.specs.declared.command_line.Request.TheVariants.{Metrics, Page, Watch}
 use Rattle.tk_metrics.specs.declared.by.By.{By}
-use Rattle.taskscope.specs.Requests.{asked, asked_in, by_at, column_at, file_argument, flag_option, lints_in, long_poll_option, metrics_by, name_fault, names_nothing, number_of, number_option, program, refusals, times_in, watch_by}
+use Rattle.taskscope.specs.Requests.{asked, asked_in, by_at, column_at, file_argument, flag_option, lints_in, span_option, metrics_by, name_fault, names_nothing, number_of, number_option, program, refusals, view_by, watch_by}
 
 -- ---- lists of kinds
 
@@ -178,22 +177,25 @@ sound_file again values rows good none =
     rw one.1 (good_at (codes "FILE") (more_values CommandLine (one.0 ∷ [])) (new_row (codes "FILE") CommandLine one.0 ∷ []) (without (codes "FILE") rows)
     (good_at (codes "FILE") (λ _. []) [] rows good (λ r g. tt) tt) (good_more CommandLine (one.0 ∷ [])) (new_file one.0, tt))
 
-abbrev long_poll_rule : Rule
-long_poll_rule = with_index 1 (filled long_poll_option)
+-- an option of milliseconds is no option of lints
+module _ (name : Text) (no_percent : bytes_eq name percent_id ≡ false) (no_limit : bytes_eq name limit_id ≡ false) where
+  abbrev span_rule : Rule
+  span_rule = with_index 1 (filled (span_option name))
 
-long_poll_use : (again : Bool) (values : List Text) (rows : List Row) → use_fault again long_poll_rule values rows ≡ [] → (v : Text) × (values ≡ v ∷ [])
-long_poll_use again [] rows none = absurd (some_kind _ _ none)
-long_poll_use again (v ∷ []) rows none = (v, refl)
-long_poll_use again (v ∷ w ∷ vs) rows none = absurd (some_kind _ _ (sym (two_values (length vs)) ∙ first_none _ _ none))
+  -- a use of it has one value
+  span_use : (again : Bool) (values : List Text) (rows : List Row) → use_fault again span_rule values rows ≡ [] → (v : Text) × (values ≡ v ∷ [])
+  span_use again [] rows none = absurd (some_kind _ _ none)
+  span_use again (v ∷ []) rows none = (v, refl)
+  span_use again (v ∷ w ∷ vs) rows none = absurd (some_kind _ _ (sym (two_values (length vs)) ∙ first_none _ _ none))
 
-new_long_poll : (v : Text) → IsGood (new_row (codes "long-poll") CommandLine v)
-new_long_poll v = (λ is. absurd (true≢false (sym is)), λ is. absurd (true≢false (sym is)))
+  new_span : (v : Text) → IsGood (new_row name CommandLine v)
+  new_span v = (λ is. absurd (true≢false (sym is ∙ no_percent)), λ is. absurd (true≢false (sym is ∙ no_limit)))
 
-sound_long_poll : Sound long_poll_rule
-sound_long_poll again values rows good none =
-    let one = long_poll_use again values rows none in
-    rw one.1 (good_at (codes "long-poll") (more_values CommandLine (one.0 ∷ [])) (new_row (codes "long-poll") CommandLine one.0 ∷ []) (without (codes "long-poll") rows)
-    (good_at (codes "long-poll") (λ _. []) [] rows good (λ r g. tt) tt) (good_more CommandLine (one.0 ∷ [])) (new_long_poll one.0, tt))
+  sound_span : Sound span_rule
+  sound_span again values rows good none =
+      let one = span_use again values rows none in
+      rw one.1 (good_at name (more_values CommandLine (one.0 ∷ [])) (new_row name CommandLine one.0 ∷ []) (without name rows)
+      (good_at name (λ _. []) [] rows good (λ r g. tt) tt) (good_more CommandLine (one.0 ∷ [])) (new_span one.0, tt))
 
 -- where no value is wanted, one is too many
 no_values : (n : ℕ) → range_kinds 0 0 (suc n) ≡ WrongNumberOfValues ∷ []
@@ -238,11 +240,20 @@ times_rule = flag_rule (codes "times") refl refl
 abbrev explain_rule : Rule
 explain_rule = flag_rule (codes "explain") refl refl
 
+abbrev long_poll_rule : Rule
+long_poll_rule = span_rule (codes "long-poll") refl refl
+
+abbrev long_wait_rule : Rule
+long_wait_rule = span_rule (codes "long-wait") refl refl
+
+abbrev findings_rule : Rule
+findings_rule = flag_rule (codes "findings") refl refl
+
 abbrev lint_rules : List Rule
-lint_rules = long_poll_rule ∷ explain_rule ∷ page_rules
+lint_rules = long_poll_rule ∷ long_wait_rule ∷ findings_rule ∷ explain_rule ∷ page_rules
 
 abbrev view_rules : List Rule
-view_rules = long_poll_rule ∷ times_rule ∷ explain_rule ∷ page_rules
+view_rules = long_poll_rule ∷ long_wait_rule ∷ findings_rule ∷ times_rule ∷ explain_rule ∷ page_rules
 
 -- ---- the walk keeps rows good
 
@@ -486,14 +497,17 @@ keeps_times = keeps_flag (codes "times") refl refl
 keeps_explain : Keeps explain_rule
 keeps_explain = keeps_flag (codes "explain") refl refl
 
+keeps_findings : Keeps findings_rule
+keeps_findings = keeps_flag (codes "findings") refl refl
+
 page_keeps : AllKeep page_rules
 page_keeps = (keeps_without (codes "help"), tt)
 
 lint_keeps : AllKeep lint_rules
-lint_keeps = (keeps_without (codes "long-poll"), (keeps_explain, page_keeps))
+lint_keeps = (keeps_without (codes "long-poll"), (keeps_without (codes "long-wait"), (keeps_findings, (keeps_explain, page_keeps))))
 
 view_keeps : AllKeep view_rules
-view_keeps = (keeps_without (codes "long-poll"), (keeps_times, (keeps_explain, page_keeps)))
+view_keeps = (keeps_without (codes "long-poll"), (keeps_without (codes "long-wait"), (keeps_findings, (keeps_times, (keeps_explain, page_keeps)))))
 
 both_defaults : (rows : List Row) → AreGood rows → HaveNumbers (defaulted limit_id (codes "1000000000") (defaulted percent_id (codes "50") rows))
 unfolding HaveNumbers
@@ -547,9 +561,9 @@ lints_there rows numbers =
 
 -- ---- the command that the words name
 
-view_asks : (view : View) (times : TimesOptions) (lints : Option LintsView) → IsSome lints → IsSome (option_and_then (λ l. Some (Show view l times)) lints)
-view_asks view times None some = absurd (true≢false (sym some))
-view_asks view times (Some l) some = refl
+view_asks : (view : View) (options : List Row) (lints : Option LintsView) → IsSome lints → IsSome (option_and_then (λ l. Some (view_by view options l)) lints)
+view_asks view options None some = absurd (true≢false (sym some))
+view_asks view options (Some l) some = refl
 
 page_asks_of : (lints : Option LintsView) → IsSome lints → IsSome (option_and_then (λ l. Some (Page l)) lints)
 page_asks_of None some = absurd (true≢false (sym some))
@@ -708,13 +722,13 @@ options_in (Some command) = command.1
 
 show_asks : (words : List Text) → TakenAsks (codes "view") words
 show_asks words none named =
-    view_asks Report (times_in (options_in (entered there (Some (codes "view", words))))) _
-    (lints_there _ (numbers_there view_rules (sound_long_poll, (sound_flag (codes "times") refl refl, (sound_flag (codes "explain") refl refl, (sound_help, tt)))) view_keeps _ words refl none))
+    view_asks Report (options_in (entered there (Some (codes "view", words)))) _
+    (lints_there _ (numbers_there view_rules (sound_span (codes "long-poll") refl refl, (sound_span (codes "long-wait") refl refl, (sound_flag (codes "findings") refl refl, (sound_flag (codes "times") refl refl, (sound_flag (codes "explain") refl refl, (sound_help, tt)))))) view_keeps _ words refl none))
 
 lint_asks : (words : List Text) → TakenAsks (codes "lint") words
 lint_asks words none named =
-    view_asks Lint (times_in (options_in (entered there (Some (codes "lint", words))))) _
-    (lints_there _ (numbers_there lint_rules (sound_long_poll, (sound_flag (codes "explain") refl refl, (sound_help, tt))) lint_keeps _ words refl none))
+    view_asks Lint (options_in (entered there (Some (codes "lint", words)))) _
+    (lints_there _ (numbers_there lint_rules (sound_span (codes "long-poll") refl refl, (sound_span (codes "long-wait") refl refl, (sound_flag (codes "findings") refl refl, (sound_flag (codes "explain") refl refl, (sound_help, tt))))) lint_keeps _ words refl none))
 
 page_asks : (words : List Text) → TakenAsks (codes "page") words
 page_asks words none named = page_asks_of _ (lints_there _ (numbers_there page_rules (sound_help, tt) page_keeps _ words refl none))

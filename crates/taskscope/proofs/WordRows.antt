@@ -1,12 +1,12 @@
 -- What words of a command line ask for, word by word.
-use Rattle.std.proofs.Common.{◌≡◌, refl, ℕ, List, [], ◌∷◌, codes, false, true, true≢false, sym, ap, Some}
+use Rattle.std.proofs.Common.{◌≡◌, refl, ℕ, List, [], ◌∷◌, codes, false, true, true≢false, sym, ap, Some, None}
 use Rattle.clap.specs.Walk.{is_empty}
 use Rattle.clap.specs.declared.error.kind.ErrorKind.TheVariants.{ArgumentConflict, DisplayHelp, InvalidSubcommand, InvalidValue, MissingSubcommand, UnknownArgument, ValueValidation}
 use Rattle.clap.proofs.OnLiterals.{clap_on_literals}
 use Rattle.tk_report.specs.Timed.{no_times}
 use Rattle.tk_report.specs.declared.view.View.TheVariants.{Report, Lint}
 use Rattle.tk_client.specs.Warnings.{default_lints}
-use Rattle.taskscope.specs.declared.command_line.Request.TheVariants.{Demo, Metrics, Page, Run, Show, Watch}
+use Rattle.taskscope.specs.declared.command_line.Request.TheVariants.{Demo, Find, Metrics, Page, Run, Show, Watch}
 use Rattle.tk_frame.specs.declared.query.Column.TheVariants.{Sched}
 use Rattle.tk_metrics.specs.declared.by.By.TheVariants.{Id}
 use Rattle.taskscope.specs.Requests.{AsksFor, AsksForHelp, AsksForInput, AsksForVersion, IsMistake, file_of, filter_of, plain_metrics, plain_watch, refusals, to_of}
@@ -58,14 +58,25 @@ module _ (name : List ℕ) where
   unfolding clap_on_literals
   all_wakes = (refl, refl)
 
-  histograms_and_long_polls : AsksFor (Show Report default_lints (record { times = true; long_poll = Some 5 }))
+  histograms_and_long_polls : AsksFor (Show Report default_lints (record { times = true; limits = record { poll_ms = Some 5; wait_ms = None } }))
       (name ∷ codes "view" ∷ codes "--times" ∷ codes "--long-poll" ∷ codes "5" ∷ [])
   unfolding clap_on_literals
   histograms_and_long_polls = (refl, refl)
 
-  long_polls_alone : AsksFor (Show Lint default_lints (record { times = false; long_poll = Some 100 })) (name ∷ codes "lint" ∷ codes "--long-poll=100" ∷ [])
+  long_polls_alone : AsksFor (Show Lint default_lints (record { times = false; limits = record { poll_ms = Some 100; wait_ms = None } })) (name ∷ codes "lint" ∷ codes "--long-poll=100" ∷ [])
   unfolding clap_on_literals
   long_polls_alone = (refl, refl)
+
+  -- what is odd, where polls of 50 milliseconds are long
+  odd_from_50 : AsksFor (Find Lint (record { long = 50000000; lints = default_lints }) false)
+      (name ∷ codes "lint" ∷ codes "--findings" ∷ codes "--long-poll=50" ∷ [])
+  unfolding clap_on_literals
+  odd_from_50 = (refl, refl)
+
+  odd_below_a_report : AsksFor (Find Report (record { long = 100000000; lints = default_lints }) true)
+      (name ∷ codes "view" ∷ codes "--times" ∷ codes "--findings" ∷ [])
+  unfolding clap_on_literals
+  odd_below_a_report = (refl, refl)
 
   the_longest_waits : AsksFor (Watch (record plain_watch { sort = Sched; rows = 5; plain = true; resources = true }))
       (name ∷ codes "watch" ∷ codes "--sort=sched" ∷ codes "--rows=5" ∷ codes "--plain" ∷ codes "--resources" ∷ [])

@@ -1,5 +1,5 @@
 -- What a run of the program does with a script, with a stream, and for the demo.
-use Rattle.std.specs.Prelude.{◌≡◌, ◌==◌, ℕ, Bool, true, false, List, [], Option, Some, None, Result, Ok, Err, IfErr, if◌then◌else◌, unwrap_or}
+use Rattle.std.specs.Prelude.{◌≡◌, ◌==◌, ◌&&◌, is_some, ℕ, Bool, true, false, List, [], Option, Some, None, Result, Ok, Err, IfErr, if◌then◌else◌, unwrap_or}
 use Rattle.std.specs.Borrow.{Bor}
 use Rattle.std.specs.Io.KnownBytes.{Appends}
 use Rattle.tk_client.specs.Warnings.{LintsView}
@@ -8,9 +8,11 @@ use Rattle.tk_live.specs.Script.{ReadsAndRuns}
 use Rattle.tk_metrics.specs.Keeping.{Keeps}
 use Rattle.tk_metrics.specs.Places.{Texts}
 use Rattle.tk_metrics.specs.Streams.{Measures}
+use Rattle.tk_odd.specs.declared.limits.Limits.{Limits}
+use Rattle.tk_found.specs.Views.{ViewsFindings}
 use Rattle.tk_page.specs.Pages.{Pages}
 use Rattle.tk_report.specs.Timed.{no_times}
-use Rattle.tk_report.specs.TimedViews.{ViewsTimed}
+use Rattle.tk_report.specs.TimedViews.{ViewsTimed, count_of}
 use Rattle.tk_report.specs.Views.{IsOfWriter, Views}
 use Rattle.tk_report.specs.declared.options.TimesOptions.{TimesOptions}
 use Rattle.tk_fault.specs.declared.fault.AppFault.{AppFault}
@@ -21,8 +23,9 @@ use Rattle.tk_watch.specs.Watches.{Watches}
 use Rattle.tk_watch.specs.declared.drawing.Screen.{Screen}
 use Rattle.tk_report.specs.declared.view.View.{View}
 use Rattle.tk_report.specs.declared.view.View.TheVariants.{Report, Lint}
+use Rattle.tk_report.specs.declared.view.Viewed.{Viewed}
 use Rattle.taskscope.specs.declared.command_line.Request.{Request}
-use Rattle.taskscope.specs.declared.command_line.Request.TheVariants.{Demo, Metrics, Page, Run, Show, Watch}
+use Rattle.taskscope.specs.declared.command_line.Request.TheVariants.{Demo, Find, Metrics, Page, Run, Show, Watch}
 use Rattle.taskscope.specs.declared.command_line.MetricsOptions.{MetricsOptions}
 use Rattle.taskscope.specs.declared.command_line.WatchOptions.{WatchOptions}
 
@@ -44,23 +47,41 @@ pub record RunsScript (known old new : Option (List ℕ)) (status : ℕ) : Type 
   pub runs : ReadsAndRuns open_gate known outcome written
   pub appends : Appends old new written
 
--- the status of a view with so many warnings: `lint` alone tells of them, by 3
+-- the status of a view with so many warnings or findings: `lint` alone tells of them, by 3
 abbrev pub status_at : View → ℕ → ℕ
 status_at Report warnings = 0
 status_at Lint warnings = if warnings == 0 then 0 else 3
 
 -- the status that tells what a view came to
-abbrev pub view_status : View → Result ℕ AppFault → ℕ
-view_status view (Ok warnings) = status_at view warnings
+abbrev pub view_status : View → Result Viewed AppFault → ℕ
+view_status view (Ok viewed) = status_at view viewed.warnings
 view_status view (Err fault) = 1
+
+-- the status that tells of so many findings, or of a fault
+abbrev pub found_status : View → Result ℕ AppFault → ℕ
+found_status view (Ok findings) = status_at view findings
+found_status view (Err fault) = 1
+
+-- whether a line on the error output says that long polls are told by the lines of the stream: they are asked for, and a task has no histogram
+abbrev pub is_noted : TimesOptions → Result Viewed AppFault → Bool
+is_noted times (Ok viewed) = viewed.untimed && is_some times.limits.poll_ms
+is_noted times (Err fault) = false
 
 -- a stream is read and viewed, with what these options ask for of poll times, and the status tells the outcome
 pub record ViewsStream (view : View) (lints : LintsView) (times : TimesOptions) (given left old new : Option (List ℕ)) (status : ℕ) : Type 0 where
-  pub outcome : Result ℕ AppFault
+  pub outcome : Result Viewed AppFault
   pub told : status ≡ view_status view outcome
   pub views : ViewsTimed view lints times given left outcome old new
   -- with nothing of poll times it is the view of the tables alone
-  pub plain : times ≡ no_times → Views view lints given left outcome old new
+  pub plain : times ≡ no_times → Views view lints given left (count_of outcome) old new
+  -- only a writer's fault comes once something was written
+  pub unwritten : IfErr outcome (λ fault. (IsOfWriter fault → ⊥) → new ≡ old)
+
+-- a stream is read and what is odd about it is told, by these limits and with histograms where they are asked for, and the status tells the outcome
+pub record FindsInStream (view : View) (limits : Limits) (times : Bool) (given left old new : Option (List ℕ)) (status : ℕ) : Type 0 where
+  pub outcome : Result ℕ AppFault
+  pub told : status ≡ found_status view outcome
+  pub views : ViewsFindings view limits times given left outcome old new
   -- only a writer's fault comes once something was written
   pub unwritten : IfErr outcome (λ fault. (IsOfWriter fault → ⊥) → new ≡ old)
 
@@ -149,6 +170,7 @@ filter_text filter = unwrap_or filter []
 abbrev pub Does : Canvas → Option (List ℕ) → Option (List ℕ) → Request → Option (List ℕ) → Option (List ℕ) → Option (List ℕ) → Option (List ℕ) → Option Texts → Option Texts → ℕ → Type 0
 Does terminal filter to Run given left old new before after status = RunsScript given old new status
 Does terminal filter to (Show view lints times) given left old new before after status = ViewsStream view lints times given left old new status
+Does terminal filter to (Find view limits times) given left old new before after status = FindsInStream view limits times given left old new status
 Does terminal filter to (Page lints) given left old new before after status = PagesStream lints given left old new status
 Does terminal filter to (Watch options) given left old new before after status = WatchesBy options.keys options (filter_text filter) terminal given left old new status
 Does terminal filter to (Metrics options) given left old new before after status = MeasuresTo to options given left old new before after status

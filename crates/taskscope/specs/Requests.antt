@@ -19,10 +19,12 @@ use Rattle.tk_report.specs.declared.view.View.{View}
 use Rattle.tk_report.specs.declared.view.View.TheVariants.{Report, Lint}
 use Rattle.tk_frame.specs.declared.query.Column.{Column}
 use Rattle.tk_frame.specs.declared.query.Column.TheVariants.{Busy, Sched, Polls, Wakes, SelfWakes}
+use Rattle.tk_odd.specs.declared.limits.Limits.{Limits}
+use Rattle.tk_found.specs.Views.{limits_by}
 use Rattle.tk_metrics.specs.declared.by.By.{By}
 use Rattle.tk_metrics.specs.declared.by.By.TheVariants.{Name, Id}
 use Rattle.taskscope.specs.declared.command_line.Request.{Request}
-use Rattle.taskscope.specs.declared.command_line.Request.TheVariants.{Demo, Metrics, Page, Run, Show, Watch}
+use Rattle.taskscope.specs.declared.command_line.Request.TheVariants.{Demo, Find, Metrics, Page, Run, Show, Watch}
 use Rattle.taskscope.specs.declared.command_line.MetricsOptions.{MetricsOptions}
 use Rattle.taskscope.specs.declared.command_line.WatchOptions.{WatchOptions}
 
@@ -63,17 +65,20 @@ reading_command name = with_rule (new_app name) file_argument
 abbrev pub view_command : Text → App
 view_command name = with_rule (with_rule (reading_command name) percent_option) limit_option
 
--- from how many milliseconds on a poll is a long one: `--long-poll MS`, from 1 on
-abbrev pub long_poll_option : Rule
-long_poll_option = record (new_rule (codes "long-poll")) {
-  long = Some (codes "long-poll");
+-- an option of so many milliseconds, from 1 on, which is there or not
+abbrev pub span_option : Text → Rule
+span_option name = record (new_rule name) {
+  long = Some name;
   value_names = 1;
   parser = Some (vp.Unsigned 1 18446744073709551615);
 }
 
--- such a command that also warns of long polls, where that option is there
-abbrev pub polls_command : Text → App
-polls_command name = with_rule (view_command name) long_poll_option
+-- such a command that also warns of long polls and long waits, where these options are there: from how many milliseconds on they are long. It tells
+-- what is odd in place of warnings where it is asked to
+abbrev pub spans_command : Text → App
+spans_command name =
+    let spans = with_rule (with_rule (view_command name) (span_option (codes "long-poll"))) (span_option (codes "long-wait")) in
+    with_rule spans (flag_option (codes "findings"))
 
 -- a command that explains a fault where it is asked to
 abbrev pub explaining : App → App
@@ -85,11 +90,11 @@ run_command = explaining (reading_command (codes "run"))
 
 -- the command that writes the report, with histograms where they are asked for
 abbrev pub report_command : App
-report_command = explaining (with_rule (polls_command (codes "view")) (flag_option (codes "times")))
+report_command = explaining (with_rule (spans_command (codes "view")) (flag_option (codes "times")))
 
 -- the command that writes the warnings
 abbrev pub lint_command : App
-lint_command = explaining (polls_command (codes "lint"))
+lint_command = explaining (spans_command (codes "lint"))
 
 -- the command that watches a stream, with the options of what its screens show
 abbrev pub shows_command : App
@@ -172,13 +177,27 @@ text_at name = first_of name
 abbrev pub flag_at : Text → List Row → Bool
 flag_at name options = option_map_or (λ text. bytes_eq text (codes "true")) (text_at name options) false
 
--- what of poll times a command's options ask for: histograms by `--times`, and a warning of each long poll by `--long-poll`
+-- what a command's options ask for of poll times and waits: histograms by `--times`, and a warning of each long poll by `--long-poll` and of each long
+-- wait by `--long-wait`
 abbrev pub times_in : List Row → TimesOptions
-times_in options = record { times = flag_at (codes "times") options; long_poll = number_at (codes "long-poll") options }
+times_in options = record {
+  times = flag_at (codes "times") options;
+  limits = record { poll_ms = number_at (codes "long-poll") options; wait_ms = number_at (codes "long-wait") options };
+}
+
+-- how much is too much for what is odd: `--long-poll` says from how many milliseconds on a poll is long
+abbrev pub limits_in : LintsView → List Row → Limits
+limits_in lints options = limits_by lints (number_at (codes "long-poll") options)
+
+-- a view of these tables, or of what is odd where that is asked for
+abbrev pub view_by : View → List Row → LintsView → Request
+view_by view options lints =
+    if flag_at (codes "findings") options then Find view (limits_in lints options) (flag_at (codes "times") options) else
+    Show view lints (times_in options)
 
 -- a view with these options
 abbrev pub view_with : View → List Row → Option Request
-view_with view options = option_and_then (λ lints. Some (Show view lints (times_in options))) (lints_in options)
+view_with view options = option_and_then (λ lints. Some (view_by view options lints)) (lints_in options)
 
 -- a page with these options
 abbrev pub page_with : List Row → Option Request

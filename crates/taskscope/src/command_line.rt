@@ -12,20 +12,22 @@ ghost use Rattle.taskscope.specs.Requests.{program, refusals, texts};
 
 use crate::help::{
     ABOUT, AFTER_HELP, BY_HELP, DEMO_ABOUT, DEMO_LONG_ABOUT, EVERY_HELP, EVERY_SECONDS_HELP,
-    EXPLAIN_HELP, FILE_HELP, FILTER_HELP, FOLLOW_HELP, FOLLOW_INTO_HELP, KEYS_HELP, LIMIT_HELP,
-    LINT_ABOUT, LINT_LONG_ABOUT, LONG_ABOUT, LONG_POLL_HELP, METRICS_ABOUT, METRICS_LONG_ABOUT,
-    PAGE_ABOUT, PAGE_LONG_ABOUT, PERCENT_HELP, PLAIN_HELP, RESOURCES_HELP, ROWS_HELP, RUN_ABOUT,
-    RUN_LONG_ABOUT, SORT_HELP, TIMES_HELP, TO_HELP, VIEW_ABOUT, VIEW_LONG_ABOUT, WATCH_ABOUT,
-    WATCH_LONG_ABOUT,
+    EXPLAIN_HELP, FILE_HELP, FILTER_HELP, FINDINGS_HELP, FOLLOW_HELP, FOLLOW_INTO_HELP, KEYS_HELP,
+    LIMIT_HELP, LINT_ABOUT, LONG_ABOUT, LONG_POLL_HELP, LONG_WAIT_HELP, METRICS_ABOUT,
+    METRICS_LONG_ABOUT, PAGE_ABOUT, PAGE_LONG_ABOUT, PERCENT_HELP, PLAIN_HELP, RESOURCES_HELP,
+    ROWS_HELP, RUN_ABOUT, RUN_LONG_ABOUT, SORT_HELP, TIMES_HELP, TO_HELP, VIEW_ABOUT,
+    VIEW_LONG_ABOUT, WATCH_ABOUT, WATCH_LONG_ABOUT,
 };
 use clap::builder::ValueParser;
 use clap::error::ErrorKind;
 use clap::{Arg, ArgAction, ArgMatches, Command, Error};
 use std::alloc::{AllocError, Global};
 use tk_app::{TimesOptions, View};
-use tk_client::Lints;
+use tk_client::{Lints, TimeLimits};
+use tk_found::limits_by;
 use tk_frame::Column;
 use tk_metrics::By;
+use tk_odd::Limits;
 
 /// A call of the program: what its words ask for, and the texts that they give.
 pub(crate) struct Call<'a> {
@@ -50,6 +52,12 @@ pub(crate) enum Request {
         view: View,
         lints: Lints,
         times: TimesOptions,
+    },
+    /// To tell what is odd about a stream by these limits, alone or below what its tables come to, with histograms or without.
+    Find {
+        view: View,
+        limits: Limits,
+        times: bool,
     },
     /// To draw a stream as one page, with warnings by these lints.
     Page {
@@ -105,6 +113,10 @@ const PERCENT: &str = "self-wake-percent";
 const LIMIT: &str = "never-yielded-ns";
 
 const LONG_POLL: &str = "long-poll";
+
+const LONG_WAIT: &str = "long-wait";
+
+const FINDINGS: &str = "findings";
 
 const TIMES: &str = "times";
 
@@ -171,15 +183,15 @@ fn number_arg<'a>(
         .value_parser(ValueParser::unsigned(0, most))
 }
 
-// The option from how many milliseconds on a poll is a long one.
-fn long_poll_arg<'a>(alloc: Global) -> Arg<'a>
-    ensures rule { rule_of result ≡ spec.long_poll_option }
+// An option of so many milliseconds.
+fn span_arg<'a>(alloc: Global, name: &'a str, told: &'a str) -> Arg<'a>
+    ensures rule { rule_of result ≡ spec.span_option name.entry.now }
     ensures local { result.global ≡ false }
 {
-    Arg::new(alloc, LONG_POLL)
-        .long(LONG_POLL)
+    Arg::new(alloc, name)
+        .long(name)
         .value_name("MS")
-        .help(LONG_POLL_HELP)
+        .help(told)
         .value_parser(ValueParser::unsigned(1, 18_446_744_073_709_551_615))
 }
 
@@ -231,19 +243,26 @@ fn view_command<'a>(
     )
 }
 
-// A command that views a stream, and warns of long polls where they are asked for.
-fn polls_command<'a>(
+// A command that views a stream, and warns of long polls and long waits where they are asked for, or tells what is odd.
+fn spans_command<'a>(
     alloc: Global,
     name: &'a str,
     about: &'a str,
     long_about: &'a str,
 ) -> Result<Command<'a>, Error>
-    ensures ok { IfOk result (λ c. app_of c ≡ spec.polls_command name.entry.now) }
+    ensures ok { IfOk result (λ c. app_of c ≡ spec.spans_command name.entry.now) }
     ensures local { IfOk result (λ c. (fields_of c).has_globals ≡ false) }
     ensures err { IfErr result (λ e. kind_of e ≡ ErrorKind.OutOfMemory) }
 {
-    let long_poll = long_poll_arg(alloc);
-    Ok(view_command(alloc, name, about, long_about)?.arg(long_poll)?)
+    let long_poll = span_arg(alloc, LONG_POLL, LONG_POLL_HELP);
+    let long_wait = span_arg(alloc, LONG_WAIT, LONG_WAIT_HELP);
+    let findings = flag_arg(alloc, FINDINGS, FINDINGS_HELP);
+    Ok(
+        view_command(alloc, name, about, long_about)?
+            .arg(long_poll)?
+            .arg(long_wait)?
+            .arg(findings)?,
+    )
 }
 
 // The run of a script.
@@ -266,20 +285,20 @@ fn report_command<'a>(alloc: Global) -> Result<Command<'a>, Error>
     let times = flag_arg(alloc, TIMES, TIMES_HELP);
     let explain = flag_arg(alloc, EXPLAIN, EXPLAIN_HELP);
     Ok(
-        polls_command(alloc, "view", VIEW_ABOUT, VIEW_LONG_ABOUT)?
+        spans_command(alloc, "view", VIEW_ABOUT, VIEW_LONG_ABOUT)?
             .arg(times)?
             .arg(explain)?,
     )
 }
 
-// The warnings alone.
-fn lint_command<'a>(alloc: Global) -> Result<Command<'a>, Error>
+// The warnings alone. This is what its help says at length.
+fn lint_command<'a>(alloc: Global, long_about: &'a str) -> Result<Command<'a>, Error>
     ensures ok { IfOk result (λ c. app_of c ≡ spec.lint_command) }
     ensures local { IfOk result (λ c. (fields_of c).has_globals ≡ false) }
     ensures err { IfErr result (λ e. kind_of e ≡ ErrorKind.OutOfMemory) }
 {
     let explain = flag_arg(alloc, EXPLAIN, EXPLAIN_HELP);
-    let lint = polls_command(alloc, "lint", LINT_ABOUT, LINT_LONG_ABOUT)?;
+    let lint = spans_command(alloc, "lint", LINT_ABOUT, long_about)?;
     Ok(lint.arg(explain)?)
 }
 
@@ -358,13 +377,13 @@ fn top_command<'a>(alloc: Global) -> Result<Command<'a>, Error>
 }
 
 // The program with the words that stand first in its help.
-fn first_words<'a>(alloc: Global) -> Result<Command<'a>, Error>
+fn first_words<'a>(alloc: Global, long_about: &'a str) -> Result<Command<'a>, Error>
     ensures ok { IfOk result (λ c. app_of c ≡ spec.first_words) }
     ensures err { IfErr result (λ e. kind_of e ≡ ErrorKind.OutOfMemory) }
 {
     let run = run_command(alloc)?;
     let view = report_command(alloc)?;
-    let lint = lint_command(alloc)?;
+    let lint = lint_command(alloc, long_about)?;
     Ok(
         top_command(alloc)?
             .subcommand(run)?
@@ -373,7 +392,7 @@ fn first_words<'a>(alloc: Global) -> Result<Command<'a>, Error>
     )
 }
 
-fn command_line<'a>(alloc: Global) -> Result<Command<'a>, Error>
+fn command_line<'a>(alloc: Global, long_about: &'a str) -> Result<Command<'a>, Error>
     ensures ok { IfOk result (λ c. app_of c ≡ program) }
     ensures err { IfErr result (λ e. kind_of e ≡ ErrorKind.OutOfMemory) }
 {
@@ -384,7 +403,7 @@ fn command_line<'a>(alloc: Global) -> Result<Command<'a>, Error>
         .about(DEMO_ABOUT)
         .long_about(DEMO_LONG_ABOUT);
     Ok(
-        first_words(alloc)?
+        first_words(alloc, long_about)?
             .subcommand(page)?
             .subcommand(watch)?
             .subcommand(metrics)?
@@ -427,7 +446,25 @@ fn times_in(options: &ArgMatches) -> TimesOptions
 {
     TimesOptions {
         times: flag_at(options, TIMES),
-        long_poll: number_at(options, LONG_POLL),
+        limits: TimeLimits {
+            poll_ms: number_at(options, LONG_POLL),
+            wait_ms: number_at(options, LONG_WAIT),
+        },
+    }
+}
+
+// A view of the tables, or of what is odd where that is asked for.
+fn view_by(view: View, lints: Lints, options: &ArgMatches) -> Request
+    ensures { result ≡ spec.view_by view (rows_of (found_of options.now)) lints }
+{
+    let times = times_in(options);
+    if !flag_at(options, FINDINGS) {
+        return Request::Show { view, lints, times };
+    }
+    Request::Find {
+        view,
+        limits: limits_by(lints, times.limits.poll_ms),
+        times: times.times,
     }
 }
 
@@ -435,11 +472,7 @@ fn view_with(view: View, options: &ArgMatches) -> Option<Request>
     ensures { result ≡ spec.view_with view (rows_of (found_of options.now)) }
 {
     let lints = lints_in(options)?;
-    Some(Request::Show {
-        view,
-        lints,
-        times: times_in(options),
-    })
+    Some(view_by(view, lints, options))
 }
 
 fn page_with(options: &ArgMatches) -> Option<Request>
@@ -674,11 +707,15 @@ fn no_name<'a>(alloc: Global, command: &mut Command<'a>, matches: &ArgMatches<'a
 }
 
 // What a parse finds in words that are taken.
-fn matches_of<'a>(alloc: Global, words: &'a [String]) -> Result<ArgMatches<'a>, Error>
+fn matches_of<'a>(
+    alloc: Global,
+    words: &'a [String],
+    long_about: &'a str,
+) -> Result<ArgMatches<'a>, Error>
     ensures fails { FailsBy (refusals (texts words.now)) result }
     ensures found { IfOk result (λ m. subcommand_rows_of m ≡ subcommand_of program (texts words.now)) }
 {
-    let mut command = command_line(alloc)?;
+    let mut command = command_line(alloc, long_about)?;
     let matches = command.try_get_matches_from_mut(words)?;
     if names_nothing(&matches) {
         return Err(no_name(alloc, &mut command, &matches));
@@ -686,8 +723,13 @@ fn matches_of<'a>(alloc: Global, words: &'a [String]) -> Result<ArgMatches<'a>, 
     Ok(matches)
 }
 
-/// What the words ask for, the first of which is the program's name. Else a mistake in them, or the help that they ask for.
-pub(crate) fn call_of<'a>(alloc: Global, words: &'a [String]) -> Result<Call<'a>, Error>
+/// What the words ask for, the first of which is the program's name. Else a mistake in them, or the help that they ask for; that of
+/// `lint` says this at length.
+pub(crate) fn call_of<'a>(
+    alloc: Global,
+    words: &'a [String],
+    long_about: &'a str,
+) -> Result<Call<'a>, Error>
     // A call where a parse takes the words and their options name what there is, and else a kind of error by which they are refused; or want of memory.
     ensures fails { FailsBy (refusals (texts words.now)) result }
     ensures asked { IfOk result (λ call. spec.asked (texts words.now) ≡ Some call.request) }
@@ -696,7 +738,7 @@ pub(crate) fn call_of<'a>(alloc: Global, words: &'a [String]) -> Result<Call<'a>
     ensures to { IfOk result (λ call. spec.to_of (texts words.now) ≡ option_map (λ to. to.now) call.to) }
     ensures explains { IfOk result (λ call. spec.explains (texts words.now) ≡ call.explains) }
 {
-    let matches = matches_of(alloc, words)?;
+    let matches = matches_of(alloc, words, long_about)?;
     // A command is required, and the parse has checked its numbers.
     let request = asked_in(&matches).unwrap();
     Ok(Call {

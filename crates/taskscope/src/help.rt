@@ -1,5 +1,8 @@
 //! What help says.
 
+use std::alloc::{AllocError, Global};
+use tk_found::kinds_text;
+
 pub(crate) const ABOUT: &str =
     "Shows what the tasks of an async program did, as tokio-console would";
 
@@ -68,15 +71,21 @@ The report has a line for each task, resource and async operation, and one for e
 without its line end is ignored. After a fault nothing is written.
 
 With `--times` a line below a task says how many polls of it ended, how long the longest ran, and between which
-times the percentiles 50, 90 and 99 lie, in nanoseconds, where the stream tells of it, as one of version 3 does.
+times the percentiles 50, 90 and 99 lie, in nanoseconds. A second line says the same of its waits for a poll, and
+since when it waits, if it does. Both are there as far as the stream tells of it, as that of a Rust program does.
 A wall clock can't tell a long poll from one whose thread the system had put aside.
+
+With `--findings` the report ends with what is odd in place of the warnings, as `taskscope lint --findings` tells it.
+
+If a stream has no histograms, `--long-poll` tells of the polls that its lines show, which ran at least as long. A
+line on standard error says so.
 
 The report is written at the end of the stream: `taskscope watch` shows a stream while it comes.";
 
 pub(crate) const LINT_ABOUT: &str =
     "Reads a stream and writes the warnings about its tasks to standard output";
 
-pub(crate) const LINT_LONG_ABOUT: &str =
+const LINT_LONG_ABOUT: &str =
     "Reads a stream and writes the warnings about its tasks to standard output.
 
   taskscope run < examples/lost-waker.script | taskscope lint
@@ -86,15 +95,29 @@ A task has these warnings:
   self-wakes     too many wakes are its own: let what it waits for wake it
   never-yielded  its first poll runs too long: move work that blocks to a blocking task
   long-poll      a poll of it ran as long as `--long-poll` says, or longer: let it yield, or move work that blocks
+  long-wait      it waited for a poll as long as `--long-wait` says, or longer: look which task holds the thread
 
-A wall clock can't tell a long poll from one whose thread the system had put aside. Of polls that ended a stream of
-version 3 tells; of other streams the poll that runs is known alone.
+A wall clock can't tell a long poll from one whose thread the system had put aside. If a stream has no histograms,
+`--long-poll` tells of the polls that its lines show, which ran at least as long, and a line on standard error says
+so. Of waits only the one that lasts is known then.
 
 A waker, a task or a poll that a program lets go without its last call makes no entry, and counts as live: such a
 waker hides a lost-waker, and such a task never closes.
 
-A last line of the stream without its line end is ignored. After a fault nothing is written. The status is 3
-where there are warnings.";
+With `--findings` all lines of the stream are judged, and what is odd is told in place of warnings, worst first:
+which tasks held up the others and for how long, at least. The words of each line stand in docs/FORMATS.md, and
+docs/FINDINGS.md says what each finding means. `--long-poll` then says from when on a poll is long, and a wait for
+it: 100 milliseconds if it isn't there. `--long-wait` says nothing to findings. There are these kinds:";
+
+const LINT_END: &str =
+    "A last line of the stream without its line end is ignored. After a fault nothing is written. The status is 3
+where there are warnings, or findings with `--findings`.";
+
+/// What the help of `lint` says at length, with the kinds of findings and what to do about each.
+pub(crate) fn lint_long_about(alloc: Global) -> Result<String, AllocError> {
+    let kinds = kinds_text(alloc)?;
+    format!(in alloc; "{LINT_LONG_ABOUT}\n{kinds}\n{LINT_END}")
+}
 
 pub(crate) const PAGE_ABOUT: &str =
     "Reads a stream and writes it as one page of HTML to standard output";
@@ -134,6 +157,9 @@ Tasks can be sorted by these columns:
   wakes       how often they were woken
   self-wakes  how often they woke themselves
 
+Both times count what still lasts. A wait is counted from its begin if the stream counts waits, as that of a Rust
+program does, and otherwise from the task's last wake.
+
 With `--keys` you sort by another column, pause, look at one task, and quit: `?` shows the keys. At the end of the
 stream the last screen then stays until `q`. The terminal has its mode back once the watch has ended or was stopped.
 
@@ -149,6 +175,7 @@ pub(crate) const METRICS_LONG_ABOUT: &str =
 
 Counts and times of tasks are sums over those of one name and kind. With tasks that left the stream, each sum
 keeps what they had come to. With `--by id` each task has numbers of its own, as long as it hasn't left.
+While one task holds the thread no count moves: gauges say how long the longest poll and the longest wait have lasted.
 `taskscope lint --help` explains the warnings, docs/FORMATS.md the families, and docs/alerts.yml has alerts to copy.
 
 With `--to` the numbers are kept in a file while the stream comes, and nothing is written to standard output. The
@@ -178,8 +205,14 @@ pub(crate) const LIMIT_HELP: &str = "Warns where a first poll has run for so man
 pub(crate) const LONG_POLL_HELP: &str =
     "Warns where a poll ran for so many milliseconds, from 1 on";
 
+pub(crate) const FINDINGS_HELP: &str =
+    "Tells who holds up whom and what else is odd, in place of warnings";
+
+pub(crate) const LONG_WAIT_HELP: &str =
+    "Warns where a wait for a poll took so many milliseconds, from 1 on";
+
 pub(crate) const TIMES_HELP: &str =
-    "Shows below a task how long its polls ran, where the stream tells of it";
+    "Shows below a task how long its polls ran and it waited, where the stream tells of it";
 
 pub(crate) const SORT_HELP: &str = "Shows the tasks of most in this column first, else in `busy`";
 

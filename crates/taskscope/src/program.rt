@@ -1,14 +1,17 @@
 //! A run of the program, from its words to its status.
-ghost use Rattle.std.specs.Prelude.{◌≡◌, ◌≢◌, ◌≤◌, ◌⊎◌, true, [], codes, IsSome, None};
+ghost use Rattle.std.specs.Prelude.{◌≡◌, ◌≢◌, ◌≤◌, ◌⊎◌, true, false, [], codes, IsOk, IsSome, None};
 ghost use Rattle.std.specs.Option.{option_map};
 ghost use Rattle.clap.specs.Values.{kind_of};
 ghost use Rattle.tk_report.specs.Timed.{no_times};
+ghost use Rattle.tk_report.specs.TimedViews.{count_of};
 ghost use Rattle.tk_client.specs.Warnings.{default_lints};
 ghost use Rattle.taskscope.specs.Requests as spec;
 ghost use Rattle.taskscope.specs.Requests.{AsksForFile, AsksForHelp, AsksForInput, AsksForVersion, IsMistake, IsPlain, asked, filter_of, is_mistake, plain_metrics, plain_watch, refusals, texts, to_of};
-ghost use Rattle.taskscope.specs.Program.{Does, DoesOfFile, KeepsStream, RunsScript, ViewsStream, WatchesAtKeys, WatchesStream, filter_text, page_status, screen_by, status_at, status_of, view_status};
+ghost use Rattle.taskscope.specs.Program.{Does, DoesOfFile, FindsInStream, KeepsStream, RunsScript, ViewsStream, WatchesAtKeys, WatchesStream, filter_text, found_status, is_noted, page_status, screen_by, status_at, status_of, view_status};
 
 use crate::command_line::{Call, MetricsOptions, Request, WatchOptions, call_of};
+use crate::help::lint_long_about;
+use crate::notes::note_untimed;
 use clap::Error;
 use clap::error::ErrorKind;
 use std::alloc::{AllocGlobal, Global};
@@ -22,11 +25,14 @@ use std::{fs, io};
 use tk_app::{AppFault, Open, TimesOptions, View, demo, run_script, view_stream_with};
 use tk_client::Lints;
 use tk_explain::{Kept, explain_script, explain_stream};
+use tk_found::view_findings;
 use tk_frame::Query;
 use tk_keys::watch_terminal;
 use tk_metrics::{Place, keep_metrics, metrics_stream};
-use tk_pace::Every;
+use tk_odd::Limits;
 use tk_page::view_page;
+use tk_reading::Every;
+use tk_report::Viewed;
 use tk_screen::Canvas;
 use tk_watch::{Screen, watch_stream};
 
@@ -81,12 +87,33 @@ fn status_at(view: View, warnings: u64) -> u8
 }
 
 // The status of a stream's view.
-fn tell_view<E: Write>(view: View, outcome: Result<u64, AppFault>, faults: &mut E) -> u8
-    ensures { result ≡ view_status view outcome }
+fn tell_view<E: Write>(view: View, outcome: Result<Viewed, AppFault>, faults: &mut E) -> u8
+    ensures status { result ≡ view_status view outcome }
+    ensures quiet { IsOk outcome → faults.new ≡ faults.old }
 {
     match outcome {
-        Ok(warnings) => status_at(view, warnings),
+        Ok(viewed) => status_at(view, viewed.warnings),
         Err(stop) => tell_fault(stop, faults),
+    }
+}
+
+// The status of a stream's findings.
+fn tell_found<E: Write>(view: View, outcome: Result<u64, AppFault>, faults: &mut E) -> u8
+    ensures { result ≡ found_status view outcome }
+{
+    match outcome {
+        Ok(findings) => status_at(view, findings),
+        Err(stop) => tell_fault(stop, faults),
+    }
+}
+
+// How many warnings a view has shown.
+fn count_of(outcome: Result<Viewed, AppFault>) -> Result<u64, AppFault>
+    ensures { result ≡ count_of outcome }
+{
+    match outcome {
+        Ok(viewed) => Ok(viewed.warnings),
+        Err(fault) => Err(fault),
     }
 }
 
@@ -112,7 +139,7 @@ fn run<R: Threads + Wait + Sync, I: Read, O: Write, E: Write>(
     status
 }
 
-// Views a stream, and answers what that came to, and the status.
+// Views a stream, and answers what that came to, and the status. Where long polls are told by lines, a line says so.
 fn view<I: Read, O: Write, E: Write>(
     alloc: Global,
     view: View,
@@ -121,11 +148,13 @@ fn view<I: Read, O: Write, E: Write>(
     input: &mut I,
     output: &mut O,
     faults: &mut E,
-) -> (Result<u64, AppFault>, u8)
+) -> (Result<Viewed, AppFault>, u8)
     ensures does { ViewsStream view lints.now times.now (I.remaining input.old) (I.remaining input.new) (O.contents output.old) (O.contents output.new) result.1 }
     ensures status { (result.1 ≤ FAULT) ⊎ (result.1 ≡ WARNED) }
+    ensures quiet { IsOk result.0 → is_noted times.now result.0 ≡ false → faults.new ≡ faults.old }
 {
     let outcome = view_stream_with(alloc, input, output, view, lints, times);
+    note_untimed(times, outcome, faults);
     (outcome, tell_view(view, outcome, faults))
 }
 
@@ -144,6 +173,43 @@ fn view_explained<I: Read, O: Write, E: Write>(
 {
     let mut stream = Kept::last_lines(alloc, input);
     let (outcome, status) = view(alloc, shown, lints, times, &mut stream, output, faults);
+    let _ = explain_stream(&stream, count_of(outcome), faults);
+    (stream.into_reader(), status)
+}
+
+// Tells what is odd about a stream, and answers what that came to, and the status.
+fn find<I: Read, O: Write, E: Write>(
+    alloc: Global,
+    view: View,
+    limits: Limits,
+    times: bool,
+    input: &mut I,
+    output: &mut O,
+    faults: &mut E,
+) -> (Result<u64, AppFault>, u8)
+    ensures does { FindsInStream view limits times (I.remaining input.old) (I.remaining input.new) (O.contents output.old) (O.contents output.new) result.1 }
+    ensures status { (result.1 ≤ FAULT) ⊎ (result.1 ≡ WARNED) }
+{
+    let found = view_findings(alloc, input, output, view, limits, times);
+    (found, tell_found(view, found, faults))
+}
+
+// Tells what is odd about the stream of an input, and answers that input, as its reads left it, and the status. What is explained of a fault stands
+// below it.
+fn find_explained<I: Read, O: Write, E: Write>(
+    alloc: Global,
+    view: View,
+    limits: Limits,
+    times: bool,
+    input: I,
+    output: &mut O,
+    faults: &mut E,
+) -> (I, u8)
+    ensures does { FindsInStream view limits times (I.remaining input) (I.remaining result.0) (O.contents output.old) (O.contents output.new) result.1 }
+    ensures status { (result.1 ≤ FAULT) ⊎ (result.1 ≡ WARNED) }
+{
+    let mut stream = Kept::last_lines(alloc, input);
+    let (outcome, status) = find(alloc, view, limits, times, &mut stream, output, faults);
     let _ = explain_stream(&stream, outcome, faults);
     (stream.into_reader(), status)
 }
@@ -326,6 +392,14 @@ fn fulfil<
             let (_, status) = view(alloc, shown, &lints, &times, input, output, faults);
             status
         }
+        Request::Find {
+            view,
+            limits,
+            times,
+        } => {
+            let (_, status) = find(alloc, view, limits, times, input, output, faults);
+            status
+        }
         Request::Page { lints } => tell_page(view_page(alloc, input, output, &lints), faults),
         Request::Watch(options) => {
             let text = filter_text(filter);
@@ -392,6 +466,16 @@ where
             *input = left;
             return status;
         }
+        if let Request::Find {
+            view,
+            limits,
+            times,
+        } = request
+        {
+            let (left, status) = find_explained(alloc, view, limits, times, *input, output, faults);
+            *input = left;
+            return status;
+        }
     }
     match at_keys(&request) {
         Some(options) => {
@@ -452,6 +536,15 @@ where
         } = request
         {
             let (_, status) = view_explained(alloc, shown, &lints, &times, file, output, faults);
+            return status;
+        }
+        if let Request::Find {
+            view,
+            limits,
+            times,
+        } = request
+        {
+            let (_, status) = find_explained(alloc, view, limits, times, file, output, faults);
             return status;
         }
     }
@@ -532,9 +625,9 @@ pub(crate) fn run_program<
 ) -> u8
 where
     R::File: Send + 'static,
-    // What is asked for is done: a run reads and writes as `run_script` does, a view as `view_stream_with` does, a page as
-    // `view_page` does, a watch as `watch_stream` does, or as `watch_terminal` does of some stream where keys are heard, numbers as
-    // `metrics_stream` does, or as `keep_metrics` does where a path is given, and the demo writes as `demo` does. The status is 1 exactly where there was a fault, and 3 exactly where `lint` found warnings.
+    // What is asked for is done: a run reads and writes as `run_script` does, a view as `view_stream_with` does, or as `view_findings` does where
+    // what is odd is asked for, a page as `view_page` does, a watch as `watch_stream` does, or as `watch_terminal` does of some stream where keys are heard, numbers as
+    // `metrics_stream` does, or as `keep_metrics` does where a path is given, and the demo writes as `demo` does. The status is 1 exactly where there was a fault, and 3 exactly where `lint` found warnings, or findings where they are asked for.
     ensures does { (request : Request) → AsksForInput request (texts words.now)
         → Does terminal (filter_of (texts words.now)) (to_of (texts words.now)) request
         (I.remaining input.old) (I.remaining input.new) (O.contents output.old) (O.contents output.new) (P.texts place.old) (P.texts place.new) result }
@@ -567,13 +660,15 @@ where
     ensures usage { result ≡ USAGE → (input.new ≡ input.old) × (output.new ≡ output.old) }
     ensures status { result ≤ WARNED }
 {
+    // Help alone shows it.
+    let long_about = lint_long_about(alloc).unwrap_or(String::new(alloc));
     let Call {
         request,
         file,
         filter,
         to,
         explains,
-    } = match call_of(alloc, words) {
+    } = match call_of(alloc, words, long_about.as_str()) {
         Ok(call) => call,
         Err(error) => return answer(error, output, faults),
     };

@@ -1,11 +1,10 @@
 -- The histograms that an aggregator tells lead from those that it told to those that it shows, and their readers stay in step.
 use Rattle.std.proofs.Common.{◌≡◌, ℕ, List, [], ◌∷◌, ◌++◌, length, take, Bool, true, false, cond, nat_eq, Option, Some, None, refl, ap, ap₂, sym, subst, ◌∙◌, true≢false}
 use Rattle.std.specs.Prelude.{map, filter, not, is_none, is_some, IsSome, unwrap_or, option_map, option_and_then, if◌then◌else◌}
-use Rattle.std.specs.Cmp.Lexicographic.{pointwise}
 use Rattle.std.specs.List.{AllByRecursion, IsDistinct}
 use Rattle.std.specs.Option.{option_map_or}
 use Rattle.std.proofs.Math.Seq.{take-append_seam}
-use Rattle.std.proofs.lemmas.Bool.{and_parts, eqb-true, eq-eqb}
+use Rattle.std.proofs.lemmas.Bool.{eqb-true, eq-eqb}
 use Rattle.std.proofs.lemmas.Option.{same_Some}
 use Rattle.tk_core.specs.Fold.{row_after, reply_after}
 use Rattle.tk_core.specs.Laws.TimesLaws as times_laws
@@ -27,6 +26,7 @@ use Rattle.tk_stream.specs.declared.tables.times.PollTimes.{PollTimes}
 use Rattle.tk_stream.proofs.AppliedLemmas.{IsKind, leads}
 use Rattle.tk_stream.proofs.GoneLemmas.{once_kept}
 use Rattle.tk_stream.proofs.LinesLemmas.{IsFound, each_found, map-same}
+use Rattle.tk_stream.proofs.TimesLemmas.{times_agree}
 use Rattle.tk_stream.proofs.PruneLemmas.{once_begin, all_filter}
 use Rattle.tk_aggregator.specs.Aggregates.{Pairs}
 use Rattle.tk_aggregator.specs.Readings.{Reads}
@@ -36,21 +36,6 @@ use Rattle.tk_aggregator.proofs.PairLemmas.{pair_more, pairs_stay, pairs_read}
 use Rattle.tk_aggregator.proofs.ReadingLemmas.{changed_here}
 
 -- ---- a histogram is told whole
-
-lists_agree : (xs ys : List ℕ) → pointwise nat_eq xs ys ≡ true → xs ≡ ys
-lists_agree [] [] h = refl
-lists_agree [] (y ∷ ys) h = absurd cc
-lists_agree (x ∷ xs) [] h = absurd cc
-lists_agree (x ∷ xs) (y ∷ ys) h = let p = and_parts (nat_eq x y) (pointwise nat_eq xs ys) h in ap₂ (λ z zs. z ∷ zs) (eqb-true x y p.0) (lists_agree xs ys p.1)
-
-pub times_agree : (a b : TaskTimes) → same_times a b ≡ true → a ≡ b
-times_agree a b h =
-    let p = and_parts _ (pointwise nat_eq a.1.counts b.1.counts) h in
-    let q = and_parts (nat_eq a.0 b.0) (nat_eq a.1.longest b.1.longest) p.0 in
-    let id : a.0 ≡ b.0 = eqb-true a.0 b.0 q.0 in
-    let longest : a.1.longest ≡ b.1.longest = eqb-true a.1.longest b.1.longest q.1 in
-    let counts : a.1.counts ≡ b.1.counts = lists_agree a.1.counts b.1.counts p.1 in
-    λ i. (id i, record { longest = longest i; counts = counts i })
 
 pub times_are : IsKind times_kind all_times same_times
 times_are = record {

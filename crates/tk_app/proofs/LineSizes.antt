@@ -31,7 +31,7 @@ use Rattle.tk_app.proofs.TextSizes.{decimal_short, list_short, object_short, fie
 -- ---- what an item takes at most in a line: its info, its row, and a task its histogram
 
 abbrev pub task_size : TaskInfo → ℕ
-task_size t = 3498 + (6 * length t.location.file + 6 * length t.name)
+task_size t = 2693 + (6 * length t.location.file + 6 * length t.name)
 
 abbrev pub resource_size : ResourceInfo → ℕ
 resource_size r = 780 + (6 * length r.location.file + 6 * length r.kind + 6 * length r.concrete) + sum_by attr_size r.attrs
@@ -58,7 +58,7 @@ as_many attrs vs kinds = omega (arith, ap length kinds, length-map vs kind_of, l
 abbrev with_comma : {A : Type 0} → (A → Data) → A → ℕ
 with_comma spelling x = length (compact_text (spelling x)) + 1
 
-task_both : (t : Task) → with_comma info_data t.info + with_comma stats_data (task_stats_of t) + 2022 ≤ task_size t.info
+task_both : (t : Task) → with_comma info_data t.info + with_comma stats_data (task_stats_of t) + 1154 ≤ task_size t.info
 task_both t = omega (arith, info_short t.info, stats_short (task_stats_of t))
 
 resource_both : (r : Resource) → HaveKinds r.info.attrs r.row.attrs → with_comma resource_data r.info + with_comma resource_stats_data (resource_stats_of r) ≤ resource_size r.info
@@ -91,7 +91,7 @@ module _ {Item Info Stats : Type 0} (id_of : Item → ℕ) (info_of : Item → I
 abbrev tasks_both : Task → ℕ
 tasks_both t = with_comma info_data t.info + with_comma stats_data (task_stats_of t)
 
-tasks_short : (tasks : List Task) → sum_by tasks_both tasks + 2022 * length tasks ≤ sum_by (λ (t : Task). task_size t.info) tasks
+tasks_short : (tasks : List Task) → sum_by tasks_both tasks + 1154 * length tasks ≤ sum_by (λ (t : Task). task_size t.info) tasks
 tasks_short [] = omega arith
 tasks_short (t ∷ tasks) = omega (arith, sum_by-cons tasks_both t tasks, sum_by-cons (λ (u : Task). task_size u.info) t tasks, task_both t, tasks_short tasks)
 
@@ -108,7 +108,7 @@ counts_list_short old new =
 
 -- ---- the members of a line
 
-between_short : (old new : TablesView) (seq : ℕ) (snapshot : Bool) → AreFit new → sum_by field_size (members_between (record (line_between old new seq) { snapshot = snapshot })) + 2022 * length new.tasks ≤ 500 + tables_size new
+between_short : (old new : TablesView) (seq : ℕ) (snapshot : Bool) → AreFit new → sum_by field_size (members_between (record (line_between old new seq) { snapshot = snapshot })) + 1154 * length new.tasks ≤ 500 + tables_size new
 unfolding escape_byte
 between_short old new seq snapshot fit =
     omega (
@@ -143,15 +143,19 @@ abbrev pub times_count : Option (List TaskTimes) → ℕ
 times_count None = 0
 times_count (Some times) = length times
 
-times_list_short : (told : Option (List TaskTimes)) → IfSome told (AllByRecursion AreTimes) → sum_by field_size (times_fields told) ≤ 100 + 2022 * times_count told
+-- a histogram of polls alone, in its range
+abbrev pub ArePolls : TaskTimes → Type 0
+ArePolls t = AreTimes t × (t.1.waits ≡ None)
+
+times_list_short : (told : Option (List TaskTimes)) → IfSome told (AllByRecursion ArePolls) → sum_by field_size (times_fields told) ≤ 100 + 1154 * times_count told
 unfolding escape_byte
 times_list_short None each = omega arith
 times_list_short (Some times) each =
     omega (
       arith,
       list_short times_data (with_comma times_data) (λ t. omega arith) times,
-      sum_below (with_comma times_data) (λ (t : TaskTimes). 2022) times (all_by AreTimes _ (λ t are. times_short t are.many) times each),
-      same_each 2022 times,
+      sum_below (with_comma times_data) (λ (t : TaskTimes). 1154) times (all_by ArePolls _ (λ t are. times_short t are.0.many are.1) times each),
+      same_each 1154 times,
     )
 
 line_short : (l : LineView) → length (line_text l) ≤ 400 + sum_by field_size (gone_members l.gone) + sum_by field_size (members_between l) + sum_by field_size (times_fields l.task_times)
@@ -187,19 +191,19 @@ module _ (before : TablesView) (s : Sending) (fit : AreFit s.tables) where
       some_gone : {Item : Type 0} (id_of : Item → ℕ) (old new : List Item) → length (gone_ids id_of old new) ≤ length old
       some_gone id_of old new = omega (arith, length-map (filter (is_new id_of new) old) id_of, length-filter (is_new id_of new) old, count_by-le-length (is_new id_of new) old)
 
-  within : (old : TablesView) (snapshot : Bool) (gone : Option GoneView) (told : Option (List TaskTimes)) → 780 * gone_count gone ≤ tables_size before → IfSome told (AllByRecursion AreTimes) → times_count told ≤ length s.tables.tasks
+  within : (old : TablesView) (snapshot : Bool) (gone : Option GoneView) (told : Option (List TaskTimes)) → 780 * gone_count gone ≤ tables_size before → IfSome told (AllByRecursion ArePolls) → times_count told ≤ length s.tables.tasks
       → 12 * length (line_text (record (line_between old s.tables s.seq) { gone = gone; snapshot = snapshot; task_times = told })) ≤ 24000 + 12 * tables_size s.tables + tables_size before
   within old snapshot gone told few each one =
       omega (arith, line_short (record (line_between old s.tables s.seq) { gone = gone; snapshot = snapshot; task_times = told }), gone_short gone, between_short old s.tables s.seq snapshot fit, times_list_short told each)
 
   -- its text, where it tells at most one histogram of each of its tasks
-  pub sent_short : IfSome s.told (AllByRecursion AreTimes) → times_count s.told ≤ length s.tables.tasks → 12 * length (line_text (line_sent before s)) ≤ 24000 + 12 * tables_size s.tables + tables_size before
+  pub sent_short : IfSome s.told (AllByRecursion ArePolls) → times_count s.told ≤ length s.tables.tasks → 12 * length (line_text (line_sent before s)) ≤ 24000 + 12 * tables_size s.tables + tables_size before
   sent_short = by s.snapshot s.removes s.told
     where
       none : 780 * gone_count (Some none_gone) ≤ tables_size before
       none = omega arith
 
-      by : (snapshot removes : Bool) (told : Option (List TaskTimes)) → IfSome told (AllByRecursion AreTimes) → times_count told ≤ length s.tables.tasks
+      by : (snapshot removes : Bool) (told : Option (List TaskTimes)) → IfSome told (AllByRecursion ArePolls) → times_count told ≤ length s.tables.tasks
           → 12 * length (line_text (line_sent before (record { tables = s.tables; seq = s.seq; snapshot = snapshot; removes = removes; told = told }))) ≤ 24000 + 12 * tables_size s.tables + tables_size before
       by true true None each one = within empty_tables true (Some none_gone) None none each one
       by true true (Some times) each one = within empty_tables true (Some none_gone) (Some times) none each one

@@ -1,5 +1,5 @@
 -- How long the text of each part of a line is.
-use Rattle.std.proofs.Common.{◌≡◌, ℕ, suc, ◌+◌, ◌*◌, ◌≤◌, List, [], ◌∷◌, length, Bool, true, false, Option, Some, None, nat_eq, cond, codes, arith}
+use Rattle.std.proofs.Common.{◌≡◌, ℕ, suc, ◌+◌, ◌*◌, ◌<◌, ◌≤◌, List, [], ◌∷◌, length, Bool, true, false, Option, Some, None, nat_eq, cond, codes, sym, subst, arith}
 use Rattle.std.specs.Prelude.{ℤ, pos, negsuc, sum_by}
 use Rattle.std.proofs.lemmas.List.Sums.{sum_by-cons}
 use Rattle.json.specs.Print.{escape_byte}
@@ -8,6 +8,7 @@ use Rattle.serde_json.specs.Written.{compact_text}
 use Rattle.tk_core.specs.declared.op.row.OpRow.{OpRow}
 use Rattle.tk_core.specs.declared.resource.row.ResourceRow.{ResourceRow}
 use Rattle.tk_core.specs.declared.task.row.TaskRow.{TaskRow}
+use Rattle.tk_core.specs.declared.task.wait.Waits.{Waits}
 use Rattle.tk_ids.specs.declared.attr.AttrInfo.{AttrInfo}
 use Rattle.tk_ids.specs.declared.attr.AttrKind.{AttrKind}
 use Rattle.tk_ids.specs.declared.attr.AttrKind.TheVariants as kinds
@@ -21,9 +22,10 @@ use Rattle.tk_ids.specs.declared.location.Location.{Location}
 use Rattle.tk_ids.specs.declared.spec.TaskKind.{TaskKind}
 use Rattle.tk_ids.specs.declared.spec.TaskKind.TheVariants.{Spawn, Blocking}
 use Rattle.tk_stream.specs.Tables.{PollCounts}
+use Rattle.tk_stream.specs.declared.tables.times.WaitTimes.{WaitTimes}
 use Rattle.tk_stream.specs.Times.{TaskTimes, filled_from}
 use Rattle.tk_stream.specs.Spelling.{list_data, number_data, optional_data, optional_text, kind_text, attr_kind_text, location_data, dropped_data, attr_data, signed_data, value_data, counts_data, filled_data, waits_data, info_data, stats_fields, stats_data, resource_data, resource_stats_fields, resource_stats_data, op_data, op_stats_fields, op_stats_data, times_members, times_data}
-use Rattle.tk_app.proofs.TextSizes.{quoted_short, decimal_short, list_short, array_short, object_short}
+use Rattle.tk_app.proofs.TextSizes.{quoted_short, decimal_short, two_digits, list_short, array_short, object_short}
 
 -- ---- values
 
@@ -102,11 +104,11 @@ info_short t = omega (
   quoted_short t.name,
 )
 
-waits_short : (sched : ℕ) (waited : Option ℕ) → length (compact_text (waits_data sched waited)) ≤ 132
+waits_short : (sched : ℕ) (waits : Option Waits) → length (compact_text (waits_data sched waits)) ≤ 197
 waits_short sched None = omega (arith, decimal_short sched)
-waits_short sched (Some waited) = omega (arith, array_short (number_data sched ∷ number_data waited ∷ []), decimal_short sched, decimal_short waited)
+waits_short sched (Some waits) = omega (arith, array_short (number_data sched ∷ number_data waits.total ∷ number_data waits.so_far ∷ []), decimal_short sched, decimal_short waits.total, decimal_short waits.so_far)
 
-pub stats_short : (s : ℕ × TaskRow) → length (compact_text (stats_data s)) + 1 ≤ 1229
+pub stats_short : (s : ℕ × TaskRow) → length (compact_text (stats_data s)) + 1 ≤ 1294
 unfolding escape_byte
 stats_short s = omega (
   arith,
@@ -124,42 +126,49 @@ stats_short s = omega (
   optional_short s.1.last_wake,
   flag_short s.1.polling,
   decimal_short s.1.polls,
-  waits_short s.1.sched s.1.waited,
+  waits_short s.1.sched s.1.waits,
   flag_short s.1.scheduled,
   decimal_short s.1.self_wakes,
   decimal_short s.1.wakes,
 )
 
-filled_short : (b : ℕ × ℕ) → length (compact_text (filled_data b)) + 1 ≤ 133
-filled_short b = omega (arith, array_short (number_data b.0 ∷ number_data b.1 ∷ []), decimal_short b.0, decimal_short b.1)
+-- a bucket that isn't empty, of the first hundred
+filled_short : (k n : ℕ) → k < 100 → length (compact_text (filled_data (k, n))) + 1 ≤ 71
+filled_short k n few = omega (arith, array_short (number_data k ∷ number_data n ∷ []), two_digits k few, decimal_short n)
 
-few_filled : (k : ℕ) (counts : List ℕ) → length (filled_from k counts) ≤ length counts
-few_filled k [] = omega arith
-few_filled k (n ∷ counts) = by (nat_eq n 0) (few_filled (k + 1) counts)
+abbrev filled_size : ℕ × ℕ → ℕ
+filled_size b = length (compact_text (filled_data b)) + 1
+
+all_filled_short : (k : ℕ) (counts : List ℕ) → k + length counts ≤ 100 → sum_by filled_size (filled_from k counts) ≤ 71 * length counts
+all_filled_short k [] few = omega arith
+all_filled_short k (n ∷ counts) few = by (nat_eq n 0) (all_filled_short (k + 1) counts (omega arith)) (filled_short k n (omega arith))
   where
-    by : (b : Bool) → length (filled_from (k + 1) counts) ≤ length counts → length (cond b (filled_from (k + 1) counts) ((k, n) ∷ filled_from (k + 1) counts)) ≤ length (n ∷ counts)
-    by true le = omega (arith, le)
-    by false le = omega (arith, le)
+    by : (b : Bool) → sum_by filled_size (filled_from (k + 1) counts) ≤ 71 * length counts → filled_size (k, n) ≤ 71 → sum_by filled_size (cond b (filled_from (k + 1) counts) ((k, n) ∷ filled_from (k + 1) counts)) ≤ 71 * length (n ∷ counts)
+    by true le here = omega (arith, le)
+    by false le here = omega (arith, le, here, sum_by-cons filled_size (k, n) (filled_from (k + 1) counts))
 
 pub same_each : {A : Type 0} (most : ℕ) (xs : List A) → sum_by (λ (x : A). most) xs ≡ most * length xs
 same_each most [] = omega arith
 same_each {A} most (x ∷ xs) = omega (arith, sum_by-cons (λ (y : A). most) x xs, same_each most xs)
 
--- a histogram of fourteen buckets
-pub times_short : (t : TaskTimes) → length t.1.counts ≡ 14 → length (compact_text (times_data t)) + 1 ≤ 2022
+polls_short : (id longest : ℕ) (counts : List ℕ) → length counts ≡ 14 → length (compact_text (times_data (id, record { longest = longest; counts = counts; waits = None }))) + 1 ≤ 1154
 unfolding escape_byte
-times_short t many =
-    let filled = filled_from 0 t.1.counts in
+polls_short id longest counts many =
+    let filled = filled_from 0 counts in
     omega (
       arith,
-      object_short (times_members (list_data filled_data filled) t.0 t.1.longest),
-      list_short filled_data (λ (b : ℕ × ℕ). 133) filled_short filled,
-      same_each 133 filled,
-      few_filled 0 t.1.counts,
+      object_short (times_members (id, record { longest = longest; counts = counts; waits = None })),
+      list_short filled_data filled_size (λ b. omega arith) filled,
+      all_filled_short 0 counts (omega (arith, many)),
       many,
-      decimal_short t.0,
-      decimal_short t.1.longest,
+      decimal_short id,
+      decimal_short longest,
     )
+
+-- a histogram of fourteen buckets, of polls alone
+pub times_short : (t : TaskTimes) → length t.1.counts ≡ 14 → t.1.waits ≡ None → length (compact_text (times_data t)) + 1 ≤ 1154
+times_short t many alone =
+    subst (λ (waits : Option WaitTimes). length (compact_text (times_data (t.0, record t.1 { waits = waits }))) + 1 ≤ 1154) (sym alone) (polls_short t.0 t.1.longest t.1.counts many)
 
 -- ---- resources and async operations
 

@@ -1,5 +1,5 @@
 -- No line that a script writes is longer than a client takes, by how long the script is.
-use Rattle.std.proofs.Common.{◌≡◌, ℕ, ◌+◌, ◌-◌, ◌*◌, ◌≤◌, List, [], ◌∷◌, ◌++◌, length, take, drop, Bool, true, false, Option, Some, None, ap, arith}
+use Rattle.std.proofs.Common.{◌≡◌, ℕ, ◌+◌, ◌-◌, ◌*◌, ◌≤◌, List, [], ◌∷◌, ◌++◌, length, take, drop, Bool, true, false, Option, Some, None, ap, sym, subst, arith}
 use Rattle.std.specs.Prelude.{filter, sum_by, IfSome}
 use Rattle.std.specs.List.{AllByRecursion, between}
 use Rattle.std.proofs.Math.Seq.{take-add}
@@ -10,6 +10,12 @@ use Rattle.tk_stream.specs.Ranges.{AreTimes}
 use Rattle.tk_stream.specs.Streams.{Sending, GoesOn, AreToldOf, lines_sent}
 use Rattle.tk_stream.specs.Tables.{TablesView, empty_tables, task_id}
 use Rattle.tk_stream.specs.Times.{TaskTimes, times_id, same_times, all_times}
+use Rattle.tk_stream.specs.declared.tables.times.PollTimes.{PollTimes}
+use Rattle.tk_stream.proofs.LinesLemmas.{map-same}
+use Rattle.tk_stream.proofs.PruneLemmas.{all_filter}
+use Rattle.tk_ledgers.specs.Times.{TimesSight}
+use Rattle.tk_aggregator.specs.Aggregates.{Pairs}
+use Rattle.tk_aggregator.specs.Timing.{ReadTimes}
 use Rattle.tk_aggregator.specs.Contents.{Content}
 use Rattle.tk_client.specs.Meaning.{greatest_line}
 use Rattle.tk_client.specs.Streams.{AreShort}
@@ -19,7 +25,7 @@ use Rattle.tk_live.specs.Runs.{RiseTo}
 use Rattle.tk_script.specs.Commands.{Line, lines_of}
 use Rattle.tk_script.specs.declared.settings.Settings.{Settings}
 use Rattle.tk_app.proofs.CourseSizes.{course_takes, course_rises}
-use Rattle.tk_app.proofs.LineSizes.{tables_size, times_count, sent_short}
+use Rattle.tk_app.proofs.LineSizes.{ArePolls, tables_size, times_count, sent_short}
 use Rattle.tk_app.proofs.Sums.{sum_where}
 use Rattle.tk_app.proofs.ToldSizes.{told_size, line_more}
 use Rattle.tk_app.proofs.WordSizes.{line_size, script_fits}
@@ -55,9 +61,33 @@ tells_few true before had s are =
     omega (arith, ap times_count are.told, some_told (times_before had s) shown, ap length are.one_each, length-map shown times_id, length-map s.tables.tasks task_id)
 tells_few false before had s none = omega (arith, ap times_count none)
 
-each_told : (tables : TablesView) (told : Option (List TaskTimes)) → IfSome told (AreToldOf tables) → IfSome told (AllByRecursion AreTimes)
-each_told tables None are = tt
-each_told tables (Some times) are = are.each
+-- a histogram has none of waits beside it
+abbrev IsAlone : TaskTimes → Type 0
+IsAlone t = t.1.waits ≡ None
+
+-- those that a script's tasks have are read from rows of polls
+read_alone : (times : List TaskTimes) (readers : List TimesSight) → Pairs ReadTimes times readers → AllByRecursion IsAlone times
+read_alone [] [] pairs = tt
+read_alone [] (s ∷ readers) pairs = absurd pairs
+read_alone (t ∷ times) [] pairs = absurd pairs
+read_alone (t ∷ times) (s ∷ readers) pairs = (ap (λ (p : PollTimes). p.waits) pairs.0.1.1, read_alone times readers pairs.1)
+
+told_alone : (timed : Bool) (before : TablesView) (had : List TaskTimes) (s : Sending) → TellsTimes timed before had s → IfSome s.told (AllByRecursion IsAlone)
+told_alone true before had s are =
+    let shown = times_led_to had before s in
+    let differs = is_told times_id same_times (times_before had s) in
+    let all : AllByRecursion IsAlone (told_times (times_before had s) shown) =
+    subst (AllByRecursion IsAlone) (sym (map-same (filter differs shown))) (all_filter IsAlone differs shown (read_alone shown are.readers are.read)) in
+    subst (λ (told : Option (List TaskTimes)). IfSome told (AllByRecursion IsAlone)) (sym are.told) all
+told_alone false before had s none = subst (λ (told : Option (List TaskTimes)). IfSome told (AllByRecursion IsAlone)) (sym none) tt
+
+all_polls : (times : List TaskTimes) → AllByRecursion AreTimes times → AllByRecursion IsAlone times → AllByRecursion ArePolls times
+all_polls [] are alone = tt
+all_polls (t ∷ times) are alone = ((are.0, alone.0), all_polls times are.1 alone.1)
+
+each_told : (tables : TablesView) (told : Option (List TaskTimes)) → IfSome told (AreToldOf tables) → IfSome told (AllByRecursion IsAlone) → IfSome told (AllByRecursion ArePolls)
+each_told tables None are alone = tt
+each_told tables (Some times) are alone = all_polls times are.each alone
 
 -- ---- the lines
 
@@ -84,7 +114,7 @@ module _ (settings : Settings) (kept : List Bool) (told : List Content) (few : I
           now,
           sum_by-take-le told_size told from,
           sum_by-take-le told_size told d.recorded,
-          sent_short before s may.fit (each_told s.tables s.told may.told) (tells_few settings.times before had s line.times),
+          sent_short before s may.fit (each_told s.tables s.told may.told (told_alone settings.times before had s line.times)) (tells_few settings.times before had s line.times),
         ),
         lines_short s.tables (times_led_to had before s) d.recorded s.seq due sent rise.1 lines.1 on.2 now,
       )

@@ -19,7 +19,8 @@ use Rattle.tk_script.specs.declared.stop.Stop.{Stop}
 use Rattle.tk_script.specs.declared.stop.Stop.TheVariants.{WriteFault}
 use Rattle.tk_report.specs.declared.view.View.{View}
 use Rattle.tk_report.specs.Uninterrupted.{ShowsTables}
-use Rattle.tk_report.specs.Views.{Views, outcome_of}
+use Rattle.tk_reading.specs.Outcomes.{outcome_of}
+use Rattle.tk_report.specs.Views.{Views}
 use Rattle.tk_report.proofs.OutcomeLemmas.{take_front, shows_tables}
 
 -- ---- a line that was cut off

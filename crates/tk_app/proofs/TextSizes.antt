@@ -1,8 +1,9 @@
 -- How long the texts of values are.
-use Rattle.std.proofs.Common.{◌≡◌, ℕ, zero, suc, ◌+◌, ◌*◌, ◌/◌, ◌%◌, ◌≤◌, List, [], ◌∷◌, ◌++◌, length, Bool, true, false, cond, nat_eq, nat_lt, decimal, refl, ap, subst, arith, length-append}
+use Rattle.std.proofs.Common.{◌≡◌, ℕ, zero, suc, ◌+◌, ◌*◌, ◌/◌, ◌%◌, ◌<◌, ◌≤◌, List, [], ◌∷◌, ◌++◌, length, Bool, true, false, cond, nat_eq, nat_lt, decimal, refl, ap, subst, arith, length-append}
 use Rattle.std.specs.Prelude.{map, sum_by}
 use Rattle.std.specs.Char.{digit_char}
 use Rattle.std.specs.Fmt.{digit_glyph, digits_onto, digits}
+use Rattle.std.proofs.lemmas.Bool.Decides.{nat_tests}
 use Rattle.std.proofs.lemmas.List.Sums.{sum_by-cons}
 use Rattle.json.specs.Print.{escape_letter, escape_byte, escape, quoted}
 use Rattle.serde_json.specs.Data.{Data, array}
@@ -42,6 +43,17 @@ onto_short (suc k) n acc = by (nat_eq (n / 10) 0) (onto_short k (n / 10) (digit_
 pub decimal_short : (n : ℕ) → length (decimal n) ≤ 64
 unfolding digits
 decimal_short n = onto_short 64 n []
+
+-- and one below 100 two
+pub two_digits : (n : ℕ) → n < 100 → length (decimal n) ≤ 2
+unfolding digits
+two_digits n small = by (nat_eq (n / 10) 0) (nat_eq (n / 10 / 10) 0) refl
+  where
+    by : (b c : Bool) → nat_eq (n / 10 / 10) 0 ≡ c
+        → length (cond b (digit_glyph false (n % 10) ∷ []) (cond c (digit_glyph false (n / 10 % 10) ∷ digit_glyph false (n % 10) ∷ []) (digits_onto 62 10 false (n / 10 / 10) (digit_glyph false (n / 10 % 10) ∷ digit_glyph false (n % 10) ∷ [])))) ≤ 2
+    by true c e = omega arith
+    by false true e = omega arith
+    by false false e = absurd (grind (arith, nat_tests))
 
 comma_short : (later : Bool) → length (comma_if later) ≤ 1
 comma_short true = omega arith

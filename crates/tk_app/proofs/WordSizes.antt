@@ -24,7 +24,7 @@ use Rattle.tk_app.proofs.Sums.{long, pieces_long, sum_map, sum_times, sum_under}
 
 -- what the item takes at most that a command makes
 abbrev pub said_size : Said → ℕ
-said_size (task at kind name) = 3534 + 6 * length name
+said_size (task at kind name) = 2729 + 6 * length name
 said_size (resource at kind concrete attrs) = 816 + (6 * length kind + 6 * length concrete) + sum_by attr_size (infos_of attrs)
 said_size (op at r source attrs) = 1030 + 6 * length source + sum_by attr_size (infos_of attrs)
 said_size (poll_op r o t name ready) = 200
@@ -112,11 +112,11 @@ kind_long k = by (bytes_eq k (codes "spawn")) (bytes_eq k (codes "blocking")) (b
     by false true spawn blocking = omega (arith, ap length (blocking refl))
     by false false spawn blocking = tt
 
-named_task : (most at : ℕ) (of : TaskKind) (n : List ℕ) → (1 ≤ length n → 3534 + 6 * length n ≤ most) → Fits said_size most (cond (is_name n) (Some (task at of n)) None)
+named_task : (most at : ℕ) (of : TaskKind) (n : List ℕ) → (1 ≤ length n → 2729 + 6 * length n ≤ most) → Fits said_size most (cond (is_name n) (Some (task at of n)) None)
 named_task most at of [] le = fits_none
 named_task most at of (c ∷ n) le = fits_if _ (fits_some (le (omega arith))) fits_none
 
-kind_task : (most at : ℕ) (k n : List ℕ) → (5 ≤ length k → 1 ≤ length n → 3534 + 6 * length n ≤ most) → Fits said_size most (option_and_then (λ of. cond (is_name n) (Some (task at of n)) None) (kind k))
+kind_task : (most at : ℕ) (k n : List ℕ) → (5 ≤ length k → 1 ≤ length n → 2729 + 6 * length n ≤ most) → Fits said_size most (option_and_then (λ of. cond (is_name n) (Some (task at of n)) None) (kind k))
 kind_task most at k n le = by (kind k) (kind_long k)
   where
     by : (o : Option TaskKind) → IfSome o (λ of. 5 ≤ length k) → Fits said_size most (option_and_then (λ of. cond (is_name n) (Some (task at of n)) None) o)

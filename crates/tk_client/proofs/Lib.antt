@@ -18,4 +18,4 @@ pub mod PlaceLemmas
 pub mod AppliedLemmas
 pub mod AbleLemmas
 pub mod LeaveLemmas
-pub mod LongPollLemmas
+pub mod AnyWarningLemmas

@@ -6,8 +6,11 @@ pub mod Meaning
 pub mod Feeding
 -- Which warnings tables have
 pub mod Warnings
--- Which tasks have a long poll, and all warnings of tables
+-- Which tasks have a long poll, or a long wait
 pub mod LongPolls
+pub mod LongWaits
+-- All warnings of tables
+pub mod AnyWarnings
 -- Which bytes are an uninterrupted stream
 pub mod Streams
 -- The numbers of faults

@@ -1,19 +1,13 @@
--- Which tasks have a long poll, and all warnings of tables.
-use Rattle.std.specs.Prelude.{ℕ, ◌-◌, ◌*◌, List, ◌++◌, Bool, ◌&&◌, max, nat_le, map, option_and_then, Option, Some, None, if◌then◌else◌}
+-- Which tasks have a long poll.
+use Rattle.std.specs.Prelude.{ℕ, ◌*◌, List, Bool, ◌&&◌, max, nat_le, Option, Some, None, if◌then◌else◌}
 use Rattle.std.specs.List.{flat_map}
 use Rattle.std.specs.Option.{option_map_or, option_to_list}
-use Rattle.tk_core.specs.declared.task.row.TaskRow.{TaskRow}
+use Rattle.tk_core.specs.Lasting.{runs_for}
 use Rattle.tk_stream.specs.declared.tables.task.Task.{Task}
 use Rattle.tk_stream.specs.Tables.{TablesView, item_with}
 use Rattle.tk_stream.specs.Times.{TaskTimes, times_id}
-use Rattle.tk_client.specs.declared.long_polls.AnyWarning.{AnyWarning}
-use Rattle.tk_client.specs.declared.long_polls.AnyWarning.TheVariants as any
 use Rattle.tk_client.specs.declared.long_polls.LongPoll.{LongPoll}
-use Rattle.tk_client.specs.Warnings.{LintsView, is_spawn, warnings_of}
-
--- how long the poll that runs has run by this moment; 0 where none runs
-abbrev pub open_run : ℕ → TaskRow → ℕ
-open_run now x = if x.polling then option_map_or (λ started. now - started) x.last_started 0 else 0
+use Rattle.tk_client.specs.Warnings.{is_spawn}
 
 -- how long the longest of a task's ended polls ran, as its histogram says; 0 where it has none
 abbrev pub longest_ended : List TaskTimes → ℕ → ℕ
@@ -21,7 +15,7 @@ longest_ended times id = option_map_or (λ (t : TaskTimes). t.1.longest) (item_w
 
 -- how long a task's longest poll ran: of those that ended, and of the one that runs, as far as it has run
 abbrev pub longest_run : ℕ → List TaskTimes → Task → ℕ
-longest_run now times t = max (longest_ended times t.info.id) (open_run now t.row)
+longest_run now times t = max (longest_ended times t.info.id) (runs_for t.row now)
 
 -- a poll of the task ran for so many milliseconds, or longer. Only tasks of kind spawn are warned of
 abbrev pub has_long_poll : ℕ → ℕ → List TaskTimes → Task → Bool
@@ -35,18 +29,3 @@ long_poll_of limit now times t =
 -- the long polls of tables, in table order
 abbrev pub long_polls_in : ℕ → TablesView → List TaskTimes → List LongPoll
 long_polls_in limit tables times = flat_map (λ t. option_to_list (long_poll_of limit tables.now times t)) tables.tasks
-
--- ---- all warnings
-
--- the long poll of a task, where polls of so many milliseconds are asked for
-abbrev pub long_poll_asked : Option ℕ → ℕ → List TaskTimes → Task → Option LongPoll
-long_poll_asked asked now times t = option_and_then (λ limit. long_poll_of limit now times t) asked
-
--- all warnings of a task: its long poll comes last
-abbrev pub all_warnings_of : LintsView → Option ℕ → ℕ → List TaskTimes → Task → List AnyWarning
-all_warnings_of lints asked now times t =
-    map any.Usual (warnings_of lints now t) ++ map any.LongPoll (option_to_list (long_poll_asked asked now times t))
-
--- all warnings of tables: those of each task, in table order
-abbrev pub all_warnings_in : LintsView → Option ℕ → TablesView → List TaskTimes → List AnyWarning
-all_warnings_in lints asked tables times = flat_map (all_warnings_of lints asked tables.now times) tables.tasks

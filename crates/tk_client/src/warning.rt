@@ -31,7 +31,8 @@ pub struct Warning {
     pub kind: WarningKind,
 }
 
-pub(crate) fn is_spawn(kind: TaskKind) -> bool
+/// Whether an executor polls tasks of this kind in turn.
+pub fn is_spawn(kind: TaskKind) -> bool
     ensures { result ≡ spec.is_spawn kind }
 {
     match kind {
@@ -40,17 +41,19 @@ pub(crate) fn is_spawn(kind: TaskKind) -> bool
     }
 }
 
-// In 128 bits neither product is too large.
-fn wakes_itself(percent: u64, row: &TaskRow) -> bool
+/// Whether more than so many of a hundred wakes came from within the task of a row.
+pub fn wakes_itself(percent: u64, row: &TaskRow) -> bool
     requires { percent ≤ 100 }
     ensures { result ≡ spec.wakes_itself percent row.now }
 {
+    // In 128 bits neither product is too large.
     let wakes = u128::from(row.wakes);
     let own = u128::from(row.self_wakes);
     wakes > 0 && 100 * own > u128::from(percent) * wakes
 }
 
-pub(crate) fn has_lost_waker(row: &TaskRow) -> bool
+/// Whether nobody will wake the task of a row: it is open, neither polled nor scheduled, and has no waker left.
+pub fn has_lost_waker(row: &TaskRow) -> bool
     ensures { result ≡ spec.has_lost_waker row.now }
 {
     row.dropped.is_none() && !row.polling && !row.scheduled && row.clones == row.drops
@@ -66,7 +69,8 @@ fn has_run(limit: u64, now: u64, started: Option<u64>) -> bool
     }
 }
 
-fn has_never_yielded(limit: u64, now: u64, row: &TaskRow) -> bool
+/// Whether the task of a row is in its first poll, which has run for as long as this limit, in nanoseconds.
+pub fn has_never_yielded(limit: u64, now: u64, row: &TaskRow) -> bool
     ensures { result ≡ spec.has_never_yielded limit now row.now }
 {
     row.polling && row.polls == 1 && has_run(limit, now, row.last_started)

@@ -9,6 +9,7 @@ pub mod Legal
 pub mod Polls
 pub mod Task
 pub mod TaskMeaning
+pub mod Lasting
 -- Attributes, resources and async operations
 pub mod Attributes
 pub mod Resource

@@ -61,3 +61,7 @@ any_since test mark xs = list_any test (after_last mark xs)
 -- the sum of a measure of each item and those before it, capped
 unfoldable pub sum_of : {X : Type 0} → (List X → X → ℕ) → List X → ℕ
 sum_of measure xs = capped (sum_by (λ p. measure p.0 p.1) (each_with_before xs))
+
+-- the sum of such a measure over the items after the last that passes the mark (after the start, where none does), at most a greatest number
+unfoldable pub sum_since : {X : Type 0} → (List X → X → ℕ) → (X → Bool) → ℕ → List X → ℕ
+sum_since measure mark most xs = min (sum_by (λ p. measure p.0 p.1) (after_last (λ p. mark p.1) (each_with_before xs))) most

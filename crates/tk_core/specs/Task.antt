@@ -1,7 +1,7 @@
 -- What a history of a task means: its row, which is tokio-console's task statistics, and the answer to a further call.
-use Rattle.std.specs.Prelude.{◌≡◌, ℕ, ◌+◌, ◌-◌, ◌^◌, max, Bool, true, false, not, ◌&&◌, ◌||◌, ◌==◌, if◌then◌else◌, List, Option, Some, None, unwrap_or, is_some}
+use Rattle.std.specs.Prelude.{◌≡◌, ℕ, ◌+◌, ◌-◌, ◌^◌, min, max, Bool, true, false, not, ◌&&◌, ◌||◌, ◌==◌, if◌then◌else◌, List, Option, Some, None, unwrap_or, is_some}
 use Rattle.std.specs.Option.{option_map, option_map_or}
-use Rattle.tk_core.specs.Lists.{capped, any_of, any_since, count_of, first_of, last_of, greatest_of, sum_of}
+use Rattle.tk_core.specs.Lists.{capped, any_of, any_since, count_of, first_of, last_of, greatest_of, sum_of, sum_since}
 use Rattle.tk_core.specs.Polls.{is_start, is_polling, run_time}
 use Rattle.tk_core.specs.Fold.{Kind}
 use Rattle.tk_core.specs.declared.reply.Refusal.{Refusal}
@@ -11,6 +11,7 @@ use Rattle.tk_core.specs.declared.reply.WakeReply.TheVariants as woken
 use Rattle.tk_core.specs.declared.reply.Reply.{Reply}
 use Rattle.tk_core.specs.declared.reply.Reply.TheVariants.{Done, Number, Woken, Shown}
 use Rattle.tk_core.specs.declared.task.row.TaskRow.{TaskRow}
+use Rattle.tk_core.specs.declared.task.wait.Waits.{Waits}
 use Rattle.tk_core.specs.declared.task.call.TaskCall.{TaskCall}
 use Rattle.tk_core.specs.declared.task.call.TaskCall.TheVariants.{PollStart, PollEnd, Close, CloneWaker, WakeVal, WakeRef, Release, Enlist, Read}
 
@@ -95,6 +96,18 @@ is_waiting calls = is_scheduled calls && not (is_polling start_at end_at calls)
 abbrev pub stretch_time : ℕ → List TaskCall → TaskCall → ℕ
 stretch_time created before call = option_map_or (λ m. if is_waiting before then m - ready_since created before else 0) (waits_to call) 0
 
+-- a single wait is counted up to 2^56 - 1, which are 2.2 years
+abbrev pub capped_wait : ℕ → ℕ
+capped_wait n = min n (2 ^ 56 - 1)
+
+-- an end of a poll
+abbrev pub ends_poll : TaskCall → Bool
+ends_poll call = is_some (end_at call)
+
+-- what is counted of a task's waits: all of its stretches; and those of its last wait, which are the ones since the last end of a poll
+abbrev pub counted_waits : ℕ → List TaskCall → Waits
+counted_waits created calls = record { total = sum_of (stretch_time created) calls; so_far = sum_since (stretch_time created) ends_poll (2 ^ 56 - 1) calls }
+
 -- the row that accepted calls leave; its waits are counted where the opening row counts them
 unfoldable pub row_of : TaskRow → List TaskCall → TaskRow
 row_of opening calls = record {
@@ -112,7 +125,7 @@ row_of opening calls = record {
   drops = count_of is_drop calls;
   handles = count_of draws_handle calls;
   sched = sum_of (wait_time opening.created) calls;
-  waited = option_map (λ none. sum_of (stretch_time opening.created) calls) opening.waited;
+  waits = option_map (λ none. counted_waits opening.created calls) opening.waits;
   polling = is_polling start_at end_at calls;
   scheduled = is_scheduled calls;
 }
@@ -125,17 +138,49 @@ waits_since row = max row.created (max (unwrap_or row.last_wake 0) (unwrap_or ro
 abbrev pub lasting : TaskRow → ℕ → ℕ
 lasting row now = if row.polling then 0 else if row.scheduled then now - waits_since row else 0
 
--- how long it has waited in all, where that is counted, with what lasts up to a moment
+-- what is counted of waits, with what lasts
+abbrev pub with_more : ℕ → Waits → Waits
+with_more lasts waits = record { total = capped (waits.total + lasts); so_far = capped_wait (waits.so_far + lasts) }
+
+-- what is counted of its waits, where they are, with what lasts up to a moment
+abbrev pub waits_until : TaskRow → ℕ → Option Waits
+waits_until row now = option_map (with_more (lasting row now)) row.waits
+
+-- what is left of that after an end of a poll: nothing of the wait before that poll
+abbrev pub after_end : Waits → Waits
+after_end waits = record waits { so_far = 0 }
+
+-- how long it has waited in all, where that is counted, up to its last start, wake or close
+abbrev pub waited_of : TaskRow → Option ℕ
+waited_of row = option_map (λ waits. waits.total) row.waits
+
+-- and with what lasts up to a moment
 abbrev pub waited_until : TaskRow → ℕ → Option ℕ
-waited_until row now = option_map (λ waited. capped (waited + lasting row now)) row.waited
+waited_until row now = option_map (λ waits. waits.total) (waits_until row now)
+
+-- a task that waits for a poll, by its row: scheduled, not polled and not closed
+abbrev pub awaits_poll : TaskRow → Bool
+awaits_poll row = row.scheduled && not row.polling && not (is_some row.dropped)
+
+-- since when a task that waits has waited, where that is counted: before the last of its moments by what was counted of this wait
+abbrev pub waiting_since : TaskRow → Option ℕ
+waiting_since row = if awaits_poll row then option_map (λ waits. waits_since row - waits.so_far) row.waits else None
+
+-- how long a task that waits has waited at a moment, where that is counted: the wait that a start of a poll would end then, at most 2^56 - 1
+abbrev pub wait_ended_by : TaskRow → ℕ → Option ℕ
+wait_ended_by row now = if awaits_poll row then option_map (λ waits. waits.so_far) (waits_until row now) else None
+
+-- no wait was counted yet
+abbrev pub no_waits : Waits
+no_waits = record { total = 0; so_far = 0 }
 
 -- the row before any call, of a task whose waits are not counted
 abbrev pub opening_row : ℕ → TaskRow
-opening_row created = record { created = created; dropped = None; polls = 0; first_poll = None; last_started = None; last_ended = None; busy = 0; wakes = 0; self_wakes = 0; last_wake = None; clones = 0; drops = 0; handles = 0; sched = 0; waited = None; polling = false; scheduled = true }
+opening_row created = record { created = created; dropped = None; polls = 0; first_poll = None; last_started = None; last_ended = None; busy = 0; wakes = 0; self_wakes = 0; last_wake = None; clones = 0; drops = 0; handles = 0; sched = 0; waits = None; polling = false; scheduled = true }
 
 -- and of one whose waits are counted
 abbrev pub counting_row : ℕ → TaskRow
-counting_row created = record (opening_row created) { waited = Some 0 }
+counting_row created = record (opening_row created) { waits = Some no_waits }
 
 -- ---- the answer
 
@@ -188,9 +233,9 @@ task_kind = record { row_of = row_of; refusal_of = refusal_of; reply_of = reply_
 
 -- ---- callers
 
--- an opening row is that of its creation, with 0 where waits are counted
+-- an opening row is that of its creation, with no wait where waits are counted
 abbrev pub IsOpening : TaskRow → Type 0
-IsOpening row = row ≡ record (opening_row row.created) { waited = option_map (λ waited. 0) row.waited }
+IsOpening row = row ≡ record (opening_row row.created) { waits = option_map (λ waits. no_waits) row.waits }
 
 -- the owner makes every call but those that use a waker up
 abbrev pub owner_may : TaskCall → Bool

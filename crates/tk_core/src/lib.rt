@@ -3,7 +3,7 @@
 //! Nothing here takes memory, waits or reads a clock. The row of an item is the fold of its history, as
 //! tokio-console's statistics define it; `specs/Lib.antt` gives the definitions in reading order.
 //!
-//! - [`TaskRow`], [`TaskCall`]: a task's statistics, and the calls on it.
+//! - [`TaskRow`], [`TaskCall`]: a task's statistics, and the calls on it; [`Waits`], [`WaitSoFar`]: what is counted of its waits.
 //! - [`ResourceRow`], [`ResourceCall`]: a resource's.
 //! - [`OpRow`], [`OpCall`]: an async operation's.
 //! - [`TimesRow`], [`TimesCall`]: a histogram of times.
@@ -35,5 +35,5 @@ pub use op::{OpCall, OpRow};
 pub use reply::{Refusal, Reply, WakeReply};
 pub use resource::{ResourceCall, ResourceRow};
 pub use sequential::Sequential;
-pub use task::{TaskCall, TaskRow};
+pub use task::{TaskCall, TaskRow, WaitSoFar, Waits};
 pub use times::{TimesCall, TimesRow};

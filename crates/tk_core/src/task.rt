@@ -10,10 +10,13 @@
 //! A task opens scheduled. A closed task is neither. `specs/Task.antt` says which calls lead from one state to the next.
 
 mod call;
+mod lasting;
 mod row;
 mod sequential;
 mod step;
+mod wait;
 mod words;
 
 pub use call::TaskCall;
 pub use row::TaskRow;
+pub use wait::{WaitSoFar, Waits};

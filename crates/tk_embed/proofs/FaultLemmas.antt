@@ -8,7 +8,6 @@ use Rattle.tk_ids.specs.Ids.{is_id}
 use Rattle.tk_core.specs.OpWords as op_words
 use Rattle.tk_core.specs.ResourceWords as resource_words
 use Rattle.tk_core.specs.TaskWords as task_words
-use Rattle.tk_core.specs.TimesWords as times_words
 use Rattle.tk_stream.specs.declared.tables.op.Op.{Op}
 use Rattle.tk_stream.specs.declared.tables.resource.Resource.{Resource}
 use Rattle.tk_stream.specs.declared.tables.task.Task.{Task}
@@ -29,7 +28,7 @@ use Rattle.tk_embed.specs.declared.fault.Fault.TheVariants as faults
 use Rattle.tk_embed.specs.declared.fault.Reason.{Reason}
 use Rattle.tk_embed.specs.declared.fault.Reason.TheVariants.{Id, Name, Piece, Attributes, Row, Twice}
 use Rattle.tk_embed.specs.Entries.{Given, told_of, task_shown, resource_shown, op_shown, task_entry_shown, resource_entry_shown, op_entry_shown, count_entry_shown, times_entry_shown}
-use Rattle.tk_embed.specs.Faults.{OfBad, IsNoId, HasBadPiece, HasBadAttrs, HasBadInfo, NoBadAttrs, HasNoRow, stands_before, words_at, IsBadEntry, HasBadTaskInfo, HasBadResourceInfo, HasBadOpInfo, IsBadTask, IsBadResource, IsBadOp, IsBadCounts, IsBadCount, IsBadAt, IsFaultOf, IsFault, HasBadTask, IsBadTimes, IsTimesFaultOf, IsTimesFault, IsTimedFault, told_count, tells_too_many, fault_at, reaches_out, is_no_name, is_parent, attr_pieces, attrs_pieces}
+use Rattle.tk_embed.specs.Faults.{OfBad, IsNoId, HasBadPiece, HasBadAttrs, HasBadInfo, NoBadAttrs, HasNoRow, stands_before, words_at, IsBadEntry, HasBadTaskInfo, HasBadResourceInfo, HasBadOpInfo, IsBadTask, IsBadResource, IsBadOp, IsBadCounts, IsBadCount, IsBadAt, IsFaultOf, IsFault, IsBadHistogram, IsBadTimes, IsTimesFaultOf, IsTimesFault, IsTimedFault, told_count, tells_too_many, fault_at, reaches_out, is_no_name, is_parent, attr_pieces, attrs_pieces}
 
 -- ---- tests of lists
 
@@ -136,13 +135,16 @@ count_at now entries i d counts b within same h =
     let e : CountEntry = get_or entries i d in
     of_bad _ _ (λ r g. (e, slice_get-get_or entries i d within, counted e.resource _ _ (twice (λ (c : PollCounts). c) (count_entry_shown now) (λ c. c.0) e.resource counts (take i entries) (map-same counts ∙ same) ∙ counts_before now (take i entries) e.resource) r g)) b h
 
+same_histogram : (now : Bool) (e : TimesEntry) (s t : Bool) → s ≡ t → (r : Reason) → IsBadHistogram now s e r → IsBadHistogram now t e r
+same_histogram now e s t same r h = subst (λ (b : Bool). IsBadHistogram now b e r) same h
+
 pub times_at : (now : Bool) (entries : List TimesEntry) (i : ℕ) (d : TimesEntry) (table : List TaskTimes) (b : Bad)
     → i < length entries → table ≡ map (times_entry_shown now) (take i entries)
-    → OfBad (IsBadEntry times_words.words_of (words_at now (get_or entries i d).row (get_or entries i d).told) (is_some (item_with times_id (get_or entries i d).task table)) (HasBadTask (get_or entries i d).task)) b
+    → OfBad (IsBadHistogram now (is_some (item_with times_id (get_or entries i d).task table)) (get_or entries i d)) b
     → OfBad (IsBadAt (IsBadTimes now) entries i) b
 times_at now entries i d table b within same h =
     let e : TimesEntry = get_or entries i d in
-    of_bad _ _ (λ r g. (e, slice_get-get_or entries i d within, same_after times_words.words_of (words_at now e.row e.told) _ _ (HasBadTask e.task) (twice (λ (t : TaskTimes). t) (times_entry_shown now) (λ t. t.0) e.task table (take i entries) (map-same table ∙ same)) r g)) b h
+    of_bad _ _ (λ r g. (e, slice_get-get_or entries i d within, same_histogram now e _ _ (twice (λ (t : TaskTimes). t) (times_entry_shown now) (λ t. t.0) e.task table (take i entries) (map-same table ∙ same)) r g)) b h
 
 -- ---- faults
 

@@ -1,10 +1,8 @@
 -- The histograms of a program's stream: each line leads from those before it to those after it.
 use Rattle.std.proofs.Common.{◌≡◌, ℕ, List, [], ◌∷◌, ◌++◌, Bool, true, false, cond, nat_eq, Option, Some, None, refl, ap, ap₂, sym, subst, ◌∙◌}
 use Rattle.std.specs.Prelude.{map, filter, not, is_none, unwrap_or, option_map, option_and_then, if◌then◌else◌}
-use Rattle.std.specs.Cmp.Lexicographic.{pointwise}
 use Rattle.std.specs.List.{AllByRecursion, IsDistinct}
 use Rattle.std.specs.Option.{option_map_or}
-use Rattle.std.proofs.lemmas.Bool.{and_parts, eqb-true}
 use Rattle.std.proofs.lemmas.List.{append-nil}
 use Rattle.std.proofs.lemmas.Option.{same_Some}
 use Rattle.tk_stream.specs.Applied.{times_kind, new_items, items_told, told_item, times_told, times_after, BeginWith}
@@ -15,25 +13,11 @@ use Rattle.tk_stream.specs.Times.{TaskTimes, times_id, same_times, all_times}
 use Rattle.tk_stream.proofs.AppliedLemmas.{IsKind, leads}
 use Rattle.tk_stream.proofs.GoneLemmas.{once_kept, staying_all}
 use Rattle.tk_stream.proofs.LinesLemmas.{IsFound, each_found, map-same}
+use Rattle.tk_stream.proofs.TimesLemmas.{times_agree}
 use Rattle.tk_stream.proofs.PruneLemmas.{all_filter}
 use Rattle.tk_embed.specs.Publishing.{TimesGiven, ChangeTimes, AreAllTimes, How, changes, everything, leaving, removes, Publishing, PublishesChanges, PublishesAll, PublishesLeaving, IsPublishedAs, ArePublished, TimesGoOn, told_by, sending_of, sendings, times_published}
 
 -- ---- a histogram is told whole
-
-lists_agree : (xs ys : List ℕ) → pointwise nat_eq xs ys ≡ true → xs ≡ ys
-lists_agree [] [] h = refl
-lists_agree [] (y ∷ ys) h = absurd cc
-lists_agree (x ∷ xs) [] h = absurd cc
-lists_agree (x ∷ xs) (y ∷ ys) h = let p = and_parts (nat_eq x y) (pointwise nat_eq xs ys) h in ap₂ (λ z zs. z ∷ zs) (eqb-true x y p.0) (lists_agree xs ys p.1)
-
-pub times_agree : (a b : TaskTimes) → same_times a b ≡ true → a ≡ b
-times_agree a b h =
-    let p = and_parts _ (pointwise nat_eq a.1.counts b.1.counts) h in
-    let q = and_parts (nat_eq a.0 b.0) (nat_eq a.1.longest b.1.longest) p.0 in
-    let id : a.0 ≡ b.0 = eqb-true a.0 b.0 q.0 in
-    let longest : a.1.longest ≡ b.1.longest = eqb-true a.1.longest b.1.longest q.1 in
-    let counts : a.1.counts ≡ b.1.counts = lists_agree a.1.counts b.1.counts p.1 in
-    λ i. (id i, record { longest = longest i; counts = counts i })
 
 pub times_are : IsKind times_kind all_times same_times
 times_are = record {

@@ -4,4 +4,6 @@ pub mod LeftOutLemmas
 pub mod PublishingLemmas
 pub mod FaultLemmas
 pub mod TimedLemmas
+pub mod WaitLemmas
+pub mod SumLemmas
 pub mod HistogramLemmas

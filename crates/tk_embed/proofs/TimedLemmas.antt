@@ -33,7 +33,7 @@ use Rattle.tk_embed.specs.Timed.{accepted_of, runs_of, AreTimesOf, StayTimes}
 -- ---- the accepted calls, and the polls that they end
 
 -- one call more
-accepted_then : (opening : TaskRow) (calls : List TaskCall) (call : TaskCall)
+pub accepted_then : (opening : TaskRow) (calls : List TaskCall) (call : TaskCall)
     → accepted_of opening (calls ++ call ∷ []) ≡ accepted_of opening calls ++ cond (is_accepted (reply_after task_kind opening calls call)) (call ∷ []) []
 unfolding reply_after
 accepted_then opening calls call =

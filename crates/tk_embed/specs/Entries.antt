@@ -17,6 +17,7 @@ use Rattle.tk_stream.specs.declared.tables.op.Op.{Op}
 use Rattle.tk_stream.specs.declared.tables.resource.Resource.{Resource}
 use Rattle.tk_stream.specs.declared.tables.task.Task.{Task}
 use Rattle.tk_stream.specs.declared.tables.times.PollTimes.{PollTimes}
+use Rattle.tk_stream.specs.declared.tables.times.WaitTimes.{WaitTimes}
 use Rattle.tk_stream.specs.Times.{TaskTimes}
 use Rattle.tk_embed.specs.declared.entries.AttrEntry.{AttrEntry}
 use Rattle.tk_embed.specs.declared.entries.CountEntry.{CountEntry}
@@ -123,13 +124,21 @@ op_entry_shown text attrs now e = (op_info text attrs e, if now then e.row else 
 abbrev pub count_entry_shown : Bool → CountEntry → PollCounts
 count_entry_shown now e = if now then (e.resource, e.ready, e.pending) else (e.resource, e.told_ready, e.told_pending)
 
--- the histogram that words show: after the handles the longest time, and then the counts. All words are a row's
-abbrev pub times_of_words : List ℕ → PollTimes
-times_of_words words = record { longest = get_or words 1 0; counts = drop 2 words }
+-- the histogram of waits that words show: after the handles the longest time, and then the counts. All words are a row's
+abbrev pub waits_of_words : List ℕ → WaitTimes
+waits_of_words words = record { longest = get_or words 1 0; counts = drop 2 words }
+
+-- and that of polls, with these waits beside it
+abbrev pub times_of_words : Option WaitTimes → List ℕ → PollTimes
+times_of_words waits words = record { longest = get_or words 1 0; counts = drop 2 words; waits = waits }
+
+-- of the waits beside a histogram
+abbrev pub waits_entry_shown : Bool → TimesEntry → Option WaitTimes
+waits_entry_shown now e = if e.waited then Some (waits_of_words (if now then e.waits else e.told_waits)) else None
 
 -- of a histogram
 abbrev pub times_entry_shown : Bool → TimesEntry → TaskTimes
-times_entry_shown now e = (e.task, times_of_words (if now then e.row else e.told))
+times_entry_shown now e = (e.task, times_of_words (waits_entry_shown now e) (if now then e.row else e.told))
 
 -- ---- tables
 

@@ -186,19 +186,23 @@ IsBadCounts id twice Row = ⊥
 abbrev pub IsBadCount : List CountEntry → CountEntry → Reason → Type 0
 IsBadCount before e = IsBadCounts e.resource (stands_before (λ (b : CountEntry). b.resource) before e.resource)
 
--- what the entry of a histogram says of its task is bad: the id is none
-abbrev pub HasBadTask : ℕ → Reason → Type 0
-HasBadTask id Id = is_id id ≡ false
-HasBadTask id Name = ⊥
-HasBadTask id Piece = ⊥
-HasBadTask id Attributes = ⊥
-HasBadTask id Row = ⊥
-HasBadTask id Twice = ⊥
+-- no row has the words of a histogram, or those of the waits that it says are beside it
+abbrev pub HasBadRows : Bool → TimesEntry → Type 0
+HasBadRows now e =
+    HasNoRow times_words.words_of (words_at now e.row e.told) ⊎ ((e.waited ≡ true) × HasNoRow times_words.words_of (words_at now e.waits e.told_waits))
 
--- the entry of a histogram: its task's id is none, or stands before
+-- the entry of a histogram is none by this reason: its task's id is none, or stands before, or its words are no row's
+abbrev pub IsBadHistogram : Bool → Bool → TimesEntry → Reason → Type 0
+IsBadHistogram now twice e Id = is_id e.task ≡ false
+IsBadHistogram now twice e Name = ⊥
+IsBadHistogram now twice e Piece = ⊥
+IsBadHistogram now twice e Attributes = ⊥
+IsBadHistogram now twice e Row = HasBadRows now e
+IsBadHistogram now twice e Twice = twice ≡ true
+
+-- the same, after the entries that stand before it
 abbrev pub IsBadTimes : Bool → List TimesEntry → TimesEntry → Reason → Type 0
-IsBadTimes now before e =
-    IsBadEntry times_words.words_of (words_at now e.row e.told) (stands_before (λ (b : TimesEntry). b.task) before e.task) (HasBadTask e.task)
+IsBadTimes now before e = IsBadHistogram now (stands_before (λ (b : TimesEntry). b.task) before e.task) e
 
 -- ---- lists of entries
 

@@ -1,6 +1,7 @@
 pub mod Attr
 pub mod Border
 pub mod Timed
+pub mod Waits
 pub mod Entries
 pub mod Faults
 pub mod Lines

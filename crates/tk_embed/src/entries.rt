@@ -75,13 +75,17 @@ pub struct CountEntry {
     pub told_pending: u64,
 }
 
-/// The histogram of a task's poll times: the words of its row. `told` is as of the others.
+/// The histogram of a task's poll times: the words of its row. Where `waited`, the words at `waits` are those of the histogram of its waits;
+/// otherwise they say nothing. `told` and `told_waits` are as `told` of the others.
 #[repr(C)]
 #[derive(Clone, Copy)]
 pub struct TimesEntry {
     pub row: [u64; 16],
     pub told: [u64; 16],
+    pub waits: [u64; 16],
+    pub told_waits: [u64; 16],
     pub task: u64,
+    pub waited: bool,
 }
 
 /// What a line has beside its items: its number, its moment, in nanoseconds, the totals of what was dropped, how many entries of

@@ -20,3 +20,4 @@ mod tables;
 mod task;
 mod timed;
 mod times;
+mod waits;

@@ -3,7 +3,7 @@ ghost use Rattle.std.specs.Prelude.{◌≡◌, ◌∷◌, ◌++◌, [], None, is
 ghost use Rattle.tk_core.specs.OpWords as op_words;
 ghost use Rattle.tk_core.specs.ResourceWords as resource_words;
 ghost use Rattle.tk_core.specs.TaskWords as task_words;
-ghost use Rattle.tk_stream.specs.Tables.{item_with, counts_id, empty_tables, task_with, resource_with, op_with, with_op};
+ghost use Rattle.tk_stream.specs.Tables.{item_with, counts_id, empty_tables, task_with, resource_with, op_with, with_op, with_task};
 ghost use Rattle.tk_embed.specs.Entries as spec;
 ghost use Rattle.tk_embed.specs.Faults as faults;
 
@@ -12,7 +12,7 @@ use crate::fault::{Bad, Fault, Reason};
 use crate::infos::{op_info, resource_id, resource_info, task_info};
 use std::alloc::Global;
 use tk_core::{OpRow, ResourceRow, TaskRow};
-use tk_ids::{Dropped, OpInfo, ResourceId};
+use tk_ids::{Dropped, OpInfo, ResourceId, TaskInfo};
 use tk_stream::Tables;
 
 fn task_row(entry: &TaskEntry, now: bool) -> Result<TaskRow, Bad>
@@ -24,6 +24,18 @@ fn task_row(entry: &TaskEntry, now: bool) -> Result<TaskRow, Bad>
     match TaskRow::from_words(words) {
         Some(row) => Ok(row),
         None => Err(Bad::Entry(Reason::Row)),
+    }
+}
+
+// Puts a task last, which is not there.
+fn push_task(tables: &mut Tables, info: TaskInfo, row: TaskRow) -> Result<(), Bad>
+    requires { task_with info.id tables.old.tasks ≡ None }
+    ensures ok { OnOk result (tables.new ≡ with_task tables.old info row) }
+    ensures err { IfErr result (λ bad. bad ≡ Bad.Memory) }
+{
+    match tables.add_task(info, row) {
+        Ok(()) => Ok(()),
+        Err(_) => Err(Bad::Memory),
     }
 }
 
@@ -42,11 +54,10 @@ fn add_task(
     if tables.task(info.id).is_some() {
         return Err(Bad::Entry(Reason::Twice));
     }
-    let row = task_row(entry, now)?;
-    let Ok(()) = tables.add_task(info, row) else {
-        return Err(Bad::Memory);
-    };
-    Ok(())
+    match task_row(entry, now) {
+        Ok(row) => push_task(tables, info, row),
+        Err(bad) => Err(bad),
+    }
 }
 
 fn resource_row(entry: &ResourceEntry, now: bool) -> Result<ResourceRow, Bad>

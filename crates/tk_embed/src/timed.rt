@@ -30,16 +30,26 @@ fn row_in(words: &[u64; 16]) -> Result<TimesRow, Bad>
     }
 }
 
-fn times_row(entry: &TimesEntry, now: bool) -> Result<TimesRow, Bad>
-    ensures ok { IfOk result (λ row. times_words.words_of row ≡ faults.words_at now entry.now.row entry.now.told) }
+// The row of these words, or of those that were told.
+fn row_at(now: bool, words: &[u64; 16], told: &[u64; 16]) -> Result<TimesRow, Bad>
+    ensures ok { IfOk result (λ row. times_words.words_of row ≡ faults.words_at now words.now told.now) }
     ensures err { IfErr result (λ bad. (bad ≡ Bad.Entry Reason.Row)
-        × faults.HasNoRow times_words.words_of (faults.words_at now entry.now.row entry.now.told)) }
+        × faults.HasNoRow times_words.words_of (faults.words_at now words.now told.now)) }
 {
-    if now {
-        row_in(&entry.row)
-    } else {
-        row_in(&entry.told)
+    if now { row_in(words) } else { row_in(told) }
+}
+
+// The histogram of an entry, with that of the waits that are beside it.
+fn shown(entry: &TimesEntry, now: bool) -> Result<PollTimes, Bad>
+    ensures ok { IfOk result (λ times. times ≡ (spec.times_entry_shown now entry.now).1) }
+    ensures err { IfErr result (λ bad. (bad ≡ Bad.Entry Reason.Row) × faults.HasBadRows now entry.now) }
+{
+    let polls = row_at(now, &entry.row, &entry.told)?;
+    if !entry.waited {
+        return Ok(PollTimes::of(&polls));
     }
+    let waits = row_at(now, &entry.waits, &entry.told_waits)?;
+    Ok(PollTimes::of_both(&polls, &waits))
 }
 
 fn add_times(
@@ -48,15 +58,14 @@ fn add_times(
     now: bool,
 ) -> Result<(), Bad>
     ensures ok { OnOk result (table.new ≡ table.old ++ spec.times_entry_shown now entry.now ∷ []) }
-    ensures err { IfErr result (faults.OfBad (faults.IsBadEntry times_words.words_of (faults.words_at now entry.now.row entry.now.told)
-        (is_some (item_with times_id entry.now.task table.old)) (faults.HasBadTask entry.now.task))) }
+    ensures err { IfErr result (faults.OfBad (faults.IsBadHistogram now (is_some (item_with times_id entry.now.task table.old)) entry.now)) }
 {
     let id = task_id(entry.task)?;
     if table.with_id(id.value()).is_some() {
         return Err(Bad::Entry(Reason::Twice));
     }
-    let row = times_row(entry, now)?;
-    match table.push((id, PollTimes::of(&row))) {
+    let times = shown(entry, now)?;
+    match table.push((id, times)) {
         Ok(()) => Ok(()),
         Err(_) => Err(Bad::Memory),
     }
@@ -153,7 +162,7 @@ fn timed_line(
 }
 
 /// The line that leads from the tables of what was told to the tables of what is, and tells the histograms, the first `told` of which
-/// were told, with its line end, written to the front of `out`. It is of version 3, or of version 4 if it tells a row that counts waits.
+/// were told, with its line end, written to the front of `out`. It is of version 3, or of version 4 if it tells waits.
 #[unsafe(no_mangle)]
 pub extern "C" fn taskscope_timed_line(
     alloc: Global,

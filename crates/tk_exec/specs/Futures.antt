@@ -39,10 +39,20 @@ pub record Waits (had : Option TaskSight) (old : Scoped) (kept : Option TaskSigh
   pub lends : Lends had old kept lent
   pub woken : (new ≡ lent) ⊎ WakesItself lent new
 
--- a ready poll makes no call of the scope and releases the waker; a pending one waits
-abbrev pub lent_polls : {F A : Type 0} → Lent F → Scoped → Poll A → Lent F → Scoped → Type 0
-lent_polls work scope (Ready x) after scope' = (after.waker ≡ None) × IsReleased work.waker after.released × (scope' ≡ scope)
-lent_polls work scope Pending after scope' = Waits work.waker scope after.waker scope'
+module _ {F A : Type 0} (polls : F → Poll A → F → Type 0) where
+  -- one poll of the future is ready with this, and the future is let go
+  abbrev pub PollsLast : Option F → A → Option F → Type 0
+  PollsLast old x new = (before : F) × (after : F) × (old ≡ Some before) × polls before (Ready x) after × (new ≡ None)
+
+  -- one poll of the future is pending, and the future is kept. Where it was let go, nothing is polled
+  abbrev pub PollsOnce : Option F → Option F → Type 0
+  PollsOnce (Some before) new = (after : F) × (new ≡ Some after) × polls before Pending after
+  PollsOnce None new = new ≡ None
+
+  -- a poll is one of the future. A ready one makes no call of the scope and releases the waker; a pending one waits
+  abbrev pub lent_polls : Lent F → Scoped → Poll A → Lent F → Scoped → Type 0
+  lent_polls work scope (Ready x) after scope' = PollsLast work.future x after.future × (after.waker ≡ None) × IsReleased work.waker after.released × (scope' ≡ scope)
+  lent_polls work scope Pending after scope' = PollsOnce work.future after.future × Waits work.waker scope after.waker scope'
 
 -- one wake from outside by this waker, at this moment
 pub record WakesFromOutside (old : TaskSight) (moment : ℕ) (new : TaskSight) : Type 0 where

@@ -11,9 +11,9 @@ ghost use Rattle.tk_exec.specs.declared.error.ExecError.TheVariants.{Memory};
 use crate::error::ExecError;
 use crate::future_work::FutureWork;
 use crate::instrumented::Instrumented;
+use crate::pollable::Pollable;
 use crate::slot::Slot;
 use crate::work::{Clock, Work};
-use futures::Future;
 use indexmap::IndexMap;
 use slab::Slab;
 use std::alloc::Global;
@@ -267,7 +267,7 @@ impl<W: Work> Executor<W> {
     }
 }
 
-impl<F: Future> Executor<FutureWork<F>>
+impl<F: Pollable> Executor<FutureWork<F>>
 where
     F::Output: Drop,
 {

@@ -4,8 +4,8 @@ ghost use Rattle.tk_ledgers.specs.Scopes.{ScopeGrows};
 ghost use Rattle.tk_exec.specs.Scopes.{IsReleased};
 ghost use Rattle.tk_exec.specs.Futures.{unpolled, Lends, Waits, Hears};
 
+use crate::pollable::Pollable;
 use crate::work::Work;
-use futures::Future;
 use futures::task::{Doorbell, Poll, Solo};
 use std::alloc::AllocGlobal;
 use std::io;
@@ -21,7 +21,7 @@ use tk_ledgers::{Origin, PollScope, TaskReceipt, WakerHandle};
 /// thread made it, is a wake of the task by itself as the poll ends; one since then is seen by [`FutureWork::hear`], which is called
 /// before a task is looked at.
 #[derive(Drop)]
-pub struct FutureWork<F: Future> {
+pub struct FutureWork<F: Pollable> {
     solo: Solo,
     future: Option<F>,
     waker: Option<WakerHandle>,
@@ -30,7 +30,7 @@ pub struct FutureWork<F: Future> {
     is_heard: bool,
 }
 
-impl<F: Future> Model for FutureWork<F> {
+impl<F: Pollable> Model for FutureWork<F> {
     ghost use Rattle.std.specs.Prelude.{IfSome};
     ghost use Rattle.tk_exec.specs.Futures.{Lent};
 
@@ -38,7 +38,7 @@ impl<F: Future> Model for FutureWork<F> {
 
     ghost view = { λ w. record { future = w.future; waker = w.waker; released = w.released } };
 
-    ghost invariant = { λ w. IfSome w.future F.can_poll };
+    ghost invariant = { λ w. IfSome w.future F.may_poll };
 }
 
 // Whether the task of these polls was woken, or asked to be polled again, since its last poll began.
@@ -52,11 +52,11 @@ fn is_woken(solo: &Solo) -> bool {
     }
 }
 
-impl<F: Future> FutureWork<F> {
+impl<F: Pollable> FutureWork<F> {
     /// A future that was not polled yet. Refused where there is no memory, or no random number to name it by; the future is
     /// dropped then.
     pub fn new<R: RandomSource + AllocGlobal>(rt: &R, future: F) -> io::Result<FutureWork<F>>
-        requires { F.can_poll future }
+        requires { F.may_poll future }
         ensures { IfOk result (λ work. work ≡ unpolled future) }
     {
         Ok(FutureWork {
@@ -127,7 +127,7 @@ impl<F: Future> FutureWork<F> {
     }
 }
 
-impl<F: Future> Work for FutureWork<F>
+impl<F: Pollable> Work for FutureWork<F>
 where
     F::Output: Drop,
 {
@@ -135,9 +135,9 @@ where
 
     type Out = F::Output;
 
-    ghost gives = { lent_gives F.gives };
+    ghost gives = { lent_gives F.may_give };
 
-    ghost polls = { lent_polls };
+    ghost polls = { lent_polls F.polls };
 
     #[tactic(auto, using(tk_ledgers::proofs::ScopeLemmas::scope_same))]
     fn poll<R: Wait>(&mut self, rt: &R, scope: &mut PollScope) -> Poll<F::Output> {
@@ -146,7 +146,7 @@ where
             return Poll::Pending;
         };
         let mut cx = self.solo.begin();
-        let answer = future.poll(&mut cx);
+        let answer = future.poll_once(&mut cx);
         cx.end(&answer);
         match answer {
             Poll::Ready(output) => {

@@ -8,8 +8,8 @@ ghost use Rattle.tk_exec.specs.Seats.{IsRead};
 ghost use Rattle.tk_exec.specs.Futures.{TaskHears};
 
 use crate::future_work::FutureWork;
+use crate::pollable::Pollable;
 use crate::work::{Clock, Work};
-use futures::Future;
 use futures::task::Poll;
 use std::marker::Model;
 use std::sync::Wait;
@@ -148,7 +148,7 @@ impl<W: Work> Instrumented<W> {
     }
 }
 
-impl<F: Future> Instrumented<FutureWork<F>>
+impl<F: Pollable> Instrumented<FutureWork<F>>
 where
     F::Output: Drop,
 {

@@ -6,8 +6,8 @@ ghost use Rattle.tk_exec.specs.Futures.{SeatHears};
 
 use crate::future_work::FutureWork;
 use crate::instrumented::Instrumented;
+use crate::pollable::Pollable;
 use crate::work::{Clock, Work};
-use futures::Future;
 use futures::task::Poll;
 use std::marker::Model;
 use std::sync::Wait;
@@ -113,7 +113,7 @@ impl<W: Work> Slot<W> {
     }
 }
 
-impl<F: Future> Slot<FutureWork<F>>
+impl<F: Pollable> Slot<FutureWork<F>>
 where
     F::Output: Drop,
 {

@@ -10,7 +10,7 @@ use Rattle.tk_stream.specs.Spelling.{kind_text}
 use Rattle.tk_report.specs.Report.{task_state}
 use Rattle.tk_screen.specs.Screens.{LineView}
 use Rattle.tk_screen.specs.Texts.{duration_text, share_text}
-use Rattle.tk_frame.specs.Times.{busy_until, sched_until}
+use Rattle.tk_core.specs.Lasting.{busy_until, sched_until}
 use Rattle.tk_frame.specs.Lines.{heading, location_text, plain, word}
 use Rattle.tk_frame.specs.Frames.{warning_lines}
 
@@ -34,7 +34,7 @@ info_part t = heading (codes "TASK " ++ id_text t.info.id)
 -- its polls, and how long they ran
 abbrev pub polls_part : ℕ → TaskRow → List LineView
 polls_part now x = field (codes "polls") (decimal x.polls)
-    ∷ field (codes "busy") (duration_text (busy_until x.busy x.polling x.last_started now))
+    ∷ field (codes "busy") (duration_text (busy_until x now))
     ∷ field (codes "first poll") (ago_text now x.first_poll)
     ∷ field (codes "last poll") (ago_text now x.last_started)
     ∷ field (codes "last end") (ago_text now x.last_ended) ∷ []

@@ -1,5 +1,4 @@
 -- How long tasks and operations have run and waited up to a moment
-pub mod Times
 -- Which items are shown, and in which order
 pub mod Queries
 -- How many tasks there are in each state

@@ -15,7 +15,7 @@ use Rattle.tk_report.specs.Report.{op_state, polled_by, run_time, task_state}
 use Rattle.tk_screen.specs.Screens.{LineView}
 use Rattle.tk_screen.specs.Texts.{duration_text, share_text, left, right}
 use Rattle.tk_screen.specs.declared.canvas.Style.TheVariants as styles
-use Rattle.tk_frame.specs.Times.{busy_until, sched_until}
+use Rattle.tk_core.specs.Lasting.{busy_until, op_busy_until, sched_until}
 use Rattle.tk_frame.specs.declared.ranks.States.{States}
 
 -- ---- parts of lines
@@ -96,7 +96,7 @@ task_heading = cell 7 (codes "TASK") ++ (word 9 (codes "STATE") ++ (cell 9 (code
 
 -- how long a task ran, and how long it waited
 abbrev pub times_text : ℕ → TaskRow → List ℕ
-times_text now x = cell 9 (duration_text (busy_until x.busy x.polling x.last_started now)) ++ cell 9 (duration_text (sched_until x now))
+times_text now x = cell 9 (duration_text (busy_until x now)) ++ cell 9 (duration_text (sched_until x now))
 
 -- a task at a moment: its id and state, how long it ran and waited, its polls and wakes, which share of these is its own, its
 -- name and kind, and where it was spawned
@@ -129,5 +129,5 @@ op_heading = cell 9 (codes "OPERATION") ++ (word 7 (codes "STATE") ++ (cell 8 (c
 -- call that made it
 abbrev pub op_text : ℕ → Op → List ℕ
 op_text now o = cell 9 (id_text o.info.id) ++ (word 7 (op_state o.row) ++ (cell 8 (decimal o.row.polls)
-    ++ (cell 9 (duration_text (busy_until o.row.busy o.row.polling o.row.last_started now)) ++ (cell 8 (polled_by o.row.task)
+    ++ (cell 9 (duration_text (op_busy_until o.row now)) ++ (cell 8 (polled_by o.row.task)
     ++ (cell 8 (id_text o.info.resource) ++ o.info.source)))))

@@ -7,14 +7,14 @@ use Rattle.tk_stream.specs.declared.tables.op.Op.{Op}
 use Rattle.tk_stream.specs.Tables.{TablesView, PollCounts, counts_of}
 use Rattle.tk_screen.specs.Rankings.{ranking}
 use Rattle.tk_screen.specs.declared.top.Ranked.{Ranked}
-use Rattle.tk_frame.specs.Times.{busy_until, sched_until}
+use Rattle.tk_core.specs.Lasting.{busy_until, sched_until}
 use Rattle.tk_frame.specs.declared.query.Column.{Column}
 use Rattle.tk_frame.specs.declared.query.Column.TheVariants.{Busy, Sched, Polls, Wakes, SelfWakes}
 use Rattle.tk_frame.specs.declared.query.Query.{Query}
 
 -- the number of a task in a column, at a moment
 abbrev pub number_in : Column → TaskRow → ℕ → ℕ
-number_in Busy x now = busy_until x.busy x.polling x.last_started now
+number_in Busy x now = busy_until x now
 number_in Sched x now = sched_until x now
 number_in Polls x now = x.polls
 number_in Wakes x now = x.wakes

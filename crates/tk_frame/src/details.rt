@@ -6,7 +6,6 @@ ghost use Rattle.tk_frame.specs.Details as spec;
 ghost use Rattle.tk_frame.specs.Lines as texts;
 
 use crate::cells::{put_location, put_word};
-use crate::times::{busy_until, sched_until};
 use crate::warnings::push_warning;
 use std::alloc::{AllocError, Global};
 use std::fmt::Write;
@@ -159,7 +158,7 @@ fn push_polls(
 ) -> Result<(), AllocError>
     ensures { OnOk result (Puts lines.old.items lines.new.items (spec.polls_part now row.now)) }
 {
-    let busy = busy_until(row.busy, row.polling, row.last_started, now);
+    let busy = row.busy_until(now);
     push_number(lines, alloc, "polls", row.polls)?;
     push_time(lines, alloc, "busy", busy)?;
     push_ago(lines, alloc, "first poll", now, row.first_poll)?;
@@ -176,7 +175,7 @@ fn push_wakes(
 ) -> Result<(), AllocError>
     ensures { OnOk result (Puts lines.old.items lines.new.items (spec.wakes_part now row.now)) }
 {
-    let sched = sched_until(row, now);
+    let sched = row.sched_until(now);
     push_number(lines, alloc, "wakes", row.wakes)?;
     push_number(lines, alloc, "self-wakes", row.self_wakes)?;
     push_share(lines, alloc, "self share", row.self_wakes, row.wakes)?;

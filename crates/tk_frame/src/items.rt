@@ -5,7 +5,6 @@ ghost use Rattle.tk_screen.specs.Texts.{Puts};
 ghost use Rattle.tk_frame.specs.Lines as spec;
 
 use crate::cells::{put_cell, put_location, put_time, put_value, put_word};
-use crate::times::busy_until;
 use std::alloc::{AllocError, Global};
 use std::fmt::Write;
 use tk_ids::{Name, TaskId};
@@ -84,7 +83,7 @@ fn put_op(out: &mut String, room: &mut String, op: &Op, now: u64) -> Result<(), 
     ensures { OnOk result (Puts (string_bytes out.old) (string_bytes out.new) (spec.op_text now op.now)) }
 {
     let Op { info, row } = op;
-    let busy = busy_until(row.busy, row.polling, row.last_started, now);
+    let busy = row.busy_until(now);
     put_value(out, room, &info.id, 9)?;
     put_word(out, op_state(row), 7)?;
     put_value(out, room, &row.polls, 8)?;

@@ -15,7 +15,6 @@ mod query;
 mod ranks;
 mod shown;
 mod tasks;
-mod times;
 mod warnings;
 
 pub use keys::{Asked, Shown, press};

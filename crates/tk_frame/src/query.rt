@@ -2,7 +2,6 @@
 ghost use Rattle.std.specs.Prelude.{◌≡◌};
 ghost use Rattle.tk_frame.specs.Queries as spec;
 
-use crate::times::{busy_until, sched_until};
 use tk_core::TaskRow;
 use tk_stream::{Op, Resource, Task};
 
@@ -39,8 +38,8 @@ fn number_in(column: Column, row: &TaskRow, now: u64) -> u64
     ensures { result ≡ spec.number_in column row.now now }
 {
     match column {
-        Column::Busy => busy_until(row.busy, row.polling, row.last_started, now),
-        Column::Sched => sched_until(row, now),
+        Column::Busy => row.busy_until(now),
+        Column::Sched => row.sched_until(now),
         Column::Polls => row.polls,
         Column::Wakes => row.wakes,
         Column::SelfWakes => row.self_wakes,

@@ -5,7 +5,6 @@ ghost use Rattle.tk_frame.specs.Lines as spec;
 
 use crate::cells::{put_location, put_part, put_time, put_value, put_word};
 use crate::ranks::States;
-use crate::times::{busy_until, sched_until};
 use std::alloc::{AllocError, Global};
 use std::fmt::Write;
 use tk_core::TaskRow;
@@ -107,9 +106,9 @@ pub(crate) fn task_heading() -> &'static str
 fn put_times(out: &mut String, room: &mut String, row: &TaskRow, now: u64) -> Result<(), AllocError>
     ensures { OnOk result (Puts (string_bytes out.old) (string_bytes out.new) (spec.times_text now row.now)) }
 {
-    let busy = busy_until(row.busy, row.polling, row.last_started, now);
+    let busy = row.busy_until(now);
     put_time(out, room, busy, 9)?;
-    put_time(out, room, sched_until(row, now), 9)?;
+    put_time(out, room, row.sched_until(now), 9)?;
     Ok(())
 }
 

@@ -8,11 +8,8 @@ use std::io::Read;
 use std::sync::Wait;
 use std::thread;
 use std::time::{Clock, Duration};
-use tk_pace::{Every, Pace};
+use tk_reading::{Every, PIECE, Pace};
 use tk_watch::{Event, Source};
-
-// How many bytes are read at a time.
-const PIECE: usize = 65_536;
 
 // For how many milliseconds a stream that gave its end is not asked again.
 const REST: u64 = 50;

@@ -33,7 +33,7 @@ use Rattle.tk_ledgers.specs.Resources as resources
 use Rattle.tk_ledgers.specs.Tasks as tasks
 use Rattle.tk_ledgers.proofs.CalledLemmas.{calls_are_called, tasks_tell_called, resources_tell_called, ops_tell_called}
 use Rattle.tk_ledgers.proofs.CallersLemmas.{calls_keep_live, drawn_is_new}
-use Rattle.tk_live.specs.Items.{IsTask, IsResource, IsOp, IsSameTask, IsSpent, Draws}
+use Rattle.tk_live.specs.Items.{IsTask, IsResource, IsOp, KeepsValues, IsSameTask, IsSpent, Draws}
 use Rattle.tk_live.specs.Pasts.{TaskPast, ResourcePast, OpPast, one, and_called, outside_blocks, is_polled, is_polled_op}
 use Rattle.tk_live.specs.Stops.{IsReply, unless_polled, while_polled}
 use Rattle.tk_live.specs.declared.items.OpItem.{OpItem}
@@ -208,11 +208,12 @@ draws old new by waker made id ledger closes = record {
 
 pub resource_called : (old new : ResourceItem) (k : ℕ) (call : ResourceCall) (reply : Reply ResourceRow) → CallsAs resource_meaning old.callers.token k call reply new.callers.token → is_accepted reply ≡ true
     → resource_meaning.is_last call ≡ false → new.callers.id ≡ old.callers.id → new.user ≡ old.user → new.closed ≡ (is_some (resource_rules.close_at call) || old.closed)
-    → (n : ℕ) (p : ResourcePast) → IsResource n p old → IsResource n (and_called (call ∷ []) p) new
-resource_called old new k call reply made passed isnt id user closes n p i = record {
+    → ((p : ResourcePast) → KeepsValues p old.values → KeepsValues (and_called (call ∷ []) p) new.values) → (n : ℕ) (p : ResourcePast) → IsResource n p old → IsResource n (and_called (call ∷ []) p) new
+resource_called old new k call reply made passed isnt id user closes keeps n p i = record {
   id = id ∙ i.id;
   called = calls_are_called resource_meaning old.callers.token new.callers.token k call reply (1 ∷ []) p.opening p.called made passed i.called;
   is_closed = closes ∙ (ap (λ (b : Bool). is_some (resource_rules.close_at call) || b) i.is_closed ∙ sym (closed_push resource_rules.close_at p.called call));
+  values = keeps p i.values;
   user = subst (λ (j : ℕ). IsLive resource_meaning new.callers.token.view j) (sym user)
       ((calls_keep_live resource_meaning old.callers.token new.callers.token k call reply made).1 old.user i.user (inr isnt));
 }

@@ -51,6 +51,7 @@ use Rattle.tk_live.specs.declared.items.TaskItem.{TaskItem}
 use Rattle.tk_live.specs.declared.items.WakerItem.{WakerItem}
 use Rattle.tk_script.specs.Commands as said
 use Rattle.tk_script.specs.declared.settings.Settings.{Settings}
+use Rattle.tk_live.proofs.Changing.{keeps_first}
 use Rattle.tk_live.proofs.Places.{each_length, each_more, made_still, made_last}
 use Rattle.tk_live.proofs.Recording.{IsLonger, stands_more}
 
@@ -139,9 +140,15 @@ is_new_op item owner created n attrs id token unclosed id_is view = record {
 
 -- and of a new resource, whose user is live
 pub is_new_resource : (item : ResourceItem) (id created n : ℕ) (attrs : List AttrSpec) → item.callers.id ≡ id → item.closed ≡ false → IsLive resource_meaning item.callers.token.view item.user → id ≡ id_of 1 n
-    → HasCalled resource_meaning (1 ∷ []) (resource_rules.opening_row created (first_values attrs)) (resource_calls.Enlist ∷ resource_calls.Enlist ∷ []) item.callers.token.view → IsResource n (new_resource created attrs) item
+    → item.values ≡ resource_rules.opening_row created (first_values attrs) → resource_rules.IsOpening item.values → HasCalled resource_meaning (1 ∷ []) (resource_rules.opening_row created (first_values attrs)) (resource_calls.Enlist ∷ resource_calls.Enlist ∷ []) item.callers.token.view → IsResource n (new_resource created attrs) item
 unfolding last_of
-is_new_resource item id created n attrs same unclosed live id_is called = record { id = same ∙ id_is; called = called; is_closed = unclosed; user = live }
+is_new_resource item id created n attrs same unclosed live id_is values opens called = record {
+  id = same ∙ id_is;
+  called = called;
+  is_closed = unclosed;
+  values = keeps_first (new_resource created attrs) item.values values (subst (λ row. resource_rules.IsOpening row) values opens) refl;
+  user = live;
+}
 
 -- ---- the items with one more
 

@@ -1,15 +1,15 @@
 -- What an interpreter stands for after a command that calls on an async operation.
-use Rattle.std.proofs.Common.{◌≡◌, ◌⊎◌, ℕ, ◌+◌, Bool, true, false, List, [], ◌∷◌, ◌++◌, length, Option, Some, None, inl, inr, refl, sym, ap, ◌∙◌, subst}
+use Rattle.std.proofs.Common.{◌≡◌, ◌⊎◌, ℕ, ◌+◌, Bool, true, false, List, [], ◌∷◌, ◌++◌, length, Option, Some, None, inl, refl, sym, ap, ◌∙◌, subst}
 use Rattle.std.specs.Prelude.{slice_get, slice_set, Result, Ok, Err}
 use Rattle.tk_core.specs.declared.op.call.OpCall.{OpCall}
 use Rattle.tk_stream.specs.Streams.{Sending}
 use Rattle.tk_script.specs.Commands.{Said}
 use Rattle.tk_live.specs.Course.{Course, step}
-use Rattle.tk_live.specs.Items.{EachFrom, IsOp, Holds, IsSameOp, OpDid, OpMay}
+use Rattle.tk_live.specs.Items.{EachFrom, IsOp, Holds, IsSameOp, OpDid}
 use Rattle.tk_live.specs.Named.{made_item}
 use Rattle.tk_live.specs.Pasts.{OpPast, Pasts, and_called, called_at, op_called, open_op, is_closed_op}
 use Rattle.tk_live.specs.Runs.{Numbers, numbers_of, Represents, SilentSpec}
-use Rattle.tk_live.specs.Stops.{StopByEnvironment, stop_by_text}
+use Rattle.tk_live.specs.Stops.{stop_by_text}
 use Rattle.tk_live.specs.declared.interpreter.Interpreter.{Interpreter}
 use Rattle.tk_live.specs.declared.items.OpItem.{OpItem}
 use Rattle.tk_script.specs.declared.settings.Settings.{Settings}
@@ -63,24 +63,6 @@ op_did i new line n place s call stop old next (Err why) stood is unshut put sam
     let made = at_place n place i.ops.items is ∙ stood in
     let there = open_there IsOp is_closed_op (λ o. o.closed) (λ m p o h. h.is_closed) c.pasts.ops i.ops.items n old stands.holds.ops_are made unshut in
     inl (stops settings c kept sent there.0 stands there.3 ∙ did n there.0 there.2)
-
--- so where the operation's ledger may refuse the call
-pub op_may : (i new : Interpreter) (line n place : ℕ) (s : Said) (call : OpCall) (stops : OpPast → Stop → Type 0) (old next : OpItem) (result : Result (Unit {0}) Stop)
-    → slice_get i.ops.items place ≡ Some old → n ≡ place + 1 → old.closed ≡ false → new.ops.items ≡ slice_set i.ops.items place next → IsSameOp old next → OpMay stops call old next result
-    → ((c : Course) (p : OpPast) → open_op n c.pasts ≡ Some p → (stop_by_text c s ≡ None) × ((why : Stop) → stops p why → StopByEnvironment c s why)) → ((c : Course) → step c line s ≡ calling c (op_called n call c.pasts))
-    → new ≡ record i { ops = new.ops } → SilentSpec line s i new result
-op_may i new line n place s call stops old next (Ok done) stood is unshut put same did tells steps whole settings c kept sent stands =
-    let made = at_place n place i.ops.items is ∙ stood in
-    let there = open_there IsOp is_closed_op (λ o. o.closed) (λ m p o h. h.is_closed) c.pasts.ops i.ops.items n old stands.holds.ops_are made unshut in (
-      (tells c there.0 there.3).0,
-      [],
-      subst (λ (d : Course). Represents new settings d (kept ++ []) sent) (sym (steps c))
-          (op_went i new settings c kept sent n place old next call stands stood is put same (λ p h. did n p h) whole),
-    )
-op_may i new line n place s call stops old next (Err why) stood is unshut put same did tells steps whole settings c kept sent stands =
-    let made = at_place n place i.ops.items is ∙ stood in
-    let there = open_there IsOp is_closed_op (λ o. o.closed) (λ m p o h. h.is_closed) c.pasts.ops i.ops.items n old stands.holds.ops_are made unshut in
-    inr ((tells c there.0 there.3).1 why (did n there.0 there.2))
 
 -- a command on an operation that wasn't made or is closed stops
 pub no_op : (i : Interpreter) (line n : ℕ) (s : Said) → (made_item n i.ops.items ≡ None) ⊎ ((o : OpItem) × (made_item n i.ops.items ≡ Some o) × (o.closed ≡ true))

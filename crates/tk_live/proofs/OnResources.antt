@@ -1,6 +1,7 @@
 -- What an interpreter stands for after a command that calls on a resource.
-use Rattle.std.proofs.Common.{◌≡◌, ◌⊎◌, ℕ, ◌+◌, Bool, true, false, cond, List, [], ◌∷◌, ◌++◌, length, Option, Some, None, inl, inr, refl, sym, ap, ◌∙◌, subst}
+use Rattle.std.proofs.Common.{◌≡◌, ◌⊎◌, ℕ, ◌+◌, Bool, true, false, cond, List, [], ◌∷◌, ◌++◌, length, Option, Some, None, inl, refl, sym, ap, ◌∙◌, subst}
 use Rattle.std.specs.Prelude.{slice_get, slice_set, is_some, Result, Ok, Err}
+use Rattle.tk_core.specs.declared.attrs.AttrOp.{AttrOp}
 use Rattle.tk_core.specs.declared.resource.call.ResourceCall.{ResourceCall}
 use Rattle.tk_core.specs.declared.reply.Refusal.TheVariants.{Closed}
 use Rattle.tk_stream.specs.Streams.{Sending}
@@ -8,9 +9,9 @@ use Rattle.tk_script.specs.Commands.{Said}
 use Rattle.tk_live.specs.Course.{Course, step}
 use Rattle.tk_live.specs.Items.{EachFrom, IsResource, Holds, IsSameResource, ResourceDid}
 use Rattle.tk_live.specs.Named.{made_item}
-use Rattle.tk_live.specs.Pasts.{ResourcePast, Pasts, and_called, called_at, resource_called, unless_closed, open_resource, is_closed_resource}
+use Rattle.tk_live.specs.Pasts.{ResourcePast, Pasts, and_called, called_at, resource_called, resource_values, unless_closed, open_resource, is_closed_resource}
 use Rattle.tk_live.specs.Runs.{Numbers, numbers_of, Represents, SilentSpec}
-use Rattle.tk_live.specs.Stops.{StopByEnvironment, while_there, stop_by_text}
+use Rattle.tk_live.specs.Stops.{change_of_resource, unless_refused, stop_by_text}
 use Rattle.tk_live.specs.declared.interpreter.Interpreter.{Interpreter}
 use Rattle.tk_live.specs.declared.items.ResourceItem.{ResourceItem}
 use Rattle.tk_script.specs.declared.settings.Settings.{Settings}
@@ -20,15 +21,15 @@ use Rattle.tk_live.proofs.Places.{made_put, at_place, each_made, each_there, eac
 use Rattle.tk_live.proofs.Standing.{called_put, length_called, open_there, none_open, ResourcesStay, tasks_rest, ops_rest, untold, went_on, calling}
 
 -- a change of a resource that wasn't made, and of one that is closed
-pub change_unmade : (o : Option ResourcePast) → is_some o ≡ false → while_there o ≡ Some NoSuchItem
-change_unmade None e = refl
-change_unmade (Some p) e = absurd cc
+pub change_unmade : (index : ℕ) (change : AttrOp) (o : Option ResourcePast) → is_some o ≡ false → change_of_resource index change o ≡ Some NoSuchItem
+change_unmade index change None e = refl
+change_unmade index change (Some p) e = absurd cc
 
-pub change_shut : (o : Option ResourcePast) → is_some o ≡ true → unless_closed is_closed_resource o ≡ None → while_there o ≡ Some (Call Closed)
-change_shut None e none = absurd cc
-change_shut (Some p) e none = go (is_closed_resource p) none
+pub change_shut : (index : ℕ) (change : AttrOp) (o : Option ResourcePast) → is_some o ≡ true → unless_closed is_closed_resource o ≡ None → change_of_resource index change o ≡ Some (Call Closed)
+change_shut index change None e none = absurd cc
+change_shut index change (Some p) e none = go (is_closed_resource p) none
   where
-    go : (b : Bool) → cond b None (Some p) ≡ None → cond b (Some (Call Closed)) None ≡ Some (Call Closed)
+    go : (b : Bool) → cond b None (Some p) ≡ None → cond b (Some (Call Closed)) (unless_refused index change (resource_values p)) ≡ Some (Call Closed)
     go true is = refl
     go false is = absurd cc
 
@@ -62,24 +63,22 @@ resource_went i new settings c kept sent n place old next call stands stood is p
     (ops_rest i.ops.items) (resources_numbered n call c.pasts)))
 
 -- a command that calls on an open resource did what the call did, where this is what the text tells of one that is open
-pub resource_did : (i new : Interpreter) (line n place : ℕ) (s : Said) (call : ResourceCall) (stops : ResourcePast → Stop → Type 0) (old next : ResourceItem) (result : Result (Unit {0}) Stop)
-    → slice_get i.resources.items place ≡ Some old → n ≡ place + 1 → old.closed ≡ false → new.resources.items ≡ slice_set i.resources.items place next → IsSameResource old next → ResourceDid stops call old next result
-    → ((c : Course) (p : ResourcePast) → made_item n c.pasts.resources ≡ Some p → is_closed_resource p ≡ false → open_resource n c.pasts ≡ Some p → (stop_by_text c s ≡ None) × (step c line s ≡ calling c (resource_called n call c.pasts)) × ((stop : Stop) → stops p stop → StopByEnvironment c s stop))
+pub resource_did : (i new : Interpreter) (line n place : ℕ) (s : Said) (call : ResourceCall) (stop : ResourcePast → Option Stop) (old next : ResourceItem) (result : Result (Unit {0}) Stop)
+    → slice_get i.resources.items place ≡ Some old → n ≡ place + 1 → old.closed ≡ false → new.resources.items ≡ slice_set i.resources.items place next → IsSameResource old next → ResourceDid stop call old next result
+    → ((c : Course) (p : ResourcePast) → made_item n c.pasts.resources ≡ Some p → is_closed_resource p ≡ false → open_resource n c.pasts ≡ Some p → stop_by_text c s ≡ stop p) → ((c : Course) → step c line s ≡ calling c (resource_called n call c.pasts))
     → new ≡ record i { resources = new.resources } → SilentSpec line s i new result
-resource_did i new line n place s call stops old next (Ok done) stood is unshut put same did tells whole settings c kept sent stands =
+resource_did i new line n place s call stop old next (Ok done) stood is unshut put same did stops steps whole settings c kept sent stands =
     let made = at_place n place i.resources.items is ∙ stood in
-    let there = open_there IsResource is_closed_resource (λ r. r.closed) (λ m p r h. h.is_closed) c.pasts.resources i.resources.items n old stands.holds.resources_are made unshut in
-    let told = tells c there.0 there.1 (sym there.2.is_closed ∙ unshut) there.3 in (
-      told.0,
+    let there = open_there IsResource is_closed_resource (λ r. r.closed) (λ m p r h. h.is_closed) c.pasts.resources i.resources.items n old stands.holds.resources_are made unshut in (
+      stops c there.0 there.1 (sym there.2.is_closed ∙ unshut) there.3 ∙ (did n there.0 there.2).0,
       [],
-      subst (λ (d : Course). Represents new settings d (kept ++ []) sent) (sym told.1)
-          (resource_went i new settings c kept sent n place old next call stands stood is put same (λ p h. did n p h) whole),
+      subst (λ (d : Course). Represents new settings d (kept ++ []) sent) (sym (steps c))
+          (resource_went i new settings c kept sent n place old next call stands stood is put same (λ p h. (did n p h).1) whole),
     )
-resource_did i new line n place s call stops old next (Err why) stood is unshut put same did tells whole settings c kept sent stands =
+resource_did i new line n place s call stop old next (Err why) stood is unshut put same did stops steps whole settings c kept sent stands =
     let made = at_place n place i.resources.items is ∙ stood in
     let there = open_there IsResource is_closed_resource (λ r. r.closed) (λ m p r h. h.is_closed) c.pasts.resources i.resources.items n old stands.holds.resources_are made unshut in
-    let told = tells c there.0 there.1 (sym there.2.is_closed ∙ unshut) there.3 in
-    inr (told.2 why (did n there.0 there.2))
+    inl (stops c there.0 there.1 (sym there.2.is_closed ∙ unshut) there.3 ∙ did n there.0 there.2)
 
 -- a command on a resource that wasn't made or is closed stops
 pub no_resource : (i : Interpreter) (line n : ℕ) (s : Said) (why : Stop) → (made_item n i.resources.items ≡ None) ⊎ ((r : ResourceItem) × (made_item n i.resources.items ≡ Some r) × (r.closed ≡ true))

@@ -23,7 +23,7 @@ use Rattle.tk_stream.specs.declared.tables.resource.Resource.{Resource}
 use Rattle.tk_stream.specs.declared.tables.task.Task.{Task}
 use Rattle.tk_aggregator.specs.Aggregates.{Aggregating}
 use Rattle.tk_aggregator.specs.Beside.{AreOf, StaysHand, ReadsTaskBeside, ReadsResourceBeside, ReadsOpBeside}
-use Rattle.tk_live.specs.Items.{EachFrom, IsTask, IsResource, IsOp, IsSameTask, IsSameResource, IsSameOp}
+use Rattle.tk_live.specs.Items.{EachFrom, IsTask, IsResource, IsOp, KeepsValues, IsSameTask, IsSameResource, IsSameOp}
 use Rattle.tk_live.specs.Named.{made_item}
 use Rattle.tk_live.specs.Pasts.{TaskPast, ResourcePast, OpPast, IsTaskRow, IsResourceRow, IsOpRow}
 use Rattle.tk_live.specs.Read.{AreReadTo, AreTasksRead, AreResourcesRead, AreOpsRead}
@@ -197,6 +197,7 @@ module _ (i : ℕ) (first a : Aggregating) (xs ys : List ResourceItem) (read : A
       id = hand.id ∙ it.id;
       called = hand.called p.opening p.called it.called;
       is_closed = ap (λ (z : ResourceItem). z.closed) is ∙ it.is_closed;
+      values = subst (λ (z : ResourceItem). KeepsValues p z.values) (sym is) it.values;
       user = subst (λ (n : ℕ). IsLive resource_meaning y.callers.token.view n) (sym (ap (λ (z : ResourceItem). z.user) is)) (hand.live x.user it.user);
     }
 

@@ -1,12 +1,22 @@
 -- What is kept of a script's items: the hands that make their calls. Inner: no public clause cites it.
 use Rattle.std.specs.Prelude.{◌≡◌, ◌≢◌, ℕ, ◌+◌, List, [], ◌∷◌, map, Option, Some, None, option_map, is_some, Result, Ok, Err}
+use Rattle.std.specs.List.{filter_map}
 use Rattle.tk_ids.specs.Ids.{id_of}
+use Rattle.tk_core.specs.declared.attrs.AttrOp.{AttrOp}
+use Rattle.tk_core.specs.declared.history.Entry.{Entry}
 use Rattle.tk_core.specs.declared.op.call.OpCall.{OpCall}
+use Rattle.tk_core.specs.declared.reply.Reply.{Reply}
 use Rattle.tk_core.specs.declared.resource.call.ResourceCall.{ResourceCall}
+use Rattle.tk_core.specs.declared.resource.call.ResourceCall.TheVariants.{Attr}
+use Rattle.tk_core.specs.declared.resource.row.ResourceRow.{ResourceRow}
 use Rattle.tk_core.specs.declared.task.call.TaskCall.{TaskCall}
 use Rattle.tk_core.specs.declared.task.call.TaskCall.TheVariants.{CloneWaker}
+use Rattle.tk_core.specs.Fold.{is_accepted, fold_of, HasItsAnswers}
+use Rattle.tk_core.specs.History.{accepted}
 use Rattle.tk_core.specs.Lists.{last_of}
 use Rattle.tk_core.specs.Polls.{is_polling}
+use Rattle.tk_core.specs.Resource as resource_rules
+use Rattle.tk_core.specs.Resource.{resource_kind}
 use Rattle.tk_core.specs.Task.{start_at, end_at, close_at}
 use Rattle.tk_core.specs.OpMeaning.{op_meaning}
 use Rattle.tk_core.specs.ResourceMeaning.{resource_meaning}
@@ -40,11 +50,25 @@ pub record IsTask (n : ℕ) (p : TaskPast) (t : TaskItem) : Type 0 where
   pub closed : is_some (last_of close_at calls) ≡ is_closed p
   pub is_closed : t.closed ≡ is_closed p
 
+-- which attribute of a resource a call changes, and how, if it does
+abbrev pub change_in : ResourceCall → Option (ℕ × AttrOp)
+change_in (Attr index change) = Some (index, change)
+change_in _ = None
+
+-- a row keeps the values of a resource's attributes by the text: it is that of the text's changes, as if nobody else made calls
+pub record KeepsValues (p : ResourcePast) (row : ResourceRow) : Type 0 where
+  pub changes : List (Entry ResourceCall (Reply ResourceRow))
+  pub answered : HasItsAnswers resource_kind p.opening changes
+  pub is_row : fold_of resource_kind p.opening changes ≡ row
+  pub unclosed : last_of resource_rules.close_at (accepted is_accepted changes) ≡ None
+  pub same : filter_map change_in (accepted is_accepted changes) ≡ filter_map change_in p.called
+
 -- of a resource, whose user is live
 pub record IsResource (n : ℕ) (p : ResourcePast) (r : ResourceItem) : Type 0 where
   pub id : r.callers.id ≡ id_of 1 n
   pub called : HasCalled resource_meaning (1 ∷ []) p.opening p.called r.callers.token.view
   pub is_closed : r.closed ≡ is_closed_resource p
+  pub values : KeepsValues p r.values
   pub user : IsLive resource_meaning r.callers.token.view r.user
 
 -- of an async operation
@@ -104,19 +128,14 @@ pub record Draws (waker : ℕ) (old new : TaskItem) : Type 0 where
   pub is_live : IsLive task_meaning new.callers.token.view waker
   pub is_new : (k : ℕ) → IsLive task_meaning old.callers.token.view k → k ≢ waker
 
--- a call on a resource, which may be refused so, and a call on an operation, which the text may stop
-abbrev pub ResourceDid : (ResourcePast → Stop → Type 0) → ResourceCall → ResourceItem → ResourceItem → Result (Unit {0}) Stop → Type 0
-ResourceDid stops call old new (Ok done) = (n : ℕ) (p : ResourcePast) → IsResource n p old → IsResource n (and_called (call ∷ []) p) new
-ResourceDid stops call old new (Err why) = (n : ℕ) (p : ResourcePast) → IsResource n p old → stops p why
+-- a call on a resource, and a call on an operation, which the text may stop
+abbrev pub ResourceDid : (ResourcePast → Option Stop) → ResourceCall → ResourceItem → ResourceItem → Result (Unit {0}) Stop → Type 0
+ResourceDid stop call old new (Ok done) = (n : ℕ) (p : ResourcePast) → IsResource n p old → (stop p ≡ None) × IsResource n (and_called (call ∷ []) p) new
+ResourceDid stop call old new (Err why) = (n : ℕ) (p : ResourcePast) → IsResource n p old → stop p ≡ Some why
 
 abbrev pub OpDid : (OpPast → Option Stop) → OpCall → OpItem → OpItem → Result (Unit {0}) Stop → Type 0
 OpDid stop call old new (Ok done) = (n : ℕ) (p : OpPast) → IsOp n p old → (stop p ≡ None) × IsOp n (and_called (call ∷ []) p) new
 OpDid stop call old new (Err why) = (n : ℕ) (p : OpPast) → IsOp n p old → stop p ≡ Some why
-
--- where the ledger may refuse the call too
-abbrev pub OpMay : (OpPast → Stop → Type 0) → OpCall → OpItem → OpItem → Result (Unit {0}) Stop → Type 0
-OpMay stops call old new (Ok done) = (n : ℕ) (p : OpPast) → IsOp n p old → IsOp n (and_called (call ∷ []) p) new
-OpMay stops call old new (Err why) = (n : ℕ) (p : OpPast) → IsOp n p old → stops p why
 
 -- a resource's hand and an operation's are of the same item and ledger
 pub record IsSameResource (old new : ResourceItem) : Type 0 where

@@ -4,6 +4,7 @@ use Rattle.std.specs.List.{flat_map, range_with_len}
 use Rattle.std.specs.Option.{option_map_or}
 use Rattle.tk_ids.specs.Ids.{id_of}
 use Rattle.tk_ids.specs.declared.attr.AttrSpec.{AttrSpec}
+use Rattle.tk_ids.specs.declared.attr.AttrValue.{AttrValue}
 use Rattle.tk_core.specs.declared.op.call.OpCall.{OpCall}
 use Rattle.tk_core.specs.declared.op.call.OpCall.TheVariants as op_calls
 use Rattle.tk_core.specs.declared.op.row.OpRow.{OpRow}
@@ -13,6 +14,7 @@ use Rattle.tk_core.specs.declared.resource.row.ResourceRow.{ResourceRow}
 use Rattle.tk_core.specs.declared.task.call.TaskCall.{TaskCall}
 use Rattle.tk_core.specs.declared.task.call.TaskCall.TheVariants.{Enlist, PollStart, PollEnd, Close, CloneWaker, WakeRef, WakeVal, Release}
 use Rattle.tk_core.specs.declared.task.row.TaskRow.{TaskRow}
+use Rattle.tk_core.specs.Attributes.{values_from}
 use Rattle.tk_core.specs.Lists.{last_of}
 use Rattle.tk_core.specs.Polls.{is_polling}
 use Rattle.tk_core.specs.Op as op_rules
@@ -99,6 +101,14 @@ is_polled_op p = is_polling op_rules.start_at op_rules.end_at p.called
 
 abbrev pub is_closed_op : OpPast → Bool
 is_closed_op p = is_some (last_of op_rules.close_at p.called)
+
+-- the values of a resource's attributes, and those of an async operation's: of each the last value that a change set, or the first one,
+-- with what was added to it since and without what was taken away
+abbrev pub resource_values : ResourcePast → List AttrValue
+resource_values p = values_from resource_rules.change_of 0 p.opening.attrs p.called
+
+abbrev pub op_values : OpPast → List AttrValue
+op_values p = values_from op_rules.change_of 0 p.opening.attrs p.called
 
 -- ---- the calls on all items of a script
 

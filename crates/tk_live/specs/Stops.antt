@@ -1,18 +1,19 @@
 -- Why a command stops a script.
-use Rattle.std.specs.Prelude.{◌≡◌, ℕ, ◌^◌, ◌⊎◌, ◌==◌, ◌||◌, ◌<◌, List, [], ◌∷◌, ◌++◌, length, nat_lt, nat_le, Bool, true, false, Option, Some, None, option_map, if◌then◌else◌}
+use Rattle.std.specs.Prelude.{◌≡◌, ℕ, ◌^◌, ◌⊎◌, ◌==◌, ◌||◌, ◌<◌, List, [], ◌∷◌, ◌++◌, length, slice_get, nat_lt, nat_le, Bool, true, false, Option, Some, None, option_map, if◌then◌else◌}
 use Rattle.std.specs.Option.{option_map_or}
 use Rattle.tk_ids.specs.IdBlocks.{last_number}
+use Rattle.tk_ids.specs.declared.attr.AttrValue.{AttrValue}
+use Rattle.tk_core.specs.Attributes.{refused_by}
+use Rattle.tk_core.specs.declared.attrs.AttrOp.{AttrOp}
 use Rattle.tk_core.specs.declared.history.Entry.{Entry}
 use Rattle.tk_core.specs.declared.reply.Refusal.{Refusal}
 use Rattle.tk_core.specs.declared.reply.Refusal.TheVariants.{AlreadyPolling, Closed, HandlesSpent, NotPolling}
 use Rattle.tk_core.specs.declared.reply.Reply.{Reply}
 use Rattle.tk_core.specs.declared.reply.Reply.TheVariants.{Refused}
 use Rattle.tk_core.specs.declared.task.call.TaskCall.TheVariants.{CloneWaker}
-use Rattle.tk_core.specs.declared.op.call.OpCall.TheVariants as op_calls
 use Rattle.tk_core.specs.declared.resource.call.ResourceCall.TheVariants as resource_calls
 use Rattle.tk_core.specs.Legal.{IsLegal}
 use Rattle.tk_core.specs.Meaning.{Meaning}
-use Rattle.tk_core.specs.OpMeaning.{op_meaning}
 use Rattle.tk_core.specs.ResourceMeaning.{resource_meaning}
 use Rattle.tk_core.specs.TaskMeaning.{task_meaning}
 use Rattle.tk_cell.specs.Calls.{entry}
@@ -20,7 +21,7 @@ use Rattle.tk_live.specs.Blocks.{Block, is_named, spends, lines_of_worker, lines
 use Rattle.tk_script.specs.Commands.{Said, Line, skipped, bad, says, opens, joins, works, task, start, finish, polls, close, self_wake, clone, again, wake_ref, wake, release, resource, close_resource, change_resource, op, op_task, start_op, finish_op, close_op, change_op, poll_op, capacity, retention, times, waits, publish}
 use Rattle.tk_live.specs.Course.{Course, line_after}
 use Rattle.tk_live.specs.Named.{made_item, live_item}
-use Rattle.tk_live.specs.Pasts.{Past, TaskPast, ResourcePast, Pasts, is_polled, is_polled_op, is_closed_resource, open_task, open_resource, open_op, new_resource}
+use Rattle.tk_live.specs.Pasts.{Past, TaskPast, ResourcePast, OpPast, Pasts, is_polled, is_polled_op, is_closed_resource, resource_values, op_values, open_task, open_resource, open_op, new_resource}
 use Rattle.tk_script.specs.declared.stop.Stop.{Stop}
 use Rattle.tk_script.specs.declared.stop.Stop.TheVariants.{BadCommand, NoSuchItem, Call, OffersSpent, Clock, NumbersSpent, Memory, WriteFault, NoThread, Stopped}
 use Rattle.tk_script.specs.declared.block.WorkerLine.{WorkerLine}
@@ -42,10 +43,20 @@ abbrev pub if_there : {X : Type 0} → Option X → Option Stop → Option Stop
 if_there None stop = Some NoSuchItem
 if_there (Some x) stop = stop
 
+-- a change of the attribute of an index, where attributes have these values: there is none of this index, it is of another kind, or its
+-- number would leave the range
+abbrev pub unless_refused : ℕ → AttrOp → List AttrValue → Option Stop
+unless_refused index change values = option_map (λ refusal. Call refusal) (refused_by (slice_get values index) change)
+
 -- a change by the user of a resource: the user is gone once the resource is closed
-abbrev pub while_there : Option ResourcePast → Option Stop
-while_there None = Some NoSuchItem
-while_there (Some p) = if is_closed_resource p then Some (Call Closed) else None
+abbrev pub change_of_resource : ℕ → AttrOp → Option ResourcePast → Option Stop
+change_of_resource index change None = Some NoSuchItem
+change_of_resource index change (Some p) = if is_closed_resource p then Some (Call Closed) else unless_refused index change (resource_values p)
+
+-- a change by the owner of an async operation, if it is open
+abbrev pub change_of_op : ℕ → AttrOp → Option OpPast → Option Stop
+change_of_op index change None = Some NoSuchItem
+change_of_op index change (Some p) = unless_refused index change (op_values p)
 
 -- a recorder makes so many offers, and no more
 abbrev pub offer_stop : Course → Option Stop
@@ -66,13 +77,13 @@ stop_by_text c (wake w moment) = if_there (live_item w c.pasts.wakers) None
 stop_by_text c (release w) = if_there (live_item w c.pasts.wakers) None
 stop_by_text c (resource at kind concrete attrs) = offer_stop c
 stop_by_text c (close_resource n moment) = if_there (open_resource n c.pasts) None
-stop_by_text c (change_resource n index change) = while_there (made_item n c.pasts.resources)
+stop_by_text c (change_resource n index change) = change_of_resource index change (made_item n c.pasts.resources)
 stop_by_text c (op at r source attrs) = if_there (made_item r c.pasts.resources) (offer_stop c)
 stop_by_text c (op_task n t) = if_there (made_item t c.pasts.tasks) (if_there (open_op n c.pasts) None)
 stop_by_text c (start_op n moment) = unless_polled (option_map is_polled_op (open_op n c.pasts))
 stop_by_text c (finish_op n moment) = while_polled (option_map is_polled_op (open_op n c.pasts))
 stop_by_text c (close_op n moment) = unless_polled (option_map is_polled_op (open_op n c.pasts))
-stop_by_text c (change_op n index change) = if_there (open_op n c.pasts) None
+stop_by_text c (change_op n index change) = change_of_op index change (open_op n c.pasts)
 stop_by_text c (poll_op r o t name ready) =
     if_there (made_item r c.pasts.resources) (if_there (made_item o c.pasts.ops) (if_there (made_item t c.pasts.tasks) (offer_stop c)))
 stop_by_text c (capacity n) = if c.begun || c.capacity_said then Some BadCommand else None
@@ -120,8 +131,6 @@ StopByEnvironment c (publish moment whole) WriteFault = Unit {0}
 StopByEnvironment c (clone n) (Call HandlesSpent) = IsReply task_meaning (opening_of (open_task n c.pasts)) CloneWaker HandlesSpent
 StopByEnvironment c (again w) (Call HandlesSpent) = IsReply task_meaning (opening_of (woken_task w c.pasts)) CloneWaker HandlesSpent
 StopByEnvironment c (resource at kind concrete attrs) (Call HandlesSpent) = IsReply resource_meaning (opening_of (Some (new_resource at attrs))) resource_calls.Enlist HandlesSpent
-StopByEnvironment c (change_resource n index change) (Call refusal) = IsReply resource_meaning (opening_of (open_resource n c.pasts)) (resource_calls.Attr index change) refusal
-StopByEnvironment c (change_op n index change) (Call refusal) = IsReply op_meaning (opening_of (open_op n c.pasts)) (op_calls.Attr index change) refusal
 StopByEnvironment c s stop = ⊥
 
 -- why a command stops: by what the text tells, or else where it may fail

@@ -4,18 +4,18 @@ ghost use Rattle.tk_core.specs.TaskMeaning.{task_meaning};
 ghost use Rattle.tk_core.specs.declared.task.call.TaskCall.TheVariants.{CloneWaker, PollStart, PollEnd, Close, WakeRef, WakeVal, Release};
 ghost use Rattle.tk_core.specs.declared.op.call.OpCall.TheVariants as op_calls;
 ghost use Rattle.tk_core.specs.declared.resource.call.ResourceCall.TheVariants as resource_calls;
-ghost use Rattle.tk_core.specs.OpMeaning.{op_meaning};
 ghost use Rattle.tk_core.specs.ResourceMeaning.{resource_meaning};
 ghost use Rattle.tk_ledgers.specs.Callers.{IsLive};
-ghost use Rattle.tk_live.specs.Items.{IsTask, IsSameTask, IsSameResource, IsSameOp, TaskDid, WakerDid, ResourceDid, OpDid, OpMay, IsSpent, Draws};
-ghost use Rattle.tk_live.specs.Pasts.{TaskPast, is_polled, is_polled_op, polls_of};
-ghost use Rattle.tk_live.specs.Stops.{IsReply, unless_polled, while_polled};
+ghost use Rattle.tk_live.specs.Items.{IsTask, IsSameTask, IsSameResource, IsSameOp, TaskDid, WakerDid, ResourceDid, OpDid, IsSpent, Draws};
+ghost use Rattle.tk_live.specs.Pasts.{TaskPast, is_polled, is_polled_op, polls_of, resource_values, op_values};
+ghost use Rattle.tk_live.specs.Stops.{IsReply, unless_polled, while_polled, unless_refused};
 ghost use Rattle.tk_script.specs.declared.stop.Stop.TheVariants.{Call};
-ghost use Rattle.tk_core.specs.declared.reply.Refusal.{Refusal};
 ghost use Rattle.tk_core.specs.declared.reply.Refusal.TheVariants.{HandlesSpent};
+ghost use Rattle.tk_core.specs.declared.reply.Reply.TheVariants.{Done};
+ghost use Rattle.tk_ledgers.specs.Callers.{CallsAs};
 
 use std::sync::Wait;
-use tk_core::{AttrOp, Refusal};
+use tk_core::{AttrOp, Reply, ResourceCall, ResourceRow};
 use tk_ids::TaskId;
 use tk_ledgers::{OpCallers, ResourceCallers, TaskCallers, TimesOwner};
 use tk_script::Stop;
@@ -42,6 +42,8 @@ pub(crate) struct WakerItem {
 pub(crate) struct ResourceItem {
     pub(crate) callers: ResourceCallers,
     pub(crate) user: u64,
+    // The values of its attributes, as the script's changes leave them. Nothing else of this row is kept.
+    pub(crate) values: ResourceRow,
     pub(crate) closed: bool,
 }
 
@@ -50,6 +52,23 @@ pub(crate) struct ResourceItem {
 pub(crate) struct OpItem {
     pub(crate) callers: OpCallers,
     pub(crate) closed: bool,
+}
+
+// Makes a change that the script's own changes leave room for.
+//
+// By the rule of a resource's ledger its inspector might change attributes too. It doesn't, but the hand can't know that. So should the
+// ledger refuse this change, the script's text says nothing of why, and the call doesn't return.
+fn make_change<R: Wait>(callers: &mut ResourceCallers, rt: &R, user: u64, index: u64, op: AttrOp)
+    requires { IsLive resource_meaning callers.old.token.view user }
+    ensures id { callers.new.id ≡ callers.old.id }
+    ensures ledger { callers.new.token.ledger ≡ callers.old.token.ledger }
+    ensures made { CallsAs resource_meaning callers.old.token user (resource_calls.Attr index op) Done callers.new.token }
+{
+    if callers.change(rt, user, index, op).is_ok() {
+        return;
+    }
+    for _ in rt.forever() {}
+    unreachable!()
 }
 
 // Adds how long a poll ran to a histogram, if there is one.
@@ -196,7 +215,7 @@ impl ResourceItem {
     pub(crate) fn close<R: Wait>(&mut self, rt: &R, moment: u64) -> Result<(), Stop>
         requires { self.old.closed ≡ false }
         ensures same { IsSameResource self.old self.new }
-        ensures did { ResourceDid (λ p stop. ⊥) (resource_calls.Close moment) self.old self.new result }
+        ensures did { ResourceDid (λ p. None) (resource_calls.Close moment) self.old self.new result }
     {
         match self.callers.close(rt, moment) {
             Ok(()) => {
@@ -212,13 +231,15 @@ impl ResourceItem {
     pub(crate) fn change<R: Wait>(&mut self, rt: &R, index: u64, op: AttrOp) -> Result<(), Stop>
         requires { IsLive resource_meaning self.old.callers.token.view self.old.user }
         ensures same { IsSameResource self.old self.new }
-        ensures did { ResourceDid (λ p stop. (refusal : Refusal) × (stop ≡ Call refusal) × IsReply resource_meaning (Some p.opening) (resource_calls.Attr index op) refusal)
-            (resource_calls.Attr index op) self.old self.new result }
+        ensures did { ResourceDid (λ p. unless_refused index op (resource_values p)) (resource_calls.Attr index op) self.old self.new result }
     {
-        match self.callers.change(rt, self.user, index, op) {
-            Ok(()) => Ok(()),
-            Err(refusal) => Err(Stop::Call(refusal)),
+        let (values, reply) = self.values.step(ResourceCall::Attr(index, op));
+        if let Reply::Refused(refusal) = reply {
+            return Err(Stop::Call(refusal));
         }
+        make_change(&mut self.callers, rt, self.user, index, op);
+        self.values = values;
+        Ok(())
     }
 }
 
@@ -277,9 +298,9 @@ impl OpItem {
 
     /// Its owner changes the attribute of an index.
     pub(crate) fn change<R: Wait>(&mut self, rt: &R, index: u64, op: AttrOp) -> Result<(), Stop>
+        requires { self.old.closed ≡ false }
         ensures same { IsSameOp self.old self.new }
-        ensures did { OpMay (λ p stop. (refusal : Refusal) × (stop ≡ Call refusal) × IsReply op_meaning (Some p.opening) (op_calls.Attr index op) refusal)
-            (op_calls.Attr index op) self.old self.new result }
+        ensures did { OpDid (λ p. unless_refused index op (op_values p)) (op_calls.Attr index op) self.old self.new result }
     {
         match self.callers.change(rt, index, op) {
             Ok(()) => Ok(()),

@@ -1,6 +1,6 @@
 -- The steps of keeping a stream's numbers.
-use Rattle.std.proofs.Common.{◌≡◌, ℕ, ◌<◌, List, [], ◌∷◌, ◌++◌, length, take, Option, Some, None, Ok, Err, refl, ap, sym, ◌∙◌, subst, append_assoc, append-nil, true, false, true≢false}
-use Rattle.std.specs.Io.KnownBytes.{Consumes, IsAtEnd, Keeps as KeepsBytes}
+use Rattle.std.proofs.Common.{◌≡◌, ℕ, ◌<◌, List, [], ◌∷◌, ◌++◌, length, Option, Some, None, Result, Ok, Err, refl, ap, sym, ◌∙◌, subst, append_assoc, append-nil, true, false, true≢false}
+use Rattle.std.specs.Io.KnownBytes.{Consumes, Keeps as KeepsBytes}
 use Rattle.std.proofs.KnownBytes.{Consumes-kept, Consumes-nil, Consumes-trans}
 use Rattle.std.proofs.lemmas.List.{map-append}
 use Rattle.tk_client.specs.declared.fault.Fault.{Fault}
@@ -8,15 +8,16 @@ use Rattle.tk_client.specs.Feeding.{ClientView}
 use Rattle.tk_client.specs.Warnings.{LintsView}
 use Rattle.tk_fault.specs.declared.fault.AppFault.{AppFault}
 use Rattle.tk_fault.specs.declared.fault.AppFault.TheVariants as faults
-use Rattle.tk_report.specs.Fronts.{lines_in, tables_in}
-use Rattle.tk_report.specs.Shown.{shown_of}
-use Rattle.tk_report.specs.Taken.{HasTaken, first}
-use Rattle.tk_report.specs.Views.{AreAll, outcome_of}
-use Rattle.tk_report.proofs.FrontLemmas.{last_more, rise_more, rise_on}
-use Rattle.tk_report.proofs.ViewLemmas.{begins}
+use Rattle.tk_reading.specs.Fronts.{lines_in, tables_in}
+use Rattle.tk_reading.specs.Outcomes.{AreAll, outcome_of}
+use Rattle.tk_reading.specs.Reads.{StopsAfter, TakesMore}
+use Rattle.tk_reading.specs.Shown.{shown_of}
+use Rattle.tk_reading.specs.Taken.{HasTaken, first}
+use Rattle.tk_reading.proofs.FrontLemmas.{last_more, rise_more, rise_on}
+use Rattle.tk_reading.proofs.ReadLemmas.{begins}
 use Rattle.tk_metrics.specs.declared.by.By.{By}
 use Rattle.tk_metrics.specs.declared.leavers.Leavers.{Leavers}
-use Rattle.tk_metrics.specs.Following.{Follows, FollowsTo, StopsAfter}
+use Rattle.tk_metrics.specs.Following.{Follows}
 use Rattle.tk_metrics.specs.Keeping.{Keeps, PutsAll, PutsSome, numbers_of, numbers_of_all}
 use Rattle.tk_metrics.specs.Kept.{Kept, PutsNow, is_of_stream}
 use Rattle.tk_metrics.specs.Leaving.{gone_in}
@@ -35,21 +36,13 @@ Gets-trans (Some x) None c xs ys p q = absurd p
 Gets-trans (Some x) (Some y) None xs ys p q = absurd q
 Gets-trans (Some x) (Some y) (Some z) xs ys p q = q ∙ ap (λ l. l ++ ys) p ∙ append_assoc x xs ys
 
--- ---- what a reader gave
-
-pub all_given : (given left : Option (List ℕ)) (bytes : List ℕ) → Consumes given left bytes → IsAtEnd left → AreAll given bytes
-all_given None left bytes read end = tt
-all_given (Some x) None bytes read end = absurd read
-all_given (Some x) (Some y) bytes read end = read ∙ ap (λ zs. bytes ++ zs) end ∙ append-nil bytes
-
-none_taken : (xs : List ℕ) → take 0 xs ≡ []
-none_taken [] = refl
-none_taken (x ∷ xs) = refl
-
-pub reads_none : (left new : Option (List ℕ)) (n : ℕ) (buf : List ℕ) → n ≡ 0 → Consumes left new (take n buf) → Consumes left new []
-reads_none left new n buf is read = subst (Consumes left new) (ap (λ k. take k buf) is ∙ none_taken buf) read
-
 -- ---- steps
+
+-- what is followed stays followed by the same
+pub followed_by : (by : By) (bytes piece : List ℕ) (was : Leavers) (result : Result ℕ AppFault) (now : ClientView) (l : Leavers) → Follows by (shown_of bytes) was
+    → (Follows was.by (shown_of bytes) was → TakesMore (Follows was.by) bytes piece result now l) → TakesMore (Follows by) bytes piece result now l
+followed_by by bytes piece was result now l f takes =
+    subst (λ b. TakesMore (Follows b) bytes piece result now l) f.notes.told (takes (subst (λ b. Follows b (shown_of bytes) was) (sym f.notes.told) f))
 
 -- the text of tables after lines
 abbrev pub text_after : By → LintsView → ClientView → List ℕ → List ℕ
@@ -92,7 +85,7 @@ module _ (path : List ℕ) (by : By) (lints : LintsView) (given left : Option (L
 
   -- a piece more was read, and followed
   pub takes_more : (new : Option (List ℕ)) (piece : List ℕ) (sum : ℕ) (then : ClientView) (m : Leavers) → Consumes left new piece
-      → FollowsTo by k.bytes piece (Ok sum) then m → Kept path by lints given new sum put then m old there
+      → TakesMore (Follows by) k.bytes piece (Ok sum) then m → Kept path by lints given new sum put then m old there
   takes_more new piece sum then m read h = record {
     bytes = k.bytes ++ piece;
     read = Consumes-trans given left new k.bytes piece k.read read;
@@ -165,7 +158,7 @@ module _ (path : List ℕ) (by : By) (lints : LintsView) (given left : Option (L
 
   -- a piece more has a fault
   module _ (left' : Option (List ℕ)) (piece : List ℕ) (then : ClientView) (m : Leavers) (read : Consumes left left' piece) (n : ℕ) (fault : Fault)
-      (s : StopsAfter by k.bytes piece n fault then m) where
+      (s : StopsAfter (Follows by) k.bytes piece n fault then m) where
     -- the numbers of what stands were put
     pub ends_by : (new : Option Texts) → PutsNow path (text_after by lints then (k.bytes ++ s.part)) (Ok tt) there new
         → Keeps path by lints given left' (Err (faults.Stream n fault)) old new
@@ -207,7 +200,7 @@ module _ (path : List ℕ) (by : By) (lints : LintsView) (given left : Option (L
 
   -- a piece more could not be followed, for want of memory
   pub stops_with : (left' : Option (List ℕ)) (piece : List ℕ) (then : ClientView) (m : Leavers) (answer : AppFault) → Consumes left left' piece
-      → is_of_stream answer ≡ false → FollowsTo by k.bytes piece (Err answer) then m → Keeps path by lints given left' (Err answer) old there
+      → is_of_stream answer ≡ false → TakesMore (Follows by) k.bytes piece (Err answer) then m → Keeps path by lints given left' (Err answer) old there
   stops_with left' piece then m faults.Memory read other h = stops_without left' piece read
   stops_with left' piece then m faults.Read read other h = absurd h
   stops_with left' piece then m faults.Write read other h = absurd h
@@ -215,8 +208,8 @@ module _ (path : List ℕ) (by : By) (lints : LintsView) (given left : Option (L
   stops_with left' piece then m (faults.Stream n fault) read other h = absurd (true≢false other)
 
 -- a fault of the stream is one after lines that were followed
-pub stream_stops : (by : By) (bytes piece : List ℕ) (now : ClientView) (l : Leavers) (answer : AppFault) → is_of_stream answer ≡ true → FollowsTo by bytes piece (Err answer) now l
-    → (n : ℕ) × (fault : Fault) × (answer ≡ faults.Stream n fault) × StopsAfter by bytes piece n fault now l
+pub stream_stops : (by : By) (bytes piece : List ℕ) (now : ClientView) (l : Leavers) (answer : AppFault) → is_of_stream answer ≡ true → TakesMore (Follows by) bytes piece (Err answer) now l
+    → (n : ℕ) × (fault : Fault) × (answer ≡ faults.Stream n fault) × StopsAfter (Follows by) bytes piece n fault now l
 stream_stops by bytes piece now l (faults.Stream n fault) is h = (n, fault, refl, h)
 stream_stops by bytes piece now l faults.Memory is h = absurd (true≢false (sym is))
 stream_stops by bytes piece now l faults.Read is h = absurd h

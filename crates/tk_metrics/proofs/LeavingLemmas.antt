@@ -9,7 +9,7 @@ use Rattle.tk_metrics.specs.Leaving.{Holds, gone_in, resources_between, resource
 use Rattle.tk_metrics.specs.Metrics.{Gone}
 use Rattle.tk_metrics.specs.Sums.{left_task, resource_entry}
 
-tasks_more : (old : TablesView) (shown : List TablesView) (t : TablesView)
+pub tasks_more : (old : TablesView) (shown : List TablesView) (t : TablesView)
     → tasks_since old (shown ++ t ∷ []) ≡ tasks_since old shown ++ map left_task (tasks_between (last_shown old shown) t)
 tasks_more old [] t = append-nil (map left_task (tasks_between old t))
 tasks_more old (s ∷ shown) t =
@@ -25,7 +25,7 @@ resources_more old (s ∷ shown) t =
     ∙ sym (append_assoc (map (resource_entry old.counts) (resources_between old s)) (resources_since s shown)
     (map (resource_entry (last_shown s shown).counts) (resources_between (last_shown s shown) t)))
 
-last_more : (old : TablesView) (shown : List TablesView) (t : TablesView) → last_shown old (shown ++ t ∷ []) ≡ t
+pub last_more : (old : TablesView) (shown : List TablesView) (t : TablesView) → last_shown old (shown ++ t ∷ []) ≡ t
 last_more old [] t = refl
 last_more old (s ∷ shown) t = last_more s shown t
 

@@ -1,5 +1,4 @@
 pub mod LeavingLemmas
-pub mod SeriesLemmas
 pub mod StreamLemmas
-pub mod FollowLemmas
 pub mod KeepLemmas
+pub mod RisingLemmas

@@ -1,7 +1,7 @@
 -- The families of a stream: what they are called, how they run, and what is said of them.
 use Rattle.std.specs.Prelude.{ℕ, List, codes, Bool, true, false}
 use Rattle.tk_metrics.specs.declared.family.Count.{Count}
-use Rattle.tk_metrics.specs.declared.family.Count.TheVariants.{Polls, Busy, Scheduled, Wakes, SelfWakes, WakerClones, WakerDrops}
+use Rattle.tk_metrics.specs.declared.family.Count.TheVariants.{Polls, Busy, Scheduled, Wakes, SelfWakes, WakerClones, WakerDrops, OpenPoll, OpenWait, Waiting}
 use Rattle.tk_metrics.specs.declared.family.Family.{Family}
 use Rattle.tk_metrics.specs.declared.family.Family.TheVariants.{Task, Tasks, PollOps, Warnings, Dropped, Lines}
 use Rattle.tk_metrics.specs.declared.family.FamilyKind.{FamilyKind}
@@ -16,6 +16,9 @@ base_of (Task Wakes) = codes "taskscope_task_wakes"
 base_of (Task SelfWakes) = codes "taskscope_task_self_wakes"
 base_of (Task WakerClones) = codes "taskscope_task_waker_clones"
 base_of (Task WakerDrops) = codes "taskscope_task_waker_drops"
+base_of (Task OpenPoll) = codes "taskscope_task_open_poll_seconds"
+base_of (Task OpenWait) = codes "taskscope_task_open_wait_seconds"
+base_of (Task Waiting) = codes "taskscope_task_waiting_seconds"
 base_of Tasks = codes "taskscope_tasks"
 base_of PollOps = codes "taskscope_resource_poll_ops"
 base_of Warnings = codes "taskscope_warnings"
@@ -31,25 +34,38 @@ help_of (Task Wakes) = codes "Wakes of tasks."
 help_of (Task SelfWakes) = codes "Wakes of tasks that came from within the task."
 help_of (Task WakerClones) = codes "Clones of wakers of tasks."
 help_of (Task WakerDrops) = codes "Drops of wakers of tasks."
+help_of (Task OpenPoll) = codes "How long the longest poll has run that has not ended."
+help_of (Task OpenWait) = codes "How long the longest wait for a poll has lasted that has not ended."
+help_of (Task Waiting) = codes "How long all tasks that wait for a poll have waited for it."
 help_of Tasks = codes "Tasks by the state that they are in."
 help_of PollOps = codes "Poll operations of resources by what they answered."
 help_of Warnings = codes "Warnings about tasks."
 help_of Dropped = codes "Events that the event buffer had no room for."
 help_of Lines = codes "Lines of the stream."
 
+-- what has lasted by now is a gauge, and any other number of tasks only rises
+abbrev pub count_kind : Count → FamilyKind
+count_kind OpenPoll = Gauge
+count_kind OpenWait = Gauge
+count_kind Waiting = Gauge
+count_kind other = Counter
+
 -- counters only rise
 abbrev pub kind_of : Family → FamilyKind
 kind_of Tasks = Gauge
 kind_of Warnings = Gauge
-kind_of (Task count) = Counter
+kind_of (Task count) = count_kind count
 kind_of PollOps = Counter
 kind_of Dropped = Counter
 kind_of Lines = Counter
 
--- the counts that are times, in nanoseconds
+-- the numbers that are times, in nanoseconds
 abbrev pub is_time : Count → Bool
 is_time Busy = true
 is_time Scheduled = true
+is_time OpenPoll = true
+is_time OpenWait = true
+is_time Waiting = true
 is_time other = false
 
 -- whether a family's values are times, which are written in seconds

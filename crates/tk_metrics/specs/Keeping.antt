@@ -6,8 +6,8 @@ use Rattle.tk_client.specs.Meaning.{Start, goes, stops}
 use Rattle.tk_client.specs.Warnings.{LintsView}
 use Rattle.tk_fault.specs.declared.fault.AppFault.{AppFault}
 use Rattle.tk_fault.specs.declared.fault.AppFault.TheVariants as faults
-use Rattle.tk_report.specs.Fronts.{IsFront, Rise, tables_in}
-use Rattle.tk_report.specs.Views.{AreAll, outcome_of}
+use Rattle.tk_reading.specs.Fronts.{IsFront, Rise, tables_in}
+use Rattle.tk_reading.specs.Outcomes.{AreAll, outcome_of}
 use Rattle.tk_stream.specs.Tables.{TablesView}
 use Rattle.tk_metrics.specs.declared.by.By.{By}
 use Rattle.tk_metrics.specs.Places.{Gets, Texts}

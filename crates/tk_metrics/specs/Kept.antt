@@ -5,9 +5,9 @@ use Rattle.tk_client.specs.Feeding.{ClientView}
 use Rattle.tk_client.specs.Warnings.{LintsView}
 use Rattle.tk_fault.specs.declared.fault.AppFault.{AppFault}
 use Rattle.tk_fault.specs.declared.fault.AppFault.TheVariants as faults
-use Rattle.tk_report.specs.Fronts.{Rise, last_lines}
-use Rattle.tk_report.specs.Shown.{shown_of}
-use Rattle.tk_report.specs.Taken.{HasTaken}
+use Rattle.tk_reading.specs.Fronts.{Rise, last_lines}
+use Rattle.tk_reading.specs.Shown.{shown_of}
+use Rattle.tk_reading.specs.Taken.{HasTaken}
 use Rattle.tk_metrics.specs.declared.by.By.{By}
 use Rattle.tk_metrics.specs.declared.keeping.Progress.{Progress}
 use Rattle.tk_metrics.specs.declared.leavers.Leavers.{Leavers}

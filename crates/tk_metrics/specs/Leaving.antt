@@ -9,7 +9,7 @@ use Rattle.tk_metrics.specs.declared.left.Left.{Left}
 use Rattle.tk_metrics.specs.declared.sums.PollOps.{PollOps}
 use Rattle.tk_metrics.specs.declared.sums.Sums.{Sums}
 use Rattle.tk_metrics.specs.Metrics.{Gone}
-use Rattle.tk_metrics.specs.Series.{series_of}
+use Rattle.tk_series.specs.Series.{series_of}
 use Rattle.tk_metrics.specs.Sums.{both_ops, left_task, plus, resource_entry}
 
 -- ---- from tables to the next

@@ -2,8 +2,6 @@
 pub mod Families
 -- Families of samples, as they are written
 pub mod Samples
--- What the same labels add up to
-pub mod Series
 -- What is added up of tasks, and of resources
 pub mod Sums
 -- The text of a stream's numbers
@@ -16,6 +14,8 @@ pub mod Streams
 pub mod Places
 -- What a place is given of a stream whose numbers are kept there
 pub mod Keeping
+-- That no count falls
+pub mod Rising
 -- Inner: no public clause cites these
 pub mod Following
 pub mod Kept

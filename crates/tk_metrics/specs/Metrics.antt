@@ -10,11 +10,11 @@ use Rattle.tk_metrics.specs.declared.by.By.{By}
 use Rattle.tk_metrics.specs.declared.family.Family.{Family}
 use Rattle.tk_metrics.specs.declared.family.Family.TheVariants as families
 use Rattle.tk_metrics.specs.declared.family.Count.{Count}
-use Rattle.tk_metrics.specs.declared.family.Count.TheVariants.{Polls, Busy, Scheduled, Wakes, SelfWakes as OwnWakes, WakerClones, WakerDrops}
+use Rattle.tk_metrics.specs.declared.family.Count.TheVariants.{Polls, Busy, Scheduled, Wakes, SelfWakes as OwnWakes, WakerClones, WakerDrops, OpenPoll, OpenWait, Waiting}
 use Rattle.tk_metrics.specs.declared.sums.PollOps.{PollOps}
 use Rattle.tk_metrics.specs.declared.sums.Sums.{Sums}
 use Rattle.tk_metrics.specs.Samples.{family, head_of, label, sample, with_label}
-use Rattle.tk_metrics.specs.Series.{series_of}
+use Rattle.tk_series.specs.Series.{series_of}
 use Rattle.tk_metrics.specs.Sums.{both_ops, plus, resource_entry, task_entry}
 
 -- what has left the tables: tasks by their name and kind, and resources by their type, each with what it had come to
@@ -24,7 +24,7 @@ pub record Gone : Type 0 where
 
 -- ---- tasks
 
--- one of the counts of tasks
+-- one of the numbers of tasks
 abbrev pub count_of : Count → Sums → ℕ
 count_of Polls s = s.polls
 count_of Busy s = s.busy
@@ -33,8 +33,11 @@ count_of Wakes s = s.wakes
 count_of OwnWakes s = s.own
 count_of WakerClones s = s.clones
 count_of WakerDrops s = s.drops
+count_of OpenPoll s = s.open_poll
+count_of OpenWait s = s.open_wait
+count_of Waiting s = s.waiting
 
--- a family of such counts
+-- a family of such numbers
 abbrev pub count_family : Count → List (List ℕ × Sums) → List ℕ
 count_family count tasks = family (families.Task count) (λ s. sample (families.Task count) (s.0, count_of count s.1)) tasks
 
@@ -60,7 +63,10 @@ task_families tasks =
     ++ (count_family OwnWakes tasks
     ++ (count_family WakerClones tasks
     ++ (count_family WakerDrops tasks
-    ++ family families.Tasks state_samples tasks))))))
+    ++ (family families.Tasks state_samples tasks
+    ++ (count_family OpenPoll tasks
+    ++ (count_family OpenWait tasks
+    ++ count_family Waiting tasks)))))))))
 
 -- ---- resources
 
@@ -118,7 +124,7 @@ text_of tasks resources warnings dropped lines =
 
 -- the series of tasks: those that have left, and those of the tables
 abbrev pub task_series : By → TablesView → Gone → List (List ℕ × Sums)
-task_series by tables gone = series_of plus (gone.tasks ++ map (task_entry by) tables.tasks)
+task_series by tables gone = series_of plus (gone.tasks ++ map (task_entry by tables.now) tables.tasks)
 
 -- the series of resources
 abbrev pub resource_series : TablesView → Gone → List (List ℕ × PollOps)

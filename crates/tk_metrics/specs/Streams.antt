@@ -4,8 +4,8 @@ use Rattle.std.specs.Io.KnownBytes.{Appends}
 use Rattle.tk_client.specs.Warnings.{LintsView}
 use Rattle.tk_fault.specs.declared.fault.AppFault.{AppFault}
 use Rattle.tk_fault.specs.declared.fault.AppFault.TheVariants as faults
-use Rattle.tk_report.specs.Shown.{shown_of}
-use Rattle.tk_report.specs.Views.{HaveFault, LeadTo}
+use Rattle.tk_reading.specs.Shown.{shown_of}
+use Rattle.tk_reading.specs.Outcomes.{HaveFault, LeadTo}
 use Rattle.tk_stream.specs.Sent.{IsCut}
 use Rattle.tk_stream.specs.Tables.{TablesView}
 use Rattle.tk_metrics.specs.declared.by.By.{By}

@@ -1,6 +1,8 @@
 -- What is added up of tasks, and of resources.
-use Rattle.std.specs.Prelude.{ℕ, ◌+◌, Bool, ◌&&◌, not, is_some, unwrap_or, List, codes, [], ◌++◌, ◌∷◌, if◌then◌else◌}
+use Rattle.std.specs.Prelude.{ℕ, ◌+◌, max, Bool, ◌&&◌, not, is_some, unwrap_or, List, codes, [], ◌++◌, ◌∷◌, if◌then◌else◌}
 use Rattle.tk_core.specs.Lists.{capped}
+use Rattle.tk_core.specs.Lasting.{runs_for, waits_for}
+use Rattle.tk_core.specs.Task.{waited_of}
 use Rattle.tk_core.specs.declared.task.row.TaskRow.{TaskRow}
 use Rattle.tk_ids.specs.Ids.{id_text}
 use Rattle.tk_stream.specs.Spelling.{kind_text}
@@ -24,7 +26,7 @@ abbrev pub sums_left : TaskRow → Sums
 sums_left x = record {
   polls = x.polls;
   busy = x.busy;
-  sched = unwrap_or x.waited x.sched;
+  sched = unwrap_or (waited_of x) x.sched;
   wakes = x.wakes;
   own = x.self_wakes;
   clones = x.clones;
@@ -33,18 +35,24 @@ sums_left x = record {
   scheduled = 0;
   polling = 0;
   closed = 0;
+  open_poll = 0;
+  open_wait = 0;
+  waiting = 0;
 }
 
--- what a task has come to, and its state: the first that holds of closed, being polled and scheduled; else it is idle
-abbrev pub sums_of : TaskRow → Sums
-sums_of x = record (sums_left x) {
+-- what a task has come to at a moment, its state, and what lasts. Its state is the first that holds of closed, being polled and scheduled; else it is idle
+abbrev pub sums_of : ℕ → TaskRow → Sums
+sums_of now x = record (sums_left x) {
   idle = one_if (not (is_some x.dropped) && (not x.polling && not x.scheduled));
   scheduled = one_if (not (is_some x.dropped) && (not x.polling && x.scheduled));
   polling = one_if (not (is_some x.dropped) && x.polling);
   closed = one_if (is_some x.dropped);
+  open_poll = runs_for x now;
+  open_wait = waits_for x now;
+  waiting = waits_for x now;
 }
 
--- the sums of both. A sum that passes 2^64 - 1 stays there
+-- the sums of both, and the longer one of what lasts. A sum that passes 2^64 - 1 stays there
 abbrev pub plus : Sums → Sums → Sums
 plus a b = record {
   polls = capped (a.polls + b.polls);
@@ -58,6 +66,9 @@ plus a b = record {
   scheduled = capped (a.scheduled + b.scheduled);
   polling = capped (a.polling + b.polling);
   closed = capped (a.closed + b.closed);
+  open_poll = max a.open_poll b.open_poll;
+  open_wait = max a.open_wait b.open_wait;
+  waiting = capped (a.waiting + b.waiting);
 }
 
 -- a task's name and kind
@@ -73,9 +84,9 @@ id_label Id t = label (codes "id") (id_text t.info.id) ++ 44 ∷ []
 abbrev pub task_labels : By → Task → List ℕ
 task_labels by t = id_label by t ++ own_labels t
 
--- a task, with what it has come to
-abbrev pub task_entry : By → Task → List ℕ × Sums
-task_entry by t = (task_labels by t, sums_of t.row)
+-- a task, with what it has come to at a moment
+abbrev pub task_entry : By → ℕ → Task → List ℕ × Sums
+task_entry by now t = (task_labels by t, sums_of now t.row)
 
 -- a task that has left
 abbrev pub left_task : Task → List ℕ × Sums

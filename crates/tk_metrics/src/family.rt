@@ -9,7 +9,7 @@ pub enum FamilyKind {
     Gauge,
 }
 
-/// One of the counts of tasks.
+/// One of the numbers of tasks: a count that only rises, or how long something has lasted by now.
 #[derive(Clone, Copy, Debug, PartialEq, Eq)]
 pub enum Count {
     Polls,
@@ -19,12 +19,18 @@ pub enum Count {
     SelfWakes,
     WakerClones,
     WakerDrops,
+    /// How long the longest poll has run that has not ended.
+    OpenPoll,
+    /// How long the longest wait for a poll has lasted that has not ended.
+    OpenWait,
+    /// How long all tasks that wait for a poll have waited for it.
+    Waiting,
 }
 
 /// What the samples of one name are of.
 #[derive(Clone, Copy, Debug, PartialEq, Eq)]
 pub enum Family {
-    /// A count of tasks.
+    /// A number of tasks.
     Task(Count),
     /// How many tasks are in which state.
     Tasks,
@@ -36,6 +42,40 @@ pub enum Family {
     Dropped,
     /// Lines of the stream.
     Lines,
+}
+
+impl Count {
+    ghost use Rattle.std.specs.Prelude.{◌≡◌};
+    ghost use Rattle.tk_metrics.specs.Families.{count_kind, is_time};
+
+    fn kind(self) -> FamilyKind
+        ensures { result ≡ count_kind self }
+    {
+        match self {
+            Count::OpenPoll | Count::OpenWait | Count::Waiting => FamilyKind::Gauge,
+            Count::Polls
+            | Count::Busy
+            | Count::Scheduled
+            | Count::Wakes
+            | Count::SelfWakes
+            | Count::WakerClones
+            | Count::WakerDrops => FamilyKind::Counter,
+        }
+    }
+
+    fn is_time(self) -> bool
+        ensures { result ≡ is_time self }
+    {
+        match self {
+            Count::Busy | Count::Scheduled | Count::OpenPoll | Count::OpenWait | Count::Waiting =>
+                true,
+            Count::Polls
+            | Count::Wakes
+            | Count::SelfWakes
+            | Count::WakerClones
+            | Count::WakerDrops => false,
+        }
+    }
 }
 
 impl Family {
@@ -54,6 +94,9 @@ impl Family {
             Family::Task(Count::SelfWakes) => "taskscope_task_self_wakes",
             Family::Task(Count::WakerClones) => "taskscope_task_waker_clones",
             Family::Task(Count::WakerDrops) => "taskscope_task_waker_drops",
+            Family::Task(Count::OpenPoll) => "taskscope_task_open_poll_seconds",
+            Family::Task(Count::OpenWait) => "taskscope_task_open_wait_seconds",
+            Family::Task(Count::Waiting) => "taskscope_task_waiting_seconds",
             Family::Tasks => "taskscope_tasks",
             Family::PollOps => "taskscope_resource_poll_ops",
             Family::Warnings => "taskscope_warnings",
@@ -76,6 +119,15 @@ impl Family {
             Family::Task(Count::SelfWakes) => "Wakes of tasks that came from within the task.",
             Family::Task(Count::WakerClones) => "Clones of wakers of tasks.",
             Family::Task(Count::WakerDrops) => "Drops of wakers of tasks.",
+            Family::Task(Count::OpenPoll) => {
+                "How long the longest poll has run that has not ended."
+            }
+            Family::Task(Count::OpenWait) => {
+                "How long the longest wait for a poll has lasted that has not ended."
+            }
+            Family::Task(Count::Waiting) => {
+                "How long all tasks that wait for a poll have waited for it."
+            }
             Family::Tasks => "Tasks by the state that they are in.",
             Family::PollOps => "Poll operations of resources by what they answered.",
             Family::Warnings => "Warnings about tasks.",
@@ -88,10 +140,9 @@ impl Family {
         ensures { result ≡ kind_of self }
     {
         match self {
+            Family::Task(count) => count.kind(),
             Family::Tasks | Family::Warnings => FamilyKind::Gauge,
-            Family::Task(_) | Family::PollOps | Family::Dropped | Family::Lines => {
-                FamilyKind::Counter
-            }
+            Family::PollOps | Family::Dropped | Family::Lines => FamilyKind::Counter,
         }
     }
 
@@ -100,7 +151,7 @@ impl Family {
         ensures { result ≡ is_in_seconds self }
     {
         match self {
-            Family::Task(Count::Busy | Count::Scheduled) => true,
+            Family::Task(count) => count.is_time(),
             _ => false,
         }
     }

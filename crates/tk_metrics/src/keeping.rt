@@ -1,7 +1,7 @@
 //! The numbers of a stream, kept while it comes.
 ghost use Rattle.std.specs.Prelude.{◌≡◌, ◌≤◌, ◌<◌, ◌+◌, ◌^◌, ℕ, List, Option, length, IfOk, true};
 ghost use Rattle.std.specs.Io.KnownBytes.{Consumes, IsAtEnd};
-ghost use Rattle.tk_report.specs.Taken.{first};
+ghost use Rattle.tk_reading.specs.Taken.{first};
 ghost use Rattle.tk_stream.specs.Tables.{TablesView};
 ghost use Rattle.tk_metrics.specs.Following.{Follows};
 ghost use Rattle.tk_metrics.specs.Keeping.{Keeps};
@@ -12,14 +12,14 @@ ghost use Rattle.tk_metrics.specs.Places.{Texts};
 ghost use Rattle.tk_metrics.specs.declared.by.By.{By as Told};
 
 use crate::by::By;
-use crate::following::{MAX_LINE, PIECE, feed_lines, numbers_now};
+use crate::following::numbers_now;
 use crate::leavers::Leavers;
 use crate::place::Place;
 use std::alloc::Global;
 use std::io::Read;
 use tk_client::{Client, Lints};
 use tk_fault::AppFault;
-use tk_pace::Pace;
+use tk_reading::{MAX_LINE, PIECE, Pace, feed_lines};
 
 // How many lines are applied, and how many were when numbers were last put, if they were.
 #[derive(Clone, Copy)]
@@ -74,7 +74,7 @@ fn take_piece<P: Place>(
         → spec.Goes path.now by lints.now given new result put client.new leavers.new old (P.texts place.new) }
     ensures few { IfOk result (λ sum. sum ≤ lines + 65536) }
 {
-    match feed_lines(client, alloc, leavers, lines, piece) {
+    match feed_lines(client, leavers, lines, piece) {
         Ok(sum) => Ok(sum),
         Err(fault) => {
             if is_of_stream(&fault) {

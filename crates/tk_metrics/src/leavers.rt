@@ -1,12 +1,16 @@
 //! What leaves the tables of a stream, line by line.
+ghost use Rattle.tk_metrics.specs.Following as following;
+
 use crate::by::By;
 use crate::left::Left;
 use std::alloc::{AllocError, Global};
+use tk_reading::Observes;
 use tk_stream::Tables;
 
 /// What has left so far, how many lines there were, and the tables after the last one.
 #[derive(Drop)]
 pub(crate) struct Leavers {
+    alloc: Global,
     by: By,
     lines: u64,
     left: Left,
@@ -14,7 +18,7 @@ pub(crate) struct Leavers {
 }
 
 impl Leavers {
-    ghost use Rattle.std.specs.Prelude.{◌≡◌, ◌≤◌, ◌^◌, ◌++◌, ◌∷◌, [], List, OnOk, IfOk, length};
+    ghost use Rattle.std.specs.Prelude.{◌≡◌, ◌++◌, ◌∷◌, [], List, OnOk, IfOk};
     ghost use Rattle.tk_stream.specs.Tables.{TablesView};
     ghost use Rattle.tk_metrics.specs.Following.{Follows, Notes};
     ghost use Rattle.tk_metrics.specs.declared.by.By.{By as Told};
@@ -25,6 +29,7 @@ impl Leavers {
     {
         let before = Tables::new(alloc)?;
         Ok(Leavers {
+            alloc,
             by,
             lines: 0,
             left: Left::none(alloc),
@@ -33,7 +38,7 @@ impl Leavers {
     }
 
     // Takes what the tables after a line have no more.
-    fn note_left(&mut self, alloc: Global, tables: &Tables) -> Result<(), AllocError>
+    fn note_left(&mut self, tables: &Tables) -> Result<(), AllocError>
         ensures notes { (by : Told) (shown : List TablesView) → Notes by shown self.old
             → OnOk result (Notes by (shown ++ tables.now ∷ []) self.new) }
         ensures lines { self.new.lines ≡ self.old.lines }
@@ -41,21 +46,11 @@ impl Leavers {
         match self.by {
             By::Id => Ok(()),
             By::Name => {
-                self.left.take(alloc, &self.before, tables)?;
+                self.left.take(self.alloc, &self.before, tables)?;
                 self.before = tables.copy()?;
                 Ok(())
             }
         }
-    }
-
-    /// Takes the tables after a line.
-    pub fn note(&mut self, alloc: Global, tables: &Tables) -> Result<(), AllocError>
-        ensures { (by : Told) (shown : List TablesView) → length shown ≤ 2 ^ 62 → Follows by shown self.old
-            → OnOk result (Follows by (shown ++ tables.now ∷ []) self.new) }
-    {
-        self.note_left(alloc, tables)?;
-        self.lines = self.lines.saturating_add(1);
-        Ok(())
     }
 
     /// How many lines there were.
@@ -77,5 +72,15 @@ impl Leavers {
         ensures { IfOk result (λ left. left ≡ self.now.left) }
     {
         self.left.copy()
+    }
+}
+
+impl Observes for Leavers {
+    ghost saw = { λ from shown leavers. following.Follows from.by shown leavers };
+
+    fn line(&mut self, tables: &Tables) -> Result<(), AllocError> {
+        self.note_left(tables)?;
+        self.lines = self.lines.saturating_add(1);
+        Ok(())
     }
 }

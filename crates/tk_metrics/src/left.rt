@@ -3,14 +3,14 @@ ghost use Rattle.std.specs.Prelude.{◌≡◌, ◌++◌, ℕ, List, OnOk, map, i
 ghost use Rattle.std.specs.Option.{option_map_or};
 ghost use Rattle.tk_stream.specs.Tables.{resource_with, task_with};
 ghost use Rattle.tk_metrics.specs.Leaving as spec;
-ghost use Rattle.tk_metrics.specs.Series.{series_of, with_value};
+ghost use Rattle.tk_series.specs.Series.{series_of, with_value};
 ghost use Rattle.tk_metrics.specs.Sums as sums;
 ghost use Rattle.tk_metrics.specs.declared.sums.PollOps.{PollOps as PollOpsView};
 ghost use Rattle.tk_metrics.specs.declared.sums.Sums.{Sums as SumsView};
 
-use crate::series::Series;
 use crate::sums::{PollOps, Sums, own_labels, poll_ops, sums_left, type_label};
 use std::alloc::{AllocError, Global};
+use tk_series::Series;
 use tk_stream::Tables;
 
 /// What has left the tables of a stream: tasks by their names and kinds, and resources by their types, each as it was last shown.

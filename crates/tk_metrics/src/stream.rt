@@ -1,41 +1,18 @@
 //! The numbers of a stream, once it was read to its end.
-ghost use Rattle.std.specs.Prelude.{◌≡◌, [], IfErr};
-ghost use Rattle.tk_report.specs.Taken.{first};
+ghost use Rattle.std.specs.Prelude.{◌≡◌, IfErr};
+ghost use Rattle.tk_reading.specs.Taken.{first};
 ghost use Rattle.tk_report.specs.Views.{IsOfWriter};
-ghost use Rattle.tk_metrics.specs.Following.{Follows, FollowsStream};
 ghost use Rattle.tk_metrics.specs.Streams.{Measures};
 
 use crate::by::By;
-use crate::following::{MAX_LINE, PIECE, feed_lines, numbers_now};
+use crate::following::numbers_now;
 use crate::leavers::Leavers;
 use std::alloc::Global;
 use std::io::{Read, Write};
 use tk_client::{Client, Lints};
 use tk_fault::AppFault;
+use tk_reading::{MAX_LINE, read_stream};
 use tk_stream::send;
-
-// Feeds a new client with the reader's bytes to their end. It gives up after 2^32 reads.
-fn take_stream<R: Read>(
-    client: &mut Client,
-    alloc: Global,
-    leavers: &mut Leavers,
-    reader: &mut R,
-) -> Result<(), AppFault>
-    requires client { client.old ≡ first }
-    requires leavers { Follows leavers.old.by [] leavers.old }
-    ensures { FollowsStream leavers.old.by (R.remaining reader.old) (R.remaining reader.new) result client.new leavers.new }
-{
-    let mut piece = [0u8; PIECE];
-    let mut lines = 0;
-    for _ in 0u64..4_294_967_296 {
-        match reader.read(&mut piece) {
-            Ok(0) => return Ok(()),
-            Ok(n) => lines = feed_lines(client, alloc, leavers, lines, &piece[..n])?,
-            Err(_) => return Err(AppFault::Read),
-        }
-    }
-    Err(AppFault::Read)
-}
 
 // What `metrics_stream` does by a new client.
 fn write_by<R: Read, W: Write>(
@@ -54,7 +31,7 @@ fn write_by<R: Read, W: Write>(
     let Ok(mut leavers) = Leavers::new(alloc, by) else {
         return Err(AppFault::Memory);
     };
-    take_stream(client, alloc, &mut leavers, reader)?;
+    read_stream(client, &mut leavers, reader)?;
     let Ok(text) = numbers_now(alloc, client, &leavers, lints) else {
         return Err(AppFault::Memory);
     };

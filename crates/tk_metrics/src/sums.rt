@@ -2,18 +2,18 @@
 ghost use Rattle.std.specs.Prelude.{◌≡◌, ◌++◌, ℕ, List, IfOk, OnOk, map, slice_get};
 ghost use Rattle.std.specs.Option.{option_map_or};
 ghost use Rattle.tk_report.specs.Pieces.{Puts};
-ghost use Rattle.tk_metrics.specs.Series.{series_of, with_value};
+ghost use Rattle.tk_series.specs.Series.{series_of, with_value};
 ghost use Rattle.tk_metrics.specs.Sums as spec;
 ghost use Rattle.tk_metrics.specs.declared.sums.PollOps.{PollOps as PollOpsView};
 ghost use Rattle.tk_metrics.specs.declared.sums.Sums.{Sums as SumsView};
 
 use crate::by::By;
 use crate::family::Count;
-use crate::series::{Added, Series};
 use crate::text::{put, put_label};
 use std::alloc::{AllocError, Global};
 use tk_core::TaskRow;
 use tk_report::kind_word;
+use tk_series::{Added, Series};
 use tk_stream::{Resource, Tables, Task};
 
 /// What tasks have come to, and how many are in which state. A sum that passes 2^64 - 1 stays there.
@@ -33,6 +33,12 @@ pub struct Sums {
     pub scheduled: u64,
     pub polling: u64,
     pub closed: u64,
+    /// How long the longest poll has run that has not ended, in nanoseconds.
+    pub open_poll: u64,
+    /// How long the longest wait for a poll has lasted that has not ended, in nanoseconds.
+    pub open_wait: u64,
+    /// How long all that wait for a poll have waited for it, in nanoseconds.
+    pub waiting: u64,
 }
 
 /// How many poll operations of resources were ready, and how many pending.
@@ -57,6 +63,9 @@ impl Sums {
             Count::SelfWakes => self.own,
             Count::WakerClones => self.clones,
             Count::WakerDrops => self.drops,
+            Count::OpenPoll => self.open_poll,
+            Count::OpenWait => self.open_wait,
+            Count::Waiting => self.waiting,
         }
     }
 }
@@ -81,6 +90,9 @@ impl Added for Sums {
             scheduled: self.scheduled.saturating_add(more.scheduled),
             polling: self.polling.saturating_add(more.polling),
             closed: self.closed.saturating_add(more.closed),
+            open_poll: self.open_poll.max(more.open_poll),
+            open_wait: self.open_wait.max(more.open_wait),
+            waiting: self.waiting.saturating_add(more.waiting),
         }
     }
 }
@@ -115,7 +127,7 @@ pub(crate) fn sums_left(row: &TaskRow) -> Sums
     Sums {
         polls: row.polls,
         busy: row.busy,
-        sched: row.waited.unwrap_or(row.sched),
+        sched: row.waited().unwrap_or(row.sched),
         wakes: row.wakes,
         own: row.self_wakes,
         clones: row.clones,
@@ -124,18 +136,25 @@ pub(crate) fn sums_left(row: &TaskRow) -> Sums
         scheduled: 0,
         polling: 0,
         closed: 0,
+        open_poll: 0,
+        open_wait: 0,
+        waiting: 0,
     }
 }
 
-fn sums_of(row: &TaskRow) -> Sums
-    ensures { result ≡ spec.sums_of row.now }
+fn sums_of(row: &TaskRow, now: u64) -> Sums
+    ensures { result ≡ spec.sums_of now row.now }
 {
     let open = row.dropped.is_none();
+    let wait = row.waits_for(now);
     Sums {
         idle: one_if(open && !row.polling && !row.scheduled),
         scheduled: one_if(open && !row.polling && row.scheduled),
         polling: one_if(open && row.polling),
         closed: one_if(!open),
+        open_poll: row.runs_for(now),
+        open_wait: wait,
+        waiting: wait,
         ..sums_left(row)
     }
 }
@@ -187,10 +206,13 @@ fn add_task_at(
     place: usize,
 ) -> Result<(), AllocError>
     ensures { OnOk result (series.new ≡ option_map_or
-        (λ t. with_value spec.plus (spec.task_labels by t) (spec.sums_of t.row) series.old) (slice_get tables.now.tasks place) series.old) }
+        (λ t. with_value spec.plus (spec.task_labels by t) (spec.sums_of tables.now.now t.row) series.old) (slice_get tables.now.tasks place) series.old) }
 {
     match tables.task_at(place) {
-        Some(task) => series.add(task_labels(alloc, by, task)?, sums_of(&task.row)),
+        Some(task) => {
+            let sums = sums_of(&task.row, tables.now());
+            series.add(task_labels(alloc, by, task)?, sums)
+        }
         None => Ok(()),
     }
 }
@@ -203,7 +225,7 @@ pub(crate) fn add_tasks(
     tables: &Tables,
 ) -> Result<(), AllocError>
     ensures { (before : List (List ℕ × SumsView)) → series.old ≡ series_of spec.plus before
-        → OnOk result (series.new ≡ series_of spec.plus (before ++ map (spec.task_entry by) tables.now.tasks)) }
+        → OnOk result (series.new ≡ series_of spec.plus (before ++ map (spec.task_entry by tables.now.now) tables.now.tasks)) }
 {
     for place in 0..tables.task_count() {
         add_task_at(series, alloc, by, tables, place)?;

@@ -6,12 +6,12 @@ ghost use Rattle.tk_metrics.specs.Metrics as spec;
 ghost use Rattle.tk_metrics.specs.Samples.{family as family_text, sample, with_label};
 
 use crate::family::{Count, Family};
-use crate::series::Series;
 use crate::sums::{PollOps, Sums};
 use crate::text::{put, put_bytes, put_head, put_label, put_sample};
 use std::alloc::{AllocError, Global};
 use tk_client::{Warning, WarningKind};
 use tk_ids::Dropped;
+use tk_series::Series;
 
 // ---- tasks
 
@@ -118,6 +118,9 @@ fn put_tasks(out: &mut Vec<u8>, alloc: Global, tasks: &Series<Sums>) -> Result<(
     put_counts(out, Count::WakerClones, tasks)?;
     put_counts(out, Count::WakerDrops, tasks)?;
     put_all_states(out, alloc, tasks)?;
+    put_counts(out, Count::OpenPoll, tasks)?;
+    put_counts(out, Count::OpenWait, tasks)?;
+    put_counts(out, Count::Waiting, tasks)?;
     Ok(())
 }
 

@@ -1,12 +1,14 @@
 -- Loops over lists, one item more.
-use Rattle.std.proofs.Common.{◌≡◌, ℕ, zero, suc, ◌+◌, ◌<◌, ◌≤◌, List, [], ◌∷◌, ◌++◌, length, min, ◌⊎◌, inl, inr, take, map, filter, slice_get, get_or, Bool, true, false, cond, nat_eq, Some, None, refl, ap, sym, ◌∙◌, append-nil, add-one, arith, subst}
+use Rattle.std.proofs.Common.{◌≡◌, ℕ, zero, suc, ◌+◌, ◌<◌, ◌≤◌, List, [], ◌∷◌, ◌++◌, length, min, ◌⊎◌, inl, inr, take, map, filter, slice_get, get_or, Bool, true, false, ◌||◌, cond, nat_eq, Some, None, refl, ap, sym, ◌∙◌, append-nil, add-one, arith, subst}
 use Rattle.std.specs.Prelude.{flat_map, fold, sum_by}
 use Rattle.std.proofs.lemmas.Grind.{flat_map-append}
 use Rattle.std.proofs.lemmas.List.{map-append, take_all}
 use Rattle.std.proofs.lemmas.List.Elements.{filter-append}
 use Rattle.std.proofs.lemmas.List.Folds.{flat_map-map}
 use Rattle.std.proofs.lemmas.List.Sums.{fold-append, sum_by-append}
-use Rattle.std.proofs.lemmas.Bool.{cases_lt}
+use Rattle.std.specs.List.{list_any}
+use Rattle.std.specs.Option.{option_map_or}
+use Rattle.std.proofs.lemmas.Bool.{cases_Bool, cases_lt}
 use Rattle.std.proofs.Math.Dec.{eqb-suc-zero}
 use Rattle.tk_core.specs.Lists.{capped}
 use Rattle.tk_paper.specs.Pieces.{Writes}
@@ -114,3 +116,24 @@ take_min {A = A} xs n k is = by (cases_lt k (length xs))
     by : (k < length xs) ⊎ (length xs ≤ k) → take n xs ≡ take k xs
     by (inl lt) = let same : n ≡ k = omega (arith, is, lt) in ap (λ m. take m xs) same
     by (inr le) = take_all n xs (omega (arith, is, le)) ∙ sym (take_all k xs le)
+
+-- if neither an item before a place passes a test nor the one that stands there, none up to there does
+pub none_more : {A : Type 0} (p : A → Bool) (xs : List A) (i : ℕ) → list_any p (take i xs) ≡ false → option_map_or p (slice_get xs i) false ≡ false → list_any p (take (i + 1) xs) ≡ false
+none_more {A = A} p xs i none not = rw add-one (by xs i none not)
+  where
+    by : (ys : List A) (k : ℕ) → list_any p (take k ys) ≡ false → option_map_or p (slice_get ys k) false ≡ false → list_any p (take (suc k) ys) ≡ false
+    by [] k none not = refl
+    by (y ∷ ys) zero none not = rw not refl
+    by (y ∷ ys) (suc k) none not = elim (cases_Bool (p y)) [
+      | inl passes ↦ let no : true ≡ false = rw passes at none in absurd cc
+      | inr fails ↦ rw fails (by ys k (rw fails at none) not)
+    ]
+
+-- if the item at a place passes it, one does
+pub some_passes : {A : Type 0} (p : A → Bool) (xs : List A) (i : ℕ) → option_map_or p (slice_get xs i) false ≡ true → list_any p xs ≡ true
+some_passes p [] i e = absurd cc
+some_passes p (y ∷ ys) zero e = rw e refl
+some_passes p (y ∷ ys) (suc i) e = elim (cases_Bool (p y)) [
+  | inl passes ↦ rw passes refl
+  | inr fails ↦ rw fails (some_passes p ys i e)
+]

@@ -1,7 +1,7 @@
 -- Each piece of a page has its place, and the page ends between tags.
 use Rattle.std.proofs.Common.{◌≡◌, ℕ, ◌+◌, ◌-◌, List, [], ◌∷◌, length, take, filter, slice_get, Bool, true, false, cond, nat_eq, nat_lt, nat_le, ◌&&◌, ◌||◌, Option, Some, None, refl}
 use Rattle.std.specs.Prelude.{codes}
-use Rattle.std.specs.List.{zip}
+use Rattle.std.specs.List.{list_any, zip}
 use Rattle.std.specs.Option.{option_map_or}
 use Rattle.tk_core.specs.Lists.{capped}
 use Rattle.tk_core.specs.declared.task.row.TaskRow.{TaskRow}
@@ -37,7 +37,8 @@ use Rattle.tk_page.specs.Items as items
 use Rattle.tk_page.specs.Odd.{all_odd, is_odd, is_odd_at_all, kinds}
 use Rattle.tk_page.specs.Places.{id, more}
 use Rattle.tk_page.specs.Rows as rows
-use Rattle.tk_page.specs.Samples.{busy_until, sample_of, sched_until}
+use Rattle.tk_core.specs.Lasting.{busy_until, sched_until}
+use Rattle.tk_page.specs.Samples.{sample_of}
 use Rattle.tk_page.specs.Strips as strips
 use Rattle.tk_page.proofs.Leading.{Leads, bits_to, cut_to, each_to, none_to, then_to}
 
@@ -300,10 +301,14 @@ missing_to : (dropped : Dropped) → Between (heads.missing dropped)
 unfolding after_all
 missing_to dropped = either (nat_eq dropped.tasks 0 && (nat_eq dropped.resources 0 && nat_eq dropped.ops 0)) none_between (bits_to (heads.dropped_facts dropped) refl)
 
+late_to : (tasks : List Task) → Between (heads.late tasks)
+unfolding after_all
+late_to tasks = either (list_any heads.waits_from_last_wake tasks) (bits_to heads.late_note refl) none_between
+
 header_to : (watched lines gone : ℕ) (tables : TablesView) → Between (heads.header watched lines gone tables)
 unfolding after_all
 header_to watched lines gone tables =
-    cut_to 5 refl (then_to (bits_to (heads.facts watched lines tables) refl) (then_to (gone_to gone) (cut_to 1 refl (then_to (missing_to tables.dropped) (record { is = refl })))))
+    cut_to 5 refl (then_to (bits_to (heads.facts watched lines tables) refl) (then_to (gone_to gone) (cut_to 1 refl (then_to (missing_to tables.dropped) (then_to (late_to tables.tasks) (record { is = refl }))))))
 
 -- a page that begins between tags ends between tags
 pub sections_to : (scale : Scale) (signs : Signs) (holder : Option Holder) (courses : Courses) (tables : TablesView) (ranks : List Rank) (height : Height)

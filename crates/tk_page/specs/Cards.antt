@@ -13,7 +13,8 @@ use Rattle.tk_page.specs.declared.oddities.Signs.{Signs}
 use Rattle.tk_page.specs.Badges.{advice_of, class_of, icon_of, many_of, one_of, section}
 use Rattle.tk_page.specs.Figures.{each_of, share_of}
 use Rattle.tk_page.specs.Odd.{all_odd as odd_number, is_odd, kinds}
-use Rattle.tk_page.specs.Samples.{busy_until, time_of}
+use Rattle.tk_core.specs.Lasting.{busy_until}
+use Rattle.tk_page.specs.Samples.{time_of}
 
 -- the beginning of a card, with its sign
 abbrev pub start_card : Oddity → List Bit

@@ -1,5 +1,6 @@
 -- The head of a page.
-use Rattle.std.specs.Prelude.{ℕ, ◌==◌, min, ◌&&◌, Option, Some, None, if◌then◌else◌, List, [], ◌∷◌, ◌++◌, codes, fold, length}
+use Rattle.std.specs.Prelude.{ℕ, ◌==◌, nat_lt, min, Bool, ◌&&◌, ◌||◌, not, Option, Some, None, is_some, if◌then◌else◌, List, [], ◌∷◌, ◌++◌, codes, fold, length}
+use Rattle.std.specs.List.{list_any}
 use Rattle.tk_ids.specs.declared.info.Dropped.{Dropped}
 use Rattle.tk_stream.specs.declared.tables.task.Task.{Task}
 use Rattle.tk_stream.specs.Tables.{TablesView}
@@ -47,11 +48,25 @@ dropped_facts dropped =
 abbrev pub missing : Dropped → List Bit
 missing dropped = if (dropped.tasks == 0) && ((dropped.resources == 0) && (dropped.ops == 0)) then [] else dropped_facts dropped
 
+-- a task waits for a poll or has waited for one, and its row has each of its waits from its last wake on alone
+abbrev pub waits_from_last_wake : Task → Bool
+waits_from_last_wake t = not (is_some t.row.waits) && (nat_lt 0 t.row.sched || t.row.scheduled)
+
+-- the note that less is told of waiting than there was
+abbrev pub late_note : List Bit
+late_note =
+    class tags.P (codes "note") ∷ text (codes "How long a task waited is counted from its last wake, as this stream says no more: a task that is woken while it waits has waited longer. With ")
+    ∷ start tags.B ∷ text (codes "waits") ∷ close tags.B ∷ text (codes " a stream counts each wait from its begin.") ∷ close tags.P ∷ []
+
+-- the same where it is so
+abbrev pub late : List Task → List Bit
+late tasks = if list_any waits_from_last_wake tasks then late_note else []
+
 -- the head of a page
 abbrev pub header : ℕ → ℕ → ℕ → TablesView → List Bit
 header watched lines gone tables =
     start tags.Header ∷ start tags.H1 ∷ text (codes "taskscope") ∷ close tags.H1 ∷ class tags.P (codes "facts") ∷ []
-    ++ (facts watched lines tables ++ (gone_fact gone ++ (close tags.P ∷ [] ++ (missing tables.dropped ++ close tags.Header ∷ []))))
+    ++ (facts watched lines tables ++ (gone_fact gone ++ (close tags.P ∷ [] ++ (missing tables.dropped ++ (late tables.tasks ++ close tags.Header ∷ [])))))
 
 -- the task that holds up the others
 abbrev pub id_of : Option Holder → Option ℕ

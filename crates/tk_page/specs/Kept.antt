@@ -4,13 +4,9 @@ use Rattle.std.specs.List.{IsDistinct, last_or}
 use Rattle.std.specs.Map.{lookup}
 use Rattle.std.specs.Option.{option_map_or}
 use Rattle.indexmap.specs.IndexMap.{get}
-use Rattle.tk_client.specs.Feeding.{ClientView}
-use Rattle.tk_report.specs.Taken.{HasTaken}
 use Rattle.tk_core.specs.Lists.{capped}
-use Rattle.tk_report.specs.Views.{AreAll}
 use Rattle.tk_stream.specs.declared.tables.task.Task.{Task}
 use Rattle.tk_stream.specs.Tables.{TablesView, empty_tables, task_id, task_with}
-use Rattle.tk_report.specs.Shown.{shown_of}
 use Rattle.tk_paper.specs.Courses.{IsCourse}
 use Rattle.tk_page.specs.declared.history.History.{History}
 use Rattle.tk_page.specs.declared.history.Track.{Track}
@@ -140,11 +136,3 @@ pub record Tells (shown : List TablesView) (history : History) : Type 0 where
   pub gone : history.gone ≡ capped (gone_of shown)
   pub sums : IsCourse (totals_of shown) history.sums
   pub last : history.last ≡ total_of shown
-
--- a client has taken all bytes of a reader, and a history tells of their lines
-pub record TellsAll (given : Option (List ℕ)) (now : ClientView) (history : History) : Type 0 where
-  pub bytes : List ℕ
-  pub lines : ℕ
-  pub all : AreAll given bytes
-  pub taken : HasTaken bytes lines now
-  pub tells : Tells (shown_of bytes) history

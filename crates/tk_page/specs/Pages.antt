@@ -7,10 +7,10 @@ use Rattle.tk_fault.specs.declared.fault.AppFault.TheVariants as faults
 use Rattle.tk_page.specs.declared.frame.TheConstants.{HEAD, TAIL}
 use Rattle.tk_page.specs.Courses.{Courses, TellOf}
 use Rattle.tk_page.specs.Drawn.{DrawsPage}
-use Rattle.tk_report.specs.Shown.{shown_of}
 use Rattle.tk_paper.specs.Escaping.{Woven, no_paper}
 use Rattle.tk_paper.specs.declared.marks.Place.TheVariants as places
-use Rattle.tk_report.specs.Views.{HaveFault, LeadTo}
+use Rattle.tk_reading.specs.Outcomes.{HaveFault, LeadTo}
+use Rattle.tk_reading.specs.Shown.{shown_of}
 use Rattle.tk_stream.specs.Sent.{IsCut}
 use Rattle.tk_stream.specs.Tables.{TablesView}
 

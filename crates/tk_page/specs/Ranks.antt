@@ -9,7 +9,7 @@ use Rattle.tk_page.specs.declared.figures.Scale.{Scale}
 use Rattle.tk_page.specs.declared.oddities.Signs.{Signs}
 use Rattle.tk_page.specs.declared.ranks.Rank.{Rank}
 use Rattle.tk_page.specs.Odd.{is_odd_at_all}
-use Rattle.tk_page.specs.Samples.{busy_until, sched_until}
+use Rattle.tk_core.specs.Lasting.{busy_until, sched_until}
 
 -- the rank of a task at a place: odd ones come first, then those that ran and waited longer, then those that stand before
 abbrev pub rank_of : Scale → Signs → ℕ → Task → Rank

@@ -24,7 +24,7 @@ use Rattle.tk_page.specs.Courses.{Courses}
 use Rattle.tk_page.specs.Odd.{is_odd_at_all}
 use Rattle.tk_page.specs.Places.{id, location, more}
 use Rattle.tk_page.specs.Ranks.{AreInOrder, ranks_of}
-use Rattle.tk_page.specs.Samples.{busy_until, sched_until}
+use Rattle.tk_core.specs.Lasting.{busy_until, sched_until}
 use Rattle.tk_page.specs.Strips.{axis, drawing, most_waited, steps_of, strip, sum_drawing}
 
 -- ---- what stands above the rows
@@ -70,7 +70,7 @@ first_columns =
 abbrev pub last_columns : List Bit
 last_columns =
     numbers_column (codes "how long its polls ran") (codes "busy")
-    ++ (numbers_column (codes "how long it was scheduled and not polled, from its last wake on") (codes "waiting")
+    ++ (numbers_column (codes "how long it was scheduled and not polled") (codes "waiting")
     ++ (numbers_column (codes "busy time by polls") (codes "a poll takes")
     ++ (numbers_column [] (codes "polls")
     ++ (numbers_column [] (codes "wakes")

@@ -2,23 +2,10 @@
 use Rattle.std.specs.Prelude.{ℕ, ◌+◌, ◌-◌, max, ◌&&◌, not, unwrap_or, if◌then◌else◌}
 use Rattle.std.specs.Option.{option_map_or}
 use Rattle.tk_core.specs.Lists.{capped}
-use Rattle.tk_core.specs.Task.{waited_until}
+use Rattle.tk_core.specs.Lasting.{busy_until, sched_until}
 use Rattle.tk_core.specs.declared.task.row.TaskRow.{TaskRow}
 use Rattle.tk_page.specs.declared.sample.Sample.{Sample}
 use Rattle.tk_page.specs.declared.sample.Step.{Step}
-
--- how long the polls of a task ran up to a moment: those that ended, and the one that runs
-abbrev pub busy_until : TaskRow → ℕ → ℕ
-busy_until x now = capped (x.busy + (if x.polling then option_map_or (λ started. now - started) x.last_started 0 else 0))
-
--- from when on a scheduled task waits, as the sum `sched` counts it: the greatest of its creation, its wakes and its polls' ends
-abbrev pub waits_since : TaskRow → ℕ
-waits_since x = max (max x.created (option_map_or (λ m. m) x.last_wake 0)) (option_map_or (λ m. m) x.last_ended 0)
-
--- how long a task waited, scheduled, up to a moment: until polls that started, and where it still waits, until now. Where its row counts that, each
--- wait from its begin, and otherwise from the last wake
-abbrev pub sched_until : TaskRow → ℕ → ℕ
-sched_until x now = unwrap_or (waited_until x now) (capped (x.sched + (if x.scheduled && not x.polling then now - waits_since x else 0)))
 
 -- what a task has come to at a moment
 abbrev pub sample_of : TaskRow → ℕ → Sample

@@ -1,5 +1,7 @@
 //! The page between its frame: the head, what is odd, the tasks, the resources.
-ghost use Rattle.std.specs.Prelude.{◌≡◌, [], OnOk, IfOk};
+ghost use Rattle.std.specs.Prelude.{◌≡◌, [], OnOk, IfOk, false, slice_get};
+ghost use Rattle.std.specs.List.{list_any};
+ghost use Rattle.std.specs.Option.{option_map_or};
 ghost use Rattle.tk_page.specs.Heads as spec;
 ghost use Rattle.tk_page.specs.Holders as holders;
 ghost use Rattle.tk_page.specs.Drawn.{DrawsPage, DrawsSections};
@@ -18,7 +20,7 @@ use tk_client::Lints;
 use tk_ids::Dropped;
 use tk_paper::Part::{Class, Close, Number, Span, Start, Text};
 use tk_paper::{Paper, Tag};
-use tk_stream::Tables;
+use tk_stream::{Tables, Task};
 
 // The moment at the page's left: the first line's, or that of the earliest creation of a task.
 fn start_of(first: u64, tables: &Tables) -> u64
@@ -115,6 +117,56 @@ fn put_missing(paper: &mut Paper, dropped: Dropped) -> Result<(), AllocError>
     }
 }
 
+// Whether each wait of the task is known from its last wake on alone.
+fn waits_from_last_wake(task: &Task) -> bool
+    ensures { result ≡ spec.waits_from_last_wake task.now }
+{
+    let row = &task.row;
+    row.waits.is_none() && (row.sched > 0 || row.scheduled)
+}
+
+// Whether it is so of the task at a place.
+fn waits_from_last_wake_at(tables: &Tables, place: usize) -> bool
+    ensures { result ≡ option_map_or spec.waits_from_last_wake (slice_get tables.now.tasks place) false }
+{
+    match tables.task_at(place) {
+        Some(task) => waits_from_last_wake(task),
+        None => false,
+    }
+}
+
+// Whether it is so of a task.
+fn any_waits_from_last_wake(tables: &Tables) -> bool
+    ensures { result ≡ list_any spec.waits_from_last_wake tables.now.tasks }
+{
+    for place in 0..tables.task_count() {
+        if waits_from_last_wake_at(tables, place) {
+            return true;
+        }
+    }
+    false
+}
+
+// Puts that less is told of waiting than there was, where it is so.
+fn put_late(paper: &mut Paper, tables: &Tables) -> Result<(), AllocError>
+    ensures { OnOk result (Writes paper.old paper.new (spec.late tables.now.tasks)) }
+{
+    if !any_waits_from_last_wake(tables) {
+        return paper.put(&[]);
+    }
+    paper.put(&[
+        Class(Tag::P, "note"),
+        Text(
+            "How long a task waited is counted from its last wake, as this stream says no more: a task that is woken while it waits has waited longer. With ",
+        ),
+        Start(Tag::B),
+        Text("waits"),
+        Close(Tag::B),
+        Text(" a stream counts each wait from its begin."),
+        Close(Tag::P),
+    ])
+}
+
 fn put_header(
     paper: &mut Paper,
     watched: u64,
@@ -135,6 +187,7 @@ fn put_header(
     put_gone(paper, gone)?;
     paper.put(&[Close(Tag::P)])?;
     put_missing(paper, tables.dropped())?;
+    put_late(paper, tables)?;
     paper.put(&[Close(Tag::Header)])?;
     Ok(())
 }

@@ -12,6 +12,7 @@ use crate::sample::Sample;
 use indexmap::IndexMap;
 use std::alloc::{AllocError, Global};
 use tk_paper::Course;
+use tk_reading::Observes;
 use tk_stream::Tables;
 
 // The course of a task, what it had come to at the last line that it was in, and how many lines there were up to that one.
@@ -244,16 +245,6 @@ impl History {
         Ok(())
     }
 
-    /// Takes the tables after a line.
-    pub fn note(&mut self, tables: &Tables) -> Result<(), AllocError>
-        ensures { (shown : List TablesView) → length shown ≤ 2 ^ 62 → spec.Tells shown self.old
-            → OnOk result (spec.Tells (shown ++ tables.now ∷ []) self.new) }
-    {
-        let sum = note_tasks(&mut self.tasks, self.alloc, self.lines, tables, self.last)?;
-        self.forget_gone(tables);
-        self.end_line(tables.now(), sum)
-    }
-
     /// The samples of the task with an id.
     pub fn of(&self, id: u64) -> &[Sample]
         ensures { result.now ≡ spec.kept_of self.now id }
@@ -297,5 +288,15 @@ impl History {
         ensures { result ≡ self.now.gone }
     {
         self.gone
+    }
+}
+
+impl Observes for History {
+    ghost saw = { λ from shown history. spec.Tells shown history };
+
+    fn line(&mut self, tables: &Tables) -> Result<(), AllocError> {
+        let sum = note_tasks(&mut self.tasks, self.alloc, self.lines, tables, self.last)?;
+        self.forget_gone(tables);
+        self.end_line(tables.now(), sum)
     }
 }

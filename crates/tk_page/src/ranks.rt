@@ -5,7 +5,6 @@ ghost use Rattle.tk_page.specs.Ranks as spec;
 
 use crate::figures::Scale;
 use crate::oddities::Signs;
-use crate::sample::{busy_until, sched_until};
 use std::alloc::{AllocError, Global};
 use tk_stream::{Tables, Task};
 
@@ -22,8 +21,8 @@ pub(crate) struct Rank {
 fn rank_of(scale: Scale, signs: Signs, task: &Task, place: usize) -> Rank
     ensures { result ≡ spec.rank_of scale signs place task.now }
 {
-    let busy = busy_until(&task.row, scale.now);
-    let sched = sched_until(&task.row, scale.now);
+    let busy = task.row.busy_until(scale.now);
+    let sched = task.row.sched_until(scale.now);
     Rank {
         calm: !signs.has_any(task),
         below: u64::MAX - busy.saturating_add(sched),

@@ -21,41 +21,6 @@ pub struct Sample {
     pub own: u64,
 }
 
-/// How long the polls of a task ran up to a moment.
-pub(crate) fn busy_until(row: &TaskRow, now: u64) -> u64
-    ensures { result ≡ spec.busy_until row.now now }
-{
-    let open = match row.last_started {
-        Some(started) if row.polling => now.saturating_sub(started),
-        _ => 0,
-    };
-    row.busy.saturating_add(open)
-}
-
-// From when on a scheduled task waits: its creation, its last wake and the last end of a poll lie before it.
-fn waits_since(row: &TaskRow) -> u64
-    ensures { result ≡ spec.waits_since row.now }
-{
-    row.created
-        .max(row.last_wake.unwrap_or(0))
-        .max(row.last_ended.unwrap_or(0))
-}
-
-/// How long a task waited, scheduled, up to a moment.
-pub(crate) fn sched_until(row: &TaskRow, now: u64) -> u64
-    ensures { result ≡ spec.sched_until row.now now }
-{
-    if let Some(waited) = row.waited_until(now) {
-        return waited;
-    }
-    let open = if row.scheduled && !row.polling {
-        now.saturating_sub(waits_since(row))
-    } else {
-        0
-    };
-    row.sched.saturating_add(open)
-}
-
 impl Sample {
     /// What a task has come to whose row is this.
     pub fn of(row: &TaskRow, now: u64) -> Sample
@@ -63,8 +28,8 @@ impl Sample {
     {
         Sample {
             now,
-            busy: busy_until(row, now),
-            sched: sched_until(row, now),
+            busy: row.busy_until(now),
+            sched: row.sched_until(now),
             polls: row.polls,
             wakes: row.wakes,
             own: row.self_wakes,

@@ -11,7 +11,7 @@ use crate::history::History;
 use crate::oddities::Signs;
 use crate::ranks::{Rank, ranks_of};
 use crate::resources::put_more;
-use crate::sample::{Sample, Step, busy_until, sched_until};
+use crate::sample::{Sample, Step};
 use crate::strips::{Height, height_of, put_axis, put_strip, put_sum, steps_of};
 use std::alloc::{AllocError, Global};
 use tk_core::TaskRow;
@@ -122,7 +122,7 @@ fn put_first_columns(paper: &mut Paper) -> Result<(), AllocError>
 fn put_last_columns(paper: &mut Paper) -> Result<(), AllocError>
     ensures { OnOk result (Writes paper.old paper.new spec.last_columns) }
 {
-    let waiting = "how long it was scheduled and not polled, from its last wake on";
+    let waiting = "how long it was scheduled and not polled";
     let wakers = "wakers that are out: cloned, less dropped";
     put_column(paper, "num", "how long its polls ran", "busy")?;
     put_column(paper, "num", waiting, "waiting")?;
@@ -310,8 +310,8 @@ fn put_numbers(paper: &mut Paper, scale: Scale, row: &TaskRow) -> Result<(), All
     ensures { OnOk result (Writes paper.old paper.new (spec.numbers scale row.now)) }
 {
     let watched = scale.watched();
-    let busy = busy_until(row, scale.now);
-    let sched = sched_until(row, scale.now);
+    let busy = row.busy_until(scale.now);
+    let sched = row.sched_until(scale.now);
     put_share_cell(paper, "busy", busy, watched)?;
     put_share_cell(paper, "wait", sched, watched)?;
     put_mean_poll(paper, busy, row.polls)?;

@@ -63,7 +63,8 @@ fn row_at(tables: &Tables, place: usize) -> Option<TaskRow> {
 
 // When the last poll of a task started.
 fn started_at(tables: &Tables, place: usize) -> Option<u64> {
-    row_at(tables, place)?.last_started
+    let task = tables.task_at(place)?;
+    task.row.last_started
 }
 
 /// The id of the task of a number, if it was made.

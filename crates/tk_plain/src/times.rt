@@ -29,6 +29,7 @@ impl Timed {
         let times = PollTimes {
             longest: 0,
             counts: [0; BUCKETS],
+            waits: None,
         };
         Timed {
             task,

@@ -189,11 +189,15 @@ const TASK_MOMENTS: [&str; 5] = [
     "last_wake",
 ];
 
-// Whether the value is a time that the task was scheduled, or this and the time that it waited.
+// Whether the value is a time that the task was scheduled, or this, the time that it waited, and what of it is one wait: below 2^56.
 fn are_waits(value: &Value) -> bool {
     match value.as_array() {
         Some(values) => match values.as_slice() {
-            [sched, waited] => sched.as_u64().is_some() && waited.as_u64().is_some(),
+            [sched, waited, so_far] => {
+                sched.as_u64().is_some()
+                    && waited.as_u64().is_some()
+                    && so_far.as_u64().is_some_and(|n| n < 1 << 56)
+            }
             _ => false,
         },
         None => value.as_u64().is_some(),

@@ -11,6 +11,6 @@ mod read;
 mod stream;
 mod values;
 
-pub use line::{Given, Histogram, New, Part, Spoilt, Told};
+pub use line::{Given, Histogram, New, Part, Spoilt, Told, Waits};
 pub use plain::{Held, Plain};
 pub use stream::{Outcome, outcome_of};

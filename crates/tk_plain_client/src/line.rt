@@ -24,12 +24,20 @@ pub struct Part {
     pub gone: Vec<u64>,
 }
 
-/// A task's histogram of poll times.
+/// How long waits took.
+#[derive(Clone, Copy, PartialEq, Eq)]
+pub struct Waits {
+    pub counts: [u64; 14],
+    pub longest: u64,
+}
+
+/// A task's histogram of poll times, and that of its waits where it is there.
 #[derive(Clone, Copy, PartialEq, Eq)]
 pub struct Histogram {
     pub id: u64,
     pub counts: [u64; 14],
     pub longest: u64,
+    pub waits: Option<Waits>,
 }
 
 /// How a line is spoilt.

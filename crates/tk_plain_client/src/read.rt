@@ -1,7 +1,7 @@
 //! A line, by its text.
 
 use crate::items::{Kind, counts_waits, new_of, told_of};
-use crate::line::{Given, Histogram, New, Part, Spoilt, Told};
+use crate::line::{Given, Histogram, New, Part, Spoilt, Told, Waits};
 use crate::values::{flag, has_members, id_of, list, number};
 use serde_json::Value;
 use std::alloc::{AllocError, Global};
@@ -155,10 +155,20 @@ fn buckets_of(filled: &[Value]) -> Option<[u64; 14]> {
     if rest.is_empty() { Some(counts) } else { None }
 }
 
+fn waits_of(value: &Value) -> Option<Waits> {
+    let counts = buckets_of(list(value, "waits")?)?;
+    let longest = number(value, "longest_wait")?;
+    Some(Waits { counts, longest })
+}
+
 fn histogram_of(value: &Value) -> Option<Histogram> {
-    if !has_members(value, 3) {
+    let waits = if has_members(value, 5) {
+        Some(waits_of(value)?)
+    } else if has_members(value, 3) {
+        None
+    } else {
         return None;
-    }
+    };
     let counts = buckets_of(list(value, "counts")?)?;
     let id = id_of(value.get("id")?)?;
     let longest = number(value, "longest")?;
@@ -166,6 +176,7 @@ fn histogram_of(value: &Value) -> Option<Histogram> {
         id,
         counts,
         longest,
+        waits,
     })
 }
 
@@ -190,15 +201,18 @@ fn keys_of(value: &Value) -> Option<u64> {
     }
 }
 
-// Whether a row of a task counts its waits.
-fn tells_waits(value: &Value) -> bool {
-    match list(value, "task_stats") {
-        Some(rows) => rows.iter().any(counts_waits),
-        None => false,
-    }
+fn has_waits(value: &Value) -> bool {
+    value.get("waits").is_some()
 }
 
-// The version whose keys a line has, where its own is that, or 4 in a line that tells a row that counts waits.
+// Whether a row of a task counts its waits, or a histogram has that of its waits beside it.
+fn tells_waits(value: &Value) -> bool {
+    let rows = list(value, "task_stats").unwrap_or(&[]);
+    let times = list(value, "task_times").unwrap_or(&[]);
+    rows.iter().any(counts_waits) || times.iter().any(has_waits)
+}
+
+// The version whose keys a line has, where its own is that, or 4 in a line that tells waits.
 fn framed(value: &Value) -> Option<u64> {
     if !are_three_numbers(value, "dropped") {
         return None;

@@ -1,8 +1,8 @@
 pub mod PutLemmas
+pub mod LoopLemmas
+pub mod KnownLemmas
+pub mod RunLemmas
 pub mod PercentileLemmas
 pub mod TimedLemmas
 pub mod ViewLemmas
-pub mod ShownLemmas
-pub mod PieceLemmas
-pub mod FrontLemmas
 pub mod OutcomeLemmas

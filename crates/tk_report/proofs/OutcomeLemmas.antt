@@ -10,9 +10,10 @@ use Rattle.tk_client.specs.Streams.{HasNoFault}
 use Rattle.tk_client.specs.Warnings.{LintsView, warnings_in}
 use Rattle.tk_fault.specs.declared.fault.AppFault.{AppFault}
 use Rattle.tk_fault.specs.declared.fault.AppFault.TheVariants as faults
+use Rattle.tk_reading.specs.Outcomes.{HaveFault, LeadTo, outcome_of}
 use Rattle.tk_report.specs.declared.view.View.{View}
 use Rattle.tk_report.specs.Uninterrupted.{ShowsTables}
-use Rattle.tk_report.specs.Views.{Views, LeadTo, HaveFault, outcome_of, text_of}
+use Rattle.tk_report.specs.Views.{Views, text_of}
 
 or_true : (b c : Bool) → c ≡ true → (b || c) ≡ true
 or_true true c is = refl

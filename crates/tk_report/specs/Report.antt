@@ -10,6 +10,7 @@ use Rattle.tk_ids.specs.declared.attr.AttrValue.TheVariants.{U64, Bool as Flag, 
 use Rattle.tk_ids.specs.declared.spec.TaskKind.{TaskKind}
 use Rattle.tk_core.specs.declared.op.row.OpRow.{OpRow}
 use Rattle.tk_core.specs.declared.resource.row.ResourceRow.{ResourceRow}
+use Rattle.tk_core.specs.Task.{waited_of}
 use Rattle.tk_core.specs.declared.task.row.TaskRow.{TaskRow}
 use Rattle.tk_stream.specs.Spelling.{kind_text}
 use Rattle.tk_stream.specs.declared.tables.op.Op.{Op}
@@ -63,7 +64,7 @@ task_line t = line (codes "task") (id_text t.info.id ∷ kind_text t.info.kind �
     ∷ codes "drops" ∷ decimal t.row.drops
     ∷ codes "busy" ∷ decimal t.row.busy
     ∷ codes "sched" ∷ decimal t.row.sched
-    ∷ (waited_words t.row.waited ++ (codes "name" ∷ t.info.name ∷ [])))
+    ∷ (waited_words (waited_of t.row) ++ (codes "name" ∷ t.info.name ∷ [])))
 
 -- ---- attributes
 

@@ -1,5 +1,7 @@
 //! Laws of the definitions: each is the contract of a function that does nothing.
-ghost use Rattle.std.specs.Prelude.{◌≡◌, ℕ, List, Option, Some, Result, flat_map};
+ghost use Rattle.std.specs.Prelude.{◌≡◌, ◌≤◌, ◌++◌, ◌∷◌, ℕ, List, Option, Some, Result, flat_map};
+ghost use Rattle.tk_core.specs.Lasting.{runs_for};
+ghost use Rattle.tk_core.specs.declared.task.row.TaskRow.{TaskRow};
 ghost use Rattle.tk_stream.specs.Streams.{Sending, GoesOn, lines_sent, bytes_sent, tables_sent};
 ghost use Rattle.tk_client.specs.Meaning.{greatest_line};
 ghost use Rattle.tk_client.specs.Streams.{AreShort};
@@ -8,9 +10,12 @@ ghost use Rattle.tk_report.specs.declared.view.View.{View};
 ghost use Rattle.tk_report.specs.Uninterrupted.{ShowsTables};
 ghost use Rattle.tk_report.specs.Views.{Views};
 ghost use Rattle.tk_stream.specs.declared.tables.task.Task.{Task};
-ghost use Rattle.tk_stream.specs.Tables.{AreDistinct, TablesView, empty_tables};
+ghost use Rattle.tk_stream.specs.Tables.{AreDistinct, TablesView, empty_tables, task_with};
 ghost use Rattle.tk_client.specs.Warnings.{LintsView, warnings_of};
+ghost use Rattle.tk_report.specs.Known.{StaysIn, longest_known};
 ghost use Rattle.tk_report.specs.Report.{lint_of, warn_line_of};
+ghost use Rattle.tk_report.specs.Runs.{EndedSince, ended_run, longest_of};
+ghost use Rattle.tk_report.specs.declared.runs.Ended.{Ended};
 
 use tk_client::laws::{streams_are_taken, warnings_find_their_tasks};
 
@@ -32,3 +37,14 @@ pub fn what_goes_on_is_viewed()
 {
     streams_are_taken();
 }
+
+/// Of the polls that ended between two rows of a task, one ran at least as long as the rows say.
+pub fn one_ran_as_long()
+    ensures { (old : Ended) (x : TaskRow) (runs : List ℕ) → EndedSince old x runs → ended_run old x ≤ longest_of runs }
+{}
+
+/// A task's longest poll is known to have run at least as long as one that stood open at any line, while the tables have the task.
+pub fn open_polls_are_known()
+    ensures { (id : ℕ) (before after : List TablesView) (tables : TablesView) (t : Task) → task_with id tables.tasks ≡ Some t → StaysIn id after
+        → runs_for t.row tables.now ≤ longest_known (before ++ tables ∷ after) id }
+{}

@@ -1,6 +1,7 @@
 //! The lines of a report, each put after what is written.
 ghost use Rattle.std.specs.Prelude.{◌≡◌, ◌++◌, ◌∷◌, [], codes, decimal, OnOk, IfSome, string_bytes};
 ghost use Rattle.tk_report.specs.Pieces.{Puts, spaced};
+ghost use Rattle.tk_core.specs.Task.{waited_of};
 ghost use Rattle.tk_report.specs.Report as spec;
 
 use crate::words::{kind_word, op_state, run_time, task_state};
@@ -39,11 +40,11 @@ pub(crate) fn put_heading(out: &mut String, tables: &Tables) -> Result<(), Alloc
     writeln!(out, "now {now} dropped {tasks} {resources} {ops}")
 }
 
-fn put_waited(out: &mut String, waited: Option<u64>) -> Result<(), AllocError>
-    ensures { OnOk result (Puts (string_bytes out.old) (string_bytes out.new) (spaced (spec.waited_words waited))) }
+fn put_waited(out: &mut String, row: &TaskRow) -> Result<(), AllocError>
+    ensures { OnOk result (Puts (string_bytes out.old) (string_bytes out.new) (spaced (spec.waited_words (waited_of row.now)))) }
 {
-    match waited {
-        Some(time) => put(out, " waited ", &time),
+    match row.waits {
+        Some(waits) => put(out, " waited ", &waits.total),
         None => Ok(()),
     }
 }
@@ -63,7 +64,7 @@ pub(crate) fn put_task(out: &mut String, task: &Task) -> Result<(), AllocError>
     put(out, " drops ", &row.drops)?;
     put(out, " busy ", &row.busy)?;
     put(out, " sched ", &row.sched)?;
-    put_waited(out, row.waited)?;
+    put_waited(out, row)?;
     put(out, " name ", &info.name)?;
     put_end(out)?;
     Ok(())

@@ -1,24 +1,26 @@
-//! What of poll times a view shows.
+//! What of poll times and waits a view shows.
 ghost use Rattle.std.specs.Prelude.{◌≡◌};
 ghost use Rattle.tk_report.specs.Timed.{no_times};
 
-/// What of poll times a view shows beside the rest.
+use tk_client::TimeLimits;
+
+/// What of poll times and waits a view shows beside the rest.
 #[derive(Clone, Copy, Debug, PartialEq, Eq)]
 pub struct TimesOptions {
-    /// Whether a task that has a histogram shows it, on a line below its own.
+    /// Whether a task shows below its own line how long its polls ran and how long it waited, as far as the stream says.
     pub times: bool,
-    /// From how many milliseconds on a poll is a long one, of which its task is warned, where any is.
-    pub long_poll: Option<u64>,
+    /// Which polls and waits are long ones, of which their tasks are warned.
+    pub limits: TimeLimits,
 }
 
 impl TimesOptions {
-    /// Nothing of poll times is shown.
+    /// Nothing of poll times and waits is shown.
     pub fn none() -> TimesOptions
         ensures { result ≡ no_times }
     {
         TimesOptions {
             times: false,
-            long_poll: None,
+            limits: TimeLimits::none(),
         }
     }
 }

@@ -7,7 +7,7 @@ ghost use Rattle.tk_report.specs.Report as spec;
 use crate::lines::{put_op, put_resource};
 use crate::timed::timed_report_with;
 use std::alloc::{AllocError, Global};
-use tk_client::{Lints, all_warnings_in};
+use tk_client::{Lints, TimeLimits, all_warnings_in};
 use tk_fault::AppFault;
 use tk_stream::{Table, Tables};
 
@@ -62,7 +62,7 @@ pub fn report(alloc: Global, tables: &Tables, lints: &Lints) -> Result<Vec<u8>, 
     ensures memory { IfErr result (λ fault. fault ≡ AppFault.Memory) }
 {
     let times = Table::new(alloc);
-    let Ok(warnings) = all_warnings_in(alloc, tables, &times, lints, None) else {
+    let Ok(warnings) = all_warnings_in(alloc, tables, &times, lints, &TimeLimits::none()) else {
         return Err(AppFault::Memory);
     };
     match timed_report_with(alloc, tables, &times, false, warnings.as_slice()) {

@@ -1,4 +1,4 @@
-//! The report of tables with what is known of how long polls ran.
+//! The report of tables with what is known of how long polls ran and waits took.
 ghost use Rattle.std.specs.Prelude.{◌≡◌, [], OnOk, IfOk, slice_get, string_bytes, flat_map, if◌then◌else◌};
 ghost use Rattle.std.specs.Option.{option_map_or};
 ghost use Rattle.tk_report.specs.Pieces.{Puts};
@@ -6,23 +6,23 @@ ghost use Rattle.tk_report.specs.Timed as spec;
 
 use crate::lines::{put_heading, put_task};
 use crate::reporting::{put_ops, put_resources};
-use crate::times::{put_any_warning, put_times_below};
+use crate::times::{put_any_warning, put_below};
 use std::alloc::{AllocError, Global};
 use tk_client::AnyWarning;
 use tk_ids::TaskId;
 use tk_stream::{PollTimes, Table, Tables, Task};
 
-fn put_below(
+fn put_below_if(
     out: &mut String,
     times: &Table<(TaskId, PollTimes)>,
     shown: bool,
-    task: TaskId,
+    task: &Task,
 ) -> Result<(), AllocError>
     ensures { OnOk result (Puts (string_bytes out.old) (string_bytes out.new)
-        (if shown then spec.times_below times.now task else [])) }
+        (if shown then spec.below times.now task.now else [])) }
 {
     if shown {
-        put_times_below(out, times, task)
+        put_below(out, times, task)
     } else {
         Ok(())
     }
@@ -37,7 +37,7 @@ fn put_task_lines(
     ensures { OnOk result (Puts (string_bytes out.old) (string_bytes out.new) (spec.task_lines shown times.now task.now)) }
 {
     put_task(out, task)?;
-    put_below(out, times, shown, task.info.id)?;
+    put_below_if(out, times, shown, task)?;
     Ok(())
 }
 
@@ -117,8 +117,9 @@ pub(crate) fn lines_of_any_warnings(
     Ok(out.into_bytes())
 }
 
-/// The report of tables with these warnings, and with histograms where they are shown.
-pub(crate) fn timed_report_with(
+/// The report of tables with these warnings, and with what histograms say of poll times and waits if they are shown. With no warnings it is the
+/// report without warning lines. `AllocError`: there was no memory.
+pub fn timed_report_with(
     alloc: Global,
     tables: &Tables,
     times: &Table<(TaskId, PollTimes)>,

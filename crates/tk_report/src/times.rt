@@ -1,4 +1,4 @@
-//! The lines of histograms and of long polls, each put after what is written.
+//! The lines of histograms, of long polls and of long waits, each put after what is written.
 ghost use Rattle.std.specs.Prelude.{◌≡◌, ◌≤◌, ◌++◌, codes, decimal, slice_get, OnOk, string_bytes};
 ghost use Rattle.tk_core.specs.Percentiles.{total_of, begin_of, end_of};
 ghost use Rattle.tk_core.specs.Times.{bounds};
@@ -8,9 +8,10 @@ ghost use Rattle.tk_report.specs.Timed as spec;
 use crate::lines::{put, put_end, put_warning};
 use std::alloc::AllocError;
 use std::fmt::Write;
-use tk_client::{AnyWarning, LongPoll};
+use tk_client::{AnyWarning, LongPoll, LongWait};
+use tk_core::TimesRow;
 use tk_ids::TaskId;
-use tk_stream::{PollTimes, Table, Tables};
+use tk_stream::{PollTimes, Table, Tables, Task, WaitTimes};
 
 // The bounds of the buckets, in nanoseconds: the first bucket begins at 0, each other at the bound before it.
 const BOUNDS: [u64; 13] = [
@@ -92,46 +93,69 @@ fn put_bucket(out: &mut String, percent: u64, longest: u64, bucket: usize) -> Re
     Ok(())
 }
 
-// The bucket of a percentile, where any poll has ended.
-fn percentile_of(times: &PollTimes, percent: u64) -> Option<usize>
+// The bucket of a percentile, if any time is counted.
+fn percentile_of(longest: u64, counts: &[u64; 14], percent: u64) -> Option<usize>
     requires some { 1 ≤ percent }
     requires most { percent ≤ 100 }
-    ensures { result ≡ spec.percentile_of percent times.now.counts }
+    ensures { result ≡ spec.percentile_of percent counts.now }
 {
-    times.percentile(percent)
+    let row = TimesRow {
+        handles: 0,
+        longest,
+        counts: *counts,
+    };
+    row.percentile(percent)
 }
 
-fn put_percentile(out: &mut String, times: &PollTimes, percent: u64) -> Result<(), AllocError>
+fn put_percentile(
+    out: &mut String,
+    longest: u64,
+    counts: &[u64; 14],
+    percent: u64,
+) -> Result<(), AllocError>
     requires some { 1 ≤ percent }
     requires most { percent ≤ 100 }
-    ensures { OnOk result (Puts (string_bytes out.old) (string_bytes out.new) (spec.percentile_words times.now percent)) }
+    ensures { OnOk result (Puts (string_bytes out.old) (string_bytes out.new) (spec.percentile_words longest counts.now percent)) }
 {
-    match percentile_of(times, percent) {
-        Some(bucket) => put_bucket(out, percent, times.longest, bucket),
+    match percentile_of(longest, counts, percent) {
+        Some(bucket) => put_bucket(out, percent, longest, bucket),
         None => Ok(()),
     }
 }
 
-fn put_total(out: &mut String, counts: &[u64; 14]) -> Result<(), AllocError>
-    ensures { OnOk result (Puts (string_bytes out.old) (string_bytes out.new) (codes "  polls " ++ decimal (total_of counts.now))) }
+fn put_total(out: &mut String, word: &str, counts: &[u64; 14]) -> Result<(), AllocError>
+    ensures { OnOk result (Puts (string_bytes out.old) (string_bytes out.new) (word.now ++ decimal (total_of counts.now))) }
 {
-    put(out, "  polls ", &total_of(counts))
+    put(out, word, &total_of(counts))
+}
+
+// Puts what a histogram says, after a word that says of what.
+fn put_histogram(
+    out: &mut String,
+    word: &str,
+    longest: u64,
+    counts: &[u64; 14],
+) -> Result<(), AllocError>
+    ensures { OnOk result (Puts (string_bytes out.old) (string_bytes out.new) (spec.histogram_words word.now longest counts.now)) }
+{
+    put_total(out, word, counts)?;
+    put(out, " longest ", &longest)?;
+    put_percentile(out, longest, counts, 50)?;
+    put_percentile(out, longest, counts, 90)?;
+    put_percentile(out, longest, counts, 99)?;
+    Ok(())
 }
 
 fn put_times(out: &mut String, times: &PollTimes) -> Result<(), AllocError>
     ensures { OnOk result (Puts (string_bytes out.old) (string_bytes out.new) (spec.times_line times.now)) }
 {
-    put_total(out, &times.counts)?;
-    put(out, " longest ", &times.longest)?;
-    put_percentile(out, times, 50)?;
-    put_percentile(out, times, 90)?;
-    put_percentile(out, times, 99)?;
+    put_histogram(out, "  polls ", times.longest, &times.counts)?;
     put_end(out)?;
     Ok(())
 }
 
-/// The line of a task's histogram, where it has one.
-pub(crate) fn put_times_below(
+// The line of a task's histogram of polls, where it has one.
+fn put_times_below(
     out: &mut String,
     times: &Table<(TaskId, PollTimes)>,
     task: TaskId,
@@ -144,11 +168,79 @@ pub(crate) fn put_times_below(
     }
 }
 
+// The histogram of waits of a task, where it has one.
+fn waits_with(times: &Table<(TaskId, PollTimes)>, task: TaskId) -> Option<WaitTimes>
+    ensures { result ≡ spec.waits_with times.now task }
+{
+    match times.with_id(task.value()) {
+        Some(entry) => entry.1.waits,
+        None => None,
+    }
+}
+
+fn put_wait_words(out: &mut String, waits: &Option<WaitTimes>) -> Result<(), AllocError>
+    ensures { OnOk result (Puts (string_bytes out.old) (string_bytes out.new) (spec.wait_words waits.now)) }
+{
+    match waits {
+        Some(waits) => put_histogram(out, " ", waits.longest, &waits.counts),
+        None => Ok(()),
+    }
+}
+
+fn put_since(out: &mut String, since: Option<u64>) -> Result<(), AllocError>
+    ensures { OnOk result (Puts (string_bytes out.old) (string_bytes out.new) (spec.since_words since)) }
+{
+    match since {
+        Some(moment) => put(out, " since ", &moment),
+        None => Ok(()),
+    }
+}
+
+fn put_waits(
+    out: &mut String,
+    waits: Option<WaitTimes>,
+    since: Option<u64>,
+) -> Result<(), AllocError>
+    ensures { OnOk result (Puts (string_bytes out.old) (string_bytes out.new) (spec.waits_line waits since)) }
+{
+    if waits.is_none() && since.is_none() {
+        return Ok(());
+    }
+    out.push_str("  waits")?;
+    put_wait_words(out, &waits)?;
+    put_since(out, since)?;
+    put_end(out)?;
+    Ok(())
+}
+
+/// The lines below a task: how long its polls ran, and how long it waited, as far as the stream says.
+pub(crate) fn put_below(
+    out: &mut String,
+    times: &Table<(TaskId, PollTimes)>,
+    task: &Task,
+) -> Result<(), AllocError>
+    ensures { OnOk result (Puts (string_bytes out.old) (string_bytes out.new) (spec.below times.now task.now)) }
+{
+    put_times_below(out, times, task.info.id)?;
+    let waits = waits_with(times, task.info.id);
+    put_waits(out, waits, task.row.waiting_since())?;
+    Ok(())
+}
+
 fn put_long_poll(out: &mut String, poll: &LongPoll) -> Result<(), AllocError>
     ensures { OnOk result (Puts (string_bytes out.old) (string_bytes out.new) (spec.long_poll_line poll.now)) }
 {
     put(out, "warn ", &poll.task)?;
     put(out, " long-poll ", &poll.time)?;
+    put_end(out)?;
+    Ok(())
+}
+
+fn put_long_wait(out: &mut String, wait: &LongWait) -> Result<(), AllocError>
+    ensures { OnOk result (Puts (string_bytes out.old) (string_bytes out.new) (spec.long_wait_line wait.now)) }
+{
+    put(out, "warn ", &wait.task)?;
+    put(out, " long-wait ", &wait.time)?;
     put_end(out)?;
     Ok(())
 }
@@ -164,5 +256,6 @@ pub(crate) fn put_any_warning(
     match warning {
         AnyWarning::Usual(warning) => put_warning(out, tables, warning),
         AnyWarning::LongPoll(poll) => put_long_poll(out, poll),
+        AnyWarning::LongWait(wait) => put_long_wait(out, wait),
     }
 }

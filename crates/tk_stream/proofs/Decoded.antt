@@ -1,7 +1,7 @@
 -- A line's value is read as that line.
 use Rattle.std.proofs.Common.{◌≡◌, ℕ, ◌/◌, ◌^◌, ◌<◌, ◌≤◌, List, [], ◌∷◌, true, pos, negsuc, Option, Some, None, Ok, IsUtf8, codes, refl, ap, ◌∙◌, arith, lit<, leb-true, ltb-true}
 use Rattle.std.specs.Prelude.{map, Bool, false, ◌==◌, option_and_then, ◌++◌, ◌&&◌, IfSome, IsSome, nat_lt, nat_le, length, neg_ℤ, int_lt, int_le}
-use Rattle.std.specs.List.{AllByRecursion, list_all, list_any}
+use Rattle.std.specs.List.{AllByRecursion, list_all}
 use Rattle.std.specs.Str.{IsAscii}
 use Rattle.std.proofs.lemmas.Str.{IsUtf8-from_ascii}
 use Rattle.std.proofs.lemmas.Str.Ascii.{IsAscii-nil, IsAscii-cons}
@@ -11,6 +11,7 @@ use Rattle.tk_core.specs.Attributes.{is_i64}
 use Rattle.tk_core.specs.declared.op.row.OpRow.{OpRow}
 use Rattle.tk_core.specs.declared.resource.row.ResourceRow.{ResourceRow}
 use Rattle.tk_core.specs.declared.task.row.TaskRow.{TaskRow}
+use Rattle.tk_core.specs.declared.task.wait.Waits.{Waits}
 use Rattle.tk_ids.specs.Ids.{is_id}
 use Rattle.tk_ids.specs.Names.{is_name, is_printable}
 use Rattle.tk_ids.specs.declared.attr.AttrInfo.{AttrInfo}
@@ -31,13 +32,14 @@ use Rattle.serde_json.specs.View.{items_of}
 use Rattle.serde_json.specs.Read.{max_depth}
 use Rattle.serde_json.specs.Written.{outline, items_outline, members_outline, compact_text}
 use Rattle.tk_stream.specs.Tables.{PollCounts}
-use Rattle.tk_stream.specs.Lines.{LineView, GoneView, is_seq, version, version_with, counts_waits}
+use Rattle.tk_stream.specs.Lines.{LineView, GoneView, is_seq, version, version_with, tells_waits}
+use Rattle.tk_stream.specs.declared.tables.times.WaitTimes.{WaitTimes}
 use Rattle.tk_stream.specs.Times.{TaskTimes, filled_from, counts_from}
 use Rattle.tk_stream.proofs.TimesLemmas.{filled_back, all_filled}
 use Rattle.tk_stream.specs.Outcome.{shaped, ◌then◌}
-use Rattle.tk_stream.specs.Reading.{id_of, optional_of, optional_id_of, optional_name_of, attr_of, attr_kind_of, value_of, waits_of, number_at, attrs_in, values_in, kind_of, location_in, info_of, resource_parts, resource_of, op_parts, op_of, stats_of, resource_stats_with, resource_stats_of, op_stats_with, op_stats_of, counts_of, filled_of, buckets_in, times_of, said_at, parts_of, line_in, line_of, each_of, values_of, json_or_fault, line_of_text}
-use Rattle.tk_stream.specs.Spelling.{members_in, object_with, dropped_data, waits_data, gone_members, members_between, times_fields, line_members, number_data, optional_data, optional_text, attr_kind_text, attr_data, value_data, kind_text, location_data, info_data, resource_data, op_data, stats_data, resource_stats_data, op_stats_data, counts_data, filled_data, times_data, line_data, line_text}
-use Rattle.tk_stream.specs.Ranges.{IsId, IsNumber, IsOptional, IsOptionalId, IsName, IsLocation, IsAttr, IsValue, AreAttrs, AreValues, IsTaskInfo, IsResourceInfo, IsOpInfo, AreTaskStats, AreResourceStats, AreOpStats, AreCounts, AreTimes, AreTold, IsGone, IsLine}
+use Rattle.tk_stream.specs.Reading.{id_of, optional_of, optional_id_of, optional_name_of, attr_of, attr_kind_of, value_of, waits_of, number_at, attrs_in, values_in, kind_of, location_in, info_of, resource_parts, resource_of, op_parts, op_of, stats_of, resource_stats_with, resource_stats_of, op_stats_with, op_stats_of, counts_of, filled_of, buckets_in, wait_times_of, waits_beside, times_of, said_at, parts_of, line_in, line_of, each_of, values_of, json_or_fault, line_of_text}
+use Rattle.tk_stream.specs.Spelling.{members_in, object_with, dropped_data, waits_data, gone_members, members_between, times_fields, line_members, number_data, optional_data, optional_text, attr_kind_text, attr_data, value_data, kind_text, location_data, info_data, resource_data, op_data, stats_data, resource_stats_data, op_stats_data, counts_data, filled_data, buckets_data, times_data, line_data, line_text}
+use Rattle.tk_stream.specs.Ranges.{IsId, IsNumber, IsOptional, IsOptionalId, IsName, IsLocation, IsAttr, IsValue, AreAttrs, AreValues, IsTaskInfo, IsResourceInfo, IsOpInfo, AreTaskStats, AreResourceStats, AreOpStats, AreCounts, AreWaits, AreWaitTimes, AreTimes, AreTold, IsGone, IsLine}
 use Rattle.tk_stream.proofs.Texts.{json_read}
 use Rattle.tk_stream.proofs.Round.{IsWhole, AreWhole, whole_is_text, read-compact_text}
 
@@ -56,10 +58,6 @@ optional_back : (o : Option ℕ) → optional_of (optional_data o) ≡ Some o
 optional_back (Some n) = refl
 optional_back None = refl
 
-waits_back : (sched : ℕ) (waited : Option ℕ) → waits_of (waits_data sched waited) ≡ Some (sched, waited)
-waits_back sched None = refl
-waits_back sched (Some waited) = refl
-
 optional_id_back : (o : Option ℕ) → IsOptionalId o → optional_id_of (optional_data o) ≡ Some o
 optional_id_back (Some n) h = rw h refl
 optional_id_back None h = refl
@@ -70,6 +68,13 @@ optional_name_back None h = refl
 
 small : (n : ℕ) → n < 2 ^ 32 → nat_lt n (2 ^ 32) ≡ true
 small n h = grind (arith, nat_tests)
+
+short_wait : (n : ℕ) → n < 2 ^ 56 → nat_lt n (2 ^ 56) ≡ true
+short_wait n h = grind (arith, nat_tests)
+
+waits_back : (sched : ℕ) (waits : Option Waits) → IfSome waits AreWaits → waits_of (waits_data sched waits) ≡ Some (sched, waits)
+waits_back sched None fit = refl
+waits_back sched (Some waits) fit = rw (short_wait waits.so_far fit.so_far) refl
 
 few : (n : ℕ) → n ≤ 6 → nat_le n 6 ≡ true
 few n h = grind (arith, nat_tests)
@@ -141,7 +146,7 @@ stats_back : (s : ℕ × TaskRow) → AreTaskStats s → stats_of (stats_data s)
 unfolding stats_of
 stats_back s fit =
     let id = fit.id in
-    rw (optional_back s.1.dropped, optional_back s.1.first_poll, id, optional_back s.1.last_ended, optional_back s.1.last_started, optional_back s.1.last_wake, waits_back s.1.sched s.1.waited) refl
+    rw (optional_back s.1.dropped, optional_back s.1.first_poll, id, optional_back s.1.last_ended, optional_back s.1.last_started, optional_back s.1.last_wake, waits_back s.1.sched s.1.waits fit.waits) refl
 
 resource_stats_back : (s : ℕ × ResourceRow) → AreResourceStats s → resource_stats_of (resource_stats_data s) ≡ Some s
 unfolding resource_stats_of resource_stats_with
@@ -172,10 +177,16 @@ unfolding buckets_in
 buckets_back counts many = ap (option_and_then (counts_from 0 14)) (each_filled (filled_from 0 counts)) ∙ filled_back 0 14 counts many
 
 times_back : (t : TaskTimes) → AreTimes t → times_of (times_data t) ≡ Some t
-unfolding times_of
-times_back t fit =
-    let task = fit.task in
-    rw (buckets_back t.1.counts fit.many, task) refl
+unfolding times_of waits_beside wait_times_of
+times_back t fit = by t.1.waits fit.waits
+  where
+    by : (waits : Option WaitTimes) → IfSome waits AreWaitTimes → times_of (times_data (t.0, record t.1 { waits = waits })) ≡ Some (t.0, record t.1 { waits = waits })
+    by None alone =
+        let task = fit.task in
+        rw (buckets_back t.1.counts fit.many, task) refl
+    by (Some w) are =
+        let task = fit.task in
+        rw (buckets_back w.counts are.many, buckets_back t.1.counts fit.many, task) refl
 
 not_said : IsSome {T = GoneView} None → ⊥
 not_said e = absurd (cc)
@@ -189,7 +200,7 @@ members_at counts l =
 -- a line of each version
 line_parts : (l : LineView) → IsLine l → line_in (line_data l) ≡ Some l
 unfolding line_in parts_of said_at line_data
-line_parts l fit = by (list_any counts_waits l.task_stats) l.gone l.task_times fit.gone fit.task_times
+line_parts l fit = by (tells_waits l) l.gone l.task_times fit.gone fit.task_times
   where
     by : (counts : Bool) (gone : Option GoneView) (times : Option (List TaskTimes)) → IfSome gone IsGone → IfSome times (AreTold gone)
         → line_in (object_with (members_at counts (record l { gone = gone; task_times = times }))) ≡ Some (record l { gone = gone; task_times = times })
@@ -270,9 +281,9 @@ optional_whole : (o : Option ℕ) → IsOptional o → IsWhole (optional_data o)
 optional_whole (Some n) h = h
 optional_whole None h = tt
 
-waits_whole : (sched : ℕ) (waited : Option ℕ) → IsNumber sched → IsOptional waited → IsWhole (waits_data sched waited)
-waits_whole sched None h g = h
-waits_whole sched (Some waited) h g = (h, (g, tt))
+waits_whole : (sched : ℕ) (waits : Option Waits) → IsNumber sched → IfSome waits AreWaits → IsWhole (waits_data sched waits)
+waits_whole sched None h fit = h
+waits_whole sched (Some waits) h fit = (h, (fit.total, (let below = fit.so_far in omega arith, tt)))
 
 version_small : (counts : Bool) (gone : Option GoneView) (times : Option (List TaskTimes)) → version_with counts gone times < 2 ^ 64
 version_small true _ _ = lit< tt
@@ -317,7 +328,7 @@ op_whole : (o : OpInfo) → IsOpInfo o → IsWhole (op_data o)
 op_whole o fit = ((ascii (codes "attrs") refl, each_whole attr_data IsAttr attr_whole o.attrs fit.attrs.each, (ascii (codes "id") refl, id_small o.id fit.id, (ascii (codes "parent") refl, optional_id_whole o.parent fit.parent, (ascii (codes "resource") refl, id_small o.resource fit.resource, (ascii (codes "source") refl, name_text o.source fit.source, tt))))), refl)
 
 stats_whole : (s : ℕ × TaskRow) → AreTaskStats s → IsWhole (stats_data s)
-stats_whole s fit = ((ascii (codes "busy") refl, fit.busy, (ascii (codes "clones") refl, fit.clones, (ascii (codes "created") refl, fit.created, (ascii (codes "dropped") refl, optional_whole s.1.dropped fit.dropped, (ascii (codes "drops") refl, fit.drops, (ascii (codes "first_poll") refl, optional_whole s.1.first_poll fit.first_poll, (ascii (codes "handles") refl, fit.handles, (ascii (codes "id") refl, id_small s.0 fit.id, (ascii (codes "last_ended") refl, optional_whole s.1.last_ended fit.last_ended, (ascii (codes "last_started") refl, optional_whole s.1.last_started fit.last_started, (ascii (codes "last_wake") refl, optional_whole s.1.last_wake fit.last_wake, (ascii (codes "polling") refl, tt, (ascii (codes "polls") refl, fit.polls, (ascii (codes "sched") refl, waits_whole s.1.sched s.1.waited fit.sched fit.waited, (ascii (codes "scheduled") refl, tt, (ascii (codes "self_wakes") refl, fit.self_wakes, (ascii (codes "wakes") refl, fit.wakes, tt))))))))))))))))), refl)
+stats_whole s fit = ((ascii (codes "busy") refl, fit.busy, (ascii (codes "clones") refl, fit.clones, (ascii (codes "created") refl, fit.created, (ascii (codes "dropped") refl, optional_whole s.1.dropped fit.dropped, (ascii (codes "drops") refl, fit.drops, (ascii (codes "first_poll") refl, optional_whole s.1.first_poll fit.first_poll, (ascii (codes "handles") refl, fit.handles, (ascii (codes "id") refl, id_small s.0 fit.id, (ascii (codes "last_ended") refl, optional_whole s.1.last_ended fit.last_ended, (ascii (codes "last_started") refl, optional_whole s.1.last_started fit.last_started, (ascii (codes "last_wake") refl, optional_whole s.1.last_wake fit.last_wake, (ascii (codes "polling") refl, tt, (ascii (codes "polls") refl, fit.polls, (ascii (codes "sched") refl, waits_whole s.1.sched s.1.waits fit.sched fit.waits, (ascii (codes "scheduled") refl, tt, (ascii (codes "self_wakes") refl, fit.self_wakes, (ascii (codes "wakes") refl, fit.wakes, tt))))))))))))))))), refl)
 
 resource_stats_whole : (s : ℕ × ResourceRow) → AreResourceStats s → IsWhole (resource_stats_data s)
 resource_stats_whole s fit = ((ascii (codes "attrs") refl, each_whole value_data IsValue value_whole s.1.attrs fit.attrs.each, (ascii (codes "created") refl, fit.created, (ascii (codes "dropped") refl, optional_whole s.1.dropped fit.dropped, (ascii (codes "handles") refl, fit.handles, (ascii (codes "id") refl, id_small s.0 fit.id, tt))))), refl)
@@ -332,20 +343,27 @@ filled_whole : (bs : List (ℕ × ℕ)) → AllByRecursion (λ b. (b.0 < 2 ^ 64)
 filled_whole [] fit = tt
 filled_whole (b ∷ bs) fit = ((fit.0.0, (fit.0.1, tt)), filled_whole bs fit.1)
 
+buckets_whole : (counts : List ℕ) → length counts ≡ 14 → AllByRecursion IsNumber counts → IsWhole (buckets_data counts)
+buckets_whole counts many fit = filled_whole (filled_from 0 counts) (all_filled 0 counts (omega (arith, many)) fit)
+
 times_whole : (t : TaskTimes) → AreTimes t → IsWhole (times_data t)
-times_whole t fit =
-    let many = fit.many in
-    ((ascii (codes "counts") refl, filled_whole (filled_from 0 t.1.counts) (all_filled 0 t.1.counts (omega (arith, many)) fit.counts), (ascii (codes "id") refl, id_small t.0 fit.task, (ascii (codes "longest") refl, fit.longest, tt))), refl)
+times_whole t fit = by t.1.waits fit.waits
+  where
+    by : (waits : Option WaitTimes) → IfSome waits AreWaitTimes → IsWhole (times_data (t.0, record t.1 { waits = waits }))
+    by None alone =
+        ((ascii (codes "counts") refl, buckets_whole t.1.counts fit.many fit.counts, (ascii (codes "id") refl, id_small t.0 fit.task, (ascii (codes "longest") refl, fit.longest, tt))), refl)
+    by (Some w) are =
+        ((ascii (codes "counts") refl, buckets_whole t.1.counts fit.many fit.counts, (ascii (codes "id") refl, id_small t.0 fit.task, (ascii (codes "longest") refl, fit.longest, (ascii (codes "longest_wait") refl, are.longest, (ascii (codes "waits") refl, buckets_whole w.counts are.many are.counts, tt))))), refl)
 
 pub line_whole : (l : LineView) → IsLine l → IsWhole (line_data l)
 unfolding line_data
 line_whole l fit = by l.gone l.task_times fit.gone fit.task_times
   where
     by : (gone : Option GoneView) (times : Option (List TaskTimes)) → IfSome gone IsGone → IfSome times (AreTold gone) → IsWhole (line_data (record l { gone = gone; task_times = times }))
-    by None None none untold = ((ascii (codes "dropped") refl, (fit.dropped.tasks, (fit.dropped.resources, (fit.dropped.ops, tt))), (ascii (codes "new_ops") refl, each_whole op_data IsOpInfo op_whole l.new_ops fit.new_ops, (ascii (codes "new_resources") refl, each_whole resource_data IsResourceInfo resource_whole l.new_resources fit.new_resources, (ascii (codes "new_tasks") refl, each_whole info_data IsTaskInfo info_whole l.new_tasks fit.new_tasks, (ascii (codes "now") refl, fit.now, (ascii (codes "op_stats") refl, each_whole op_stats_data AreOpStats op_stats_whole l.op_stats fit.op_stats, (ascii (codes "poll_counts") refl, each_whole counts_data AreCounts counts_whole l.poll_counts fit.poll_counts, (ascii (codes "resource_stats") refl, each_whole resource_stats_data AreResourceStats resource_stats_whole l.resource_stats fit.resource_stats, (ascii (codes "seq") refl, seq_small l.seq fit.seq, (ascii (codes "snapshot") refl, tt, (ascii (codes "task_stats") refl, each_whole stats_data AreTaskStats stats_whole l.task_stats fit.task_stats, (ascii (codes "v") refl, version_small (list_any counts_waits l.task_stats) _ _, tt)))))))))))), refl)
+    by None None none untold = ((ascii (codes "dropped") refl, (fit.dropped.tasks, (fit.dropped.resources, (fit.dropped.ops, tt))), (ascii (codes "new_ops") refl, each_whole op_data IsOpInfo op_whole l.new_ops fit.new_ops, (ascii (codes "new_resources") refl, each_whole resource_data IsResourceInfo resource_whole l.new_resources fit.new_resources, (ascii (codes "new_tasks") refl, each_whole info_data IsTaskInfo info_whole l.new_tasks fit.new_tasks, (ascii (codes "now") refl, fit.now, (ascii (codes "op_stats") refl, each_whole op_stats_data AreOpStats op_stats_whole l.op_stats fit.op_stats, (ascii (codes "poll_counts") refl, each_whole counts_data AreCounts counts_whole l.poll_counts fit.poll_counts, (ascii (codes "resource_stats") refl, each_whole resource_stats_data AreResourceStats resource_stats_whole l.resource_stats fit.resource_stats, (ascii (codes "seq") refl, seq_small l.seq fit.seq, (ascii (codes "snapshot") refl, tt, (ascii (codes "task_stats") refl, each_whole stats_data AreTaskStats stats_whole l.task_stats fit.task_stats, (ascii (codes "v") refl, version_small (tells_waits (record l { gone = None; task_times = None })) None None, tt)))))))))))), refl)
     by None (Some ts) none told = absurd (not_said told.said)
-    by (Some g) None are untold = ((ascii (codes "dropped") refl, (fit.dropped.tasks, (fit.dropped.resources, (fit.dropped.ops, tt))), (ascii (codes "gone_ops") refl, each_whole number_data IsId id_small g.ops are.ops, (ascii (codes "gone_resources") refl, each_whole number_data IsId id_small g.resources are.resources, (ascii (codes "gone_tasks") refl, each_whole number_data IsId id_small g.tasks are.tasks, (ascii (codes "new_ops") refl, each_whole op_data IsOpInfo op_whole l.new_ops fit.new_ops, (ascii (codes "new_resources") refl, each_whole resource_data IsResourceInfo resource_whole l.new_resources fit.new_resources, (ascii (codes "new_tasks") refl, each_whole info_data IsTaskInfo info_whole l.new_tasks fit.new_tasks, (ascii (codes "now") refl, fit.now, (ascii (codes "op_stats") refl, each_whole op_stats_data AreOpStats op_stats_whole l.op_stats fit.op_stats, (ascii (codes "poll_counts") refl, each_whole counts_data AreCounts counts_whole l.poll_counts fit.poll_counts, (ascii (codes "resource_stats") refl, each_whole resource_stats_data AreResourceStats resource_stats_whole l.resource_stats fit.resource_stats, (ascii (codes "seq") refl, seq_small l.seq fit.seq, (ascii (codes "snapshot") refl, tt, (ascii (codes "task_stats") refl, each_whole stats_data AreTaskStats stats_whole l.task_stats fit.task_stats, (ascii (codes "v") refl, version_small (list_any counts_waits l.task_stats) _ _, tt))))))))))))))), refl)
-    by (Some g) (Some ts) are told = ((ascii (codes "dropped") refl, (fit.dropped.tasks, (fit.dropped.resources, (fit.dropped.ops, tt))), (ascii (codes "gone_ops") refl, each_whole number_data IsId id_small g.ops are.ops, (ascii (codes "gone_resources") refl, each_whole number_data IsId id_small g.resources are.resources, (ascii (codes "gone_tasks") refl, each_whole number_data IsId id_small g.tasks are.tasks, (ascii (codes "new_ops") refl, each_whole op_data IsOpInfo op_whole l.new_ops fit.new_ops, (ascii (codes "new_resources") refl, each_whole resource_data IsResourceInfo resource_whole l.new_resources fit.new_resources, (ascii (codes "new_tasks") refl, each_whole info_data IsTaskInfo info_whole l.new_tasks fit.new_tasks, (ascii (codes "now") refl, fit.now, (ascii (codes "op_stats") refl, each_whole op_stats_data AreOpStats op_stats_whole l.op_stats fit.op_stats, (ascii (codes "poll_counts") refl, each_whole counts_data AreCounts counts_whole l.poll_counts fit.poll_counts, (ascii (codes "resource_stats") refl, each_whole resource_stats_data AreResourceStats resource_stats_whole l.resource_stats fit.resource_stats, (ascii (codes "seq") refl, seq_small l.seq fit.seq, (ascii (codes "snapshot") refl, tt, (ascii (codes "task_stats") refl, each_whole stats_data AreTaskStats stats_whole l.task_stats fit.task_stats, (ascii (codes "task_times") refl, each_whole times_data AreTimes times_whole ts told.each, (ascii (codes "v") refl, version_small (list_any counts_waits l.task_stats) _ _, tt)))))))))))))))), refl)
+    by (Some g) None are untold = ((ascii (codes "dropped") refl, (fit.dropped.tasks, (fit.dropped.resources, (fit.dropped.ops, tt))), (ascii (codes "gone_ops") refl, each_whole number_data IsId id_small g.ops are.ops, (ascii (codes "gone_resources") refl, each_whole number_data IsId id_small g.resources are.resources, (ascii (codes "gone_tasks") refl, each_whole number_data IsId id_small g.tasks are.tasks, (ascii (codes "new_ops") refl, each_whole op_data IsOpInfo op_whole l.new_ops fit.new_ops, (ascii (codes "new_resources") refl, each_whole resource_data IsResourceInfo resource_whole l.new_resources fit.new_resources, (ascii (codes "new_tasks") refl, each_whole info_data IsTaskInfo info_whole l.new_tasks fit.new_tasks, (ascii (codes "now") refl, fit.now, (ascii (codes "op_stats") refl, each_whole op_stats_data AreOpStats op_stats_whole l.op_stats fit.op_stats, (ascii (codes "poll_counts") refl, each_whole counts_data AreCounts counts_whole l.poll_counts fit.poll_counts, (ascii (codes "resource_stats") refl, each_whole resource_stats_data AreResourceStats resource_stats_whole l.resource_stats fit.resource_stats, (ascii (codes "seq") refl, seq_small l.seq fit.seq, (ascii (codes "snapshot") refl, tt, (ascii (codes "task_stats") refl, each_whole stats_data AreTaskStats stats_whole l.task_stats fit.task_stats, (ascii (codes "v") refl, version_small (tells_waits (record l { gone = Some g; task_times = None })) (Some g) None, tt))))))))))))))), refl)
+    by (Some g) (Some ts) are told = ((ascii (codes "dropped") refl, (fit.dropped.tasks, (fit.dropped.resources, (fit.dropped.ops, tt))), (ascii (codes "gone_ops") refl, each_whole number_data IsId id_small g.ops are.ops, (ascii (codes "gone_resources") refl, each_whole number_data IsId id_small g.resources are.resources, (ascii (codes "gone_tasks") refl, each_whole number_data IsId id_small g.tasks are.tasks, (ascii (codes "new_ops") refl, each_whole op_data IsOpInfo op_whole l.new_ops fit.new_ops, (ascii (codes "new_resources") refl, each_whole resource_data IsResourceInfo resource_whole l.new_resources fit.new_resources, (ascii (codes "new_tasks") refl, each_whole info_data IsTaskInfo info_whole l.new_tasks fit.new_tasks, (ascii (codes "now") refl, fit.now, (ascii (codes "op_stats") refl, each_whole op_stats_data AreOpStats op_stats_whole l.op_stats fit.op_stats, (ascii (codes "poll_counts") refl, each_whole counts_data AreCounts counts_whole l.poll_counts fit.poll_counts, (ascii (codes "resource_stats") refl, each_whole resource_stats_data AreResourceStats resource_stats_whole l.resource_stats fit.resource_stats, (ascii (codes "seq") refl, seq_small l.seq fit.seq, (ascii (codes "snapshot") refl, tt, (ascii (codes "task_stats") refl, each_whole stats_data AreTaskStats stats_whole l.task_stats fit.task_stats, (ascii (codes "task_times") refl, each_whole times_data AreTimes times_whole ts told.each, (ascii (codes "v") refl, version_small (tells_waits (record l { gone = Some g; task_times = Some ts })) (Some g) (Some ts), tt)))))))))))))))), refl)
 
 -- ---- how deep a line nests
 
@@ -357,9 +375,9 @@ optional_flat : (o : Option ℕ) → tree.depth (outline (optional_data o)) ≤ 
 optional_flat (Some n) = omega arith
 optional_flat None = omega arith
 
-waits_flat : (sched : ℕ) (waited : Option ℕ) → tree.depth (outline (waits_data sched waited)) ≤ 1
+waits_flat : (sched : ℕ) (waits : Option Waits) → tree.depth (outline (waits_data sched waits)) ≤ 1
 waits_flat sched None = omega arith
-waits_flat sched (Some waited) = omega arith
+waits_flat sched (Some waits) = omega arith
 
 text_flat : (o : Option (List ℕ)) → tree.depth (outline (optional_text o)) ≤ 0
 text_flat (Some s) = omega arith
@@ -381,7 +399,7 @@ op_shallow : (o : OpInfo) → tree.depth (outline (op_data o)) ≤ 3
 op_shallow o = omega (arith, each_shallow attr_data 1 attr_shallow o.attrs, optional_flat o.parent)
 
 stats_shallow : (s : ℕ × TaskRow) → tree.depth (outline (stats_data s)) ≤ 3
-stats_shallow s = omega (arith, optional_flat s.1.dropped, optional_flat s.1.first_poll, optional_flat s.1.last_ended, optional_flat s.1.last_started, optional_flat s.1.last_wake, waits_flat s.1.sched s.1.waited)
+stats_shallow s = omega (arith, optional_flat s.1.dropped, optional_flat s.1.first_poll, optional_flat s.1.last_ended, optional_flat s.1.last_started, optional_flat s.1.last_wake, waits_flat s.1.sched s.1.waits)
 
 resource_stats_shallow : (s : ℕ × ResourceRow) → tree.depth (outline (resource_stats_data s)) ≤ 3
 resource_stats_shallow s = omega (arith, each_shallow value_data 1 value_shallow s.1.attrs, optional_flat s.1.dropped)
@@ -391,7 +409,14 @@ op_stats_shallow s =
     omega (arith, each_shallow value_data 1 value_shallow s.1.attrs, optional_flat s.1.dropped, optional_flat s.1.first_poll, optional_flat s.1.last_ended, optional_flat s.1.last_started, optional_flat s.1.task)
 
 times_shallow : (t : TaskTimes) → tree.depth (outline (times_data t)) ≤ 3
-times_shallow t = omega (arith, each_shallow filled_data 1 (λ b. omega arith) (filled_from 0 t.1.counts))
+times_shallow t = by t.1.waits
+  where
+    buckets_shallow : (counts : List ℕ) → tree.depth (outline (buckets_data counts)) ≤ 2
+    buckets_shallow counts = omega (arith, each_shallow filled_data 1 (λ b. omega arith) (filled_from 0 counts))
+
+    by : (waits : Option WaitTimes) → tree.depth (outline (times_data (t.0, record t.1 { waits = waits }))) ≤ 3
+    by None = omega (arith, buckets_shallow t.1.counts)
+    by (Some w) = omega (arith, buckets_shallow t.1.counts, buckets_shallow w.counts)
 
 -- members that nest no deeper than a list of rows
 abbrev AreShallow : List (List ℕ × Data) → Type 0

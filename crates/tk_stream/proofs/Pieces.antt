@@ -117,6 +117,10 @@ members_after (f ∷ fs) gs =
     ∙ ap (λ xs. 44 ∷ (quoted f.0 ++ 58 ∷ xs)) (sym (append_assoc (compact_text f.1) (text_after fs) (members_text true (members_in gs))))
     ∙ ap (λ xs. 44 ∷ xs) (sym (append_assoc (quoted f.0) (58 ∷ (compact_text f.1 ++ text_after fs)) (members_text true (members_in gs))))
 
+-- members that stand after others, and the end of the object
+pub members_close : (fs : List (List ℕ × Data)) → members_text true (members_in fs) ≡ text_after fs ++ 125 ∷ []
+members_close fs = ap (λ xs. members_text true (members_in xs)) (sym (append-nil fs)) ∙ members_after fs []
+
 -- members and what stands after them
 abbrev pub members_then : List (List ℕ × Data) → List ℕ → List ℕ
 members_then [] more = more

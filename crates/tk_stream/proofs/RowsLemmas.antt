@@ -7,10 +7,11 @@ use Rattle.std.proofs.lemmas.Bool.Decides.{Decides-int_eq}
 use Rattle.tk_core.specs.declared.op.row.OpRow.{OpRow}
 use Rattle.tk_core.specs.declared.resource.row.ResourceRow.{ResourceRow}
 use Rattle.tk_core.specs.declared.task.row.TaskRow.{TaskRow}
+use Rattle.tk_core.specs.declared.task.wait.Waits.{Waits}
 use Rattle.tk_ids.specs.declared.attr.AttrValue.{AttrValue}
 use Rattle.tk_ids.specs.declared.attr.AttrValue.TheVariants.{U64, Bool as Flag, I64}
 use Rattle.tk_stream.specs.Tables.{PollCounts}
-use Rattle.tk_stream.specs.Rows.{same_row, same_value, same_values, same_resource_row, same_op_row, same_counts}
+use Rattle.tk_stream.specs.Rows.{same_waits, same_row, same_value, same_values, same_resource_row, same_op_row, same_counts}
 
 flags_agree : (a b : Bool) → beq a b ≡ true → a ≡ b
 flags_agree true true h = refl
@@ -35,18 +36,32 @@ same_moment None = refl
 same_number : (n : ℕ) → nat_eq n n ≡ true
 same_number n = eq-eqb n n refl
 
+waits_agree : (a b : Option Waits) → option_eq same_waits a b ≡ true → a ≡ b
+waits_agree (Some v) (Some w) h =
+    let both = and_parts (nat_eq v.total w.total) (nat_eq v.so_far w.so_far) h in
+    let total : v.total ≡ w.total = eqb-true _ _ both.0 in
+    let so_far : v.so_far ≡ w.so_far = eqb-true _ _ both.1 in
+    λ i. Some (record { total = total i; so_far = so_far i })
+waits_agree (Some v) None h = absurd (cc)
+waits_agree None (Some w) h = absurd (cc)
+waits_agree None None h = refl
+
+same_waiting : (a : Option Waits) → option_eq same_waits a a ≡ true
+same_waiting (Some w) = rw (same_number w.total, same_number w.so_far) refl
+same_waiting None = refl
+
 same_fields : (a b : TaskRow) → a.created ≡ b.created → a.dropped ≡ b.dropped → a.polls ≡ b.polls → a.first_poll ≡ b.first_poll
     → a.last_started ≡ b.last_started → a.last_ended ≡ b.last_ended → a.busy ≡ b.busy → a.wakes ≡ b.wakes → a.self_wakes ≡ b.self_wakes
-    → a.last_wake ≡ b.last_wake → a.clones ≡ b.clones → a.drops ≡ b.drops → a.handles ≡ b.handles → a.sched ≡ b.sched → a.waited ≡ b.waited
+    → a.last_wake ≡ b.last_wake → a.clones ≡ b.clones → a.drops ≡ b.drops → a.handles ≡ b.handles → a.sched ≡ b.sched → a.waits ≡ b.waits
     → a.polling ≡ b.polling → a.scheduled ≡ b.scheduled → a ≡ b
-same_fields a b created dropped polls first_poll last_started last_ended busy wakes self_wakes last_wake clones drops handles sched waited polling scheduled =
-    λ i. record { created = created i; dropped = dropped i; polls = polls i; first_poll = first_poll i; last_started = last_started i; last_ended = last_ended i; busy = busy i; wakes = wakes i; self_wakes = self_wakes i; last_wake = last_wake i; clones = clones i; drops = drops i; handles = handles i; sched = sched i; waited = waited i; polling = polling i; scheduled = scheduled i }
+same_fields a b created dropped polls first_poll last_started last_ended busy wakes self_wakes last_wake clones drops handles sched waits polling scheduled =
+    λ i. record { created = created i; dropped = dropped i; polls = polls i; first_poll = first_poll i; last_started = last_started i; last_ended = last_ended i; busy = busy i; wakes = wakes i; self_wakes = self_wakes i; last_wake = last_wake i; clones = clones i; drops = drops i; handles = handles i; sched = sched i; waits = waits i; polling = polling i; scheduled = scheduled i }
 
 fields_agree : (a b : TaskRow) → same_row a b ≡ true → a ≡ b
 fields_agree a b h =
     let p16 = and_parts _ (beq a.scheduled b.scheduled) h in
     let p15 = and_parts _ (beq a.polling b.polling) p16.0 in
-    let p14 = and_parts _ (option_eq nat_eq a.waited b.waited) p15.0 in
+    let p14 = and_parts _ (option_eq same_waits a.waits b.waits) p15.0 in
     let p13 = and_parts _ (nat_eq a.sched b.sched) p14.0 in
     let p12 = and_parts _ (nat_eq a.handles b.handles) p13.0 in
     let p11 = and_parts _ (nat_eq a.drops b.drops) p12.0 in
@@ -74,14 +89,14 @@ fields_agree a b h =
     let drops : a.drops ≡ b.drops = eqb-true _ _ p11.1 in
     let handles : a.handles ≡ b.handles = eqb-true _ _ p12.1 in
     let sched : a.sched ≡ b.sched = eqb-true _ _ p13.1 in
-    let waited : a.waited ≡ b.waited = moments_agree _ _ p14.1 in
+    let waits : a.waits ≡ b.waits = waits_agree _ _ p14.1 in
     let polling : a.polling ≡ b.polling = flags_agree _ _ p15.1 in
     let scheduled : a.scheduled ≡ b.scheduled = flags_agree _ _ p16.1 in
-    same_fields a b created dropped polls first_poll last_started last_ended busy wakes self_wakes last_wake clones drops handles sched waited polling scheduled
+    same_fields a b created dropped polls first_poll last_started last_ended busy wakes self_wakes last_wake clones drops handles sched waits polling scheduled
 
 pub agrees : (a : TaskRow) → same_row a a ≡ true
 agrees a =
-    rw (same_number a.created, same_moment a.dropped, same_number a.polls, same_moment a.first_poll, same_moment a.last_started, same_moment a.last_ended, same_number a.busy, same_number a.wakes, same_number a.self_wakes, same_moment a.last_wake, same_number a.clones, same_number a.drops, same_number a.handles, same_number a.sched, same_moment a.waited, same_flag a.polling, same_flag a.scheduled)
+    rw (same_number a.created, same_moment a.dropped, same_number a.polls, same_moment a.first_poll, same_moment a.last_started, same_moment a.last_ended, same_number a.busy, same_number a.wakes, same_number a.self_wakes, same_moment a.last_wake, same_number a.clones, same_number a.drops, same_number a.handles, same_number a.sched, same_waiting a.waits, same_flag a.polling, same_flag a.scheduled)
     refl
 
 pub same_rows : (a b : TaskRow) → (same_row a b ≡ true) ↔ (a ≡ b)

@@ -1,12 +1,15 @@
--- The buckets of a histogram that aren't empty say all of its counts.
-use Rattle.std.proofs.Common.{◌≡◌, ◌+◌, ◌^◌, ◌≤◌, ◌<◌, ◌==◌, ℕ, zero, suc, List, [], ◌∷◌, ◌++◌, length, map, take, append_assoc, append-nil, Bool, true, false, cond, Option, Some, None, option_map, refl, sym, ap, ◌∙◌, arith}
+-- The buckets of a histogram that aren't empty say all of its counts, and two histograms are the same where all of them agree.
+use Rattle.std.proofs.Common.{◌≡◌, ◌+◌, ◌^◌, ◌≤◌, ◌<◌, ◌==◌, ℕ, zero, suc, List, [], ◌∷◌, ◌++◌, length, map, take, append_assoc, append-nil, Bool, true, false, cond, nat_eq, Option, Some, None, option_map, refl, sym, ap, ap₂, ◌∙◌, arith}
+use Rattle.std.specs.Cmp.Lexicographic.{pointwise}
 use Rattle.std.specs.List.{AllByRecursion}
-use Rattle.std.proofs.lemmas.Bool.{eqb-true}
+use Rattle.std.specs.Option.{option_eq}
+use Rattle.std.proofs.lemmas.Bool.{and_parts, eqb-true}
 use Rattle.std.proofs.lemmas.List.{take_all}
 use Rattle.serde_json.specs.View.{items_of}
 use Rattle.serde_json.specs.Written.{items_text, comma_if}
 use Rattle.tk_stream.specs.Spelling.{filled_data}
-use Rattle.tk_stream.specs.Times.{filled_from, counts_from}
+use Rattle.tk_stream.specs.declared.tables.times.WaitTimes.{WaitTimes}
+use Rattle.tk_stream.specs.Times.{TaskTimes, same_waits, same_times, filled_from, counts_from}
 
 -- the first bucket that isn't empty isn't before the first bucket
 abbrev BeginsAt : ℕ → List (ℕ × ℕ) → Type 0
@@ -115,3 +118,36 @@ all_read counts bs many none = ap (λ xs. option_map (λ ns. take 14 counts ++ n
 pub some_left : (counts : List ℕ) (bs : List (ℕ × ℕ)) → 0 < length bs → option_map (λ ns. take 14 counts ++ ns) (counts_from 14 0 bs) ≡ None
 some_left counts [] h = absurd (omega (arith, h))
 some_left counts (b ∷ bs) h = refl
+
+-- ---- histograms that agree
+
+lists_agree : (xs ys : List ℕ) → pointwise nat_eq xs ys ≡ true → xs ≡ ys
+lists_agree [] [] h = refl
+lists_agree [] (y ∷ ys) h = absurd cc
+lists_agree (x ∷ xs) [] h = absurd cc
+lists_agree (x ∷ xs) (y ∷ ys) h = let p = and_parts (nat_eq x y) (pointwise nat_eq xs ys) h in ap₂ (λ z zs. z ∷ zs) (eqb-true x y p.0) (lists_agree xs ys p.1)
+
+waits_agree : (a b : WaitTimes) → same_waits a b ≡ true → a ≡ b
+waits_agree a b h =
+    let p = and_parts (nat_eq a.longest b.longest) (pointwise nat_eq a.counts b.counts) h in
+    let longest : a.longest ≡ b.longest = eqb-true a.longest b.longest p.0 in
+    let counts : a.counts ≡ b.counts = lists_agree a.counts b.counts p.1 in
+    λ i. record { longest = longest i; counts = counts i }
+
+beside_agree : (a b : Option WaitTimes) → option_eq same_waits a b ≡ true → a ≡ b
+beside_agree (Some v) (Some w) h = ap Some (waits_agree v w h)
+beside_agree (Some v) None h = absurd cc
+beside_agree None (Some w) h = absurd cc
+beside_agree None None h = refl
+
+-- histograms of tasks that agree are the same
+pub times_agree : (a b : TaskTimes) → same_times a b ≡ true → a ≡ b
+times_agree a b h =
+    let p = and_parts _ (option_eq same_waits a.1.waits b.1.waits) h in
+    let q = and_parts _ (pointwise nat_eq a.1.counts b.1.counts) p.0 in
+    let r = and_parts (nat_eq a.0 b.0) (nat_eq a.1.longest b.1.longest) q.0 in
+    let id : a.0 ≡ b.0 = eqb-true a.0 b.0 r.0 in
+    let longest : a.1.longest ≡ b.1.longest = eqb-true a.1.longest b.1.longest r.1 in
+    let counts : a.1.counts ≡ b.1.counts = lists_agree a.1.counts b.1.counts q.1 in
+    let waits : a.1.waits ≡ b.1.waits = beside_agree a.1.waits b.1.waits p.1 in
+    λ i. (id i, record { longest = longest i; counts = counts i; waits = waits i })

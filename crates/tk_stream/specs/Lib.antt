@@ -23,6 +23,7 @@ pub mod Entries
 pub mod Slots
 pub mod Kept
 pub mod Pieces
+pub mod Counted
 pub mod Spelled
 pub mod SmallShapes
 -- Where an item stands in its list

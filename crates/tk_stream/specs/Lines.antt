@@ -1,5 +1,5 @@
 -- What a line says: which items are new since the tables before, and which rows and counts differ.
-use Rattle.std.specs.Prelude.{◌≡◌, ℕ, ◌^◌, List, [], map, filter, Bool, true, false, ◌&&◌, not, nat_le, is_none, is_some, Option, Some, None, unwrap_or}
+use Rattle.std.specs.Prelude.{◌≡◌, ℕ, ◌^◌, List, [], map, filter, Bool, true, false, ◌&&◌, ◌||◌, not, nat_le, is_none, is_some, Option, Some, None, unwrap_or}
 use Rattle.std.specs.List.{list_any}
 use Rattle.std.specs.Option.{option_map_or}
 use Rattle.tk_core.specs.declared.op.row.OpRow.{OpRow}
@@ -13,7 +13,7 @@ use Rattle.tk_stream.specs.declared.tables.op.Op.{Op}
 use Rattle.tk_stream.specs.declared.tables.resource.Resource.{Resource}
 use Rattle.tk_stream.specs.declared.tables.task.Task.{Task}
 use Rattle.tk_stream.specs.Rows.{same_row, same_resource_row, same_op_row, same_counts}
-use Rattle.tk_stream.specs.Times.{TaskTimes, times_id, same_times, all_times}
+use Rattle.tk_stream.specs.Times.{TaskTimes, times_id, has_waits, same_times, all_times}
 use Rattle.tk_stream.specs.Tables.{TablesView, PollCounts, empty_tables, task_id, resource_id, op_id, counts_id, item_with}
 
 -- which items are gone, by their ids
@@ -28,7 +28,7 @@ none_gone = record { ops = []; resources = []; tasks = [] }
 
 -- what a line says: its infos are those of new items, its statistics are ids with their rows. A line of version 2 also says
 -- which items are gone, one of version 3 also tells histograms of tasks' poll times, and one of version 1 says nothing of either. One
--- of version 4 says what one of these says, and tells rows that count waits
+-- of version 4 says what one of these says, and tells waits: rows that count them, or histograms of them
 pub record LineView : Type 0 where
   pub dropped : Dropped
   pub gone : Option GoneView
@@ -50,19 +50,15 @@ is_seq n = nat_le 1 n && nat_le n (2 ^ 63)
 
 -- whether a task's row counts its waits
 abbrev pub counts_waits : ℕ × TaskRow → Bool
-counts_waits s = is_some s.1.waited
+counts_waits s = is_some s.1.waits
 
--- the version of a line's format: 4 where it tells a row that counts waits, otherwise 3 where it says what is gone and tells histograms,
+-- the version of a line's format: 4 where it tells waits, otherwise 3 where it says what is gone and tells histograms,
 -- 2 where it says what is gone, and otherwise 1
 abbrev pub version_with : Bool → Option GoneView → Option (List TaskTimes) → ℕ
 version_with true _ _ = 4
 version_with false None _ = 1
 version_with false (Some _) None = 2
 version_with false (Some _) (Some _) = 3
-
--- the version of a line's format
-abbrev pub version : LineView → ℕ
-version l = version_with (list_any counts_waits l.task_stats) l.gone l.task_times
 
 -- the items that a line says are gone
 abbrev pub gone_of : LineView → GoneView
@@ -71,6 +67,14 @@ gone_of l = unwrap_or l.gone none_gone
 -- the histograms that a line tells
 abbrev pub times_of : LineView → List TaskTimes
 times_of l = unwrap_or l.task_times []
+
+-- whether a line tells waits: a row that counts them, or a histogram of them
+abbrev pub tells_waits : LineView → Bool
+tells_waits l = list_any counts_waits l.task_stats || list_any has_waits (times_of l)
+
+-- the version of a line's format
+abbrev pub version : LineView → ℕ
+version l = version_with (tells_waits l) l.gone l.task_times
 
 -- ---- between lists of items of any kind, where `id_of` is an item's id
 

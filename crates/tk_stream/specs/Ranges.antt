@@ -5,6 +5,7 @@ use Rattle.tk_core.specs.Attributes.{is_i64}
 use Rattle.tk_core.specs.declared.op.row.OpRow.{OpRow}
 use Rattle.tk_core.specs.declared.resource.row.ResourceRow.{ResourceRow}
 use Rattle.tk_core.specs.declared.task.row.TaskRow.{TaskRow}
+use Rattle.tk_core.specs.declared.task.wait.Waits.{Waits}
 use Rattle.tk_ids.specs.Attributes.{are_attributes, info_names}
 use Rattle.tk_ids.specs.Ids.{is_id}
 use Rattle.tk_ids.specs.Names.{is_name}
@@ -17,6 +18,7 @@ use Rattle.tk_ids.specs.declared.info.ResourceInfo.{ResourceInfo}
 use Rattle.tk_ids.specs.declared.info.TaskInfo.{TaskInfo}
 use Rattle.tk_ids.specs.declared.location.Location.{Location}
 use Rattle.tk_stream.specs.Tables.{PollCounts}
+use Rattle.tk_stream.specs.declared.tables.times.WaitTimes.{WaitTimes}
 use Rattle.tk_stream.specs.Times.{TaskTimes}
 use Rattle.tk_stream.specs.Lines.{LineView, GoneView, is_seq}
 
@@ -90,6 +92,11 @@ pub record IsOpInfo (o : OpInfo) : Type 0 where
   pub parent : IsOptionalId o.parent
   pub attrs : AreAttrs o.attrs
 
+-- what is counted of a task's waits: a number, and what was counted of one wait
+pub record AreWaits (waits : Waits) : Type 0 where
+  pub total : IsNumber waits.total
+  pub so_far : waits.so_far < 2 ^ 56
+
 -- a task's id and row: its counts, sums and moments are numbers of 64 bits
 pub record AreTaskStats (s : ℕ × TaskRow) : Type 0 where
   pub id : IsId s.0
@@ -107,7 +114,7 @@ pub record AreTaskStats (s : ℕ × TaskRow) : Type 0 where
   pub drops : IsNumber s.1.drops
   pub handles : IsNumber s.1.handles
   pub sched : IsNumber s.1.sched
-  pub waited : IsOptional s.1.waited
+  pub waits : IfSome s.1.waits AreWaits
 
 -- a resource's id and row
 pub record AreResourceStats (s : ℕ × ResourceRow) : Type 0 where
@@ -137,12 +144,19 @@ pub record AreCounts (c : PollCounts) : Type 0 where
   pub ready : IsNumber c.1
   pub pending : IsNumber c.2
 
--- a task's histogram of poll times: the counts of fourteen buckets
+-- a histogram of waits: the counts of fourteen buckets
+pub record AreWaitTimes (w : WaitTimes) : Type 0 where
+  pub longest : IsNumber w.longest
+  pub counts : AllByRecursion IsNumber w.counts
+  pub many : length w.counts ≡ 14
+
+-- a task's histogram of poll times: the counts of fourteen buckets, and that of its waits
 pub record AreTimes (t : TaskTimes) : Type 0 where
   pub task : IsId t.0
   pub longest : IsNumber t.1.longest
   pub counts : AllByRecursion IsNumber t.1.counts
   pub many : length t.1.counts ≡ 14
+  pub waits : IfSome t.1.waits AreWaitTimes
 
 -- the totals of what was dropped
 pub record AreTotals (d : Dropped) : Type 0 where

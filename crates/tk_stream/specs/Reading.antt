@@ -5,6 +5,7 @@ use Rattle.std.specs.Str.{is_utf8, bytes_eq}
 use Rattle.tk_core.specs.declared.op.row.OpRow.{OpRow}
 use Rattle.tk_core.specs.declared.resource.row.ResourceRow.{ResourceRow}
 use Rattle.tk_core.specs.declared.task.row.TaskRow.{TaskRow}
+use Rattle.tk_core.specs.declared.task.wait.Waits.{Waits}
 use Rattle.tk_ids.specs.Attributes.{are_attributes, info_names}
 use Rattle.tk_ids.specs.Ids.{is_id}
 use Rattle.tk_ids.specs.Names.{is_name}
@@ -27,6 +28,7 @@ use Rattle.serde_json.specs.Read.{read}
 use Rattle.tk_stream.specs.declared.error.LineError.{LineError}
 use Rattle.tk_stream.specs.declared.error.LineError.TheVariants.{BadJson}
 use Rattle.tk_stream.specs.Tables.{PollCounts}
+use Rattle.tk_stream.specs.declared.tables.times.WaitTimes.{WaitTimes}
 use Rattle.tk_stream.specs.Times.{TaskTimes, counts_from}
 use Rattle.tk_stream.specs.Lines.{LineView, GoneView, is_seq, version}
 use Rattle.tk_stream.specs.Outcome.{shaped, ◌then◌}
@@ -173,21 +175,26 @@ value_of d = option_map values.U64 (number_of d)
 unfoldable pub values_in : List Data → Option (List AttrValue)
 values_in ds = each_of value_of ds >>= λ vs. if nat_le (length vs) 6 then Some vs else None
 
--- [scheduled, waited]
-abbrev pub waits_in : List Data → Option (ℕ × Option ℕ)
-waits_in (s ∷ w ∷ []) = do
+-- what was counted of one wait: a number below 2^56
+abbrev pub so_far_of : Data → Option ℕ
+so_far_of d = number_of d >>= λ n. if nat_lt n (2 ^ 56) then Some n else None
+
+-- [scheduled, in all, of the wait that lasts]
+abbrev pub waits_in : List Data → Option (ℕ × Option Waits)
+waits_in (s ∷ w ∷ f ∷ []) = do
   sched ← number_of s
-  waited ← number_of w
-  Some (sched, Some waited)
+  total ← number_of w
+  so_far ← so_far_of f
+  Some (sched, Some (record { total = total; so_far = so_far }))
 waits_in _ = None
 
--- how long a task waited: a number, or [scheduled, waited]
-abbrev pub waits_of : Data → Option (ℕ × Option ℕ)
+-- how long a task waited: a number, or [scheduled, in all, of the wait that lasts]
+abbrev pub waits_of : Data → Option (ℕ × Option Waits)
 waits_of (array ds) = waits_in (values_of ds)
 waits_of d = option_map (λ n. (n, None)) (number_of d)
 
 -- the same, at a key
-abbrev pub waits_at : List ℕ → Data → Option (ℕ × Option ℕ)
+abbrev pub waits_at : List ℕ → Data → Option (ℕ × Option Waits)
 waits_at key d = get key d >>= waits_of
 
 -- ---- infos
@@ -282,7 +289,7 @@ stats_of d = if has_members 17 d then (do
   scheduled ← flag_at (codes "scheduled") d
   self_wakes ← number_at (codes "self_wakes") d
   wakes ← number_at (codes "wakes") d
-  Some (id, record { created = created; dropped = dropped; polls = polls; first_poll = first_poll; last_started = last_started; last_ended = last_ended; busy = busy; wakes = wakes; self_wakes = self_wakes; last_wake = last_wake; clones = clones; drops = drops; handles = handles; sched = waits.0; waited = waits.1; polling = polling; scheduled = scheduled }))
+  Some (id, record { created = created; dropped = dropped; polls = polls; first_poll = first_poll; last_started = last_started; last_ended = last_ended; busy = busy; wakes = wakes; self_wakes = self_wakes; last_wake = last_wake; clones = clones; drops = drops; handles = handles; sched = waits.0; waits = waits.1; polling = polling; scheduled = scheduled }))
     else None
 
 -- a resource's id and row, with attribute values that were read, of exactly these keys and `attrs`
@@ -355,14 +362,30 @@ filled_of d = list_of d >>= filled_in
 unfoldable pub buckets_in : List Data → Option (List ℕ)
 buckets_in ds = each_of filled_of ds >>= counts_from 0 14
 
--- a task's histogram of poll times, of exactly these keys
+-- the counts of fourteen buckets, at a key
+abbrev pub buckets_at : List ℕ → Data → Option (List ℕ)
+buckets_at key d = list_at key d >>= buckets_in
+
+-- a histogram of waits
+unfoldable pub wait_times_of : Data → Option WaitTimes
+wait_times_of d = do
+  longest ← number_at (codes "longest_wait") d
+  counts ← buckets_at (codes "waits") d
+  Some (record { longest = longest; counts = counts })
+
+-- the histogram of a task's waits beside that of its polls: none, where the object has the three keys of polls alone, and one at the two
+-- further keys of an object of five
+unfoldable pub waits_beside : Data → Option (Option WaitTimes)
+waits_beside d = if has_members 3 d then Some None else (if has_members 5 d then option_map Some (wait_times_of d) else None)
+
+-- a task's histogram of poll times, and that of its waits where it is there, of exactly these keys
 unfoldable pub times_of : Data → Option TaskTimes
-times_of d = if has_members 3 d then (do
-  counts ← list_at (codes "counts") d >>= buckets_in
+times_of d = do
+  waits ← waits_beside d
+  counts ← buckets_at (codes "counts") d
   id ← id_at (codes "id") d
   longest ← number_at (codes "longest") d
-  Some (id, record { longest = longest; counts = counts }))
-    else None
+  Some (id, record { longest = longest; counts = counts; waits = waits })
 
 -- ---- a line
 

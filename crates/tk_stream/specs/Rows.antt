@@ -7,9 +7,14 @@ use Rattle.std.specs.Option.{option_eq}
 use Rattle.tk_core.specs.declared.op.row.OpRow.{OpRow}
 use Rattle.tk_core.specs.declared.resource.row.ResourceRow.{ResourceRow}
 use Rattle.tk_core.specs.declared.task.row.TaskRow.{TaskRow}
+use Rattle.tk_core.specs.declared.task.wait.Waits.{Waits}
 use Rattle.tk_ids.specs.declared.attr.AttrValue.{AttrValue}
 use Rattle.tk_ids.specs.declared.attr.AttrValue.TheVariants.{U64, Bool as Flag, I64}
 use Rattle.tk_stream.specs.Tables.{PollCounts}
+
+-- whether what is counted of waits agrees
+abbrev pub same_waits : Waits → Waits → Bool
+same_waits a b = a.total == b.total && nat_eq a.so_far b.so_far
 
 -- whether two rows of tasks agree in each of their fields
 abbrev pub same_row : TaskRow → TaskRow → Bool
@@ -28,7 +33,7 @@ same_row a b =
     && a.drops == b.drops
     && a.handles == b.handles
     && a.sched == b.sched
-    && option_eq nat_eq a.waited b.waited
+    && option_eq same_waits a.waits b.waits
     && beq a.polling b.polling
     && beq a.scheduled b.scheduled
 

@@ -12,7 +12,7 @@ use Rattle.tk_ids.specs.declared.info.ResourceInfo.{ResourceInfo}
 use Rattle.tk_ids.specs.declared.location.Location.{Location}
 use Rattle.tk_json.specs.Small.{small, small_items, small_members, few, nothing}
 use Rattle.tk_json.proofs.Kept.{scalars_kept, items_kept, members_kept}
-use Rattle.tk_stream.specs.Reading.{◌>>=◌, has_members, number_of, optional_of, id_of, optional_id_of, name_of, optional_name_of, small_of, values_of, list_of, each_of, number_at, optional_at, flag_at, text_at, list_at, id_at, optional_id_at, name_at, location_in, location_at, attr_in, attr_of, attrs_in, signed_in, value_of, values_in, waits_in, waits_of, waits_at, info_of, ResourceView, resource_parts, resource_of, OpView, op_parts, op_of, stats_of, resource_stats_with, resource_stats_of, op_stats_with, op_stats_of, counts_in, counts_of, filled_in, filled_of, buckets_in, times_of}
+use Rattle.tk_stream.specs.Reading.{◌>>=◌, has_members, number_of, optional_of, id_of, optional_id_of, name_of, optional_name_of, small_of, values_of, list_of, each_of, number_at, optional_at, flag_at, text_at, list_at, id_at, optional_id_at, name_at, location_in, location_at, attr_in, attr_of, attrs_in, signed_in, value_of, values_in, waits_in, waits_of, waits_at, info_of, ResourceView, resource_parts, resource_of, OpView, op_parts, op_of, stats_of, resource_stats_with, resource_stats_of, op_stats_with, op_stats_of, counts_in, counts_of, filled_in, filled_of, buckets_in, buckets_at, wait_times_of, waits_beside, times_of}
 use Rattle.tk_stream.specs.Times.{counts_from}
 
 -- ---- values of one token
@@ -165,14 +165,16 @@ value_small d = value_same d 2
 waits_few : (n : ℕ) (ds : Items) → waits_in (values_of (small_items ds n)) ≡ waits_in (values_of ds)
 waits_few n no_items = refl
 waits_few n (item a no_items) = refl
-waits_few n (item a (item b no_items)) = rw (number_same a n, number_same b n) refl
-waits_few n (item a (item b (item c ds))) = refl
+waits_few n (item a (item b no_items)) = refl
+waits_few n (item a (item b (item c no_items))) = rw (number_same a n, number_same b n, number_same c n) refl
+waits_few n (item a (item b (item c (item d ds)))) = refl
 
 waits_wide : (ds : Items) → 14 < items_len ds → waits_in (values_of ds) ≡ None
 waits_wide no_items h = refl
 waits_wide (item a no_items) h = refl
-waits_wide (item a (item b no_items)) h = absurd (omega arith)
-waits_wide (item a (item b (item c ds))) h = refl
+waits_wide (item a (item b no_items)) h = refl
+waits_wide (item a (item b (item c no_items))) h = absurd (omega arith)
+waits_wide (item a (item b (item c (item d ds)))) h = refl
 
 waits_by : (b : Bool) (n : ℕ) (ds : Items) → nat_le (items_len ds) 14 ≡ b → waits_of (cond b (array (small_items ds n)) nothing) ≡ waits_in (values_of ds)
 waits_by true n ds e = waits_few n ds
@@ -541,9 +543,25 @@ buckets_wide ds h = by (each_of filled_of (values_of ds)) refl
     by None e = refl
     by (Some bs) e = let many = all_of filled_of ds bs e in too_many 0 14 bs (omega (arith, h, many))
 
--- a task's histogram
+buckets_kept : (key : List ℕ) (d : Data) → KeepsKeys d → buckets_at key (small d 3) ≡ buckets_at key d
+buckets_kept key d at = list_kept buckets_in (buckets_few, buckets_wide) key d at
+
+-- a task's histograms
 pub times_small : (d : Data) → times_of (small d 3) ≡ times_of d
-unfolding times_of
-times_small d =
-    by_count times_of 3 (omega arith) (omega arith) d (has_members 3 d) refl (λ e none. rw none refl)
-    (λ counts is at. rw (counts, is, list_kept buckets_in (buckets_few, buckets_wide) (codes "counts") d at, id_kept (codes "id") d at, number_kept (codes "longest") d at) refl)
+unfolding times_of waits_beside wait_times_of
+times_small d = by (has_members 3 d) (has_members 5 d) refl refl
+  where
+    by : (three five : Bool) → has_members 3 d ≡ three → has_members 5 d ≡ five → times_of (small d 3) ≡ times_of d
+    by true five is other =
+        let kept = members_kept d 2 3 (omega arith) (omega arith) in
+        let at = kept.1 is in
+        rw (kept.0 ∙ is, is, buckets_kept (codes "counts") d at, id_kept (codes "id") d at, number_kept (codes "longest") d at) refl
+    by false true is other =
+        let three = members_kept d 2 3 (omega arith) (omega arith) in
+        let five = members_kept d 2 5 (omega arith) (omega arith) in
+        let at = five.1 other in
+        rw (three.0 ∙ is, is, five.0 ∙ other, other, number_kept (codes "longest_wait") d at, buckets_kept (codes "waits") d at, buckets_kept (codes "counts") d at, id_kept (codes "id") d at, number_kept (codes "longest") d at) refl
+    by false false is other =
+        let three = members_kept d 2 3 (omega arith) (omega arith) in
+        let five = members_kept d 2 5 (omega arith) (omega arith) in
+        rw (three.0 ∙ is, is, five.0 ∙ other, other) refl

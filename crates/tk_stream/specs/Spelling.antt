@@ -4,6 +4,7 @@ use Rattle.std.specs.List.{list_all}
 use Rattle.tk_core.specs.declared.op.row.OpRow.{OpRow}
 use Rattle.tk_core.specs.declared.resource.row.ResourceRow.{ResourceRow}
 use Rattle.tk_core.specs.declared.task.row.TaskRow.{TaskRow}
+use Rattle.tk_core.specs.declared.task.wait.Waits.{Waits}
 use Rattle.tk_ids.specs.declared.attr.AttrInfo.{AttrInfo}
 use Rattle.tk_ids.specs.declared.attr.AttrKind.{AttrKind}
 use Rattle.tk_ids.specs.declared.attr.AttrKind.TheVariants as kinds
@@ -21,6 +22,7 @@ use Rattle.json.specs.Print.{quoted}
 use Rattle.serde_json.specs.View.{items_of}
 use Rattle.serde_json.specs.Written.{compact_text}
 use Rattle.tk_stream.specs.Tables.{PollCounts}
+use Rattle.tk_stream.specs.declared.tables.times.WaitTimes.{WaitTimes}
 use Rattle.tk_stream.specs.Times.{TaskTimes, filled_from}
 use Rattle.tk_stream.specs.Lines.{LineView, GoneView, version}
 
@@ -97,10 +99,10 @@ counts_data c = array (items_of (number_data c.0 ∷ number_data c.1 ∷ number_
 abbrev pub filled_data : ℕ × ℕ → Data
 filled_data b = array (items_of (number_data b.0 ∷ number_data b.1 ∷ []))
 
--- how long a task waited: a number, or [scheduled, waited] where its waits are counted
-abbrev pub waits_data : ℕ → Option ℕ → Data
+-- how long a task waited: a number, or where its waits are counted [scheduled, in all, of the wait that lasts]
+abbrev pub waits_data : ℕ → Option Waits → Data
 waits_data sched None = number_data sched
-waits_data sched (Some waited) = array (items_of (number_data sched ∷ number_data waited ∷ []))
+waits_data sched (Some waits) = array (items_of (number_data sched ∷ number_data waits.total ∷ number_data waits.so_far ∷ []))
 
 -- ---- objects, with their keys in byte order
 
@@ -132,7 +134,7 @@ stats_fields s =
     (codes "last_wake", optional_data s.1.last_wake) ∷
     (codes "polling", boolean s.1.polling) ∷
     (codes "polls", number_data s.1.polls) ∷
-    (codes "sched", waits_data s.1.sched s.1.waited) ∷
+    (codes "sched", waits_data s.1.sched s.1.waits) ∷
     (codes "scheduled", boolean s.1.scheduled) ∷
     (codes "self_wakes", number_data s.1.self_wakes) ∷
     (codes "wakes", number_data s.1.wakes) ∷ []
@@ -202,16 +204,25 @@ op_stats_fields s =
 abbrev pub op_stats_data : ℕ × OpRow → Data
 op_stats_data s = object_with (op_stats_fields s)
 
--- the members of a task's histogram of poll times, of buckets that are spelled already
-abbrev pub times_members : Data → ℕ → ℕ → List (List ℕ × Data)
-times_members counts id longest =
-    (codes "counts", counts) ∷
-    (codes "id", number_data id) ∷
-    (codes "longest", number_data longest) ∷ []
+-- the counts of a histogram: only buckets that aren't empty, in rising order
+abbrev pub buckets_data : List ℕ → Data
+buckets_data counts = list_data filled_data (filled_from 0 counts)
 
--- a task's histogram of poll times: only buckets that aren't empty, in rising order
+-- the members of a histogram of waits, where there is one
+abbrev pub waits_fields : Option WaitTimes → List (List ℕ × Data)
+waits_fields None = []
+waits_fields (Some w) = (codes "longest_wait", number_data w.longest) ∷ (codes "waits", buckets_data w.counts) ∷ []
+
+-- the members of a task's histograms
+abbrev pub times_members : TaskTimes → List (List ℕ × Data)
+times_members t =
+    (codes "counts", buckets_data t.1.counts) ∷
+    (codes "id", number_data t.0) ∷
+    (codes "longest", number_data t.1.longest) ∷ waits_fields t.1.waits
+
+-- a task's histogram of poll times, and that of its waits where there is one
 abbrev pub times_data : TaskTimes → Data
-times_data t = object_with (times_members (list_data filled_data (filled_from 0 t.1.counts)) t.0 t.1.longest)
+times_data t = object_with (times_members t)
 
 -- the members that say what is gone
 abbrev pub gone_fields : GoneView → List (List ℕ × Data)

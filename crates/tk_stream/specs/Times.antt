@@ -1,8 +1,10 @@
--- Histograms of poll times: how often a task's polls ran for how long, as a line says it and as it is kept beside tables.
-use Rattle.std.specs.Prelude.{ℕ, zero, suc, ◌+◌, ◌==◌, nat_eq, List, [], ◌∷◌, Bool, ◌&&◌, Option, Some, None, option_map, if◌then◌else◌}
+-- Histograms: how often a task's polls ran for how long, and its waits lasted, as a line says it and as it is kept beside tables.
+use Rattle.std.specs.Prelude.{ℕ, zero, suc, ◌+◌, ◌==◌, nat_eq, List, [], ◌∷◌, Bool, ◌&&◌, Option, Some, None, option_map, is_some, if◌then◌else◌}
 use Rattle.std.specs.Cmp.Lexicographic.{pointwise}
+use Rattle.std.specs.Option.{option_eq}
 use Rattle.tk_core.specs.declared.times.row.TimesRow.{TimesRow}
 use Rattle.tk_stream.specs.declared.tables.times.PollTimes.{PollTimes}
+use Rattle.tk_stream.specs.declared.tables.times.WaitTimes.{WaitTimes}
 
 -- a task and the histogram of its poll times: (task, histogram)
 abbrev pub TaskTimes : Type 0
@@ -12,17 +14,33 @@ TaskTimes = ℕ × PollTimes
 abbrev pub times_id : TaskTimes → ℕ
 times_id t = t.0
 
--- the histogram that a row shows
+-- the histogram that a row shows, of a task whose waits aren't counted
 abbrev pub times_shown : TimesRow → PollTimes
-times_shown row = record { longest = row.longest; counts = row.counts }
+times_shown row = record { longest = row.longest; counts = row.counts; waits = None }
+
+-- the histogram of waits that a row shows
+abbrev pub waits_shown : TimesRow → WaitTimes
+waits_shown row = record { longest = row.longest; counts = row.counts }
+
+-- the histograms that a row of polls and a row of waits show
+abbrev pub both_shown : TimesRow → TimesRow → PollTimes
+both_shown polls waits = record (times_shown polls) { waits = Some (waits_shown waits) }
+
+-- whether a task's histogram has that of its waits beside it
+abbrev pub has_waits : TaskTimes → Bool
+has_waits t = is_some t.1.waits
 
 -- a task with another histogram
 abbrev pub times_with : TaskTimes → PollTimes → TaskTimes
 times_with t times = (t.0, times)
 
+-- whether two histograms of waits agree
+abbrev pub same_waits : WaitTimes → WaitTimes → Bool
+same_waits a b = a.longest == b.longest && pointwise nat_eq a.counts b.counts
+
 -- whether two histograms of tasks agree
 abbrev pub same_times : TaskTimes → TaskTimes → Bool
-same_times a b = a.0 == b.0 && a.1.longest == b.1.longest && pointwise nat_eq a.1.counts b.1.counts
+same_times a b = a.0 == b.0 && a.1.longest == b.1.longest && pointwise nat_eq a.1.counts b.1.counts && option_eq same_waits a.1.waits b.1.waits
 
 -- histograms are told as they are
 abbrev pub all_times : TaskTimes → TaskTimes

@@ -2,7 +2,7 @@
 //!
 //! - [`Tables`]: the items in order of arrival, each with its row, and the counts of poll operations.
 //! - [`Task`], [`Resource`], [`Op`]: a task, a resource and an async operation in tables.
-//! - [`PollTimes`]: how long a task's polls ran, which stands beside tables.
+//! - [`PollTimes`]: how long a task's polls ran, and [`WaitTimes`] how long it waited, which stand beside tables.
 //! - [`Line`]: what one line of a stream says; its text is one JSON object.
 //! - [`Leaving`]: what leaves with a line, since the line before showed it closed for long enough.
 //! - [`LineError`]: why a line was not made, read or written.
@@ -31,7 +31,7 @@ pub use tables::ranged::Ranged;
 pub use tables::resource::Resource;
 pub use tables::table::Table;
 pub use tables::task::Task;
-pub use tables::times::PollTimes;
+pub use tables::times::{PollTimes, WaitTimes};
 pub use told::Told;
 pub use told::rows::ToldRows;
 pub use told::tables::ToldTables;

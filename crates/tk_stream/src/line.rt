@@ -15,9 +15,9 @@
 //! | `resource_stats` | a list of rows: an object with `id` and the row's 4 fields, each under its name |
 //! | `seq` | the line's number, from 1 to 2^63 |
 //! | `snapshot` | whether the line tells of the tables as a whole |
-//! | `task_stats` | a list of rows: an object with `id` and the row's 16 fields, each under its name, where `sched` is `[sched, waited]` of a row that counts waits |
-//! | `task_times` | in version 3: a list of histograms of poll times: `{"counts":[[bucket, count]..],"id":N,"longest":N}` |
-//! | `v` | 1, 2, 3 or 4, the version of the format: 4 where a row tells `[sched, waited]` at `sched`, with the keys of 1, 2 or 3 |
+//! | `task_stats` | a list of rows: an object with `id` and the row's 16 fields, each under its name, where `sched` is `[sched, waited, so_far]` of a row that counts waits |
+//! | `task_times` | in version 3: a list of histograms of poll times: `{"counts":[[bucket, count]..],"id":N,"longest":N}`, with `"longest_wait":N,"waits":[[bucket, count]..]` after `longest` where the task's waits have one, too |
+//! | `v` | 1, 2, 3 or 4, the version of the format: 4 where a row tells `[sched, waited, so_far]` at `sched`, or a histogram of waits is told, with the keys of 1, 2 or 3 |
 //!
 //! Of a histogram only the buckets stand there that aren't empty, in rising order.
 //!
@@ -25,9 +25,10 @@
 //! `false`, or `[number]` for a signed one, and what is absent is `null`.
 //!
 //! `specs/Lines.antt` says what a line says, and `specs/Spelling.antt` how it is spelled.
-ghost use Rattle.std.specs.Prelude.{◌≡◌, [], true, option_map};
+ghost use Rattle.std.specs.Prelude.{◌≡◌, ◌||◌, [], true, option_map, unwrap_or};
 ghost use Rattle.std.specs.List.{list_any};
 ghost use Rattle.tk_stream.specs.Lines as lines;
+ghost use Rattle.tk_stream.specs.Times.{has_waits};
 
 pub(crate) mod between;
 pub(crate) mod gone;
@@ -259,13 +260,13 @@ impl Line {
         let _dropped = &self.dropped;
     }
 
-    /// The version of the line's format: 4 where it tells a row that counts waits, otherwise 3 where it tells histograms, 2 where it
-    /// says what is gone, and otherwise 1.
+    /// The version of the line's format: 4 where it tells waits, by a row that counts them or by a histogram of them. Otherwise 3 where it
+    /// tells histograms, 2 where it says what is gone, and otherwise 1.
     pub fn version(&self) -> u64
         ensures { result ≡ lines.version self.now }
     {
-        let counts = count_waits(&self.task_stats);
-        version_of(counts, &self.gone, &self.task_times)
+        let waits = tell_waits(&self.task_stats, &self.task_times);
+        version_of(waits, &self.gone, &self.task_times)
     }
 }
 
@@ -273,14 +274,32 @@ impl Line {
 fn count_waits(stats: &Vec<(TaskId, TaskRow)>) -> bool
     ensures { result ≡ list_any lines.counts_waits stats.now.items }
 {
-    stats.iter().any(|stats| stats.1.waited.is_some())
+    stats.iter().any(|stats| stats.1.waits.is_some())
 }
 
-// The version of the format, by whether a line tells rows that count waits, says what is gone, and tells histograms.
-fn version_of(counts: bool, gone: &Option<Gone>, times: &Option<Vec<(TaskId, PollTimes)>>) -> u64
-    ensures { result ≡ lines.version_with counts gone.now (option_map (λ v. v.items) times.now) }
+// Whether some histograms have those of waits beside them.
+fn have_waits(times: &Option<Vec<(TaskId, PollTimes)>>) -> bool
+    ensures { result ≡ list_any has_waits (unwrap_or (option_map (λ v. v.items) times.now) []) }
 {
-    if counts {
+    match times {
+        Some(times) => times.iter().any(|times| times.1.waits.is_some()),
+        None => false,
+    }
+}
+
+// Whether a line of these rows and histograms tells waits.
+fn tell_waits(stats: &Vec<(TaskId, TaskRow)>, times: &Option<Vec<(TaskId, PollTimes)>>) -> bool
+    ensures { result ≡ (list_any lines.counts_waits stats.now.items
+        || list_any has_waits (unwrap_or (option_map (λ v. v.items) times.now) [])) }
+{
+    count_waits(stats) || have_waits(times)
+}
+
+// The version of the format, by whether a line tells waits, says what is gone, and tells histograms.
+fn version_of(waits: bool, gone: &Option<Gone>, times: &Option<Vec<(TaskId, PollTimes)>>) -> u64
+    ensures { result ≡ lines.version_with waits gone.now (option_map (λ v. v.items) times.now) }
+{
+    if waits {
         4
     } else if gone.is_none() {
         1

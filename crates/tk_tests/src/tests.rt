@@ -3,6 +3,7 @@
 mod app;
 mod damaged;
 mod explain;
+mod reading;
 mod report;
 mod scripts;
 mod streams;

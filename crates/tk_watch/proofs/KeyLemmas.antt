@@ -12,14 +12,14 @@ use Rattle.tk_fault.specs.declared.fault.AppFault.TheVariants as faults
 use Rattle.tk_frame.specs.declared.keys.Asked.{Asked}
 use Rattle.tk_frame.specs.Keys.{pressed}
 use Rattle.tk_frame.specs.Shown.{asked_screen}
-use Rattle.tk_report.specs.Taken.{HasTaken}
-use Rattle.tk_report.specs.Views.{outcome_of}
-use Rattle.tk_report.proofs.ViewLemmas.{begins}
+use Rattle.tk_reading.specs.Fronts.{tables_in}
+use Rattle.tk_reading.specs.Outcomes.{outcome_of}
+use Rattle.tk_reading.specs.Taken.{HasTaken}
+use Rattle.tk_reading.proofs.ReadLemmas.{begins}
 use Rattle.tk_stream.specs.Sent.{IsCut}
 use Rattle.tk_stream.specs.Tables.{TablesView}
 use Rattle.tk_watch.specs.Keyed.{Coming, IsOver, Loses, Standing, WatchesKeys, after, at_first, broken, drawn, drawn_at, drawn_from, due, key, piece, shown_of, standing, is_no_key, text_of}
 use Rattle.tk_watch.specs.Keying.{Goes, Holds, IsNew, Keying, Sends, SendsAt, Stands, held_then, shows, tables_of}
-use Rattle.tk_watch.specs.Watches.{tables_in}
 use Rattle.tk_watch.specs.Watching.{TakesTo}
 use Rattle.tk_watch.specs.declared.drawing.Screen.{Screen}
 use Rattle.tk_watch.specs.declared.session.Session.{Session}

@@ -1,68 +1,44 @@
 -- The steps of a watch.
-use Rattle.std.proofs.Common.{◌≡◌, ℕ, ◌+◌, ◌<◌, List, [], ◌∷◌, ◌++◌, length, take, Option, Some, None, Ok, Err, refl, ap, sym, ◌∙◌, subst, ⊎_elim, append_assoc, append-nil, take-append-drop, drop}
+use Rattle.std.proofs.Common.{◌≡◌, ℕ, ◌<◌, List, [], ◌∷◌, ◌++◌, Option, Some, None, Result, Ok, Err, refl, ap, sym, ◌∙◌, subst, ⊎_elim, append-nil}
 use Rattle.std.specs.Prelude.{flat_map}
-use Rattle.std.specs.Io.KnownBytes.{Appends, Consumes, IsAtEnd, Keeps}
+use Rattle.std.specs.Io.KnownBytes.{Appends, Consumes, Keeps}
 use Rattle.std.proofs.KnownBytes.{Appends-nil, Appends-trans, Consumes-kept, Consumes-nil, Consumes-trans}
+use Rattle.std.proofs.lemmas.List.Concat.{flat_map-append}
 use Rattle.tk_client.specs.declared.fault.Fault.{Fault}
-use Rattle.tk_client.specs.declared.fault.Fault.TheVariants as client
-use Rattle.tk_client.specs.declared.fault.FeedError.{FeedError}
-use Rattle.tk_client.specs.Feeding.{ClientView, Stopped, StoppedBy}
-use Rattle.tk_client.specs.Meaning.{after, empty_start, greatest_line, meaning, stops}
-use Rattle.tk_client.proofs.Pieces.{meaning-append, stops-append}
+use Rattle.tk_client.specs.Feeding.{ClientView}
+use Rattle.tk_client.specs.Meaning.{stops}
 use Rattle.tk_fault.specs.declared.fault.AppFault.{AppFault}
 use Rattle.tk_fault.specs.declared.fault.AppFault.TheVariants as faults
-use Rattle.tk_report.specs.Taken.{HasTaken, first, stop_of}
-use Rattle.tk_report.specs.Views.{AreAll, outcome_of}
-use Rattle.tk_report.proofs.ViewLemmas.{begins}
+use Rattle.tk_reading.specs.Fronts.{last_lines, lines_in, tables_in}
+use Rattle.tk_reading.specs.Outcomes.{AreAll, outcome_of}
+use Rattle.tk_reading.specs.Reads.{TakesMore}
+use Rattle.tk_reading.specs.Taken.{HasTaken, first}
+use Rattle.tk_reading.proofs.FrontLemmas.{ends_at_all, last_more, rise_more, rise_on}
+use Rattle.tk_reading.proofs.ReadLemmas.{begins}
 use Rattle.tk_stream.specs.Sent.{IsCut}
+use Rattle.tk_stream.specs.Tables.{TablesView}
 use Rattle.tk_watch.specs.Drawing.{Draws, DrawsAt, text_of}
-use Rattle.tk_watch.specs.Watches.{Watches, WritesSome, lines_in, screen_of, tables_in}
-use Rattle.tk_watch.specs.Watching.{Covers, TakesTo, Watching, last_lines}
+use Rattle.tk_watch.specs.Watches.{Watches, WritesSome, screen_of}
+use Rattle.tk_watch.specs.Watching.{Covers, TakesTo, Watching}
 use Rattle.tk_watch.specs.declared.drawing.Screen.{Screen}
-use Rattle.tk_watch.proofs.FrontLemmas.{ends_at_all, last_more, rise_more, rise_on, texts_more}
 
--- ---- a piece has a fault
+-- ---- a piece more
 
-module _ (front piece : List ℕ) (lines : ℕ) (old new : ClientView) (e : FeedError) (h : HasTaken front lines old) where
-  stops_there : (fault : Fault) → meaning old.max_line old.start (take e.used piece) ≡ stops new.start.tables e.lines fault e.used
-      → outcome_of (front ++ piece) ≡ stops new.start.tables (lines + e.lines) fault (length front + e.used)
-  stops_there fault o =
-      let part = take e.used piece in
-      let there : outcome_of (front ++ part) ≡ stops new.start.tables (lines + e.lines) fault (length front + e.used) =
-      meaning-append greatest_line empty_start old.start front part lines h.took.came
-      ∙ ap (after lines (length front)) (ap (λ k. meaning k old.start part) (sym h.limit) ∙ o) in
-      ap outcome_of (ap (λ xs. front ++ xs) (sym (take-append-drop e.used piece)) ∙ sym (append_assoc front part (drop e.used piece)))
-      ∙ stops-append greatest_line empty_start (front ++ part) (drop e.used piece) new.start.tables (lines + e.lines) (length front + e.used) fault there
-
-  stops_by : (fault : Fault) → StoppedBy fault (meaning old.max_line old.start (take e.used piece)) e new → TakesTo (front ++ piece) (Err (stop_of (lines + e.lines) fault)) new
-  stops_by client.Memory by = tt
-  stops_by client.BadJson by = (_, stops_there client.BadJson by.0)
-  stops_by client.BadShape by = (_, stops_there client.BadShape by.0)
-  stops_by (client.Gap expected found) by = (_, stops_there (client.Gap expected found) by.0)
-  stops_by client.UnknownId by = (_, stops_there client.UnknownId by.0)
-  stops_by client.Repeated by = (_, stops_there client.Repeated by.0)
-  stops_by client.TooLong by = (_, stops_there client.TooLong by.0)
-  stops_by client.Misfit by = (_, stops_there client.Misfit by.0)
-  stops_by client.Failed by = (_, stops_there client.Failed by.0)
-
-  pub stops_to : (answer : AppFault) → Stopped old piece e new → answer ≡ stop_of (lines + e.lines) e.fault → TakesTo (front ++ piece) (Err answer) new
-  stops_to answer s is = subst (λ f. TakesTo (front ++ piece) (Err f) new) (sym is) (stops_by e.fault s.by)
-
--- ---- what a reader gave at its end
-
-none_taken : (xs : List ℕ) → take 0 xs ≡ []
-none_taken [] = refl
-none_taken (x ∷ xs) = refl
-
-pub reads_none : (left new : Option (List ℕ)) (n : ℕ) (buf : List ℕ) → n ≡ 0 → Consumes left new (take n buf) → Consumes left new []
-reads_none left new n buf is read = subst (Consumes left new) (ap (λ k. take k buf) is ∙ none_taken buf) read
-
-pub all_at_end : (given left : Option (List ℕ)) (bytes : List ℕ) → Consumes given left bytes → IsAtEnd left → AreAll given bytes
-all_at_end None left bytes read end = tt
-all_at_end (Some x) None bytes read end = absurd read
-all_at_end (Some x) (Some y) bytes read end = read ∙ ap (λ zs. bytes ++ zs) end ∙ append-nil bytes
+-- a piece was taken, or its fault is one of all bytes, before which the client's tables stood
+pub takes_to : (O : Type 0) (saw : List TablesView → O → Type 0) (front piece : List ℕ) (now : ClientView) (observer : O) (result : Result ℕ AppFault)
+    → TakesMore saw front piece result now observer → TakesTo (front ++ piece) result now
+takes_to O saw front piece now observer (Ok lines) h = h.0
+takes_to O saw front piece now observer (Err faults.Memory) h = tt
+takes_to O saw front piece now observer (Err faults.Read) h = absurd h
+takes_to O saw front piece now observer (Err faults.Write) h = absurd h
+takes_to O saw front piece now observer (Err (faults.Script line name)) h = absurd h
+takes_to O saw front piece now observer (Err (faults.Stream lines fault)) h = (h.used, h.stop ∙ ap (λ t. stops t lines fault h.used) (sym h.tables))
 
 -- ---- steps
+
+-- a text more
+texts_more : (text : List ℕ → List ℕ) (fronts : List (List ℕ)) (bytes : List ℕ) → flat_map text (fronts ++ bytes ∷ []) ≡ flat_map text fronts ++ text bytes
+texts_more text fronts bytes = flat_map-append text fronts (bytes ∷ []) ∙ ap (λ xs. flat_map text fronts ++ xs) (append-nil (text bytes))
 
 -- nothing was read, and nothing drawn
 pub none_drawn : (screen : Screen) (given old : Option (List ℕ)) → WritesSome screen given given old old
@@ -203,13 +179,13 @@ module _ (screen : Screen) (given left old : Option (List ℕ)) (lines : ℕ) (d
   pub ends_all : AreAll given w.bytes → Covers drawn lines → Watches screen given left (Ok tt) old wrote
   ends_all all covers = by drawn covers w.last
     where
-      shows : (a b : List ℕ) → tables_in (outcome_of a) ≡ tables_in (outcome_of b) → screen_of screen a ≡ screen_of screen b
-      shows a b e = ap (text_of screen) e
-
       by : (d : Option ℕ) → Covers d lines → last_lines w.fronts ≡ d → Watches screen given left (Ok tt) old wrote
       by None c is = absurd c
       by (Some most) c is =
-          let e = ends_at_all (screen_of screen) shows w.fronts w.bytes now.start lines most w.rise is c w.taken.took.came in
+          let e = ends_at_all w.fronts w.bytes now.start lines most w.rise is c w.taken.took.came in
+          let texts = flat_map (screen_of screen) in
+          let same : texts w.fronts ≡ texts (e.init ++ w.bytes ∷ []) =
+          ap texts e.split ∙ texts_more (screen_of screen) e.init e.last ∙ ap (λ t. texts e.init ++ text_of screen t) e.same ∙ sym (texts_more (screen_of screen) e.init w.bytes) in
           record {
             bytes = w.bytes;
             all = all;
@@ -218,5 +194,5 @@ module _ (screen : Screen) (given left old : Option (List ℕ)) (lines : ℕ) (d
             come = w.taken.took.came;
             fronts = e.init;
             rise = e.rise;
-            wrote = subst (Appends old wrote) e.same w.wrote;
+            wrote = subst (Appends old wrote) same w.wrote;
           }

@@ -5,12 +5,12 @@ use Rattle.tk_fault.specs.declared.fault.AppFault.{AppFault}
 use Rattle.tk_fault.specs.declared.fault.AppFault.TheVariants as faults
 use Rattle.tk_frame.specs.Keys.{first_asked}
 use Rattle.tk_frame.specs.Shown.{asked_screen}
-use Rattle.tk_report.specs.Taken.{HasTaken, first}
-use Rattle.tk_report.specs.Views.{outcome_of}
+use Rattle.tk_reading.specs.Fronts.{tables_in}
+use Rattle.tk_reading.specs.Outcomes.{outcome_of}
+use Rattle.tk_reading.specs.Taken.{HasTaken, first}
 use Rattle.tk_stream.specs.Sent.{IsCut}
 use Rattle.tk_stream.specs.Tables.{TablesView}
 use Rattle.tk_watch.specs.Keyed.{Coming, Loses, Standing, WatchesKeys, drawn, standing}
-use Rattle.tk_watch.specs.Watches.{tables_in}
 use Rattle.tk_watch.specs.declared.drawing.Screen.{Screen}
 use Rattle.tk_watch.specs.declared.session.Session.{Session}
 

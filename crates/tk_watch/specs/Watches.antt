@@ -1,44 +1,20 @@
 -- What is written of a stream that is watched.
-use Rattle.std.specs.Prelude.{◌≡◌, ℕ, ◌<◌, List, [], ◌∷◌, ◌++◌, flat_map, Option, Result, Ok, Err}
+use Rattle.std.specs.Prelude.{◌≡◌, ℕ, List, [], ◌∷◌, ◌++◌, flat_map, Option, Result, Ok, Err}
 use Rattle.std.specs.Io.KnownBytes.{Appends, Consumes}
 use Rattle.tk_client.specs.declared.fault.Fault.{Fault}
-use Rattle.tk_client.specs.Meaning.{Outcome, Start, goes, stops}
+use Rattle.tk_client.specs.Meaning.{Start, goes, stops}
 use Rattle.tk_fault.specs.declared.fault.AppFault.{AppFault}
 use Rattle.tk_fault.specs.declared.fault.AppFault.TheVariants as faults
 use Rattle.tk_frame.specs.Frames.{frame_text}
-use Rattle.tk_report.specs.Views.{AreAll, outcome_of}
+use Rattle.tk_reading.specs.Fronts.{Rise, tables_in}
+use Rattle.tk_reading.specs.Outcomes.{AreAll, outcome_of}
 use Rattle.tk_stream.specs.Sent.{IsCut}
 use Rattle.tk_stream.specs.Tables.{TablesView}
 use Rattle.tk_watch.specs.declared.drawing.Screen.{Screen}
 
--- the tables that bytes come to: at a fault those that stood before it
-abbrev pub tables_in : Outcome → TablesView
-tables_in (goes start lines) = start.tables
-tables_in (stops tables lines fault used) = tables
-
--- how many of their lines are applied
-abbrev pub lines_in : Outcome → ℕ
-lines_in (goes start lines) = lines
-lines_in (stops tables lines fault used) = lines
-
 -- the screen of the tables that a stream's bytes come to
 abbrev pub screen_of : Screen → List ℕ → List ℕ
 screen_of screen bytes = frame_text screen.canvas screen.query screen.lints (tables_in (outcome_of bytes))
-
--- bytes begin with these
-pub record IsFront (front bytes : List ℕ) : Type 0 where
-  pub rest : List ℕ
-  pub whole : bytes ≡ front ++ rest
-
--- bytes are a front of the next ones, in which at least one line more is applied; where none are next, of all
-abbrev pub GoesBefore : List ℕ → List (List ℕ) → List ℕ → Type 0
-GoesBefore front [] bytes = IsFront front bytes
-GoesBefore front (next ∷ fronts) bytes = IsFront front next × (lines_in (outcome_of front) < lines_in (outcome_of next))
-
--- rising fronts of bytes
-abbrev pub Rise : List (List ℕ) → List ℕ → Type 0
-Rise [] bytes = Unit {0}
-Rise (front ∷ fronts) bytes = GoesBefore front fronts bytes × Rise fronts bytes
 
 -- all bytes were read, and have no fault. Written was, for rising fronts of them of which they are the last, screen after screen of
 -- what these come to

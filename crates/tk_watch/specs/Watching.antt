@@ -1,21 +1,16 @@
 -- How far a watch has come. Inner: no public clause cites this.
-use Rattle.std.specs.Prelude.{◌≡◌, ℕ, ◌≤◌, ◌+◌, List, [], ◌∷◌, flat_map, Option, Some, None, Result, Ok, Err}
+use Rattle.std.specs.Prelude.{◌≡◌, ℕ, ◌≤◌, ◌+◌, List, flat_map, Option, Some, None, Result, Ok, Err}
 use Rattle.std.specs.Io.KnownBytes.{Appends, Consumes}
 use Rattle.tk_client.specs.Feeding.{ClientView}
 use Rattle.tk_client.specs.Meaning.{stops}
 use Rattle.tk_fault.specs.declared.fault.AppFault.{AppFault}
 use Rattle.tk_fault.specs.declared.fault.AppFault.TheVariants as faults
-use Rattle.tk_report.specs.Taken.{HasTaken}
-use Rattle.tk_report.specs.Views.{outcome_of}
-use Rattle.tk_watch.specs.Watches.{Rise, Watches, WritesAll, lines_in, screen_of}
+use Rattle.tk_reading.specs.Fronts.{Rise, last_lines}
+use Rattle.tk_reading.specs.Outcomes.{outcome_of}
+use Rattle.tk_reading.specs.Taken.{HasTaken}
+use Rattle.tk_watch.specs.Watches.{Watches, WritesAll, screen_of}
 use Rattle.tk_watch.specs.declared.drawing.Screen.{Screen}
 use Rattle.tk_watch.specs.declared.watching.Progress.{Progress}
-
--- how many lines the last of fronts has
-abbrev pub last_lines : List (List ℕ) → Option ℕ
-last_lines [] = None
-last_lines (front ∷ []) = Some (lines_in (outcome_of front))
-last_lines (front ∷ next ∷ fronts) = last_lines (next ∷ fronts)
 
 -- what was read is taken, in so many lines, and the screens of rising fronts of it are written, the last of so many lines
 pub record Watching (screen : Screen) (given left : Option (List ℕ)) (lines : ℕ) (drawn : Option ℕ) (now : ClientView) (old new : Option (List ℕ)) : Type 0 where

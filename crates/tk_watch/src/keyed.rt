@@ -7,12 +7,13 @@ ghost use Rattle.tk_watch.specs.Keying as spec;
 use crate::drawing::Screen;
 use crate::session::{Session, draw, tables_of, turn};
 use crate::source::{Event, Source};
-use crate::watching::{MAX_LINE, PIECE, feed_more};
+use crate::watching::feed_more;
 use std::alloc::Global;
 use std::io::Write;
 use tk_client::Client;
 use tk_fault::AppFault;
 use tk_frame::{Asked, press};
+use tk_reading::{MAX_LINE, PIECE};
 
 // Draws what stands at a fault of the stream, and answers that fault, or the one by which it could not be drawn.
 fn draw_at<W: Write>(
@@ -41,7 +42,7 @@ fn take_piece<W: Write>(
     screen: &Screen<'_>,
     bytes: &[u8],
 ) -> Result<bool, AppFault>
-    requires few { session.old.lines ≤ 2 ^ 62 }
+    requires few { session.old.lines + 65536 ≤ 2 ^ 62 }
     requires short { length bytes.now ≤ 65536 }
     ensures goes { (given left new : Option (List Coming)) (old : Option (List ℕ)) → Loses left new (piece bytes.now ∷ [])
         → spec.Keying screen.now given left session.old old (W.contents writer.old)
@@ -127,7 +128,7 @@ fn take_event<W: Write>(
     event: Event,
     room: &[u8],
 ) -> Result<bool, AppFault>
-    requires few { session.old.lines ≤ 2 ^ 62 }
+    requires few { session.old.lines + 65536 ≤ 2 ^ 62 }
     requires room { length room.now ≡ 65536 }
     requires within { IsWithin (Option.Some event) (length room.now) }
     ensures goes { (given left new : Option (List Coming)) (old : Option (List ℕ)) → Loses left new (coming event room.now ∷ [])
@@ -152,7 +153,7 @@ fn step<S: Source, W: Write>(
     screen: &Screen<'_>,
     room: &mut [u8],
 ) -> Result<bool, AppFault>
-    requires few { session.old.lines ≤ 2 ^ 62 }
+    requires few { session.old.lines + 65536 ≤ 2 ^ 62 }
     requires room { length room.old ≡ 65536 }
     ensures goes { (given : Option (List Coming)) (old : Option (List ℕ))
         → spec.Keying screen.now given (S.to_come source.old) session.old old (W.contents writer.old)

@@ -18,5 +18,5 @@ mod watching;
 pub use drawing::Screen;
 pub use keyed::watch_keys;
 pub use source::{Event, Source};
-pub use tk_pace::{Every, Pace};
+pub use tk_reading::{Every, Pace};
 pub use watching::watch_stream;

@@ -1,7 +1,7 @@
 //! A stream that is watched.
 ghost use Rattle.std.specs.Prelude.{◌≡◌, ◌≤◌, ◌<◌, ◌+◌, ◌^◌, ◌++◌, ℕ, List, Option, length, IfOk, true, false};
 ghost use Rattle.std.specs.Io.KnownBytes.{Consumes, IsAtEnd};
-ghost use Rattle.tk_report.specs.Taken.{HasTaken, first, stop_of};
+ghost use Rattle.tk_reading.specs.Taken.{HasTaken, first};
 ghost use Rattle.tk_watch.specs.Drawing.{DrawsAt};
 ghost use Rattle.tk_watch.specs.Watches.{Watches};
 ghost use Rattle.tk_watch.specs.Watching as spec;
@@ -9,15 +9,9 @@ ghost use Rattle.tk_watch.specs.Watching as spec;
 use crate::drawing::{Screen, draw};
 use std::alloc::Global;
 use std::io::{Read, Write};
-use tk_client::{Client, Fault, FeedError};
+use tk_client::Client;
 use tk_fault::AppFault;
-use tk_pace::Pace;
-
-// How many bytes a line of a stream has at most. No script gives a longer one.
-pub(crate) const MAX_LINE: usize = 268_435_456;
-
-// How many bytes are read at a time.
-pub(crate) const PIECE: usize = 65_536;
+use tk_reading::{MAX_LINE, PIECE, Pace, Unwatched, feed_lines};
 
 // How many lines are applied, and how many were when the last screen was drawn, if one was.
 #[derive(Clone, Copy)]
@@ -26,31 +20,14 @@ struct Progress {
     drawn: Option<u64>,
 }
 
-// Why a stream isn't taken after so many lines.
-fn stopped(lines: u64, error: FeedError) -> AppFault
-    requires { lines + error.lines < 2 ^ 64 }
-    ensures { result ≡ stop_of (lines + error.lines) error.fault }
-{
-    match error.fault {
-        Fault::Memory => AppFault::Memory,
-        fault => AppFault::Stream {
-            lines: lines + error.lines,
-            fault,
-        },
-    }
-}
-
 // Feeds a client that has applied so many lines, and answers how many it has then applied.
 pub(crate) fn feed_more(client: &mut Client, lines: u64, piece: &[u8]) -> Result<u64, AppFault>
-    requires few { lines ≤ 2 ^ 62 }
+    requires few { lines + 65536 ≤ 2 ^ 62 }
     requires short { length piece.now ≤ 65536 }
     ensures takes { (front : List ℕ) → HasTaken front lines client.old → spec.TakesTo (front ++ piece.now) result client.new }
     ensures few { IfOk result (λ sum. sum ≤ lines + 65536) }
 {
-    match client.feed(piece) {
-        Ok(more) => Ok(lines + more),
-        Err(error) => Err(stopped(lines, error)),
-    }
+    feed_lines(client, &mut Unwatched, lines, piece)
 }
 
 // Draws what stands at a fault of the stream, and answers that fault, or the one by which it could not be drawn.
@@ -81,7 +58,7 @@ fn take_piece<W: Write>(
     lines: u64,
     piece: &[u8],
 ) -> Result<u64, AppFault>
-    requires few { lines ≤ 2 ^ 62 }
+    requires few { lines + 65536 ≤ 2 ^ 62 }
     requires short { length piece.now ≤ 65536 }
     ensures goes { (given left new old : Option (List ℕ)) (drawn : Option ℕ) → Consumes left new piece.now
         → spec.Watching screen.now given left lines drawn client.old old (W.contents writer.old)
@@ -170,7 +147,7 @@ fn after_piece<W: Write, P: Pace>(
     progress: Progress,
     piece: &[u8],
 ) -> Result<Option<Progress>, AppFault>
-    requires few { progress.lines ≤ 2 ^ 62 }
+    requires few { progress.lines + 65536 ≤ 2 ^ 62 }
     requires short { length piece.now ≤ 65536 }
     ensures steps { (given left new old : Option (List ℕ)) → Consumes left new piece.now
         → spec.Watching screen.now given left progress.lines progress.drawn client.old old (W.contents writer.old)
@@ -225,7 +202,7 @@ fn step<R: Read, W: Write, P: Pace>(
     progress: Progress,
     piece: &mut [u8],
 ) -> Result<Option<Progress>, AppFault>
-    requires few { progress.lines ≤ 2 ^ 62 }
+    requires few { progress.lines + 65536 ≤ 2 ^ 62 }
     requires room { length piece.old ≡ 65536 }
     ensures steps { (given old : Option (List ℕ))
         → spec.Watching screen.now given (R.remaining reader.old) progress.lines progress.drawn client.old old (W.contents writer.old)

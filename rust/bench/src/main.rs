@@ -1,5 +1,5 @@
 //! What the inspection of a program costs: wakes, polls, clones of wakers and spawns, each plain, inspected, and under a
-//! `tracing` span; and lines, by how many tasks there are and how many of them changed, with histograms of poll times and without.
+//! `tracing` span; and lines, by how many tasks there are and how many of them changed, with histograms and waits, and without.
 //!
 //! Usage: taskscope-bench
 //!
@@ -61,12 +61,13 @@ fn least(rounds: u32, calls: u32, mut round: impl FnMut(u32)) -> f64 {
 
 /// A console that keeps all that a measure makes.
 fn console() -> Console {
-    with_times(true)
+    that_counts(true)
 }
 
-/// The same, with histograms of poll times or without. Some lines were made, as by a program that runs for a while: its clock goes by them.
-fn with_times(times: bool) -> Console {
-    let console = Console::open(Settings::default().capacity(usize::MAX).retention(Duration::ZERO).times(times));
+/// The same, with histograms and waits, or without. Some lines were made, as by a program that runs for a while: its clock goes by them.
+fn that_counts(waits: bool) -> Console {
+    let console =
+        Console::open(Settings::default().capacity(usize::MAX).retention(Duration::ZERO).times(waits).waits(waits));
     for _ in 0..3 {
         std::thread::sleep(Duration::from_millis(60));
         console.publish().expect("a line");
@@ -106,8 +107,8 @@ fn polls(clock: f64) {
     let inspected = poll(Console::instrument(&console, "polled", Pending(None)));
     let span = poll(Pending(None).instrument(tracing::info_span!("polled")));
     tell("a poll", clock, poll(Pending(None)), inspected, Some(span));
-    let plain = poll(Console::instrument(&with_times(false), "polled", Pending(None)));
-    tell("a poll, without histograms", clock, poll(Pending(None)), plain, None);
+    let plain = poll(Console::instrument(&that_counts(false), "polled", Pending(None)));
+    tell("a poll, without histograms and waits", clock, poll(Pending(None)), plain, None);
 }
 
 fn spawns(clock: f64) -> std::io::Result<()> {
@@ -159,13 +160,13 @@ fn resident() -> u64 {
     line.and_then(|line| line.split_whitespace().next()).and_then(|word| word.parse().ok()).unwrap_or(0)
 }
 
-fn lines(times: bool) {
-    println!("\n{} histograms:\n", if times { "With" } else { "Without" });
+fn lines(waits: bool) {
+    println!("\n{} histograms and waits:\n", if waits { "With" } else { "Without" });
     println!("| tasks | all new | none changed | 1 of 100 changed | all changed | a snapshot | bytes a task |");
     println!("|---|---|---|---|---|---|---|");
     for count in [1_000, 10_000, 100_000] {
         let before = resident();
-        let console = with_times(times);
+        let console = that_counts(waits);
         let tasks: Vec<_> = (0..count).map(|_| Mutex::new(console.task("listed").open())).collect();
         let held = (resident() - before) * 1024 / count;
         // Each changed task was polled once.

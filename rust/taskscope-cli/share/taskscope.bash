@@ -10,9 +10,11 @@ _taskscope() {
     view:--self-wake-percent) return ;;
     view:--never-yielded-ns) return ;;
     view:--long-poll) return ;;
+    view:--long-wait) return ;;
     lint:--self-wake-percent) return ;;
     lint:--never-yielded-ns) return ;;
     lint:--long-poll) return ;;
+    lint:--long-wait) return ;;
     page:--self-wake-percent) return ;;
     page:--never-yielded-ns) return ;;
     watch:--self-wake-percent) return ;;
@@ -28,8 +30,8 @@ _taskscope() {
     esac
     case ${COMP_WORDS[1]} in
     run) all='--explain --help' ;;
-    view) all='--self-wake-percent --never-yielded-ns --long-poll --times --explain --help' ;;
-    lint) all='--self-wake-percent --never-yielded-ns --long-poll --explain --help' ;;
+    view) all='--self-wake-percent --never-yielded-ns --long-poll --long-wait --findings --times --explain --help' ;;
+    lint) all='--self-wake-percent --never-yielded-ns --long-poll --long-wait --findings --explain --help' ;;
     page) all='--self-wake-percent --never-yielded-ns --help' ;;
     watch) all='--self-wake-percent --never-yielded-ns --sort --rows --filter --resources --every --follow --keys --plain --help' ;;
     metrics) all='--self-wake-percent --never-yielded-ns --by --to --every --follow --help' ;;

@@ -13,13 +13,17 @@ complete -c taskscope -n '__fish_seen_subcommand_from run' -F
 complete -c taskscope -n '__fish_seen_subcommand_from view' -l self-wake-percent -x -d 'Warns where more of a hundred wakes are a task'\''s own [default: 50]'
 complete -c taskscope -n '__fish_seen_subcommand_from view' -l never-yielded-ns -x -d 'Warns where a first poll has run for so many nanoseconds [default: 1000000000]'
 complete -c taskscope -n '__fish_seen_subcommand_from view' -l long-poll -x -d 'Warns where a poll ran for so many milliseconds, from 1 on'
-complete -c taskscope -n '__fish_seen_subcommand_from view' -l times -d 'Shows below a task how long its polls ran, where the stream tells of it'
+complete -c taskscope -n '__fish_seen_subcommand_from view' -l long-wait -x -d 'Warns where a wait for a poll took so many milliseconds, from 1 on'
+complete -c taskscope -n '__fish_seen_subcommand_from view' -l findings -d 'Tells who holds up whom and what else is odd, in place of warnings'
+complete -c taskscope -n '__fish_seen_subcommand_from view' -l times -d 'Shows below a task how long its polls ran and it waited, where the stream tells of it'
 complete -c taskscope -n '__fish_seen_subcommand_from view' -l explain -d 'Tells below a fault its line and the rule that this breaks, and else what was left out'
 complete -c taskscope -n '__fish_seen_subcommand_from view' -l help -s h -d 'Print help (see a summary with '\''-h'\'')'
 complete -c taskscope -n '__fish_seen_subcommand_from view' -F
 complete -c taskscope -n '__fish_seen_subcommand_from lint' -l self-wake-percent -x -d 'Warns where more of a hundred wakes are a task'\''s own [default: 50]'
 complete -c taskscope -n '__fish_seen_subcommand_from lint' -l never-yielded-ns -x -d 'Warns where a first poll has run for so many nanoseconds [default: 1000000000]'
 complete -c taskscope -n '__fish_seen_subcommand_from lint' -l long-poll -x -d 'Warns where a poll ran for so many milliseconds, from 1 on'
+complete -c taskscope -n '__fish_seen_subcommand_from lint' -l long-wait -x -d 'Warns where a wait for a poll took so many milliseconds, from 1 on'
+complete -c taskscope -n '__fish_seen_subcommand_from lint' -l findings -d 'Tells who holds up whom and what else is odd, in place of warnings'
 complete -c taskscope -n '__fish_seen_subcommand_from lint' -l explain -d 'Tells below a fault its line and the rule that this breaks, and else what was left out'
 complete -c taskscope -n '__fish_seen_subcommand_from lint' -l help -s h -d 'Print help (see a summary with '\''-h'\'')'
 complete -c taskscope -n '__fish_seen_subcommand_from lint' -F

@@ -136,6 +136,7 @@ mod tests {
         let cases = [
             ("taskscope view unix:s", Some(Extent::Now)),
             ("taskscope lint --long-poll 5 unix:s", Some(Extent::Now)),
+            ("taskscope lint --long-wait 5 unix:s", Some(Extent::Now)),
             ("taskscope page unix:s", Some(Extent::UntilEnd)),
             ("taskscope watch --keys unix:s", Some(Extent::Always)),
             ("taskscope metrics unix:s", Some(Extent::Now)),

@@ -1,20 +1,39 @@
 //! A task that starves the others: on two workers, `json-index` computes for 30 milliseconds each 100, and eight clients that want
 //! to run each 5 milliseconds wait for it where they stand behind it.
 //!
-//! It prints what it measured by itself: of each task how many polls ran, the longest, and percentiles, all in nanoseconds. `taskscope
-//! view --times` is to tell the same, and `taskscope lint --long-poll 20` to warn of `json-index` alone.
+//! It prints what it measured by itself: of each task how many polls ran, the longest, and percentiles, all in nanoseconds; and the same of
+//! how long it waited for them, each time from the first wake on. `taskscope view --times` is to tell the same of both, and
+//! `taskscope lint --long-poll 20` to warn of `json-index` alone.
 
 use std::future::Future;
 use std::pin::Pin;
 use std::sync::{Arc, Mutex};
-use std::task::{Context, Poll};
+use std::task::{Context, Poll, Wake, Waker};
 use std::time::{Duration, Instant};
 use tokio::time::sleep;
 
-/// Measures each poll of a future.
+/// Since when a task waits for a poll.
+type Since = Arc<Mutex<Option<Instant>>>;
+
+/// Notes the first wake, and wakes the task.
+struct Noting {
+    since: Since,
+    task: Waker,
+}
+
+impl Wake for Noting {
+    fn wake(self: Arc<Self>) {
+        self.since.lock().expect("no panic").get_or_insert_with(Instant::now);
+        self.task.wake_by_ref();
+    }
+}
+
+/// Measures each poll of a future, and each wait for one.
 struct Measured<F> {
     work: Pin<Box<F>>,
+    since: Since,
     runs: Arc<Mutex<Vec<u128>>>,
+    waits: Arc<Mutex<Vec<u128>>>,
 }
 
 impl<F: Future> Future for Measured<F> {
@@ -22,7 +41,11 @@ impl<F: Future> Future for Measured<F> {
 
     fn poll(mut self: Pin<&mut Self>, cx: &mut Context<'_>) -> Poll<F::Output> {
         let started = Instant::now();
-        let answer = self.work.as_mut().poll(cx);
+        if let Some(since) = self.since.lock().expect("no panic").take() {
+            self.waits.lock().expect("no panic").push(started.duration_since(since).as_nanos());
+        }
+        let waker = Waker::from(Arc::new(Noting { since: Arc::clone(&self.since), task: cx.waker().clone() }));
+        let answer = self.work.as_mut().poll(&mut Context::from_waker(&waker));
         self.runs.lock().expect("no panic").push(started.elapsed().as_nanos());
         answer
     }
@@ -54,6 +77,16 @@ fn percentile(runs: &[u128], percent: usize) -> u128 {
     runs[(runs.len() * percent + 99) / 100 - 1]
 }
 
+fn print(word: &str, name: &str, what: &str, times: &Mutex<Vec<u128>>) {
+    let mut times = times.lock().expect("no panic").clone();
+    times.sort_unstable();
+    let Some(longest) = times.last() else {
+        return;
+    };
+    let [half, most, nearly] = [50, 90, 99].map(|percent| percentile(&times, percent));
+    println!("{word} {name} {what} {} longest {longest} p50 {half} p90 {most} p99 {nearly}", times.len());
+}
+
 fn main() -> std::io::Result<()> {
     taskscope_subscriber::init();
     let runtime = tokio::runtime::Builder::new_multi_thread().worker_threads(2).enable_time().build()?;
@@ -62,28 +95,23 @@ fn main() -> std::io::Result<()> {
     runtime.block_on(async {
         let mut joins = Vec::new();
         for number in 0..9 {
-            let runs = Arc::<Mutex<Vec<u128>>>::default();
+            let (runs, waits) = (Arc::<Mutex<Vec<u128>>>::default(), Arc::<Mutex<Vec<u128>>>::default());
+            let since = Arc::new(Mutex::new(Some(Instant::now())));
             let name = if number == 0 { "json-index".to_owned() } else { format!("client-{number}") };
             let work: Pin<Box<dyn Future<Output = ()> + Send>> =
                 if number == 0 { Box::pin(index(until)) } else { Box::pin(client(until)) };
-            let task = Measured { work: Box::pin(work), runs: Arc::clone(&runs) };
+            let task = Measured { work: Box::pin(work), since, runs: Arc::clone(&runs), waits: Arc::clone(&waits) };
             joins.push(tokio::task::Builder::new().name(&name).spawn(task)?);
-            measured.push((name, runs));
+            measured.push((name, runs, waits));
         }
         for join in joins {
             join.await?;
         }
         Ok::<(), std::io::Error>(())
     })?;
-    for (name, runs) in measured {
-        let mut runs = runs.lock().expect("no panic").clone();
-        runs.sort_unstable();
-        let [half, most, nearly] = [50, 90, 99].map(|percent| percentile(&runs, percent));
-        println!(
-            "mine {name} polls {} longest {} p50 {half} p90 {most} p99 {nearly}",
-            runs.len(),
-            runs[runs.len() - 1]
-        );
+    for (name, runs, waits) in measured {
+        print("mine", &name, "polls", &runs);
+        print("waits", &name, "waits", &waits);
     }
     Ok(())
 }

@@ -89,13 +89,16 @@ pub struct CountEntry {
     pub told_pending: u64,
 }
 
-/// The histogram of a task's poll times.
+/// The histogram of a task's poll times, and where `waited` that of its waits.
 #[repr(C)]
 #[derive(Clone, Copy, Debug)]
 pub struct TimesEntry {
     pub row: Words,
     pub told: Words,
+    pub waits: Words,
+    pub told_waits: Words,
     pub task: u64,
+    pub waited: bool,
 }
 
 /// What a line has beside its items. The first `told_` entries of each list were told by the line before.
@@ -173,6 +176,7 @@ library! {
     pub fn taskscope_task_release(words: &mut Words) -> u32;
     pub fn taskscope_times_open(words: &mut Words);
     pub fn taskscope_task_end_timed(words: &mut Words, times: &mut Words, moment: u64) -> u32;
+    pub fn taskscope_task_start_waited(words: &mut Words, waits: &mut Words, moment: u64) -> u32;
     pub fn taskscope_task_leaves(told: &Words, moment: u64, retention: u64) -> bool;
 
     pub fn taskscope_resource_open(created: u64, attrs: *const Attr, attr_count: usize, words: &mut Words) -> bool;

@@ -112,7 +112,11 @@ impl<T> fmt::Debug for Light<T> {
 #[cfg(test)]
 mod tests {
     use super::*;
+    #[cfg(all(target_os = "linux", target_pointer_width = "64"))]
+    use std::io::Error;
     use std::panic::{catch_unwind, AssertUnwindSafe};
+    #[cfg(all(target_os = "linux", target_pointer_width = "64"))]
+    use std::sync::atomic::AtomicU32;
     use std::sync::mpsc::channel;
     use std::time::Instant;
 
@@ -172,6 +176,77 @@ mod tests {
                     assert!(started.elapsed() >= HELD / 2, "it was held");
                     #[cfg(all(target_os = "linux", target_pointer_width = "64"))]
                     assert!(processor_time() < HELD / 2, "it took {:?} of a processor", processor_time());
+                });
+            }
+        });
+    }
+
+    /// The calling thread runs on one processor from now on, and before all ordinary threads if it is of real-time priority.
+    #[cfg(all(target_os = "linux", target_pointer_width = "64"))]
+    fn run_on(processor: i32, is_real_time: bool) {
+        extern "C" {
+            fn sched_setaffinity(thread: i32, size: usize, mask: *const u64) -> i32;
+            fn sched_setscheduler(thread: i32, policy: i32, priority: *const i32) -> i32;
+        }
+        const SCHED_FIFO: i32 = 1;
+        let mut mask = [0_u64; 16];
+        mask[processor as usize / 64] = 1 << (processor % 64);
+        // SAFETY: the mask and the priority are lent for the calls, and are as long as these say.
+        let is_set = unsafe {
+            sched_setaffinity(0, std::mem::size_of_val(&mask), mask.as_ptr()) == 0
+                && (!is_real_time || sched_setscheduler(0, SCHED_FIFO, &1) == 0)
+        };
+        assert!(is_set, "{}", Error::last_os_error());
+    }
+
+    /// Whether threads of this process may be of real-time priority.
+    #[cfg(all(target_os = "linux", target_pointer_width = "64"))]
+    fn may_be_real_time(processor: i32) -> bool {
+        thread::spawn(move || run_on(processor, true)).join().is_ok()
+    }
+
+    /// A thread of real-time priority that only looked and yielded would keep the processor from the thread with the lock.
+    #[cfg(all(target_os = "linux", target_pointer_width = "64"))]
+    #[test]
+    fn who_waits_with_real_time_priority_lets_the_lock_be_given_back() {
+        const WORK: Duration = Duration::from_millis(5);
+        extern "C" {
+            fn sched_getcpu() -> i32;
+        }
+        // SAFETY: it has no arguments.
+        let processor = unsafe { sched_getcpu() };
+        if !may_be_real_time(processor) {
+            println!("not tried: threads of this process may not be of real-time priority");
+            return;
+        }
+        const WAITERS: u32 = 2;
+        let (light, waiters) = (&Light::new(0), &AtomicU32::new(0));
+        let (is_held, when_held) = channel();
+        thread::scope(|scope| {
+            scope.spawn(move || {
+                run_on(processor, false);
+                let mut value = light.lock();
+                is_held.send(()).expect("the test goes on");
+                while waiters.load(Ordering::SeqCst) < WAITERS {
+                    thread::yield_now();
+                }
+                let until = processor_time() + WORK;
+                while processor_time() < until {
+                    std::hint::spin_loop();
+                }
+                *value = 7;
+            });
+            when_held.recv().expect("the lock is held");
+            for _ in 0..WAITERS {
+                scope.spawn(move || {
+                    run_on(processor, true);
+                    waiters.fetch_add(1, Ordering::SeqCst);
+                    assert_eq!(*light.lock(), 7, "the thread with the lock goes first");
+                    assert!(
+                        processor_time() < Duration::from_millis(200),
+                        "it took {:?} of a processor",
+                        processor_time()
+                    );
                 });
             }
         });

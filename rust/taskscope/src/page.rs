@@ -356,7 +356,7 @@ mod tests {
         ("a task's name is empty",         |page| page.tasks[0].name.len = 0,                  ItemKind::Task, ID, BadItem::Name),
         ("a task's name reaches out",      |page| page.tasks[0].name.len = 9_999,              ItemKind::Task, ID, BadItem::Piece),
         ("a task's file is none",          |page| page.text[4] = 10,                           ItemKind::Task, ID, BadItem::Name),
-        ("a task's words are none",        |page| page.tasks[0].row[0] = u64::MAX,             ItemKind::Task, ID, BadItem::Words),
+        ("a task's words are none",        |page| page.tasks[0].row[0] = 1 << 8,               ItemKind::Task, ID, BadItem::Words),
         ("a task stands twice",            |page| page.tasks.push(page.tasks[0]),              ItemKind::Task, ID, BadItem::Repeated),
         ("a resource's id is none",        |page| page.resources[0].id = 65 << 40,             ItemKind::Resource, 65 << 40, BadItem::Id),
         ("a resource's parent is none",    |page| page.resources[0].parent = 7,                ItemKind::Resource, ID, BadItem::Id),
@@ -476,7 +476,8 @@ mod tests {
     fn want_of_memory_for_an_entry_is_told() {
         let mut good = page();
         let (task, resource, op, counts) = (task(&mut good), good.resources[0], good.ops[0], good.counts[0]);
-        let times = TimesEntry { row: [0; 16], told: [0; 16], task: ID };
+        let zeros = [0; 16];
+        let times = TimesEntry { row: zeros, told: zeros, waits: zeros, told_waits: zeros, task: ID, waited: false };
         let none = |call: &mut dyn FnMut(&mut Page)| {
             let mut page = Page::new(true);
             with_most(0, || call(&mut page));

@@ -58,8 +58,7 @@ impl SharedTask {
     #[inline]
     pub fn start_poll(&self) -> Result<(), Refused> {
         let now = self.0.console.now();
-        // SAFETY: the row's lock lends the words to this call alone.
-        done(self.step(|words| unsafe { ffi::taskscope_task_start(&mut words.row, now) }))
+        done(self.step(|words| words.start(now)))
     }
 
     /// The open poll ends now.

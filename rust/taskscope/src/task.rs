@@ -62,16 +62,19 @@ impl fmt::Display for Origin {
     }
 }
 
-/// The words of a task: those of its row, and beside it those of the histogram of its poll times, all 0 where none is kept.
+/// The words of a task: those of its row, and beside it those of the histogram of its poll times, all 0 where none is kept, and of its
+/// waits.
 #[derive(Clone, Copy, Debug, Default, PartialEq)]
 pub(crate) struct TaskWords {
     pub(crate) row: Words,
     pub(crate) times: Words,
+    /// Those of the histogram of its waits, where one is kept.
+    pub(crate) waits: Option<Words>,
 }
 
 impl TaskWords {
-    /// The words of a new task, whose waits are counted or not.
-    fn opening(created: u64, waits: bool) -> TaskWords {
+    /// The words of a new task, whose waits are counted or not. Where histograms are kept, one is of them.
+    fn opening(created: u64, waits: bool, times: bool) -> TaskWords {
         let mut words = TaskWords::default();
         // SAFETY: the words are lent for the calls.
         unsafe {
@@ -82,7 +85,20 @@ impl TaskWords {
             }
             ffi::taskscope_times_open(&mut words.times);
         }
+        words.waits = (waits && times).then_some(words.times);
         words
+    }
+
+    /// A poll starts. Where a histogram of waits is kept, how long the wait took that this ends is added to it.
+    #[inline]
+    pub(crate) fn start(&mut self, now: u64) -> u32 {
+        // SAFETY: the words are lent for the call.
+        unsafe {
+            match &mut self.waits {
+                Some(waits) => ffi::taskscope_task_start_waited(&mut self.row, waits, now),
+                None => ffi::taskscope_task_start(&mut self.row, now),
+            }
+        }
     }
 
     /// The open poll ends. Where histograms are kept, how long it ran is added to the task's.
@@ -131,14 +147,28 @@ impl Item for TaskCell {
             column: self.location.column,
             kind: self.kind.for_library(),
         };
-        page.add_task(entry, TimesEntry { row: reading.now.times, told: reading.told.times, task: self.id });
+        let times = TimesEntry {
+            row: reading.now.times,
+            told: reading.told.times,
+            waits: reading.now.waits.unwrap_or_default(),
+            told_waits: reading.told.waits.unwrap_or_default(),
+            task: self.id,
+            waited: reading.now.waits.is_some(),
+        };
+        page.add_task(entry, times);
     }
 
     fn entered(page: &Page, place: usize) -> Reading<TaskWords> {
         let entry = &page.tasks[place];
+        let mut now = TaskWords { row: entry.row, ..TaskWords::default() };
+        let mut told = TaskWords { row: entry.told, ..TaskWords::default() };
         // The histograms stand in the order of the tasks, or are none.
-        let (times, told_times) = page.times.get(place).map_or(([0; 16], [0; 16]), |entry| (entry.row, entry.told));
-        Reading { now: TaskWords { row: entry.row, times }, told: TaskWords { row: entry.told, times: told_times } }
+        if let Some(times) = page.times.get(place) {
+            (now.times, told.times) = (times.row, times.told);
+            now.waits = times.waited.then_some(times.waits);
+            told.waits = times.waited.then_some(times.told_waits);
+        }
+        Reading { now, told }
     }
 
     fn closed(words: &TaskWords) -> Option<u64> {
@@ -231,7 +261,7 @@ impl<'a> TaskBuilder<'a> {
     pub fn open(self) -> Task {
         let console = self.console.inner();
         let created = console.now();
-        let words = TaskWords::opening(created, console.counts_waits());
+        let words = TaskWords::opening(created, console.counts_waits(), console.keeps_times());
         let cell = console.record(|id| TaskCell {
             id,
             kind: self.kind,
@@ -270,9 +300,7 @@ impl Task {
     /// [`AlreadyPolling`](Refused::AlreadyPolling) where one is open.
     pub fn start_poll(&mut self) -> Result<(), Refused> {
         let now = self.console.now();
-        // SAFETY: the row's lock lends the words to this call alone.
-        let start = |words: &mut TaskWords| unsafe { ffi::taskscope_task_start(&mut words.row, now) };
-        done(self.console.step(&self.cell, start))
+        done(self.console.step(&self.cell, |words| words.start(now)))
     }
 
     /// The open poll ends now.

@@ -6,7 +6,8 @@ use super::spelled::{Row, is_spawn, row_of, text_of};
 use rand_pcg::Pcg32;
 use std::alloc::{AllocError, Global};
 use tk_client::{Client, Lints, Warning, WarningKind};
-use tk_plain_client::{Given, Held, Histogram, Plain};
+use tk_plain_client::{Given, Held, Histogram, Plain, Waits};
+use tk_stream::WaitTimes;
 
 const ALLOWED: usize = 65_536;
 
@@ -89,6 +90,16 @@ fn holds_alike(alloc: Global, client: &Client, plain: &Plain) -> Result<bool, Al
     Ok(holds(alloc, client, text.as_bytes()))
 }
 
+fn has_waits(waits: Option<WaitTimes>, wanted: Option<Waits>) -> bool {
+    match (waits, wanted) {
+        (Some(waits), Some(wanted)) => {
+            waits.longest == wanted.longest && waits.counts == wanted.counts
+        }
+        (None, None) => true,
+        _ => false,
+    }
+}
+
 // Whether the client has this histogram at a place.
 fn has_histogram(client: &Client, place: usize, wanted: &Histogram) -> bool {
     match client.times().at(place) {
@@ -96,6 +107,7 @@ fn has_histogram(client: &Client, place: usize, wanted: &Histogram) -> bool {
             id.value() == wanted.id
                 && times.longest == wanted.longest
                 && times.counts == wanted.counts
+                && has_waits(times.waits, wanted.waits)
         }
         None => false,
     }

@@ -3,7 +3,7 @@
 use rand_core::Rng;
 use rand_pcg::Pcg32;
 use std::alloc::{AllocError, Global};
-use tk_plain_client::{Given, Histogram, New, Part, Spoilt, Told};
+use tk_plain_client::{Given, Histogram, New, Part, Spoilt, Told, Waits};
 
 /// A number below another one.
 pub(super) fn below(random: &mut Pcg32, limit: u32) -> u64 {
@@ -168,17 +168,27 @@ fn add_histogram(
     if is_odd && !happens(random, 64) {
         return Ok(());
     }
-    let mut counts = [0; 14];
-    for count in &mut counts {
-        *count = below(random, 3);
-    }
+    let counts = buckets(random);
     let longest = u64::from(random.next_u32());
+    let waits = happens(random, 2).then_some(Waits {
+        counts: buckets(random),
+        longest: u64::from(random.next_u32()),
+    });
     times.push(Histogram {
         id,
         counts,
         longest,
+        waits,
     })?;
     Ok(())
+}
+
+fn buckets(random: &mut Pcg32) -> [u64; 14] {
+    let mut counts = [0; 14];
+    for count in &mut counts {
+        *count = below(random, 3);
+    }
+    counts
 }
 
 // Up to four histograms.

@@ -126,12 +126,13 @@ fn put_wakers(text: &mut String, told: Told, row: Row) -> Result<(), AllocError>
     put_number(text, ",\"id\":", told.id)
 }
 
-// The time that a task was scheduled, and with it the time that it waited, where that is counted.
+// The time that a task was scheduled, and with it the time that it waited in all, and of the wait that lasts, where that is counted.
 fn put_waits(text: &mut String, sched: u64, waited: Option<u64>) -> Result<(), AllocError> {
     match waited {
         Some(waited) => {
             put_number(text, ",\"sched\":[", sched)?;
             put_number(text, ",", waited)?;
+            put_number(text, ",", waited % 7)?;
             text.push_str("]")
         }
         None => put_number(text, ",\"sched\":", sched),
@@ -248,6 +249,12 @@ fn put_times(text: &mut String, times: &[Histogram]) -> Result<(), AllocError> {
         put_buckets(text, &one.counts)?;
         put_number(text, "],\"id\":", one.id)?;
         put_number(text, ",\"longest\":", one.longest)?;
+        if let Some(waits) = one.waits {
+            put_number(text, ",\"longest_wait\":", waits.longest)?;
+            text.push_str(",\"waits\":[")?;
+            put_buckets(text, &waits.counts)?;
+            text.push_str("]")?;
+        }
         text.push_str("}")?;
     }
     text.push_str("]")
@@ -294,10 +301,17 @@ fn tells_waits(told: &[Told]) -> bool {
     false
 }
 
-// The version of a line: 4 where it tells a row that counts waits, and otherwise that of its keys. A line that is none has another one.
+fn has_waits(times: &Option<Vec<Histogram>>) -> bool {
+    match times {
+        Some(times) => times.iter().any(|one| one.waits.is_some()),
+        None => false,
+    }
+}
+
+// The version of a line: 4 where it tells a row or a histogram of waits, and otherwise that of its keys. A line that is none has another one.
 fn version_of(line: &Given) -> u64 {
     let is_line = line.spoilt != Spoilt::NoLine;
-    let tells_waits = tells_waits(&line.tasks.told);
+    let tells_waits = tells_waits(&line.tasks.told) || has_waits(&line.times);
     if tells_waits && is_line {
         return 4;
     }

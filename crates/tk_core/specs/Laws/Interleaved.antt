@@ -72,7 +72,7 @@ more false true n = refl
 more false false n = refl
 
 -- waits that are not counted stay so
-uncounted : (row : TaskRow) (call : TaskCall) → row.waited ≡ None → wakes_or_releases call ≡ true → (changed row call).waited ≡ None
+uncounted : (row : TaskRow) (call : TaskCall) → row.waits ≡ None → wakes_or_releases call ≡ true → (changed row call).waits ≡ None
 uncounted row (WakeVal m from_self) none is = rw none refl
 uncounted row (WakeRef m from_self) none is = rw none refl
 uncounted row Release none is = none
@@ -84,7 +84,7 @@ uncounted row Enlist none is = absurd cc
 uncounted row Read none is = absurd cc
 
 -- two such calls leave the same row in either order
-swap : (row : TaskRow) (a b : TaskCall) → row.waited ≡ None → wakes_or_releases a ≡ true → wakes_or_releases b ≡ true → changed (changed row a) b ≡ changed (changed row b) a
+swap : (row : TaskRow) (a b : TaskCall) → row.waits ≡ None → wakes_or_releases a ≡ true → wakes_or_releases b ≡ true → changed (changed row a) b ≡ changed (changed row b) a
 swap row (WakeVal m f) (WakeVal n g) none is also = rw (none, later_max (unwrap_or row.last_wake 0) m n, more f g row.self_wakes) refl
 swap row (WakeVal m f) (WakeRef n g) none is also = rw (none, later_max (unwrap_or row.last_wake 0) m n, more f g row.self_wakes) refl
 swap row (WakeVal m f) Release none is also = refl
@@ -108,7 +108,7 @@ swap row Enlist b none is also = absurd cc
 swap row Read b none is also = absurd cc
 
 -- a call that comes first may as well come after these
-later : (row : TaskRow) (call : TaskCall) (xs ys : List TaskCall) → row.waited ≡ None → wakes_or_releases call ≡ true → WakeOrRelease xs → rest_of (changed row call) (xs ++ ys) ≡ rest_of row (xs ++ call ∷ ys)
+later : (row : TaskRow) (call : TaskCall) (xs ys : List TaskCall) → row.waits ≡ None → wakes_or_releases call ≡ true → WakeOrRelease xs → rest_of (changed row call) (xs ++ ys) ≡ rest_of row (xs ++ call ∷ ys)
 later row call [] ys none is are = refl
 later row call (x ∷ xs) ys none is are = ap (λ r. rest_of r (xs ++ ys)) (swap row call x none is are.0) ∙ later (changed row x) call xs ys (uncounted row x none are.0) is are.1
 
@@ -122,7 +122,7 @@ seconds [] are = are
 seconds ((true, call) ∷ made) are = seconds made are.1
 seconds ((false, call) ∷ made) are = (are.0, seconds made are.1)
 
-apart : (row : TaskRow) (made : Made) → row.waited ≡ None → WakeOrRelease (of_both made) → rest_of row (of_both made) ≡ rest_of row (of_first made ++ of_second made)
+apart : (row : TaskRow) (made : Made) → row.waits ≡ None → WakeOrRelease (of_both made) → rest_of row (of_both made) ≡ rest_of row (of_first made ++ of_second made)
 apart row [] none are = refl
 apart row ((true, call) ∷ made) none are = apart (changed row call) made (uncounted row call none are.0) are.1
 apart row ((false, call) ∷ made) none are = apart (changed row call) made (uncounted row call none are.0) are.1 ∙ later row call (of_first made) (of_second made) none are.0 (firsts made are.1)
@@ -131,12 +131,12 @@ both : (xs ys : List TaskCall) → WakeOrRelease xs → WakeOrRelease ys → Wak
 both [] ys are also = also
 both (x ∷ xs) ys are also = (are.0, both xs ys are.1 also)
 
-none_counted : (opening : TaskRow) (before : List TaskCall) → opening.waited ≡ None → (row_after task_kind opening before).waited ≡ None
+none_counted : (opening : TaskRow) (before : List TaskCall) → opening.waits ≡ None → (row_after task_kind opening before).waits ≡ None
 unfolding row_after fold_of row_of
 none_counted opening before none = rw none refl
 
 -- the row is the same as if the first had made all of its calls before the second began
-pub order_unseen : (opening : TaskRow) (before : List TaskCall) (made : Made) → opening.waited ≡ None → WakeOrRelease (of_both made)
+pub order_unseen : (opening : TaskRow) (before : List TaskCall) (made : Made) → opening.waits ≡ None → WakeOrRelease (of_both made)
     → row_after task_kind opening (before ++ of_both made) ≡ row_after task_kind opening (before ++ (of_first made ++ of_second made))
 order_unseen opening before made none are =
     each opening before (of_both made) are

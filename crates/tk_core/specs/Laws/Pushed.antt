@@ -1,6 +1,6 @@
 -- What one more item at the end does to the words of `specs/Words`.
-use Rattle.std.proofs.Common.{◌≡◌, ℕ, ◌+◌, max, Bool, true, false, cond, List, [], ◌∷◌, ◌++◌, length, Option, Some, None, refl, ap, ◌∙◌, append_assoc, arith}
-use Rattle.std.specs.Prelude.{filter, unwrap_or, ◌&&◌, ◌||◌}
+use Rattle.std.proofs.Common.{◌≡◌, ℕ, ◌+◌, min, max, Bool, true, false, cond, List, [], ◌∷◌, ◌++◌, length, Option, Some, None, refl, ap, ◌∙◌, append_assoc, arith}
+use Rattle.std.specs.Prelude.{filter, unwrap_or, sum_by, ◌&&◌, ◌||◌}
 use Rattle.std.specs.Option.{option_or}
 use Rattle.std.specs.List.{filter_map, last_or, cons_option}
 use Rattle.std.proofs.lemmas.List.Folds.{list_any-append}
@@ -13,7 +13,7 @@ use Rattle.std.specs.Prelude.{not}
 use Rattle.std.proofs.lemmas.List.{append-nil, length-append}
 use Rattle.std.proofs.lemmas.List.Elements.{filter-append, filter_map-append}
 use Rattle.std.proofs.lemmas.List.Sums.{sum_by_push}
-use Rattle.tk_core.specs.Lists.{any_of, any_since, capped, each_after, each_with_before, first, last, greatest, count_of, first_of, last_of, greatest_of, sum_of}
+use Rattle.tk_core.specs.Lists.{any_of, any_since, capped, each_after, each_with_before, first, last, greatest, count_of, first_of, last_of, greatest_of, sum_of, sum_since}
 
 pub or_false : (b : Bool) → (b || false) ≡ b
 or_false true = refl
@@ -115,6 +115,21 @@ pub sum_plus_zero : {X : Type 0} (measure : List X → X → ℕ) (xs : List X) 
 unfolding sum_of
 sum_plus_zero measure xs = omega arith
 
+since_mark : {Y : Type 0} (f : Y → ℕ) (ys : List Y) (y : Y) (marks : Bool) (most : ℕ) → min (sum_by f (cond marks [] (ys ++ y ∷ []))) most ≡ cond marks 0 (min (min (sum_by f ys) most + f y) most)
+since_mark f ys y true most = omega arith
+since_mark f ys y false most = rw (sum_by_push f ys y) (omega arith)
+
+pub sum_since_push : {X : Type 0} (measure : List X → X → ℕ) (mark : X → Bool) (most : ℕ) (xs : List X) (x : X)
+    → sum_since measure mark most (xs ++ x ∷ []) ≡ cond (mark x) 0 (min (sum_since measure mark most xs + measure xs x) most)
+unfolding sum_since
+sum_since_push {X} measure mark most xs x =
+    rw (each_push xs x, after_last_push (λ (p : List X × X). mark p.1) (each_with_before xs) (xs, x)) (since_mark (λ (p : List X × X). measure p.0 p.1) (after_last (λ (p : List X × X). mark p.1) (each_with_before xs)) (xs, x) (mark x) most)
+
+-- and here
+pub since_plus_zero : {X : Type 0} (measure : List X → X → ℕ) (mark : X → Bool) (most : ℕ) (xs : List X) → min (sum_since measure mark most xs + 0) most ≡ sum_since measure mark most xs
+unfolding sum_since
+since_plus_zero measure mark most xs = omega arith
+
 pub and_false : (b : Bool) → (b && false) ≡ false
 and_false true = refl
 and_false false = refl
@@ -128,4 +143,4 @@ or_none None = refl
 or_none (Some y) = refl
 
 -- what one more item does to every word
-pub ruleset pushed = (any_of_push, any_since_push, or_false, or_true, count_push, first_of_push, last_of_push, greatest_of_push, sum_push, sum_plus_zero, and_false, and_true, or_none)
+pub ruleset pushed = (any_of_push, any_since_push, or_false, or_true, count_push, first_of_push, last_of_push, greatest_of_push, sum_push, sum_plus_zero, sum_since_push, since_plus_zero, and_false, and_true, or_none)

@@ -1,7 +1,7 @@
 -- The laws of a task's row as an object that is stepped by calls.
-use Rattle.std.proofs.Common.{◌≡◌, List, ℕ, ◌+◌, ◌^◌, ◌≤◌, Some, refl, sym, ap, ◌∙◌, arith}
+use Rattle.std.proofs.Common.{◌≡◌, List, ℕ, ◌+◌, ◌^◌, ◌≤◌, length, Some, refl, sym, ap, ◌∙◌, arith}
 use Rattle.std.specs.Prelude.{◌==◌}
-use Rattle.tk_core.specs.Lists.{any_of, any_since, capped, count_of, first_of, last_of, greatest_of, sum_of}
+use Rattle.tk_core.specs.Lists.{any_of, any_since, capped, count_of, first_of, last_of, greatest_of, sum_of, sum_since}
 use Rattle.tk_core.specs.declared.history.Entry.{Entry}
 use Rattle.tk_core.specs.declared.reply.Reply.{Reply}
 use Rattle.tk_core.specs.declared.reply.Reply.TheVariants.{Shown}
@@ -19,13 +19,13 @@ use Rattle.tk_core.specs.Laws.LegalLaws.{has_its_answers}
 use Rattle.tk_core.specs.Laws.Drawn as drawn
 use Rattle.tk_core.specs.Laws.Handles.{draws_none, draws_next}
 use Rattle.tk_core.specs.Laws.TaskSteps.{changed, Holds, grows, none, follows}
-use Rattle.tk_core.specs.Laws.TaskReadBack.{read_from, read_back}
+use Rattle.tk_core.specs.Laws.TaskReadBack.{read_from, read_back, is_held}
 
 pub told_apart : AreToldApart task_meaning
-told_apart a b long e = sym (read_back a) ∙ ap read_from e ∙ read_back b
+told_apart a b long e = sym (read_back a (is_held a long)) ∙ ap read_from e ∙ read_back b (is_held b (ap length (sym e) ∙ long))
 
 pub begins : BeginsAtOpening task_meaning
-unfolding row_after fold_of accepted row_of any_of any_since count_of first_of last_of greatest_of sum_of
+unfolding row_after fold_of accepted row_of any_of any_since count_of first_of last_of greatest_of sum_of sum_since
 begins opening is_opening = sym is_opening
 
 -- a reading is answered with the row, and leaves it

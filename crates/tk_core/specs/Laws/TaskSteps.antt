@@ -4,10 +4,11 @@ use Rattle.std.specs.Prelude.{unwrap_or, is_some, not, ◌&&◌}
 use Rattle.std.specs.Option.{option_or, option_map}
 use Rattle.tk_core.specs.Lists.{capped, count_of}
 use Rattle.tk_core.specs.Fold.{is_accepted, fold_of, answer_at, Follows}
-use Rattle.tk_core.specs.Task.{row_of, task_kind, waits_since, waited_until}
+use Rattle.tk_core.specs.Task.{row_of, task_kind, counted_waits, with_more, waits_since, waits_until, after_end}
 use Rattle.tk_core.specs.declared.reply.Reply.{Reply}
 use Rattle.tk_core.specs.declared.reply.Reply.TheVariants.{Number}
 use Rattle.tk_core.specs.declared.task.row.TaskRow.{TaskRow}
+use Rattle.tk_core.specs.declared.task.wait.Waits.{Waits}
 use Rattle.tk_core.specs.declared.task.call.TaskCall.{TaskCall}
 use Rattle.tk_core.specs.declared.task.call.TaskCall.TheVariants.{PollStart, PollEnd, Close, CloneWaker, WakeVal, WakeRef, Release, Enlist, Read}
 use Rattle.tk_core.specs.Laws.Pushed.{pushed, and_true, and_false}
@@ -21,18 +22,18 @@ changed row (PollStart m) = record row {
   first_poll = option_or row.first_poll (Some m);
   last_started = Some m;
   sched = capped (row.sched + cond row.scheduled (m - waits_since row) 0);
-  waited = waited_until row m;
+  waits = waits_until row m;
   polling = true;
   scheduled = false;
 }
-changed row (PollEnd m) = record row { last_ended = Some m; busy = capped (row.busy + (m - unwrap_or row.last_started m)); polling = false }
-changed row (Close m) = record row { dropped = Some m; waited = waited_until row m; scheduled = false }
+changed row (PollEnd m) = record row { last_ended = Some m; busy = capped (row.busy + (m - unwrap_or row.last_started m)); waits = option_map after_end row.waits; polling = false }
+changed row (Close m) = record row { dropped = Some m; waits = waits_until row m; scheduled = false }
 changed row CloneWaker = record row { clones = capped (row.clones + 1); handles = capped (row.handles + 1) }
 changed row (WakeVal m from_self) = record row {
   wakes = capped (row.wakes + 1);
   self_wakes = cond from_self (capped (row.self_wakes + 1)) row.self_wakes;
   last_wake = Some (max (unwrap_or row.last_wake 0) m);
-  waited = waited_until row m;
+  waits = waits_until row m;
   drops = capped (row.drops + 1);
   scheduled = not (is_some row.dropped);
 }
@@ -40,25 +41,39 @@ changed row (WakeRef m from_self) = record row {
   wakes = capped (row.wakes + 1);
   self_wakes = cond from_self (capped (row.self_wakes + 1)) row.self_wakes;
   last_wake = Some (max (unwrap_or row.last_wake 0) m);
-  waited = waited_until row m;
+  waits = waits_until row m;
   scheduled = not (is_some row.dropped);
 }
 changed row Release = record row { drops = capped (row.drops + 1) }
 changed row Enlist = record row { handles = capped (row.handles + 1) }
 changed row Read = row
 
--- a sum that is kept where waits are counted, and one more stretch
-pub one_more : (o : Option ℕ) (sum stretch : ℕ) (scheduled polling : Bool) → option_map (λ none. capped (sum + cond (scheduled && not polling) stretch 0)) o
-    ≡ option_map (λ waited. capped (waited + cond polling 0 (cond scheduled stretch 0))) (option_map (λ none. sum) o)
-one_more None sum stretch scheduled polling = refl
-one_more (Some n) sum stretch scheduled true = rw and_false refl
-one_more (Some n) sum stretch scheduled false = rw and_true refl
+-- what is counted of waits, where it is, and one more stretch
+abbrev OneMore : Option Waits → ℕ → ℕ → ℕ → Bool → Bool → Type 0
+OneMore o total so_far stretch scheduled polling =
+    option_map {T = Waits} (λ none. with_more (cond (scheduled && not polling) stretch 0) (record { total = total; so_far = so_far })) o
+    ≡ option_map (with_more (cond polling 0 (cond scheduled stretch 0))) (option_map {T = Waits} {U = Waits} (λ none. record { total = total; so_far = so_far }) o)
+
+pub one_more : (o : Option Waits) (total so_far stretch : ℕ) (scheduled polling : Bool) → OneMore o total so_far stretch scheduled polling
+one_more None total so_far stretch scheduled polling = refl
+one_more (Some n) total so_far stretch scheduled true = rw and_false refl
+one_more (Some n) total so_far stretch scheduled false = rw and_true refl
+
+-- and where a poll ends
+abbrev OneEnd : Option Waits → ℕ → ℕ → Type 0
+OneEnd o total so_far =
+    option_map {T = Waits} {U = Waits} (λ none. record { total = total; so_far = 0 }) o
+    ≡ option_map after_end (option_map {T = Waits} {U = Waits} (λ none. record { total = total; so_far = so_far }) o)
+
+pub one_end : (so_far : ℕ) (o : Option Waits) (total : ℕ) → OneEnd o total so_far
+one_end so_far None total = refl
+one_end so_far (Some n) total = refl
 
 -- one more accepted call
 changed_by : (opening : TaskRow) (calls : List TaskCall) (call : TaskCall) → row_of opening (calls ++ call ∷ []) ≡ changed (row_of opening calls) call
 unfolding row_of
 changed_by opening calls (PollStart m) = simp (pushed, one_more)
-changed_by opening calls (PollEnd m) = simp pushed
+changed_by opening calls (PollEnd m) = simp (pushed, one_end (counted_waits opening.created calls).so_far)
 changed_by opening calls (Close m) = simp (pushed, one_more)
 changed_by opening calls CloneWaker = simp pushed
 changed_by opening calls (WakeVal m from_self) = simp (pushed, one_more)

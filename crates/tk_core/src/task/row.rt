@@ -1,6 +1,8 @@
 //! The row of a task.
 ghost use Rattle.std.specs.Prelude.{◌≡◌};
 
+use crate::task::{WaitSoFar, Waits};
+
 /// The statistics of a task. Polls, wakes and wakers are those of tokio-console's task statistics; `handles` and
 /// `last_wake` are this project's own, and so is that busy and scheduled time are sums over the calls.
 ///
@@ -36,9 +38,8 @@ pub struct TaskRow {
     pub handles: u64,
     /// How long it waited in all, scheduled, for a poll to start.
     pub sched: u64,
-    /// How long it waited in all, scheduled and not polled, up to its last start, wake or close: of a task that is woken again
-    /// while it waits, from the wake that scheduled it. `None` where that isn't counted.
-    pub waited: Option<u64>,
+    /// What is counted of its waits, up to its last start, wake or close. `None` where they aren't counted.
+    pub waits: Option<Waits>,
     /// Whether a poll is open.
     pub polling: bool,
     /// Whether it waits for a poll: none was started yet, or it was woken since the last start, and it isn't closed.
@@ -67,7 +68,7 @@ impl TaskRow {
             drops: 0,
             handles: 0,
             sched: 0,
-            waited: None,
+            waits: None,
             polling: false,
             scheduled: true,
         }
@@ -78,7 +79,10 @@ impl TaskRow {
         ensures { result ≡ counting_row created }
     {
         TaskRow {
-            waited: Some(0),
+            waits: Some(Waits {
+                total: 0,
+                so_far: WaitSoFar::capped(0),
+            }),
             ..Self::opening(created)
         }
     }

@@ -1,16 +1,44 @@
 //! A task's row as sixteen words.
-ghost use Rattle.std.specs.Prelude.{◌≡◌, ◌↔◌};
+ghost use Rattle.std.specs.Prelude.{◌≡◌, ◌↔◌, ◌/◌, ◌%◌, ◌^◌, ◌<◌, ◌==◌, true, Some, None, if◌then◌else◌};
+ghost use Rattle.tk_core.specs.Task.{capped_wait};
 ghost use Rattle.tk_core.specs.Words.{number_of_bits};
-ghost use Rattle.tk_core.specs.TaskWords.{words_of, flags_of};
+ghost use Rattle.tk_core.specs.TaskWords.{words_of, bits_of, flags_of, so_far_of, fits};
 ghost use Rattle.tk_core.specs.declared.task.row.TaskRow.{TaskRow};
 
 use crate::moment::moment_of;
-use crate::task::TaskRow;
+use crate::task::{TaskRow, WaitSoFar, Waits};
+
+/// What was counted of the wait that lasts, or 0 where waits aren't counted.
+#[inline(always)]
+fn so_far(waits: Option<Waits>) -> u64
+    ensures word { result ≡ so_far_of waits }
+    ensures within { result < 2 ^ 56 }
+    ensures fits { fits waits ≡ true }
+{
+    match waits {
+        Some(waits) => waits.so_far.nanos(),
+        None => 0,
+    }
+}
+
+/// What is counted of a task's waits, by the flags from bit 7 on and the word of all waits.
+#[inline(always)]
+fn waits_of(from_7: u64, total: u64) -> Option<Waits>
+    ensures { result ≡ if from_7 % 2 == 1 then Some (record { total = total; so_far = capped_wait (from_7 / 2) }) else None }
+{
+    if from_7 % 2 == 1 {
+        let so_far = WaitSoFar::capped(from_7 / 2);
+        Some(Waits { total, so_far })
+    } else {
+        None
+    }
+}
 
 impl TaskRow {
     #[inline(always)]
-    fn flags(&self) -> u64
-        ensures { result ≡ number_of_bits (flags_of self.now) }
+    fn bits(&self) -> u64
+        ensures value { result ≡ number_of_bits (bits_of self.now) }
+        ensures few { result < 256 }
     {
         let dropped = u64::from(self.dropped.is_some());
         let first_poll = u64::from(self.first_poll.is_some());
@@ -19,7 +47,7 @@ impl TaskRow {
         let last_wake = u64::from(self.last_wake.is_some());
         let polling = u64::from(self.polling);
         let scheduled = u64::from(self.scheduled);
-        let waited = u64::from(self.waited.is_some());
+        let waits = u64::from(self.waits.is_some());
         dropped
             + 2 * first_poll
             + 4 * last_started
@@ -27,7 +55,15 @@ impl TaskRow {
             + 16 * last_wake
             + 32 * polling
             + 64 * scheduled
-            + 128 * waited
+            + 128 * waits
+    }
+
+    /// The flags, above whose eight bits stands what was counted of the wait that lasts.
+    #[inline(always)]
+    fn flags(&self) -> u64
+        ensures { result ≡ flags_of self.now }
+    {
+        self.bits() + 256 * so_far(self.waits)
     }
 
     /// The words of the row.
@@ -52,7 +88,7 @@ impl TaskRow {
             self.drops,
             self.handles,
             self.sched,
-            self.waited.unwrap_or(0),
+            self.waited().unwrap_or(0),
         ]
     }
 
@@ -85,7 +121,7 @@ impl TaskRow {
             drops: words[12],
             handles: words[13],
             sched: words[14],
-            waited: moment_of(from_7 % 2 == 1, words[15]),
+            waits: waits_of(from_7, words[15]),
             polling: from_5 % 2 == 1,
             scheduled: from_6 % 2 == 1,
         }

@@ -1,4 +1,5 @@
-//! Futures as works: the ends of channels, joined, and one that asks to be polled again.
+//! Futures as works: the ends of channels, joined, one that asks to be polled again, and one that says what a poll of it does.
+ghost use Rattle.std.specs.Prelude.{◌≡◌, ◌+◌, ◌<◌};
 
 use super::given::{Ticks, id, inspected, owner, spawns};
 use futures::Future;
@@ -8,7 +9,7 @@ use futures::task::{Context, Poll};
 use std::alloc::AllocGlobal;
 use std::random::RandomSource;
 use std::sync::Wait;
-use tk_exec::{Executor, FutureWork, Instrumented, Turn};
+use tk_exec::{Executor, FutureWork, Instrumented, Pollable, Turn};
 use tk_ledgers::TaskInspector;
 
 /// Asks to be polled again so many times, and is ready then.
@@ -29,16 +30,39 @@ impl Future for AsksAgain {
     }
 }
 
+/// Is ready at its third poll. It counts its polls, and says so of each.
+#[derive(Drop)]
+struct Third {
+    polls: u64,
+}
+
+impl Pollable for Third {
+    type Output = u64;
+
+    ghost may_poll = { λ third. third.polls < 3 };
+
+    ghost polls = { λ third answer third'. third'.polls ≡ third.polls + 1 };
+
+    fn poll_once(&mut self, cx: &mut Context<'_>) -> Poll<u64> {
+        self.polls += 1;
+        if self.polls == 3 {
+            Poll::Ready(self.polls)
+        } else {
+            cx.yield_now()
+        }
+    }
+}
+
 type Both = Join<Receiver<u64>, Receiver<u64>, Result<u64, Canceled>, Result<u64, Canceled>>;
 
 // The task of a future, and who reads it.
-fn tracked<R: Wait + RandomSource + AllocGlobal, F: Future>(
+fn tracked<R: Wait + RandomSource + AllocGlobal, F: Pollable>(
     rt: &R,
     future: F,
 ) -> Option<(Instrumented<FutureWork<F>>, TaskInspector)>
 where
     F::Output: Drop,
-    requires { F.can_poll future }
+    requires { F.may_poll future }
 {
     let work = FutureWork::new(rt, future).ok();
     let (owner, work) = owner(rt, rt.alloc(), 1).zip(work)?;
@@ -152,6 +176,44 @@ fn wakes_itself<R: Wait + RandomSource + AllocGlobal>(rt: &R) -> bool {
 #[test]
 fn a_future_that_asks_again_wakes_its_task_by_itself(rt: HostRuntime) {
     assert!(rt; wakes_itself(&rt));
+}
+
+// Whether the third poll of a task is the one that is ready.
+fn is_ready_third<R: Wait, F: Pollable>(
+    rt: &R,
+    task: &mut Instrumented<FutureWork<F>>,
+    clock: &mut Ticks,
+) -> bool
+where
+    F::Output: Drop,
+{
+    matches!(task.poll_once(rt, clock), Ok(Poll::Pending))
+        && matches!(task.poll_once(rt, clock), Ok(Poll::Pending))
+        && matches!(task.poll_once(rt, clock), Ok(Poll::Ready(_)))
+}
+
+fn is_polled_three_times<R: Wait + RandomSource + AllocGlobal, F: Pollable>(
+    rt: &R,
+    future: F,
+) -> bool
+where
+    F::Output: Drop,
+    requires { F.may_poll future }
+{
+    match tracked(rt, future) {
+        Some((mut task, inspector)) => {
+            let ready = is_ready_third(rt, &mut task, &mut Ticks::new());
+            drop(task);
+            drop(inspector);
+            ready
+        }
+        None => false,
+    }
+}
+
+#[test]
+fn a_future_that_counts_its_polls_is_ready_in_the_third(rt: HostRuntime) {
+    assert!(rt; is_polled_three_times(&rt, Third { polls: 0 }));
 }
 
 type Receiving = Executor<FutureWork<Receiver<u64>>>;

@@ -1,8 +1,9 @@
 //! Resources, and the calls of their owners and users.
-ghost use Rattle.std.specs.Prelude.{◌≡◌, ◌∷◌, [], IfOk, IfErr, None, Some, false};
+ghost use Rattle.std.specs.Prelude.{◌≡◌, ◌≤◌, ◌∷◌, [], IfOk, IfErr, None, Some, false, length};
 ghost use Rattle.tk_core.specs.declared.resource.call.ResourceCall.TheVariants.{Enlist};
 ghost use Rattle.tk_core.specs.ResourceMeaning.{resource_meaning};
-ghost use Rattle.tk_events.specs.Items.{owner_view};
+ghost use Rattle.tk_core.specs.Resource.{opening_row, IsOpening};
+ghost use Rattle.tk_events.specs.Items.{first_values, owner_view};
 ghost use Rattle.tk_core.specs.declared.resource.row.ResourceRow.{ResourceRow};
 ghost use Rattle.tk_ledgers.specs.Called.{HasCalled};
 ghost use Rattle.tk_ledgers.specs.Callers.{IsLive};
@@ -15,11 +16,11 @@ use super::Interpreter;
 use super::tasks::place_of;
 use crate::items::ResourceItem;
 use crate::seats::{is_made, open_resource};
-use std::alloc::Global;
+use std::alloc::{AllocError, Global};
 use std::sync::Wait;
-use tk_core::{AttrOp, Refusal};
+use tk_core::{AttrOp, Refusal, ResourceRow};
 use tk_events::RecordError;
-use tk_ids::{Attrs, IdError, Name, ResourceSpec};
+use tk_ids::{AttrValue, Attrs, IdError, Name, ResourceSpec};
 use tk_ledgers::ResourceOwner;
 use tk_script::Stop;
 
@@ -46,12 +47,34 @@ fn spec_of(
     })
 }
 
+// The values that attributes have first.
+fn first_values(alloc: Global, attrs: &Attrs) -> Result<Vec<AttrValue>, AllocError>
+    ensures values { IfOk result (λ values. values.items ≡ first_values attrs.now) }
+    ensures few { IfOk result (λ values. length values.items ≤ 6) }
+{
+    let mut values = Vec::new(alloc);
+    for attr in attrs.as_slice() {
+        values.push(attr.first)?;
+    }
+    Ok(values)
+}
+
+// A row with these values, on which no call was made.
+fn values_of(alloc: Global, created: u64, attrs: &Attrs) -> Result<ResourceRow, AllocError>
+    ensures row { IfOk result (λ row. row ≡ opening_row created (first_values attrs.now)) }
+    ensures opens { IfOk result (λ row. IsOpening row) }
+{
+    let values = first_values(alloc, attrs)?;
+    Ok(ResourceRow::opening(created, values.as_slice()))
+}
+
 // What is kept of a new resource, with a user.
-fn item_of<R: Wait>(rt: &R, owner: ResourceOwner) -> Result<ResourceItem, Stop>
+fn item_of<R: Wait>(rt: &R, owner: ResourceOwner, values: ResourceRow) -> Result<ResourceItem, Stop>
     requires { (row : ResourceRow) × (owner.token.view ≡ owner_view Enlist row) }
     ensures id { IfOk result (λ item. item.callers.id ≡ owner.id) }
     ensures ledger { IfOk result (λ item. item.callers.token.ledger ≡ owner.token.ledger) }
     ensures open { IfOk result (λ item. item.closed ≡ false) }
+    ensures values { IfOk result (λ item. item.values ≡ values) }
     ensures called { IfOk result (λ item. (row : ResourceRow) → owner.token.view ≡ owner_view Enlist row → HasCalled resource_meaning (1 ∷ []) row (Enlist ∷ Enlist ∷ []) item.callers.token.view) }
     ensures user { IfOk result (λ item. IsLive resource_meaning item.callers.token.view item.user) }
     ensures err { IfErr result (λ stop. (stop ≡ Call HandlesSpent) × ((row : ResourceRow) → owner.token.view ≡ owner_view Enlist row → IsReply resource_meaning (Some row) Enlist HandlesSpent)) }
@@ -61,6 +84,7 @@ fn item_of<R: Wait>(rt: &R, owner: ResourceOwner) -> Result<ResourceItem, Stop>
         Ok(user) => Ok(ResourceItem {
             callers,
             user,
+            values,
             closed: false,
         }),
         Err(refusal) => Err(Stop::Call(refusal)),
@@ -87,6 +111,9 @@ impl Interpreter {
         requires named { (is_name kind.now ≡ true) × (is_name concrete.now ≡ true) }
         ensures { SilentSpec line (said.resource created kind.now concrete.now attrs) self.old self.new result }
     {
+        let Ok(values) = values_of(alloc, created, &attrs) else {
+            return Err(Stop::Memory);
+        };
         let Ok(spec) = spec_of(alloc, line, kind, concrete, attrs) else {
             return Err(Stop::Memory);
         };
@@ -95,7 +122,7 @@ impl Interpreter {
         }
         match self.recorder.resource(rt, alloc, spec, created) {
             Ok((owner, _became)) => {
-                let item = item_of(rt, owner)?;
+                let item = item_of(rt, owner, values)?;
                 self.resources.push_reserved(item);
                 Ok(())
             }

@@ -44,6 +44,21 @@ taskscope_tasks{name=\"resolve\",kind=\"blocking\",state=\"idle\"} 0
 taskscope_tasks{name=\"resolve\",kind=\"blocking\",state=\"scheduled\"} 0
 taskscope_tasks{name=\"resolve\",kind=\"blocking\",state=\"polling\"} 0
 taskscope_tasks{name=\"resolve\",kind=\"blocking\",state=\"closed\"} 1
+# TYPE taskscope_task_open_poll_seconds gauge
+# UNIT taskscope_task_open_poll_seconds seconds
+# HELP taskscope_task_open_poll_seconds How long the longest poll has run that has not ended.
+taskscope_task_open_poll_seconds{name=\"fetch\",kind=\"spawn\"} 0.000000000
+taskscope_task_open_poll_seconds{name=\"resolve\",kind=\"blocking\"} 0.000000000
+# TYPE taskscope_task_open_wait_seconds gauge
+# UNIT taskscope_task_open_wait_seconds seconds
+# HELP taskscope_task_open_wait_seconds How long the longest wait for a poll has lasted that has not ended.
+taskscope_task_open_wait_seconds{name=\"fetch\",kind=\"spawn\"} 0.000000000
+taskscope_task_open_wait_seconds{name=\"resolve\",kind=\"blocking\"} 0.000000000
+# TYPE taskscope_task_waiting_seconds gauge
+# UNIT taskscope_task_waiting_seconds seconds
+# HELP taskscope_task_waiting_seconds How long all tasks that wait for a poll have waited for it.
+taskscope_task_waiting_seconds{name=\"fetch\",kind=\"spawn\"} 0.000000000
+taskscope_task_waiting_seconds{name=\"resolve\",kind=\"blocking\"} 0.000000000
 # TYPE taskscope_resource_poll_ops_total counter
 # HELP taskscope_resource_poll_ops_total Poll operations of resources by what they answered.
 # TYPE taskscope_warnings gauge
@@ -102,6 +117,21 @@ taskscope_tasks{id=\"1.2\",name=\"resolve\",kind=\"blocking\",state=\"idle\"} 0
 taskscope_tasks{id=\"1.2\",name=\"resolve\",kind=\"blocking\",state=\"scheduled\"} 0
 taskscope_tasks{id=\"1.2\",name=\"resolve\",kind=\"blocking\",state=\"polling\"} 0
 taskscope_tasks{id=\"1.2\",name=\"resolve\",kind=\"blocking\",state=\"closed\"} 1
+# TYPE taskscope_task_open_poll_seconds gauge
+# UNIT taskscope_task_open_poll_seconds seconds
+# HELP taskscope_task_open_poll_seconds How long the longest poll has run that has not ended.
+taskscope_task_open_poll_seconds{id=\"1.1\",name=\"fetch\",kind=\"spawn\"} 0.000000000
+taskscope_task_open_poll_seconds{id=\"1.2\",name=\"resolve\",kind=\"blocking\"} 0.000000000
+# TYPE taskscope_task_open_wait_seconds gauge
+# UNIT taskscope_task_open_wait_seconds seconds
+# HELP taskscope_task_open_wait_seconds How long the longest wait for a poll has lasted that has not ended.
+taskscope_task_open_wait_seconds{id=\"1.1\",name=\"fetch\",kind=\"spawn\"} 0.000000000
+taskscope_task_open_wait_seconds{id=\"1.2\",name=\"resolve\",kind=\"blocking\"} 0.000000000
+# TYPE taskscope_task_waiting_seconds gauge
+# UNIT taskscope_task_waiting_seconds seconds
+# HELP taskscope_task_waiting_seconds How long all tasks that wait for a poll have waited for it.
+taskscope_task_waiting_seconds{id=\"1.1\",name=\"fetch\",kind=\"spawn\"} 0.000000000
+taskscope_task_waiting_seconds{id=\"1.2\",name=\"resolve\",kind=\"blocking\"} 0.000000000
 # TYPE taskscope_resource_poll_ops_total counter
 # HELP taskscope_resource_poll_ops_total Poll operations of resources by what they answered.
 # TYPE taskscope_warnings gauge
@@ -164,6 +194,21 @@ taskscope_tasks{name=\"accept\",kind=\"spawn\",state=\"idle\"} 0
 taskscope_tasks{name=\"accept\",kind=\"spawn\",state=\"scheduled\"} 1
 taskscope_tasks{name=\"accept\",kind=\"spawn\",state=\"polling\"} 0
 taskscope_tasks{name=\"accept\",kind=\"spawn\",state=\"closed\"} 0
+# TYPE taskscope_task_open_poll_seconds gauge
+# UNIT taskscope_task_open_poll_seconds seconds
+# HELP taskscope_task_open_poll_seconds How long the longest poll has run that has not ended.
+taskscope_task_open_poll_seconds{name=\"connection\",kind=\"spawn\"} 0.000000000
+taskscope_task_open_poll_seconds{name=\"accept\",kind=\"spawn\"} 0.000000000
+# TYPE taskscope_task_open_wait_seconds gauge
+# UNIT taskscope_task_open_wait_seconds seconds
+# HELP taskscope_task_open_wait_seconds How long the longest wait for a poll has lasted that has not ended.
+taskscope_task_open_wait_seconds{name=\"connection\",kind=\"spawn\"} 0.000000000
+taskscope_task_open_wait_seconds{name=\"accept\",kind=\"spawn\"} 0.000001300
+# TYPE taskscope_task_waiting_seconds gauge
+# UNIT taskscope_task_waiting_seconds seconds
+# HELP taskscope_task_waiting_seconds How long all tasks that wait for a poll have waited for it.
+taskscope_task_waiting_seconds{name=\"connection\",kind=\"spawn\"} 0.000000000
+taskscope_task_waiting_seconds{name=\"accept\",kind=\"spawn\"} 0.000001300
 # TYPE taskscope_resource_poll_ops_total counter
 # HELP taskscope_resource_poll_ops_total Poll operations of resources by what they answered.
 # TYPE taskscope_warnings gauge
@@ -211,6 +256,18 @@ taskscope_tasks{id=\"1.1\",name=\"accept\",kind=\"spawn\",state=\"idle\"} 0
 taskscope_tasks{id=\"1.1\",name=\"accept\",kind=\"spawn\",state=\"scheduled\"} 1
 taskscope_tasks{id=\"1.1\",name=\"accept\",kind=\"spawn\",state=\"polling\"} 0
 taskscope_tasks{id=\"1.1\",name=\"accept\",kind=\"spawn\",state=\"closed\"} 0
+# TYPE taskscope_task_open_poll_seconds gauge
+# UNIT taskscope_task_open_poll_seconds seconds
+# HELP taskscope_task_open_poll_seconds How long the longest poll has run that has not ended.
+taskscope_task_open_poll_seconds{id=\"1.1\",name=\"accept\",kind=\"spawn\"} 0.000000000
+# TYPE taskscope_task_open_wait_seconds gauge
+# UNIT taskscope_task_open_wait_seconds seconds
+# HELP taskscope_task_open_wait_seconds How long the longest wait for a poll has lasted that has not ended.
+taskscope_task_open_wait_seconds{id=\"1.1\",name=\"accept\",kind=\"spawn\"} 0.000001300
+# TYPE taskscope_task_waiting_seconds gauge
+# UNIT taskscope_task_waiting_seconds seconds
+# HELP taskscope_task_waiting_seconds How long all tasks that wait for a poll have waited for it.
+taskscope_task_waiting_seconds{id=\"1.1\",name=\"accept\",kind=\"spawn\"} 0.000001300
 # TYPE taskscope_resource_poll_ops_total counter
 # HELP taskscope_resource_poll_ops_total Poll operations of resources by what they answered.
 # TYPE taskscope_warnings gauge
@@ -262,6 +319,18 @@ taskscope_tasks{name=\"a\\\\b\\\"c\",kind=\"spawn\",state=\"idle\"} 0
 taskscope_tasks{name=\"a\\\\b\\\"c\",kind=\"spawn\",state=\"scheduled\"} 1
 taskscope_tasks{name=\"a\\\\b\\\"c\",kind=\"spawn\",state=\"polling\"} 1
 taskscope_tasks{name=\"a\\\\b\\\"c\",kind=\"spawn\",state=\"closed\"} 0
+# TYPE taskscope_task_open_poll_seconds gauge
+# UNIT taskscope_task_open_poll_seconds seconds
+# HELP taskscope_task_open_poll_seconds How long the longest poll has run that has not ended.
+taskscope_task_open_poll_seconds{name=\"a\\\\b\\\"c\",kind=\"spawn\"} 0.000000040
+# TYPE taskscope_task_open_wait_seconds gauge
+# UNIT taskscope_task_open_wait_seconds seconds
+# HELP taskscope_task_open_wait_seconds How long the longest wait for a poll has lasted that has not ended.
+taskscope_task_open_wait_seconds{name=\"a\\\\b\\\"c\",kind=\"spawn\"} 0.000000040
+# TYPE taskscope_task_waiting_seconds gauge
+# UNIT taskscope_task_waiting_seconds seconds
+# HELP taskscope_task_waiting_seconds How long all tasks that wait for a poll have waited for it.
+taskscope_task_waiting_seconds{name=\"a\\\\b\\\"c\",kind=\"spawn\"} 0.000000040
 # TYPE taskscope_resource_poll_ops_total counter
 # HELP taskscope_resource_poll_ops_total Poll operations of resources by what they answered.
 taskscope_resource_poll_ops_total{type=\"S\",readiness=\"ready\"} 4

@@ -6,7 +6,7 @@ use std::io::Read;
 use tk_client::{Fault, Lints};
 use tk_fault::AppFault;
 use tk_metrics::{By, Place, keep_metrics, metrics_stream};
-use tk_pace::Pace;
+use tk_reading::Pace;
 
 // Gives a line at a time.
 #[derive(Drop)]

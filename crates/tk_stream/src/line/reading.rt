@@ -8,7 +8,7 @@ ghost use Rattle.tk_stream.specs.Outcome.{Answers};
 ghost use Rattle.tk_stream.specs.Spelled.{line_of_lists};
 ghost use Rattle.tk_stream.specs.Spelling as spec;
 
-use super::{Line, count_waits, version_of};
+use super::{Line, tell_waits, version_of};
 use crate::error::LineError;
 use crate::line::gone::take_gone;
 use crate::line::making::Items;
@@ -148,8 +148,8 @@ fn take_line(alloc: Global, bytes: &[u8]) -> Result<Option<Line>, AllocError>
     if rest.len() > 0 {
         return Ok(None);
     }
-    let counts = count_waits(&task_stats);
-    let version = version_of(counts, &gone, &task_times);
+    let waits = tell_waits(&task_stats, &task_times);
+    let version = version_of(waits, &gone, &task_times);
     if number != version {
         return Ok(None);
     }

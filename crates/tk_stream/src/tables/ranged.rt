@@ -6,8 +6,8 @@ ghost use Rattle.std.specs.List.{AllByRecursion};
 ghost use Rattle.tk_core.specs.Attributes.{is_i64};
 ghost use Rattle.tk_stream.specs.Ranges as ranges;
 
-use crate::tables::times::PollTimes;
-use tk_core::{AttrValues, OpRow, ResourceRow, TaskRow};
+use crate::tables::times::{PollTimes, WaitTimes};
+use tk_core::{AttrValues, OpRow, ResourceRow, TaskRow, Waits};
 use tk_ids::{
     AsyncOpId, AttrInfo, AttrInfos, AttrValue, Dropped, Location, Name, OpInfo, ResourceId,
     ResourceInfo, TaskId, TaskInfo,
@@ -53,6 +53,18 @@ fn see_optional(number: Option<u64>)
 {
     match number {
         Some(n) => see_number(n),
+        None => {}
+    }
+}
+
+fn see_waits(waits: Option<Waits>)
+    ensures { IfSome waits ranges.AreWaits }
+{
+    match waits {
+        Some(waits) => {
+            see_number(waits.total);
+            waits.so_far.nanos();
+        }
         None => {}
     }
 }
@@ -273,7 +285,7 @@ impl Ranged for (TaskId, TaskRow) {
         see_number(row.drops);
         see_number(row.handles);
         see_number(row.sched);
-        see_optional(row.waited);
+        see_waits(row.waits);
     }
 }
 
@@ -334,6 +346,19 @@ impl Ranged for (TaskId, PollTimes) {
         see_task_id(id);
         see_number(times.longest);
         see_each(&times.counts);
+        see_wait_times(times.waits);
+    }
+}
+
+fn see_wait_times(waits: Option<WaitTimes>)
+    ensures { IfSome waits ranges.AreWaitTimes }
+{
+    match waits {
+        Some(waits) => {
+            see_number(waits.longest);
+            see_each(&waits.counts);
+        }
+        None => {}
     }
 }
 

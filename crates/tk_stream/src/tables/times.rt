@@ -1,4 +1,4 @@
-//! Histograms of poll times, in lines and beside tables.
+//! Histograms of poll times and of waits, in lines and beside tables.
 //!
 //! `specs/Times.antt` says what a line says of them, and `times_after` of `specs/Applied.antt` what they are after a line.
 ghost use Rattle.std.specs.Prelude.{ℕ, ◌≡◌, ◌+◌, ◌≤◌, ◌∷◌, suc, option_map, option_and_then};
@@ -10,7 +10,8 @@ use crate::told::Told;
 use tk_core::TimesRow;
 use tk_ids::TaskId;
 
-/// How long the ended polls of a task ran, as its histogram shows it: the longest, and how many lie in each of fourteen buckets.
+/// How long the ended polls of a task ran, as its histogram shows it: the longest, and how many lie in each of fourteen buckets. Where
+/// the task's waits are counted, their histogram stands beside it.
 ///
 /// Times are nanoseconds. Thirteen bounds, the powers of two from 2^14 to 2^26, make the buckets. Counts stop at 2^64 - 1.
 #[derive(Clone, Copy, Debug, PartialEq, Eq)]
@@ -19,16 +20,39 @@ pub struct PollTimes {
     pub longest: u64,
     /// How many polls ran for a time of each bucket, the shortest first.
     pub counts: [u64; 14],
+    /// How long the task's waits took, where they are counted.
+    pub waits: Option<WaitTimes>,
+}
+
+/// How long the ended waits of a task took, each from the moment since when it could have run to the start of its poll: the longest, and
+/// how many lie in each of the fourteen buckets that polls have.
+#[derive(Clone, Copy, Debug, PartialEq, Eq)]
+pub struct WaitTimes {
+    /// How long the longest wait took, in nanoseconds, and 0 where none has ended.
+    pub longest: u64,
+    /// How many waits took a time of each bucket, the shortest first.
+    pub counts: [u64; 14],
 }
 
 impl PollTimes {
-    /// What a histogram's row shows, without its handles.
+    /// What a histogram's row shows, without its handles, of a task whose waits aren't counted.
     pub fn of(row: &TimesRow) -> PollTimes
         ensures { result ≡ spec.times_shown row.now }
     {
         PollTimes {
             longest: row.longest,
             counts: row.counts,
+            waits: None,
+        }
+    }
+
+    /// What the rows of two histograms show, without their handles: that of a task's polls, and that of its waits.
+    pub fn of_both(polls: &TimesRow, waits: &TimesRow) -> PollTimes
+        ensures { result ≡ spec.both_shown polls.now waits.now }
+    {
+        PollTimes {
+            waits: Some(WaitTimes::of(waits)),
+            ..PollTimes::of(polls)
         }
     }
 
@@ -41,13 +65,45 @@ impl PollTimes {
         requires most { percent ≤ 100 }
         ensures { IsPercentile percent self.now.counts result }
     {
-        let row = TimesRow {
-            handles: 0,
-            longest: self.longest,
-            counts: self.counts,
-        };
-        row.percentile(percent)
+        percentile(self.longest, self.counts, percent)
     }
+}
+
+impl WaitTimes {
+    /// What the row of a histogram of waits shows, without its handles.
+    pub fn of(row: &TimesRow) -> WaitTimes
+        ensures { result ≡ spec.waits_shown row.now }
+    {
+        let TimesRow {
+            longest,
+            counts,
+            ..
+        } = *row;
+        WaitTimes { longest, counts }
+    }
+
+    /// The bucket, counted from 0, in which such a percentile of the waits lies, 1 to 100, as [`PollTimes::percentile`] says it of polls.
+    /// `None` where no wait has ended.
+    pub fn percentile(&self, percent: u64) -> Option<usize>
+        requires some { 1 ≤ percent }
+        requires most { percent ≤ 100 }
+        ensures { IsPercentile percent self.now.counts result }
+    {
+        percentile(self.longest, self.counts, percent)
+    }
+}
+
+fn percentile(longest: u64, counts: [u64; 14], percent: u64) -> Option<usize>
+    requires some { 1 ≤ percent }
+    requires most { percent ≤ 100 }
+    ensures { IsPercentile percent counts result }
+{
+    let row = TimesRow {
+        handles: 0,
+        longest,
+        counts,
+    };
+    row.percentile(percent)
 }
 
 /// A task, and the histogram of its poll times.

@@ -2,15 +2,15 @@
 
 use super::given::{changed, error_of, on_line, writes};
 use super::texts::{
-    CHANGED, EMPTY, FIRST, FULL, GONE, SIGNED, TIMED, TWO, UNCHANGED, WAITED, WAITED_GONE,
-    WAITED_TIMED,
+    CHANGED, EMPTY, FIRST, FULL, GONE, SIGNED, TIMED, TWO, UNCHANGED, WAIT_TIMED, WAITED,
+    WAITED_GONE, WAITED_TIMED,
 };
 use std::alloc::Global;
 use tk_ids::{OpInfo, ResourceInfo, TaskInfo};
 use tk_stream::Line;
 
 // Texts of lines, written as a line writes itself.
-const SAME: [&str; 12] = [
+const SAME: [&str; 13] = [
     EMPTY,
     FIRST,
     CHANGED,
@@ -23,6 +23,7 @@ const SAME: [&str; 12] = [
     WAITED,
     WAITED_GONE,
     WAITED_TIMED,
+    WAIT_TIMED,
 ];
 
 // The line without items in other texts: with white space, in another order, and with keys twice or often,
@@ -68,9 +69,19 @@ const TIMED_OTHERS: [(&str, &str); 5] = [
 // Parts of the lines of version 4, and other spellings of them.
 #[rattlefmt::skip]
 const WAITED_OTHERS: [(&str, &str); 3] = [
-    ("[5,18446744073709551615]", "[ 5 ,\t18446744073709551615 ]"),
+    ("[5,18446744073709551615,72057594037927935]", "[ 5 ,\t18446744073709551615 , 72057594037927935 ]"),
     ("\"v\":4",                "\"v\" : 4"),
     ("\"sched\":7",            "\"sch\\u0065d\":7"),
+];
+
+// Parts of the line that tells histograms of waits, and other spellings of them.
+#[rattlefmt::skip]
+const WAIT_TIMED_OTHERS: [(&str, &str); 5] = [
+    ("[3,5]",              "[ 3 , 5 ]"),
+    ("\"waits\":[]",       "\"waits\" : [ ]"),
+    ("\"longest_wait\":0", "\"longest\\u005fwait\" :0"),
+    ("\"longest\":0,\"longest_wait\":0,\"waits\":[]", "\"waits\":[],\"longest_wait\":0,\"longest\":0"),
+    ("\"waits\":[]",       "\"waits\":null,\"waits\":[]"),
 ];
 
 // Whether the text is a line that writes itself so.
@@ -128,6 +139,7 @@ fn reads_other_texts_of_a_line(rt: HostRuntime) {
     assert!(rt; all_read_respelled(rt.alloc(), SIGNED, SIGNED_OTHERS.as_slice()));
     assert!(rt; all_read_respelled(rt.alloc(), GONE, GONE_OTHERS.as_slice()));
     assert!(rt; all_read_respelled(rt.alloc(), TIMED, TIMED_OTHERS.as_slice()));
+    assert!(rt; all_read_respelled(rt.alloc(), WAIT_TIMED, WAIT_TIMED_OTHERS.as_slice()));
     for text in [WAITED, WAITED_GONE, WAITED_TIMED] {
         assert!(rt; all_read_respelled(rt.alloc(), text, WAITED_OTHERS.as_slice()));
     }
@@ -264,6 +276,45 @@ fn shows_histograms_of_poll_times(rt: HostRuntime) {
     );
 }
 
+fn has_waits(line: &Line, place: usize, longest: u64, bucket: usize, count: u64) -> Option<bool> {
+    let (_, times) = line.task_times().get(place)?;
+    let waits = times.waits?;
+    let shown = waits.counts.get(bucket).copied()?;
+    Some(waits.longest == longest && shown == count)
+}
+
+fn half_of_waits(line: &Line, place: usize) -> Option<usize> {
+    let (_, times) = line.task_times().get(place)?;
+    times.waits?.percentile(50)
+}
+
+fn shows_waits(line: &Line) -> bool {
+    line.version() == 4
+        && line.task_times().len() == 4
+        && has_waits(line, 0, 80000000, 0, u64::MAX) == Some(true)
+        && has_waits(line, 0, 80000000, 13, 1) == Some(true)
+        && has_waits(line, 1, 0, 13, 0) == Some(true)
+        && has_waits(line, 2, 0, 0, 0).is_none()
+        && has_waits(line, 3, u64::MAX - 1, 0, 14) == Some(true)
+        && count_of(line, 3, 0) == Some(1)
+        && half_of_waits(line, 0) == Some(0)
+        && half_of_waits(line, 1).is_none()
+        && half_of_waits(line, 3) == Some(13)
+}
+
+// What a line of version 4 tells of waits beside polls, and that one of version 3 tells none.
+#[test]
+fn shows_histograms_of_waits(rt: HostRuntime) {
+    assert!(rt; on_line(rt.alloc(), WAIT_TIMED.as_bytes(), |line| shows_waits(line)));
+    assert!(rt;
+        on_line(
+            rt.alloc(),
+            TIMED.as_bytes(),
+            |line| has_waits(line, 0, 0, 0, 0).is_none()
+        )
+    );
+}
+
 fn copies_task(info: &TaskInfo) -> bool {
     match info.copy() {
         Ok(copy) => copy == *info && copy.name.as_str() == "a\"b\\c/ ~",
@@ -329,9 +380,10 @@ fn reads_names_of_up_to_1024_bytes(rt: HostRuntime) {
     assert!(rt; reads_name_of(rt.alloc(), 1025) == Some(false));
 }
 
-fn waits_at(line: &Line, place: usize) -> Option<(u64, Option<u64>)> {
+fn waits_at(line: &Line, place: usize) -> Option<(u64, Option<(u64, u64)>)> {
     let (_, row) = line.task_stats().get(place)?;
-    Some((row.sched, row.waited))
+    let waits = row.waits.map(|waits| (waits.total, waits.so_far.nanos()));
+    Some((row.sched, waits))
 }
 
 #[test]
@@ -340,7 +392,7 @@ fn shows_what_was_waited(rt: HostRuntime) {
         assert!(rt;
             on_line(rt.alloc(), text.as_bytes(), |line| {
                 line.version() == 4
-                    && waits_at(line, 0) == Some((5, Some(u64::MAX)))
+                    && waits_at(line, 0) == Some((5, Some((u64::MAX, 72057594037927935))))
                     && waits_at(line, 1) == Some((7, None))
             })
         );

@@ -1,7 +1,7 @@
 //! Texts that are no lines, and the errors.
 
 use super::given::{changed, error_of};
-use super::texts::{EMPTY, FULL, GONE, TIMED, WAITED, WAITED_TIMED};
+use super::texts::{EMPTY, FULL, GONE, TIMED, WAIT_TIMED, WAITED, WAITED_TIMED};
 use std::alloc::Global;
 use std::test::Fail;
 use tk_stream::LineError;
@@ -142,16 +142,42 @@ const HISTOGRAMS: [(&str, &str); 18] = [
 
 // Changes of what a row says that counts its waits, and of the version: 4 has a row that does, and no other has one.
 #[rattlefmt::skip]
-const WAITS: [(&str, &str); 9] = [
+const WAITS: [(&str, &str); 14] = [
     ("\"v\":4",                "\"v\":1"),
     ("\"v\":4",                "\"v\":2"),
     ("\"v\":4",                "\"v\":3"),
     ("\"v\":4",                "\"v\":5"),
-    ("[5,18446744073709551615]", "5"),
-    ("[5,18446744073709551615]", "[5]"),
-    ("[5,18446744073709551615]", "[5,18446744073709551616]"),
-    ("[5,18446744073709551615]", "[5,null]"),
-    ("[5,18446744073709551615]", "[5,6,7]"),
+    ("[5,18446744073709551615,72057594037927935]", "5"),
+    ("[5,18446744073709551615,72057594037927935]", "[5]"),
+    ("[5,18446744073709551615,72057594037927935]", "[5,6]"),
+    ("[5,18446744073709551615,72057594037927935]", "[5,6,7,8]"),
+    ("[5,18446744073709551615,72057594037927935]", "[5,null,7]"),
+    ("[5,18446744073709551615,72057594037927935]", "[5,6,null]"),
+    ("[5,18446744073709551615,72057594037927935]", "[5,18446744073709551616,7]"),
+    ("72057594037927935]",   "72057594037927936]"),
+    ("72057594037927935]",   "18446744073709551615]"),
+    ("72057594037927935]",   "-1]"),
+];
+
+// Changes of a line that tells histograms of waits after which it is no line: of its version, of the two keys that waits have, and of
+// a bucket.
+#[rattlefmt::skip]
+const WAIT_HISTOGRAMS: [(&str, &str); 15] = [
+    ("\"v\":4",              "\"v\":3"),
+    ("\"v\":4",              "\"v\":2"),
+    ("\"v\":4",              "\"v\":1"),
+    (",\"longest_wait\":0",  ""),
+    (",\"waits\":[]",        ""),
+    ("\"waits\":[]",         "\"waits\":null"),
+    ("\"waits\":[]",         "\"waits\":0"),
+    ("\"waits\":[]",         "\"waits\":[],\"shortest\":0"),
+    ("\"longest_wait\":0",   "\"longest_wait\":-1"),
+    ("\"longest_wait\":0",   "\"longest_waits\":0"),
+    ("\"counts\":[],",       ""),
+    ("[13,1]",               "[14,1]"),
+    ("[13,1]",               "[13,0]"),
+    ("[13,1]",               "[3,1]"),
+    ("[13,1]",               "[13,18446744073709551616]"),
 ];
 
 // Changes of a line of version 1 after which it is none.
@@ -222,6 +248,7 @@ fn refuses_other_versions(rt: HostRuntime) {
 #[test]
 fn refuses_other_histograms(rt: HostRuntime) {
     assert!(rt; all_are_bad_shapes(rt.alloc(), TIMED, HISTOGRAMS.as_slice()));
+    assert!(rt; all_are_bad_shapes(rt.alloc(), WAIT_TIMED, WAIT_HISTOGRAMS.as_slice()));
 }
 
 #[test]

@@ -2,7 +2,7 @@
 //!
 //! Usage: taskscope-bench-tokio [PLAIN]   measures, and writes a table to standard output. PLAIN is this program, built with
 //!                                        `--no-default-features`: tokio without its feature `tracing`.
-//!        taskscope-bench-tokio MODE      measures one column: `none`, `registry`, `untimed`, `tasks`, `all`, `beside` or `with`.
+//!        taskscope-bench-tokio MODE      measures one column: `none`, `registry`, `uncounted`, `tasks`, `all`, `beside` or `with`.
 //!
 //! Figures are nanoseconds of processor time, of the thread that does the work, or with workers of the whole process, which has the
 //! publishing thread too: each the least of some rounds, as other programs of the machine take its caches in between.
@@ -17,11 +17,11 @@ use tokio::runtime::{Builder, Runtime};
 use tokio::sync::{mpsc, oneshot, Mutex};
 
 /// The modes, and below what their columns are called.
-const MODES: [&str; 7] = ["none", "registry", "untimed", "tasks", "all", "beside", "with"];
+const MODES: [&str; 7] = ["none", "registry", "uncounted", "tasks", "all", "beside", "with"];
 const NAMES: [&str; 7] = [
     "no subscriber",
     "bare registry",
-    "tasks without histograms",
+    "tasks without histograms and waits",
     "tasks alone",
     "all items",
     "tasks beside others",
@@ -160,7 +160,7 @@ fn install(mode: &str) -> std::io::Result<()> {
     let builder = Builder::new().output(output.clone()).retention(std::time::Duration::ZERO);
     match mode {
         "registry" => tracing_subscriber::registry().init(),
-        "untimed" => builder.items(Items::Tasks).times(false).init()?,
+        "uncounted" => builder.items(Items::Tasks).times(false).waits(false).init()?,
         "tasks" => builder.items(Items::Tasks).init()?,
         "all" => builder.items(Items::All).init()?,
         "beside" => {

@@ -4,10 +4,10 @@ use Rattle.taskscope.proofs.command_line.report_command.Goals as goal
 
 pub returns-clause-ok : goal.returns-clause-ok
 returns-clause-ok c =
-    let timed = c.in_ok-arg.ensures.shape c.flag_arg-times.ensures.local ∙ ap₂ with_rule c.in_ok-polls_command.ensures.ok c.flag_arg-times.ensures.rule in
+    let timed = c.in_ok-arg.ensures.shape c.flag_arg-times.ensures.local ∙ ap₂ with_rule c.in_ok-spans_command.ensures.ok c.flag_arg-times.ensures.rule in
     c.in_ok-arg-2.ensures.shape c.flag_arg-explain.ensures.local ∙ ap₂ with_rule timed c.flag_arg-explain.ensures.rule
 
 pub returns-clause-local : goal.returns-clause-local
 returns-clause-local c =
-    let timed = c.in_ok-arg.ensures.globals ∙ ap₂ (λ a b. a || b) c.in_ok-polls_command.ensures.local c.flag_arg-times.ensures.local in
+    let timed = c.in_ok-arg.ensures.globals ∙ ap₂ (λ a b. a || b) c.in_ok-spans_command.ensures.local c.flag_arg-times.ensures.local in
     c.in_ok-arg-2.ensures.globals ∙ ap₂ (λ a b. a || b) timed c.flag_arg-explain.ensures.local

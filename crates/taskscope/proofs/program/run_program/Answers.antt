@@ -25,8 +25,8 @@ returns-in-Err-clause-file g c = λ request asks.
     let told = c.answer.ensures.memory (memory_alone (refusals (texts c.args.words.now)) c.in-Err.error asks.0.0 c.in-Err.ensures.fails) in
     (refl, (None, None, rw told.1 (nothing_done c.args.terminal (filter_of (texts c.args.words.now)) (to_of (texts c.args.words.now)) request None (g.O.Write.contents c.args.output.now) (g.P.Place.texts c.args.place.now) c.answer.result told.0)))
 
-pub returns-in-None-clause-does : goal.returns-in-None-clause-does
-returns-in-None-clause-does g c = λ request asks.
+pub returns-clause-does : goal.returns-clause-does
+returns-clause-does g c = λ request asks.
     let same : c.in-Ok.call.request ≡ request = some_is _ _ (sym c.in-Ok.ensures.asked ∙ asks.0.1) in
     let filter = option_map (λ f. f.now) c.in-Ok.call.filter in
     let to = option_map (λ p. p.now) c.in-Ok.call.to in
@@ -35,8 +35,8 @@ returns-in-None-clause-does g c = λ request asks.
     subst (λ path. done (filter_of (texts c.args.words.now)) path request) (sym c.in-Ok.ensures.to)
     (subst (λ text. done text to request) (sym c.in-Ok.ensures.filter) (subst (done filter to) same c.fulfil_of_input.ensures.does))
 
-pub returns-in-None-clause-file : goal.returns-in-None-clause-file
-returns-in-None-clause-file g c = λ request asks.
+pub returns-clause-file : goal.returns-clause-file
+returns-clause-file g c = λ request asks.
     let none : file_of (texts c.args.words.now) ≡ None = c.in-Ok.ensures.file ∙ ap (option_map (λ f. f.now)) c.in-None.is in
     absurd (true≢false (sym (subst IsSome none asks.1)))
 
@@ -87,26 +87,26 @@ returns-in-Err-clause-metrics g c = plain _ _ metrics (texts c.args.words.now)
 pub returns-in-Err-clause-demo : goal.returns-in-Err-clause-demo
 returns-in-Err-clause-demo g c = plain _ _ demo (texts c.args.words.now)
 
-pub returns-in-None-clause-run : goal.returns-in-None-clause-run
-returns-in-None-clause-run g c = plain _ _ run (texts c.args.words.now)
+pub returns-clause-run : goal.returns-clause-run
+returns-clause-run g c = plain _ _ run (texts c.args.words.now)
 
-pub returns-in-None-clause-view : goal.returns-in-None-clause-view
-returns-in-None-clause-view g c = plain _ _ view (texts c.args.words.now)
+pub returns-clause-view : goal.returns-clause-view
+returns-clause-view g c = plain _ _ view (texts c.args.words.now)
 
-pub returns-in-None-clause-lint : goal.returns-in-None-clause-lint
-returns-in-None-clause-lint g c = plain _ _ lint (texts c.args.words.now)
+pub returns-clause-lint : goal.returns-clause-lint
+returns-clause-lint g c = plain _ _ lint (texts c.args.words.now)
 
-pub returns-in-None-clause-page : goal.returns-in-None-clause-page
-returns-in-None-clause-page g c = plain _ _ page (texts c.args.words.now)
+pub returns-clause-page : goal.returns-clause-page
+returns-clause-page g c = plain _ _ page (texts c.args.words.now)
 
-pub returns-in-None-clause-watch : goal.returns-in-None-clause-watch
-returns-in-None-clause-watch g c = plain _ _ watch (texts c.args.words.now)
+pub returns-clause-watch : goal.returns-clause-watch
+returns-clause-watch g c = plain _ _ watch (texts c.args.words.now)
 
-pub returns-in-None-clause-metrics : goal.returns-in-None-clause-metrics
-returns-in-None-clause-metrics g c = plain _ _ metrics (texts c.args.words.now)
+pub returns-clause-metrics : goal.returns-clause-metrics
+returns-clause-metrics g c = plain _ _ metrics (texts c.args.words.now)
 
-pub returns-in-None-clause-demo : goal.returns-in-None-clause-demo
-returns-in-None-clause-demo g c = plain _ _ demo (texts c.args.words.now)
+pub returns-clause-demo : goal.returns-clause-demo
+returns-clause-demo g c = plain _ _ demo (texts c.args.words.now)
 
 pub returns-in-Some-clause-run : goal.returns-in-Some-clause-run
 returns-in-Some-clause-run g c = plain _ _ run (texts c.args.words.now)
@@ -132,8 +132,8 @@ returns-in-Some-clause-demo g c = plain _ _ demo (texts c.args.words.now)
 pub returns-in-Err-clause-asks : goal.returns-in-Err-clause-asks
 returns-in-Err-clause-asks g c = taken_words_ask (texts c.args.words.now)
 
-pub returns-in-None-clause-kept : goal.returns-in-None-clause-kept
-returns-in-None-clause-kept g c = λ taken none. c.fulfil_of_input.ensures.kept (sym c.in-Ok.ensures.to ∙ none)
+pub returns-clause-kept : goal.returns-clause-kept
+returns-clause-kept g c = λ taken none. c.fulfil_of_input.ensures.kept (sym c.in-Ok.ensures.to ∙ none)
 
 pub returns-in-Some-clause-kept : goal.returns-in-Some-clause-kept
 returns-in-Some-clause-kept g c = λ taken none. c.fulfil_of_file.ensures.kept (sym c.in-Ok.ensures.to ∙ none)

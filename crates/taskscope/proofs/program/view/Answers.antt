@@ -16,7 +16,7 @@ returns-clause-does g c =
     let viewed = λ (times : TimesOptions). ViewsTimed view lints times given left outcome old new in
     record {
       outcome = outcome;
-      told = c.tell_view.ensures;
+      told = c.tell_view.ensures.status;
       views = c.view_stream_with-outcome.ensures.views;
       plain = λ none. plain_views view lints given left old new outcome (subst viewed none c.view_stream_with-outcome.ensures.views);
       unwritten = search rules;

@@ -25,12 +25,17 @@ fn first_reply<O: Sequential, R: Wait>(
     Ok(reply)
 }
 
+fn shows_opening(shown: Result<Reply<TaskRow>, AllocError>, moment: u64) -> bool {
+    match shown {
+        Ok(Reply::Shown(row)) => row == TaskRow::opening(moment),
+        _ => false,
+    }
+}
+
 #[test]
-fn an_opening_task_is_read_back(rt: HostRuntime) -> Result<(), Fail> {
-    let row = TaskRow::opening(7);
-    let shown = first_reply(&rt, rt.alloc(), row, TaskCall::Read)?;
-    assert!(rt; shown == Reply::Shown(row));
-    Ok(())
+fn an_opening_task_is_read_back(rt: HostRuntime) {
+    let shown = first_reply(&rt, rt.alloc(), TaskRow::opening(7), TaskCall::Read);
+    assert!(rt; shows_opening(shown, 7));
 }
 
 #[test]

@@ -138,8 +138,11 @@ fn read_behind<R: Wait + Threads + Sync>(
     }
 }
 
-fn counts_all_wakes(row: &TaskRow) -> bool {
-    row.wakes == 2 * WAKES && row.clones == 2 && row.drops == 0
+fn counts_all_wakes(row: Option<TaskRow>) -> bool {
+    match row {
+        Some(row) => row.wakes == 2 * WAKES && row.clones == 2 && row.drops == 0,
+        None => false,
+    }
 }
 
 #[test]
@@ -149,7 +152,7 @@ fn wakes_of_two_threads_add_up(rt: HostRuntime) {
             let row = read_behind(&rt, &shared, &mut owner);
             drop(shared);
             drop(owner);
-            assert!(rt; row.is_some_and(|row| counts_all_wakes(&row)));
+            assert!(rt; counts_all_wakes(row));
         }
         Err(_) => assert!(rt; false, "no ledger"),
     }

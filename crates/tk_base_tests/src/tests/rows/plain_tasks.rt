@@ -4,7 +4,9 @@ use super::plain_polls::{
     Point, busy, first_poll, is_polling, last_ended, last_started, polls, was_accepted,
 };
 use std::alloc::{AllocError, Global};
-use tk_core::{Entry, MOST_HANDLES, Refusal, Reply, TaskCall, TaskRow, WakeReply};
+use tk_core::{
+    Entry, MOST_HANDLES, Refusal, Reply, TaskCall, TaskRow, WaitSoFar, Waits, WakeReply,
+};
 
 pub type TaskEntry = Entry<TaskCall, Reply<TaskRow>>;
 
@@ -90,23 +92,31 @@ fn sched(created: u64, history: &[TaskEntry], points: &[Point]) -> u64 {
     sum
 }
 
-/// How long the task waited in all: at each start, wake or close at which it was scheduled and not polled, since the greatest of its
-/// creation, the wakes before, and the last end before.
-fn waited(created: u64, history: &[TaskEntry], points: &[Point]) -> u64 {
-    let mut sum = 0u64;
+/// How long the task waited in all, and since the last end of a poll: at each start, wake or close at which it was scheduled and not
+/// polled, since the greatest of its creation, the wakes before, and the last end before.
+fn waits(created: u64, history: &[TaskEntry], points: &[Point]) -> Waits {
+    let mut total = 0u64;
+    let mut so_far = 0u64;
     for (i, entry) in history.iter().enumerate() {
+        if let Point::End(_) = point(entry) {
+            so_far = 0;
+        }
         let moment = match (point(entry), wake(entry), close(entry)) {
             (Point::Start(moment), _, _) | (_, Some(moment), _) | (_, _, Some(moment)) => moment,
             _ => continue,
         };
-        if i > points.len() || !is_scheduled(&history[..i]) || is_polling(&points[..i]) {
-            continue;
+        if i <= points.len() && is_scheduled(&history[..i]) && !is_polling(&points[..i]) {
+            let woken = history[..i].iter().filter_map(wake).max().unwrap_or(0);
+            let ended = last_ended(&points[..i]).unwrap_or(0);
+            let stretch = moment.saturating_sub(created.max(woken).max(ended));
+            total = total.saturating_add(stretch);
+            so_far = so_far.saturating_add(stretch);
         }
-        let woken = history[..i].iter().filter_map(wake).max().unwrap_or(0);
-        let ended = last_ended(&points[..i]).unwrap_or(0);
-        sum = sum.saturating_add(moment.saturating_sub(created.max(woken).max(ended)));
     }
-    sum
+    Waits {
+        total,
+        so_far: WaitSoFar::capped(so_far),
+    }
 }
 
 /// The row that a history leaves, whose waits are counted.
@@ -128,7 +138,7 @@ pub fn row(alloc: Global, created: u64, history: &[TaskEntry]) -> Result<TaskRow
         drops: history.iter().filter(|entry| is_drop(entry)).count() as u64,
         handles: history.iter().filter(|entry| draws(entry)).count() as u64,
         sched: sched(created, history, points),
-        waited: Some(waited(created, history, points)),
+        waits: Some(waits(created, history, points)),
         polling: is_polling(points),
         scheduled: is_scheduled(history),
     })

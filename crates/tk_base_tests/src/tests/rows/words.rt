@@ -154,11 +154,12 @@ fn an_operation_with_signed_numbers_in_words(rt: HostRuntime) {
 
 // Words that no row has, each by one word of a row that was changed.
 #[rattlefmt::skip]
-const STRAY: [(&str, usize, u64); 6] = [
+const STRAY: [(&str, usize, u64); 7] = [
     ("a flag after the last", 0, 64 + 512),
     ("a moment without its flag", 2, 5),
     ("a last wake without its flag", 10, 5),
     ("what was waited without its flag", 15, 1),
+    ("what was counted of a wait without its flag", 0, 64 + 256 * 20),
     ("an attribute's bit", 0, 64 + 256),
     ("the highest bit", 0, 1 << 63),
 ];

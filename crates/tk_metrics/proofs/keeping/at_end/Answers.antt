@@ -1,12 +1,13 @@
 use Rattle.std.proofs.lemmas.Result.{err_from_is_err_and}
-use Rattle.tk_report.specs.Shown.{shown_of}
-use Rattle.tk_metrics.proofs.KeepLemmas.{all_given, puts_last, puts_not, text_after}
+use Rattle.tk_reading.specs.Shown.{shown_of}
+use Rattle.tk_reading.proofs.ReadLemmas.{all_at_end}
+use Rattle.tk_metrics.proofs.KeepLemmas.{puts_last, puts_not, text_after}
 use Rattle.tk_metrics.proofs.keeping.at_end.Goals as goal
 
 pub returns-then-not-goes_on-clause-steps : goal.returns-then-not-goes_on-clause-steps
 returns-then-not-goes_on-clause-steps g c = λ by given left old end k.
     puts_last c.args.path.now by c.args.lints.now given left c.args.progress.lines c.args.progress.put c.args.client.now c.args.leavers.now old _ k
-    (g.P.Place.texts c.put_now.new.place) (c.in_ok-put_now.ensures by (shown_of k.bytes) k.follows) (all_given given left k.bytes k.read end)
+    (g.P.Place.texts c.put_now.new.place) (c.in_ok-put_now.ensures by (shown_of k.bytes) k.follows) (all_at_end given left k.bytes k.read end)
 
 pub returns-in_err-put_now-clause-steps : goal.returns-in_err-put_now-clause-steps
 returns-in_err-put_now-clause-steps g c = λ by given left old end k.

@@ -1,5 +1,5 @@
 use Rattle.std.proofs.lemmas.Result.{err_from_is_err_and}
-use Rattle.tk_report.specs.Shown.{shown_of}
+use Rattle.tk_reading.specs.Shown.{shown_of}
 use Rattle.tk_metrics.proofs.KeepLemmas.{puts_more, puts_not, text_after}
 use Rattle.tk_metrics.proofs.keeping.put_due.Goals as goal
 

@@ -1,5 +1,6 @@
 use Rattle.std.proofs.Common.{rules}
-use Rattle.tk_metrics.proofs.KeepLemmas.{keeps_on, reads_none}
+use Rattle.tk_reading.proofs.ReadLemmas.{reads_none}
+use Rattle.tk_metrics.proofs.KeepLemmas.{keeps_on}
 use Rattle.tk_metrics.proofs.keeping.step.Goals as goal
 
 pub returns-in-Ok-eq0-clause-steps : goal.returns-in-Ok-eq0-clause-steps

@@ -4,8 +4,8 @@ use Rattle.std.specs.Option.{option_map_or}
 use Rattle.tk_stream.specs.Tables.{resource_with}
 use Rattle.tk_stream.specs.declared.tables.resource.Resource.{Resource}
 use Rattle.tk_metrics.specs.Sums.{both_ops, poll_ops, resource_entry, type_label}
-use Rattle.tk_metrics.specs.Series.{with_value}
-use Rattle.tk_metrics.proofs.SeriesLemmas.{passed_more, passed_all}
+use Rattle.tk_series.specs.Series.{with_value}
+use Rattle.tk_series.proofs.SeriesLemmas.{passed_more, passed_all}
 use Rattle.tk_metrics.proofs.left.add_resources.Goals as goal
 
 pub loop-place-preserved : goal.loop-place-preserved

@@ -3,9 +3,9 @@ use Rattle.std.specs.Prelude.{not}
 use Rattle.tk_stream.specs.Tables.{resource_with}
 use Rattle.tk_stream.specs.declared.tables.resource.Resource.{Resource}
 use Rattle.tk_metrics.specs.Sums.{both_ops, resource_entry}
-use Rattle.tk_metrics.specs.Series.{series_of}
+use Rattle.tk_series.specs.Series.{series_of}
 use Rattle.tk_metrics.specs.declared.sums.PollOps.{PollOps}
-use Rattle.tk_metrics.proofs.SeriesLemmas.{passed_so_far}
+use Rattle.tk_series.proofs.SeriesLemmas.{passed_so_far}
 use Rattle.tk_metrics.proofs.left.add_resources.Given as goal
 
 -- those so far that have left are added

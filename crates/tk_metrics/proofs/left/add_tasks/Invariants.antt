@@ -3,9 +3,9 @@ use Rattle.std.specs.Prelude.{not}
 use Rattle.tk_stream.specs.Tables.{task_with}
 use Rattle.tk_stream.specs.declared.tables.task.Task.{Task}
 use Rattle.tk_metrics.specs.Sums.{left_task, plus}
-use Rattle.tk_metrics.specs.Series.{series_of}
+use Rattle.tk_series.specs.Series.{series_of}
 use Rattle.tk_metrics.specs.declared.sums.Sums.{Sums}
-use Rattle.tk_metrics.proofs.SeriesLemmas.{passed_so_far}
+use Rattle.tk_series.proofs.SeriesLemmas.{passed_so_far}
 use Rattle.tk_metrics.proofs.left.add_tasks.Given as goal
 
 -- those so far that have left are added

@@ -1,8 +1,8 @@
 use Rattle.std.proofs.Common.{ap, sym, ◌∙◌, slice_get}
 use Rattle.std.specs.Option.{option_map_or}
-use Rattle.tk_metrics.specs.Series.{with_value}
+use Rattle.tk_series.specs.Series.{with_value}
 use Rattle.tk_metrics.specs.Sums.{both_ops, poll_ops, resource_entry, type_label}
-use Rattle.tk_metrics.proofs.SeriesLemmas.{item_more, items_all}
+use Rattle.tk_series.proofs.SeriesLemmas.{item_more, items_all}
 use Rattle.tk_metrics.proofs.sums.add_resources.Goals as goal
 
 pub loop-place-preserved : goal.loop-place-preserved

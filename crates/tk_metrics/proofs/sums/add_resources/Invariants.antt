@@ -1,8 +1,8 @@
 use Rattle.std.proofs.Common.{◌≡◌, ℕ, List}
-use Rattle.tk_metrics.specs.Series.{series_of}
+use Rattle.tk_series.specs.Series.{series_of}
 use Rattle.tk_metrics.specs.Sums.{both_ops, resource_entry}
 use Rattle.tk_metrics.specs.declared.sums.PollOps.{PollOps}
-use Rattle.tk_metrics.proofs.SeriesLemmas.{so_far}
+use Rattle.tk_series.proofs.SeriesLemmas.{so_far}
 use Rattle.tk_metrics.proofs.sums.add_resources.Given as goal
 
 -- the resources so far are added

@@ -10,4 +10,7 @@ returns c =
     (both c.in_ok-put_counts-5.ensures
     (both c.in_ok-put_counts-6.ensures
     (both c.in_ok-put_counts-7.ensures
-    c.in_ok-put_all_states.ensures)))))))
+    (both c.in_ok-put_all_states.ensures
+    (both c.in_ok-put_counts-8.ensures
+    (both c.in_ok-put_counts-9.ensures
+    c.in_ok-put_counts-10.ensures))))))))))

@@ -8,4 +8,5 @@ returns c =
     (then c.in_ok-put_facts.ensures
     (then c.in_ok-put_gone.ensures
     (then c.in_ok-put-2.ensures
-    (then c.in_ok-put_missing.ensures c.in_ok-put-3.ensures)))))
+    (then c.in_ok-put_missing.ensures
+    (then c.in_ok-put_late.ensures c.in_ok-put-3.ensures))))))

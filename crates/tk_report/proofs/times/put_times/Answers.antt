@@ -2,10 +2,4 @@ use Rattle.tk_report.proofs.PutLemmas.{both}
 use Rattle.tk_report.proofs.times.put_times.Goals as goal
 
 pub returns : goal.returns
-returns c =
-    (both c.in_ok-put_total.ensures
-    (both c.in_ok-put.ensures
-    (both c.in_ok-put_percentile.ensures
-    (both c.in_ok-put_percentile-2.ensures
-    (both c.in_ok-put_percentile-3.ensures
-    c.in_ok-put_end.ensures)))))
+returns c = both c.in_ok-put_histogram.ensures c.in_ok-put_end.ensures

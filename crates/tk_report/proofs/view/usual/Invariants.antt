@@ -1,6 +1,6 @@
 use Rattle.std.proofs.Common.{◌≡◌, take}
 use Rattle.std.specs.Prelude.{map}
-use Rattle.tk_client.specs.declared.long_polls.AnyWarning.TheVariants.{Usual}
+use Rattle.tk_client.specs.declared.any_warnings.AnyWarning.TheVariants.{Usual}
 use Rattle.tk_report.proofs.view.usual.Given as goal
 
 -- the warnings so far were added

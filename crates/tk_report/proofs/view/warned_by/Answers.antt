@@ -1,14 +1,17 @@
-use Rattle.std.proofs.Common.{◌≡◌, List, subst}
+use Rattle.std.proofs.Common.{◌≡◌, ℕ, List, Option, ap₂, subst}
 use Rattle.std.specs.Prelude.{IfOk}
-use Rattle.tk_client.specs.declared.long_polls.AnyWarning.{AnyWarning}
+use Rattle.tk_client.specs.AnyWarnings.{no_limits}
+use Rattle.tk_client.specs.declared.any_warnings.AnyWarning.{AnyWarning}
+use Rattle.tk_client.specs.declared.any_warnings.TimeLimits.{TimeLimits}
 use Rattle.tk_report.proofs.TimedLemmas.{usual_warned}
 use Rattle.tk_report.proofs.view.warned_by.Goals as goal
 
-pub returns-in-Some : goal.returns-in-Some
-returns-in-Some c = rw (← c.tables.ensures, ← c.times.ensures) c.all_warnings_in.ensures
+abbrev limits_of : Option ℕ → Option ℕ → TimeLimits
+limits_of p w = record { poll_ms = p; wait_ms = w }
 
 pub returns-in-None : goal.returns-in-None
-returns-in-None c =
+returns-in-None c = λ shown.
     let start = c.args.client.now.start in
+    let none : c.args.options.now.limits ≡ no_limits = ap₂ (λ (p w : Option ℕ). limits_of p w) c.requires c.in-None.is in
     subst (λ (warnings : List AnyWarning). IfOk c.usual_by.result (λ list. list.items ≡ warnings))
-    (usual_warned c.args.lints.now c.args.options.now start.tables start.times c.in-None.is) c.usual_by.ensures
+    (usual_warned c.args.lints.now c.args.options.now shown start.tables start.times none) c.usual_by.ensures

@@ -12,7 +12,7 @@ use crate::text::read_json::fields::{
 use crate::text::read_json::shaped::{Shaped, list_of};
 use serde_json::Value;
 use std::alloc::Global;
-use tk_core::{AttrValues, OpRow, ResourceRow, TaskRow};
+use tk_core::{AttrValues, OpRow, ResourceRow, TaskRow, WaitSoFar, Waits};
 use tk_ids::{AsyncOpId, AttrValue, ResourceId, TaskId};
 
 // A signed value: a list of one number that is read as signed.
@@ -62,17 +62,29 @@ fn values_in(alloc: Global, values: &[Value]) -> Result<AttrValues, LineError>
     Ok(AttrValues::new(list.as_slice()))
 }
 
-// How long a task waited, where its waits are counted: two numbers.
-fn waits_in(values: &[Value]) -> Option<(u64, Option<u64>)>
+// What was counted of one wait: a number below 2^56.
+fn so_far_of(value: &Value) -> Option<WaitSoFar>
+    ensures { result ≡ spec.so_far_of (view value.now) }
+{
+    WaitSoFar::new(value.as_u64()?)
+}
+
+// How long a task waited, where its waits are counted: three numbers.
+fn waits_in(values: &[Value]) -> Option<(u64, Option<Waits>)>
     ensures { result ≡ spec.waits_in (map view values.now) }
 {
     match values {
-        [sched, waited] => Some((sched.as_u64()?, Some(waited.as_u64()?))),
+        [sched, total, so_far] => {
+            let sched = sched.as_u64()?;
+            let total = total.as_u64()?;
+            let so_far = so_far_of(so_far)?;
+            Some((sched, Some(Waits { total, so_far })))
+        }
         _ => None,
     }
 }
 
-fn waits_of(value: &Value) -> Option<(u64, Option<u64>)>
+fn waits_of(value: &Value) -> Option<(u64, Option<Waits>)>
     ensures { result ≡ spec.waits_of (view value.now) }
 {
     match value {
@@ -81,7 +93,7 @@ fn waits_of(value: &Value) -> Option<(u64, Option<u64>)>
     }
 }
 
-fn waits_at(value: &Value, key: &str) -> Option<(u64, Option<u64>)>
+fn waits_at(value: &Value, key: &str) -> Option<(u64, Option<Waits>)>
     ensures { result ≡ spec.waits_at key.now (view value.now) }
 {
     waits_of(value.get(key)?)
@@ -107,7 +119,7 @@ fn stats_of(value: &Value) -> Option<(TaskId, TaskRow)>
     let last_wake = optional_at(value, "last_wake")?;
     let polling = flag_at(value, "polling")?;
     let polls = number_at(value, "polls")?;
-    let (sched, waited) = waits_at(value, "sched")?;
+    let (sched, waits) = waits_at(value, "sched")?;
     let scheduled = flag_at(value, "scheduled")?;
     let self_wakes = number_at(value, "self_wakes")?;
     let wakes = number_at(value, "wakes")?;
@@ -126,7 +138,7 @@ fn stats_of(value: &Value) -> Option<(TaskId, TaskRow)>
         drops,
         handles,
         sched,
-        waited,
+        waits,
         polling,
         scheduled,
     };

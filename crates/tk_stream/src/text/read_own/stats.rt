@@ -3,6 +3,7 @@ ghost use Rattle.std.specs.Prelude.{◌≡◌, IfSome};
 ghost use Rattle.serde_json.specs.Written.{compact_text};
 ghost use Rattle.tk_stream.specs.Pieces.{Takes};
 ghost use Rattle.tk_stream.specs.Spelling as spec;
+ghost use Rattle.tk_stream.specs.Counted.{waits_with};
 
 use crate::text::read_own::pieces::{
     op_id, optional_task_id, resource_id, take_flag, take_number, take_optional, take_signed,
@@ -10,20 +11,34 @@ use crate::text::read_own::pieces::{
 };
 use crate::text::read_own::taken::{Taken, some_of, take_list};
 use std::alloc::{AllocError, Global};
-use tk_core::{AttrValues, OpRow, ResourceRow, TaskRow};
+use tk_core::{AttrValues, OpRow, ResourceRow, TaskRow, WaitSoFar, Waits};
 use tk_ids::{AsyncOpId, AttrValue, ResourceId, TaskId};
 
-// How long a task waited: a number, or two in brackets where its waits are counted.
-fn take_waits(bytes: &[u8]) -> Option<((u64, Option<u64>), &[u8])>
-    ensures { IfSome result (λ x. Takes bytes.now (compact_text (spec.waits_data x.0.0 x.0.1)) x.1.now) }
+// How long a task waited: a number, or three in brackets where its waits are counted.
+fn take_waits(bytes: &[u8]) -> Option<((u64, Option<(u64, u64)>), &[u8])>
+    ensures { IfSome result (λ x. Takes bytes.now (compact_text (spec.waits_data x.0.0 (waits_with x.0.1))) x.1.now) }
 {
     if let Some((sched, rest)) = take_number(bytes, b"[") {
-        let (waited, rest) = take_number(rest, b",")?;
+        let (total, rest) = take_number(rest, b",")?;
+        let (so_far, rest) = take_number(rest, b",")?;
         let rest = take_text(rest, b"]")?;
-        return Some(((sched, Some(waited)), rest));
+        return Some(((sched, Some((total, so_far))), rest));
     }
     let (sched, rest) = take_number(bytes, b"")?;
     Some(((sched, None), rest))
+}
+
+// What is counted of a task's waits, by these numbers: in all, and of the wait that lasts. `None` where that is no wait.
+fn waits_of(numbers: Option<(u64, u64)>) -> Option<Option<Waits>>
+    ensures { IfSome result (λ waits. waits ≡ waits_with numbers) }
+{
+    match numbers {
+        Some((total, nanos)) => {
+            let so_far = WaitSoFar::new(nanos)?;
+            Some(Some(Waits { total, so_far }))
+        }
+        None => Some(None),
+    }
 }
 
 fn take_task_stats(bytes: &[u8]) -> Option<((TaskId, TaskRow), &[u8])>
@@ -44,7 +59,8 @@ fn take_task_stats(bytes: &[u8]) -> Option<((TaskId, TaskRow), &[u8])>
     let (polling, rest) = take_flag(rest, b",\"polling\":")?;
     let (polls, rest) = take_number(rest, b",\"polls\":")?;
     let rest = take_text(rest, b",\"sched\":")?;
-    let ((sched, waited), rest) = take_waits(rest)?;
+    let ((sched, numbers), rest) = take_waits(rest)?;
+    let waits = waits_of(numbers)?;
     let (scheduled, rest) = take_flag(rest, b",\"scheduled\":")?;
     let (self_wakes, rest) = take_number(rest, b",\"self_wakes\":")?;
     let (wakes, rest) = take_number(rest, b",\"wakes\":")?;
@@ -64,7 +80,7 @@ fn take_task_stats(bytes: &[u8]) -> Option<((TaskId, TaskRow), &[u8])>
         drops,
         handles,
         sched,
-        waited,
+        waits,
         polling,
         scheduled,
     };

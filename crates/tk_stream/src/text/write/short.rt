@@ -18,7 +18,7 @@ use tk_ids::Name;
 
 /// How many bytes most short texts have at most. Those of a line are written in one array, since a new one would be filled
 /// with zeros for each.
-pub(crate) const ROOM: usize = 1024;
+pub(crate) const ROOM: usize = 1536;
 
 // The first `K` bytes of a text, by one load and one store. `copy_from_slice` would first ask whether the two places overlap.
 #[inline(always)]

@@ -11,26 +11,27 @@ use crate::text::write::short::{
 };
 use crate::text::write::written::Written;
 use std::alloc::AllocError;
-use tk_core::{AttrValues, OpRow, ResourceRow, TaskRow};
+use tk_core::{AttrValues, OpRow, ResourceRow, TaskRow, Waits};
 use tk_ids::{AsyncOpId, AttrValue, ResourceId, TaskId};
 
-// How long a task waited: a number, or two in brackets where its waits are counted.
+// How long a task waited: a number, or three in brackets where its waits are counted.
 #[inline(always)]
 fn waits_before<const N: usize>(
     bytes: &mut [u8; N],
     at: usize,
     sched: u64,
-    waited: Option<u64>,
+    waits: Option<Waits>,
 ) -> usize
-    requires { (43 ≤ at) × (at ≤ N) }
-    ensures text { Takes (drop result bytes.new) (compact_text (spec.waits_data sched waited)) (drop at bytes.old) }
-    ensures place { (at ≤ result + 43) × (result ≤ N) }
+    requires { (64 ≤ at) × (at ≤ N) }
+    ensures text { Takes (drop result bytes.new) (compact_text (spec.waits_data sched waits)) (drop at bytes.old) }
+    ensures place { (at ≤ result + 64) × (result ≤ N) }
 {
-    match waited {
+    match waits {
         None => number_before(bytes, at, b"", sched),
-        Some(waited) => {
+        Some(waits) => {
             let end = text_before(bytes, at, b"]");
-            let at = number_before(bytes, end, b",", waited);
+            let at = number_before(bytes, end, b",", waits.so_far.nanos());
+            let at = number_before(bytes, at, b",", waits.total);
             number_before(bytes, at, b"[", sched)
         }
     }
@@ -50,7 +51,7 @@ fn write_task_stats(
     let at = number_before(scratch, at, b",\"wakes\":", row.wakes);
     let at = number_before(scratch, at, b",\"self_wakes\":", row.self_wakes);
     let at = flag_before(scratch, at, b",\"scheduled\":", row.scheduled);
-    let at = waits_before(scratch, at, row.sched, row.waited);
+    let at = waits_before(scratch, at, row.sched, row.waits);
     let at = text_before(scratch, at, b",\"sched\":");
     let at = number_before(scratch, at, b",\"polls\":", row.polls);
     let at = flag_before(scratch, at, b",\"polling\":", row.polling);

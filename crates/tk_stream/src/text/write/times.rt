@@ -1,4 +1,4 @@
-//! Histograms of poll times, written: from the last member to the first, as short texts are.
+//! Histograms of poll times and of waits, written: from the last member to the first, as short texts are.
 ghost use Rattle.std.specs.Prelude.{◌+◌, ◌≤◌, ◌++◌, false, map, drop, option_map, Some, OnOk};
 ghost use Rattle.serde_json.specs.View.{items_of};
 ghost use Rattle.serde_json.specs.Written.{compact_text, items_text, comma_if};
@@ -6,7 +6,7 @@ ghost use Rattle.tk_stream.specs.Pieces.{Puts, Takes};
 ghost use Rattle.tk_stream.specs.Spelling as spec;
 ghost use Rattle.tk_stream.specs.Times.{filled_from};
 
-use crate::tables::times::PollTimes;
+use crate::tables::times::{PollTimes, WaitTimes};
 use crate::text::write::pieces::put_text;
 use crate::text::write::short::{ROOM, comma_before, number_before, put_short, text_before};
 use crate::text::write::written::{Written, put_open};
@@ -44,6 +44,20 @@ fn buckets_before<const N: usize>(bytes: &mut [u8; N], at: usize, counts: &[u64;
     start
 }
 
+// The members of the waits, where they are counted, after another.
+fn waits_before<const N: usize>(bytes: &mut [u8; N], at: usize, waits: &Option<WaitTimes>) -> usize
+    requires { (663 ≤ at) × (at ≤ N) }
+    ensures text { Takes (drop result bytes.new) (spec.text_after (spec.waits_fields waits.now)) (drop at bytes.old) }
+    ensures place { (at ≤ result + 663) × (result ≤ N) }
+{
+    let Some(waits) = waits else {
+        return at;
+    };
+    let start = buckets_before(bytes, at, &waits.counts);
+    let start = text_before(bytes, start, b",\"waits\":[");
+    number_before(bytes, start, b",\"longest_wait\":", waits.longest)
+}
+
 fn write_task_times(
     out: &mut Vec<u8>,
     scratch: &mut [u8; ROOM],
@@ -55,6 +69,7 @@ fn write_task_times(
         (comma_if later ++ compact_text (spec.times_data (id, times.now)))) }
 {
     let at = text_before(scratch, ROOM, b"}");
+    let at = waits_before(scratch, at, &times.waits);
     let at = number_before(scratch, at, b",\"longest\":", times.longest);
     let at = number_before(scratch, at, b",\"id\":", id);
     let at = buckets_before(scratch, at, &times.counts);

@@ -17,7 +17,7 @@ warn 1.1 lost-waker
 
 // A task whose waits are counted, polled from 100 to 120, woken at 200, 260 and 290, and polled since 300.
 pub(super) const WAITED: &[u8] =
-    b"{\"dropped\":[0,0,0],\"new_ops\":[],\"new_resources\":[],\"new_tasks\":[{\"id\":1099511627777,\"kind\":\"spawn\",\"loc\":[\"script\",1,1],\"name\":\"main\"}],\"now\":300,\"op_stats\":[],\"poll_counts\":[],\"resource_stats\":[],\"seq\":1,\"snapshot\":false,\"task_stats\":[{\"busy\":20,\"clones\":0,\"created\":100,\"dropped\":null,\"drops\":0,\"first_poll\":100,\"handles\":1,\"id\":1099511627777,\"last_ended\":120,\"last_started\":300,\"last_wake\":290,\"polling\":true,\"polls\":2,\"sched\":[10,100],\"scheduled\":false,\"self_wakes\":0,\"wakes\":3}],\"v\":4}\n";
+    b"{\"dropped\":[0,0,0],\"new_ops\":[],\"new_resources\":[],\"new_tasks\":[{\"id\":1099511627777,\"kind\":\"spawn\",\"loc\":[\"script\",1,1],\"name\":\"main\"}],\"now\":300,\"op_stats\":[],\"poll_counts\":[],\"resource_stats\":[],\"seq\":1,\"snapshot\":false,\"task_stats\":[{\"busy\":20,\"clones\":0,\"created\":100,\"dropped\":null,\"drops\":0,\"first_poll\":100,\"handles\":1,\"id\":1099511627777,\"last_ended\":120,\"last_started\":300,\"last_wake\":290,\"polling\":true,\"polls\":2,\"sched\":[10,100,0],\"scheduled\":false,\"self_wakes\":0,\"wakes\":3}],\"v\":4}\n";
 
 // Its report.
 pub(super) const WAITED_REPORT: &str = "now 300 dropped 0 0 0

@@ -1,5 +1,6 @@
 use Rattle.tk_watch.specs.Watching.{Watching}
-use Rattle.tk_watch.proofs.WatchLemmas.{all_at_end, ends_all}
+use Rattle.tk_reading.proofs.ReadLemmas.{all_at_end}
+use Rattle.tk_watch.proofs.WatchLemmas.{ends_all}
 use Rattle.tk_watch.proofs.watching.at_end.Goals as goal
 
 pub returns-else-goes_on-clause-steps : goal.returns-else-goes_on-clause-steps

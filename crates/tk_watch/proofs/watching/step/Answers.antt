@@ -1,5 +1,6 @@
 use Rattle.std.proofs.Common.{rules}
-use Rattle.tk_watch.proofs.WatchLemmas.{keeps_on, reads_none}
+use Rattle.tk_reading.proofs.ReadLemmas.{reads_none}
+use Rattle.tk_watch.proofs.WatchLemmas.{keeps_on}
 use Rattle.tk_watch.proofs.watching.step.Goals as goal
 
 pub returns-in-Ok-eq0-clause-steps : goal.returns-in-Ok-eq0-clause-steps

@@ -15,8 +15,8 @@ returns-in-Some g c line =
     let i = c.args.self.now in
     let n = c.args.resource in
     let at = item_read (λ r. r.closed ≡ false) i.resources.items n c.in-Some.place c.index_mut.result.now c.in-Some.ensures.some c.index_mut.ensures.value in
-    resource_did i _ line n c.in-Some.place (said.close_resource n c.args.moment) (Close c.args.moment) (λ p stop. ⊥) c.index_mut.result.now c.close.new.self c.close.result at.0 c.in-Some.ensures.some.0 at.1 refl c.close.ensures.same c.close.ensures.did
-    (λ k p e unshut there. (ap (λ o. if_there o None) there, refl, λ why never. absurd never)) refl
+    resource_did i _ line n c.in-Some.place (said.close_resource n c.args.moment) (Close c.args.moment) (λ p. None) c.index_mut.result.now c.close.new.self c.close.result at.0 c.in-Some.ensures.some.0 at.1 refl c.close.ensures.same c.close.ensures.did
+    (λ k p e unshut there. ap (λ o. if_there o None) there) (λ k. refl) refl
 
 pub returns-in-None : goal.returns-in-None
 returns-in-None g c line = no_resource c.args.self.now line c.args.resource (said.close_resource c.args.resource c.args.moment) NoSuchItem c.in-None.ensures.none (λ k same e. ap (λ o. if_there o None) e)

@@ -1,5 +1,5 @@
 use Rattle.std.proofs.Common.{◌≡◌, ◌∷◌, ◌++◌, [], inr, refl, ap, sym, ◌∙◌, subst}
-use Rattle.tk_core.specs.Resource.{opening_row}
+use Rattle.tk_core.specs.Resource.{opening_row, IsOpening}
 use Rattle.tk_core.specs.declared.resource.call.ResourceCall.TheVariants.{Enlist}
 use Rattle.tk_events.specs.Items.{owner_view, first_values}
 use Rattle.tk_events.specs.Handles.{offers_made}
@@ -18,7 +18,7 @@ returns-in-Ok-resource g c settings k kept sent stands =
     let owner = c.in-Ok-resource.owner in
     let item = c.in_ok-item-in-Ok-resource.item in
     let kept_is = c.in_ok-item-in-Ok-resource.ensures in
-    let called = kept_is.called (opening_row c.args.created (first_values c.args.attrs)) (e.owner ∙ ap (λ a. owner_view Enlist (opening_row c.args.created (first_values a))) c.in-Ok.ensures.4) in
-    let one = resource_made i _ settings k kept sent stands e.same left c.in-Ok-resource._became e.alone c.in-Ok.spec owner item c.args.line c.args.created c.args.kind.now c.args.concrete.now c.args.attrs e.kept e.refused c.in-Ok.ensures
-    (λ n at. is_new_resource item owner.id c.args.created n c.args.attrs kept_is.id kept_is.open kept_is.user at called) e.id kept_is.ledger refl (c.push_reserved.ensures.items ∙ ap (λ l. l ++ item ∷ []) c.in_default-reserve.ensures.items) in
+    let called = kept_is.called (opening_row c.args.created (first_values c.args.attrs)) (e.owner ∙ ap (λ a. owner_view Enlist (opening_row c.args.created (first_values a))) c.in-Ok-spec_of.ensures.4) in
+    let one = resource_made i _ settings k kept sent stands e.same left c.in-Ok-resource._became e.alone c.in-Ok-spec_of.spec owner item c.args.line c.args.created c.args.kind.now c.args.concrete.now c.args.attrs e.kept e.refused c.in-Ok-spec_of.ensures
+    (λ n at. is_new_resource item owner.id c.args.created n c.args.attrs kept_is.id kept_is.open kept_is.user at (kept_is.values ∙ c.in-Ok.ensures.row) (subst (λ row. IsOpening row) (sym kept_is.values) c.in-Ok.ensures.opens) called) e.id kept_is.ledger refl (c.push_reserved.ensures.items ∙ ap (λ l. l ++ item ∷ []) c.in_default-reserve.ensures.items) in
     (unspent i.recorder settings.capacity (numbers_of k.pasts) k kept stands.offered left, one.0 ∷ [], one.1)

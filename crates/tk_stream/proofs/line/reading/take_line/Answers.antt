@@ -21,6 +21,6 @@ returns c = rw (c.of_parts.ensures, line_split) (all_taken (
     (taken c.in-Some-take_flag.ensures
     (taken (rw c.in-Some-9.is at c.in_ok-value-8.ensures)
     (taken (rw c.in-Some-10.is at c.in_ok-value-9.ensures)
-    (taken (rw (c.if-number-version.false, c.version_of-version.ensures, c.count_waits-counts.ensures) at c.in-Some-take_number-3.ensures)
+    (taken (rw (c.if-number-version.false, c.version_of-version.ensures, c.tell_waits-waits.ensures) at c.in-Some-take_number-3.ensures)
     c.in-Some-take_text.ensures))))))))))))))
     ) (nil_from_length _ (omega arith)))

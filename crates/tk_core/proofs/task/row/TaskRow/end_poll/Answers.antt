@@ -16,4 +16,4 @@ returns-then-not-self c =
 pub returns : goal.returns
 returns c =
     let live : is_some c.args.self.now.dropped ≡ false = cc in
-    follows _ _ _ (λ within. rw (live, c.if-not-self.false) (cc))
+    follows _ _ _ (λ within. rw (live, c.if-not-self.false, c.waits_at_end.ensures) (cc))

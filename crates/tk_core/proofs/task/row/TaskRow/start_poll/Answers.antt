@@ -16,4 +16,4 @@ returns-then-self c =
 pub returns : goal.returns
 returns c =
     let live : is_some c.args.self.now.dropped ≡ false = cc in
-    follows _ _ _ (λ within. rw (c.waited_until.ensures, c.saturating_add-2.ensures, c.wait_until.ensures, c.or.ensures, c.saturating_add.ensures, live, c.if-self.false))
+    follows _ _ _ (λ within. rw (c.waits_until.ensures, c.saturating_add-2.ensures, c.lasting.ensures, c.or.ensures, c.saturating_add.ensures, live, c.if-self.false))

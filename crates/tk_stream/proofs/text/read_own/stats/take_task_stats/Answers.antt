@@ -4,7 +4,7 @@ use Rattle.tk_stream.proofs.text.read_own.stats.take_task_stats.Goals as goal
 
 pub returns : goal.returns
 unfolding escape_byte
-returns c = rw c.in_ok-id.ensures
+returns c = rw (c.in_ok-id.ensures, c.in_ok-waits.ensures)
     (taken c.in_ok-busy.ensures
     (taken c.in_ok-clones.ensures
     (taken c.in_ok-created.ensures

@@ -1,8 +1,0 @@
-use Rattle.std.proofs.Common.{◌≡◌, take}
-use Rattle.std.specs.Prelude.{flat_map}
-use Rattle.tk_client.specs.LongPolls.{all_warnings_of}
-use Rattle.tk_client.proofs.long_polls.all_warnings_in.Given as goal
-
--- the warnings of the tasks so far
-abbrev pub invariant-loop-place : goal.invariant-loop-place
-invariant-loop-place l = l.list.items ≡ flat_map (all_warnings_of l.lints l.limit_ms l.tables.now l.times) (take l.place l.tables.tasks)

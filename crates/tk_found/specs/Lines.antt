@@ -1,0 +1,74 @@
+-- The lines of what is odd: a line for each finding, worst first, its words and numbers, and at the end its place.
+use Rattle.std.specs.Prelude.{ℕ, ◌+◌, List, [], ◌∷◌, ◌++◌, codes, decimal, flat_map, Bool, true, false, Option, Some, None}
+use Rattle.tk_ids.specs.Ids.{id_text}
+use Rattle.tk_report.specs.Report.{line}
+use Rattle.tk_odd.specs.declared.finding.Finding.{Finding}
+use Rattle.tk_odd.specs.declared.finding.OddKind.{OddKind}
+use Rattle.tk_odd.specs.declared.finding.OddKind.TheVariants.{HoldsUp, StandsStill, LeftAlone, Overloaded, NeverYielded, LostWaker, PassedOver, NeverPolled, LongPoll, SelfWakes}
+use Rattle.tk_odd.specs.Findings.{Placed}
+use Rattle.tk_odd.specs.Words.{advice_of, name_of}
+
+-- whether it holds at the last line
+abbrev pub when_word : Bool → List ℕ
+when_word true = codes "now"
+when_word false = codes "earlier"
+
+-- a number after its word
+abbrev pub pair : List ℕ → ℕ → List (List ℕ) → List (List ℕ)
+pair word n words = word ∷ decimal n ∷ words
+
+-- for how long, and of how many tasks
+abbrev pub lasting : Finding → List (List ℕ)
+lasting x = pair (codes "for") x.figure (pair (codes "tasks") x.tasks [])
+
+-- for how long, from when to when
+abbrev pub stretch : Finding → List (List ℕ)
+stretch x = pair (codes "for") x.figure (pair (codes "since") x.since (pair (codes "until") x.until []))
+
+-- the numbers of a finding, each after its word
+abbrev pub figures_of : OddKind → Finding → List (List ℕ)
+figures_of HoldsUp x =
+    pair (codes "held") x.figure (pair (codes "alone") x.still (pair (codes "longest") x.longest
+    (pair (codes "since") x.since (pair (codes "until") x.until (pair (codes "tasks") x.tasks [])))))
+figures_of StandsStill x = pair (codes "alone") x.figure (pair (codes "longest") x.longest [])
+figures_of LongPoll x = pair (codes "longest") x.figure []
+figures_of LeftAlone x = stretch x
+figures_of Overloaded x = stretch x
+figures_of NeverYielded x = lasting x
+figures_of LostWaker x = lasting x
+figures_of PassedOver x = lasting x
+figures_of NeverPolled x = lasting x
+figures_of SelfWakes x = pair (codes "own") x.figure (pair (codes "of") x.of (pair (codes "tasks") x.tasks []))
+
+-- the task to look at, and its place, where a finding is about tasks
+abbrev pub task_words : Option ℕ → List ℕ → List (List ℕ)
+task_words None place = []
+task_words (Some task) place = codes "task" ∷ id_text task ∷ codes "kind" ∷ place ∷ []
+
+-- the line of the finding that stands at this number
+abbrev pub finding_line : ℕ → Placed → List ℕ
+finding_line n (place, x) =
+    line (codes "finding") (decimal n ∷ name_of x.kind ∷ when_word x.is_now ∷ (figures_of x.kind x ++ task_words x.task place))
+
+-- the lines of findings, numbered from this number on
+abbrev pub lines_from : ℕ → List Placed → List ℕ
+lines_from n [] = []
+lines_from n (x ∷ xs) = finding_line n x ++ lines_from (n + 1) xs
+
+-- the lines of all findings, numbered from 1
+abbrev pub finding_lines : List Placed → List ℕ
+finding_lines list = lines_from 1 list
+
+-- ---- what there is to find
+
+-- each kind, in the order of the worst of each
+abbrev pub kinds : List OddKind
+kinds = HoldsUp ∷ StandsStill ∷ LeftAlone ∷ Overloaded ∷ LongPoll ∷ NeverYielded ∷ LostWaker ∷ PassedOver ∷ NeverPolled ∷ SelfWakes ∷ []
+
+-- the line of a kind, after two spaces: its name, and what to do
+abbrev pub kind_line : OddKind → List ℕ
+kind_line kind = codes "  " ++ (name_of kind ++ (codes ": " ++ (advice_of kind ++ 10 ∷ [])))
+
+-- the lines of all kinds
+abbrev pub kind_lines : List ℕ
+kind_lines = flat_map kind_line kinds

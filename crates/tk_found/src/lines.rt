@@ -1,0 +1,169 @@
+//! The lines of findings, each put after what is written.
+ghost use Rattle.std.specs.Prelude.{◌≡◌, ◌∷◌, ◌++◌, [], codes, decimal, map, IfOk, OnOk, string_bytes};
+ghost use Rattle.tk_ids.specs.Ids.{id_text};
+ghost use Rattle.tk_odd.specs.Findings.{placed};
+ghost use Rattle.tk_odd.specs.Words.{name_of};
+ghost use Rattle.tk_report.specs.Pieces.{Puts, spaced};
+ghost use Rattle.tk_report.specs.Report.{rest_of_line};
+ghost use Rattle.tk_found.specs.Lines as spec;
+
+use std::alloc::{AllocError, Global};
+use tk_ids::TaskId;
+use tk_odd::{Finding, Found, OddKind};
+
+fn put(out: &mut Vec<u8>, text: &[u8]) -> Result<(), AllocError>
+    ensures { OnOk result (Puts out.old.items out.new.items text.now) }
+{
+    out.extend_from_slice(text)
+}
+
+fn when_word(is_now: bool) -> &'static str
+    ensures { result.now ≡ spec.when_word is_now }
+{
+    if is_now { "now" } else { "earlier" }
+}
+
+// What stands before the numbers of a finding.
+fn head_of(alloc: Global, number: u64, finding: &Finding) -> Result<String, AllocError>
+    ensures { IfOk result (λ text. string_bytes text
+        ≡ codes "finding" ++ spaced (decimal number ∷ name_of finding.now.kind ∷ spec.when_word finding.now.is_now ∷ [])) }
+{
+    let name = finding.kind.name();
+    let when = when_word(finding.is_now);
+    format!(in alloc; "finding {number} {name} {when}")
+}
+
+fn held_words(alloc: Global, finding: &Finding) -> Result<String, AllocError>
+    ensures { IfOk result (λ text. string_bytes text ≡ spaced (spec.figures_of OddKind.HoldsUp finding.now)) }
+{
+    let Finding {
+        figure,
+        still,
+        longest,
+        since,
+        until,
+        tasks,
+        ..
+    } = *finding;
+    format!(in alloc;
+        " held {figure} alone {still} longest {longest} since {since} until {until} tasks {tasks}"
+    )
+}
+
+fn stretch_words(alloc: Global, finding: &Finding) -> Result<String, AllocError>
+    ensures { IfOk result (λ text. string_bytes text ≡ spaced (spec.stretch finding.now)) }
+{
+    let Finding {
+        figure,
+        since,
+        until,
+        ..
+    } = *finding;
+    format!(in alloc; " for {figure} since {since} until {until}")
+}
+
+fn lasting_words(alloc: Global, finding: &Finding) -> Result<String, AllocError>
+    ensures { IfOk result (λ text. string_bytes text ≡ spaced (spec.lasting finding.now)) }
+{
+    let Finding { figure, tasks, .. } = *finding;
+    format!(in alloc; " for {figure} tasks {tasks}")
+}
+
+fn still_words(alloc: Global, finding: &Finding) -> Result<String, AllocError>
+    ensures { IfOk result (λ text. string_bytes text ≡ spaced (spec.figures_of OddKind.StandsStill finding.now)) }
+{
+    let Finding {
+        figure,
+        longest,
+        ..
+    } = *finding;
+    format!(in alloc; " alone {figure} longest {longest}")
+}
+
+fn longest_word(alloc: Global, finding: &Finding) -> Result<String, AllocError>
+    ensures { IfOk result (λ text. string_bytes text ≡ spaced (spec.figures_of OddKind.LongPoll finding.now)) }
+{
+    let figure = finding.figure;
+    format!(in alloc; " longest {figure}")
+}
+
+fn wakes_words(alloc: Global, finding: &Finding) -> Result<String, AllocError>
+    ensures { IfOk result (λ text. string_bytes text ≡ spaced (spec.figures_of OddKind.SelfWakes finding.now)) }
+{
+    let Finding {
+        figure,
+        of,
+        tasks,
+        ..
+    } = *finding;
+    format!(in alloc; " own {figure} of {of} tasks {tasks}")
+}
+
+// The numbers of a finding, each after its word.
+fn figures_of(alloc: Global, finding: &Finding) -> Result<String, AllocError>
+    ensures { IfOk result (λ text. string_bytes text ≡ spaced (spec.figures_of finding.now.kind finding.now)) }
+{
+    match finding.kind {
+        OddKind::HoldsUp => held_words(alloc, finding),
+        OddKind::StandsStill => still_words(alloc, finding),
+        OddKind::LongPoll => longest_word(alloc, finding),
+        OddKind::LeftAlone => stretch_words(alloc, finding),
+        OddKind::Overloaded => stretch_words(alloc, finding),
+        OddKind::NeverYielded => lasting_words(alloc, finding),
+        OddKind::LostWaker => lasting_words(alloc, finding),
+        OddKind::PassedOver => lasting_words(alloc, finding),
+        OddKind::NeverPolled => lasting_words(alloc, finding),
+        OddKind::SelfWakes => wakes_words(alloc, finding),
+    }
+}
+
+fn task_word(alloc: Global, task: TaskId) -> Result<String, AllocError>
+    ensures { IfOk result (λ text. string_bytes text ≡ spaced (codes "task" ∷ id_text task ∷ codes "kind" ∷ [])) }
+{
+    format!(in alloc; " task {task} kind")
+}
+
+// The task to look at, and its place; and the line's end.
+fn put_task(
+    out: &mut Vec<u8>,
+    alloc: Global,
+    task: Option<TaskId>,
+    place: &[u8],
+) -> Result<(), AllocError>
+    ensures { OnOk result (Puts out.old.items out.new.items (rest_of_line (spec.task_words task place.now))) }
+{
+    if let Some(task) = task {
+        put(out, task_word(alloc, task)?.as_bytes())?;
+        put(out, b" ")?;
+        put(out, place)?;
+    }
+    put(out, b"\n")
+}
+
+fn put_finding(
+    out: &mut Vec<u8>,
+    alloc: Global,
+    number: u64,
+    found: &Found,
+) -> Result<(), AllocError>
+    ensures { OnOk result (Puts out.old.items out.new.items (spec.finding_line number (placed found.now))) }
+{
+    let Found { place, finding } = found;
+    put(out, head_of(alloc, number, finding)?.as_bytes())?;
+    put(out, figures_of(alloc, finding)?.as_bytes())?;
+    put_task(out, alloc, finding.task, place)
+}
+
+/// The lines of findings, in their order.
+pub(crate) fn put_findings(
+    out: &mut Vec<u8>,
+    alloc: Global,
+    list: &[Found],
+) -> Result<(), AllocError>
+    ensures { OnOk result (Puts out.old.items out.new.items (spec.finding_lines (map placed list.now))) }
+{
+    for (i, found) in list.iter().enumerate() {
+        put_finding(out, alloc, i as u64 + 1, found)?;
+    }
+    Ok(())
+}

@@ -1,0 +1,5 @@
+pub mod DiagnosisLemmas
+mod ShareLemmas
+pub mod ListLemmas
+pub mod LoopLemmas
+pub mod MemberLemmas

@@ -1,0 +1,22 @@
+-- What a task ran and waited between two lines
+pub mod Gains
+-- What tasks waited in a step, shared out among those that ran in it
+pub mod Sharing
+-- When one task ran, and another waited
+pub mod Apart
+-- What tasks are charged with, of what others waited
+pub mod Charging
+-- What is said of a step, besides what tasks are charged with
+pub mod Steps
+-- Which tasks are of one place
+pub mod Places
+-- Who ran or waited in a step
+pub mod Members
+-- Line by line: what the steps of a stream came to
+pub mod Diagnosis
+-- Inner: how what is kept shows what the definitions say
+pub mod Inner
+-- What is odd, worst first
+pub mod Findings
+-- What is said of what is odd, to people
+pub mod Words

@@ -1,0 +1,227 @@
+//! What a stream's steps came to, while its lines are read.
+ghost use Rattle.std.specs.Prelude.{◌≡◌, ◌≤◌, ◌^◌, ◌+◌, ◌-◌, ◌++◌, ◌∷◌, [], List, IfOk, OnOk, length};
+ghost use Rattle.tk_core.specs.Lists.{capped};
+ghost use Rattle.tk_odd.specs.Charging as charging;
+ghost use Rattle.tk_odd.specs.Diagnosis as spec;
+ghost use Rattle.tk_odd.specs.Inner as inner;
+ghost use Rattle.tk_odd.specs.Sharing as sharing;
+ghost use Rattle.tk_stream.specs.Tables.{TablesView};
+
+use crate::apart::Stretch;
+use crate::free::Free;
+use crate::limits::Limits;
+use crate::members::{Members, add_line, moved_of};
+use crate::places::{Places, Step, Totals, totals_of};
+use crate::shares::Shares;
+use crate::sharing::{all_charged, all_held, all_waited};
+use crate::step::{are_left_alone, free_after, is_overloaded, passed_over};
+use indexmap::IndexMap;
+use std::alloc::{AllocError, Global};
+use tk_series::Series;
+use tk_stream::Tables;
+
+/// What a stream's steps came to, as far as its lines were read.
+#[derive(Drop)]
+pub struct Diagnosis {
+    alloc: Global,
+    pub(crate) limits: Limits,
+    lines: u64,
+    // The tables at the begin of the step that isn't over, and those of the last line.
+    pub(crate) first: Tables,
+    before: Tables,
+    // Who ran or waited in that step.
+    members: Members,
+    pub(crate) places: Places,
+    free: Free,
+    shares: Shares,
+    pub(crate) overloaded: Option<Stretch>,
+    pub(crate) alone: Option<Stretch>,
+    // Who was passed over in the last step.
+    pub(crate) passed: Vec<u64>,
+}
+
+// What was waited in a step, shared out: what is charged, what was waited in the queue, and what is nobody's.
+fn split(step: &Step<'_>, totals: Totals) -> (u128, u128, u128)
+    requires few { length step.now.moved.now ≤ 2 ^ 31 }
+    requires ran { totals.ran ≡ sharing.all_ran step.now.moved.now }
+    requires parts { totals.parts ≡ sharing.all_parts step.now.moved.now }
+    requires most { totals.parts ≤ 2 ^ 63 }
+    ensures charged { result.0 ≡ charging.all_charged step.now.long (step.now.to - step.now.from) step.now.to step.now.moved.now }
+    ensures queued { result.1 ≡ charging.queued step.now.long (step.now.to - step.now.from) step.now.to step.now.moved.now }
+    ensures nobody { result.2 ≡ sharing.nobody step.now.moved.now }
+{
+    let time = step.to.saturating_sub(step.from);
+    let moved = step.moved;
+    let charged = all_charged(step.long, time, step.to, moved, totals.ran, totals.parts);
+    let held = all_held(moved, totals.ran, totals.parts);
+    let nobody = all_waited(moved).saturating_sub(held);
+    (charged, held.saturating_sub(charged), nobody)
+}
+
+// A sum that stays at the greatest `u64` once it is there.
+fn add_wide(sum: u64, more: u128) -> u64
+    ensures { result ≡ capped (sum + more) }
+{
+    let both = more.saturating_add(u128::from(sum));
+    both.min(u128::from(u64::MAX)) as u64
+}
+
+impl Shares {
+    // What was waited, with a step more.
+    fn with(self, parts: (u128, u128, u128)) -> Shares
+        ensures { result ≡ record { charged = capped (self.charged + parts.0); queued = capped (self.queued + parts.1); nobody = capped (self.nobody + parts.2) } }
+    {
+        let (charged, queued, nobody) = parts;
+        Shares {
+            charged: add_wide(self.charged, charged),
+            queued: add_wide(self.queued, queued),
+            nobody: add_wide(self.nobody, nobody),
+        }
+    }
+}
+
+// From the first step of a kind to the last.
+fn also(holds: bool, from: u64, to: u64, span: Option<Stretch>) -> Option<Stretch>
+    ensures { result ≡ spec.also holds from to span }
+{
+    if !holds {
+        return span;
+    }
+    let from = match span {
+        Some(first) => first.from,
+        None => from,
+    };
+    Some(Stretch { from, to })
+}
+
+impl Diagnosis {
+    // Of no lines yet.
+    fn none(alloc: Global, limits: Limits) -> Result<Diagnosis, AllocError>
+        ensures nothing { IfOk result (λ d. inner.standing_in d ≡ spec.nothing) }
+        ensures limits { IfOk result (λ d. d.limits ≡ limits) }
+    {
+        Ok(Diagnosis {
+            alloc,
+            limits,
+            lines: 0,
+            first: Tables::new(alloc)?,
+            before: Tables::new(alloc)?,
+            members: IndexMap::new(alloc),
+            places: Places {
+                held: Series::new(alloc),
+                guilty: Vec::new(alloc),
+            },
+            free: Free::none(),
+            shares: Shares {
+                charged: 0,
+                queued: 0,
+                nobody: 0,
+            },
+            overloaded: None,
+            alone: None,
+            passed: Vec::new(alloc),
+        })
+    }
+
+    /// Of no lines yet.
+    pub fn new(alloc: Global, limits: Limits) -> Result<Diagnosis, AllocError>
+        ensures nothing { IfOk result (λ d. inner.Follows [] d) }
+        ensures limits { IfOk result (λ d. d.limits ≡ limits) }
+    {
+        Diagnosis::none(alloc, limits)
+    }
+
+    // Ends the step with these tables.
+    fn end_step(&mut self, tables: &Tables) -> Result<(), AllocError>
+        ensures ends { OnOk result (inner.standing_in self.new ≡ spec.ends self.old.limits (inner.standing_in self.old) tables.now) }
+        ensures limits { self.new.limits ≡ self.old.limits }
+    {
+        let Limits { long, lints } = self.limits;
+        let wait = lints.never_yielded_ns();
+        let moved = moved_of(self.alloc, &self.members)?;
+        let (from, to) = (self.first.now(), tables.now());
+        let step = Step {
+            long,
+            from,
+            to,
+            moved: &moved,
+        };
+        let totals = totals_of(&moved);
+        self.places
+            .add_step(self.alloc, &step, self.free, totals, &self.members)?;
+        let parts = split(&step, totals);
+        let first = &self.first;
+        let over = is_overloaded(long, wait, first, &moved, totals.polls, parts.1);
+        let left = are_left_alone(long, wait, first, &moved, totals.ran);
+        let passed = passed_over(self.alloc, wait, first, &moved)?;
+        let time = to.saturating_sub(from);
+        self.free = free_after(long, time, &moved, totals.polls, self.free);
+        self.shares = self.shares.with(parts);
+        self.overloaded = also(over, from, to, self.overloaded);
+        self.alone = also(left, from, to, self.alone);
+        self.passed = passed;
+        Ok(())
+    }
+
+    // Begins a step with these tables.
+    fn begin_step(&mut self, tables: &Tables) -> Result<(), AllocError>
+        ensures begins { OnOk result (inner.standing_in self.new ≡ spec.begins (inner.standing_in self.old) tables.now) }
+        ensures limits { self.new.limits ≡ self.old.limits }
+    {
+        self.first = tables.copy()?;
+        self.members = IndexMap::new(self.alloc);
+        Ok(())
+    }
+
+    // Begins the first step with these tables.
+    fn open(&mut self, tables: &Tables) -> Result<(), AllocError>
+        ensures opens { OnOk result (inner.standing_in self.new ≡ spec.opens (inner.standing_in self.old) tables.now) }
+        ensures limits { self.new.limits ≡ self.old.limits }
+    {
+        self.lines = 1;
+        self.before = tables.copy()?;
+        self.begin_step(tables)
+    }
+
+    // Goes on with the step.
+    fn go_on(&mut self, tables: &Tables) -> Result<(), AllocError>
+        ensures goes_on { OnOk result (inner.standing_in self.new ≡ spec.goes_on (inner.standing_in self.old) tables.now) }
+        ensures limits { self.new.limits ≡ self.old.limits }
+    {
+        add_line(&mut self.members, self.alloc, &self.before, tables)?;
+        self.lines = self.lines.saturating_add(1);
+        self.before = tables.copy()?;
+        Ok(())
+    }
+
+    // Whether the step is over with these tables.
+    fn is_over(&self, tables: &Tables) -> bool
+        ensures { result ≡ spec.is_over self.now.limits (inner.standing_in self.now) tables.now }
+    {
+        self.limits.long <= tables.now().saturating_sub(self.first.now())
+    }
+
+    // Takes the tables after a line.
+    fn after_line(&mut self, tables: &Tables) -> Result<(), AllocError>
+        ensures line { OnOk result (inner.standing_in self.new ≡ spec.after_line self.old.limits (inner.standing_in self.old) tables.now) }
+        ensures limits { self.new.limits ≡ self.old.limits }
+    {
+        if self.lines == 0 {
+            return self.open(tables);
+        }
+        let over = self.is_over(tables);
+        self.go_on(tables)?;
+        if !over {
+            return Ok(());
+        }
+        self.end_step(tables)?;
+        self.begin_step(tables)
+    }
+    /// Takes the tables after a line.
+    pub fn note(&mut self, tables: &Tables) -> Result<(), AllocError>
+        ensures follows { (shown : List TablesView) → inner.Follows shown self.old → OnOk result (inner.Follows (shown ++ tables.now ∷ []) self.new) }
+        ensures limits { self.new.limits ≡ self.old.limits }
+    {
+        self.after_line(tables)
+    }
+}

@@ -1,0 +1,33 @@
+//! What is odd about a stream's tasks, once for all that show it: who holds up whom, and what nobody is to blame for.
+#![tactic(auto)]
+
+mod apart;
+mod diagnosis;
+mod finding;
+mod free;
+mod gain;
+mod held;
+pub mod laws;
+mod limits;
+mod list;
+mod members;
+mod moved;
+mod observing;
+mod place;
+mod places;
+mod shares;
+mod sharing;
+mod signs;
+mod step;
+mod words;
+
+pub use apart::Stretch;
+pub use diagnosis::Diagnosis;
+pub use finding::{Finding, Found, OddKind};
+pub use free::Free;
+pub use gain::Gain;
+pub use held::Held;
+pub use limits::Limits;
+pub use moved::Moved;
+pub use place::place_of;
+pub use shares::Shares;

@@ -1,0 +1,6 @@
+//! Streams in memory, and what is odd about them.
+
+mod examples;
+mod given;
+mod kinds;
+mod streams;

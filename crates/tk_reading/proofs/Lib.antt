@@ -1,0 +1,5 @@
+pub mod ReadLemmas
+pub mod ShownLemmas
+pub mod PieceLemmas
+pub mod StopLemmas
+pub mod FrontLemmas

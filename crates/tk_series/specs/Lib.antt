@@ -1,0 +1,4 @@
+-- What the same labels add up to
+pub mod Series
+-- What a number of the values adds up to
+pub mod Totals
