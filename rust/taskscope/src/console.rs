@@ -37,7 +37,7 @@ use std::time::Duration;
 pub struct Settings {
     /// How many new items each of the 16 recorders holds until the next line: a thread's items all go to one recorder. What
     /// finds no room is counted as dropped. Room that isn't used takes no memory, so a program that makes a million tasks at once may
-    /// have a capacity of a million. Items that are closed before the line stay in memory until then, some 500 bytes each.
+    /// have a capacity of a million. Items that are closed before the line stay in memory until then, some 600 bytes each.
     pub capacity: usize,
     /// How long after its close an item stays in the tables of the stream. `None`: for good, and so the memory of a program
     /// that goes on making items has no bound.
@@ -529,8 +529,8 @@ impl Console {
 
     /// The next line of the stream, as one that tells all, from which a new reader can begin. Nothing leaves with it.
     ///
-    /// It has some 390 bytes for each task, and as much memory is needed for it twice. The program `taskscope` takes lines of 256 MiB,
-    /// so it can't begin at one with more than some 690,000 tasks.
+    /// It has some 420 bytes for each task, and as much memory is needed for it twice. The program `taskscope` takes lines of 256 MiB,
+    /// so it can't begin at one with more than some 630,000 tasks.
     ///
     /// ```
     /// use taskscope::{Console, Settings};
