@@ -262,6 +262,10 @@ mod tests {
         }
         assert_eq!(target.wants(false), Wants::All(count), "under the number of the line that was dropped");
         target.write(b"all\n");
+        // What the reader has not taken yet may leave no room for it at once.
+        while target.hand_on() {
+            std::thread::yield_now();
+        }
         assert_eq!(target.reader.as_ref().map(|reader| reader.waiting.capacity()), Some(0), "the room is given back");
         drop(target);
         assert_eq!(read.join().expect("text").lines().count() as u64, count, "all but that one, and all");
