@@ -3,10 +3,11 @@
 #
 # Usage: tests/metrics.sh. TASKSCOPE may name another program than `./taskscope`.
 #
-# Of each example's stream, and of services at random, whose closed tasks leave, the numbers are those that
+# Of each example's stream, of services at random, whose closed tasks leave, and of random streams, the numbers are those that
 # tests/metrics/plain_metrics.py reckons, byte for byte, on the output and in a file that is kept while a stream comes, and promtool finds
 # no fault in them. A node exporter on the loopback reads
-# them from a file, a Prometheus scrapes it, and what it answers to a query is what the report says. promtool checks docs/alerts.yml.
+# them from a file, a Prometheus scrapes it, and what it answers to a query is what the report says. promtool checks docs/alerts.yml, and that of a hang
+# these alerts name the culprit.
 #
 # promtool and Prometheus are Debian's prometheus, the node exporter its prometheus-node-exporter. Where they are missing they are installed by apt-get;
 # where they can't be, that is said and their steps skipped, or with CI=true it is a failure.
@@ -110,6 +111,16 @@ are_numbers_of_service() {
         "$program" run "$work/script" > "$work/service" && are_numbers_of "$work/service"
 }
 
+# So many random streams, of which most have something odd.
+are_numbers_of_random() {
+    rm -rf "$work/random" && mkdir "$work/random" && python3 "$root/tests/odd/random_streams.py" "$1" "$2" > "$work/streams" &&
+        awk -v to="$work/random/" '$0 == "=" { stream = to (++number); next } { print > stream }' "$work/streams" || return 1
+    [ "$(ls "$work/random" | wc -l)" -eq "$2" ] || return 1
+    for stream in "$work/random"/*; do
+        are_numbers_of "$stream" || return 1
+    done
+}
+
 # No count falls from one line to the next, though tasks leave.
 never_fall() {
     { echo 'retention 3000000000' && python3 "$examples/service.py" --seed 1; } > "$work/script" &&
@@ -179,6 +190,7 @@ try_prometheus() {
         answers_with 'sum(taskscope_task_wakes_total)' "$(sum_in_report wakes)" &&
         answers_with 'sum(taskscope_tasks)' "$("$program" view "$stream" | grep -c '^task ')" &&
         answers_with 'sum(taskscope_warnings)' "$("$program" view "$stream" | grep -c '^warn ')" &&
+        answers_with 'count(taskscope_findings)' "$("$program" lint --findings "$stream" | grep -c '^finding ')" &&
         answers_with 'count(taskscope_task_polls_total)' "$("$program" view "$stream" | awk '$1 == "task" { print $NF, $3 }' | sort -u | wc -l)" &&
         answers_with 'count(taskscope_task_open_wait_seconds > 1)' "$(waiting_in_report)" &&
         answers_with 'count(taskscope_task_open_poll_seconds > 1)' 1
@@ -190,6 +202,7 @@ done
 for seed in 1 2 3 4; do
     step "a service at random, by seed $seed, its numbers" are_numbers_of_service "$seed"
 done
+step "random streams, their numbers" are_numbers_of_random 1 20
 step "no count falls while tasks leave" never_fall
 for script in "$examples"/*.script; do
     step "$(basename "$script" .script), its numbers in a file" are_kept "$script.stdout"
@@ -205,6 +218,7 @@ if package promtool prometheus && package prometheus-node-exporter prometheus-no
         step "$(basename "$script" .script), as promtool reads its numbers" promtool check metrics < "$work/numbers"
     done
     step "the alerts, as promtool reads them" promtool check rules "$root/docs/alerts.yml"
+    step "of a hang the alerts name the culprit" promtool test rules "$root/tests/metrics/alerts_test.yml"
     step "a Prometheus that scrapes a node exporter answers with the report's numbers" try_prometheus
 fi
 

@@ -5,8 +5,15 @@ Usage: plain_metrics.py STREAM [--by name|id]
 """
 import argparse
 import json
+import os
+import sys
 from collections import Counter
+from types import SimpleNamespace
 
+sys.path.insert(0, os.path.join(os.path.dirname(os.path.dirname(os.path.abspath(__file__))), "odd"))
+import plain_findings  # noqa: E402
+
+LIMITS = SimpleNamespace(long=10**8, wait=10**9, percent=50)
 MOST = 2**64 - 1
 STATES = ("idle", "scheduled", "polling", "closed")
 COUNTS = (
@@ -33,6 +40,7 @@ class Stream:
         self.tasks, self.resources, self.ops, self.polls = {}, {}, {}, {}
         self.left_tasks, self.left_resources = [], []
         self.dropped, self.now, self.lines = (0, 0, 0), 0, 0
+        self.diagnosis = plain_findings.Diagnosis(LIMITS)
 
     def take(self, line):
         before = (dict(self.tasks), dict(self.resources), dict(self.polls))
@@ -51,6 +59,10 @@ class Stream:
         tasks, resources, polls = before
         self.left_tasks += [item for id, item in tasks.items() if id not in self.tasks]
         self.left_resources += [(info, polls.get(id, (0, 0))) for id, (info, _) in resources.items() if id not in self.resources]
+        self.diagnosis.after_line(self.tables())
+
+    def tables(self):
+        return plain_findings.Tables(self.now, dict(self.tasks))
 
 
 def state_of(row):
@@ -81,10 +93,19 @@ def label(key, value):
     return key + '="' + value.replace("\\", "\\\\").replace('"', '\\"').replace("\n", "\\n") + '"'
 
 
+def id_label(number):
+    return label("id", f"{number >> 40}.{number & (2**40 - 1)}") + ","
+
+
 def labels_of(info, by):
     own = label("name", info["name"]) + "," + label("kind", info["kind"])
-    number = info["id"]
-    return label("id", f"{number >> 40}.{number & (2**40 - 1)}") + "," + own if by == "id" else own
+    return id_label(info["id"]) + own if by == "id" else own
+
+
+def finding_labels(finding, by):
+    """What it is, when and where; where tasks are shown by themselves, the task to look at before."""
+    own = [label("kind", finding.kind), label("when", "now" if finding.is_now else "earlier"), label("place", finding.place)]
+    return (id_label(finding.task) if by == "id" and finding.task is not None else "") + ",".join(own)
 
 
 def seconds(nanos):
@@ -158,6 +179,18 @@ def lines_of(stream, by):
         yield f'taskscope_dropped_events_total{{kind="{kind}"}} {number}'
     yield from head("taskscope_stream_lines_total", "counter", None, "Lines of the stream.")
     yield f"taskscope_stream_lines_total {stream.lines}"
+    yield from head("taskscope_findings", "gauge", None, "How many tasks a finding is about.")
+    findings = stream.diagnosis.findings(stream.tables())
+    for labels, number in summed((finding_labels(finding, by), max(1, finding.tasks)) for finding in findings).items():
+        yield f"taskscope_findings{{{labels}}} {number}"
+    name = "taskscope_held_up_seconds_total"
+    yield from head(name, "counter", "seconds", "How long others waited while tasks of a place ran long.")
+    for place, held in stream.diagnosis.places.items():
+        yield f"{name}{{{label('place', place)}}} {seconds(held['charged'])}"
+    name = "taskscope_waited_seconds_total"
+    yield from head(name, "counter", "seconds", "How long tasks waited for a poll, by what for.")
+    for what, share in (("long-polls", "charged"), ("queue", "queued"), ("nobody", "nobody")):
+        yield f"{name}{{{label('for', what)}}} {seconds(stream.diagnosis.shares[share])}"
     yield "# EOF"
 
 

@@ -195,6 +195,10 @@ class Step:
         passed = {x.task for x in self.passed}
         return any(self.long + less(self.all_ran, x.gain.ran) <= x.gain.waited and x.task not in passed for x in self.moved)
 
+    def shares(self):
+        held, charged = sum(map(self.held_by, self.moved)), sum(map(self.charge_of, self.moved))
+        return dict(charged=charged, queued=less(held, charged), nobody=less(sum(x.gain.waited for x in self.moved), held))
+
     def check_the_law(self):
         held, charged, waited = sum(map(self.held_by, self.moved)), sum(map(self.charge_of, self.moved)), sum(x.gain.waited for x in self.moved)
         assert charged <= held <= waited, "no more is shared out than was waited"
@@ -219,6 +223,7 @@ class Diagnosis:
         self.limits, self.lines = limits, 0
         self.first = self.before = Tables(0, {})
         self.members, self.places, self.guilty = {}, {}, set()
+        self.shares = dict(charged=0, queued=0, nobody=0)
         self.free = dict(polls=0, time=0, lull=0, longest=0)
         self.overloaded = self.alone = None
         self.passed = set()
@@ -249,6 +254,8 @@ class Diagnosis:
         for x in step.moved:
             self.hold(step, x)
         self.free = step.free_after()
+        for share, nanos in step.shares().items():
+            self.shares[share] = capped(self.shares[share] + nanos)
         if step.is_overloaded():
             self.overloaded = (self.overloaded[0] if self.overloaded else step.start, step.now)
         if step.is_left_alone():

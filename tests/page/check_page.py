@@ -6,18 +6,21 @@ Usage: check_page.py PAGE STREAM [PAGE STREAM ..]
 Of each page: the parser reports no error and every element is closed; only known elements are there, one script and one style; no
 attribute runs or loads anything; ids are distinct and each link leads to one; the policy names the sums of just this style and this
 script; the head counts what there is and what has left; each number of each row is that of its task; there is a card for each
-warning, or one for more than three of a kind, and one for the task that holds up the others.
+of the first twenty findings of tests/odd/plain_findings.py, in their order, and a banner for those that are urgent.
 
 It wants the package python3-html5lib.
 """
 import base64
 import hashlib
+import os
 import re
 import sys
-from collections import Counter
 
 import html5lib
 
+sys.path.append(os.path.join(os.path.dirname(os.path.abspath(__file__)), "..", "odd"))
+
+import plain_findings
 from stream import Tables, busy_until, waited_until
 
 ELEMENTS = set(
@@ -25,9 +28,21 @@ ELEMENTS = set(
     " path rect section small span summary svg table tbody td th thead tr ul".split()
 )
 LOADS = {"src", "style", "srcset", "action", "formaction", "xlink:href", "background", "ping"}
-KINDS = {"lost": "lost-waker", "never": "never-yielded", "self": "self-wakes"}
+CLASSES = {
+    "holds-up": "holds",
+    "stands-still": "holds",
+    "long-poll": "holds",
+    "nobody-ran": "unpolled",
+    "overloaded": "unpolled",
+    "passed-over": "unpolled",
+    "never-polled": "unpolled",
+    "never-yielded": "never",
+    "lost-waker": "lost",
+    "self-wakes": "self",
+}
+URGENT = 3
 ROWS = 200
-CARDS = 3
+CARDS = 20
 RESOURCES = 50
 
 
@@ -103,17 +118,40 @@ def check_rows(elements, tables):
     assert len(set(numbers)) == len(numbers)
 
 
-def check_cards(elements, tables):
-    warned = Counter(kind for _, kind in tables.warnings())
-    wanted = {kind: count if count <= CARDS else 1 for kind, count in warned.items()}
-    cards = Counter(KINDS[e.get("class")] for e in elements if name_of(e) == "li" and e.get("class") in KINDS)
-    assert cards == wanted, (cards, wanted)
+class Limits:
+    long, wait, percent = 10**8, 10**9, 50
 
 
-def check_holder(elements, tables):
-    links = [e.get("href") for card in elements if card.get("class") == "holds" and name_of(card) == "li" for e in card.iter() if e.get("href")]
-    holder = tables.holder()
-    assert links == ([] if holder is None else [f"#t{holder}"]), (links, holder)
+def findings_of(stream):
+    """Of each finding its kind, whether it holds now, and its task."""
+    diagnosis, tables = plain_findings.Diagnosis(Limits), plain_findings.Tables(0, {})
+    with open(stream, encoding="ascii") as file:
+        for tables in plain_findings.tables_of(line for line in file if line.endswith("\n")):
+            diagnosis.after_line(tables)
+    return [(finding.kind, finding.is_now, finding.task) for finding in diagnosis.findings(tables)]
+
+
+def links_of(element):
+    return [e.get("href") for e in element.iter() if e.get("href")]
+
+
+def link_to(task, tables):
+    return [f"#t{task}"] if task in tables.tasks else []
+
+
+def check_cards(elements, tables, findings):
+    counts = [text_of(e) for e in elements if e.get("class") == "count"]
+    assert counts == ([str(len(findings))] if findings else []), (counts, findings)
+    cards = [e for e in elements if name_of(e) == "li"]
+    said = [(e.get("class"), [text_of(small) for small in e.iter() if name_of(small) == "small"], links_of(e)) for e in cards]
+    wanted = [(CLASSES[kind], ["now" if now else "earlier"], link_to(task, tables)) for kind, now, task in findings[:CARDS]]
+    assert said == wanted, (said, wanted)
+
+
+def check_banners(elements, tables, findings):
+    banners = [links_of(e) for e in elements if name_of(e) == "p" and e.get("class") == "now"]
+    urgent = [task for kind, now, task in findings[:CARDS] if now and plain_findings.GRAVITY[kind][0] <= URGENT]
+    assert banners == ([link_to(task, tables) for task in urgent] if tables.lines else [[]]), (banners, urgent)
 
 
 def count_of(number, one):
@@ -148,8 +186,9 @@ def check(page, stream):
     check_policy(elements)
     check_closed(text)
     check_rows(elements, tables)
-    check_cards(elements, tables)
-    check_holder(elements, tables)
+    findings = findings_of(stream)
+    check_cards(elements, tables, findings)
+    check_banners(elements, tables, findings)
     check_head(elements, tables)
     check_polls(elements, tables)
 

@@ -6,15 +6,20 @@
     check_frames.py rising STREAM FRAMES              each screen is of a line after that of the one before, and the last of all lines
     check_frames.py last STREAM FRAMES LINES          the last screen is of so many lines
     check_frames.py terminal STREAM SCREEN COLUMNS LINES   a terminal of this size shows the screen of all lines, cut to it
-    check_frames.py keyed STREAM SCREEN COLUMN        a terminal shows all lines, its tasks sorted by a key
+    check_frames.py keyed STREAM SCREEN COLUMN COLUMNS LINES   it shows all lines, its tasks sorted by a key
+    check_frames.py odd STREAM FRAMES                 the last screen tells what is odd about all lines
+
+Each but `some` looks at what a screen tells of findings, too: tests/odd/plain_findings.py reckons these.
 """
 
 import os
 import sys
 import tempfile
 
-sys.path.insert(0, os.path.join(os.path.dirname(os.path.abspath(__file__)), "..", "page"))
+for folder in ("page", "odd"):
+    sys.path.insert(0, os.path.join(os.path.dirname(os.path.abspath(__file__)), "..", folder))
 sys.dont_write_bytecode = True
+from plain_findings import Diagnosis, tables_of, waits, waits_for
 from stream import Tables, busy_until, waited_until
 
 COLUMNS = {
@@ -49,15 +54,102 @@ def state(row):
     return "polling" if row["polling"] else "scheduled" if row["scheduled"] else "idle"
 
 
-def head(tables):
+# ---- what is odd
+
+
+class Limits:
+    long, wait, percent = 10**8, 10**9, 50
+
+
+# What is said where it holds now, and where it held earlier.
+SAID = {
+    "holds-up": ("holds up the others", "held up the others"),
+    "stands-still": ("runs while all others stand still", "ran while all others stood still"),
+    "nobody-ran": ("wait, and hardly any task runs", "waited, and hardly any task ran"),
+    "overloaded": ("wait long in the queue", "waited long in the queue"),
+    "never-yielded": ("has never yielded", "had not yielded"),
+    "lost-waker": ("can be woken by nobody", "could be woken by nobody"),
+    "passed-over": ("is passed over", "was passed over"),
+    "never-polled": ("was never polled", "had not been polled"),
+    "long-poll": ("is in a long poll", "had a long poll"),
+    "self-wakes": ("wakes itself", "woke itself"),
+}
+BEFORE_FIGURES = {"holds-up": "who waited at least", "stands-still": "at least", "long-poll": "at least"}
+
+
+def line_of(number, finding, tasks):
+    info, _ = tasks.get(finding.task, (None, None))
+    if info is not None:
+        who, made = f"{info['name']} {id_text(finding.task)}", ", {}:{}:{}".format(*info["loc"])
+    else:
+        who, made = finding.place or "tasks", ""
+    if finding.kind == "self-wakes":
+        figure = f"{100 * finding.figure // finding.of}% of its wakes"
+    else:
+        figure = f"{BEFORE_FIGURES.get(finding.kind, 'for')} {duration(finding.figure)}"
+    when, said = ("NOW", SAID[finding.kind][0]) if finding.is_now else ("earlier", SAID[finding.kind][1])
+    return f"{number:>2} {when:<7} {who} {said}, {figure} ({finding.kind}{made})"
+
+
+def calm(findings, tables, span):
+    """What is said where no finding holds now."""
+    if span is None:
+        return "no line came: nothing is known of any task"
+    if span < Limits.long:
+        return f"no finding now; who holds up others can't be seen: the lines span {duration(span)}, and it takes at least {duration(Limits.long)}"
+    times = [waits_for(row, tables.now) for info, row in tables.tasks.values() if info["kind"] == "spawn" and waits(row)]
+    longest = f", the longest for {duration(max(times))}" if times else ""
+    return f"no finding now{'' if findings else ' or earlier'}: {len(times)} {'task waits' if len(times) == 1 else 'tasks wait'}{longest}"
+
+
+class Odd:
+    """What is odd about the first lines of a stream."""
+
+    def __init__(self, findings, tables, span):
+        self.findings, self.tables, self.span = findings, tables, span
+
+    def lines(self, rows=24):
+        """What a screen of so many rows tells of it."""
+        most = rows // 3
+        lines = [] if any(finding.is_now for finding in self.findings) else [calm(self.findings, self.tables, self.span)]
+        lines += [line_of(number, finding, self.tables.tasks) for number, finding in enumerate(self.findings[:most], 1)]
+        more = len(self.findings) - most
+        return [*lines, f".. and {more} more"] if more > 0 else lines
+
+
+def odd_after_each(stream, count=None):
+    """What is odd after each line of a stream, or of so many of its lines."""
+    diagnosis, first = Diagnosis(Limits), None
+    with open(stream, encoding="ascii") as file:
+        for tables in tables_of(file.readlines()[:count]):
+            diagnosis.after_line(tables)
+            first = tables.now if first is None else first
+            yield Odd(diagnosis.findings(tables), tables, tables.now - first)
+
+
+def odd_about(stream, count=None):
+    *_, last = odd_after_each(stream, count)
+    return last
+
+
+# ---- screens
+
+
+def head(tables, odd):
     """The first line of a screen."""
     states = [state(task["row"]) for task in tables.tasks.values()]
     counts = ", ".join(f"{states.count(name)} {name}" for name in ("polling", "scheduled", "idle", "closed"))
-    line = f"now {duration(tables.now)}  tasks {len(states)}: {counts}  warnings {len(list(tables.warnings()))}"
+    line = f"now {duration(tables.now)}  tasks {len(states)}: {counts}  findings {len(odd.findings)}"
     lost = tables.dropped
     if any(lost):
         line += f"  lost events of {lost[0]} tasks, {lost[1]} resources, {lost[2]} operations"
     return line
+
+
+def told(lines):
+    """What a screen tells between its first line and its tasks."""
+    end = next((place for place, line in enumerate(lines) if line.startswith("   TASK STATE")), len(lines))
+    return lines[1:end]
 
 
 def tasks_of(tables, column="busy", text=""):
@@ -88,11 +180,21 @@ def same(found, wanted):
         sys.exit(f"found {found}\nwanted {wanted}")
 
 
+def check_top(frame, tables, odd):
+    """The part of a screen that stands above its tasks, as text."""
+    same(frame[0], head(tables, odd))
+    same(told(frame), odd.lines())
+
+
 def check_sorted(stream, path, column):
     tables = Tables(stream)
     last = frames(path)[-1]
-    same(last[0], head(tables))
+    check_top(last, tables, odd_about(stream))
     same(shown_tasks(last), tasks_of(tables, column)[:50])
+
+
+def check_odd(stream, path):
+    check_top(frames(path)[-1], Tables(stream), odd_about(stream))
 
 
 def check_some(stream, path, text, rows):
@@ -100,48 +202,52 @@ def check_some(stream, path, text, rows):
 
 
 def check_rising(stream, path):
-    with open(stream, encoding="ascii") as file:
-        count = len(file.readlines())
-    heads = [head(part_of(stream, lines)) for lines in range(1, count + 1)]
+    tops = [[head(part_of(stream, lines), odd), *odd.lines()] for lines, odd in enumerate(odd_after_each(stream), 1)]
     place = -1
-    found = frames(path)
-    for frame in found:
-        if frame[0] not in heads[place + 1 :]:
-            sys.exit(f"not of a line after the one before: {frame[0]}")
-        place = heads.index(frame[0], place + 1)
-    same(place, count - 1)
+    for frame in frames(path):
+        top = [frame[0], *told(frame)]
+        if top not in tops[place + 1 :]:
+            sys.exit(f"not of a line after the one before: {top}")
+        place = tops.index(top, place + 1)
+    same(place, len(tops) - 1)
 
 
 def check_last(stream, path, count):
     tables = part_of(stream, int(count))
     last = frames(path)[-1]
-    same(last[0], head(tables))
+    check_top(last, tables, odd_about(stream, int(count)))
     same(shown_tasks(last), tasks_of(tables)[:20])
 
 
+def cut(lines, columns):
+    return [line[:columns].rstrip() for line in lines]
+
+
 def check_terminal(stream, path, columns, lines):
-    tables = Tables(stream)
+    tables, odd = Tables(stream), odd_about(stream)
     with open(path, encoding="ascii") as file:
         screen = file.read().split("\n")
-    same(screen[0], head(tables)[: int(columns)].rstrip())
     end = next(place for place, line in enumerate(screen) if line.startswith("ended"))
     if end > int(lines) - 1:
         sys.exit(f"the screen has {end} lines")
     if any(len(line) > int(columns) for line in screen):
         sys.exit("a line is longer than the terminal")
+    top = cut([head(tables, odd), *odd.lines(int(lines))], int(columns))[:end]
+    same(screen[: len(top)], top)
     shown = shown_tasks(screen[:end]) if any(line.startswith("   TASK") for line in screen) else []
     same(shown, tasks_of(tables)[: len(shown)])
 
 
-def check_keyed(stream, path, column):
-    tables = Tables(stream)
+def check_keyed(stream, path, column, columns, lines):
+    tables, odd = Tables(stream), odd_about(stream)
     with open(path, encoding="ascii") as file:
         screen = [line.removeprefix(">") for line in file.read().split("\n")]
-    same(screen[:2], [f"sorted by {column}  ? shows the keys", head(tables)])
+    top = cut([f"sorted by {column}  ? shows the keys", head(tables, odd), *odd.lines(int(lines))], int(columns))
+    same(screen[: len(top)], top)
     same(shown_tasks(screen), tasks_of(tables, column)[:20])
 
 
-CHECKS = {"keyed": check_keyed, "sorted": check_sorted, "some": check_some, "rising": check_rising, "last": check_last, "terminal": check_terminal}
+CHECKS = {"keyed": check_keyed, "odd": check_odd, "sorted": check_sorted, "some": check_some, "rising": check_rising, "last": check_last, "terminal": check_terminal}
 
 if len(sys.argv) < 4 or sys.argv[1] not in CHECKS:
     sys.exit(__doc__)

@@ -142,8 +142,8 @@ pub(crate) const WATCH_LONG_ABOUT: &str =
 
   service | taskscope watch
 
-A screen tells how many tasks are in each state, what is odd and what to do about it (`taskscope lint --help`
-explains the warnings), and shows the open tasks of most in a column, with where each was spawned.
+A screen tells how many tasks are in each state and what is odd about them, worst first (`taskscope lint --help`
+explains the findings), and shows the open tasks of most in a column, with where each was spawned.
 docs/FORMATS.md explains the lines.
 
 On a terminal a screen is drawn over the one before, and cut to the terminal's size, or to COLUMNS by LINES if they
@@ -176,6 +176,7 @@ pub(crate) const METRICS_LONG_ABOUT: &str =
 Counts and times of tasks are sums over those of one name and kind. With tasks that left the stream, each sum
 keeps what they had come to. With `--by id` each task has numbers of its own, as long as it hasn't left.
 While one task holds the thread no count moves: gauges say how long the longest poll and the longest wait have lasted.
+Findings tell who holds up whom, with the limits that `taskscope lint --findings` has where none is set.
 `taskscope lint --help` explains the warnings, docs/FORMATS.md the families, and docs/alerts.yml has alerts to copy.
 
 With `--to` the numbers are kept in a file while the stream comes, and nothing is written to standard output. The

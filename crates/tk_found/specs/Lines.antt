@@ -6,7 +6,9 @@ use Rattle.tk_odd.specs.declared.finding.Finding.{Finding}
 use Rattle.tk_odd.specs.declared.finding.OddKind.{OddKind}
 use Rattle.tk_odd.specs.declared.finding.OddKind.TheVariants.{HoldsUp, StandsStill, LeftAlone, Overloaded, NeverYielded, LostWaker, PassedOver, NeverPolled, LongPoll, SelfWakes}
 use Rattle.tk_odd.specs.Findings.{Placed}
-use Rattle.tk_odd.specs.Words.{advice_of, name_of}
+use Rattle.tk_odd.specs.Words.{advice_of, name_of, shape_of}
+use Rattle.tk_odd.specs.declared.words.Shape.{Shape}
+use Rattle.tk_odd.specs.declared.words.Shape.TheVariants.{Held, Alone, Stretch, Lasting, Longest, Share}
 
 -- whether it holds at the last line
 abbrev pub when_word : Bool → List ℕ
@@ -17,28 +19,16 @@ when_word false = codes "earlier"
 abbrev pub pair : List ℕ → ℕ → List (List ℕ) → List (List ℕ)
 pair word n words = word ∷ decimal n ∷ words
 
--- for how long, and of how many tasks
-abbrev pub lasting : Finding → List (List ℕ)
-lasting x = pair (codes "for") x.figure (pair (codes "tasks") x.tasks [])
-
--- for how long, from when to when
-abbrev pub stretch : Finding → List (List ℕ)
-stretch x = pair (codes "for") x.figure (pair (codes "since") x.since (pair (codes "until") x.until []))
-
 -- the numbers of a finding, each after its word
-abbrev pub figures_of : OddKind → Finding → List (List ℕ)
-figures_of HoldsUp x =
+abbrev pub figures_of : Shape → Finding → List (List ℕ)
+figures_of Held x =
     pair (codes "held") x.figure (pair (codes "alone") x.still (pair (codes "longest") x.longest
     (pair (codes "since") x.since (pair (codes "until") x.until (pair (codes "tasks") x.tasks [])))))
-figures_of StandsStill x = pair (codes "alone") x.figure (pair (codes "longest") x.longest [])
-figures_of LongPoll x = pair (codes "longest") x.figure []
-figures_of LeftAlone x = stretch x
-figures_of Overloaded x = stretch x
-figures_of NeverYielded x = lasting x
-figures_of LostWaker x = lasting x
-figures_of PassedOver x = lasting x
-figures_of NeverPolled x = lasting x
-figures_of SelfWakes x = pair (codes "own") x.figure (pair (codes "of") x.of (pair (codes "tasks") x.tasks []))
+figures_of Alone x = pair (codes "alone") x.figure (pair (codes "longest") x.longest [])
+figures_of Stretch x = pair (codes "for") x.figure (pair (codes "since") x.since (pair (codes "until") x.until []))
+figures_of Lasting x = pair (codes "for") x.figure (pair (codes "tasks") x.tasks [])
+figures_of Longest x = pair (codes "longest") x.figure []
+figures_of Share x = pair (codes "own") x.figure (pair (codes "of") x.of (pair (codes "tasks") x.tasks []))
 
 -- the task to look at, and its place, where a finding is about tasks
 abbrev pub task_words : Option ℕ → List ℕ → List (List ℕ)
@@ -48,7 +38,7 @@ task_words (Some task) place = codes "task" ∷ id_text task ∷ codes "kind" �
 -- the line of the finding that stands at this number
 abbrev pub finding_line : ℕ → Placed → List ℕ
 finding_line n (place, x) =
-    line (codes "finding") (decimal n ∷ name_of x.kind ∷ when_word x.is_now ∷ (figures_of x.kind x ++ task_words x.task place))
+    line (codes "finding") (decimal n ∷ name_of x.kind ∷ when_word x.is_now ∷ (figures_of (shape_of x.kind) x ++ task_words x.task place))
 
 -- the lines of findings, numbered from this number on
 abbrev pub lines_from : ℕ → List Placed → List ℕ

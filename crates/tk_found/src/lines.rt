@@ -2,14 +2,14 @@
 ghost use Rattle.std.specs.Prelude.{◌≡◌, ◌∷◌, ◌++◌, [], codes, decimal, map, IfOk, OnOk, string_bytes};
 ghost use Rattle.tk_ids.specs.Ids.{id_text};
 ghost use Rattle.tk_odd.specs.Findings.{placed};
-ghost use Rattle.tk_odd.specs.Words.{name_of};
+ghost use Rattle.tk_odd.specs.Words.{name_of, shape_of};
 ghost use Rattle.tk_report.specs.Pieces.{Puts, spaced};
 ghost use Rattle.tk_report.specs.Report.{rest_of_line};
 ghost use Rattle.tk_found.specs.Lines as spec;
 
 use std::alloc::{AllocError, Global};
 use tk_ids::TaskId;
-use tk_odd::{Finding, Found, OddKind};
+use tk_odd::{Finding, Found, Shape};
 
 fn put(out: &mut Vec<u8>, text: &[u8]) -> Result<(), AllocError>
     ensures { OnOk result (Puts out.old.items out.new.items text.now) }
@@ -34,7 +34,7 @@ fn head_of(alloc: Global, number: u64, finding: &Finding) -> Result<String, Allo
 }
 
 fn held_words(alloc: Global, finding: &Finding) -> Result<String, AllocError>
-    ensures { IfOk result (λ text. string_bytes text ≡ spaced (spec.figures_of OddKind.HoldsUp finding.now)) }
+    ensures { IfOk result (λ text. string_bytes text ≡ spaced (spec.figures_of Shape.Held finding.now)) }
 {
     let Finding {
         figure,
@@ -51,7 +51,7 @@ fn held_words(alloc: Global, finding: &Finding) -> Result<String, AllocError>
 }
 
 fn stretch_words(alloc: Global, finding: &Finding) -> Result<String, AllocError>
-    ensures { IfOk result (λ text. string_bytes text ≡ spaced (spec.stretch finding.now)) }
+    ensures { IfOk result (λ text. string_bytes text ≡ spaced (spec.figures_of Shape.Stretch finding.now)) }
 {
     let Finding {
         figure,
@@ -63,14 +63,14 @@ fn stretch_words(alloc: Global, finding: &Finding) -> Result<String, AllocError>
 }
 
 fn lasting_words(alloc: Global, finding: &Finding) -> Result<String, AllocError>
-    ensures { IfOk result (λ text. string_bytes text ≡ spaced (spec.lasting finding.now)) }
+    ensures { IfOk result (λ text. string_bytes text ≡ spaced (spec.figures_of Shape.Lasting finding.now)) }
 {
     let Finding { figure, tasks, .. } = *finding;
     format!(in alloc; " for {figure} tasks {tasks}")
 }
 
 fn still_words(alloc: Global, finding: &Finding) -> Result<String, AllocError>
-    ensures { IfOk result (λ text. string_bytes text ≡ spaced (spec.figures_of OddKind.StandsStill finding.now)) }
+    ensures { IfOk result (λ text. string_bytes text ≡ spaced (spec.figures_of Shape.Alone finding.now)) }
 {
     let Finding {
         figure,
@@ -81,14 +81,14 @@ fn still_words(alloc: Global, finding: &Finding) -> Result<String, AllocError>
 }
 
 fn longest_word(alloc: Global, finding: &Finding) -> Result<String, AllocError>
-    ensures { IfOk result (λ text. string_bytes text ≡ spaced (spec.figures_of OddKind.LongPoll finding.now)) }
+    ensures { IfOk result (λ text. string_bytes text ≡ spaced (spec.figures_of Shape.Longest finding.now)) }
 {
     let figure = finding.figure;
     format!(in alloc; " longest {figure}")
 }
 
 fn wakes_words(alloc: Global, finding: &Finding) -> Result<String, AllocError>
-    ensures { IfOk result (λ text. string_bytes text ≡ spaced (spec.figures_of OddKind.SelfWakes finding.now)) }
+    ensures { IfOk result (λ text. string_bytes text ≡ spaced (spec.figures_of Shape.Share finding.now)) }
 {
     let Finding {
         figure,
@@ -101,19 +101,15 @@ fn wakes_words(alloc: Global, finding: &Finding) -> Result<String, AllocError>
 
 // The numbers of a finding, each after its word.
 fn figures_of(alloc: Global, finding: &Finding) -> Result<String, AllocError>
-    ensures { IfOk result (λ text. string_bytes text ≡ spaced (spec.figures_of finding.now.kind finding.now)) }
+    ensures { IfOk result (λ text. string_bytes text ≡ spaced (spec.figures_of (shape_of finding.now.kind) finding.now)) }
 {
-    match finding.kind {
-        OddKind::HoldsUp => held_words(alloc, finding),
-        OddKind::StandsStill => still_words(alloc, finding),
-        OddKind::LongPoll => longest_word(alloc, finding),
-        OddKind::LeftAlone => stretch_words(alloc, finding),
-        OddKind::Overloaded => stretch_words(alloc, finding),
-        OddKind::NeverYielded => lasting_words(alloc, finding),
-        OddKind::LostWaker => lasting_words(alloc, finding),
-        OddKind::PassedOver => lasting_words(alloc, finding),
-        OddKind::NeverPolled => lasting_words(alloc, finding),
-        OddKind::SelfWakes => wakes_words(alloc, finding),
+    match finding.kind.shape() {
+        Shape::Held => held_words(alloc, finding),
+        Shape::Alone => still_words(alloc, finding),
+        Shape::Stretch => stretch_words(alloc, finding),
+        Shape::Lasting => lasting_words(alloc, finding),
+        Shape::Longest => longest_word(alloc, finding),
+        Shape::Share => wakes_words(alloc, finding),
     }
 }
 

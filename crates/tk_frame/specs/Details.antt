@@ -1,18 +1,17 @@
 -- All that is told of one task.
-use Rattle.std.specs.Prelude.{◌==◌, ◌-◌, ℕ, List, [], ◌∷◌, ◌++◌, flat_map, codes, decimal, Option, Some, None, if◌then◌else◌}
+use Rattle.std.specs.Prelude.{◌-◌, ℕ, List, [], ◌∷◌, ◌++◌, codes, decimal, Option, Some, None}
 use Rattle.std.specs.Option.{option_map_or}
 use Rattle.tk_ids.specs.Ids.{id_text}
 use Rattle.tk_core.specs.declared.task.row.TaskRow.{TaskRow}
 use Rattle.tk_stream.specs.declared.tables.task.Task.{Task}
 use Rattle.tk_stream.specs.Tables.{TablesView, task_with}
-use Rattle.tk_client.specs.declared.warning.Warning.{Warning}
 use Rattle.tk_stream.specs.Spelling.{kind_text}
 use Rattle.tk_report.specs.Report.{task_state}
 use Rattle.tk_screen.specs.Screens.{LineView}
 use Rattle.tk_screen.specs.Texts.{duration_text, share_text}
 use Rattle.tk_core.specs.Lasting.{busy_until, sched_until}
+use Rattle.tk_frame.specs.Findings.{OddView, owns_part}
 use Rattle.tk_frame.specs.Lines.{heading, location_text, plain, word}
-use Rattle.tk_frame.specs.Frames.{warning_lines}
 
 -- a line: what it tells, and its value
 abbrev pub field : List ℕ → List ℕ → LineView
@@ -55,22 +54,18 @@ life_part now x = field (codes "clones") (decimal x.clones)
     ∷ field (codes "created") (ago_text now (Some x.created))
     ∷ field (codes "closed") (ago_text now x.dropped) ∷ []
 
--- the lines of a warning, where it is about the task of this id
-abbrev pub own_lines : TablesView → ℕ → Warning → List LineView
-own_lines tables id w = if w.task == id then warning_lines tables w else []
-
 -- what was told of a task once, and all its statistics
 abbrev pub task_part : ℕ → Task → List LineView
 task_part now t = info_part t ++ (polls_part now t.row ++ (wakes_part now t.row ++ life_part now t.row))
 
--- all that is told of a task: this, and the warnings about it
-abbrev pub details_of : TablesView → List Warning → Task → List LineView
-details_of tables warnings t = task_part tables.now t ++ flat_map (own_lines tables t.info.id) warnings
+-- all that is told of a task: this, and the findings about its place
+abbrev pub details_of : TablesView → OddView → Task → List LineView
+details_of tables odd t = task_part tables.now t ++ owns_part tables.tasks t odd
 
 -- a task that isn't there any more
 abbrev pub gone_part : ℕ → List LineView
 gone_part id = heading (codes "TASK " ++ id_text id) ∷ plain (codes "it has left the stream") ∷ []
 
 -- all that is told of the task of an id
-abbrev pub details_at : ℕ → TablesView → List Warning → List LineView
-details_at id tables warnings = option_map_or (details_of tables warnings) (task_with id tables.tasks) (gone_part id)
+abbrev pub details_at : ℕ → TablesView → OddView → List LineView
+details_at id tables odd = option_map_or (details_of tables odd) (task_with id tables.tasks) (gone_part id)

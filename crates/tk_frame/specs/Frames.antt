@@ -1,31 +1,18 @@
 -- The lines of a screen.
-use Rattle.std.specs.Prelude.{◌-◌, ℕ, List, [], ◌∷◌, ◌++◌, length, take, slice_get, flat_map, nat_lt, codes, decimal, if◌then◌else◌}
+use Rattle.std.specs.Prelude.{ℕ, List, [], ◌∷◌, ◌++◌, length, slice_get, flat_map, if◌then◌else◌}
 use Rattle.std.specs.Option.{option_map_or}
 use Rattle.tk_stream.specs.declared.tables.task.Task.{Task}
 use Rattle.tk_stream.specs.declared.tables.resource.Resource.{Resource}
 use Rattle.tk_stream.specs.declared.tables.op.Op.{Op}
-use Rattle.tk_stream.specs.Tables.{TablesView, counts_of, task_with}
-use Rattle.tk_client.specs.declared.warning.Warning.{Warning}
-use Rattle.tk_client.specs.Warnings.{LintsView, warnings_in}
+use Rattle.tk_stream.specs.Tables.{TablesView, counts_of}
 use Rattle.tk_screen.specs.Screens.{LineView, screen_text}
 use Rattle.tk_screen.specs.declared.canvas.Canvas.{Canvas}
 use Rattle.tk_screen.specs.declared.top.Ranked.{Ranked}
-use Rattle.tk_frame.specs.Lines.{head_text, heading, op_heading, op_text, plain, resource_heading, resource_text, task_heading, task_text, warned, warning_of}
+use Rattle.tk_frame.specs.Findings.{OddView, findings_part}
+use Rattle.tk_frame.specs.Lines.{head_text, heading, op_heading, op_text, plain, resource_heading, resource_text, task_heading, task_text}
 use Rattle.tk_frame.specs.Queries.{top_ops, top_resources, top_tasks}
 use Rattle.tk_frame.specs.States.{states_of}
 use Rattle.tk_frame.specs.declared.query.Query.{Query}
-
--- the lines of a warning about a task of the tables
-abbrev pub warning_lines : TablesView → Warning → List LineView
-warning_lines tables w = option_map_or (λ (t : Task). warning_of tables.now t w.kind) (task_with w.task tables.tasks) []
-
--- how many warnings there are that aren't shown, if any
-abbrev pub more_warnings : ℕ → List LineView
-more_warnings n = if nat_lt 4 n then warned (codes "and " ++ (decimal (n - 4) ++ codes " warnings more")) ∷ [] else []
-
--- the first four warnings, and how many more there are
-abbrev pub warnings_part : TablesView → List Warning → List LineView
-warnings_part tables warnings = flat_map (warning_lines tables) (take 4 warnings) ++ more_warnings (length warnings)
 
 -- the line of the task at a place
 abbrev pub task_at : TablesView → Ranked → List LineView
@@ -53,11 +40,11 @@ ops_part rows tables = heading op_heading ∷ flat_map (op_at tables) (top_ops r
 abbrev pub items_part : Query → TablesView → List LineView
 items_part query tables = if query.resources then resources_part query.rows tables ++ ops_part query.rows tables else []
 
--- the lines of a screen of tables with these warnings: the first line; warnings; tasks; resources and async operations
-abbrev pub frame_of : Query → TablesView → List Warning → List LineView
-frame_of query tables warnings =
-    plain (head_text tables (states_of tables.tasks) (length warnings)) ∷ (warnings_part tables warnings ++ (tasks_part query tables ++ items_part query tables))
+-- the lines of a screen of tables of which this is odd: the first line; findings; tasks; resources and async operations
+abbrev pub frame_of : Canvas → Query → TablesView → OddView → List LineView
+frame_of canvas query tables odd =
+    plain (head_text tables (states_of tables.tasks) (length odd.findings)) ∷ (findings_part canvas tables odd ++ (tasks_part query tables ++ items_part query tables))
 
 -- the screen of tables, as it is written
-abbrev pub frame_text : Canvas → Query → LintsView → TablesView → List ℕ
-frame_text canvas query lints tables = screen_text canvas (frame_of query tables (warnings_in lints tables))
+abbrev pub frame_text : Canvas → Query → OddView → TablesView → List ℕ
+frame_text canvas query odd tables = screen_text canvas (frame_of canvas query tables odd)

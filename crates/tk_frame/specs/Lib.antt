@@ -1,10 +1,13 @@
--- How long tasks and operations have run and waited up to a moment
 -- Which items are shown, and in which order
 pub mod Queries
 -- How many tasks there are in each state
 pub mod States
--- The lines that tell of tasks, resources, operations and warnings
+-- Which tasks wait
+pub mod Waiting
+-- The lines that tell of tasks, resources and operations
 pub mod Lines
+-- The lines that tell what is odd
+pub mod Findings
 -- The lines of a screen
 pub mod Frames
 -- Inner: no public clause cites these

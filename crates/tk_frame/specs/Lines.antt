@@ -1,4 +1,4 @@
--- The lines that tell of tasks, of warnings about them, and of resources and async operations.
+-- The lines that tell of tasks, and of resources and async operations.
 use Rattle.std.specs.Prelude.{◌==◌, ◌&&◌, ℕ, List, [], ◌∷◌, ◌++◌, length, codes, decimal, if◌then◌else◌}
 use Rattle.tk_ids.specs.Ids.{id_text}
 use Rattle.tk_ids.specs.declared.info.Dropped.{Dropped}
@@ -8,10 +8,8 @@ use Rattle.tk_stream.specs.declared.tables.task.Task.{Task}
 use Rattle.tk_stream.specs.declared.tables.resource.Resource.{Resource}
 use Rattle.tk_stream.specs.declared.tables.op.Op.{Op}
 use Rattle.tk_stream.specs.Tables.{TablesView}
-use Rattle.tk_client.specs.declared.warning.WarningKind.{WarningKind}
-use Rattle.tk_client.specs.declared.warning.WarningKind.TheVariants.{SelfWakes, LostWaker, NeverYielded}
 use Rattle.tk_stream.specs.Spelling.{kind_text}
-use Rattle.tk_report.specs.Report.{op_state, polled_by, run_time, task_state}
+use Rattle.tk_report.specs.Report.{op_state, polled_by, task_state}
 use Rattle.tk_screen.specs.Screens.{LineView}
 use Rattle.tk_screen.specs.Texts.{duration_text, share_text, left, right}
 use Rattle.tk_screen.specs.declared.canvas.Style.TheVariants as styles
@@ -55,37 +53,11 @@ lost_text d =
     if (d.tasks == 0) && ((d.resources == 0) && (d.ops == 0)) then [] else
     codes "  lost events of " ++ (decimal d.tasks ++ (codes " tasks, " ++ (decimal d.resources ++ (codes " resources, " ++ (decimal d.ops ++ codes " operations")))))
 
--- the moment, the tasks by their states, how many warnings there are, and what was lost
+-- the moment, the tasks by their states, how many findings there are, and what was lost
 abbrev pub head_text : TablesView → States → ℕ → List ℕ
-head_text tables states warnings =
+head_text tables states findings =
     codes "now " ++ (duration_text tables.now ++ (states_text (length tables.tasks) states
-    ++ ((codes "  warnings " ++ decimal warnings) ++ lost_text tables.dropped)))
-
--- ---- warnings
-
--- what is odd about a task of this row, at a moment
-abbrev pub odd_text : ℕ → TaskRow → WarningKind → List ℕ
-odd_text now x SelfWakes = codes "self-wakes: " ++ (share_text x.self_wakes x.wakes ++ codes " of its wakes are its own")
-odd_text now x LostWaker = codes "lost-waker: nobody is left who could wake it"
-odd_text now x NeverYielded = codes "never-yielded: its first poll has run for " ++ duration_text (run_time now x.last_started)
-
--- what to do about it
-abbrev pub advice : WarningKind → List ℕ
-advice SelfWakes = codes "let what it waits for wake it"
-advice LostWaker = codes "keep a waker of it until the wake"
-advice NeverYielded = codes "move work that blocks to a blocking task"
-
--- which task is warned of, and of what
-abbrev pub odd_line_text : ℕ → Task → WarningKind → List ℕ
-odd_line_text now t kind = codes "warning " ++ (id_text t.info.id ++ (codes " " ++ odd_text now t.row kind))
-
--- what to do, and of which name and place the task is
-abbrev pub advice_line_text : Task → WarningKind → List ℕ
-advice_line_text t kind = codes "  " ++ (advice kind ++ (codes " (" ++ (t.info.name ++ (codes ", " ++ (location_text t.info.location ++ codes ")")))))
-
--- the lines of a warning about a task
-abbrev pub warning_of : ℕ → Task → WarningKind → List LineView
-warning_of now t kind = warned (odd_line_text now t kind) ∷ plain (advice_line_text t kind) ∷ []
+    ++ ((codes "  findings " ++ decimal findings) ++ lost_text tables.dropped)))
 
 -- ---- tasks
 

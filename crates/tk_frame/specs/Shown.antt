@@ -3,13 +3,12 @@ use Rattle.std.specs.Prelude.{◌+◌, ℕ, List, [], ◌∷◌, ◌++◌, lengt
 use Rattle.std.specs.Option.{option_map_or}
 use Rattle.tk_stream.specs.declared.tables.task.Task.{Task}
 use Rattle.tk_stream.specs.Tables.{TablesView}
-use Rattle.tk_client.specs.declared.warning.Warning.{Warning}
-use Rattle.tk_client.specs.Warnings.{LintsView, warnings_in}
 use Rattle.tk_screen.specs.Screens.{LineView, screen_text}
 use Rattle.tk_screen.specs.declared.canvas.Canvas.{Canvas}
 use Rattle.tk_screen.specs.declared.top.Ranked.{Ranked}
 use Rattle.tk_frame.specs.Details.{details_at}
-use Rattle.tk_frame.specs.Frames.{items_part, task_at, warnings_part}
+use Rattle.tk_frame.specs.Findings.{OddView, findings_part}
+use Rattle.tk_frame.specs.Frames.{items_part, task_at}
 use Rattle.tk_frame.specs.Keys.{query_by}
 use Rattle.tk_frame.specs.Lines.{head_text, heading, plain, task_heading, task_text}
 use Rattle.tk_frame.specs.Queries.{top_tasks}
@@ -62,21 +61,21 @@ rows_part tables top chosen = flat_map (task_at tables) (take chosen top)
     ++ (option_map_or (chosen_at tables) (slice_get top chosen) [] ++ flat_map (task_at tables) (drop (chosen + 1) top))
 
 -- the lines of tables as `frame_of` has them, with a task chosen
-abbrev pub choice_of : ℕ → Query → TablesView → List Warning → List LineView
-choice_of chosen query tables warnings =
-    plain (head_text tables (states_of tables.tasks) (length warnings)) ∷ (warnings_part tables warnings
+abbrev pub choice_of : ℕ → Canvas → Query → TablesView → OddView → List LineView
+choice_of chosen canvas query tables odd =
+    plain (head_text tables (states_of tables.tasks) (length odd.findings)) ∷ (findings_part canvas tables odd
     ++ ((heading task_heading ∷ rows_part tables (top_tasks query tables) chosen) ++ items_part query tables))
 
 -- what is shown, below the first line
-abbrev pub shown_part : Shown → Asked → Query → TablesView → List Warning → List LineView
-shown_part shown.Tables asked query tables warnings = choice_of asked.chosen (query_by query asked) tables warnings
-shown_part shown.Keys asked query tables warnings = keys_part
-shown_part (shown.Task id) asked query tables warnings = details_at id tables warnings
+abbrev pub shown_part : Shown → Asked → Canvas → Query → TablesView → OddView → List LineView
+shown_part shown.Tables asked canvas query tables odd = choice_of asked.chosen canvas (query_by query asked) tables odd
+shown_part shown.Keys asked canvas query tables odd = keys_part
+shown_part (shown.Task id) asked canvas query tables odd = details_at id tables odd
 
 -- the lines of a screen that keys ask for
-abbrev pub lines_of : Asked → Query → TablesView → List Warning → List LineView
-lines_of asked query tables warnings = plain (asked_text asked) ∷ shown_part asked.shown asked query tables warnings
+abbrev pub lines_of : Asked → Canvas → Query → TablesView → OddView → List LineView
+lines_of asked canvas query tables odd = plain (asked_text asked) ∷ shown_part asked.shown asked canvas query tables odd
 
 -- the screen of tables that keys ask for, as it is written
-abbrev pub asked_screen : Canvas → Query → LintsView → Asked → TablesView → List ℕ
-asked_screen canvas query lints asked tables = screen_text canvas (lines_of asked query tables (warnings_in lints tables))
+abbrev pub asked_screen : Canvas → Query → OddView → Asked → TablesView → List ℕ
+asked_screen canvas query odd asked tables = screen_text canvas (lines_of asked canvas query tables odd)

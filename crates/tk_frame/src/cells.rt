@@ -8,6 +8,13 @@ use std::fmt::{Display, Write};
 use tk_ids::Location;
 use tk_screen::{put_duration, put_left, put_right, put_share};
 
+/// Puts a text.
+pub(crate) fn put_text(out: &mut String, text: &str) -> Result<(), AllocError>
+    ensures { OnOk result (Puts (string_bytes out.old) (string_bytes out.new) text.now) }
+{
+    out.push_str(text)
+}
+
 /// Puts a text at the right of a column, and a space.
 pub(crate) fn put_cell(out: &mut String, text: &str, width: usize) -> Result<(), AllocError>
     ensures { OnOk result (Puts (string_bytes out.old) (string_bytes out.new) (spec.cell width text.now)) }

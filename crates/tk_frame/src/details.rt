@@ -1,15 +1,15 @@
 //! All that is told of one task.
-ghost use Rattle.std.specs.Prelude.{◌≡◌, ◌++◌, ◌∷◌, [], codes, decimal, flat_map, IfOk, OnOk, string_bytes};
+ghost use Rattle.std.specs.Prelude.{◌≡◌, ◌++◌, ◌∷◌, [], codes, decimal, IfOk, OnOk, string_bytes};
 ghost use Rattle.tk_ids.specs.Ids.{id_text};
 ghost use Rattle.tk_screen.specs.Texts.{Puts, duration_text, share_text};
 ghost use Rattle.tk_frame.specs.Details as spec;
 ghost use Rattle.tk_frame.specs.Lines as texts;
 
 use crate::cells::{put_location, put_word};
-use crate::warnings::push_warning;
+use crate::odd::Odd;
+use crate::odd_lines::push_owns;
 use std::alloc::{AllocError, Global};
 use std::fmt::Write;
-use tk_client::Warning;
 use tk_core::TaskRow;
 use tk_ids::{Location, TaskId};
 use tk_report::{kind_word, task_state};
@@ -200,38 +200,6 @@ fn push_life(
     Ok(())
 }
 
-// A warning, where it is about the task of this id.
-fn push_own(
-    lines: &mut Vec<Line>,
-    alloc: Global,
-    tables: &Tables,
-    id: TaskId,
-    warning: &Warning,
-) -> Result<(), AllocError>
-    ensures { OnOk result (Puts lines.old.items lines.new.items (spec.own_lines tables.now id warning.now)) }
-{
-    if warning.task.value() == id.value() {
-        push_warning(lines, alloc, tables, warning)
-    } else {
-        Ok(())
-    }
-}
-
-fn push_owns(
-    lines: &mut Vec<Line>,
-    alloc: Global,
-    tables: &Tables,
-    id: TaskId,
-    warnings: &[Warning],
-) -> Result<(), AllocError>
-    ensures { OnOk result (Puts lines.old.items lines.new.items (flat_map (spec.own_lines tables.now id) warnings.now)) }
-{
-    for warning in warnings {
-        push_own(lines, alloc, tables, id, warning)?;
-    }
-    Ok(())
-}
-
 fn push_parts(lines: &mut Vec<Line>, alloc: Global, now: u64, task: &Task) -> Result<(), AllocError>
     ensures { OnOk result (Puts lines.old.items lines.new.items (spec.task_part now task.now)) }
 {
@@ -246,13 +214,13 @@ fn push_task(
     lines: &mut Vec<Line>,
     alloc: Global,
     tables: &Tables,
-    warnings: &[Warning],
+    odd: &Odd,
     task: &Task,
 ) -> Result<(), AllocError>
-    ensures { OnOk result (Puts lines.old.items lines.new.items (spec.details_of tables.now warnings.now task.now)) }
+    ensures { OnOk result (Puts lines.old.items lines.new.items (spec.details_of tables.now odd.now task.now)) }
 {
     push_parts(lines, alloc, tables.now(), task)?;
-    push_owns(lines, alloc, tables, task.info.id, warnings)?;
+    push_owns(lines, alloc, tables, odd, task)?;
     Ok(())
 }
 
@@ -273,19 +241,19 @@ fn push_gone(lines: &mut Vec<Line>, alloc: Global, id: TaskId) -> Result<(), All
     Ok(())
 }
 
-/// Pushes all that is told of the task of an id: what was told of it once, all its statistics, and the warnings about it. Or that it
-/// isn't there any more.
+/// Pushes all that is told of the task of an id: what was told of it once, all its statistics, and the findings about its place, each
+/// with what to do. Or that it isn't there any more.
 pub(crate) fn push_details(
     lines: &mut Vec<Line>,
     alloc: Global,
     tables: &Tables,
-    warnings: &[Warning],
+    odd: &Odd,
     id: TaskId,
 ) -> Result<(), AllocError>
-    ensures { OnOk result (Puts lines.old.items lines.new.items (spec.details_at id tables.now warnings.now)) }
+    ensures { OnOk result (Puts lines.old.items lines.new.items (spec.details_at id tables.now odd.now)) }
 {
     match tables.task(id) {
-        Some(task) => push_task(lines, alloc, tables, warnings, task),
+        Some(task) => push_task(lines, alloc, tables, odd, task),
         None => push_gone(lines, alloc, id),
     }
 }

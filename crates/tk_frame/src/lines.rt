@@ -5,13 +5,13 @@ ghost use Rattle.tk_frame.specs.Frames as spec;
 ghost use Rattle.tk_frame.specs.Lines as texts;
 
 use crate::items::{op_heading, op_line, resource_heading, resource_line};
+use crate::odd::Odd;
+use crate::odd_lines::push_findings;
 use crate::query::Query;
 use crate::ranks::{States, top_ops, top_resources, walk};
 use crate::tasks::{head_line, heading, task_heading, task_line};
-use crate::warnings::push_warnings;
 use std::alloc::{AllocError, Global};
-use tk_client::Warning;
-use tk_screen::{Line, Ranked};
+use tk_screen::{Canvas, Line, Ranked};
 use tk_stream::Tables;
 
 pub(crate) fn push_heading(
@@ -30,11 +30,11 @@ pub(crate) fn push_head(
     alloc: Global,
     tables: &Tables,
     states: States,
-    warnings: usize,
+    findings: usize,
 ) -> Result<(), AllocError>
-    ensures { OnOk result (Puts lines.old.items lines.new.items (texts.plain (texts.head_text tables.now states warnings) ∷ [])) }
+    ensures { OnOk result (Puts lines.old.items lines.new.items (texts.plain (texts.head_text tables.now states findings) ∷ [])) }
 {
-    lines.push(head_line(alloc, tables, states, warnings)?)?;
+    lines.push(head_line(alloc, tables, states, findings)?)?;
     Ok(())
 }
 
@@ -147,35 +147,38 @@ pub(crate) fn push_items(
 fn push_all(
     lines: &mut Vec<Line>,
     alloc: Global,
+    canvas: Canvas,
     tables: &Tables,
-    warnings: &[Warning],
+    odd: &Odd,
     query: &Query<'_>,
 ) -> Result<(), AllocError>
-    ensures { OnOk result (Puts lines.old.items lines.new.items (spec.frame_of query.now tables.now warnings.now)) }
+    ensures { OnOk result (Puts lines.old.items lines.new.items (spec.frame_of canvas query.now tables.now odd.now)) }
 {
     let (states, top) = walk(alloc, tables, query)?;
-    push_head(lines, alloc, tables, states, warnings.len())?;
-    push_warnings(lines, alloc, tables, warnings)?;
+    push_head(lines, alloc, tables, states, odd.count())?;
+    push_findings(lines, alloc, canvas, tables, odd)?;
     push_heading(lines, alloc, task_heading())?;
     push_tasks(lines, alloc, tables, top.items())?;
     push_items(lines, alloc, tables, query)?;
     Ok(())
 }
 
-/// The lines of a screen of tables with these warnings: the first line, with the moment, the tasks by their states, how many
-/// warnings there are and what was lost; the first four warnings, with what to do, and how many more there are; the open tasks
-/// of most; and where they were asked for, open resources and async operations. `docs/FORMATS.md` has their words.
+/// The lines of a screen of tables of which this is odd: the first line, with the moment, the tasks by their states, how many findings
+/// there are and what was lost; that no finding holds now, where it is so; the worst findings, as many as a third of the screen's rows,
+/// and how many more there are; the open tasks of most; and where they were asked for, open resources and async operations.
+/// `docs/FORMATS.md` has their words.
 ///
 /// It fails where there is no memory.
 pub fn frame(
     alloc: Global,
+    canvas: Canvas,
     tables: &Tables,
-    warnings: &[Warning],
+    odd: &Odd,
     query: &Query<'_>,
 ) -> Result<Vec<Line>, AllocError>
-    ensures { IfOk result (λ lines. lines.items ≡ spec.frame_of query.now tables.now warnings.now) }
+    ensures { IfOk result (λ lines. lines.items ≡ spec.frame_of canvas query.now tables.now odd.now) }
 {
     let mut lines = Vec::new(alloc);
-    push_all(&mut lines, alloc, tables, warnings, query)?;
+    push_all(&mut lines, alloc, canvas, tables, odd, query)?;
     Ok(lines)
 }

@@ -5,16 +5,17 @@ ghost use Rattle.tk_screen.specs.Texts.{Puts};
 ghost use Rattle.tk_frame.specs.Lines as texts;
 ghost use Rattle.tk_frame.specs.Shown as spec;
 
+use crate::cells::put_text;
 use crate::details::{push_details, push_plain};
 use crate::keys::{Asked, Shown, query_by};
 use crate::lines::{push_head, push_heading, push_items, push_tasks};
+use crate::odd::Odd;
+use crate::odd_lines::push_findings;
 use crate::query::{Column, Query};
 use crate::ranks::walk;
 use crate::tasks::{chosen_line, task_heading};
-use crate::warnings::push_warnings;
 use std::alloc::{AllocError, Global};
-use tk_client::Warning;
-use tk_screen::{Line, Ranked, Style};
+use tk_screen::{Canvas, Line, Ranked, Style};
 use tk_stream::Tables;
 
 fn column_word(column: Column) -> &'static str
@@ -33,12 +34,6 @@ fn paused_word(paused: bool) -> &'static str
     ensures { result.now ≡ spec.paused_word paused }
 {
     if paused { "  paused" } else { "" }
-}
-
-fn put_text(out: &mut String, text: &str) -> Result<(), AllocError>
-    ensures { OnOk result (Puts (string_bytes out.old) (string_bytes out.new) text.now) }
-{
-    out.push_str(text)
 }
 
 fn put_asked(out: &mut String, asked: &Asked) -> Result<(), AllocError>
@@ -198,16 +193,17 @@ fn push_rows(
 fn push_tables(
     lines: &mut Vec<Line>,
     alloc: Global,
+    canvas: Canvas,
     tables: &Tables,
-    warnings: &[Warning],
+    odd: &Odd,
     query: &Query<'_>,
     chosen: usize,
 ) -> Result<(), AllocError>
-    ensures { OnOk result (Puts lines.old.items lines.new.items (spec.choice_of chosen query.now tables.now warnings.now)) }
+    ensures { OnOk result (Puts lines.old.items lines.new.items (spec.choice_of chosen canvas query.now tables.now odd.now)) }
 {
     let (states, top) = walk(alloc, tables, query)?;
-    push_head(lines, alloc, tables, states, warnings.len())?;
-    push_warnings(lines, alloc, tables, warnings)?;
+    push_head(lines, alloc, tables, states, odd.count())?;
+    push_findings(lines, alloc, canvas, tables, odd)?;
     push_heading(lines, alloc, task_heading())?;
     push_rows(lines, alloc, tables, top.items(), chosen)?;
     push_items(lines, alloc, tables, query)?;
@@ -217,41 +213,43 @@ fn push_tables(
 fn push_shown(
     lines: &mut Vec<Line>,
     alloc: Global,
+    canvas: Canvas,
     tables: &Tables,
-    warnings: &[Warning],
+    odd: &Odd,
     query: &Query<'_>,
     asked: &Asked,
 ) -> Result<(), AllocError>
-    ensures { OnOk result (Puts lines.old.items lines.new.items (spec.shown_part asked.now.shown asked.now query.now tables.now warnings.now)) }
+    ensures { OnOk result (Puts lines.old.items lines.new.items (spec.shown_part asked.now.shown asked.now canvas query.now tables.now odd.now)) }
 {
     let shown = asked.shown;
     match shown {
         Shown::Tables => {
             let query = query_by(query, asked);
             let chosen = asked.chosen;
-            push_tables(lines, alloc, tables, warnings, &query, chosen)
+            push_tables(lines, alloc, canvas, tables, odd, &query, chosen)
         }
         Shown::Keys => push_keys(lines, alloc),
-        Shown::Task(id) => push_details(lines, alloc, tables, warnings, id),
+        Shown::Task(id) => push_details(lines, alloc, tables, odd, id),
     }
 }
 
-/// The lines of a screen that keys ask for, of tables with these warnings: how tasks are sorted and whether it is paused, and then the
+/// The lines of a screen that keys ask for, of tables of which this is odd: how tasks are sorted and whether it is paused, and then the
 /// tables as `frame` shows them, with a task chosen; or what each key does; or all that is told of a task. `docs/FORMATS.md` has
 /// their words.
 ///
 /// It fails where there is no memory.
 pub fn asked_frame(
     alloc: Global,
+    canvas: Canvas,
     tables: &Tables,
-    warnings: &[Warning],
+    odd: &Odd,
     query: &Query<'_>,
     asked: &Asked,
 ) -> Result<Vec<Line>, AllocError>
-    ensures { IfOk result (λ lines. lines.items ≡ spec.lines_of asked.now query.now tables.now warnings.now) }
+    ensures { IfOk result (λ lines. lines.items ≡ spec.lines_of asked.now canvas query.now tables.now odd.now) }
 {
     let mut lines = Vec::new(alloc);
     push_asked(&mut lines, alloc, asked)?;
-    push_shown(&mut lines, alloc, tables, warnings, query, asked)?;
+    push_shown(&mut lines, alloc, canvas, tables, odd, query, asked)?;
     Ok(lines)
 }

@@ -3,7 +3,7 @@ ghost use Rattle.std.specs.Prelude.{◌≡◌, ◌++◌, codes, decimal, IfOk, O
 ghost use Rattle.tk_screen.specs.Texts.{Puts};
 ghost use Rattle.tk_frame.specs.Lines as spec;
 
-use crate::cells::{put_location, put_part, put_time, put_value, put_word};
+use crate::cells::{put_location, put_part, put_text, put_time, put_value, put_word};
 use crate::ranks::States;
 use std::alloc::{AllocError, Global};
 use std::fmt::Write;
@@ -45,45 +45,39 @@ fn put_lost(out: &mut String, dropped: Dropped) -> Result<(), AllocError>
     )
 }
 
-fn put_count(out: &mut String, warnings: usize) -> Result<(), AllocError>
-    ensures { OnOk result (Puts (string_bytes out.old) (string_bytes out.new) (codes "  warnings " ++ decimal warnings)) }
+fn put_count(out: &mut String, findings: usize) -> Result<(), AllocError>
+    ensures { OnOk result (Puts (string_bytes out.old) (string_bytes out.new) (codes "  findings " ++ decimal findings)) }
 {
-    write!(out, "  warnings {warnings}")
-}
-
-fn put_text(out: &mut String, text: &str) -> Result<(), AllocError>
-    ensures { OnOk result (Puts (string_bytes out.old) (string_bytes out.new) text.now) }
-{
-    out.push_str(text)
+    write!(out, "  findings {findings}")
 }
 
 fn put_head(
     out: &mut String,
     tables: &Tables,
     states: States,
-    warnings: usize,
+    findings: usize,
 ) -> Result<(), AllocError>
-    ensures { OnOk result (Puts (string_bytes out.old) (string_bytes out.new) (spec.head_text tables.now states warnings)) }
+    ensures { OnOk result (Puts (string_bytes out.old) (string_bytes out.new) (spec.head_text tables.now states findings)) }
 {
     put_text(out, "now ")?;
     put_duration(out, tables.now())?;
     put_states(out, tables.task_count(), states)?;
-    put_count(out, warnings)?;
+    put_count(out, findings)?;
     put_lost(out, tables.dropped())?;
     Ok(())
 }
 
-/// The first line of a screen: the moment, the tasks by their states, how many warnings there are, and what was lost.
+/// The first line of a screen: the moment, the tasks by their states, how many findings there are, and what was lost.
 pub(crate) fn head_line(
     alloc: Global,
     tables: &Tables,
     states: States,
-    warnings: usize,
+    findings: usize,
 ) -> Result<Line, AllocError>
-    ensures { IfOk result (λ line. line ≡ spec.plain (spec.head_text tables.now states warnings)) }
+    ensures { IfOk result (λ line. line ≡ spec.plain (spec.head_text tables.now states findings)) }
 {
     let mut text = String::new(alloc);
-    put_head(&mut text, tables, states, warnings)?;
+    put_head(&mut text, tables, states, findings)?;
     Ok(Line::new(Style::Plain, text))
 }
 

@@ -8,21 +8,23 @@ use Rattle.tk_client.specs.Feeding.{ClientView}
 use Rattle.tk_client.specs.Warnings.{LintsView}
 use Rattle.tk_fault.specs.declared.fault.AppFault.{AppFault}
 use Rattle.tk_fault.specs.declared.fault.AppFault.TheVariants as faults
+use Rattle.tk_odd.specs.declared.diagnosis.Diagnosis.{Diagnosis}
+use Rattle.tk_odd.specs.declared.limits.Limits.{Limits}
 use Rattle.tk_reading.specs.Fronts.{lines_in, tables_in}
 use Rattle.tk_reading.specs.Outcomes.{AreAll, outcome_of}
 use Rattle.tk_reading.specs.Reads.{StopsAfter, TakesMore}
 use Rattle.tk_reading.specs.Shown.{shown_of}
 use Rattle.tk_reading.specs.Taken.{HasTaken, first}
+use Rattle.tk_reading.specs.declared.observes.Both.{Both}
 use Rattle.tk_reading.proofs.FrontLemmas.{last_more, rise_more, rise_on}
 use Rattle.tk_reading.proofs.ReadLemmas.{begins}
 use Rattle.tk_metrics.specs.declared.by.By.{By}
 use Rattle.tk_metrics.specs.declared.leavers.Leavers.{Leavers}
-use Rattle.tk_metrics.specs.Following.{Follows}
+use Rattle.tk_metrics.specs.Following.{Sees}
 use Rattle.tk_metrics.specs.Keeping.{Keeps, PutsAll, PutsSome, numbers_of, numbers_of_all}
 use Rattle.tk_metrics.specs.Kept.{Kept, PutsNow, is_of_stream}
-use Rattle.tk_metrics.specs.Leaving.{gone_in}
-use Rattle.tk_metrics.specs.Metrics.{metrics_text}
 use Rattle.tk_metrics.specs.Places.{Gets, Texts}
+use Rattle.tk_metrics.specs.Streams.{numbers_after, usual}
 
 -- ---- the texts of a place
 
@@ -39,17 +41,22 @@ Gets-trans (Some x) (Some y) (Some z) xs ys p q = q ∙ ap (λ l. l ++ ys) p ∙
 -- ---- steps
 
 -- what is followed stays followed by the same
-pub followed_by : (by : By) (bytes piece : List ℕ) (was : Leavers) (result : Result ℕ AppFault) (now : ClientView) (l : Leavers) → Follows by (shown_of bytes) was
-    → (Follows was.by (shown_of bytes) was → TakesMore (Follows was.by) bytes piece result now l) → TakesMore (Follows by) bytes piece result now l
-followed_by by bytes piece was result now l f takes =
-    subst (λ b. TakesMore (Follows b) bytes piece result now l) f.notes.told (takes (subst (λ b. Follows b (shown_of bytes) was) (sym f.notes.told) f))
+pub followed_by : (by : By) (limits : Limits) (bytes piece : List ℕ) (was : Both Leavers Diagnosis) (result : Result ℕ AppFault) (now : ClientView) (l : Both Leavers Diagnosis)
+    → Sees by limits (shown_of bytes) was
+    → (Sees was.first.by was.second.limits (shown_of bytes) was → TakesMore (Sees was.first.by was.second.limits) bytes piece result now l)
+    → TakesMore (Sees by limits) bytes piece result now l
+followed_by by limits bytes piece was result now l f takes =
+    let own : Sees was.first.by was.second.limits (shown_of bytes) was =
+    subst (λ b. Sees b was.second.limits (shown_of bytes) was) (sym f.0.notes.told) (subst (λ m. Sees by m (shown_of bytes) was) (sym f.1.1) f) in
+    subst (λ b. TakesMore (Sees b limits) bytes piece result now l) f.0.notes.told
+    (subst (λ m. TakesMore (Sees was.first.by m) bytes piece result now l) f.1.1 (takes own))
 
 -- the text of tables after lines
 abbrev pub text_after : By → LintsView → ClientView → List ℕ → List ℕ
-text_after by lints now bytes = metrics_text by lints now.start.tables (gone_in by (shown_of bytes)) (length (shown_of bytes))
+text_after by lints now bytes = numbers_after by lints (shown_of bytes) now.start.tables
 
 text_is : (by : By) (lints : LintsView) (now : ClientView) (bytes : List ℕ) → now.start.tables ≡ tables_in (outcome_of bytes) → text_after by lints now bytes ≡ numbers_of by lints bytes
-text_is by lints now bytes e = ap (λ t. metrics_text by lints t (gone_in by (shown_of bytes)) (length (shown_of bytes))) e
+text_is by lints now bytes e = ap (numbers_after by lints (shown_of bytes)) e
 
 -- the texts of fronts, and of bytes after them
 one_more : (path : List ℕ) (by : By) (lints : LintsView) (fronts : List (List ℕ)) (bytes : List ℕ) (text : List ℕ) (a b c : Option Texts) → text ≡ numbers_of by lints bytes
@@ -62,7 +69,7 @@ one_more path by lints fronts bytes text a b c is p q =
 pub none_put : (path : List ℕ) (by : By) (lints : LintsView) (given : Option (List ℕ)) (texts : Option Texts) → PutsSome path by lints given given texts texts
 none_put path by lints given texts = record { bytes = []; read = Consumes-nil given; fronts = []; rise = tt; put = Gets-nil texts }
 
-pub starts : (path : List ℕ) (by : By) (lints : LintsView) (given : Option (List ℕ)) (texts : Option Texts) (c : ClientView) (l : Leavers) → c ≡ first → Follows by [] l
+pub starts : (path : List ℕ) (by : By) (lints : LintsView) (given : Option (List ℕ)) (texts : Option Texts) (c : ClientView) (l : Both Leavers Diagnosis) → c ≡ first → Sees by (usual lints) [] l
     → Kept path by lints given given 0 None c l texts texts
 starts path by lints given texts c l is f = record {
   bytes = [];
@@ -75,7 +82,7 @@ starts path by lints given texts c l is f = record {
   puts = Gets-nil texts;
 }
 
-module _ (path : List ℕ) (by : By) (lints : LintsView) (given left : Option (List ℕ)) (lines : ℕ) (put : Option ℕ) (now : ClientView) (l : Leavers) (old there : Option Texts)
+module _ (path : List ℕ) (by : By) (lints : LintsView) (given left : Option (List ℕ)) (lines : ℕ) (put : Option ℕ) (now : ClientView) (l : Both Leavers Diagnosis) (old there : Option Texts)
     (k : Kept path by lints given left lines put now l old there) where
   tables_are : now.start.tables ≡ tables_in (outcome_of k.bytes)
   tables_are = sym (ap tables_in k.taken.took.came)
@@ -84,8 +91,8 @@ module _ (path : List ℕ) (by : By) (lints : LintsView) (given left : Option (L
   lines_are = ap lines_in k.taken.took.came
 
   -- a piece more was read, and followed
-  pub takes_more : (new : Option (List ℕ)) (piece : List ℕ) (sum : ℕ) (then : ClientView) (m : Leavers) → Consumes left new piece
-      → TakesMore (Follows by) k.bytes piece (Ok sum) then m → Kept path by lints given new sum put then m old there
+  pub takes_more : (new : Option (List ℕ)) (piece : List ℕ) (sum : ℕ) (then : ClientView) (m : Both Leavers Diagnosis) → Consumes left new piece
+      → TakesMore (Sees by (usual lints)) k.bytes piece (Ok sum) then m → Kept path by lints given new sum put then m old there
   takes_more new piece sum then m read h = record {
     bytes = k.bytes ++ piece;
     read = Consumes-trans given left new k.bytes piece k.read read;
@@ -100,7 +107,7 @@ module _ (path : List ℕ) (by : By) (lints : LintsView) (given left : Option (L
   -- nothing more was read
   pub keeps_on : (new : Option (List ℕ)) → Consumes left new [] → Kept path by lints given new lines put now l old there
   keeps_on new read = takes_more new [] lines now l read
-      (subst (λ xs. HasTaken xs lines now) (sym (append-nil k.bytes)) k.taken, subst (λ xs. Follows by (shown_of xs) l) (sym (append-nil k.bytes)) k.follows)
+      (subst (λ xs. HasTaken xs lines now) (sym (append-nil k.bytes)) k.taken, subst (λ xs. Sees by (usual lints) (shown_of xs) l) (sym (append-nil k.bytes)) k.follows)
 
   -- it stops, with what was put
   pub stops_some : (new : Option (List ℕ)) → KeepsBytes left new → Keeps path by lints given new (Err faults.Read) old there
@@ -157,8 +164,8 @@ module _ (path : List ℕ) (by : By) (lints : LintsView) (given left : Option (L
   puts_not (faults.Script line name) text new h = absurd h
 
   -- a piece more has a fault
-  module _ (left' : Option (List ℕ)) (piece : List ℕ) (then : ClientView) (m : Leavers) (read : Consumes left left' piece) (n : ℕ) (fault : Fault)
-      (s : StopsAfter (Follows by) k.bytes piece n fault then m) where
+  module _ (left' : Option (List ℕ)) (piece : List ℕ) (then : ClientView) (m : Both Leavers Diagnosis) (read : Consumes left left' piece) (n : ℕ) (fault : Fault)
+      (s : StopsAfter (Sees by (usual lints)) k.bytes piece n fault then m) where
     -- the numbers of what stands were put
     pub ends_by : (new : Option Texts) → PutsNow path (text_after by lints then (k.bytes ++ s.part)) (Ok tt) there new
         → Keeps path by lints given left' (Err (faults.Stream n fault)) old new
@@ -199,8 +206,8 @@ module _ (path : List ℕ) (by : By) (lints : LintsView) (given left : Option (L
     ends_without (faults.Script line name) new h = absurd h
 
   -- a piece more could not be followed, for want of memory
-  pub stops_with : (left' : Option (List ℕ)) (piece : List ℕ) (then : ClientView) (m : Leavers) (answer : AppFault) → Consumes left left' piece
-      → is_of_stream answer ≡ false → TakesMore (Follows by) k.bytes piece (Err answer) then m → Keeps path by lints given left' (Err answer) old there
+  pub stops_with : (left' : Option (List ℕ)) (piece : List ℕ) (then : ClientView) (m : Both Leavers Diagnosis) (answer : AppFault) → Consumes left left' piece
+      → is_of_stream answer ≡ false → TakesMore (Sees by (usual lints)) k.bytes piece (Err answer) then m → Keeps path by lints given left' (Err answer) old there
   stops_with left' piece then m faults.Memory read other h = stops_without left' piece read
   stops_with left' piece then m faults.Read read other h = absurd h
   stops_with left' piece then m faults.Write read other h = absurd h
@@ -208,10 +215,10 @@ module _ (path : List ℕ) (by : By) (lints : LintsView) (given left : Option (L
   stops_with left' piece then m (faults.Stream n fault) read other h = absurd (true≢false other)
 
 -- a fault of the stream is one after lines that were followed
-pub stream_stops : (by : By) (bytes piece : List ℕ) (now : ClientView) (l : Leavers) (answer : AppFault) → is_of_stream answer ≡ true → TakesMore (Follows by) bytes piece (Err answer) now l
-    → (n : ℕ) × (fault : Fault) × (answer ≡ faults.Stream n fault) × StopsAfter (Follows by) bytes piece n fault now l
-stream_stops by bytes piece now l (faults.Stream n fault) is h = (n, fault, refl, h)
-stream_stops by bytes piece now l faults.Memory is h = absurd (true≢false (sym is))
-stream_stops by bytes piece now l faults.Read is h = absurd h
-stream_stops by bytes piece now l faults.Write is h = absurd h
-stream_stops by bytes piece now l (faults.Script line name) is h = absurd h
+pub stream_stops : (by : By) (limits : Limits) (bytes piece : List ℕ) (now : ClientView) (l : Both Leavers Diagnosis) (answer : AppFault) → is_of_stream answer ≡ true → TakesMore (Sees by limits) bytes piece (Err answer) now l
+    → (n : ℕ) × (fault : Fault) × (answer ≡ faults.Stream n fault) × StopsAfter (Sees by limits) bytes piece n fault now l
+stream_stops by limits bytes piece now l (faults.Stream n fault) is h = (n, fault, refl, h)
+stream_stops by limits bytes piece now l faults.Memory is h = absurd (true≢false (sym is))
+stream_stops by limits bytes piece now l faults.Read is h = absurd h
+stream_stops by limits bytes piece now l faults.Write is h = absurd h
+stream_stops by limits bytes piece now l (faults.Script line name) is h = absurd h

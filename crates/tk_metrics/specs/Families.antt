@@ -3,7 +3,7 @@ use Rattle.std.specs.Prelude.{ℕ, List, codes, Bool, true, false}
 use Rattle.tk_metrics.specs.declared.family.Count.{Count}
 use Rattle.tk_metrics.specs.declared.family.Count.TheVariants.{Polls, Busy, Scheduled, Wakes, SelfWakes, WakerClones, WakerDrops, OpenPoll, OpenWait, Waiting}
 use Rattle.tk_metrics.specs.declared.family.Family.{Family}
-use Rattle.tk_metrics.specs.declared.family.Family.TheVariants.{Task, Tasks, PollOps, Warnings, Dropped, Lines}
+use Rattle.tk_metrics.specs.declared.family.Family.TheVariants.{Task, Tasks, PollOps, Warnings, Dropped, Lines, Findings, HeldUp, Waited}
 use Rattle.tk_metrics.specs.declared.family.FamilyKind.{FamilyKind}
 use Rattle.tk_metrics.specs.declared.family.FamilyKind.TheVariants.{Counter, Gauge}
 
@@ -24,6 +24,9 @@ base_of PollOps = codes "taskscope_resource_poll_ops"
 base_of Warnings = codes "taskscope_warnings"
 base_of Dropped = codes "taskscope_dropped_events"
 base_of Lines = codes "taskscope_stream_lines"
+base_of Findings = codes "taskscope_findings"
+base_of HeldUp = codes "taskscope_held_up_seconds"
+base_of Waited = codes "taskscope_waited_seconds"
 
 -- what it counts
 abbrev pub help_of : Family → List ℕ
@@ -42,6 +45,9 @@ help_of PollOps = codes "Poll operations of resources by what they answered."
 help_of Warnings = codes "Warnings about tasks."
 help_of Dropped = codes "Events that the event buffer had no room for."
 help_of Lines = codes "Lines of the stream."
+help_of Findings = codes "How many tasks a finding is about."
+help_of HeldUp = codes "How long others waited while tasks of a place ran long."
+help_of Waited = codes "How long tasks waited for a poll, by what for."
 
 -- what has lasted by now is a gauge, and any other number of tasks only rises
 abbrev pub count_kind : Count → FamilyKind
@@ -54,10 +60,13 @@ count_kind other = Counter
 abbrev pub kind_of : Family → FamilyKind
 kind_of Tasks = Gauge
 kind_of Warnings = Gauge
+kind_of Findings = Gauge
 kind_of (Task count) = count_kind count
 kind_of PollOps = Counter
 kind_of Dropped = Counter
 kind_of Lines = Counter
+kind_of HeldUp = Counter
+kind_of Waited = Counter
 
 -- the numbers that are times, in nanoseconds
 abbrev pub is_time : Count → Bool
@@ -71,4 +80,6 @@ is_time other = false
 -- whether a family's values are times, which are written in seconds
 abbrev pub is_in_seconds : Family → Bool
 is_in_seconds (Task count) = is_time count
+is_in_seconds HeldUp = true
+is_in_seconds Waited = true
 is_in_seconds other = false

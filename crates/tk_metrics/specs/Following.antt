@@ -1,5 +1,9 @@
--- How what leaves the tables of a stream is followed. Inner: no public clause cites this.
+-- How the lines of a stream are followed. Inner: no public clause cites this.
 use Rattle.std.specs.Prelude.{◌≡◌, ℕ, List, [], ◌∷◌, length}
+use Rattle.tk_odd.specs.Inner.{Follows as Diagnoses}
+use Rattle.tk_odd.specs.declared.diagnosis.Diagnosis.{Diagnosis}
+use Rattle.tk_odd.specs.declared.limits.Limits.{Limits}
+use Rattle.tk_reading.specs.declared.observes.Both.{Both}
 use Rattle.tk_stream.specs.Tables.{TablesView, empty_tables}
 use Rattle.tk_metrics.specs.declared.by.By.{By}
 use Rattle.tk_metrics.specs.declared.by.By.TheVariants.{Name, Id}
@@ -26,3 +30,7 @@ pub record Notes (by : By) (shown : List TablesView) (l : Leavers) : Type 0 wher
 pub record Follows (by : By) (shown : List TablesView) (l : Leavers) : Type 0 where
   pub notes : Notes by shown l
   pub lines : l.lines ≡ length shown
+
+-- what leaves them is followed, and what is odd by these limits
+abbrev pub Sees : By → Limits → List TablesView → Both Leavers Diagnosis → Type 0
+Sees by limits shown both = Follows by shown both.first × (Diagnoses shown both.second × (both.second.limits ≡ limits))

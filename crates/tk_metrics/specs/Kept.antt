@@ -5,15 +5,18 @@ use Rattle.tk_client.specs.Feeding.{ClientView}
 use Rattle.tk_client.specs.Warnings.{LintsView}
 use Rattle.tk_fault.specs.declared.fault.AppFault.{AppFault}
 use Rattle.tk_fault.specs.declared.fault.AppFault.TheVariants as faults
+use Rattle.tk_odd.specs.declared.diagnosis.Diagnosis.{Diagnosis}
 use Rattle.tk_reading.specs.Fronts.{Rise, last_lines}
 use Rattle.tk_reading.specs.Shown.{shown_of}
 use Rattle.tk_reading.specs.Taken.{HasTaken}
+use Rattle.tk_reading.specs.declared.observes.Both.{Both}
 use Rattle.tk_metrics.specs.declared.by.By.{By}
 use Rattle.tk_metrics.specs.declared.keeping.Progress.{Progress}
 use Rattle.tk_metrics.specs.declared.leavers.Leavers.{Leavers}
-use Rattle.tk_metrics.specs.Following.{Follows}
+use Rattle.tk_metrics.specs.Following.{Sees}
 use Rattle.tk_metrics.specs.Keeping.{Keeps, PutsAll, numbers_of_all}
 use Rattle.tk_metrics.specs.Places.{Gets, Texts}
+use Rattle.tk_metrics.specs.Streams.{usual}
 
 -- the fault is a stream's
 abbrev pub is_of_stream : AppFault → Bool
@@ -32,31 +35,31 @@ PutsNow path text (Err other) old new = ⊥
 -- ---- how far a stream is kept
 
 -- what was read is taken, in so many lines, which are followed, and the numbers of rising fronts of it were put, the last of so many lines
-pub record Kept (path : List ℕ) (by : By) (lints : LintsView) (given left : Option (List ℕ)) (lines : ℕ) (put : Option ℕ) (now : ClientView) (l : Leavers) (old new : Option Texts) : Type 0 where
+pub record Kept (path : List ℕ) (by : By) (lints : LintsView) (given left : Option (List ℕ)) (lines : ℕ) (put : Option ℕ) (now : ClientView) (seen : Both Leavers Diagnosis) (old new : Option Texts) : Type 0 where
   pub bytes : List ℕ
   pub read : Consumes given left bytes
   pub taken : HasTaken bytes lines now
-  pub follows : Follows by (shown_of bytes) l
+  pub follows : Sees by (usual lints) (shown_of bytes) seen
   pub fronts : List (List ℕ)
   pub rise : Rise fronts bytes
   pub last : last_lines fronts ≡ put
   pub puts : Gets old new (numbers_of_all path by lints fronts)
 
 -- the keeping goes on with so many lines, or has stopped
-abbrev pub Goes : List ℕ → By → LintsView → Option (List ℕ) → Option (List ℕ) → Result ℕ AppFault → Option ℕ → ClientView → Leavers → Option Texts → Option Texts → Type 0
-Goes path by lints given left (Ok lines) put now l old new = Kept path by lints given left lines put now l old new
-Goes path by lints given left (Err fault) put now l old new = Keeps path by lints given left (Err fault) old new
+abbrev pub Goes : List ℕ → By → LintsView → Option (List ℕ) → Option (List ℕ) → Result ℕ AppFault → Option ℕ → ClientView → Both Leavers Diagnosis → Option Texts → Option Texts → Type 0
+Goes path by lints given left (Ok lines) put now seen old new = Kept path by lints given left lines put now seen old new
+Goes path by lints given left (Err fault) put now seen old new = Keeps path by lints given left (Err fault) old new
 
 -- the keeping of so many lines goes on after numbers were put or not, or has stopped
-abbrev pub Went : List ℕ → By → LintsView → Option (List ℕ) → Option (List ℕ) → ℕ → Result (Option ℕ) AppFault → ClientView → Leavers → Option Texts → Option Texts → Type 0
-Went path by lints given left lines (Ok put) now l old new = Kept path by lints given left lines put now l old new
-Went path by lints given left lines (Err fault) now l old new = Keeps path by lints given left (Err fault) old new
+abbrev pub Went : List ℕ → By → LintsView → Option (List ℕ) → Option (List ℕ) → ℕ → Result (Option ℕ) AppFault → ClientView → Both Leavers Diagnosis → Option Texts → Option Texts → Type 0
+Went path by lints given left lines (Ok put) now seen old new = Kept path by lints given left lines put now seen old new
+Went path by lints given left lines (Err fault) now seen old new = Keeps path by lints given left (Err fault) old new
 
 -- the keeping goes on from here, has come to the end, or has stopped
-abbrev pub Steps : List ℕ → By → LintsView → Option (List ℕ) → Option (List ℕ) → Result (Option Progress) AppFault → ClientView → Leavers → Option Texts → Option Texts → Type 0
-Steps path by lints given left (Ok (Some p)) now l old new = Kept path by lints given left p.lines p.put now l old new
-Steps path by lints given left (Ok None) now l old new = PutsAll path by lints given old new
-Steps path by lints given left (Err fault) now l old new = Keeps path by lints given left (Err fault) old new
+abbrev pub Steps : List ℕ → By → LintsView → Option (List ℕ) → Option (List ℕ) → Result (Option Progress) AppFault → ClientView → Both Leavers Diagnosis → Option Texts → Option Texts → Type 0
+Steps path by lints given left (Ok (Some p)) now seen old new = Kept path by lints given left p.lines p.put now seen old new
+Steps path by lints given left (Ok None) now seen old new = PutsAll path by lints given old new
+Steps path by lints given left (Err fault) now seen old new = Keeps path by lints given left (Err fault) old new
 
 -- no more lines came than a piece has bytes
 abbrev pub IsFew : ℕ → Result (Option Progress) AppFault → Type 0

@@ -2,6 +2,8 @@
 pub mod Families
 -- Families of samples, as they are written
 pub mod Samples
+-- Who holds up whom
+pub mod Blame
 -- What is added up of tasks, and of resources
 pub mod Sums
 -- The text of a stream's numbers

@@ -1,4 +1,4 @@
--- The text of a stream's numbers: a function of its tables, of what has left them, and of how many lines it has.
+-- The text of a stream's numbers: a function of its tables, of what has left them, of who holds up whom, and of how many lines it has.
 use Rattle.std.specs.Prelude.{ℕ, List, [], ◌++◌, map, filter, length, codes, Bool, true, false}
 use Rattle.tk_ids.specs.declared.info.Dropped.{Dropped}
 use Rattle.tk_stream.specs.Tables.{TablesView}
@@ -6,6 +6,7 @@ use Rattle.tk_client.specs.declared.warning.Warning.{Warning}
 use Rattle.tk_client.specs.declared.warning.WarningKind.{WarningKind}
 use Rattle.tk_client.specs.declared.warning.WarningKind.TheVariants.{SelfWakes, LostWaker, NeverYielded}
 use Rattle.tk_client.specs.Warnings.{LintsView, warnings_in}
+use Rattle.tk_metrics.specs.Blame.{Blame, blame_families}
 use Rattle.tk_metrics.specs.declared.by.By.{By}
 use Rattle.tk_metrics.specs.declared.family.Family.{Family}
 use Rattle.tk_metrics.specs.declared.family.Family.TheVariants as families
@@ -113,14 +114,14 @@ line_family lines = head_of families.Lines ++ sample families.Lines ([], lines)
 
 -- ---- the text
 
--- the families one after the other, and the end
+-- the families of tables, of what has left them, and of lines, one after the other
 abbrev pub text_of : List (List ℕ × Sums) → List (List ℕ × PollOps) → List Warning → Dropped → ℕ → List ℕ
 text_of tasks resources warnings dropped lines =
     task_families tasks
     ++ (family families.PollOps answer_samples resources
     ++ (warning_family warnings
     ++ (dropped_family dropped
-    ++ (line_family lines ++ codes "# EOF\n"))))
+    ++ line_family lines)))
 
 -- the series of tasks: those that have left, and those of the tables
 abbrev pub task_series : By → TablesView → Gone → List (List ℕ × Sums)
@@ -130,10 +131,11 @@ task_series by tables gone = series_of plus (gone.tasks ++ map (task_entry by ta
 abbrev pub resource_series : TablesView → Gone → List (List ℕ × PollOps)
 resource_series tables gone = series_of both_ops (gone.resources ++ map (resource_entry tables.counts) tables.resources)
 
--- the numbers of tables with these warnings
-abbrev pub metrics_with : By → TablesView → List Warning → Gone → ℕ → List ℕ
-metrics_with by tables warnings gone lines = text_of (task_series by tables gone) (resource_series tables gone) warnings tables.dropped lines
+-- the numbers of tables with these warnings, then who holds up whom, and the end
+abbrev pub metrics_with : By → TablesView → List Warning → Gone → Blame → ℕ → List ℕ
+metrics_with by tables warnings gone blame lines =
+    text_of (task_series by tables gone) (resource_series tables gone) warnings tables.dropped lines ++ (blame_families by blame ++ codes "# EOF\n")
 
--- the numbers of tables, of what has left them, and of so many lines
-abbrev pub metrics_text : By → LintsView → TablesView → Gone → ℕ → List ℕ
-metrics_text by lints tables gone lines = metrics_with by tables (warnings_in lints tables) gone lines
+-- the numbers of tables, of what has left them, of who holds up whom, and of so many lines
+abbrev pub metrics_text : By → LintsView → TablesView → Gone → Blame → ℕ → List ℕ
+metrics_text by lints tables gone blame lines = metrics_with by tables (warnings_in lints tables) gone blame lines

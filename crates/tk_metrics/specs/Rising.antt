@@ -1,6 +1,10 @@
--- That no count of tasks falls from one line to the next, while tasks go on, come and leave.
+-- That no count of tasks falls from one line to the next, while tasks go on, come and leave, and that nothing which is charged falls.
 use Rattle.std.specs.Prelude.{◌≡◌, ◌≤◌, ℕ, ◌++◌, List, [], ◌∷◌, IfSome, map}
 use Rattle.tk_series.specs.Totals.{shown_at}
+use Rattle.tk_odd.specs.Diagnosis.{standing_of}
+use Rattle.tk_odd.specs.declared.held.Held.{Held}
+use Rattle.tk_odd.specs.declared.limits.Limits.{Limits}
+use Rattle.tk_odd.specs.declared.shares.Shares.{Shares}
 use Rattle.tk_stream.specs.Tables.{TablesView, empty_tables, task_with}
 use Rattle.tk_stream.specs.declared.tables.task.Task.{Task}
 use Rattle.tk_metrics.specs.Following.{last_shown}
@@ -32,3 +36,19 @@ added shown = (gone_in Name shown).tasks ++ map (task_entry Name (tables_after s
 -- the number that is shown of tasks with these labels after these lines
 abbrev pub shown_after : Count → List ℕ → List TablesView → ℕ
 shown_after count labels shown = shown_at (count_of count) labels (task_series Name (tables_after shown) (gone_in Name shown))
+
+-- ---- who held up whom
+
+-- the time that is shown of a place after these lines: for how long its tasks held up others
+abbrev pub held_after : Limits → List ℕ → List TablesView → ℕ
+held_after limits place shown = shown_at (λ (h : Held). h.charged) place (standing_of limits shown).places.0
+
+-- what was waited after these lines
+abbrev pub shares_after : Limits → List TablesView → Shares
+shares_after limits shown = (standing_of limits shown).shares
+
+-- no share is less than it was
+pub record NoneFalls (old new : Shares) : Type 0 where
+  pub charged : old.charged ≤ new.charged
+  pub queued : old.queued ≤ new.queued
+  pub nobody : old.nobody ≤ new.nobody

@@ -1,21 +1,31 @@
 -- What the numbers of a stream are, and what writing them came to.
-use Rattle.std.specs.Prelude.{ℕ, List, length, Option, Result, Ok, Err}
+use Rattle.std.specs.Prelude.{ℕ, List, length, Option, None, Result, Ok, Err}
 use Rattle.std.specs.Io.KnownBytes.{Appends}
 use Rattle.tk_client.specs.Warnings.{LintsView}
 use Rattle.tk_fault.specs.declared.fault.AppFault.{AppFault}
 use Rattle.tk_fault.specs.declared.fault.AppFault.TheVariants as faults
+use Rattle.tk_found.specs.Views.{limits_by}
+use Rattle.tk_odd.specs.declared.limits.Limits.{Limits}
 use Rattle.tk_reading.specs.Shown.{shown_of}
 use Rattle.tk_reading.specs.Outcomes.{HaveFault, LeadTo}
 use Rattle.tk_stream.specs.Sent.{IsCut}
 use Rattle.tk_stream.specs.Tables.{TablesView}
 use Rattle.tk_metrics.specs.declared.by.By.{By}
+use Rattle.tk_metrics.specs.Blame.{blame_in}
 use Rattle.tk_metrics.specs.Leaving.{gone_in}
 use Rattle.tk_metrics.specs.Metrics.{metrics_text}
 
--- the numbers of a stream of these bytes, which lead to these tables: of the tables, of what has left those after its lines, and of
--- how many lines there are
+-- how much is too much where nothing is said of long polls
+abbrev pub usual : LintsView → Limits
+usual lints = limits_by lints None
+
+-- the numbers of so many lines with these tables: of the last tables, of what has left those before, of who holds up whom, and of how many lines there are
+abbrev pub numbers_after : By → LintsView → List TablesView → TablesView → List ℕ
+numbers_after by lints shown tables = metrics_text by lints tables (gone_in by shown) (blame_in (usual lints) shown tables) (length shown)
+
+-- the numbers of a stream of these bytes, which lead to these tables
 abbrev pub stream_text : By → LintsView → TablesView → List ℕ → List ℕ
-stream_text by lints tables bytes = metrics_text by lints tables (gone_in by (shown_of bytes)) (length (shown_of bytes))
+stream_text by lints tables bytes = numbers_after by lints (shown_of bytes) tables
 
 -- the numbers were written of the stream that all bytes are
 pub record WritesNumbers (by : By) (lints : LintsView) (given old new : Option (List ℕ)) : Type 0 where

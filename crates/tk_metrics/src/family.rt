@@ -42,6 +42,12 @@ pub enum Family {
     Dropped,
     /// Lines of the stream.
     Lines,
+    /// What is odd about tasks.
+    Findings,
+    /// For how long tasks held up others.
+    HeldUp,
+    /// What tasks waited for a poll.
+    Waited,
 }
 
 impl Count {
@@ -102,6 +108,9 @@ impl Family {
             Family::Warnings => "taskscope_warnings",
             Family::Dropped => "taskscope_dropped_events",
             Family::Lines => "taskscope_stream_lines",
+            Family::Findings => "taskscope_findings",
+            Family::HeldUp => "taskscope_held_up_seconds",
+            Family::Waited => "taskscope_waited_seconds",
         }
     }
 
@@ -133,6 +142,9 @@ impl Family {
             Family::Warnings => "Warnings about tasks.",
             Family::Dropped => "Events that the event buffer had no room for.",
             Family::Lines => "Lines of the stream.",
+            Family::Findings => "How many tasks a finding is about.",
+            Family::HeldUp => "How long others waited while tasks of a place ran long.",
+            Family::Waited => "How long tasks waited for a poll, by what for.",
         }
     }
 
@@ -141,8 +153,9 @@ impl Family {
     {
         match self {
             Family::Task(count) => count.kind(),
-            Family::Tasks | Family::Warnings => FamilyKind::Gauge,
-            Family::PollOps | Family::Dropped | Family::Lines => FamilyKind::Counter,
+            Family::Tasks | Family::Warnings | Family::Findings => FamilyKind::Gauge,
+            Family::PollOps | Family::Dropped | Family::Lines | Family::HeldUp | Family::Waited =>
+                FamilyKind::Counter,
         }
     }
 
@@ -152,6 +165,7 @@ impl Family {
     {
         match self {
             Family::Task(count) => count.is_time(),
+            Family::HeldUp | Family::Waited => true,
             _ => false,
         }
     }

@@ -1,25 +1,25 @@
 //! The numbers of a stream, kept while it comes.
-ghost use Rattle.std.specs.Prelude.{◌≡◌, ◌≤◌, ◌<◌, ◌+◌, ◌^◌, ℕ, List, Option, length, IfOk, true};
+ghost use Rattle.std.specs.Prelude.{◌≡◌, ◌≤◌, ◌<◌, ◌+◌, ◌^◌, ℕ, List, [], Option, length, IfOk, true};
 ghost use Rattle.std.specs.Io.KnownBytes.{Consumes, IsAtEnd};
 ghost use Rattle.tk_reading.specs.Taken.{first};
 ghost use Rattle.tk_stream.specs.Tables.{TablesView};
-ghost use Rattle.tk_metrics.specs.Following.{Follows};
+ghost use Rattle.tk_metrics.specs.Following.{Sees};
 ghost use Rattle.tk_metrics.specs.Keeping.{Keeps};
 ghost use Rattle.tk_metrics.specs.Kept as spec;
-ghost use Rattle.tk_metrics.specs.Leaving.{gone_in};
-ghost use Rattle.tk_metrics.specs.Metrics.{metrics_text};
 ghost use Rattle.tk_metrics.specs.Places.{Texts};
+ghost use Rattle.tk_metrics.specs.Streams.{numbers_after, usual};
 ghost use Rattle.tk_metrics.specs.declared.by.By.{By as Told};
 
 use crate::by::By;
-use crate::following::numbers_now;
+use crate::following::{before_all, numbers_now};
 use crate::leavers::Leavers;
 use crate::place::Place;
 use std::alloc::Global;
 use std::io::Read;
 use tk_client::{Client, Lints};
 use tk_fault::AppFault;
-use tk_reading::{MAX_LINE, PIECE, Pace, feed_lines};
+use tk_odd::Diagnosis;
+use tk_reading::{Both, MAX_LINE, PIECE, Pace, feed_lines};
 
 // How many lines are applied, and how many were when numbers were last put, if they were.
 #[derive(Clone, Copy)]
@@ -32,16 +32,16 @@ struct Progress {
 fn put_now<P: Place>(
     client: &Client,
     alloc: Global,
-    leavers: &Leavers,
+    seen: &Both<Leavers, Diagnosis>,
     place: &mut P,
     path: &str,
     lints: &Lints,
 ) -> Result<(), AppFault>
-    ensures { (by : Told) (shown : List TablesView) → Follows by shown leavers.now
-        → spec.PutsNow path.now (metrics_text by lints.now client.now.start.tables (gone_in by shown) (length shown)) result
+    ensures { (by : Told) (shown : List TablesView) → Sees by (usual lints.now) shown seen.now
+        → spec.PutsNow path.now (numbers_after by lints.now shown client.now.start.tables) result
         (P.texts place.old) (P.texts place.new) }
 {
-    let Ok(text) = numbers_now(alloc, client, leavers, lints) else {
+    let Ok(text) = numbers_now(alloc, client, seen, lints) else {
         return Err(AppFault::Memory);
     };
     match place.put(path, text.as_slice()) {
@@ -60,7 +60,7 @@ fn is_of_stream(fault: &AppFault) -> bool
 fn take_piece<P: Place>(
     client: &mut Client,
     alloc: Global,
-    leavers: &mut Leavers,
+    seen: &mut Both<Leavers, Diagnosis>,
     place: &mut P,
     path: &str,
     lints: &Lints,
@@ -70,15 +70,15 @@ fn take_piece<P: Place>(
     requires few { lines ≤ 2 ^ 61 }
     requires short { length piece.now ≤ 65536 }
     ensures goes { (by : Told) (given left new : Option (List ℕ)) (put : Option ℕ) (old : Option Texts) → Consumes left new piece.now
-        → spec.Kept path.now by lints.now given left lines put client.old leavers.old old (P.texts place.old)
-        → spec.Goes path.now by lints.now given new result put client.new leavers.new old (P.texts place.new) }
+        → spec.Kept path.now by lints.now given left lines put client.old seen.old old (P.texts place.old)
+        → spec.Goes path.now by lints.now given new result put client.new seen.new old (P.texts place.new) }
     ensures few { IfOk result (λ sum. sum ≤ lines + 65536) }
 {
-    match feed_lines(client, leavers, lines, piece) {
+    match feed_lines(client, seen, lines, piece) {
         Ok(sum) => Ok(sum),
         Err(fault) => {
             if is_of_stream(&fault) {
-                put_now(client, alloc, leavers, place, path, lints)?;
+                put_now(client, alloc, seen, place, path, lints)?;
                 return Err(fault);
             }
             Err(fault)
@@ -100,7 +100,7 @@ fn is_new(lines: u64, put: Option<u64>) -> bool
 fn put_due<P: Place, C: Pace>(
     client: &Client,
     alloc: Global,
-    leavers: &Leavers,
+    seen: &Both<Leavers, Diagnosis>,
     place: &mut P,
     path: &str,
     lints: &Lints,
@@ -108,13 +108,13 @@ fn put_due<P: Place, C: Pace>(
     progress: Progress,
 ) -> Result<Option<u64>, AppFault>
     ensures { (by : Told) (given left : Option (List ℕ)) (old : Option Texts)
-        → spec.Kept path.now by lints.now given left progress.lines progress.put client.now leavers.now old (P.texts place.old)
-        → spec.Went path.now by lints.now given left progress.lines result client.now leavers.now old (P.texts place.new) }
+        → spec.Kept path.now by lints.now given left progress.lines progress.put client.now seen.now old (P.texts place.old)
+        → spec.Went path.now by lints.now given left progress.lines result client.now seen.now old (P.texts place.new) }
 {
     if !is_new(progress.lines, progress.put) || !pace.is_due() {
         return Ok(progress.put);
     }
-    put_now(client, alloc, leavers, place, path, lints)?;
+    put_now(client, alloc, seen, place, path, lints)?;
     pace.mark();
     Ok(Some(progress.lines))
 }
@@ -123,7 +123,7 @@ fn put_due<P: Place, C: Pace>(
 fn after_piece<P: Place, C: Pace>(
     client: &mut Client,
     alloc: Global,
-    leavers: &mut Leavers,
+    seen: &mut Both<Leavers, Diagnosis>,
     place: &mut P,
     path: &str,
     lints: &Lints,
@@ -134,14 +134,14 @@ fn after_piece<P: Place, C: Pace>(
     requires few { progress.lines ≤ 2 ^ 61 }
     requires short { length piece.now ≤ 65536 }
     ensures steps { (by : Told) (given left new : Option (List ℕ)) (old : Option Texts) → Consumes left new piece.now
-        → spec.Kept path.now by lints.now given left progress.lines progress.put client.old leavers.old old (P.texts place.old)
-        → spec.Steps path.now by lints.now given new result client.new leavers.new old (P.texts place.new) }
+        → spec.Kept path.now by lints.now given left progress.lines progress.put client.old seen.old old (P.texts place.old)
+        → spec.Steps path.now by lints.now given new result client.new seen.new old (P.texts place.new) }
     ensures few { spec.IsFew progress.lines result }
 {
     let lines = take_piece(
         client,
         alloc,
-        leavers,
+        seen,
         place,
         path,
         lints,
@@ -152,7 +152,7 @@ fn after_piece<P: Place, C: Pace>(
         lines,
         put: progress.put,
     };
-    let put = put_due(client, alloc, leavers, place, path, lints, pace, now)?;
+    let put = put_due(client, alloc, seen, place, path, lints, pace, now)?;
     Ok(Some(Progress { lines, put }))
 }
 
@@ -160,7 +160,7 @@ fn after_piece<P: Place, C: Pace>(
 fn at_end<P: Place, C: Pace>(
     client: &Client,
     alloc: Global,
-    leavers: &Leavers,
+    seen: &Both<Leavers, Diagnosis>,
     place: &mut P,
     path: &str,
     lints: &Lints,
@@ -168,15 +168,15 @@ fn at_end<P: Place, C: Pace>(
     progress: Progress,
 ) -> Result<Option<Progress>, AppFault>
     ensures steps { (by : Told) (given left : Option (List ℕ)) (old : Option Texts) → IsAtEnd left
-        → spec.Kept path.now by lints.now given left progress.lines progress.put client.now leavers.now old (P.texts place.old)
-        → spec.Steps path.now by lints.now given left result client.now leavers.now old (P.texts place.new) }
+        → spec.Kept path.now by lints.now given left progress.lines progress.put client.now seen.now old (P.texts place.old)
+        → spec.Steps path.now by lints.now given left result client.now seen.now old (P.texts place.new) }
     ensures few { spec.IsFew progress.lines result }
 {
     if !pace.goes_on() {
-        put_now(client, alloc, leavers, place, path, lints)?;
+        put_now(client, alloc, seen, place, path, lints)?;
         return Ok(None);
     }
-    let put = put_due(client, alloc, leavers, place, path, lints, pace, progress)?;
+    let put = put_due(client, alloc, seen, place, path, lints, pace, progress)?;
     Ok(Some(Progress {
         lines: progress.lines,
         put,
@@ -187,7 +187,7 @@ fn at_end<P: Place, C: Pace>(
 fn step<R: Read, P: Place, C: Pace>(
     client: &mut Client,
     alloc: Global,
-    leavers: &mut Leavers,
+    seen: &mut Both<Leavers, Diagnosis>,
     reader: &mut R,
     place: &mut P,
     path: &str,
@@ -199,16 +199,16 @@ fn step<R: Read, P: Place, C: Pace>(
     requires few { progress.lines ≤ 2 ^ 61 }
     requires room { length piece.old ≡ 65536 }
     ensures steps { (by : Told) (given : Option (List ℕ)) (old : Option Texts)
-        → spec.Kept path.now by lints.now given (R.remaining reader.old) progress.lines progress.put client.old leavers.old old (P.texts place.old)
-        → spec.Steps path.now by lints.now given (R.remaining reader.new) result client.new leavers.new old (P.texts place.new) }
+        → spec.Kept path.now by lints.now given (R.remaining reader.old) progress.lines progress.put client.old seen.old old (P.texts place.old)
+        → spec.Steps path.now by lints.now given (R.remaining reader.new) result client.new seen.new old (P.texts place.new) }
     ensures few { spec.IsFew progress.lines result }
 {
     match reader.read(piece) {
-        Ok(0) => at_end(client, alloc, leavers, place, path, lints, pace, progress),
+        Ok(0) => at_end(client, alloc, seen, place, path, lints, pace, progress),
         Ok(n) => after_piece(
             client,
             alloc,
-            leavers,
+            seen,
             place,
             path,
             lints,
@@ -220,7 +220,38 @@ fn step<R: Read, P: Place, C: Pace>(
     }
 }
 
-// What `keep_metrics` does by a new client. It gives up after 2^32 reads.
+// What `keep_metrics` does by a new client and what follows its lines. It gives up after 2^32 reads.
+fn keep_seen<R: Read, P: Place, C: Pace>(
+    client: &mut Client,
+    seen: &mut Both<Leavers, Diagnosis>,
+    alloc: Global,
+    reader: &mut R,
+    place: &mut P,
+    path: &str,
+    lints: &Lints,
+    pace: &mut C,
+) -> Result<(), AppFault>
+    requires client { client.old ≡ first }
+    requires seen { Sees seen.old.first.by (usual lints.now) [] seen.old }
+    ensures { Keeps path.now seen.old.first.by lints.now (R.remaining reader.old) (R.remaining reader.new) result (P.texts place.old) (P.texts place.new) }
+{
+    let mut piece = [0u8; PIECE];
+    let mut progress = Progress {
+        lines: 0,
+        put: None,
+    };
+    for _ in 0u64..4_294_967_296 {
+        match step(
+            client, alloc, seen, reader, place, path, lints, pace, progress, &mut piece,
+        )? {
+            Some(next) => progress = next,
+            None => return Ok(()),
+        }
+    }
+    Err(AppFault::Read)
+}
+
+// What `keep_metrics` does by a new client.
 fn keep_by<R: Read, P: Place, C: Pace>(
     client: &mut Client,
     alloc: Global,
@@ -234,32 +265,10 @@ fn keep_by<R: Read, P: Place, C: Pace>(
     requires { client.old ≡ first }
     ensures { Keeps path.now by lints.now (R.remaining reader.old) (R.remaining reader.new) result (P.texts place.old) (P.texts place.new) }
 {
-    let Ok(mut leavers) = Leavers::new(alloc, by) else {
-        return Err(AppFault::Memory);
-    };
-    let mut piece = [0u8; PIECE];
-    let mut progress = Progress {
-        lines: 0,
-        put: None,
-    };
-    for _ in 0u64..4_294_967_296 {
-        match step(
-            client,
-            alloc,
-            &mut leavers,
-            reader,
-            place,
-            path,
-            lints,
-            pace,
-            progress,
-            &mut piece,
-        )? {
-            Some(next) => progress = next,
-            None => return Ok(()),
-        }
+    match before_all(alloc, by, lints) {
+        Ok(mut seen) => keep_seen(client, &mut seen, alloc, reader, place, path, lints, pace),
+        Err(_) => Err(AppFault::Memory),
     }
-    Err(AppFault::Read)
 }
 
 /// Reads a stream to its end, and keeps its numbers in a place, under a path, while it comes: they are put anew once lines came and the pace allows

@@ -2,10 +2,11 @@
 //!
 //! - [`metrics_stream`]: reads a stream to its end, and writes its numbers.
 //! - [`keep_metrics`]: keeps its numbers in a [`Place`] while it comes.
-//! - [`metrics`]: the numbers of tables, and of what has left them ([`Left`]).
+//! - [`metrics`]: the numbers of tables, of what has left them ([`Left`]), and of what is odd.
 //! - [`By`]: whether tasks are added up by their names, or shown each by itself.
 #![tactic(auto)]
 
+mod blame;
 mod by;
 mod family;
 mod following;

@@ -1,15 +1,21 @@
 //! The text of a stream's numbers.
-ghost use Rattle.std.specs.Prelude.{◌≡◌, IfOk, IfErr};
+ghost use Rattle.std.specs.Prelude.{◌≡◌, List, IfOk, IfErr};
+ghost use Rattle.tk_odd.specs.Inner.{Follows as Diagnoses};
+ghost use Rattle.tk_stream.specs.Tables.{TablesView};
+ghost use Rattle.tk_metrics.specs.Blame.{blame_in};
 ghost use Rattle.tk_metrics.specs.Leaving.{Holds};
 ghost use Rattle.tk_metrics.specs.Metrics as spec;
 
+use crate::blame::put_blame;
 use crate::by::By;
 use crate::left::Left;
 use crate::sums::{add_resources, add_tasks};
+use crate::text::put;
 use crate::writing::put_text;
 use std::alloc::{AllocError, Global};
 use tk_client::{Lints, Warning, warnings_in};
 use tk_fault::AppFault;
+use tk_odd::Diagnosis;
 use tk_stream::Tables;
 
 /// The numbers of tables with these warnings.
@@ -19,10 +25,11 @@ pub(crate) fn metrics_with(
     tables: &Tables,
     warnings: &[Warning],
     left: Left,
+    diagnosis: &Diagnosis,
     lines: u64,
 ) -> Result<Vec<u8>, AllocError>
-    ensures { (gone : spec.Gone) → Holds gone left
-        → IfOk result (λ text. text.items ≡ spec.metrics_with by tables.now warnings.now gone lines) }
+    ensures { (gone : spec.Gone) (shown : List TablesView) → Holds gone left → Diagnoses shown diagnosis.now
+        → IfOk result (λ text. text.items ≡ spec.metrics_with by tables.now warnings.now gone (blame_in diagnosis.now.limits shown tables.now) lines) }
 {
     let Left {
         mut tasks,
@@ -40,10 +47,12 @@ pub(crate) fn metrics_with(
         tables.dropped(),
         lines,
     )?;
+    put_blame(&mut text, alloc, by, diagnosis, tables)?;
+    put(&mut text, "# EOF\n")?;
     Ok(text)
 }
 
-/// The numbers of a stream as the text that Prometheus reads: of its tables, of what has left them, and of how many lines it has.
+/// The numbers of a stream as the text that Prometheus reads: of its tables, of what has left them, of what is odd, and of how many lines it has.
 /// `docs/FORMATS.md` has the families.
 ///
 /// Its one error is `Memory`.
@@ -53,16 +62,18 @@ pub fn metrics(
     lints: &Lints,
     tables: &Tables,
     left: Left,
+    diagnosis: &Diagnosis,
     lines: u64,
 ) -> Result<Vec<u8>, AppFault>
-    ensures ok { (gone : spec.Gone) → Holds gone left
-        → IfOk result (λ text. text.items ≡ spec.metrics_text by lints.now tables.now gone lines) }
+    ensures ok { (gone : spec.Gone) (shown : List TablesView) → Holds gone left → Diagnoses shown diagnosis.now
+        → IfOk result (λ text. text.items ≡ spec.metrics_text by lints.now tables.now gone (blame_in diagnosis.now.limits shown tables.now) lines) }
     ensures memory { IfErr result (λ fault. fault ≡ AppFault.Memory) }
 {
     let Ok(warnings) = warnings_in(alloc, tables, lints) else {
         return Err(AppFault::Memory);
     };
-    match metrics_with(alloc, by, tables, warnings.as_slice(), left, lines) {
+    let warnings = warnings.as_slice();
+    match metrics_with(alloc, by, tables, warnings, left, diagnosis, lines) {
         Ok(text) => Ok(text),
         Err(_) => Err(AppFault::Memory),
     }

@@ -1,18 +1,45 @@
 //! The numbers of a stream, once it was read to its end.
-ghost use Rattle.std.specs.Prelude.{◌≡◌, IfErr};
+ghost use Rattle.std.specs.Prelude.{◌≡◌, [], IfErr};
 ghost use Rattle.tk_reading.specs.Taken.{first};
 ghost use Rattle.tk_report.specs.Views.{IsOfWriter};
-ghost use Rattle.tk_metrics.specs.Streams.{Measures};
+ghost use Rattle.tk_metrics.specs.Following.{Sees};
+ghost use Rattle.tk_metrics.specs.Streams.{Measures, usual};
 
 use crate::by::By;
-use crate::following::numbers_now;
+use crate::following::{before_all, numbers_now};
 use crate::leavers::Leavers;
 use std::alloc::Global;
 use std::io::{Read, Write};
 use tk_client::{Client, Lints};
 use tk_fault::AppFault;
-use tk_reading::{MAX_LINE, read_stream};
+use tk_odd::Diagnosis;
+use tk_reading::{Both, MAX_LINE, read_stream};
 use tk_stream::send;
+
+// What `metrics_stream` does by a new client and what follows its lines.
+fn write_seen<R: Read, W: Write>(
+    client: &mut Client,
+    seen: &mut Both<Leavers, Diagnosis>,
+    alloc: Global,
+    reader: &mut R,
+    writer: &mut W,
+    lints: &Lints,
+) -> Result<(), AppFault>
+    requires client { client.old ≡ first }
+    requires seen { Sees seen.old.first.by (usual lints.now) [] seen.old }
+    ensures measures { Measures seen.old.first.by lints.now (R.remaining reader.old) (R.remaining reader.new) result
+        (W.contents writer.old) (W.contents writer.new) }
+    ensures unwritten { IfErr result (λ fault. (IsOfWriter fault → ⊥) → writer.new ≡ writer.old) }
+{
+    read_stream(client, seen, reader)?;
+    let Ok(text) = numbers_now(alloc, client, seen, lints) else {
+        return Err(AppFault::Memory);
+    };
+    match send(writer, text.as_slice()) {
+        Ok(()) => Ok(()),
+        Err(_) => Err(AppFault::Write),
+    }
+}
 
 // What `metrics_stream` does by a new client.
 fn write_by<R: Read, W: Write>(
@@ -28,21 +55,14 @@ fn write_by<R: Read, W: Write>(
         (W.contents writer.old) (W.contents writer.new) }
     ensures unwritten { IfErr result (λ fault. (IsOfWriter fault → ⊥) → writer.new ≡ writer.old) }
 {
-    let Ok(mut leavers) = Leavers::new(alloc, by) else {
-        return Err(AppFault::Memory);
-    };
-    read_stream(client, &mut leavers, reader)?;
-    let Ok(text) = numbers_now(alloc, client, &leavers, lints) else {
-        return Err(AppFault::Memory);
-    };
-    match send(writer, text.as_slice()) {
-        Ok(()) => Ok(()),
-        Err(_) => Err(AppFault::Write),
+    match before_all(alloc, by, lints) {
+        Ok(mut seen) => write_seen(client, &mut seen, alloc, reader, writer, lints),
+        Err(_) => Err(AppFault::Memory),
     }
 }
 
 /// Reads a stream to its end, and writes its numbers as the text that Prometheus reads: of the tables that they lead to, of what
-/// has left those, and of how many lines there were.
+/// has left those, of what is odd, and of how many lines there were.
 ///
 /// A last line without its line end is ignored. The text is made whole before its first byte is written. The faults are those of
 /// `view_stream`.

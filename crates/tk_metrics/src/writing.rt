@@ -256,7 +256,7 @@ fn put_lines(out: &mut Vec<u8>, lines: u64) -> Result<(), AllocError>
     put_sample(out, Family::Lines, b"", lines)
 }
 
-/// Puts the text of all families, and its end.
+/// Puts the families of tables, of what has left them, and of lines.
 pub(crate) fn put_text(
     out: &mut Vec<u8>,
     alloc: Global,
@@ -274,6 +274,5 @@ pub(crate) fn put_text(
     put_warnings(out, alloc, warnings)?;
     put_dropped(out, alloc, dropped)?;
     put_lines(out, lines)?;
-    put(out, "# EOF\n")?;
     Ok(())
 }

@@ -4,7 +4,8 @@ mod given;
 mod keeping;
 
 use given::{
-    FULL, FULL_NUMBERS, LEAVING, LEAVING_BY_ID, LEAVING_NUMBERS, LOST, LOST_BY_ID, LOST_NUMBERS,
+    FULL, FULL_NUMBERS, HELD, HELD_END, HELD_END_BY_ID, LEAVING, LEAVING_BY_ID, LEAVING_NUMBERS,
+    LOST, LOST_BY_ID, LOST_NUMBERS,
 };
 use std::alloc::Global;
 use std::io;
@@ -12,6 +13,7 @@ use std::io::Write;
 use tk_client::{Client, Lints};
 use tk_fault::AppFault;
 use tk_metrics::{By, Left, metrics, metrics_stream};
+use tk_odd::{Diagnosis, Limits};
 
 // Whether a stream's numbers are this text.
 fn has_numbers(alloc: Global, stream: &[u8], by: By, text: &str) -> bool {
@@ -38,13 +40,54 @@ fn names_stand_escaped_and_sums_stay_at_the_greatest_number(rt: HostRuntime) {
     assert!(rt; has_numbers(rt.alloc(), FULL, By::Name, FULL_NUMBERS));
 }
 
+// Whether a stream's numbers end with this text.
+fn end_with(alloc: Global, stream: &[u8], by: By, text: &str) -> bool {
+    let mut reader = stream;
+    let mut numbers = Vec::new(alloc);
+    let outcome = metrics_stream(alloc, &mut reader, &mut numbers, by, &Lints::default());
+    outcome.is_ok() && numbers.as_slice().ends_with(text.as_bytes())
+}
+
+#[test]
+fn numbers_name_who_holds_up_whom(rt: HostRuntime) {
+    assert!(rt; end_with(rt.alloc(), HELD, By::Name, HELD_END));
+    assert!(rt; end_with(rt.alloc(), HELD, By::Id, HELD_END_BY_ID));
+}
+
 // Whether the numbers of a client's tables are this text, where nothing has left and there were so many lines.
-fn tables_have_numbers(alloc: Global, client: &Client, lines: u64, text: &str) -> bool {
+fn tables_have_numbers(
+    alloc: Global,
+    client: &Client,
+    diagnosis: &Diagnosis,
+    lines: u64,
+    text: &str,
+) -> bool {
     let lints = Lints::default();
     let left = Left::none(alloc);
-    match metrics(alloc, By::Name, &lints, client.tables(), left, lines) {
+    match metrics(
+        alloc,
+        By::Name,
+        &lints,
+        client.tables(),
+        left,
+        diagnosis,
+        lines,
+    ) {
         Ok(numbers) => numbers.as_slice() == text.as_bytes(),
         Err(_) => false,
+    }
+}
+
+// What is odd after the tables of a client alone.
+fn diagnosis_of(alloc: Global, client: &Client) -> Option<Diagnosis> {
+    let limits = Limits {
+        long: 100_000_000,
+        lints: Lints::default(),
+    };
+    let mut diagnosis = Diagnosis::new(alloc, limits).ok()?;
+    match diagnosis.note(client.tables()) {
+        Ok(()) => Some(diagnosis),
+        Err(_) => None,
     }
 }
 
@@ -55,7 +98,11 @@ fn tables_have_the_numbers_of_their_stream(rt: HostRuntime) {
         return;
     };
     assert!(rt; client.feed(LOST) == Ok(2));
-    assert!(rt; tables_have_numbers(rt.alloc(), &client, 2, LOST_NUMBERS));
+    let Some(diagnosis) = diagnosis_of(rt.alloc(), &client) else {
+        assert!(rt; false);
+        return;
+    };
+    assert!(rt; tables_have_numbers(rt.alloc(), &client, &diagnosis, 2, LOST_NUMBERS));
 }
 
 // Takes so many bytes, and then gives an error.

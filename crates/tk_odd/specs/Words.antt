@@ -1,7 +1,9 @@
 -- What is said of what is odd, to people.
-use Rattle.std.specs.Prelude.{ℕ, List, codes}
+use Rattle.std.specs.Prelude.{ℕ, Bool, if◌then◌else◌, List, codes}
 use Rattle.tk_odd.specs.declared.finding.OddKind.{OddKind}
 use Rattle.tk_odd.specs.declared.finding.OddKind.TheVariants.{HoldsUp, StandsStill, LeftAlone, Overloaded, NeverYielded, LostWaker, PassedOver, NeverPolled, LongPoll, SelfWakes}
+use Rattle.tk_odd.specs.declared.words.Shape.{Shape}
+use Rattle.tk_odd.specs.declared.words.Shape.TheVariants as shapes
 
 -- the name of a kind
 abbrev pub name_of : OddKind → List ℕ
@@ -15,6 +17,75 @@ name_of PassedOver = codes "passed-over"
 name_of NeverPolled = codes "never-polled"
 name_of LongPoll = codes "long-poll"
 name_of SelfWakes = codes "self-wakes"
+
+-- what is said of who it is about, where it holds now
+abbrev pub now_of : OddKind → List ℕ
+now_of HoldsUp = codes "holds up the others"
+now_of StandsStill = codes "runs while all others stand still"
+now_of LeftAlone = codes "wait, and hardly any task runs"
+now_of Overloaded = codes "wait long in the queue"
+now_of NeverYielded = codes "has never yielded"
+now_of LostWaker = codes "can be woken by nobody"
+now_of PassedOver = codes "is passed over"
+now_of NeverPolled = codes "was never polled"
+now_of LongPoll = codes "is in a long poll"
+now_of SelfWakes = codes "wakes itself"
+
+-- and where it held earlier
+abbrev pub earlier_of : OddKind → List ℕ
+earlier_of HoldsUp = codes "held up the others"
+earlier_of StandsStill = codes "ran while all others stood still"
+earlier_of LeftAlone = codes "waited, and hardly any task ran"
+earlier_of Overloaded = codes "waited long in the queue"
+earlier_of NeverYielded = codes "had not yielded"
+earlier_of LostWaker = codes "could be woken by nobody"
+earlier_of PassedOver = codes "was passed over"
+earlier_of NeverPolled = codes "had not been polled"
+earlier_of LongPoll = codes "had a long poll"
+earlier_of SelfWakes = codes "woke itself"
+
+-- the same, after their name
+abbrev pub said_of : Bool → OddKind → List ℕ
+said_of is_now kind = if is_now then now_of kind else earlier_of kind
+
+-- what its figures are
+abbrev pub shape_of : OddKind → Shape
+shape_of HoldsUp = shapes.Held
+shape_of StandsStill = shapes.Alone
+shape_of LeftAlone = shapes.Stretch
+shape_of Overloaded = shapes.Stretch
+shape_of NeverYielded = shapes.Lasting
+shape_of LostWaker = shapes.Lasting
+shape_of PassedOver = shapes.Lasting
+shape_of NeverPolled = shapes.Lasting
+shape_of LongPoll = shapes.Longest
+shape_of SelfWakes = shapes.Share
+
+-- what stands before its figure, in a sentence for people
+abbrev pub before_of : OddKind → List ℕ
+before_of HoldsUp = codes "others waited for it, at least"
+before_of StandsStill = codes "No other task was polled while it ran for at least"
+before_of LeftAlone = codes "a task waited longer than all others ran, by at least"
+before_of Overloaded = codes "they waited in the queue at least"
+before_of NeverYielded = codes "Its first poll has run"
+before_of LostWaker = codes "It has been idle"
+before_of PassedOver = codes "It has waited"
+before_of NeverPolled = codes "It has waited"
+before_of LongPoll = codes "A poll of it took at least"
+before_of SelfWakes = codes "of its"
+
+-- and what stands after it
+abbrev pub after_of : OddKind → List ℕ
+after_of HoldsUp = codes " in all"
+after_of StandsStill = codes ""
+after_of LeftAlone = codes ""
+after_of Overloaded = codes " for each poll, and no task is to blame"
+after_of NeverYielded = codes ", and has not come back"
+after_of LostWaker = codes ", and no waker of it is left"
+after_of PassedOver = codes ", while tasks were polled that came later"
+after_of NeverPolled = codes ", and was never polled"
+after_of LongPoll = codes ""
+after_of SelfWakes = codes " wakes were its own"
 
 -- what to do
 abbrev pub advice_of : OddKind → List ℕ

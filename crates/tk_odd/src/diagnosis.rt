@@ -9,6 +9,7 @@ ghost use Rattle.tk_stream.specs.Tables.{TablesView};
 
 use crate::apart::Stretch;
 use crate::free::Free;
+use crate::held::Held;
 use crate::limits::Limits;
 use crate::members::{Members, add_line, moved_of};
 use crate::places::{Places, Step, Totals, totals_of};
@@ -217,6 +218,21 @@ impl Diagnosis {
         self.end_step(tables)?;
         self.begin_step(tables)
     }
+
+    /// For how long the tasks of each place held up others in the steps that are over: in the order in which places first came.
+    pub fn held(&self) -> &Series<Held>
+        ensures { (shown : List TablesView) → inner.Follows shown self.now → result.now ≡ (spec.standing_of self.now.limits shown).places.0 }
+    {
+        &self.places.held
+    }
+
+    /// What was waited in the steps that are over, shared out.
+    pub fn shares(&self) -> Shares
+        ensures { (shown : List TablesView) → inner.Follows shown self.now → result ≡ (spec.standing_of self.now.limits shown).shares }
+    {
+        self.shares
+    }
+
     /// Takes the tables after a line.
     pub fn note(&mut self, tables: &Tables) -> Result<(), AllocError>
         ensures follows { (shown : List TablesView) → inner.Follows shown self.old → OnOk result (inner.Follows (shown ++ tables.now ∷ []) self.new) }

@@ -31,3 +31,4 @@ pub use limits::Limits;
 pub use moved::Moved;
 pub use place::place_of;
 pub use shares::Shares;
+pub use words::Shape;

@@ -4,6 +4,23 @@ ghost use Rattle.tk_odd.specs.Words as spec;
 
 use crate::finding::OddKind;
 
+/// What the figures of a finding are, by which an outlet arranges them. Times are nanoseconds.
+#[derive(Clone, Copy, Debug, PartialEq, Eq)]
+pub enum Shape {
+    /// From when to when, for how long others waited, how long a task ran alone, how long a poll took, and how many tasks were charged.
+    Held,
+    /// For how long a task ran alone, and how long a poll took.
+    Alone,
+    /// From when to when, and for how long.
+    Stretch,
+    /// Since when, for how long, and of how many tasks.
+    Lasting,
+    /// How long a poll took.
+    Longest,
+    /// How many of how many, and of how many tasks.
+    Share,
+}
+
 impl OddKind {
     /// Its name, as outlets write it.
     pub fn name(self) -> &'static str
@@ -20,6 +37,107 @@ impl OddKind {
             OddKind::NeverPolled => "never-polled",
             OddKind::LongPoll => "long-poll",
             OddKind::SelfWakes => "self-wakes",
+        }
+    }
+
+    // What is said where it holds now.
+    fn said_now(self) -> &'static str
+        ensures { result.now ≡ spec.now_of self }
+    {
+        match self {
+            OddKind::HoldsUp => "holds up the others",
+            OddKind::StandsStill => "runs while all others stand still",
+            OddKind::LeftAlone => "wait, and hardly any task runs",
+            OddKind::Overloaded => "wait long in the queue",
+            OddKind::NeverYielded => "has never yielded",
+            OddKind::LostWaker => "can be woken by nobody",
+            OddKind::PassedOver => "is passed over",
+            OddKind::NeverPolled => "was never polled",
+            OddKind::LongPoll => "is in a long poll",
+            OddKind::SelfWakes => "wakes itself",
+        }
+    }
+
+    // What is said where it held earlier.
+    fn said_earlier(self) -> &'static str
+        ensures { result.now ≡ spec.earlier_of self }
+    {
+        match self {
+            OddKind::HoldsUp => "held up the others",
+            OddKind::StandsStill => "ran while all others stood still",
+            OddKind::LeftAlone => "waited, and hardly any task ran",
+            OddKind::Overloaded => "waited long in the queue",
+            OddKind::NeverYielded => "had not yielded",
+            OddKind::LostWaker => "could be woken by nobody",
+            OddKind::PassedOver => "was passed over",
+            OddKind::NeverPolled => "had not been polled",
+            OddKind::LongPoll => "had a long poll",
+            OddKind::SelfWakes => "woke itself",
+        }
+    }
+
+    /// What is said of who it is about, after their name: where it holds now, or where it held earlier.
+    pub fn said(self, is_now: bool) -> &'static str
+        ensures { result.now ≡ spec.said_of is_now self }
+    {
+        if is_now {
+            self.said_now()
+        } else {
+            self.said_earlier()
+        }
+    }
+
+    /// What its figures are.
+    pub fn shape(self) -> Shape
+        ensures { result ≡ spec.shape_of self }
+    {
+        match self {
+            OddKind::HoldsUp => Shape::Held,
+            OddKind::StandsStill => Shape::Alone,
+            OddKind::LeftAlone => Shape::Stretch,
+            OddKind::Overloaded => Shape::Stretch,
+            OddKind::NeverYielded => Shape::Lasting,
+            OddKind::LostWaker => Shape::Lasting,
+            OddKind::PassedOver => Shape::Lasting,
+            OddKind::NeverPolled => Shape::Lasting,
+            OddKind::LongPoll => Shape::Longest,
+            OddKind::SelfWakes => Shape::Share,
+        }
+    }
+
+    /// What stands before its figure, in a sentence for people.
+    pub fn before(self) -> &'static str
+        ensures { result.now ≡ spec.before_of self }
+    {
+        match self {
+            OddKind::HoldsUp => "others waited for it, at least",
+            OddKind::StandsStill => "No other task was polled while it ran for at least",
+            OddKind::LeftAlone => "a task waited longer than all others ran, by at least",
+            OddKind::Overloaded => "they waited in the queue at least",
+            OddKind::NeverYielded => "Its first poll has run",
+            OddKind::LostWaker => "It has been idle",
+            OddKind::PassedOver => "It has waited",
+            OddKind::NeverPolled => "It has waited",
+            OddKind::LongPoll => "A poll of it took at least",
+            OddKind::SelfWakes => "of its",
+        }
+    }
+
+    /// What stands after its figure, in a sentence for people.
+    pub fn after(self) -> &'static str
+        ensures { result.now ≡ spec.after_of self }
+    {
+        match self {
+            OddKind::HoldsUp => " in all",
+            OddKind::StandsStill => "",
+            OddKind::LeftAlone => "",
+            OddKind::Overloaded => " for each poll, and no task is to blame",
+            OddKind::NeverYielded => ", and has not come back",
+            OddKind::LostWaker => ", and no waker of it is left",
+            OddKind::PassedOver => ", while tasks were polled that came later",
+            OddKind::NeverPolled => ", and was never polled",
+            OddKind::LongPoll => "",
+            OddKind::SelfWakes => " wakes were its own",
         }
     }
 

@@ -1,26 +1,18 @@
 -- What is drawn of the first item of a list, and of the others.
-use Rattle.std.proofs.Common.{◌≡◌, ◌-◌, ◌≤◌, List, [], ◌∷◌, length, drop, take, map, get_or, arith, subst}
+use Rattle.std.proofs.Common.{◌≡◌, ◌-◌, ◌≤◌, List, [], ◌∷◌, length, drop, take, get_or, arith, subst}
 use Rattle.std.specs.Prelude.{flat_map}
 use Rattle.std.specs.List.{zip}
 use Rattle.std.proofs.lemmas.List.{take_all}
 use Rattle.tk_ids.specs.declared.attr.AttrInfo.{AttrInfo}
 use Rattle.tk_ids.specs.declared.attr.AttrValue.{AttrValue}
-use Rattle.tk_stream.specs.declared.tables.task.Task.{Task}
 use Rattle.tk_paper.specs.Pieces.{Writes}
 use Rattle.tk_paper.specs.Escaping.{PaperView}
 use Rattle.tk_paper.proofs.PutLemmas.{then}
-use Rattle.tk_page.specs.Cards.{link, names, next_name}
 use Rattle.tk_page.specs.Items.{attr}
 
 -- the items after the first are all others
 all_others : {A : Type 0} (x : A) (xs : List A) → take (length (x ∷ xs) - 1) xs ≡ xs
 all_others x xs = take_all (length (x ∷ xs) - 1) xs (omega arith)
-
-pub names_put : {R : Type 0} (now : R → Task) {a b c : PaperView} (xs : List R) (x : R) → 1 ≤ length xs → x ≡ get_or xs 0 x → Writes a b (link (now x))
-    → Writes b c (flat_map next_name (map now (take (length xs - 1) (drop 1 xs)))) → Writes a c (names (map now xs))
-names_put now [] x h is g k = absurd (omega (arith, h))
-names_put now {a} {b} {c} (y ∷ ys) x h is g k =
-    then (subst (λ z. Writes a b (link (now z))) is g) (subst (λ zs. Writes b c (flat_map next_name (map now zs))) (all_others y ys) k)
 
 pub attrs_put : {a b c : PaperView} (infos : List AttrInfo) (values : List AttrValue) (x : AttrInfo) (d : AttrValue) → 1 ≤ length infos → 1 ≤ length values
     → x ≡ get_or infos 0 x → Writes a b (attr (x, get_or values 0 d)) → Writes b c (flat_map attr (zip (take (length infos - 1) (drop 1 infos)) (take (length values - 1) (drop 1 values))))

@@ -5,6 +5,5 @@ pub mod RankLemmas
 pub mod DrawLemmas
 pub mod Counting
 pub mod Leading
+pub mod CardLemmas
 pub mod PlaceLemmas
-pub mod Most
-pub mod HolderLemmas

@@ -1,5 +1,5 @@
 -- Loops over lists, one item more.
-use Rattle.std.proofs.Common.{◌≡◌, ℕ, zero, suc, ◌+◌, ◌<◌, ◌≤◌, List, [], ◌∷◌, ◌++◌, length, min, ◌⊎◌, inl, inr, take, map, filter, slice_get, get_or, Bool, true, false, ◌||◌, cond, nat_eq, Some, None, refl, ap, sym, ◌∙◌, append-nil, add-one, arith, subst}
+use Rattle.std.proofs.Common.{◌≡◌, ℕ, zero, suc, ◌+◌, ◌<◌, ◌≤◌, List, [], ◌∷◌, ◌++◌, length, min, ◌⊎◌, inl, inr, take, map, filter, slice_get, get_or, Bool, true, false, cond, nat_eq, Some, None, refl, ap, sym, ◌∙◌, append-nil, add-one, arith, subst}
 use Rattle.std.specs.Prelude.{flat_map, fold, sum_by}
 use Rattle.std.proofs.lemmas.Grind.{flat_map-append}
 use Rattle.std.proofs.lemmas.List.{map-append, take_all}

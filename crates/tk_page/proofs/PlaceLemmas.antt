@@ -1,8 +1,9 @@
 -- Each piece of a page has its place, and the page ends between tags.
-use Rattle.std.proofs.Common.{◌≡◌, ℕ, ◌+◌, ◌-◌, List, [], ◌∷◌, length, take, filter, slice_get, Bool, true, false, cond, nat_eq, nat_lt, nat_le, ◌&&◌, ◌||◌, Option, Some, None, refl}
+use Rattle.std.proofs.Common.{◌≡◌, ℕ, ◌+◌, ◌-◌, List, [], ◌∷◌, length, take, filter, slice_get, Bool, true, false, cond, nat_eq, nat_lt, nat_le, ◌&&◌, ◌||◌, not, Option, Some, None, refl}
 use Rattle.std.specs.Prelude.{codes}
 use Rattle.std.specs.List.{list_any, zip}
 use Rattle.std.specs.Option.{option_map_or}
+use Rattle.std.specs.Str.{is_utf8}
 use Rattle.tk_core.specs.Lists.{capped}
 use Rattle.tk_core.specs.declared.task.row.TaskRow.{TaskRow}
 use Rattle.tk_ids.specs.declared.attr.AttrInfo.{AttrInfo}
@@ -16,9 +17,12 @@ use Rattle.tk_stream.specs.Tables.{TablesView, counts_of, task_with}
 use Rattle.tk_paper.specs.Parts.{Bit, after_all, text, span}
 use Rattle.tk_paper.specs.declared.marks.Place.TheVariants as places
 use Rattle.tk_page.specs.declared.figures.Scale.{Scale}
-use Rattle.tk_page.specs.declared.oddities.Holder.{Holder}
-use Rattle.tk_page.specs.declared.oddities.Oddity.{Oddity}
-use Rattle.tk_page.specs.declared.oddities.Oddity.TheVariants.{HoldsUp, LostWaker, NeverYielded, NeverPolled, SelfWakes}
+use Rattle.tk_odd.specs.declared.finding.Finding.{Finding}
+use Rattle.tk_odd.specs.declared.finding.Found.{Found}
+use Rattle.tk_odd.specs.declared.finding.OddKind.{OddKind}
+use Rattle.tk_odd.specs.declared.words.Shape.{Shape}
+use Rattle.tk_odd.specs.declared.words.Shape.TheVariants.{Held, Alone, Stretch, Lasting, Longest, Share}
+use Rattle.tk_odd.specs.Words.{after_of, before_of, shape_of}
 use Rattle.tk_page.specs.declared.oddities.Signs.{Signs}
 use Rattle.tk_page.specs.declared.ranks.Rank.{Rank}
 use Rattle.tk_page.specs.declared.sample.Sample.{Sample}
@@ -27,19 +31,22 @@ use Rattle.tk_page.specs.declared.strips.Area.{Area}
 use Rattle.tk_page.specs.declared.strips.Boxes.{Boxes}
 use Rattle.tk_page.specs.declared.strips.Boxes.TheVariants as which
 use Rattle.tk_page.specs.declared.strips.Height.{Height}
+use Rattle.tk_page.specs.declared.waiting.Waiting.{Waiting}
 use Rattle.tk_page.specs.Badges as badges
+use Rattle.tk_page.specs.Banner as banners
 use Rattle.tk_page.specs.Cards as cards
 use Rattle.tk_page.specs.Courses.{Courses}
 use Rattle.tk_page.specs.Drawn.{sections}
 use Rattle.tk_page.specs.Figures.{each_of, watched, wide_of}
 use Rattle.tk_page.specs.Heads as heads
 use Rattle.tk_page.specs.Items as items
-use Rattle.tk_page.specs.Odd.{all_odd, is_odd, is_odd_at_all, kinds}
+use Rattle.tk_page.specs.Odd.{carded, has_sign, is_lost, is_odd_at_all, row_kinds, says}
 use Rattle.tk_page.specs.Places.{id, more}
 use Rattle.tk_page.specs.Rows as rows
 use Rattle.tk_core.specs.Lasting.{busy_until, sched_until}
 use Rattle.tk_page.specs.Samples.{sample_of}
 use Rattle.tk_page.specs.Strips as strips
+use Rattle.tk_page.specs.Waiting.{waiting_of, waits_from_last_wake}
 use Rattle.tk_page.proofs.Leading.{Leads, bits_to, cut_to, each_to, none_to, then_to}
 
 -- parts that begin and end between tags
@@ -71,66 +78,114 @@ more_to all shown words = either (nat_le all shown) none_between (record { is = 
 
 -- ---- badges
 
-badge_to : (odd : Bool) (kind : Oddity) → Between (badges.badge odd kind)
+badge_to : (odd : Bool) (kind : OddKind) → Between (badges.badge odd kind)
 unfolding after_all
 badge_to odd kind = either odd (record { is = refl }) none_between
 
 badge_line_to : (signs : Signs) (t : Task) → Between (badges.badge_line signs t)
 unfolding after_all
-badge_line_to signs t = cut_to 1 refl (then_to (each_to (badges.badge_of signs t) (λ kind. badge_to (is_odd signs kind t) kind) kinds) (record { is = refl }))
+badge_line_to signs t =
+    cut_to 1 refl (then_to (each_to (badges.found_badge t) (λ f. badge_to (says t f) f.finding.kind) (carded signs))
+    (then_to (each_to (badges.row_badge signs t) (λ kind. badge_to (has_sign signs kind t) kind) row_kinds) (record { is = refl })))
 
 badges_to : (signs : Signs) (t : Task) → Between (badges.badges signs t)
 badges_to signs t = either (is_odd_at_all signs t) (badge_line_to signs t) none_between
 
 -- ---- cards
 
-held_if_to : (scale : Scale) (holder : Option Holder) → Between (cards.held_if scale holder)
+who_to : (task : Option Task) (named : Option ℕ) → Between (cards.who task named)
 unfolding after_all
-held_if_to scale None = none_between
-held_if_to scale (Some holder) = record { is = refl }
+who_to None None = record { is = refl }
+who_to None (Some n) = record { is = refl }
+who_to (Some t) named = record { is = refl }
 
-facts_to : (scale : Scale) (holder : Option Holder) (kind : Oddity) (x : TaskRow) → Between (cards.facts scale holder kind x)
+made_to : (place : List ℕ) (task : Option Task) → Between (cards.made place task)
 unfolding after_all
-facts_to scale holder HoldsUp x = then_to (held_if_to scale holder) (record { is = refl })
-facts_to scale holder LostWaker x = record { is = refl }
-facts_to scale holder NeverYielded x = record { is = refl }
-facts_to scale holder NeverPolled x = record { is = refl }
-facts_to scale holder SelfWakes x = record { is = refl }
+made_to place None = either (nat_eq (length place) 0 || not (is_utf8 place)) none_between (record { is = refl })
+made_to place (Some t) = record { is = refl }
 
-card_to : (scale : Scale) (holder : Option Holder) (kind : Oddity) (t : Task) → Between (cards.card scale holder kind t)
+alone_to : (still : ℕ) → Between (cards.alone still)
 unfolding after_all
-card_to scale holder kind t =
-    then_to (bits_to (cards.start_card kind) refl) (then_to (bits_to (cards.link t) refl) (then_to (bits_to (cards.one_words kind) refl)
-    (then_to (facts_to scale holder kind t.row) (bits_to (cards.end_card kind) refl))))
+alone_to still = either (nat_eq still 0) none_between (record { is = refl })
 
-names_to : (ts : List Task) → Between (cards.names ts)
+facts_of_to : (shape : Shape) (scale : Scale) (long : ℕ) (f : Finding) (before after : List ℕ) → Between (cards.facts_of shape scale long f before after)
 unfolding after_all
-names_to [] = none_between
-names_to (t ∷ ts) = then_to (bits_to (cards.link t) refl) (each_to cards.next_name (λ u. record { is = refl }) ts)
+facts_of_to Held scale long f before after =
+    then_to (bits_to (cards.steps scale f) refl) (then_to (bits_to (cards.timed before f.figure after) refl) (then_to (bits_to (cards.longest f.longest) refl) (alone_to f.still)))
+facts_of_to Alone scale long f before after = record { is = refl }
+facts_of_to Stretch scale long f before after = record { is = refl }
+facts_of_to Lasting scale long f before after = record { is = refl }
+facts_of_to Longest scale long f before after = record { is = refl }
+facts_of_to Share scale long f before after = record { is = refl }
 
-unnamed_to : (all : ℕ) → Between (cards.unnamed all)
+facts_to : (scale : Scale) (long : ℕ) (kind : OddKind) (f : Finding) → Between (cards.facts scale long kind f)
+facts_to scale long kind f = facts_of_to (shape_of kind) scale long f (before_of kind) (after_of kind)
+
+others_to : (tasks : ℕ) → Between (cards.others tasks)
 unfolding after_all
-unnamed_to all = either (nat_lt 12 all) (record { is = refl }) none_between
+others_to tasks = either (nat_lt 1 tasks) (record { is = refl }) none_between
 
-group_to : (kind : Oddity) (tasks : List Task) → Between (cards.group kind tasks)
+card_to : (scale : Scale) (long : ℕ) (tasks : List Task) (x : Found) → Between (cards.card scale long tasks x)
 unfolding after_all
-group_to kind tasks =
-    then_to (bits_to (cards.start_card kind) refl) (then_to (bits_to (cards.many_words kind (length tasks)) refl) (then_to (names_to (take 12 tasks))
-    (then_to (unnamed_to (length tasks)) (bits_to (cards.end_card kind) refl))))
+card_to scale long tasks x =
+    let f = x.finding in
+    then_to (bits_to (cards.start_card f.kind) refl) (then_to (who_to (cards.task_of tasks f) f.task) (then_to (bits_to (cards.said f.is_now f.kind) refl)
+    (then_to (facts_to scale long f.kind f) (then_to (others_to f.tasks) (then_to (made_to x.place.items (cards.task_of tasks f)) (bits_to (cards.end_card f.kind) refl))))))
 
-kind_to : (scale : Scale) (holder : Option Holder) (kind : Oddity) (tasks : List Task) → Between (cards.kind scale holder kind tasks)
-kind_to scale holder kind tasks = either (nat_lt 3 (length tasks)) (group_to kind tasks) (each_to (cards.card scale holder kind) (card_to scale holder kind) tasks)
-
-all_odd_to : (scale : Scale) (signs : Signs) (holder : Option Holder) (tasks : List Task) (all : ℕ) → Between (cards.all_odd scale signs holder tasks all)
+all_odd_to : (scale : Scale) (signs : Signs) (tasks : List Task) → Between (cards.all_odd scale signs tasks)
 unfolding after_all
-all_odd_to scale signs holder tasks all =
-    cut_to 5 refl (then_to (each_to (cards.cards_of scale signs holder tasks) (λ kind. kind_to scale holder kind (filter (is_odd signs kind) tasks)) kinds)
-    (record { is = refl }))
+all_odd_to scale signs tasks =
+    cut_to 5 refl (then_to (each_to (cards.card scale signs.limits.long tasks) (card_to scale signs.limits.long tasks) (carded signs))
+    (cut_to 1 refl (then_to (more_to (length signs.findings.items) 20 (codes " more")) (record { is = refl }))))
 
-odd_to : (scale : Scale) (signs : Signs) (holder : Option Holder) (tasks : List Task) → Between (cards.odd_section scale signs holder tasks)
+mean_wait_to : (all : Sample) → Between (cards.mean_wait all)
 unfolding after_all
-odd_to scale signs holder tasks =
-    cut_to 7 refl (either (nat_eq (all_odd signs tasks) 0) (bits_to cards.nothing_odd refl) (all_odd_to scale signs holder tasks (all_odd signs tasks)))
+mean_wait_to all = either (nat_eq all.polls 0) (record { is = refl }) (record { is = refl })
+
+unsure_to : (late : Bool) → Between (cards.unsure late)
+unfolding after_all
+unsure_to late = either late (record { is = refl }) none_between
+
+calm_to : (long : ℕ) (all : Sample) (late : Bool) → Between (cards.calm long all late)
+unfolding after_all
+calm_to long all late = cut_to 4 refl (then_to (mean_wait_to all) (then_to (unsure_to late) (record { is = refl })))
+
+nothing_odd_to : (time long : ℕ) (all : Sample) (late : Bool) → Between (cards.nothing_odd time long all late)
+unfolding after_all
+nothing_odd_to time long all late = cut_to 1 refl (then_to (either (nat_lt time long) (record { is = refl }) (calm_to long all late)) (record { is = refl }))
+
+odd_to : (scale : Scale) (signs : Signs) (courses : Courses) (tables : TablesView) → Between (cards.odd_section scale signs courses tables)
+unfolding after_all
+odd_to scale signs courses tables =
+    cut_to 7 refl (either (nat_eq (length signs.findings.items) 0)
+    (nothing_odd_to (tables.now - courses.first) signs.limits.long courses.last (list_any waits_from_last_wake tables.tasks))
+    (all_odd_to scale signs tables.tasks))
+
+-- ---- what holds now
+
+doing_to : (now : ℕ) (is_now : Bool) (kind : OddKind) (task : Option Task) → Between (banners.doing now is_now kind task)
+unfolding after_all
+doing_to now is_now kind None = record { is = refl }
+doing_to now is_now kind (Some t) = either t.row.polling (record { is = refl }) (record { is = refl })
+
+waiting_to : (w : Waiting) → Between (banners.waiting w)
+unfolding after_all
+waiting_to w = either (nat_eq w.count 0) none_between (record { is = refl })
+
+alarm_to : (now : ℕ) (w : Waiting) (tasks : List Task) (place : List ℕ) (f : Finding) → Between (banners.alarm now w tasks place f)
+unfolding after_all
+alarm_to now w tasks place f =
+    then_to (bits_to banners.start_banner refl) (then_to (who_to (cards.task_of tasks f) f.task) (then_to (doing_to now f.is_now f.kind (cards.task_of tasks f))
+    (then_to (waiting_to w) (cut_to 1 refl (then_to (made_to place (cards.task_of tasks f)) (bits_to (banners.end_banner f.kind) refl))))))
+
+alarm_if_to : (now : ℕ) (w : Waiting) (tasks : List Task) (x : Found) → Between (banners.alarm_if now w tasks x)
+alarm_if_to now w tasks x = either (banners.is_urgent x.finding) (alarm_to now w tasks x.place.items x.finding) none_between
+
+banner_to : (signs : Signs) (lines : ℕ) (tables : TablesView) → Between (banners.banner signs lines tables)
+unfolding after_all
+banner_to signs lines tables =
+    let w = waiting_of tables.now tables.tasks in
+    either (nat_eq lines 0) (bits_to banners.no_line refl) (each_to (banners.alarm_if tables.now w tables.tasks) (alarm_if_to tables.now w tables.tasks) (carded signs))
 
 -- ---- strips
 
@@ -204,7 +259,7 @@ row_to : (scale : Scale) (signs : Signs) (samples : List Sample) (t : Task) → 
 unfolding after_all
 row_to scale signs samples t =
     then_to (bits_to (rows.name t (is_odd_at_all signs t)) refl) (then_to (badges_to signs t) (then_to (bits_to (rows.state t.row) refl)
-    (then_to (strip_to scale t (sample_of t.row scale.now) (strips.steps_of t.row.created samples (sample_of t.row scale.now)) (is_odd signs LostWaker t)) (cut_to 1 refl (then_to (numbers_to scale t.row) (record { is = refl }))))))
+    (then_to (strip_to scale t (sample_of t.row scale.now) (strips.steps_of t.row.created samples (sample_of t.row scale.now)) (is_lost t)) (cut_to 1 refl (then_to (numbers_to scale t.row) (record { is = refl }))))))
 
 row_at_to : (scale : Scale) (signs : Signs) (courses : Courses) (tasks : List Task) (rank : Rank) → Between (rows.row_at scale signs courses tasks rank)
 row_at_to scale signs courses tasks rank = by (slice_get tasks rank.place)
@@ -303,7 +358,7 @@ missing_to dropped = either (nat_eq dropped.tasks 0 && (nat_eq dropped.resources
 
 late_to : (tasks : List Task) → Between (heads.late tasks)
 unfolding after_all
-late_to tasks = either (list_any heads.waits_from_last_wake tasks) (bits_to heads.late_note refl) none_between
+late_to tasks = either (list_any waits_from_last_wake tasks) (bits_to heads.late_note refl) none_between
 
 header_to : (watched lines gone : ℕ) (tables : TablesView) → Between (heads.header watched lines gone tables)
 unfolding after_all
@@ -311,11 +366,11 @@ header_to watched lines gone tables =
     cut_to 5 refl (then_to (bits_to (heads.facts watched lines tables) refl) (then_to (gone_to gone) (cut_to 1 refl (then_to (missing_to tables.dropped) (then_to (late_to tables.tasks) (record { is = refl }))))))
 
 -- a page that begins between tags ends between tags
-pub sections_to : (scale : Scale) (signs : Signs) (holder : Option Holder) (courses : Courses) (tables : TablesView) (ranks : List Rank) (height : Height)
-    → after_all (sections scale signs holder courses tables ranks height) (Some places.Text) ≡ Some places.Text
+pub sections_to : (scale : Scale) (signs : Signs) (courses : Courses) (tables : TablesView) (ranks : List Rank) (height : Height)
+    → after_all (sections scale signs courses tables ranks height) (Some places.Text) ≡ Some places.Text
 unfolding after_all
-sections_to scale signs holder courses tables ranks height = page.is where
-  page : Between (sections scale signs holder courses tables ranks height)
+sections_to scale signs courses tables ranks height = page.is where
+  page : Between (sections scale signs courses tables ranks height)
   page =
-      then_to (header_to (watched scale) courses.lines courses.gone tables) (cut_to 1 refl (then_to (odd_to scale signs holder tables.tasks)
-      (then_to (tasks_to scale signs courses tables.tasks ranks height) (then_to (resources_to tables) (record { is = refl })))))
+      then_to (banner_to signs courses.lines tables) (then_to (header_to (watched scale) courses.lines courses.gone tables) (cut_to 1 refl (then_to (odd_to scale signs courses tables)
+      (then_to (tasks_to scale signs courses tables.tasks ranks height) (then_to (resources_to tables) (record { is = refl }))))))

@@ -1,136 +1,189 @@
 -- What is odd, in words with what to do.
-use Rattle.std.specs.Prelude.{ℕ, ◌-◌, ◌==◌, nat_lt, Option, Some, None, if◌then◌else◌, List, [], ◌∷◌, ◌++◌, codes, length, take, filter, flat_map, unwrap_or}
-use Rattle.tk_core.specs.declared.task.row.TaskRow.{TaskRow}
+use Rattle.std.specs.Prelude.{ℕ, ◌-◌, ◌==◌, nat_lt, Bool, ◌||◌, not, Option, Some, None, if◌then◌else◌, List, [], ◌∷◌, ◌++◌, codes, length, flat_map}
+use Rattle.std.specs.List.{list_any}
+use Rattle.std.specs.Option.{option_and_then}
+use Rattle.std.specs.Str.{is_utf8}
+use Rattle.tk_odd.specs.Words.{advice_of, after_of, before_of, said_of, shape_of}
+use Rattle.tk_odd.specs.declared.words.Shape.{Shape}
+use Rattle.tk_odd.specs.declared.words.Shape.TheVariants.{Held, Alone, Stretch, Lasting, Longest, Share}
+use Rattle.tk_odd.specs.declared.finding.Finding.{Finding}
+use Rattle.tk_odd.specs.declared.finding.Found.{Found}
+use Rattle.tk_odd.specs.declared.finding.OddKind.{OddKind}
+use Rattle.tk_stream.specs.Spelling.{kind_text}
+use Rattle.tk_stream.specs.Tables.{TablesView, task_with}
 use Rattle.tk_stream.specs.declared.tables.task.Task.{Task}
 use Rattle.tk_paper.specs.Parts.{Bit, text, number, share, span, opens, ends, close, start, class, having, having_number}
 use Rattle.tk_paper.specs.declared.marks.Attr.TheVariants as attrs
 use Rattle.tk_paper.specs.declared.marks.Tag.TheVariants as tags
 use Rattle.tk_page.specs.declared.figures.Scale.{Scale}
-use Rattle.tk_page.specs.declared.oddities.Holder.{Holder}
-use Rattle.tk_page.specs.declared.oddities.Oddity.{Oddity}
-use Rattle.tk_page.specs.declared.oddities.Oddity.TheVariants.{HoldsUp, LostWaker, NeverYielded, NeverPolled, SelfWakes}
 use Rattle.tk_page.specs.declared.oddities.Signs.{Signs}
-use Rattle.tk_page.specs.Badges.{advice_of, class_of, icon_of, many_of, one_of, section}
+use Rattle.tk_page.specs.declared.sample.Sample.{Sample}
+use Rattle.tk_page.specs.Badges.{class_of, icon_of, section}
+use Rattle.tk_page.specs.Courses.{Courses}
 use Rattle.tk_page.specs.Figures.{each_of, share_of}
-use Rattle.tk_page.specs.Odd.{all_odd as odd_number, is_odd, kinds}
-use Rattle.tk_core.specs.Lasting.{busy_until}
-use Rattle.tk_page.specs.Samples.{time_of}
+use Rattle.tk_page.specs.Odd.{carded}
+use Rattle.tk_page.specs.Places.{id, more}
+use Rattle.tk_page.specs.Waiting.{waits_from_last_wake}
 
--- the beginning of a card, with its sign
-abbrev pub start_card : Oddity → List Bit
-start_card kind =
-    class tags.Li (class_of kind) ∷ start tags.H3 ∷ opens tags.Span ∷ having attrs.Class (codes "icon") ∷ having attrs.AriaHidden (codes "true") ∷ ends
-    ∷ text (icon_of kind) ∷ close tags.Span ∷ text (codes " ") ∷ []
-
--- its end, with what to do
-abbrev pub end_card : Oddity → List Bit
-end_card kind = close tags.P ∷ class tags.P (codes "do") ∷ text (advice_of kind) ∷ close tags.P ∷ close tags.Li ∷ []
+-- ---- who
 
 -- a task's name, as a link to its row
 abbrev pub link : Task → List Bit
 link t = opens tags.A ∷ having_number attrs.Href t.info.id ∷ ends ∷ text t.info.name ∷ close tags.A ∷ []
 
--- in which step the others waited, and how much of it the task ran
-abbrev pub held : Scale → Holder → List Bit
-held scale holder =
-    text (codes "Between ") ∷ span (holder.step.from - scale.start) ∷ text (codes " and ") ∷ span (holder.step.to - scale.start)
-    ∷ text (codes " tasks waited ") ∷ span holder.step.sched ∷ text (codes " in all, and it ran ") ∷ share (share_of holder.ran (time_of holder.step))
-    ∷ text (codes " of that time.") ∷ []
+-- the task that a finding names, where it is still there
+abbrev pub task_of : List Task → Finding → Option Task
+task_of tasks f = option_and_then (λ n. task_with n tasks) f.task
 
-abbrev pub held_if : Scale → Option Holder → List Bit
-held_if scale None = []
-held_if scale (Some holder) = held scale holder
+-- who a finding is about that names no task, or one that has left
+abbrev pub no_task : Option ℕ → List Bit
+no_task None = text (codes "Tasks") ∷ []
+no_task (Some n) = text (codes "A task that has left, ") ∷ id n
 
--- the same, and how long a poll takes
-abbrev pub holder_with : Scale → ℕ → Option Holder → List Bit
-holder_with scale takes holder = held_if scale holder ++ text (codes " A poll of it takes ") ∷ span takes ∷ text (codes " in the mean.") ∷ []
+-- who a finding is about that names this task, or none that is there
+abbrev pub who : Option Task → Option ℕ → List Bit
+who None named = no_task named
+who (Some t) named = link t
 
--- of a task that holds up the others: in which step, and how long a poll of it takes
-abbrev pub holder_facts : Scale → TaskRow → Option Holder → List Bit
-holder_facts scale x holder = holder_with scale (each_of (busy_until x scale.now) x.polls) holder
+-- the place of a task that has left
+abbrev pub place_of : List ℕ → List Bit
+place_of place =
+    if (length place == 0) || not (is_utf8 place) then [] else text (codes " It was of this place: ") ∷ text place ∷ text (codes ".") ∷ []
 
--- of a task that nobody can wake: since when, and how many wakers there were
-abbrev pub lost_facts : Scale → TaskRow → List Bit
-lost_facts scale x =
-    text (codes "It is idle since ") ∷ span (unwrap_or x.last_ended x.created - scale.start) ∷ text (codes ", and no waker of it is left: ") ∷ number x.clones
-    ∷ text (codes " cloned, ") ∷ number x.drops ∷ text (codes " dropped or used up.") ∷ []
+-- where a task was made
+abbrev pub made_at : Task → List Bit
+made_at t =
+    text (codes " It was made at ") ∷ text t.info.location.file ∷ text (codes ":") ∷ number t.info.location.line ∷ text (codes ":") ∷ number t.info.location.column
+    ∷ text (codes ", kind ") ∷ text (kind_text t.info.kind) ∷ text (codes ".") ∷ []
 
--- of a task whose first poll doesn't end: for how long
-abbrev pub never_facts : Scale → TaskRow → List Bit
-never_facts scale x =
-    text (codes "Its first poll runs for ") ∷ span (scale.now - unwrap_or x.last_started scale.now) ∷ text (codes " and has not come back.") ∷ []
+-- the same, or the place of one that isn't there
+abbrev pub made : List ℕ → Option Task → List Bit
+made place None = place_of place
+made place (Some t) = made_at t
 
--- of a task that was never polled: for how long
-abbrev pub unpolled_facts : Scale → TaskRow → List Bit
-unpolled_facts scale x = text (codes "It waits since it was made, for ") ∷ span (scale.now - x.created) ∷ text (codes ".") ∷ []
+-- ---- a card
 
--- of a task that wakes itself: how many of its wakes are its own
-abbrev pub self_facts : TaskRow → List Bit
-self_facts x =
-    number x.self_wakes ∷ text (codes " of its ") ∷ number x.wakes ∷ text (codes " wakes were its own, ") ∷ share (share_of x.self_wakes x.wakes)
-    ∷ text (codes ".") ∷ []
+-- the beginning of a card, with its sign
+abbrev pub start_card : OddKind → List Bit
+start_card kind =
+    class tags.Li (class_of kind) ∷ start tags.H3 ∷ opens tags.Span ∷ having attrs.Class (codes "icon") ∷ having attrs.AriaHidden (codes "true") ∷ ends
+    ∷ text (icon_of kind) ∷ close tags.Span ∷ text (codes " ") ∷ []
 
--- what is told of a task of this row
-abbrev pub facts : Scale → Option Holder → Oddity → TaskRow → List Bit
-facts scale holder HoldsUp x = holder_facts scale x holder
-facts scale holder LostWaker x = lost_facts scale x
-facts scale holder NeverYielded x = never_facts scale x
-facts scale holder NeverPolled x = unpolled_facts scale x
-facts scale holder SelfWakes x = self_facts x
+-- its end, with what to do
+abbrev pub end_card : OddKind → List Bit
+end_card kind =
+    close tags.P ∷ class tags.P (codes "do") ∷ text (codes "What to do: ") ∷ text (advice_of kind) ∷ text (codes ".") ∷ close tags.P ∷ close tags.Li ∷ []
 
-abbrev pub one_words : Oddity → List Bit
-one_words kind = text (one_of kind) ∷ close tags.H3 ∷ start tags.P ∷ []
+-- whether it holds now
+abbrev pub when_of : Bool → List ℕ
+when_of is_now = if is_now then codes "now" else codes "earlier"
 
--- the card of one task
-abbrev pub card : Scale → Option Holder → Oddity → Task → List Bit
-card scale holder kind t = start_card kind ++ (link t ++ (one_words kind ++ (facts scale holder kind t.row ++ end_card kind)))
+-- what is said of them, and when it holds
+abbrev pub said : Bool → OddKind → List Bit
+said is_now kind =
+    text (codes " ") ∷ text (said_of is_now kind) ∷ text (codes " ") ∷ start tags.Small ∷ text (when_of is_now) ∷ close tags.Small ∷ close tags.H3 ∷ start tags.P ∷ []
 
--- a name after another
-abbrev pub next_name : Task → List Bit
-next_name t = text (codes ", ") ∷ [] ++ link t
+-- for how long a task ran while no other was polled, where one did
+abbrev pub alone : ℕ → List Bit
+alone still = if still == 0 then [] else text (codes " No other task was polled while it ran for ") ∷ span still ∷ text (codes ".") ∷ []
 
--- the names of tasks, with a comma between two
-abbrev pub names : List Task → List Bit
-names [] = []
-names (t ∷ ts) = link t ++ flat_map next_name ts
+-- how long a poll took, which is known to have taken so long at least
+abbrev pub longest : ℕ → List Bit
+longest time = text (codes ". A poll of it took at least ") ∷ span time ∷ text (codes ".") ∷ []
 
--- how many tasks of so many a card doesn't name
-abbrev pub unnamed : ℕ → List Bit
-unnamed all = if nat_lt 12 all then text (codes " and ") ∷ number (all - 12) ∷ text (codes " more") ∷ [] else []
+-- a time between its words
+abbrev pub timed : List ℕ → ℕ → List ℕ → List Bit
+timed before time after = text before ∷ text (codes " ") ∷ span time ∷ text after ∷ []
 
-abbrev pub many_words : Oddity → ℕ → List Bit
-many_words kind all = number all ∷ text (many_of kind) ∷ close tags.H3 ∷ start tags.P ∷ []
+-- from when to when there were such steps
+abbrev pub steps : Scale → Finding → List Bit
+steps scale f = text (codes "Between ") ∷ span (f.since - scale.start) ∷ text (codes " and ") ∷ span (f.until - scale.start) ∷ text (codes " ") ∷ []
 
--- one card for all tasks of which this is odd: how many, and the names of the first 12
-abbrev pub group : Oddity → List Task → List Bit
-group kind tasks = start_card kind ++ (many_words kind (length tasks) ++ (names (take 12 tasks) ++ (unnamed (length tasks) ++ end_card kind)))
+-- since when it has lasted, and for how long
+abbrev pub lasting : Scale → Finding → List ℕ → List ℕ → List Bit
+lasting scale f before after =
+    text before ∷ text (codes " since ") ∷ span (f.since - scale.start) ∷ text (codes ", for ") ∷ span f.figure ∷ text after ∷ text (codes ".") ∷ []
 
--- the cards of the tasks of which this is odd: one each, or one for more than three
-abbrev pub kind : Scale → Option Holder → Oddity → List Task → List Bit
-kind scale holder oddity tasks = if nat_lt 3 (length tasks) then group oddity tasks else flat_map (card scale holder oddity) tasks
+-- how many of how many, and their share
+abbrev pub part : Finding → List ℕ → List ℕ → List Bit
+part f before after =
+    number f.figure ∷ text (codes " ") ∷ text before ∷ text (codes " ") ∷ number f.of ∷ text after ∷ text (codes ", ") ∷ share (share_of f.figure f.of) ∷ text (codes ".") ∷ []
 
--- the cards of a kind
-abbrev pub cards_of : Scale → Signs → Option Holder → List Task → Oddity → List Bit
-cards_of scale signs holder tasks oddity = kind scale holder oddity (filter (is_odd signs oddity) tasks)
+-- what is told of a finding whose figures are these. Of a stretch, tasks waited for as long as the limit at least
+abbrev pub facts_of : Shape → Scale → ℕ → Finding → List ℕ → List ℕ → List Bit
+facts_of Held scale long f before after = steps scale f ++ (timed before f.figure after ++ (longest f.longest ++ alone f.still))
+facts_of Alone scale long f before after = timed before f.figure after ++ longest f.longest
+facts_of Stretch scale long f before after = steps scale f ++ (timed before long after ++ text (codes ".") ∷ [])
+facts_of Lasting scale long f before after = lasting scale f before after
+facts_of Longest scale long f before after = timed before f.figure after ++ text (codes ".") ∷ []
+facts_of Share scale long f before after = part f before after
 
--- nothing is odd
-abbrev pub nothing_odd : List Bit
-nothing_odd =
-    close tags.H2 ∷ class tags.P (codes "fine")
-    ∷ text (codes "Nothing: no task wakes itself, lost its wakers, never yielded, was never polled, or held up others.")
-    ∷ close tags.P ∷ close tags.Section ∷ []
+-- what is told of a finding of this kind
+abbrev pub facts : Scale → ℕ → OddKind → Finding → List Bit
+facts scale long kind f = facts_of (shape_of kind) scale long f (before_of kind) (after_of kind)
 
--- so many things are odd
-abbrev pub all_odd : Scale → Signs → Option Holder → List Task → ℕ → List Bit
-all_odd scale signs holder tasks all =
-    class tags.Span (codes "count") ∷ number all ∷ close tags.Span ∷ close tags.H2 ∷ class tags.Ul (codes "odd") ∷ []
-    ++ (flat_map (cards_of scale signs holder tasks) kinds ++ close tags.Ul ∷ close tags.Section ∷ [])
+-- of how many tasks more of the place the same holds
+abbrev pub others : ℕ → List Bit
+others tasks = if nat_lt 1 tasks then text (codes " The same holds of ") ∷ number (tasks - 1) ∷ text (codes " more of its place.") ∷ [] else []
+
+-- the card of a finding
+abbrev pub card_of : Scale → ℕ → List Task → List ℕ → Finding → List Bit
+card_of scale long tasks place f =
+    start_card f.kind ++ (who (task_of tasks f) f.task ++ (said f.is_now f.kind ++ (facts scale long f.kind f
+    ++ (others f.tasks ++ (made place (task_of tasks f) ++ end_card f.kind)))))
+
+-- the same, with the place that it is about
+abbrev pub card : Scale → ℕ → List Task → Found → List Bit
+card scale long tasks x = card_of scale long tasks x.place.items x.finding
+
+-- ---- all cards
+
+-- there are so many findings: the first 20 have cards
+abbrev pub all_odd : Scale → Signs → List Task → List Bit
+all_odd scale signs tasks =
+    class tags.Span (codes "count") ∷ number (length signs.findings.items) ∷ close tags.Span ∷ close tags.H2 ∷ class tags.Ul (codes "odd") ∷ []
+    ++ (flat_map (card scale signs.limits.long tasks) (carded signs) ++ (close tags.Ul ∷ [] ++ (more (length signs.findings.items) 20 (codes " more") ++ close tags.Section ∷ [])))
+
+-- ---- nothing is odd
+
+-- how long tasks waited for a poll in the mean
+abbrev pub mean_wait : Sample → List Bit
+mean_wait all =
+    if all.polls == 0 then text (codes " No task was polled.") ∷ [] else
+    text (codes " In the mean tasks waited ") ∷ span (each_of all.sched all.polls) ∷ text (codes " for a poll.") ∷ []
+
+-- that they may have waited longer, where each wait is counted from its last wake alone
+abbrev pub unsure : Bool → List Bit
+unsure late = if late then text (codes " They may have waited longer, since this stream counts each wait from its last wake.") ∷ [] else []
+
+-- nothing is odd, and the number that shows it
+abbrev pub calm : ℕ → Sample → Bool → List Bit
+calm long all late =
+    class tags.P (codes "fine") ∷ text (codes "Nothing: no poll is known to have taken ") ∷ span long ∷ text (codes ".") ∷ []
+    ++ (mean_wait all ++ (unsure late ++ close tags.P ∷ []))
+
+-- nothing is odd about a task in itself, and the lines span too little time for more
+abbrev pub unseen : ℕ → ℕ → List Bit
+unseen time long =
+    class tags.P (codes "note") ∷ text (codes "Nothing is odd about a task in itself. Who held up others can't be seen: the lines span ") ∷ span time
+    ∷ text (codes ", and it takes at least ") ∷ span long ∷ text (codes ".") ∷ close tags.P ∷ []
+
+-- either, by how long the time is that the lines span
+abbrev pub calm_or_unseen : ℕ → ℕ → Sample → Bool → List Bit
+calm_or_unseen time long all late = if nat_lt time long then unseen time long else calm long all late
+
+abbrev pub nothing_odd : ℕ → ℕ → Sample → Bool → List Bit
+nothing_odd time long all late = close tags.H2 ∷ [] ++ (calm_or_unseen time long all late ++ close tags.Section ∷ [])
+
+-- ---- the section
 
 -- what is odd about tasks
-abbrev pub what_is_odd : Scale → Signs → Option Holder → List Task → List Bit
-what_is_odd scale signs holder tasks =
-    if odd_number signs tasks == 0 then nothing_odd else all_odd scale signs holder tasks (odd_number signs tasks)
+abbrev pub what_is_odd : Scale → Signs → Courses → TablesView → List Bit
+what_is_odd scale signs courses tables =
+    if length signs.findings.items == 0
+    then nothing_odd (tables.now - courses.first) signs.limits.long courses.last (list_any waits_from_last_wake tables.tasks)
+    else all_odd scale signs tables.tasks
 
 -- the section of what is odd
-abbrev pub odd_section : Scale → Signs → Option Holder → List Task → List Bit
-odd_section scale signs holder tasks = section (codes "odd") (codes "What is odd ") ++ what_is_odd scale signs holder tasks
+abbrev pub odd_section : Scale → Signs → Courses → TablesView → List Bit
+odd_section scale signs courses tables = section (codes "odd") (codes "What is odd ") ++ what_is_odd scale signs courses tables

@@ -1,12 +1,12 @@
 -- The head of a page.
-use Rattle.std.specs.Prelude.{ℕ, ◌==◌, nat_lt, min, Bool, ◌&&◌, ◌||◌, not, Option, Some, None, is_some, if◌then◌else◌, List, [], ◌∷◌, ◌++◌, codes, fold, length}
+use Rattle.std.specs.Prelude.{ℕ, ◌==◌, min, ◌&&◌, if◌then◌else◌, List, [], ◌∷◌, ◌++◌, codes, fold, length}
 use Rattle.std.specs.List.{list_any}
 use Rattle.tk_ids.specs.declared.info.Dropped.{Dropped}
 use Rattle.tk_stream.specs.declared.tables.task.Task.{Task}
 use Rattle.tk_stream.specs.Tables.{TablesView}
 use Rattle.tk_paper.specs.Parts.{Bit, text, number, span, close, start, class}
 use Rattle.tk_paper.specs.declared.marks.Tag.TheVariants as tags
-use Rattle.tk_page.specs.declared.oddities.Holder.{Holder}
+use Rattle.tk_page.specs.Waiting.{waits_from_last_wake}
 
 -- the moment at the page's left: the first line's, or that of the earliest creation of a task
 abbrev pub start_of : ℕ → List Task → ℕ
@@ -48,10 +48,6 @@ dropped_facts dropped =
 abbrev pub missing : Dropped → List Bit
 missing dropped = if (dropped.tasks == 0) && ((dropped.resources == 0) && (dropped.ops == 0)) then [] else dropped_facts dropped
 
--- a task waits for a poll or has waited for one, and its row has each of its waits from its last wake on alone
-abbrev pub waits_from_last_wake : Task → Bool
-waits_from_last_wake t = not (is_some t.row.waits) && (nat_lt 0 t.row.sched || t.row.scheduled)
-
 -- the note that less is told of waiting than there was
 abbrev pub late_note : List Bit
 late_note =
@@ -67,8 +63,3 @@ abbrev pub header : ℕ → ℕ → ℕ → TablesView → List Bit
 header watched lines gone tables =
     start tags.Header ∷ start tags.H1 ∷ text (codes "taskscope") ∷ close tags.H1 ∷ class tags.P (codes "facts") ∷ []
     ++ (facts watched lines tables ++ (gone_fact gone ++ (close tags.P ∷ [] ++ (missing tables.dropped ++ (late tables.tasks ++ close tags.Header ∷ [])))))
-
--- the task that holds up the others
-abbrev pub id_of : Option Holder → Option ℕ
-id_of None = None
-id_of (Some holder) = Some holder.id

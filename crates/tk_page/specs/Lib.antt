@@ -8,12 +8,16 @@ pub mod Kept
 pub mod Courses
 -- What is odd about a task
 pub mod Odd
+-- Which tasks wait, and how it is known for how long
+pub mod Waiting
 -- Parts that several sections have
 pub mod Places
 -- The words for what is odd
 pub mod Badges
 -- What is odd, in words
 pub mod Cards
+-- What holds now, above all else
+pub mod Banner
 -- Strips
 pub mod Strips
 -- Which tasks are shown, and in which order
@@ -24,8 +28,6 @@ pub mod Rows
 pub mod Items
 -- The head of a page
 pub mod Heads
--- Which task holds up the others
-pub mod Holders
 -- The page between its frame
 pub mod Drawn
 -- What a page is

@@ -1,43 +1,73 @@
 -- What is odd about a task.
-use Rattle.std.specs.Prelude.{ℕ, ◌-◌, ◌==◌, List, [], ◌∷◌, Bool, false, ◌&&◌, nat_le, if◌then◌else◌, sum_by}
+use Rattle.std.specs.Prelude.{◌≡◌, ◌==◌, List, [], ◌∷◌, map, take, Bool, true, false, ◌&&◌, ◌||◌}
 use Rattle.std.specs.List.{list_any}
 use Rattle.std.specs.Option.{option_map_or}
 use Rattle.tk_client.specs.Warnings.{has_lost_waker, has_never_yielded, is_spawn, wakes_itself}
-use Rattle.tk_core.specs.Lists.{capped}
-use Rattle.tk_core.specs.declared.task.row.TaskRow.{TaskRow}
-use Rattle.tk_page.specs.declared.oddities.Oddity.{Oddity}
-use Rattle.tk_page.specs.declared.oddities.Oddity.TheVariants.{HoldsUp, LostWaker, NeverYielded, NeverPolled, SelfWakes}
-use Rattle.tk_page.specs.declared.oddities.Signs.{Signs}
+use Rattle.tk_odd.specs.Findings.{Placed, is_never_polled, placed}
+use Rattle.tk_odd.specs.declared.finding.Found.{Found}
+use Rattle.tk_odd.specs.declared.finding.OddKind.{OddKind}
+use Rattle.tk_odd.specs.declared.finding.OddKind.TheVariants.{HoldsUp, StandsStill, LeftAlone, Overloaded, NeverYielded, LostWaker, PassedOver, NeverPolled, LongPoll, SelfWakes}
+use Rattle.tk_odd.specs.declared.limits.Limits.{Limits}
+use Rattle.tk_stream.specs.Tables.{TablesView}
 use Rattle.tk_stream.specs.declared.tables.task.Task.{Task}
+use Rattle.tk_page.specs.declared.oddities.Signs.{Signs}
 
--- a task has waited for its first poll for so long
-abbrev pub is_never_polled : ℕ → ℕ → TaskRow → Bool
-is_never_polled limit now x = x.scheduled && (x.polls == 0 && nat_le limit (now - x.created))
+-- tasks of tables are looked at for this: by these limits, and with these findings
+pub record AreSigns (limits : Limits) (list : List Placed) (tables : TablesView) (signs : Signs) : Type 0 where
+  pub moment : signs.moment ≡ tables.now
+  pub measures : signs.limits ≡ limits
+  pub findings : map placed signs.findings.items ≡ list
 
--- it is the one that holds up the others
-abbrev pub is_holder : Signs → Task → Bool
-is_holder signs t = option_map_or (λ id. id == t.info.id) signs.holder false
+-- the findings that have cards: the first 20
+abbrev pub carded : Signs → List Found
+carded signs = take 20 signs.findings.items
 
--- this is odd about a task: what the client warns of, that it was never polled, and that it holds up the others
-abbrev pub is_odd : Signs → Oddity → Task → Bool
-is_odd signs HoldsUp t = is_holder signs t
-is_odd signs LostWaker t = is_spawn t.info.kind && has_lost_waker t.row
-is_odd signs NeverYielded t = is_spawn t.info.kind && has_never_yielded signs.limit signs.now t.row
-is_odd signs NeverPolled t = is_spawn t.info.kind && is_never_polled signs.limit signs.now t.row
-is_odd signs SelfWakes t = is_spawn t.info.kind && wakes_itself signs.percent t.row
+-- a finding names a task
+abbrev pub names : Task → Found → Bool
+names t f = option_map_or (λ id. id == t.info.id) f.finding.task false
 
--- the order of the cards
-abbrev pub kinds : List Oddity
-kinds = HoldsUp ∷ LostWaker ∷ NeverYielded ∷ NeverPolled ∷ SelfWakes ∷ []
+-- a card names a task
+abbrev pub is_named : Signs → Task → Bool
+is_named signs t = list_any (names t) (carded signs)
+
+-- findings of this kind say of a task what its row doesn't show
+abbrev pub is_of_steps : OddKind → Bool
+is_of_steps HoldsUp = true
+is_of_steps StandsStill = true
+is_of_steps LeftAlone = false
+is_of_steps Overloaded = false
+is_of_steps NeverYielded = false
+is_of_steps LostWaker = false
+is_of_steps PassedOver = true
+is_of_steps NeverPolled = false
+is_of_steps LongPoll = true
+is_of_steps SelfWakes = false
+
+-- a finding says such a thing of a task
+abbrev pub says : Task → Found → Bool
+says t f = names t f && is_of_steps f.finding.kind
+
+-- nobody can wake a task
+abbrev pub is_lost : Task → Bool
+is_lost t = is_spawn t.info.kind && has_lost_waker t.row
+
+-- this shows a task's row: what the client warns of, and that it was never polled
+abbrev pub has_sign : Signs → OddKind → Task → Bool
+has_sign signs HoldsUp t = false
+has_sign signs StandsStill t = false
+has_sign signs LeftAlone t = false
+has_sign signs Overloaded t = false
+has_sign signs NeverYielded t = is_spawn t.info.kind && has_never_yielded signs.limits.lints.never_yielded_ns signs.moment t.row
+has_sign signs LostWaker t = is_lost t
+has_sign signs PassedOver t = false
+has_sign signs NeverPolled t = is_spawn t.info.kind && is_never_polled signs.limits.lints.never_yielded_ns signs.moment t.row
+has_sign signs LongPoll t = false
+has_sign signs SelfWakes t = is_spawn t.info.kind && wakes_itself signs.limits.lints.self_wake_percent t.row
+
+-- what a row may show, in the order of its badges
+abbrev pub row_kinds : List OddKind
+row_kinds = NeverYielded ∷ LostWaker ∷ NeverPolled ∷ SelfWakes ∷ []
 
 -- something is odd about a task
 abbrev pub is_odd_at_all : Signs → Task → Bool
-is_odd_at_all signs t = list_any (λ kind. is_odd signs kind t) kinds
-
--- how many things are odd about a task
-abbrev pub odd_count : Signs → Task → ℕ
-odd_count signs t = sum_by (λ kind. if is_odd signs kind t then 1 else 0) kinds
-
--- how many things are odd about tasks
-abbrev pub all_odd : Signs → List Task → ℕ
-all_odd signs tasks = capped (sum_by (odd_count signs) tasks)
+is_odd_at_all signs t = is_named signs t || list_any (λ kind. has_sign signs kind t) row_kinds

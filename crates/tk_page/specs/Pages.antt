@@ -4,6 +4,9 @@ use Rattle.std.specs.Io.KnownBytes.{Appends}
 use Rattle.tk_client.specs.Warnings.{LintsView, warnings_in}
 use Rattle.tk_fault.specs.declared.fault.AppFault.{AppFault}
 use Rattle.tk_fault.specs.declared.fault.AppFault.TheVariants as faults
+use Rattle.tk_odd.specs.Diagnosis.{standing_of}
+use Rattle.tk_odd.specs.Findings.{Placed, findings_of}
+use Rattle.tk_odd.specs.declared.limits.Limits.{Limits}
 use Rattle.tk_page.specs.declared.frame.TheConstants.{HEAD, TAIL}
 use Rattle.tk_page.specs.Courses.{Courses, TellOf}
 use Rattle.tk_page.specs.Drawn.{DrawsPage}
@@ -14,45 +17,57 @@ use Rattle.tk_reading.specs.Shown.{shown_of}
 use Rattle.tk_stream.specs.Sent.{IsCut}
 use Rattle.tk_stream.specs.Tables.{TablesView}
 
--- the page of tables and courses: between the page's own head and end stand its parts, and every byte is the page's own markup or an
+-- what is odd with the tables to which these bytes lead, worst first
+abbrev pub odd_in : Limits → List ℕ → TablesView → List Placed
+odd_in limits bytes tables = findings_of limits (standing_of limits (shown_of bytes)) tables
+
+-- the page of tables, courses and what is odd: between the page's own head and end stand its parts, and every byte is the page's own markup or an
 -- escaped byte of a text, each where it may stand
-pub record IsDrawn (lints : LintsView) (courses : Courses) (tables : TablesView) (text : List ℕ) : Type 0 where
+pub record IsDrawn (limits : Limits) (findings : List Placed) (courses : Courses) (tables : TablesView) (text : List ℕ) : Type 0 where
   pub inner : List ℕ
-  pub drawn : DrawsPage lints courses tables no_paper (record { text = inner; place = Some places.Text })
+  pub drawn : DrawsPage limits findings courses tables no_paper (record { text = inner; place = Some places.Text })
   pub woven : ∥ Woven inner places.Text ∥₁
   pub framed : text ≡ (HEAD.now ++ inner) ++ TAIL.now
 
--- the page of tables to which these bytes lead: it is drawn of them, and of the course of each task over just its lines
-pub record IsPage (lints : LintsView) (bytes : List ℕ) (tables : TablesView) (text : List ℕ) : Type 0 where
+-- the page of tables to which these bytes lead: it is drawn of them, of what is odd, and of the course of each task over just its lines
+pub record IsPage (limits : Limits) (bytes : List ℕ) (tables : TablesView) (text : List ℕ) : Type 0 where
   pub courses : Courses
   pub told : TellOf (shown_of bytes) courses
-  pub drawn : IsDrawn lints courses tables text
+  pub drawn : IsDrawn limits (odd_in limits bytes tables) courses tables text
 
 -- a page was written of the tables to which all bytes lead, and their warnings were counted
-pub record WritesPage (lints : LintsView) (given : Option (List ℕ)) (warnings : ℕ) (old new : Option (List ℕ)) : Type 0 where
+pub record WritesPage (limits : Limits) (given : Option (List ℕ)) (warnings : ℕ) (old new : Option (List ℕ)) : Type 0 where
   pub tables : TablesView
   pub lead : LeadTo given tables
   pub text : List ℕ
-  pub page : IsPage lints lead.bytes tables text
+  pub page : IsPage limits lead.bytes tables text
   pub wrote : Appends old new text
-  pub counted : warnings ≡ length (warnings_in lints tables)
+  pub counted : warnings ≡ length (warnings_in limits.lints tables)
 
 -- a proper front of such a page was written
-pub record WritesFront (lints : LintsView) (given : Option (List ℕ)) (old new : Option (List ℕ)) : Type 0 where
+pub record WritesFront (limits : Limits) (given : Option (List ℕ)) (old new : Option (List ℕ)) : Type 0 where
   pub tables : TablesView
   pub lead : LeadTo given tables
   pub text : List ℕ
-  pub page : IsPage lints lead.bytes tables text
+  pub page : IsPage limits lead.bytes tables text
   pub front : List ℕ
   pub cut : IsCut text front
   pub wrote : Appends old new front
 
 -- what the page of a stream came to, by its answer: of the reader's bytes that were given and those that are left, and of the
 -- writer's before and after
+abbrev pub PagesWith : Limits → Option (List ℕ) → Option (List ℕ) → Result ℕ AppFault → Option (List ℕ) → Option (List ℕ) → Type 0
+PagesWith limits given left (Ok warnings) old new = WritesPage limits given warnings old new
+PagesWith limits given left (Err faults.Write) old new = WritesFront limits given old new
+PagesWith limits given left (Err (faults.Stream lines fault)) old new = HaveFault given left lines fault
+PagesWith limits given left (Err faults.Memory) old new = Unit {0}
+PagesWith limits given left (Err faults.Read) old new = Unit {0}
+PagesWith limits given left (Err (faults.Script line name)) old new = ⊥
+
+-- the limits where nothing is said of long polls: one takes 100 ms or longer
+abbrev pub usual_limits : LintsView → Limits
+usual_limits lints = record { long = 100000000; lints = lints }
+
+-- the same by those limits
 abbrev pub Pages : LintsView → Option (List ℕ) → Option (List ℕ) → Result ℕ AppFault → Option (List ℕ) → Option (List ℕ) → Type 0
-Pages lints given left (Ok warnings) old new = WritesPage lints given warnings old new
-Pages lints given left (Err faults.Write) old new = WritesFront lints given old new
-Pages lints given left (Err (faults.Stream lines fault)) old new = HaveFault given left lines fault
-Pages lints given left (Err faults.Memory) old new = Unit {0}
-Pages lints given left (Err faults.Read) old new = Unit {0}
-Pages lints given left (Err (faults.Script line name)) old new = ⊥
+Pages lints = PagesWith (usual_limits lints)

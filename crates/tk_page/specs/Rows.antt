@@ -182,7 +182,7 @@ state x =
 -- the row of a task of whose course these samples are kept
 abbrev pub row_of : Scale → Signs → List Sample → Task → List Bit
 row_of scale signs samples t =
-    name t (is_odd_at_all signs t) ++ (badges signs t ++ (state t.row ++ (strip scale signs samples t
+    name t (is_odd_at_all signs t) ++ (badges signs t ++ (state t.row ++ (strip scale samples t
     ++ (close tags.Td ∷ [] ++ (numbers scale t.row ++ close tags.Tr ∷ [])))))
 
 -- the row of a task

@@ -1,6 +1,5 @@
 -- What a course of time keeps of a task at a line.
-use Rattle.std.specs.Prelude.{ℕ, ◌+◌, ◌-◌, max, ◌&&◌, not, unwrap_or, if◌then◌else◌}
-use Rattle.std.specs.Option.{option_map_or}
+use Rattle.std.specs.Prelude.{ℕ, ◌+◌, ◌-◌}
 use Rattle.tk_core.specs.Lists.{capped}
 use Rattle.tk_core.specs.Lasting.{busy_until, sched_until}
 use Rattle.tk_core.specs.declared.task.row.TaskRow.{TaskRow}

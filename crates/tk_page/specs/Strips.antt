@@ -7,8 +7,6 @@ use Rattle.tk_paper.specs.Parts.{Bit, text, number, share, span, mean, opens, en
 use Rattle.tk_paper.specs.declared.marks.Attr.TheVariants as attrs
 use Rattle.tk_paper.specs.declared.marks.Tag.TheVariants as tags
 use Rattle.tk_page.specs.declared.figures.Scale.{Scale}
-use Rattle.tk_page.specs.declared.oddities.Oddity.TheVariants.{LostWaker}
-use Rattle.tk_page.specs.declared.oddities.Signs.{Signs}
 use Rattle.tk_page.specs.declared.sample.Sample.{Sample}
 use Rattle.tk_page.specs.declared.sample.Step.{Step}
 use Rattle.tk_page.specs.declared.strips.Area.{Area}
@@ -16,7 +14,7 @@ use Rattle.tk_page.specs.declared.strips.Boxes.{Boxes}
 use Rattle.tk_page.specs.declared.strips.Boxes.TheVariants as which
 use Rattle.tk_page.specs.declared.strips.Height.{Height}
 use Rattle.tk_page.specs.Figures.{mean_of, share_of, watched, wide_of, x_of}
-use Rattle.tk_page.specs.Odd.{is_odd}
+use Rattle.tk_page.specs.Odd.{is_lost}
 use Rattle.tk_page.specs.Samples.{nothing, sample_of, step_of, time_of}
 
 -- ---- steps
@@ -130,9 +128,9 @@ strip_of scale t last steps lost_waker =
     ++ (paths scale steps ++ close tags.Svg ∷ []))))
 
 -- the strip of a task of whose course these samples are kept
-abbrev pub strip : Scale → Signs → List Sample → Task → List Bit
-strip scale signs samples t =
-    strip_of scale t (sample_of t.row scale.now) (steps_of t.row.created samples (sample_of t.row scale.now)) (is_odd signs LostWaker t)
+abbrev pub strip : Scale → List Sample → Task → List Bit
+strip scale samples t =
+    strip_of scale t (sample_of t.row scale.now) (steps_of t.row.created samples (sample_of t.row scale.now)) (is_lost t)
 
 -- ---- all tasks
 

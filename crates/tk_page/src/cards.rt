@@ -1,92 +1,134 @@
 //! What is odd, in words with what to do.
-ghost use Rattle.std.specs.Prelude.{◌≡◌, [], OnOk, map, flat_map};
-ghost use Rattle.tk_page.specs.Badges as spec;
-ghost use Rattle.tk_page.specs.Odd.{kinds};
-ghost use Rattle.tk_page.specs.Cards as cards;
+ghost use Rattle.std.specs.Prelude.{◌≡◌, ◌-◌, ◌==◌, ◌∷◌, ◌++◌, [], OnOk, codes, flat_map};
+ghost use Rattle.std.specs.Option.{option_map};
+ghost use Rattle.tk_odd.specs.Words.{after_of, before_of};
+ghost use Rattle.tk_page.specs.Cards as spec;
+ghost use Rattle.tk_page.specs.Courses.{courses_of};
+ghost use Rattle.tk_paper.specs.Parts.{text};
 ghost use Rattle.tk_paper.specs.Pieces.{Writes};
 
-use crate::figures::{Scale, count, front, share};
-use crate::oddities::{Holder, KINDS, Oddity, Signs};
+use crate::badges::{start_section, words_of};
+use crate::figures::{Scale, count, each, share};
+use crate::history::History;
+use crate::oddities::{CARDS, Signs};
+use crate::resources::put_more;
 use crate::sample::Sample;
-use crate::strips::poll_takes;
-use std::alloc::{AllocError, Global};
-use tk_core::TaskRow;
-use tk_paper::Part::{
-    Class, Close, End, Number, Open, Quote, Share, Span, Start, Text, Value, With, WithNumber,
-};
+use crate::waiting::any_waits_from_last_wake;
+use std::alloc::AllocError;
+use tk_ids::TaskId;
+use tk_odd::{Finding, Found, OddKind, Shape};
+use tk_paper::Part::{Class, Close, End, Number, Open, Share, Span, Start, Text, With, WithNumber};
 use tk_paper::{Attr, Paper, Tag};
+use tk_report::kind_word;
 use tk_stream::{Tables, Task};
 
-// The words for an oddity.
-#[derive(Clone, Copy)]
-struct Words {
-    class: &'static str,
-    icon: &'static str,
-    // What one task does, and what so many do.
-    one: &'static str,
-    many: &'static str,
-    badge: &'static str,
-    // What to do about it.
-    advice: &'static str,
+// ---- who
+
+// Puts a task's name, as a link to its row.
+fn put_link(paper: &mut Paper, task: &Task) -> Result<(), AllocError>
+    ensures { OnOk result (Writes paper.old paper.new (spec.link task.now)) }
+{
+    paper.put(&[
+        Open(Tag::A),
+        WithNumber(Attr::Href, task.info.id.value()),
+        End,
+        Text(task.info.name.as_str()),
+        Close(Tag::A),
+    ])
 }
 
-fn words_of(oddity: Oddity) -> Words
-    ensures class { result.class.now ≡ spec.class_of oddity }
-    ensures icon { result.icon.now ≡ spec.icon_of oddity }
-    ensures one { result.one.now ≡ spec.one_of oddity }
-    ensures many { result.many.now ≡ spec.many_of oddity }
-    ensures badge { result.badge.now ≡ spec.words_of_badge oddity }
-    ensures advice { result.advice.now ≡ spec.advice_of oddity }
+/// The task that a finding names, where it is still there.
+pub(crate) fn task_of<'a>(tables: &'a Tables, finding: &Finding) -> Option<&'a Task>
+    ensures { option_map (λ t. t.now) result ≡ spec.task_of tables.now.tasks finding.now }
 {
-    match oddity {
-        Oddity::HoldsUp => Words {
-            class: "holds",
-            icon: "▮",
-            one: " holds up the others",
-            many: " tasks hold up the others",
-            badge: "▮ holds up others",
-            advice: "What to do: split its polls, or move the work to a blocking task. While it runs, the others are not polled.",
-        },
-        Oddity::LostWaker => Words {
-            class: "lost",
-            icon: "∅",
-            one: " can be woken by nobody",
-            many: " tasks can be woken by nobody",
-            badge: "∅ nobody can wake it",
-            advice: "What to do: find who dropped its waker, as a closed channel, a timer that was cancelled, or a future that kept none. It will never run again.",
-        },
-        Oddity::NeverYielded => Words {
-            class: "never",
-            icon: "∞",
-            one: " has never yielded",
-            many: " tasks have never yielded",
-            badge: "∞ never yielded",
-            advice: "What to do: move the work to a blocking task, or let it yield between pieces. It holds its thread.",
-        },
-        Oddity::NeverPolled => Words {
-            class: "unpolled",
-            icon: "…",
-            one: " was never polled",
-            many: " tasks were never polled",
-            badge: "… never polled",
-            advice: "What to do: find what keeps the executor busy, or give it more threads. It waits for its first poll.",
-        },
-        Oddity::SelfWakes => Words {
-            class: "self",
-            icon: "↻",
-            one: " wakes itself",
-            many: " tasks wake themselves",
-            badge: "↻ wakes itself",
-            advice: "What to do: let it wait for an event or a timer. It is polled again and again without news from outside.",
-        },
+    match finding.task {
+        Some(id) => tables.task(id),
+        None => None,
     }
 }
 
-// Begins a card, and its head with the sign.
-fn start_card(paper: &mut Paper, oddity: Oddity) -> Result<(), AllocError>
-    ensures { OnOk result (Writes paper.old paper.new (cards.start_card oddity)) }
+// Puts who a finding is about that names no task, or one that has left.
+fn put_no_task(paper: &mut Paper, named: Option<TaskId>) -> Result<(), AllocError>
+    ensures { OnOk result (Writes paper.old paper.new (spec.no_task named)) }
 {
-    let words = words_of(oddity);
+    let Some(id) = named else {
+        return paper.put(&[Text("Tasks")]);
+    };
+    let (recorder, number) = id.parts();
+    paper.put(&[
+        Text("A task that has left, "),
+        Number(recorder),
+        Text("."),
+        Number(number),
+    ])
+}
+
+/// Puts who a finding is about that names a task, which is there or not.
+pub(crate) fn put_who(
+    paper: &mut Paper,
+    task: Option<&Task>,
+    named: Option<TaskId>,
+) -> Result<(), AllocError>
+    ensures { OnOk result (Writes paper.old paper.new (spec.who (option_map (λ t. t.now) task.entry) named)) }
+{
+    match task {
+        Some(task) => put_link(paper, task),
+        None => put_no_task(paper, named),
+    }
+}
+
+// Puts the place of a task that has left.
+fn put_place(paper: &mut Paper, place: &[u8]) -> Result<(), AllocError>
+    ensures { OnOk result (Writes paper.old paper.new (spec.place_of place.now)) }
+{
+    if place.is_empty() {
+        return paper.put(&[]);
+    }
+    match str::from_utf8(place) {
+        Ok(text) => paper.put(&[Text(" It was of this place: "), Text(text), Text(".")]),
+        Err(_) => paper.put(&[]),
+    }
+}
+
+// Puts where a task was made.
+fn put_where(paper: &mut Paper, task: &Task) -> Result<(), AllocError>
+    ensures { OnOk result (Writes paper.old paper.new (spec.made_at task.now)) }
+{
+    let location = &task.info.location;
+    paper.put(&[
+        Text(" It was made at "),
+        Text(location.file.as_str()),
+        Text(":"),
+        Number(u64::from(location.line)),
+        Text(":"),
+        Number(u64::from(location.column)),
+        Text(", kind "),
+        Text(kind_word(task.info.kind)),
+        Text("."),
+    ])
+}
+
+/// Puts where a task was made, or the place of one that isn't there.
+pub(crate) fn put_made(
+    paper: &mut Paper,
+    place: &[u8],
+    task: Option<&Task>,
+) -> Result<(), AllocError>
+    ensures { OnOk result (Writes paper.old paper.new (spec.made place.now (option_map (λ t. t.now) task.entry))) }
+{
+    match task {
+        Some(task) => put_where(paper, task),
+        None => put_place(paper, place),
+    }
+}
+
+// ---- a card
+
+// Begins a card, and its head with the sign.
+fn start_card(paper: &mut Paper, kind: OddKind) -> Result<(), AllocError>
+    ensures { OnOk result (Writes paper.old paper.new (spec.start_card kind)) }
+{
+    let words = words_of(kind);
     paper.put(&[
         Class(Tag::Li, words.class),
         Start(Tag::H3),
@@ -100,442 +142,383 @@ fn start_card(paper: &mut Paper, oddity: Oddity) -> Result<(), AllocError>
     ])
 }
 
-fn end_card(paper: &mut Paper, oddity: Oddity) -> Result<(), AllocError>
-    ensures { OnOk result (Writes paper.old paper.new (cards.end_card oddity)) }
+fn end_card(paper: &mut Paper, kind: OddKind) -> Result<(), AllocError>
+    ensures { OnOk result (Writes paper.old paper.new (spec.end_card kind)) }
 {
-    let words = words_of(oddity);
     paper.put(&[
         Close(Tag::P),
         Class(Tag::P, "do"),
-        Text(words.advice),
+        Text("What to do: "),
+        Text(kind.advice()),
+        Text("."),
         Close(Tag::P),
         Close(Tag::Li),
     ])
 }
 
-// Puts a task's name, as a link to its row.
-fn put_link(paper: &mut Paper, task: &Task) -> Result<(), AllocError>
-    ensures { OnOk result (Writes paper.old paper.new (cards.link task.now)) }
+// Puts what is said, and when it holds.
+fn put_said(paper: &mut Paper, is_now: bool, kind: OddKind) -> Result<(), AllocError>
+    ensures { OnOk result (Writes paper.old paper.new (spec.said is_now kind)) }
 {
     paper.put(&[
-        Open(Tag::A),
-        WithNumber(Attr::Href, task.info.id.value()),
-        End,
-        Text(task.info.name.as_str()),
-        Close(Tag::A),
-    ])
-}
-
-fn put_held(paper: &mut Paper, scale: Scale, holder: Holder) -> Result<(), AllocError>
-    ensures { OnOk result (Writes paper.old paper.new (cards.held scale holder)) }
-{
-    let step = holder.step;
-    let ran = share(holder.ran, step.time());
-    paper.put(&[
-        Text("Between "),
-        Span(scale.since(step.from)),
-        Text(" and "),
-        Span(scale.since(step.to)),
-        Text(" tasks waited "),
-        Span(step.sched),
-        Text(" in all, and it ran "),
-        Share(ran),
-        Text(" of that time."),
-    ])
-}
-
-fn put_held_if(paper: &mut Paper, scale: Scale, holder: Option<Holder>) -> Result<(), AllocError>
-    ensures { OnOk result (Writes paper.old paper.new (cards.held_if scale holder)) }
-{
-    match holder {
-        Some(holder) => put_held(paper, scale, holder),
-        None => paper.put(&[]),
-    }
-}
-
-fn put_holder(
-    paper: &mut Paper,
-    scale: Scale,
-    row: &TaskRow,
-    holder: Option<Holder>,
-) -> Result<(), AllocError>
-    ensures { OnOk result (Writes paper.old paper.new (cards.holder_facts scale row.now holder)) }
-{
-    let takes = poll_takes(Sample::of(row, scale.now));
-    put_held_if(paper, scale, holder)?;
-    paper.put(&[
-        Text(" A poll of it takes "),
-        Span(takes),
-        Text(" in the mean."),
-    ])?;
-    Ok(())
-}
-
-fn put_lost_waker(paper: &mut Paper, scale: Scale, row: &TaskRow) -> Result<(), AllocError>
-    ensures { OnOk result (Writes paper.old paper.new (cards.lost_facts scale row.now)) }
-{
-    let since = row.last_ended.unwrap_or(row.created);
-    paper.put(&[
-        Text("It is idle since "),
-        Span(scale.since(since)),
-        Text(", and no waker of it is left: "),
-        Number(row.clones),
-        Text(" cloned, "),
-        Number(row.drops),
-        Text(" dropped or used up."),
-    ])
-}
-
-fn put_never_yielded(paper: &mut Paper, scale: Scale, row: &TaskRow) -> Result<(), AllocError>
-    ensures { OnOk result (Writes paper.old paper.new (cards.never_facts scale row.now)) }
-{
-    let started = row.last_started.unwrap_or(scale.now);
-    paper.put(&[
-        Text("Its first poll runs for "),
-        Span(scale.now.saturating_sub(started)),
-        Text(" and has not come back."),
-    ])
-}
-
-fn put_never_polled(paper: &mut Paper, scale: Scale, row: &TaskRow) -> Result<(), AllocError>
-    ensures { OnOk result (Writes paper.old paper.new (cards.unpolled_facts scale row.now)) }
-{
-    paper.put(&[
-        Text("It waits since it was made, for "),
-        Span(scale.now.saturating_sub(row.created)),
-        Text("."),
-    ])
-}
-
-fn put_self_wakes(paper: &mut Paper, row: &TaskRow) -> Result<(), AllocError>
-    ensures { OnOk result (Writes paper.old paper.new (cards.self_facts row.now)) }
-{
-    let own = share(row.self_wakes, row.wakes);
-    paper.put(&[
-        Number(row.self_wakes),
-        Text(" of its "),
-        Number(row.wakes),
-        Text(" wakes were its own, "),
-        Share(own),
-        Text("."),
-    ])
-}
-
-fn put_facts(
-    paper: &mut Paper,
-    scale: Scale,
-    row: &TaskRow,
-    oddity: Oddity,
-    holder: Option<Holder>,
-) -> Result<(), AllocError>
-    ensures { OnOk result (Writes paper.old paper.new (cards.facts scale holder oddity row.now)) }
-{
-    match oddity {
-        Oddity::HoldsUp => put_holder(paper, scale, row, holder),
-        Oddity::LostWaker => put_lost_waker(paper, scale, row),
-        Oddity::NeverYielded => put_never_yielded(paper, scale, row),
-        Oddity::NeverPolled => put_never_polled(paper, scale, row),
-        Oddity::SelfWakes => put_self_wakes(paper, row),
-    }
-}
-
-// Puts what one task does, after its name.
-fn put_one(paper: &mut Paper, oddity: Oddity) -> Result<(), AllocError>
-    ensures { OnOk result (Writes paper.old paper.new (cards.one_words oddity)) }
-{
-    let words = words_of(oddity);
-    paper.put(&[Text(words.one), Close(Tag::H3), Start(Tag::P)])
-}
-
-// Puts the card of one task.
-fn put_card(
-    paper: &mut Paper,
-    scale: Scale,
-    task: &Task,
-    oddity: Oddity,
-    holder: Option<Holder>,
-) -> Result<(), AllocError>
-    ensures { OnOk result (Writes paper.old paper.new (cards.card scale holder oddity task.now)) }
-{
-    start_card(paper, oddity)?;
-    put_link(paper, task)?;
-    put_one(paper, oddity)?;
-    put_facts(paper, scale, &task.row, oddity, holder)?;
-    end_card(paper, oddity)?;
-    Ok(())
-}
-
-// How many cards of one kind there are at most: more are one card. How many tasks that one names.
-const CARDS: usize = 3;
-
-const NAMES: usize = 12;
-
-fn put_cards(
-    paper: &mut Paper,
-    scale: Scale,
-    tasks: &[&Task],
-    oddity: Oddity,
-    holder: Option<Holder>,
-) -> Result<(), AllocError>
-    ensures { OnOk result (Writes paper.old paper.new
-        (flat_map (cards.card scale holder oddity) (map (λ t. t.now) tasks.now))) }
-{
-    for task in tasks {
-        put_card(paper, scale, task, oddity, holder)?;
-    }
-    Ok(())
-}
-
-fn put_next_name(paper: &mut Paper, task: &Task) -> Result<(), AllocError>
-    ensures { OnOk result (Writes paper.old paper.new (cards.next_name task.now)) }
-{
-    paper.put(&[Text(", ")])?;
-    put_link(paper, task)?;
-    Ok(())
-}
-
-fn put_next_names(paper: &mut Paper, tasks: &[&Task]) -> Result<(), AllocError>
-    ensures { OnOk result (Writes paper.old paper.new
-        (flat_map cards.next_name (map (λ t. t.now) tasks.now))) }
-{
-    for task in tasks {
-        put_next_name(paper, task)?;
-    }
-    Ok(())
-}
-
-fn put_names(paper: &mut Paper, tasks: &[&Task]) -> Result<(), AllocError>
-    ensures { OnOk result (Writes paper.old paper.new (cards.names (map (λ t. t.now) tasks.now))) }
-{
-    let [first, rest @ ..] = tasks else {
-        return paper.put(&[]);
-    };
-    put_link(paper, first)?;
-    put_next_names(paper, rest)?;
-    Ok(())
-}
-
-// Puts how many tasks a card doesn't name.
-fn put_unnamed(paper: &mut Paper, all: usize) -> Result<(), AllocError>
-    ensures { OnOk result (Writes paper.old paper.new (cards.unnamed all)) }
-{
-    if all > NAMES {
-        paper.put(&[Text(" and "), Number(count(all - NAMES)), Text(" more")])
-    } else {
-        paper.put(&[])
-    }
-}
-
-fn put_many(paper: &mut Paper, oddity: Oddity, all: usize) -> Result<(), AllocError>
-    ensures { OnOk result (Writes paper.old paper.new (cards.many_words oddity all)) }
-{
-    let words = words_of(oddity);
-    paper.put(&[
-        Number(count(all)),
-        Text(words.many),
+        Text(" "),
+        Text(kind.said(is_now)),
+        Text(" "),
+        Start(Tag::Small),
+        Text(if is_now { "now" } else { "earlier" }),
+        Close(Tag::Small),
         Close(Tag::H3),
         Start(Tag::P),
     ])
 }
 
-// Puts one card for all tasks of which this is odd.
-fn put_group(paper: &mut Paper, tasks: &[&Task], oddity: Oddity) -> Result<(), AllocError>
-    ensures { OnOk result (Writes paper.old paper.new (cards.group oddity (map (λ t. t.now) tasks.now))) }
+// Puts for how long a task ran while no other was polled, where one did.
+fn put_alone(paper: &mut Paper, still: u64) -> Result<(), AllocError>
+    ensures { OnOk result (Writes paper.old paper.new (spec.alone still)) }
 {
-    let all = tasks.len();
-    let named = front(tasks, NAMES);
-    start_card(paper, oddity)?;
-    put_many(paper, oddity, all)?;
-    put_names(paper, named)?;
-    put_unnamed(paper, all)?;
-    end_card(paper, oddity)?;
+    if still == 0 {
+        return paper.put(&[]);
+    }
+    paper.put(&[
+        Text(" No other task was polled while it ran for "),
+        Span(still),
+        Text("."),
+    ])
+}
+
+// Puts how long a poll took.
+fn put_longest(paper: &mut Paper, time: u64) -> Result<(), AllocError>
+    ensures { OnOk result (Writes paper.old paper.new (spec.longest time)) }
+{
+    paper.put(&[Text(". A poll of it took at least "), Span(time), Text(".")])
+}
+
+// Puts a time between the words of a kind.
+fn put_timed(paper: &mut Paper, kind: OddKind, time: u64) -> Result<(), AllocError>
+    ensures { OnOk result (Writes paper.old paper.new (spec.timed (before_of kind) time (after_of kind))) }
+{
+    paper.put(&[
+        Text(kind.before()),
+        Text(" "),
+        Span(time),
+        Text(kind.after()),
+    ])
+}
+
+fn put_steps(paper: &mut Paper, scale: Scale, finding: &Finding) -> Result<(), AllocError>
+    ensures { OnOk result (Writes paper.old paper.new (spec.steps scale finding.now)) }
+{
+    paper.put(&[
+        Text("Between "),
+        Span(scale.since(finding.since)),
+        Text(" and "),
+        Span(scale.since(finding.until)),
+        Text(" "),
+    ])
+}
+
+fn put_held(
+    paper: &mut Paper,
+    scale: Scale,
+    kind: OddKind,
+    finding: &Finding,
+) -> Result<(), AllocError>
+    ensures { OnOk result (Writes paper.old paper.new (spec.facts_of Shape.Held scale 0 finding.now (before_of kind) (after_of kind))) }
+{
+    put_steps(paper, scale, finding)?;
+    put_timed(paper, kind, finding.figure)?;
+    put_longest(paper, finding.longest)?;
+    put_alone(paper, finding.still)?;
     Ok(())
 }
 
-fn put_kind(
+fn put_lone(paper: &mut Paper, kind: OddKind, finding: &Finding) -> Result<(), AllocError>
+    ensures { OnOk result (Writes paper.old paper.new (spec.timed (before_of kind) finding.now.figure (after_of kind) ++ spec.longest finding.now.longest)) }
+{
+    put_timed(paper, kind, finding.figure)?;
+    put_longest(paper, finding.longest)?;
+    Ok(())
+}
+
+fn put_stretch(
     paper: &mut Paper,
     scale: Scale,
-    tasks: &[&Task],
-    oddity: Oddity,
-    holder: Option<Holder>,
+    long: u64,
+    kind: OddKind,
+    finding: &Finding,
 ) -> Result<(), AllocError>
-    ensures { OnOk result (Writes paper.old paper.new (cards.kind scale holder oddity (map (λ t. t.now) tasks.now))) }
+    ensures { OnOk result (Writes paper.old paper.new (spec.facts_of Shape.Stretch scale long finding.now (before_of kind) (after_of kind))) }
 {
-    if tasks.len() > CARDS {
-        put_group(paper, tasks, oddity)
+    put_steps(paper, scale, finding)?;
+    put_timed(paper, kind, long)?;
+    paper.put(&[Text(".")])?;
+    Ok(())
+}
+
+fn put_lasting(
+    paper: &mut Paper,
+    scale: Scale,
+    kind: OddKind,
+    finding: &Finding,
+) -> Result<(), AllocError>
+    ensures { OnOk result (Writes paper.old paper.new (spec.lasting scale finding.now (before_of kind) (after_of kind))) }
+{
+    paper.put(&[
+        Text(kind.before()),
+        Text(" since "),
+        Span(scale.since(finding.since)),
+        Text(", for "),
+        Span(finding.figure),
+        Text(kind.after()),
+        Text("."),
+    ])
+}
+
+fn put_one(paper: &mut Paper, kind: OddKind, finding: &Finding) -> Result<(), AllocError>
+    ensures { OnOk result (Writes paper.old paper.new (spec.timed (before_of kind) finding.now.figure (after_of kind) ++ text (codes ".") ∷ [])) }
+{
+    put_timed(paper, kind, finding.figure)?;
+    paper.put(&[Text(".")])?;
+    Ok(())
+}
+
+fn put_part(paper: &mut Paper, kind: OddKind, finding: &Finding) -> Result<(), AllocError>
+    ensures { OnOk result (Writes paper.old paper.new (spec.part finding.now (before_of kind) (after_of kind))) }
+{
+    let own = share(finding.figure, finding.of);
+    paper.put(&[
+        Number(finding.figure),
+        Text(" "),
+        Text(kind.before()),
+        Text(" "),
+        Number(finding.of),
+        Text(kind.after()),
+        Text(", "),
+        Share(own),
+        Text("."),
+    ])
+}
+
+// Puts what is told of a finding.
+fn put_facts(
+    paper: &mut Paper,
+    scale: Scale,
+    long: u64,
+    kind: OddKind,
+    finding: &Finding,
+) -> Result<(), AllocError>
+    ensures { OnOk result (Writes paper.old paper.new (spec.facts scale long kind finding.now)) }
+{
+    match kind.shape() {
+        Shape::Held => put_held(paper, scale, kind, finding),
+        Shape::Alone => put_lone(paper, kind, finding),
+        Shape::Stretch => put_stretch(paper, scale, long, kind, finding),
+        Shape::Lasting => put_lasting(paper, scale, kind, finding),
+        Shape::Longest => put_one(paper, kind, finding),
+        Shape::Share => put_part(paper, kind, finding),
+    }
+}
+
+// Puts of how many tasks more of the place the same holds.
+fn put_others(paper: &mut Paper, tasks: u64) -> Result<(), AllocError>
+    ensures { OnOk result (Writes paper.old paper.new (spec.others tasks)) }
+{
+    if tasks > 1 {
+        paper.put(&[
+            Text(" The same holds of "),
+            Number(tasks - 1),
+            Text(" more of its place."),
+        ])
     } else {
-        put_cards(paper, scale, tasks, oddity, holder)
+        paper.put(&[])
     }
 }
 
-// Puts the cards of a kind.
-fn put_kind_of(
+// Puts the card of a finding.
+fn put_card(
     paper: &mut Paper,
-    alloc: Global,
     scale: Scale,
-    signs: Signs,
+    long: u64,
     tables: &Tables,
-    oddity: Oddity,
-    holder: Option<Holder>,
+    found: &Found,
 ) -> Result<(), AllocError>
-    ensures { OnOk result (Writes paper.old paper.new (cards.cards_of scale signs holder tables.now.tasks oddity)) }
+    ensures { OnOk result (Writes paper.old paper.new (spec.card scale long tables.now.tasks found.now)) }
 {
-    let found = signs.find(alloc, tables, oddity)?;
-    put_kind(paper, scale, found.as_slice(), oddity, holder)?;
+    let finding = &found.finding;
+    let (kind, is_now) = (finding.kind, finding.is_now);
+    let task = task_of(tables, finding);
+    start_card(paper, kind)?;
+    put_who(paper, task, finding.task)?;
+    put_said(paper, is_now, kind)?;
+    put_facts(paper, scale, long, kind, finding)?;
+    put_others(paper, finding.tasks)?;
+    put_made(paper, found.place.as_slice(), task)?;
+    end_card(paper, kind)?;
     Ok(())
 }
 
-fn put_all_kinds(
+// ---- all cards
+
+fn put_cards(
     paper: &mut Paper,
-    alloc: Global,
     scale: Scale,
-    signs: Signs,
+    long: u64,
     tables: &Tables,
-    holder: Option<Holder>,
+    findings: &[Found],
 ) -> Result<(), AllocError>
-    ensures { OnOk result (Writes paper.old paper.new
-        (flat_map (cards.cards_of scale signs holder tables.now.tasks) kinds)) }
+    ensures { OnOk result (Writes paper.old paper.new (flat_map (spec.card scale long tables.now.tasks) findings.now)) }
 {
-    for oddity in &KINDS {
-        put_kind_of(paper, alloc, scale, signs, tables, *oddity, holder)?;
+    for found in findings {
+        put_card(paper, scale, long, tables, found)?;
     }
     Ok(())
-}
-
-/// Begins a section with its head.
-pub(crate) fn start_section(
-    paper: &mut Paper,
-    id: &'static str,
-    head: &'static str,
-) -> Result<(), AllocError>
-    ensures { OnOk result (Writes paper.old paper.new (spec.section id.now head.now)) }
-{
-    paper.put(&[
-        Open(Tag::Section),
-        With(Attr::AriaLabelledby, id),
-        End,
-        Open(Tag::H2),
-        With(Attr::Id, id),
-        End,
-        Text(head),
-    ])
-}
-
-fn put_nothing_odd(paper: &mut Paper) -> Result<(), AllocError>
-    ensures { OnOk result (Writes paper.old paper.new cards.nothing_odd) }
-{
-    paper.put(&[
-        Close(Tag::H2),
-        Class(Tag::P, "fine"),
-        Text(
-            "Nothing: no task wakes itself, lost its wakers, never yielded, was never polled, or held up others.",
-        ),
-        Close(Tag::P),
-        Close(Tag::Section),
-    ])
 }
 
 fn put_all_odd(
     paper: &mut Paper,
-    alloc: Global,
     scale: Scale,
-    signs: Signs,
+    signs: &Signs,
     tables: &Tables,
-    holder: Option<Holder>,
-    all: u64,
 ) -> Result<(), AllocError>
-    ensures { OnOk result (Writes paper.old paper.new (cards.all_odd scale signs holder tables.now.tasks all)) }
+    ensures { OnOk result (Writes paper.old paper.new (spec.all_odd scale signs.now tables.now.tasks)) }
 {
+    let all = signs.findings.as_slice().len();
     paper.put(&[
         Class(Tag::Span, "count"),
-        Number(all),
+        Number(count(all)),
         Close(Tag::Span),
         Close(Tag::H2),
         Class(Tag::Ul, "odd"),
     ])?;
-    put_all_kinds(paper, alloc, scale, signs, tables, holder)?;
-    paper.put(&[Close(Tag::Ul), Close(Tag::Section)])?;
+    put_cards(paper, scale, signs.limits.long, tables, signs.carded())?;
+    paper.put(&[Close(Tag::Ul)])?;
+    put_more(paper, all, CARDS, " more")?;
+    paper.put(&[Close(Tag::Section)])?;
     Ok(())
 }
 
+// ---- nothing is odd
+
+// Puts how long tasks waited for a poll in the mean.
+fn put_mean_wait(paper: &mut Paper, all: Sample) -> Result<(), AllocError>
+    ensures { OnOk result (Writes paper.old paper.new (spec.mean_wait all)) }
+{
+    if all.polls == 0 {
+        return paper.put(&[Text(" No task was polled.")]);
+    }
+    paper.put(&[
+        Text(" In the mean tasks waited "),
+        Span(each(all.sched, all.polls)),
+        Text(" for a poll."),
+    ])
+}
+
+// Puts that they may have waited longer, where each wait is counted from its last wake alone.
+fn put_unsure(paper: &mut Paper, late: bool) -> Result<(), AllocError>
+    ensures { OnOk result (Writes paper.old paper.new (spec.unsure late)) }
+{
+    if late {
+        paper.put(&[Text(
+            " They may have waited longer, since this stream counts each wait from its last wake.",
+        )])
+    } else {
+        paper.put(&[])
+    }
+}
+
+fn put_calm(paper: &mut Paper, long: u64, all: Sample, late: bool) -> Result<(), AllocError>
+    ensures { OnOk result (Writes paper.old paper.new (spec.calm long all late)) }
+{
+    paper.put(&[
+        Class(Tag::P, "fine"),
+        Text("Nothing: no poll is known to have taken "),
+        Span(long),
+        Text("."),
+    ])?;
+    put_mean_wait(paper, all)?;
+    put_unsure(paper, late)?;
+    paper.put(&[Close(Tag::P)])?;
+    Ok(())
+}
+
+// Puts that the lines span too little time to see who held up others.
+fn put_unseen(paper: &mut Paper, time: u64, long: u64) -> Result<(), AllocError>
+    ensures { OnOk result (Writes paper.old paper.new (spec.unseen time long)) }
+{
+    paper.put(&[
+        Class(Tag::P, "note"),
+        Text(
+            "Nothing is odd about a task in itself. Who held up others can't be seen: the lines span ",
+        ),
+        Span(time),
+        Text(", and it takes at least "),
+        Span(long),
+        Text("."),
+        Close(Tag::P),
+    ])
+}
+
+fn put_calm_or_unseen(
+    paper: &mut Paper,
+    time: u64,
+    long: u64,
+    all: Sample,
+    late: bool,
+) -> Result<(), AllocError>
+    ensures { OnOk result (Writes paper.old paper.new (spec.calm_or_unseen time long all late)) }
+{
+    if time < long {
+        put_unseen(paper, time, long)
+    } else {
+        put_calm(paper, long, all, late)
+    }
+}
+
+fn put_nothing_odd(
+    paper: &mut Paper,
+    time: u64,
+    long: u64,
+    all: Sample,
+    late: bool,
+) -> Result<(), AllocError>
+    ensures { OnOk result (Writes paper.old paper.new (spec.nothing_odd time long all late)) }
+{
+    paper.put(&[Close(Tag::H2)])?;
+    put_calm_or_unseen(paper, time, long, all, late)?;
+    paper.put(&[Close(Tag::Section)])?;
+    Ok(())
+}
+
+// ---- the section
+
 fn put_what_is_odd(
     paper: &mut Paper,
-    alloc: Global,
     scale: Scale,
-    signs: Signs,
+    signs: &Signs,
+    history: &History,
     tables: &Tables,
-    holder: Option<Holder>,
 ) -> Result<(), AllocError>
-    ensures { OnOk result (Writes paper.old paper.new (cards.what_is_odd scale signs holder tables.now.tasks)) }
+    ensures { OnOk result (Writes paper.old paper.new (spec.what_is_odd scale signs.now (courses_of history.now) tables.now)) }
 {
-    let all = signs.count_all(tables);
-    if all == 0 {
-        put_nothing_odd(paper)
-    } else {
-        put_all_odd(paper, alloc, scale, signs, tables, holder, all)
+    if signs.findings.len() != 0 {
+        return put_all_odd(paper, scale, signs, tables);
     }
+    let time = tables.now().saturating_sub(history.first());
+    let late = any_waits_from_last_wake(tables);
+    put_nothing_odd(paper, time, signs.limits.long, history.last(), late)
 }
 
 /// Puts what is odd.
 pub(crate) fn put_odd(
     paper: &mut Paper,
-    alloc: Global,
     scale: Scale,
-    signs: Signs,
+    signs: &Signs,
+    history: &History,
     tables: &Tables,
-    holder: Option<Holder>,
 ) -> Result<(), AllocError>
-    ensures { OnOk result (Writes paper.old paper.new (cards.odd_section scale signs holder tables.now.tasks)) }
+    ensures { OnOk result (Writes paper.old paper.new (spec.odd_section scale signs.now (courses_of history.now) tables.now)) }
 {
     start_section(paper, "odd", "What is odd ")?;
-    put_what_is_odd(paper, alloc, scale, signs, tables, holder)?;
+    put_what_is_odd(paper, scale, signs, history, tables)?;
     Ok(())
-}
-
-fn put_badge(paper: &mut Paper, odd: bool, oddity: Oddity) -> Result<(), AllocError>
-    ensures { OnOk result (Writes paper.old paper.new (spec.badge odd oddity)) }
-{
-    if !odd {
-        return paper.put(&[]);
-    }
-    let words = words_of(oddity);
-    paper.put(&[
-        Open(Tag::Span),
-        Value(Attr::Class),
-        Text("badge "),
-        Text(words.class),
-        Quote,
-        End,
-        Text(words.badge),
-        Close(Tag::Span),
-    ])
-}
-
-fn put_each_badge(paper: &mut Paper, signs: Signs, task: &Task) -> Result<(), AllocError>
-    ensures { OnOk result (Writes paper.old paper.new (flat_map (spec.badge_of signs task.now) kinds)) }
-{
-    for oddity in &KINDS {
-        put_badge(paper, signs.has(task, *oddity), *oddity)?;
-    }
-    Ok(())
-}
-
-fn put_badge_line(paper: &mut Paper, signs: Signs, task: &Task) -> Result<(), AllocError>
-    ensures { OnOk result (Writes paper.old paper.new (spec.badge_line signs task.now)) }
-{
-    paper.put(&[Class(Tag::Div, "badges")])?;
-    put_each_badge(paper, signs, task)?;
-    paper.put(&[Close(Tag::Div)])?;
-    Ok(())
-}
-
-/// Puts what is odd about a task after its name.
-pub(crate) fn put_badges(paper: &mut Paper, signs: Signs, task: &Task) -> Result<(), AllocError>
-    ensures { OnOk result (Writes paper.old paper.new (spec.badges signs task.now)) }
-{
-    if signs.has_any(task) {
-        put_badge_line(paper, signs, task)
-    } else {
-        paper.put(&[])
-    }
 }

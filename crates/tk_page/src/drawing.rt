@@ -1,26 +1,23 @@
 //! The page between its frame: the head, what is odd, the tasks, the resources.
-ghost use Rattle.std.specs.Prelude.{◌≡◌, [], OnOk, IfOk, false, slice_get};
-ghost use Rattle.std.specs.List.{list_any};
-ghost use Rattle.std.specs.Option.{option_map_or};
+ghost use Rattle.std.specs.Prelude.{◌≡◌, OnOk};
+ghost use Rattle.tk_page.specs.Drawn as drawn;
 ghost use Rattle.tk_page.specs.Heads as spec;
-ghost use Rattle.tk_page.specs.Holders as holders;
-ghost use Rattle.tk_page.specs.Drawn.{DrawsPage, DrawsSections};
 ghost use Rattle.tk_page.specs.Courses.{courses_of};
 ghost use Rattle.tk_paper.specs.Pieces.{Writes};
 
+use crate::banner::put_banner;
 use crate::cards::put_odd;
 use crate::figures::{Scale, count};
 use crate::history::History;
-use crate::oddities::{Holder, Signs, find_holder};
+use crate::oddities::Signs;
 use crate::resources::put_resources;
-use crate::strips::{steps_of, worst_step};
 use crate::tasks::put_tasks;
+use crate::waiting::any_waits_from_last_wake;
 use std::alloc::{AllocError, Global};
-use tk_client::Lints;
 use tk_ids::Dropped;
 use tk_paper::Part::{Class, Close, Number, Span, Start, Text};
 use tk_paper::{Paper, Tag};
-use tk_stream::{Tables, Task};
+use tk_stream::Tables;
 
 // The moment at the page's left: the first line's, or that of the earliest creation of a task.
 fn start_of(first: u64, tables: &Tables) -> u64
@@ -117,36 +114,6 @@ fn put_missing(paper: &mut Paper, dropped: Dropped) -> Result<(), AllocError>
     }
 }
 
-// Whether each wait of the task is known from its last wake on alone.
-fn waits_from_last_wake(task: &Task) -> bool
-    ensures { result ≡ spec.waits_from_last_wake task.now }
-{
-    let row = &task.row;
-    row.waits.is_none() && (row.sched > 0 || row.scheduled)
-}
-
-// Whether it is so of the task at a place.
-fn waits_from_last_wake_at(tables: &Tables, place: usize) -> bool
-    ensures { result ≡ option_map_or spec.waits_from_last_wake (slice_get tables.now.tasks place) false }
-{
-    match tables.task_at(place) {
-        Some(task) => waits_from_last_wake(task),
-        None => false,
-    }
-}
-
-// Whether it is so of a task.
-fn any_waits_from_last_wake(tables: &Tables) -> bool
-    ensures { result ≡ list_any spec.waits_from_last_wake tables.now.tasks }
-{
-    for place in 0..tables.task_count() {
-        if waits_from_last_wake_at(tables, place) {
-            return true;
-        }
-    }
-    false
-}
-
 // Puts that less is told of waiting than there was, where it is so.
 fn put_late(paper: &mut Paper, tables: &Tables) -> Result<(), AllocError>
     ensures { OnOk result (Writes paper.old paper.new (spec.late tables.now.tasks)) }
@@ -192,55 +159,13 @@ fn put_header(
     Ok(())
 }
 
-// Which task holds up the others, if one does.
-fn holder_of(
-    alloc: Global,
-    scale: Scale,
-    history: &History,
-    tables: &Tables,
-) -> Result<Option<Holder>, AllocError>
-    requires { scale.start ≡ spec.start_of history.now.first tables.now.tasks }
-    ensures { IfOk result (λ holder. holder ≡ holders.holder_of (courses_of history.now) tables.now) }
+/// The time that a page of tables and their history shows.
+pub(crate) fn scale_of(history: &History, tables: &Tables) -> Scale
+    ensures { result ≡ drawn.scale_of (courses_of history.now) tables.now }
 {
-    let sums = steps_of(alloc, scale.start, history.sums(), history.last())?;
-    match worst_step(sums.as_slice()) {
-        Some(step) => Ok(find_holder(history, tables, step)),
-        None => Ok(None),
-    }
-}
-
-fn put_sections(
-    paper: &mut Paper,
-    alloc: Global,
-    scale: Scale,
-    signs: Signs,
-    history: &History,
-    tables: &Tables,
-    holder: Option<Holder>,
-) -> Result<(), AllocError>
-    ensures { OnOk result (DrawsSections scale signs holder (courses_of history.now) tables.now paper.old paper.new) }
-{
-    put_header(
-        paper,
-        scale.watched(),
-        history.lines(),
-        history.gone(),
-        tables,
-    )?;
-    paper.put(&[Start(Tag::Main)])?;
-    put_odd(paper, alloc, scale, signs, tables, holder)?;
-    put_tasks(paper, alloc, scale, signs, history, tables)?;
-    put_resources(paper, alloc, tables)?;
-    paper.put(&[Close(Tag::Main)])?;
-    Ok(())
-}
-
-fn id_of(holder: Option<Holder>) -> Option<u64>
-    ensures { result ≡ spec.id_of holder }
-{
-    match holder {
-        Some(holder) => Some(holder.id),
-        None => None,
+    Scale {
+        start: start_of(history.first(), tables),
+        now: tables.now(),
     }
 }
 
@@ -248,24 +173,20 @@ fn id_of(holder: Option<Holder>) -> Option<u64>
 pub(crate) fn put_page(
     paper: &mut Paper,
     alloc: Global,
+    scale: Scale,
+    signs: &Signs,
     history: &History,
     tables: &Tables,
-    lints: &Lints,
 ) -> Result<(), AllocError>
-    ensures { OnOk result (DrawsPage lints.now (courses_of history.now) tables.now paper.old paper.new) }
+    ensures { OnOk result (drawn.DrawsSections scale signs.now (courses_of history.now) tables.now paper.old paper.new) }
 {
-    let now = tables.now();
-    let scale = Scale {
-        start: start_of(history.first(), tables),
-        now,
-    };
-    let holder = holder_of(alloc, scale, history, tables)?;
-    let signs = Signs {
-        now,
-        percent: lints.self_wake_percent(),
-        limit: lints.never_yielded_ns(),
-        holder: id_of(holder),
-    };
-    put_sections(paper, alloc, scale, signs, history, tables, holder)?;
+    let lines = history.lines();
+    put_banner(paper, signs, lines, tables)?;
+    put_header(paper, scale.watched(), lines, history.gone(), tables)?;
+    paper.put(&[Start(Tag::Main)])?;
+    put_odd(paper, scale, signs, history, tables)?;
+    put_tasks(paper, alloc, scale, signs, history, tables)?;
+    put_resources(paper, alloc, tables)?;
+    paper.put(&[Close(Tag::Main)])?;
     Ok(())
 }

@@ -1,9 +1,11 @@
 //! A stream as one page of HTML, which needs nothing else: what is odd, each task's course of time, and the resources.
 //!
-//! - [`view_page`]: reads a stream to its end, line by line, and writes the page.
+//! - [`view_page`], [`view_page_with`]: reads a stream to its end, line by line, and writes the page.
 //! - [`Sample`]: what a course of time keeps of a task at a line.
 #![tactic(auto)]
 
+mod badges;
+mod banner;
 mod cards;
 mod drawing;
 mod figures;
@@ -16,6 +18,7 @@ mod sample;
 mod strips;
 mod tasks;
 mod view;
+mod waiting;
 
 pub use sample::Sample;
-pub use view::view_page;
+pub use view::{view_page, view_page_with};

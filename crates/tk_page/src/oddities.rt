@@ -1,233 +1,154 @@
 //! What is odd about tasks.
-ghost use Rattle.std.specs.Prelude.{◌≡◌, ◌-◌, nat_le, false, filter, map, [], ◌∷◌, ◌++◌, IfOk};
-ghost use Rattle.std.specs.Option.{option_map_or};
-ghost use Rattle.tk_client.specs.Warnings as lints;
-ghost use Rattle.tk_page.specs.Courses.{courses_of};
-ghost use Rattle.tk_page.specs.Holders as holders;
+ghost use Rattle.std.specs.Prelude.{◌≡◌, map};
+ghost use Rattle.std.specs.List.{list_any};
+ghost use Rattle.tk_odd.specs.Findings.{is_never_polled as is_unpolled, placed};
 ghost use Rattle.tk_page.specs.Odd as spec;
-ghost use Rattle.tk_page.specs.Samples.{sample_of};
 
-use crate::history::History;
-use crate::sample::{Sample, Step};
-use std::alloc::{AllocError, Global};
+use crate::figures::front;
+use tk_client::{has_lost_waker, has_never_yielded, is_spawn, wakes_itself};
 use tk_core::TaskRow;
-use tk_ids::TaskKind;
+use tk_odd::{Found, Limits, OddKind};
 use tk_stream::{Tables, Task};
 
-/// What may be odd about a task.
-#[derive(Clone, Copy, Debug, PartialEq, Eq)]
-pub(crate) enum Oddity {
-    /// It ran longest while most tasks waited.
-    HoldsUp,
-    /// Nobody can wake it.
-    LostWaker,
-    /// Its first poll doesn't end.
-    NeverYielded,
-    /// It waits for its first poll.
-    NeverPolled,
-    /// Most of its wakes are its own.
-    SelfWakes,
-}
+// How many findings have cards.
+pub(crate) const CARDS: usize = 20;
 
-/// The order of the cards.
-pub(crate) const KINDS: [Oddity; 5] = [
-    Oddity::HoldsUp,
-    Oddity::LostWaker,
-    Oddity::NeverYielded,
-    Oddity::NeverPolled,
-    Oddity::SelfWakes,
+/// What a task's row may show, in the order of its badges.
+pub(crate) const ROW_KINDS: [OddKind; 4] = [
+    OddKind::NeverYielded,
+    OddKind::LostWaker,
+    OddKind::NeverPolled,
+    OddKind::SelfWakes,
 ];
 
-fn is_spawn(kind: TaskKind) -> bool
-    ensures { result ≡ lints.is_spawn kind }
+/// Whether nobody can wake a task.
+pub(crate) fn is_lost(task: &Task) -> bool
+    ensures { result ≡ spec.is_lost task.now }
 {
-    match kind {
-        TaskKind::Spawn => true,
-        TaskKind::Blocking => false,
-    }
+    is_spawn(task.info.kind) && has_lost_waker(&task.row)
 }
 
-// In 128 bits neither product is too large.
-fn wakes_itself(percent: u64, row: &TaskRow) -> bool
-    ensures { result ≡ lints.wakes_itself percent row.now }
-{
-    let wakes = u128::from(row.wakes);
-    let own = u128::from(row.self_wakes);
-    wakes > 0 && 100 * own > u128::from(percent) * wakes
-}
-
-fn has_lost_waker(row: &TaskRow) -> bool
-    ensures { result ≡ lints.has_lost_waker row.now }
-{
-    row.dropped.is_none() && !row.polling && !row.scheduled && row.clones == row.drops
-}
-
-// Whether a poll that started then, if any did, runs for so long.
-fn has_run(limit: u64, now: u64, started: Option<u64>) -> bool
-    ensures { result ≡ option_map_or (λ moment. nat_le limit (now - moment)) started false }
-{
-    match started {
-        Some(moment) => limit <= now.saturating_sub(moment),
-        None => false,
-    }
-}
-
-fn has_never_yielded(limit: u64, now: u64, row: &TaskRow) -> bool
-    ensures { result ≡ lints.has_never_yielded limit now row.now }
-{
-    row.polling && row.polls == 1 && has_run(limit, now, row.last_started)
-}
-
-// Whether a task has waited for its first poll for so long as a first poll may run.
+// Whether a task has waited for its first poll for so long.
 fn is_never_polled(limit: u64, now: u64, row: &TaskRow) -> bool
-    ensures { result ≡ spec.is_never_polled limit now row.now }
+    ensures { result ≡ is_unpolled limit now row.now }
 {
     row.scheduled && row.polls == 0 && limit <= now.saturating_sub(row.created)
 }
 
+// Whether a finding names a task.
+fn names(task: &Task, found: &Found) -> bool
+    ensures { result ≡ spec.names task.now found.now }
+{
+    match found.finding.task {
+        Some(id) => id.value() == task.info.id.value(),
+        None => false,
+    }
+}
+
+// Whether findings of this kind say of a task what its row doesn't show.
+fn is_of_steps(kind: OddKind) -> bool
+    ensures { result ≡ spec.is_of_steps kind }
+{
+    match kind {
+        OddKind::HoldsUp => true,
+        OddKind::StandsStill => true,
+        OddKind::LeftAlone => false,
+        OddKind::Overloaded => false,
+        OddKind::NeverYielded => false,
+        OddKind::LostWaker => false,
+        OddKind::PassedOver => true,
+        OddKind::NeverPolled => false,
+        OddKind::LongPoll => true,
+        OddKind::SelfWakes => false,
+    }
+}
+
+/// Whether a finding says of a task what its row doesn't show.
+pub(crate) fn says(task: &Task, found: &Found) -> bool
+    ensures { result ≡ spec.says task.now found.now }
+{
+    names(task, found) && is_of_steps(found.finding.kind)
+}
+
+// Whether one of findings names a task.
+fn any_names(findings: &[Found], task: &Task) -> bool
+    ensures { result ≡ list_any (spec.names task.now) findings.now }
+{
+    for found in findings {
+        if names(task, found) {
+            return true;
+        }
+    }
+    false
+}
+
 /// What tasks are looked at for.
-#[derive(Clone, Copy)]
+#[derive(Drop)]
 pub(crate) struct Signs {
     /// The moment of the tables.
-    pub now: u64,
-    /// How much of the wakes of a task may be its own.
-    pub percent: u64,
-    /// For how long a first poll may run, and be waited for.
-    pub limit: u64,
-    /// The task that holds up the others, if one does.
-    pub holder: Option<u64>,
+    pub moment: u64,
+    /// How much is too much.
+    pub limits: Limits,
+    /// What is odd, worst first.
+    pub findings: Vec<Found>,
 }
 
 impl Signs {
-    fn is_holder(self, task: &Task) -> bool
-        ensures { result ≡ spec.is_holder self task.now }
+    /// Of tables, by these limits and with these findings.
+    pub fn of(tables: &Tables, limits: Limits, findings: Vec<Found>) -> Signs
+        ensures { spec.AreSigns limits (map placed findings.items) tables.now result }
     {
-        match self.holder {
-            Some(id) => id == task.info.id.value(),
-            None => false,
+        Signs {
+            moment: tables.now(),
+            limits,
+            findings,
         }
     }
 
-    /// Whether this is odd about a task.
-    pub fn has(self, task: &Task, oddity: Oddity) -> bool
-        ensures { result ≡ spec.is_odd self oddity task.now }
+    /// The findings that have cards.
+    pub fn carded(&self) -> &[Found]
+        ensures { result.now ≡ spec.carded self.now }
+    {
+        front(self.findings.as_slice(), CARDS)
+    }
+
+    // Whether a card names a task.
+    fn is_named(&self, task: &Task) -> bool
+        ensures { result ≡ spec.is_named self.now task.now }
+    {
+        any_names(self.carded(), task)
+    }
+
+    /// Whether a task's row shows this.
+    pub fn has(&self, task: &Task, kind: OddKind) -> bool
+        ensures { result ≡ spec.has_sign self.now kind task.now }
     {
         let row = &task.row;
         let spawned = is_spawn(task.info.kind);
-        match oddity {
-            Oddity::HoldsUp => self.is_holder(task),
-            Oddity::LostWaker => spawned && has_lost_waker(row),
-            Oddity::NeverYielded => spawned && has_never_yielded(self.limit, self.now, row),
-            Oddity::NeverPolled => spawned && is_never_polled(self.limit, self.now, row),
-            Oddity::SelfWakes => spawned && wakes_itself(self.percent, row),
+        let lints = self.limits.lints;
+        let limit = lints.never_yielded_ns();
+        match kind {
+            OddKind::HoldsUp => false,
+            OddKind::StandsStill => false,
+            OddKind::LeftAlone => false,
+            OddKind::Overloaded => false,
+            OddKind::NeverYielded => spawned && has_never_yielded(limit, self.moment, row),
+            OddKind::LostWaker => is_lost(task),
+            OddKind::PassedOver => false,
+            OddKind::NeverPolled => spawned && is_never_polled(limit, self.moment, row),
+            OddKind::LongPoll => false,
+            OddKind::SelfWakes => spawned && wakes_itself(lints.self_wake_percent(), row),
         }
     }
 
     /// Whether anything is odd about a task.
-    pub fn has_any(self, task: &Task) -> bool
-        ensures { result ≡ spec.is_odd_at_all self task.now }
+    pub fn has_any(&self, task: &Task) -> bool
+        ensures { result ≡ spec.is_odd_at_all self.now task.now }
     {
-        self.has(task, Oddity::HoldsUp)
-            || self.has(task, Oddity::LostWaker)
-            || self.has(task, Oddity::NeverYielded)
-            || self.has(task, Oddity::NeverPolled)
-            || self.has(task, Oddity::SelfWakes)
+        self.is_named(task)
+            || self.has(task, OddKind::NeverYielded)
+            || self.has(task, OddKind::LostWaker)
+            || self.has(task, OddKind::NeverPolled)
+            || self.has(task, OddKind::SelfWakes)
     }
-
-    // How many things are odd about a task.
-    fn count(self, task: &Task) -> u64
-        ensures { result ≡ spec.odd_count self task.now }
-    {
-        u64::from(self.has(task, Oddity::HoldsUp))
-            + u64::from(self.has(task, Oddity::LostWaker))
-            + u64::from(self.has(task, Oddity::NeverYielded))
-            + u64::from(self.has(task, Oddity::NeverPolled))
-            + u64::from(self.has(task, Oddity::SelfWakes))
-    }
-
-    /// How many things are odd about all tasks.
-    pub fn count_all(self, tables: &Tables) -> u64
-        ensures { result ≡ spec.all_odd self tables.now.tasks }
-    {
-        let mut all = 0u64;
-        for place in 0..tables.task_count() {
-            if let Some(task) = tables.task_at(place) {
-                all = all.saturating_add(self.count(task));
-            }
-        }
-        all
-    }
-
-    /// The tasks of which this is odd, in table order.
-    pub fn find<'a>(
-        self,
-        alloc: Global,
-        tables: &'a Tables,
-        oddity: Oddity,
-    ) -> Result<Vec<&'a Task>, AllocError>
-        ensures { IfOk result (λ found. map (λ t. t.now) found.items ≡ filter (spec.is_odd self oddity) tables.now.tasks) }
-    {
-        let mut found = Vec::new(alloc);
-        for place in 0..tables.task_count() {
-            if let Some(task) = tables.task_at(place) {
-                if self.has(task, oddity) {
-                    found.push(task)?;
-                }
-            }
-        }
-        Ok(found)
-    }
-}
-
-/// The task that holds up the others, in which step, and how long it ran there.
-#[derive(Clone, Copy)]
-pub(crate) struct Holder {
-    pub id: u64,
-    pub step: Step,
-    pub ran: u64,
-}
-
-// How long the polls of a task had run at a moment, as far as its samples tell.
-fn busy_at(samples: &[Sample], last: Sample, moment: u64) -> u64
-    ensures { result ≡ holders.busy_at (samples.now ++ last ∷ []) moment }
-{
-    let mut busy = 0;
-    for sample in samples {
-        if sample.now <= moment {
-            busy = sample.busy;
-        }
-    }
-    if last.now <= moment { last.busy } else { busy }
-}
-
-// How long it ran in a step.
-fn ran_in(history: &History, now: u64, task: &Task, step: Step) -> u64
-    ensures { result ≡ holders.ran_by ((courses_of history.now).kept task.now.info.id ++ sample_of task.now.row now ∷ []) step }
-{
-    let samples = history.of(task.info.id.value());
-    let last = Sample::of(&task.row, now);
-    busy_at(samples, last, step.to).saturating_sub(busy_at(samples, last, step.from))
-}
-
-/// Which spawned task ran longest in a step, if one ran.
-pub(crate) fn find_holder(history: &History, tables: &Tables, step: Step) -> Option<Holder>
-    ensures { result ≡ holders.holder_in (courses_of history.now) tables.now step }
-{
-    let now = tables.now();
-    let mut found: Option<Holder> = None;
-    let mut most = 0u64;
-    for place in 0..tables.task_count() {
-        if let Some(task) = tables.task_at(place) {
-            let ran = ran_in(history, now, task, step);
-            if is_spawn(task.info.kind) && ran > most {
-                most = ran;
-                found = Some(Holder {
-                    id: task.info.id.value(),
-                    step,
-                    ran,
-                });
-            }
-        }
-    }
-    found
 }

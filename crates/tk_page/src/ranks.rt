@@ -18,8 +18,8 @@ pub(crate) struct Rank {
     pub place: usize,
 }
 
-fn rank_of(scale: Scale, signs: Signs, task: &Task, place: usize) -> Rank
-    ensures { result ≡ spec.rank_of scale signs place task.now }
+fn rank_of(scale: Scale, signs: &Signs, task: &Task, place: usize) -> Rank
+    ensures { result ≡ spec.rank_of scale signs.now place task.now }
 {
     let busy = task.row.busy_until(scale.now);
     let sched = task.row.sched_until(scale.now);
@@ -35,9 +35,9 @@ fn list_ranks(
     alloc: Global,
     scale: Scale,
     tables: &Tables,
-    signs: Signs,
+    signs: &Signs,
 ) -> Result<Vec<Rank>, AllocError>
-    ensures { IfOk result (λ ranks. ranks.items ≡ spec.ranks_of scale signs tables.now.tasks) }
+    ensures { IfOk result (λ ranks. ranks.items ≡ spec.ranks_of scale signs.now tables.now.tasks) }
 {
     let mut ranks = Vec::new(alloc);
     for place in 0..tables.task_count() {
@@ -53,9 +53,9 @@ pub(crate) fn ranks_of(
     alloc: Global,
     scale: Scale,
     tables: &Tables,
-    signs: Signs,
+    signs: &Signs,
 ) -> Result<Vec<Rank>, AllocError>
-    ensures all { IfOk result (λ ranks. IsPermutation (spec.ranks_of scale signs tables.now.tasks) ranks.items) }
+    ensures all { IfOk result (λ ranks. IsPermutation (spec.ranks_of scale signs.now tables.now.tasks) ranks.items) }
     ensures sorted { IfOk result (λ ranks. spec.AreInOrder ranks.items) }
 {
     let mut ranks = list_ranks(alloc, scale, tables, signs)?;

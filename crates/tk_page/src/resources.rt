@@ -5,7 +5,7 @@ ghost use Rattle.tk_page.specs.Items as spec;
 ghost use Rattle.tk_page.specs.Places as places;
 ghost use Rattle.tk_paper.specs.Pieces.{Writes};
 
-use crate::cards::start_section;
+use crate::badges::start_section;
 use crate::figures::{count, front};
 use std::alloc::{AllocError, Global};
 use tk_core::{OpRow, ResourceRow};

@@ -1,12 +1,11 @@
 //! Strips: a course of time, drawn.
 ghost use Rattle.std.specs.Prelude.{◌≡◌, ◌<◌, [], OnOk, IfOk};
 ghost use Rattle.tk_page.specs.Figures as figures;
-ghost use Rattle.tk_page.specs.Holders as holders;
 ghost use Rattle.tk_page.specs.Strips as spec;
 ghost use Rattle.tk_paper.specs.Pieces.{Writes};
 
-use crate::figures::{Scale, each, mean, share};
-use crate::oddities::{Oddity, Signs};
+use crate::figures::{Scale, mean, share};
+use crate::oddities::is_lost;
 use crate::sample::{Sample, Step};
 use std::alloc::{AllocError, Global};
 use tk_core::TaskRow;
@@ -315,13 +314,12 @@ pub(crate) fn put_strip(
     scale: Scale,
     task: &Task,
     samples: &[Sample],
-    signs: Signs,
 ) -> Result<(), AllocError>
-    ensures { OnOk result (Writes paper.old paper.new (spec.strip scale signs samples.now task.now)) }
+    ensures { OnOk result (Writes paper.old paper.new (spec.strip scale samples.now task.now)) }
 {
     let last = Sample::of(&task.row, scale.now);
     let steps = steps_of(alloc, task.row.created, samples, last)?;
-    let lost = signs.has(task, Oddity::LostWaker);
+    let lost = is_lost(task);
     put_strip_of(paper, scale, task, last, steps.as_slice(), lost)?;
     Ok(())
 }
@@ -331,23 +329,6 @@ fn waited_in(step: &Step) -> u64
     ensures { result ≡ spec.waited_in step.now }
 {
     mean(step.sched, step.time())
-}
-
-/// The step in which most tasks waited, where in the mean at least one did.
-pub(crate) fn worst_step(steps: &[Step]) -> Option<Step>
-    ensures { result ≡ holders.worst_of steps.now }
-{
-    let mut worst: Option<Step> = None;
-    // In thousandths.
-    let mut most = 999u64;
-    for step in steps {
-        let waited = waited_in(step);
-        if waited > most {
-            most = waited;
-            worst = Some(*step);
-        }
-    }
-    worst
 }
 
 /// How many tasks waited in the worst step, and up to how many the drawing of all tasks goes, in thousandths.
@@ -481,11 +462,4 @@ pub(crate) fn put_axis(paper: &mut Paper, watched: u64) -> Result<(), AllocError
         Close(Tag::Span),
         Close(Tag::Div),
     ])
-}
-
-/// How long a poll of a task takes in the mean.
-pub(crate) fn poll_takes(last: Sample) -> u64
-    ensures { result ≡ figures.each_of last.busy last.polls }
-{
-    each(last.busy, last.polls)
 }

@@ -5,7 +5,7 @@ ghost use Rattle.tk_page.specs.Rows as spec;
 ghost use Rattle.tk_page.specs.Courses.{courses_of};
 ghost use Rattle.tk_paper.specs.Pieces.{Writes};
 
-use crate::cards::{put_badges, start_section};
+use crate::badges::{put_badges, start_section};
 use crate::figures::{Scale, each, front, share};
 use crate::history::History;
 use crate::oddities::Signs;
@@ -390,16 +390,16 @@ fn put_task(
     paper: &mut Paper,
     alloc: Global,
     scale: Scale,
-    signs: Signs,
+    signs: &Signs,
     task: &Task,
     samples: &[Sample],
 ) -> Result<(), AllocError>
-    ensures { OnOk result (Writes paper.old paper.new (spec.row_of scale signs samples.now task.now)) }
+    ensures { OnOk result (Writes paper.old paper.new (spec.row_of scale signs.now samples.now task.now)) }
 {
     put_name(paper, task, signs.has_any(task))?;
     put_badges(paper, signs, task)?;
     put_state(paper, &task.row)?;
-    put_strip(paper, alloc, scale, task, samples, signs)?;
+    put_strip(paper, alloc, scale, task, samples)?;
     paper.put(&[Close(Tag::Td)])?;
     put_numbers(paper, scale, &task.row)?;
     paper.put(&[Close(Tag::Tr)])?;
@@ -411,13 +411,13 @@ fn put_row(
     paper: &mut Paper,
     alloc: Global,
     scale: Scale,
-    signs: Signs,
+    signs: &Signs,
     history: &History,
     tables: &Tables,
     place: usize,
 ) -> Result<(), AllocError>
     ensures { OnOk result (Writes paper.old paper.new
-        (option_map_or (spec.row scale signs (courses_of history.now)) (slice_get tables.now.tasks place) [])) }
+        (option_map_or (spec.row scale signs.now (courses_of history.now)) (slice_get tables.now.tasks place) [])) }
 {
     match tables.task_at(place) {
         Some(task) => put_task(
@@ -436,13 +436,13 @@ fn put_rows(
     paper: &mut Paper,
     alloc: Global,
     scale: Scale,
-    signs: Signs,
+    signs: &Signs,
     history: &History,
     tables: &Tables,
     ranks: &[Rank],
 ) -> Result<(), AllocError>
     ensures { OnOk result (Writes paper.old paper.new
-        (flat_map (spec.row_at scale signs (courses_of history.now) tables.now.tasks) ranks.now)) }
+        (flat_map (spec.row_at scale signs.now (courses_of history.now) tables.now.tasks) ranks.now)) }
 {
     for rank in ranks {
         put_row(paper, alloc, scale, signs, history, tables, rank.place)?;
@@ -487,11 +487,11 @@ fn put_table(
     paper: &mut Paper,
     alloc: Global,
     scale: Scale,
-    signs: Signs,
+    signs: &Signs,
     history: &History,
     tables: &Tables,
 ) -> Result<(), AllocError>
-    ensures { OnOk result (spec.WritesTable scale signs (courses_of history.now) tables.now paper.old paper.new) }
+    ensures { OnOk result (spec.WritesTable scale signs.now (courses_of history.now) tables.now paper.old paper.new) }
 {
     let ranks = ranks_of(alloc, scale, tables, signs)?;
     let shown = front(ranks.as_slice(), TASKS);
@@ -520,11 +520,11 @@ pub(crate) fn put_tasks(
     paper: &mut Paper,
     alloc: Global,
     scale: Scale,
-    signs: Signs,
+    signs: &Signs,
     history: &History,
     tables: &Tables,
 ) -> Result<(), AllocError>
-    ensures { OnOk result (spec.WritesTasks scale signs (courses_of history.now) tables.now paper.old paper.new) }
+    ensures { OnOk result (spec.WritesTasks scale signs.now (courses_of history.now) tables.now paper.old paper.new) }
 {
     put_tasks_head(paper)?;
     put_table(paper, alloc, scale, signs, history, tables)?;

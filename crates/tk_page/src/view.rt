@@ -1,20 +1,30 @@
 //! The page of a stream, once it was read to its end.
-ghost use Rattle.std.specs.Prelude.{◌≡◌, ◌++◌, IfOk, IfErr};
+ghost use Rattle.std.specs.Prelude.{◌≡◌, ◌++◌, [], List, map, IfOk, IfErr, IfSome};
+ghost use Rattle.tk_odd.specs.Diagnosis.{standing_of};
+ghost use Rattle.tk_odd.specs.Findings.{findings_of, placed};
+ghost use Rattle.tk_odd.specs.Inner.{Follows};
 ghost use Rattle.tk_reading.specs.Taken.{first};
 ghost use Rattle.tk_report.specs.Views.{IsOfWriter};
 ghost use Rattle.tk_page.specs.Courses.{courses_of};
-ghost use Rattle.tk_page.specs.Pages.{IsDrawn, Pages};
+ghost use Rattle.tk_page.specs.Kept.{Tells};
+ghost use Rattle.tk_page.specs.Pages.{IsDrawn, Pages, PagesWith};
+ghost use Rattle.tk_stream.specs.Tables.{TablesView};
 
-use crate::drawing::put_page;
+use crate::drawing::{put_page, scale_of};
 use crate::frame::{HEAD, TAIL};
 use crate::history::History;
+use crate::oddities::Signs;
 use std::alloc::{AllocError, Global};
 use std::io::{Read, Write};
 use tk_client::{Client, Lints};
 use tk_fault::AppFault;
+use tk_odd::{Diagnosis, Found, Limits};
 use tk_paper::Paper;
-use tk_reading::{MAX_LINE, read_stream};
+use tk_reading::{Both, MAX_LINE, read_stream};
 use tk_stream::{Tables, send};
+
+// How long a poll is that is a long one, where nothing is said: 100 ms.
+const LONG_POLL: u64 = 100_000_000;
 
 // Three texts, one after the other.
 fn joined(alloc: Global, front: &str, inner: &[u8], end: &str) -> Result<Vec<u8>, AllocError>
@@ -26,42 +36,78 @@ fn joined(alloc: Global, front: &str, inner: &[u8], end: &str) -> Result<Vec<u8>
     Ok(text)
 }
 
-// The page of tables and their history.
+// The page of tables, their history and what is odd.
 fn page_of(
     alloc: Global,
     history: &History,
     tables: &Tables,
-    lints: &Lints,
+    limits: Limits,
+    findings: Vec<Found>,
 ) -> Result<Vec<u8>, AllocError>
-    ensures { IfOk result (λ text. IsDrawn lints.now (courses_of history.now) tables.now text.items) }
+    ensures { IfOk result (λ text. IsDrawn limits (map placed findings.items) (courses_of history.now) tables.now text.items) }
 {
+    let signs = Signs::of(tables, limits, findings);
+    let scale = scale_of(history, tables);
     let mut paper = Paper::new(alloc);
-    put_page(&mut paper, alloc, history, tables, lints)?;
+    put_page(&mut paper, alloc, scale, &signs, history, tables)?;
     let inner = paper.into_bytes();
     let text = joined(alloc, HEAD, inner.as_slice(), TAIL)?;
     Ok(text)
 }
 
-// What `view_page` does by a new client.
+// The page of tables, after lines that their history and their diagnosis have seen.
+fn page_after(
+    alloc: Global,
+    seen: &Both<History, Diagnosis>,
+    tables: &Tables,
+    limits: Limits,
+) -> Result<Vec<u8>, AllocError>
+    ensures { (shown : List TablesView) → Follows shown seen.now.second → seen.now.second.limits ≡ limits
+        → IfOk result (λ text. IsDrawn limits (findings_of limits (standing_of limits shown) tables.now) (courses_of seen.now.first) tables.now text.items) }
+{
+    let findings = seen.second.findings(alloc, tables)?;
+    page_of(alloc, &seen.first, tables, limits, findings)
+}
+
+// What watches lines, before the first. A box, as it is dropped wherever the reading ends.
+fn nothing_seen(alloc: Global, limits: Limits) -> Option<Box<Both<History, Diagnosis>>>
+    ensures { IfSome result (λ seen. (Tells [] seen.value.first × Follows [] seen.value.second) × (seen.value.second.limits ≡ limits)) }
+{
+    let Ok(diagnosis) = Diagnosis::new(alloc, limits) else {
+        return None;
+    };
+    let seen = Both {
+        first: History::new(alloc),
+        second: diagnosis,
+    };
+    match Box::new(alloc, seen) {
+        Ok(seen) => Some(seen),
+        Err(_) => None,
+    }
+}
+
+// What `view_page_with` does by a new client.
 fn view_by<R: Read, W: Write>(
     client: &mut Client,
     alloc: Global,
     reader: &mut R,
     writer: &mut W,
-    lints: &Lints,
+    limits: Limits,
 ) -> Result<u64, AppFault>
     requires { client.old ≡ first }
-    ensures pages { Pages lints.now (R.remaining reader.old) (R.remaining reader.new) result
+    ensures pages { PagesWith limits (R.remaining reader.old) (R.remaining reader.new) result
         (W.contents writer.old) (W.contents writer.new) }
     ensures unwritten { IfErr result (λ fault. (IsOfWriter fault → ⊥) → writer.new ≡ writer.old) }
 {
-    let mut history = History::new(alloc);
-    read_stream(client, &mut history, reader)?;
-    let Ok(list) = client.warnings(lints) else {
+    let Some(mut seen) = nothing_seen(alloc, limits) else {
+        return Err(AppFault::Memory);
+    };
+    read_stream(client, &mut *seen, reader)?;
+    let Ok(list) = client.warnings(&limits.lints) else {
         return Err(AppFault::Memory);
     };
     let warnings = list.as_slice();
-    let Ok(text) = page_of(alloc, &history, client.tables(), lints) else {
+    let Ok(text) = page_after(alloc, &seen, client.tables(), limits) else {
         return Err(AppFault::Memory);
     };
     match send(writer, text.as_slice()) {
@@ -70,11 +116,29 @@ fn view_by<R: Read, W: Write>(
     }
 }
 
-/// Reads a stream to its end, writes a page of HTML of what its tables then show and of their course of time, and answers how many
-/// warnings they have.
+/// Reads a stream to its end, writes a page of HTML of what its tables then show, of their course of time and of what is odd by these
+/// limits, and answers how many warnings the tables have.
 ///
 /// A last line without its line end is ignored. The page is made whole before its first byte is written. The faults are those of
 /// `view_stream`.
+pub fn view_page_with<R: Read, W: Write>(
+    alloc: Global,
+    reader: &mut R,
+    writer: &mut W,
+    limits: Limits,
+) -> Result<u64, AppFault>
+    ensures pages { PagesWith limits (R.remaining reader.old) (R.remaining reader.new) result
+        (W.contents writer.old) (W.contents writer.new) }
+    // Only a writer's fault comes once something was written.
+    ensures unwritten { IfErr result (λ fault. (IsOfWriter fault → ⊥) → writer.new ≡ writer.old) }
+{
+    match Client::new(alloc, MAX_LINE) {
+        Ok(mut client) => view_by(&mut client, alloc, reader, writer, limits),
+        Err(_) => Err(AppFault::Memory),
+    }
+}
+
+/// What [`view_page_with`] does, with a long poll as one of 100 ms or longer.
 pub fn view_page<R: Read, W: Write>(
     alloc: Global,
     reader: &mut R,
@@ -83,11 +147,11 @@ pub fn view_page<R: Read, W: Write>(
 ) -> Result<u64, AppFault>
     ensures pages { Pages lints.now (R.remaining reader.old) (R.remaining reader.new) result
         (W.contents writer.old) (W.contents writer.new) }
-    // Only a writer's fault comes once something was written.
     ensures unwritten { IfErr result (λ fault. (IsOfWriter fault → ⊥) → writer.new ≡ writer.old) }
 {
-    match Client::new(alloc, MAX_LINE) {
-        Ok(mut client) => view_by(&mut client, alloc, reader, writer, lints),
-        Err(_) => Err(AppFault::Memory),
-    }
+    let limits = Limits {
+        long: LONG_POLL,
+        lints: *lints,
+    };
+    view_page_with(alloc, reader, writer, limits)
 }

@@ -4,7 +4,8 @@ use std::alloc::{AllocError, Global};
 use std::io;
 use std::io::Write;
 use tk_client::Lints;
-use tk_page::view_page;
+use tk_odd::Limits;
+use tk_page::{view_page, view_page_with};
 use tk_paper::Course;
 
 // A task, a resource with an attribute, and an operation. Each text has the five bytes that mean something in a page, after a letter
@@ -19,6 +20,20 @@ const POLLED: &[u8] =
 // Its cells: 20 and 50 of the 100 that are shown, 20 a poll, 1 poll, 9 wakes, 4 of its own, and 2 wakers that are out.
 const CELLS: &str =
     "<td data-v=\"20\" class=\"num\"><svg class=\"bar\" viewBox=\"0 0 100 10\" preserveAspectRatio=\"none\" aria-hidden=\"true\"><rect class=\"busy\" width=\"20\" height=\"10\"></rect></svg> 20 %</td><td data-v=\"50\" class=\"num\"><svg class=\"bar\" viewBox=\"0 0 100 10\" preserveAspectRatio=\"none\" aria-hidden=\"true\"><rect class=\"wait\" width=\"50\" height=\"10\"></rect></svg> 50 %</td><td data-v=\"20\" class=\"num\">20 ns</td><td data-v=\"1\" class=\"num\">1</td><td data-v=\"9\" class=\"num\">9</td><td data-v=\"4\" class=\"num\">4</td><td data-v=\"2\" class=\"num\">2</td></tr>";
+
+// From 1 s on a task runs, and another waits.
+const HELD_UP: &[u8] =
+    b"{\"dropped\":[0,0,0],\"new_ops\":[],\"new_resources\":[],\"new_tasks\":[{\"id\":1099511627777,\"kind\":\"spawn\",\"loc\":[\"script\",1,1],\"name\":\"hog\"},{\"id\":1099511627778,\"kind\":\"spawn\",\"loc\":[\"script\",1,1],\"name\":\"victim\"}],\"now\":1000000000,\"op_stats\":[],\"poll_counts\":[],\"resource_stats\":[],\"seq\":1,\"snapshot\":false,\"task_stats\":[{\"busy\":0,\"clones\":1,\"created\":0,\"dropped\":null,\"drops\":0,\"first_poll\":1000000000,\"handles\":1,\"id\":1099511627777,\"last_ended\":null,\"last_started\":1000000000,\"last_wake\":null,\"polling\":true,\"polls\":1,\"sched\":0,\"scheduled\":false,\"self_wakes\":0,\"wakes\":0},{\"busy\":0,\"clones\":1,\"created\":1000000000,\"dropped\":null,\"drops\":0,\"first_poll\":null,\"handles\":1,\"id\":1099511627778,\"last_ended\":null,\"last_started\":null,\"last_wake\":1000000000,\"polling\":false,\"polls\":0,\"sched\":0,\"scheduled\":true,\"self_wakes\":0,\"wakes\":1}],\"v\":1}\n";
+
+// A line at 3 s that tells of no change.
+const LATER: &[u8] =
+    b"{\"dropped\":[0,0,0],\"new_ops\":[],\"new_resources\":[],\"new_tasks\":[],\"now\":3000000000,\"op_stats\":[],\"poll_counts\":[],\"resource_stats\":[],\"seq\":2,\"snapshot\":false,\"task_stats\":[],\"v\":1}\n";
+
+const BANNER: &str =
+    "<p class=\"now\"><span class=\"tag\">now</span> <a href=\"#t1099511627777\">hog</a> has held its thread for 2.0 s; 1 task waits, the longest for 2.0 s. It was made at script:1:1, kind spawn. What to do: split its polls, or move the work to a blocking task.</p>";
+
+const CARD: &str =
+    "<span class=\"count\">3</span></h2><ul class=\"odd\"><li class=\"holds\"><h3><span class=\"icon\" aria-hidden=\"true\">▮</span> <a href=\"#t1099511627777\">hog</a> holds up the others <small>now</small></h3><p>Between 1.0 s and 3.0 s others waited for it, at least 2.0 s in all. A poll of it took at least 2.0 s. It was made at script:1:1, kind spawn.</p><p class=\"do\">What to do: split its polls, or move the work to a blocking task.</p></li>";
 
 // The page of a stream, and how many warnings it has.
 fn page_of(alloc: Global, stream: &[u8]) -> Option<(Vec<u8>, u64)> {
@@ -68,8 +83,75 @@ fn a_row_has_the_numbers_of_its_task(rt: HostRuntime) {
 fn a_stream_without_lines_has_a_page_without_items(rt: HostRuntime) {
     let none =
         "<b>0</b> tasks · <b>0</b> resources · <b>0</b> operations · <b>0</b> lines over <b>0 ns</b></p>";
+    let no_line = "<p class=\"now\">No line came: this page knows nothing of any task.</p>";
     assert!(rt; shows(rt.alloc(), b"", none, "<tr id="));
-    assert!(rt; shows(rt.alloc(), b"", "Nothing: no task", "class=\"count\""));
+    assert!(rt; shows(rt.alloc(), b"", no_line, "class=\"count\""));
+}
+
+// A stream, and a line at 3 s.
+fn and_later(alloc: Global, stream: &[u8]) -> Result<Vec<u8>, AllocError> {
+    let mut both = Vec::from_slice(alloc, stream)?;
+    both.extend_from_slice(LATER)?;
+    Ok(both)
+}
+
+// Whether the page of a stream and of a line at 3 s has this text, and not that one.
+fn later_shows(alloc: Global, stream: &[u8], text: &str, not: &str) -> bool {
+    match and_later(alloc, stream) {
+        Ok(both) => shows(alloc, both.as_slice(), text, not),
+        Err(_) => false,
+    }
+}
+
+#[test]
+fn who_holds_up_others_now_stands_above_all_else(rt: HostRuntime) {
+    assert!(rt; later_shows(rt.alloc(), HELD_UP, BANNER, "No line came"));
+    assert!(rt; later_shows(rt.alloc(), HELD_UP, CARD, "class=\"fine\""));
+}
+
+#[test]
+fn a_page_clears_nobody_by_one_line(rt: HostRuntime) {
+    let unseen =
+        "Who held up others can&#39;t be seen: the lines span 0 ns, and it takes at least 100 ms.";
+    assert!(rt; shows(rt.alloc(), POLLED, unseen, "class=\"fine\""));
+}
+
+#[test]
+fn a_page_shows_the_number_that_clears(rt: HostRuntime) {
+    let calm =
+        "Nothing: no poll is known to have taken 100 ms. In the mean tasks waited 50 ns for a poll. They may have waited longer,";
+    assert!(rt; later_shows(rt.alloc(), POLLED, calm, "class=\"now\""));
+}
+
+// The page of a stream where a long poll is one of so many nanoseconds.
+fn page_by(alloc: Global, stream: &[u8], long: u64) -> Option<Vec<u8>> {
+    let mut reader = stream;
+    let mut page = Vec::new(alloc);
+    let limits = Limits {
+        long,
+        lints: Lints::default(),
+    };
+    match view_page_with(alloc, &mut reader, &mut page, limits) {
+        Ok(_) => Some(page),
+        Err(_) => None,
+    }
+}
+
+// Whether a page says that a task holds up the others, where a long poll is one of so many nanoseconds.
+fn accuses(alloc: Global, long: u64) -> Option<bool> {
+    match and_later(alloc, HELD_UP) {
+        Ok(stream) => match page_by(alloc, stream.as_slice(), long) {
+            Some(page) => Some(has(page.as_slice(), " holds up the others")),
+            None => None,
+        },
+        Err(_) => None,
+    }
+}
+
+#[test]
+fn a_longer_poll_accuses_nobody(rt: HostRuntime) {
+    assert!(rt; accuses(rt.alloc(), 2_000_000_000) == Some(true));
+    assert!(rt; accuses(rt.alloc(), 2_000_000_001) == Some(false));
 }
 
 // Takes so many bytes, and then gives an error.

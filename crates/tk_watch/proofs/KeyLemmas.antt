@@ -1,12 +1,14 @@
 -- The steps of a watch at keys.
 use Rattle.std.proofs.Common.{◌≡◌, ℕ, List, [], ◌∷◌, ◌++◌, Bool, true, false, not, Option, Some, None, Ok, Err, refl, ap, sym, ◌∙◌, subst, ⊎_elim, inl, inr, append_assoc, append-nil, true≢false}
-use Rattle.std.specs.Prelude.{unwrap_or}
 use Rattle.std.specs.Io.KnownBytes.{Appends}
 use Rattle.std.specs.List.{fold, list_all}
+use Rattle.std.specs.Option.{option_map_or}
+use Rattle.std.specs.Prelude.{is_some}
 use Rattle.std.proofs.lemmas.List.Sums.{fold-append}
 use Rattle.std.proofs.KnownBytes.{Appends-nil, Appends-trans}
 use Rattle.tk_client.specs.declared.fault.Fault.{Fault}
 use Rattle.tk_client.specs.Feeding.{ClientView}
+use Rattle.tk_client.specs.Warnings.{LintsView}
 use Rattle.tk_fault.specs.declared.fault.AppFault.{AppFault}
 use Rattle.tk_fault.specs.declared.fault.AppFault.TheVariants as faults
 use Rattle.tk_frame.specs.declared.keys.Asked.{Asked}
@@ -19,9 +21,14 @@ use Rattle.tk_reading.proofs.ReadLemmas.{begins}
 use Rattle.tk_stream.specs.Sent.{IsCut}
 use Rattle.tk_stream.specs.Tables.{TablesView}
 use Rattle.tk_watch.specs.Keyed.{Coming, IsOver, Loses, Standing, WatchesKeys, after, at_first, broken, drawn, drawn_at, drawn_from, due, key, piece, shown_of, standing, is_no_key, text_of}
-use Rattle.tk_watch.specs.Keying.{Goes, Holds, IsNew, Keying, Sends, SendsAt, Stands, held_then, shows, tables_of}
+use Rattle.tk_watch.specs.Course.{Sees}
+use Rattle.tk_watch.specs.Drawing.{Sends, SendsBefore}
+use Rattle.tk_watch.specs.Keying.{Goes, Holds, IsFirst, Keying, SendsAt, Shows, Stands, held_then, holding, screen_after, tables_of}
+use Rattle.tk_watch.specs.Odd.{odd_in, seen_in}
 use Rattle.tk_watch.specs.Watching.{TakesTo}
 use Rattle.tk_watch.specs.declared.drawing.Screen.{Screen}
+use Rattle.tk_watch.specs.declared.seen.Course.{Course}
+use Rattle.tk_watch.specs.declared.session.Held.{Held}
 use Rattle.tk_watch.specs.declared.session.Session.{Session}
 
 -- ---- what was to come
@@ -63,7 +70,7 @@ stays_from : (screen : Screen) (s : Standing) (more : List Coming) → s.asked.p
 stays_from screen s [] paused none = refl
 stays_from screen s (piece p ∷ more) paused none =
     stays_from screen (after screen s (piece p)) more paused none
-    ∙ ap (λ b. asked_screen screen.canvas screen.query screen.lints s.asked (tables_in (outcome_of (shown_of b s.shown (s.bytes ++ p))))) paused
+    ∙ ap (λ b. asked_screen screen.canvas screen.query (odd_in screen.lints (shown_of b s.shown (s.bytes ++ p))) s.asked (tables_in (outcome_of (shown_of b s.shown (s.bytes ++ p))))) paused
 stays_from screen s (key k ∷ more) paused none = absurd (true≢false (sym none))
 stays_from screen s (due ∷ more) paused none = stays_from screen s more paused none
 stays_from screen s (broken ∷ more) paused none = stays_from screen s more paused none
@@ -75,36 +82,68 @@ paused_stays screen events more paused none =
 
 -- ---- what is held
 
--- the tables that are shown are those of the bytes that are
-tables_shown : (client : ClientView) (paused : Bool) (shown all : List ℕ) (held : Option TablesView) → tables_in (outcome_of all) ≡ client.start.tables
-    → Holds paused shown all held → unwrap_or held client.start.tables ≡ tables_in (outcome_of shown)
-tables_shown client paused shown all None are h = sym are ∙ ap (λ b. tables_in (outcome_of b)) (sym h.1)
-tables_shown client paused shown all (Some x) are h = h.1
+module _ (lints : LintsView) where
+  -- the tables that are shown are those of the bytes that are
+  tables_shown : (tables : TablesView) (paused : Bool) (shown all : List ℕ) (held : Option Held) → tables_in (outcome_of all) ≡ tables
+      → Holds lints paused shown all held → option_map_or (λ (h : Held). h.tables) held tables ≡ tables_in (outcome_of shown)
+  tables_shown tables paused shown all None are h = sym are ∙ ap (λ b. tables_in (outcome_of b)) (sym h.1)
+  tables_shown tables paused shown all (Some x) are h = h.1
 
--- a piece more came
-holds_on : (paused : Bool) (shown all more : List ℕ) (held : Option TablesView) → Holds paused shown all held → Holds paused (shown_of paused shown more) more held
-holds_on paused shown all more None h = (h.0, subst (λ p. shown_of p shown more ≡ more) (sym h.0) refl)
-holds_on paused shown all more (Some x) h =
-    (h.0, h.1 ∙ ap (λ b. tables_in (outcome_of b)) (subst (λ p. shown ≡ shown_of p shown more) (sym h.0) refl))
+  -- a piece more came
+  holds_on : (paused : Bool) (shown all more : List ℕ) (held : Option Held) → Holds lints paused shown all held → Holds lints paused (shown_of paused shown more) more held
+  holds_on paused shown all more None h = (h.0, subst (λ p. shown_of p shown more ≡ more) (sym h.0) refl)
+  holds_on paused shown all more (Some x) h =
+      let same : shown ≡ shown_of paused shown more = subst (λ p. shown ≡ shown_of p shown more) (sym h.0) refl in
+      (h.0, h.1 ∙ ap (λ b. tables_in (outcome_of b)) same, h.2 ∙ ap (odd_in lints) same)
 
--- a pause began, or ended
-holds_turned : (tables : TablesView) (paused next : Bool) (shown all : List ℕ) (held : Option TablesView) → tables_in (outcome_of all) ≡ tables
-    → Holds paused shown all held → Holds next (shown_of next shown all) all (held_then next held tables)
-holds_turned tables paused false shown all held are h = (refl, refl)
-holds_turned tables paused true shown all (Some x) are h = (refl, h.1)
-holds_turned tables paused true shown all None are h = (refl, sym are ∙ ap (λ b. tables_in (outcome_of b)) (sym h.1))
+  -- a pause began, or ended
+  holds_turned : (tables : TablesView) (paused next : Bool) (shown all : List ℕ) (held : Option Held) → tables_in (outcome_of all) ≡ tables
+      → Holds lints paused shown all held → Holds lints next (shown_of next shown all) all (held_then next held (holding lints (seen_in all) tables))
+  holds_turned tables paused false shown all held are h = (refl, refl)
+  holds_turned tables paused true shown all (Some x) are h = (refl, h.1, h.2)
+  holds_turned tables paused true shown all None are h =
+      subst (λ t. Holds lints true shown all (Some (holding lints (seen_in all) t))) are
+      (refl, ap (λ b. tables_in (outcome_of b)) (sym h.1), ap (odd_in lints) (sym h.1))
+
+-- what is held anew
+pub held_new : (paused : Bool) (old : Option Held) (now h : Held) → paused ≡ true → is_some old ≡ false → h ≡ now → Some h ≡ held_then paused old now
+held_new true None now h p n e = ap Some e
+held_new true (Some x) now h p n e = absurd (true≢false n)
+held_new false old now h p n e = absurd (true≢false (sym p))
+
+-- what is shown of what is held
+pub held_is : (screen : Screen) (st : Standing) (s : Session) (h : Held) → Shows screen.lints st s → s.held ≡ Some h
+    → asked_screen screen.canvas screen.query h.odd s.asked h.tables ≡ text_of screen st
+held_is screen st s h shows is =
+    let holds : Holds screen.lints st.asked.paused st.shown st.bytes (Some h) = subst (Holds screen.lints st.asked.paused st.shown st.bytes) is shows.holds in
+    ap (λ o. asked_screen screen.canvas screen.query o s.asked h.tables) holds.2
+    ∙ ap (λ t. asked_screen screen.canvas screen.query (odd_in screen.lints st.shown) s.asked t) holds.1
+    ∙ ap (λ a. asked_screen screen.canvas screen.query (odd_in screen.lints st.shown) a (tables_in (outcome_of st.shown))) shows.asked
+
+-- or of what a client has come to
+pub none_is : (screen : Screen) (st : Standing) (s : Session) → Shows screen.lints st s → s.held ≡ None
+    → screen_after screen (seen_in st.bytes) s.asked s.course.client.start.tables ≡ text_of screen st
+none_is screen st s shows is =
+    let holds : Holds screen.lints st.asked.paused st.shown st.bytes None = subst (Holds screen.lints st.asked.paused st.shown st.bytes) is shows.holds in
+    ap (screen_after screen (seen_in st.bytes) s.asked) (sym shows.tables)
+    ∙ ap (λ b. asked_screen screen.canvas screen.query (odd_in screen.lints b) s.asked (tables_in (outcome_of b))) (sym holds.1)
+    ∙ ap (λ a. asked_screen screen.canvas screen.query (odd_in screen.lints st.shown) a (tables_in (outcome_of st.shown))) shows.asked
 
 -- ---- steps
 
 -- nothing came
-pub starts_keys : (screen : Screen) (old : Option (List ℕ)) (came : Option (List Coming)) (s : Session) → IsNew screen s → Keying screen came came s old old
+pub starts_keys : (screen : Screen) (old : Option (List ℕ)) (came : Option (List Coming)) (s : Session) → IsFirst screen s → Keying screen came came s old old
 starts_keys screen old came s new = record {
   events = [];
   took = loses_none came;
   stands = record {
-    taken = subst (λ n. HasTaken [] n s.client) (sym new.lines) (begins s.client new.client);
-    asked = new.asked;
-    holds = subst (Holds false [] []) (sym new.held) (refl, refl);
+    taken = subst (λ n. HasTaken [] n s.course.client) (sym new.lines) (begins s.course.client new.course.client);
+    shows = record {
+      tables = ap (λ (c : ClientView). c.start.tables) (sym new.course.client);
+      seen = new.course.seen;
+      asked = new.asked;
+      holds = subst (Holds screen.lints false [] []) (sym new.held) (refl, refl);
+    };
   };
   on = ap (λ (a : Asked). a.quits) new.asked;
   wrote = Appends-nil old;
@@ -115,17 +154,12 @@ pub none_came : (screen : Screen) (came : Option (List Coming)) (old : Option (L
 none_came screen came old = record { events = []; more = []; took = loses_none came; wrote = Appends-nil old }
 
 module _ (screen : Screen) (given left : Option (List Coming)) (s : Session) (old wrote : Option (List ℕ)) (w : Keying screen given left s old wrote) where
-  came : tables_in (outcome_of (standing screen w.events).bytes) ≡ s.client.start.tables
-  came = ap tables_in w.stands.taken.took.came
+  -- what stands
+  abbrev st : Standing
+  st = standing screen w.events
 
-  tables_are : tables_of s ≡ tables_in (outcome_of (standing screen w.events).shown)
-  tables_are =
-      tables_shown s.client (standing screen w.events).asked.paused (standing screen w.events).shown (standing screen w.events).bytes s.held came w.stands.holds
-
-  shows_is : shows screen s ≡ text_of screen (standing screen w.events)
-  shows_is =
-      ap (λ a. asked_screen screen.canvas screen.query screen.lints a (tables_of s)) w.stands.asked
-      ∙ ap (λ t. asked_screen screen.canvas screen.query screen.lints (standing screen w.events).asked t) tables_are
+  tables_are : tables_of s ≡ tables_in (outcome_of st.shown)
+  tables_are = tables_shown screen.lints s.course.client.start.tables st.asked.paused st.shown st.bytes s.held w.stands.shows.tables w.stands.shows.holds
 
   -- it stops, and nothing of what came last is drawn
   pub stops_keys : (new : Option (List Coming)) (e : Coming) → Loses left new (e ∷ []) → WatchesKeys screen given new (Err faults.Memory) old wrote
@@ -142,49 +176,49 @@ module _ (screen : Screen) (given left : Option (List Coming)) (s : Session) (ol
   ends_keys new lost over = record {
     events = w.events;
     took = subst (Loses given new) (append-nil w.events) (loses_on given left new w.events [] w.took lost);
-    ends = inr (over, ap (λ (a : Asked). a.quits) (sym w.stands.asked) ∙ w.on);
+    ends = inr (over, ap (λ (a : Asked). a.quits) (sym w.stands.shows.asked) ∙ w.on);
     wrote = w.wrote;
   }
 
   -- a piece came
-  pub takes_piece : (new : Option (List Coming)) (p : List ℕ) (sum : ℕ) (then : ClientView) → Loses left new (piece p ∷ [])
-      → HasTaken ((standing screen w.events).bytes ++ p) sum then → Keying screen given new (record s { client = then; lines = sum }) old wrote
-  takes_piece new p sum then lost taken =
-      let more = standing_more screen w.events (piece p) in
-      record {
-        events = w.events ++ piece p ∷ [];
-        took = loses_on given left new w.events (piece p ∷ []) w.took lost;
-        stands = subst (λ t. Stands t (record s { client = then; lines = sum })) (sym more) (record {
-          taken = taken;
-          asked = w.stands.asked;
-          holds = holds_on (standing screen w.events).asked.paused (standing screen w.events).shown (standing screen w.events).bytes ((standing screen w.events).bytes ++ p) s.held
-              w.stands.holds;
-        });
-        on = w.on;
-        wrote = subst (Appends old wrote) (sym (none_more screen w.events (piece p) refl)) w.wrote;
-      }
+  pub takes_piece : (new : Option (List Coming)) (p : List ℕ) (sum : ℕ) (then : Course) → Loses left new (piece p ∷ []) → HasTaken (st.bytes ++ p) sum then.client
+      → Sees screen.lints (seen_in (st.bytes ++ p)) then.seen → Keying screen given new (record s { course = then; lines = sum }) old wrote
+  takes_piece new p sum then lost taken seen = record {
+    events = w.events ++ piece p ∷ [];
+    took = loses_on given left new w.events (piece p ∷ []) w.took lost;
+    stands = subst (λ t. Stands screen.lints t (record s { course = then; lines = sum })) (sym (standing_more screen w.events (piece p))) (record {
+      taken = taken;
+      shows = record {
+        tables = ap tables_in taken.took.came;
+        seen = seen;
+        asked = w.stands.shows.asked;
+        holds = holds_on screen.lints st.asked.paused st.shown st.bytes (st.bytes ++ p) s.held w.stands.shows.holds;
+      };
+    });
+    on = w.on;
+    wrote = subst (Appends old wrote) (sym (none_more screen w.events (piece p) refl)) w.wrote;
+  }
 
   -- a screen was due, and drawn
-  pub draws_due : (new : Option (List Coming)) (then : Option (List ℕ)) → Loses left new (due ∷ []) → Sends (shows screen s) (Ok tt) wrote then
+  pub draws_due : (new : Option (List Coming)) (then : Option (List ℕ)) → Loses left new (due ∷ []) → Sends (text_of screen st) (Ok tt) wrote then
       → Keying screen given new s old then
   draws_due new then lost sent = record {
     events = w.events ++ due ∷ [];
     took = loses_on given left new w.events (due ∷ []) w.took lost;
-    stands = subst (λ t. Stands t s) (sym (standing_more screen w.events due)) w.stands;
+    stands = subst (λ t. Stands screen.lints t s) (sym (standing_more screen w.events due)) w.stands;
     on = w.on;
-    wrote = subst (Appends old then) (sym (drawn_more screen w.events due))
-        (Appends-trans old wrote then (drawn screen w.events) (text_of screen (standing screen w.events)) w.wrote (subst (Appends wrote then) shows_is sent));
+    wrote = subst (Appends old then) (sym (drawn_more screen w.events due)) (Appends-trans old wrote then (drawn screen w.events) (text_of screen st) w.wrote sent);
   }
 
   -- it could not be drawn
-  pub draws_no_due : (new : Option (List Coming)) (then : Option (List ℕ)) (fault : AppFault) → Loses left new (due ∷ []) → Sends (shows screen s) (Err fault) wrote then
+  pub draws_no_due : (new : Option (List Coming)) (then : Option (List ℕ)) (fault : AppFault) → Loses left new (due ∷ []) → Sends (text_of screen st) (Err fault) wrote then
       → WatchesKeys screen given new (Err fault) old then
   draws_no_due new then faults.Write lost sent = record {
     events = w.events;
     last = due;
     took = loses_on given left new w.events (due ∷ []) w.took lost;
     front = sent.0;
-    cut = subst (λ t. IsCut (text_of screen t) sent.0) (sym (standing_more screen w.events due)) (subst (λ t. IsCut t sent.0) shows_is sent.1);
+    cut = subst (λ t. IsCut (text_of screen t) sent.0) (sym (standing_more screen w.events due)) sent.1;
     wrote = Appends-trans old wrote then (drawn screen w.events) sent.0 w.wrote sent.2;
   }
   draws_no_due new then faults.Memory lost sent = subst (λ k. WatchesKeys screen given new (Err faults.Memory) old k) (sym sent) (stops_keys new due lost)
@@ -194,22 +228,27 @@ module _ (screen : Screen) (given left : Option (List Coming)) (s : Session) (ol
 
   -- a key was pressed
   module _ (new : Option (List Coming)) (k : ℕ) (lost : Loses left new (key k ∷ [])) (then : Session) (asked : then.asked ≡ pressed screen.query (tables_of s) s.asked k)
-      (same : then.client ≡ s.client) (lines : then.lines ≡ s.lines) (turns : then.held ≡ held_then then.asked.paused s.held s.client.start.tables) where
+      (same : then.course ≡ s.course) (lines : then.lines ≡ s.lines)
+      (turns : then.held ≡ held_then then.asked.paused s.held (holding screen.lints (seen_in st.bytes) s.course.client.start.tables)) where
     asked_is : then.asked ≡ (standing screen (w.events ++ key k ∷ [])).asked
     asked_is =
-        asked ∙ ap (λ a. pressed screen.query (tables_of s) a k) w.stands.asked
+        asked ∙ ap (λ a. pressed screen.query (tables_of s) a k) w.stands.shows.asked
         ∙ ap (λ t. pressed screen.query t (standing screen w.events).asked k) tables_are
         ∙ ap (λ (t : Standing). t.asked) (sym (standing_more screen w.events (key k)))
 
-    stands_then : Stands (after screen (standing screen w.events) (key k)) then
+    stands_then : Stands screen.lints (after screen st (key k)) then
     stands_then =
-        let is : then.asked ≡ (after screen (standing screen w.events) (key k)).asked = asked_is ∙ ap (λ (t : Standing). t.asked) (standing_more screen w.events (key k)) in
+        let is : then.asked ≡ (after screen st (key k)).asked = asked_is ∙ ap (λ (t : Standing). t.asked) (standing_more screen w.events (key k)) in
         record {
-          taken = subst (λ n. HasTaken (standing screen w.events).bytes n then.client) (sym lines) (subst (λ c. HasTaken (standing screen w.events).bytes s.lines c) (sym same) w.stands.taken);
-          asked = is;
-          holds = subst (λ (a : Asked). Holds a.paused (shown_of a.paused (standing screen w.events).shown (standing screen w.events).bytes) (standing screen w.events).bytes then.held) is
-              (subst (Holds then.asked.paused (shown_of then.asked.paused (standing screen w.events).shown (standing screen w.events).bytes) (standing screen w.events).bytes) (sym turns)
-              (holds_turned s.client.start.tables (standing screen w.events).asked.paused then.asked.paused (standing screen w.events).shown (standing screen w.events).bytes s.held came w.stands.holds));
+          taken = subst (λ n. HasTaken st.bytes n then.course.client) (sym lines) (subst (λ (c : Course). HasTaken st.bytes s.lines c.client) (sym same) w.stands.taken);
+          shows = record {
+            tables = w.stands.shows.tables ∙ ap (λ (c : Course). c.client.start.tables) (sym same);
+            seen = subst (λ (c : Course). Sees screen.lints (seen_in st.bytes) c.seen) (sym same) w.stands.shows.seen;
+            asked = is;
+            holds = subst (λ (a : Asked). Holds screen.lints a.paused (shown_of a.paused st.shown st.bytes) st.bytes then.held) is
+                (subst (Holds screen.lints then.asked.paused (shown_of then.asked.paused st.shown st.bytes) st.bytes) (sym turns)
+                (holds_turned screen.lints s.course.client.start.tables st.asked.paused then.asked.paused st.shown st.bytes s.held w.stands.shows.tables w.stands.shows.holds));
+          };
         }
 
     wrote_then : Appends old wrote (drawn screen (w.events ++ key k ∷ []))
@@ -219,7 +258,7 @@ module _ (screen : Screen) (given left : Option (List Coming)) (s : Session) (ol
     goes_on_keys on = record {
       events = w.events ++ key k ∷ [];
       took = loses_on given left new w.events (key k ∷ []) w.took lost;
-      stands = subst (λ t. Stands t then) (sym (standing_more screen w.events (key k))) stands_then;
+      stands = subst (λ t. Stands screen.lints t then) (sym (standing_more screen w.events (key k))) stands_then;
       on = on;
       wrote = wrote_then;
     }
@@ -232,7 +271,7 @@ module _ (screen : Screen) (given left : Option (List Coming)) (s : Session) (ol
         before = w.events;
         last = key k;
         whole = refl;
-        on = ap (λ (a : Asked). a.quits) (sym w.stands.asked) ∙ w.on;
+        on = ap (λ (a : Asked). a.quits) (sym w.stands.shows.asked) ∙ w.on;
         off = ap (λ (a : Asked). a.quits) (sym asked_is) ∙ off;
       });
       wrote = wrote_then;
@@ -243,49 +282,46 @@ module _ (screen : Screen) (given left : Option (List Coming)) (s : Session) (ol
     goes_by false on = goes_on_keys on
 
   -- a piece came that has a fault
-  module _ (new : Option (List Coming)) (p : List ℕ) (lost : Loses left new (piece p ∷ [])) (next : ClientView) where
-    -- the screen of what stood before the fault
-    shows_faulty : (n : ℕ) (fault : Fault) → TakesTo ((standing screen w.events).bytes ++ p) (Err (faults.Stream n fault)) next
-        → shows screen (record s { client = next }) ≡ text_of screen (standing screen (w.events ++ piece p ∷ []))
-    shows_faulty n fault h =
-        let after_it = after screen (standing screen w.events) (piece p) in
-        let tables : tables_of (record s { client = next }) ≡ tables_in (outcome_of after_it.shown) =
-        tables_shown next (standing screen w.events).asked.paused after_it.shown after_it.bytes s.held (ap tables_in h.1)
-        (holds_on (standing screen w.events).asked.paused (standing screen w.events).shown (standing screen w.events).bytes ((standing screen w.events).bytes ++ p) s.held w.stands.holds) in
-        ap (λ a. asked_screen screen.canvas screen.query screen.lints a (tables_of (record s { client = next }))) w.stands.asked
-        ∙ ap (λ t. asked_screen screen.canvas screen.query screen.lints after_it.asked t) tables
-        ∙ ap (text_of screen) (sym (standing_more screen w.events (piece p)))
+  module _ (new : Option (List Coming)) (p : List ℕ) (lost : Loses left new (piece p ∷ [])) (next : Course) where
+    -- the session shows what stood before the fault
+    shows_faulty : (n : ℕ) (fault : Fault) → TakesTo screen.lints (st.bytes ++ p) (Err (faults.Stream n fault)) next
+        → Shows screen.lints (standing screen (w.events ++ piece p ∷ [])) (record s { course = next })
+    shows_faulty n fault h = subst (λ t. Shows screen.lints t (record s { course = next })) (sym (standing_more screen w.events (piece p))) (record {
+      tables = ap tables_in h.1;
+      seen = h.2;
+      asked = w.stands.shows.asked;
+      holds = holds_on screen.lints st.asked.paused st.shown st.bytes (st.bytes ++ p) s.held w.stands.shows.holds;
+    })
 
-    faulty_by : (n : ℕ) (fault : Fault) (then : Option (List ℕ)) → TakesTo ((standing screen w.events).bytes ++ p) (Err (faults.Stream n fault)) next
-        → Sends (shows screen (record s { client = next })) (Ok tt) wrote then → WatchesKeys screen given new (Err (faults.Stream n fault)) old then
+    faulty_by : (n : ℕ) (fault : Fault) (then : Option (List ℕ)) → TakesTo screen.lints (st.bytes ++ p) (Err (faults.Stream n fault)) next
+        → Sends (text_of screen (standing screen (w.events ++ piece p ∷ []))) (Ok tt) wrote then → WatchesKeys screen given new (Err (faults.Stream n fault)) old then
     faulty_by n fault then h sent = record {
       events = w.events ++ piece p ∷ [];
       took = loses_on given left new w.events (piece p ∷ []) w.took lost;
-      tables = next.start.tables;
+      tables = next.client.start.tables;
       used = h.0;
       stop = ap (λ (t : Standing). outcome_of t.bytes) (standing_more screen w.events (piece p)) ∙ h.1;
       wrote = subst (λ d. Appends old then (d ++ text_of screen (standing screen (w.events ++ piece p ∷ [])))) (sym (none_more screen w.events (piece p) refl))
-          (Appends-trans old wrote then (drawn screen w.events) (text_of screen (standing screen (w.events ++ piece p ∷ []))) w.wrote
-          (subst (Appends wrote then) (shows_faulty n fault h) sent));
+          (Appends-trans old wrote then (drawn screen w.events) (text_of screen (standing screen (w.events ++ piece p ∷ []))) w.wrote sent);
     }
 
-    faulty_without : (n : ℕ) (fault : Fault) (stop : AppFault) (then : Option (List ℕ)) → TakesTo ((standing screen w.events).bytes ++ p) (Err (faults.Stream n fault)) next
-        → Sends (shows screen (record s { client = next })) (Err stop) wrote then → WatchesKeys screen given new (Err stop) old then
-    faulty_without n fault faults.Write then h sent = record {
+    faulty_without : (stop : AppFault) (then : Option (List ℕ)) → Sends (text_of screen (standing screen (w.events ++ piece p ∷ []))) (Err stop) wrote then
+        → WatchesKeys screen given new (Err stop) old then
+    faulty_without faults.Write then sent = record {
       events = w.events;
       last = piece p;
       took = loses_on given left new w.events (piece p ∷ []) w.took lost;
       front = sent.0;
-      cut = subst (λ t. IsCut t sent.0) (shows_faulty n fault h) sent.1;
+      cut = sent.1;
       wrote = Appends-trans old wrote then (drawn screen w.events) sent.0 w.wrote sent.2;
     }
-    faulty_without n fault faults.Memory then h sent = subst (λ k. WatchesKeys screen given new (Err faults.Memory) old k) (sym sent) (stops_keys new (piece p) lost)
-    faulty_without n fault faults.Read then h sent = absurd sent
-    faulty_without n fault (faults.Stream m f) then h sent = absurd sent
-    faulty_without n fault (faults.Script line name) then h sent = absurd sent
+    faulty_without faults.Memory then sent = subst (λ k. WatchesKeys screen given new (Err faults.Memory) old k) (sym sent) (stops_keys new (piece p) lost)
+    faulty_without faults.Read then sent = absurd sent
+    faulty_without (faults.Stream m f) then sent = absurd sent
+    faulty_without (faults.Script line name) then sent = absurd sent
 
-    pub faulty_piece : (fault answer : AppFault) (then : Option (List ℕ)) → TakesTo ((standing screen w.events).bytes ++ p) (Err fault) next
-        → SendsAt (shows screen (record s { client = next })) fault answer wrote then → WatchesKeys screen given new (Err answer) old then
+    pub faulty_piece : (fault answer : AppFault) (then : Option (List ℕ)) → TakesTo screen.lints (st.bytes ++ p) (Err fault) next
+        → SendsAt screen (record s { course = next }) fault answer wrote then → WatchesKeys screen given new (Err answer) old then
     faulty_piece faults.Memory answer then h d =
         subst (λ a. WatchesKeys screen given new (Err a) old then) (sym d.0)
         (subst (λ k. WatchesKeys screen given new (Err faults.Memory) old k) (sym d.1) (stops_keys new (piece p) lost))
@@ -293,4 +329,5 @@ module _ (screen : Screen) (given left : Option (List Coming)) (s : Session) (ol
     faulty_piece faults.Write answer then h d = absurd h
     faulty_piece (faults.Script line name) answer then h d = absurd h
     faulty_piece (faults.Stream n fault) answer then h d =
-        ⊎_elim (λ q. subst (λ a. WatchesKeys screen given new (Err a) old then) (sym q.0) (faulty_by n fault then h q.1)) (λ q. faulty_without n fault answer then h q) d
+        ⊎_elim (λ q. subst (λ a. WatchesKeys screen given new (Err a) old then) (sym q.0) (faulty_by n fault then h q.1)) (λ q. faulty_without answer then q)
+        (d (standing screen (w.events ++ piece p ∷ [])) (shows_faulty n fault h))

@@ -1,2 +1,3 @@
+pub mod OddLemmas
 pub mod KeyLemmas
 pub mod WatchLemmas

@@ -6,21 +6,29 @@ use Rattle.tk_fault.specs.declared.fault.AppFault.TheVariants as faults
 use Rattle.tk_frame.specs.Frames.{frame_text}
 use Rattle.tk_stream.specs.Sent.{IsCut}
 use Rattle.tk_stream.specs.Tables.{TablesView}
+use Rattle.tk_watch.specs.Course.{Sees}
+use Rattle.tk_watch.specs.Odd.{odd_after}
 use Rattle.tk_watch.specs.declared.drawing.Screen.{Screen}
+use Rattle.tk_watch.specs.declared.seen.Course.{Course}
 
-abbrev pub text_of : Screen → TablesView → List ℕ
-text_of screen tables = frame_text screen.canvas screen.query screen.lints tables
+-- the screen of tables to which these lines came
+abbrev pub text_of : Screen → List TablesView → TablesView → List ℕ
+text_of screen shown tables = frame_text screen.canvas screen.query (odd_after screen.lints shown tables) tables
 
--- the screen of tables was written, or a proper front of it, or there was no memory and nothing was
-abbrev pub Draws : Screen → TablesView → Result (Unit {0}) AppFault → Option (List ℕ) → Option (List ℕ) → Type 0
-Draws screen tables (Ok done) old new = Appends old new (text_of screen tables)
-Draws screen tables (Err faults.Write) old new = (front : List ℕ) × IsCut (text_of screen tables) front × Appends old new front
-Draws screen tables (Err faults.Memory) old new = new ≡ old
-Draws screen tables (Err other) old new = ⊥
+-- a text was written, or a proper front of it, or there was no memory and nothing was
+abbrev pub Sends : List ℕ → Result (Unit {0}) AppFault → Option (List ℕ) → Option (List ℕ) → Type 0
+Sends text (Ok done) old new = Appends old new text
+Sends text (Err faults.Write) old new = (front : List ℕ) × IsCut text front × Appends old new front
+Sends text (Err faults.Memory) old new = new ≡ old
+Sends text (Err other) old new = ⊥
 
--- at a fault of a stream the screen of tables was written, or could not be; at another nothing was. What is answered is the fault, or the
--- one by which the screen could not be written
-abbrev pub DrawsAt : Screen → TablesView → AppFault → AppFault → Option (List ℕ) → Option (List ℕ) → Type 0
-DrawsAt screen tables (faults.Stream lines fault) answer old new =
-    ((answer ≡ faults.Stream lines fault) × Draws screen tables (Ok tt) old new) ⊎ Draws screen tables (Err answer) old new
-DrawsAt screen tables other answer old new = (answer ≡ other) × (new ≡ old)
+-- it was written, and what is answered is this fault; or it could not be, and that is answered
+abbrev pub SendsBefore : List ℕ → AppFault → AppFault → Option (List ℕ) → Option (List ℕ) → Type 0
+SendsBefore text fault answer old new = ((answer ≡ fault) × Sends text (Ok tt) old new) ⊎ Sends text (Err answer) old new
+
+-- at a fault of a stream the screen of what stands was written, or could not be; at another nothing was, and it is answered
+abbrev pub DrawsAt : Screen → Course → AppFault → AppFault → Option (List ℕ) → Option (List ℕ) → Type 0
+DrawsAt screen course (faults.Stream lines fault) answer old new =
+    (shown : List TablesView) → Sees screen.lints shown course.seen
+    → SendsBefore (text_of screen shown course.client.start.tables) (faults.Stream lines fault) answer old new
+DrawsAt screen course other answer old new = (answer ≡ other) × (new ≡ old)

@@ -13,6 +13,7 @@ use Rattle.tk_reading.specs.Fronts.{tables_in}
 use Rattle.tk_reading.specs.Outcomes.{outcome_of}
 use Rattle.tk_stream.specs.Sent.{IsCut}
 use Rattle.tk_stream.specs.Tables.{TablesView}
+use Rattle.tk_watch.specs.Odd.{odd_in}
 use Rattle.tk_watch.specs.declared.drawing.Screen.{Screen}
 use Rattle.tk_watch.specs.declared.source.Event.{Event}
 use Rattle.tk_watch.specs.declared.source.Event.TheVariants.{Piece, Key, Due, Broken}
@@ -95,9 +96,9 @@ quits screen events = (standing screen events).asked.quits
 
 -- ---- what is drawn
 
--- the screen of what stands: what keys asked for of the tables that the shown bytes come to
+-- the screen of what stands: what keys asked for of the tables that the shown bytes come to, and of what is odd about all of these bytes
 abbrev pub text_of : Screen → Standing → List ℕ
-text_of screen s = asked_screen screen.canvas screen.query screen.lints s.asked (tables_in (outcome_of s.shown))
+text_of screen s = asked_screen screen.canvas screen.query (odd_in screen.lints s.shown) s.asked (tables_in (outcome_of s.shown))
 
 -- what is written as this comes: where a screen is due, that of what stands
 abbrev pub drawn_at : Screen → Standing → Coming → List ℕ

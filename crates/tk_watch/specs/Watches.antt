@@ -10,11 +10,12 @@ use Rattle.tk_reading.specs.Fronts.{Rise, tables_in}
 use Rattle.tk_reading.specs.Outcomes.{AreAll, outcome_of}
 use Rattle.tk_stream.specs.Sent.{IsCut}
 use Rattle.tk_stream.specs.Tables.{TablesView}
+use Rattle.tk_watch.specs.Odd.{odd_in}
 use Rattle.tk_watch.specs.declared.drawing.Screen.{Screen}
 
--- the screen of the tables that a stream's bytes come to
+-- the screen of the tables that a stream's bytes come to, and of what is odd about all of them
 abbrev pub screen_of : Screen → List ℕ → List ℕ
-screen_of screen bytes = frame_text screen.canvas screen.query screen.lints (tables_in (outcome_of bytes))
+screen_of screen bytes = frame_text screen.canvas screen.query (odd_in screen.lints bytes) (tables_in (outcome_of bytes))
 
 -- all bytes were read, and have no fault. Written was, for rising fronts of them of which they are the last, screen after screen of
 -- what these come to

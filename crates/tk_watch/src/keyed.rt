@@ -5,15 +5,15 @@ ghost use Rattle.tk_watch.specs.Keyed.{Coming, IsWithin, Loses, WatchesKeys, com
 ghost use Rattle.tk_watch.specs.Keying as spec;
 
 use crate::drawing::Screen;
+use crate::seen::Course;
 use crate::session::{Session, draw, tables_of, turn};
 use crate::source::{Event, Source};
 use crate::watching::feed_more;
 use std::alloc::Global;
 use std::io::Write;
-use tk_client::Client;
 use tk_fault::AppFault;
 use tk_frame::{Asked, press};
-use tk_reading::{MAX_LINE, PIECE};
+use tk_reading::PIECE;
 
 // Draws what stands at a fault of the stream, and answers that fault, or the one by which it could not be drawn.
 fn draw_at<W: Write>(
@@ -23,7 +23,7 @@ fn draw_at<W: Write>(
     screen: &Screen<'_>,
     fault: AppFault,
 ) -> AppFault
-    ensures { spec.SendsAt (spec.shows screen.now session.now) fault result (W.contents writer.old) (W.contents writer.new) }
+    ensures { spec.SendsAt screen.now session.now fault result (W.contents writer.old) (W.contents writer.new) }
 {
     match fault {
         AppFault::Stream { .. } => match draw(session, alloc, writer, screen) {
@@ -49,7 +49,7 @@ fn take_piece<W: Write>(
         → spec.Goes screen.now given new result session.new old (W.contents writer.new) }
     ensures few { session.new.lines ≤ session.old.lines + 65536 }
 {
-    match feed_more(&mut session.client, session.lines, bytes) {
+    match feed_more(&mut session.course, session.lines, bytes) {
         Ok(lines) => {
             session.lines = lines;
             Ok(true)
@@ -59,7 +59,12 @@ fn take_piece<W: Write>(
 }
 
 // Takes what a key has asked for. It answers whether the watch goes on.
-fn turn_to(session: &mut Session, screen: &Screen<'_>, asked: Asked) -> Result<bool, AppFault>
+fn turn_to(
+    session: &mut Session,
+    alloc: Global,
+    screen: &Screen<'_>,
+    asked: Asked,
+) -> Result<bool, AppFault>
     ensures goes { (given left new : Option (List Coming)) (old wrote : Option (List ℕ)) (byte : ℕ)
         → asked ≡ pressed screen.now.query (spec.tables_of session.old) session.old.asked byte
         → Loses left new (key byte ∷ [])
@@ -69,7 +74,7 @@ fn turn_to(session: &mut Session, screen: &Screen<'_>, asked: Asked) -> Result<b
 {
     let paused = asked.paused;
     let quits = asked.quits;
-    match turn(session, paused) {
+    match turn(session, alloc, paused) {
         Ok(()) => {
             session.asked = asked;
             Ok(!quits)
@@ -97,7 +102,7 @@ fn take_key(
         &session.asked,
         byte,
     ) {
-        Ok(asked) => turn_to(session, screen, asked),
+        Ok(asked) => turn_to(session, alloc, screen, asked),
         Err(_) => Err(AppFault::Memory),
     }
 }
@@ -175,7 +180,7 @@ fn watch_by<S: Source, W: Write>(
     writer: &mut W,
     screen: &Screen<'_>,
 ) -> Result<(), AppFault>
-    requires { spec.IsNew screen.now session.old }
+    requires { spec.IsFirst screen.now session.old }
     ensures { WatchesKeys screen.now (S.to_come source.old) (S.to_come source.new) result (W.contents writer.old) (W.contents writer.new) }
 {
     let mut room = [0u8; PIECE];
@@ -189,11 +194,11 @@ fn watch_by<S: Source, W: Write>(
 }
 
 /// Watches a stream at keys: takes what comes, and draws the screen that keys have asked for whenever one is due, until a key asks to
-/// quit, or nothing more comes. While it is paused, the tables are shown that were when the pause began.
+/// quit, or nothing more comes. While it is paused, the tables and findings are shown that were when the pause began.
 ///
 /// Each screen is made whole before its first byte is written.
 ///
-/// - `Memory`: there was no memory for the tables, for a copy of them at a pause, or for a screen, of which then nothing was written.
+/// - `Memory`: there was no memory for the tables, for what is odd about them, for a copy of both at a pause, or for a screen, of which then nothing was written.
 /// - `Read`: the stream can't be read, or more than 2^46 events came.
 /// - `Stream`: a line has a fault, or more than 268,435,456 bytes. The screen of what stood before it was drawn.
 /// - `Write`: the writer failed. A proper front of the last screen went out.
@@ -207,11 +212,11 @@ pub fn watch_keys<S: Source, W: Write>(
 ) -> Result<(), AppFault>
     ensures { WatchesKeys screen.now (S.to_come source.old) (S.to_come source.new) result (W.contents writer.old) (W.contents writer.new) }
 {
-    let Ok(client) = Client::new(alloc, MAX_LINE) else {
+    let Ok(course) = Course::new(alloc, screen.lints) else {
         return Err(AppFault::Memory);
     };
     let mut session = Session {
-        client,
+        course,
         lines: 0,
         asked: Asked::first(&screen.query),
         held: None,

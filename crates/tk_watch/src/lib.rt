@@ -11,6 +11,7 @@
 mod drawing;
 mod keyed;
 pub mod laws;
+mod seen;
 mod session;
 mod source;
 mod watching;

@@ -1,26 +1,36 @@
 //! A watch at keys: what it has taken of a stream, and what keys have asked for.
-ghost use Rattle.std.specs.Prelude.{◌≡◌, IfOk, OnOk};
-ghost use Rattle.tk_client.specs.Warnings.{warnings_in};
-ghost use Rattle.tk_frame.specs.Shown.{asked_screen, lines_of};
-ghost use Rattle.tk_screen.specs.Screens.{screen_text};
+ghost use Rattle.std.specs.Prelude.{◌≡◌, IfOk, List, OnOk};
+ghost use Rattle.tk_client.specs.Warnings.{LintsView};
+ghost use Rattle.tk_frame.specs.Shown.{asked_screen};
+ghost use Rattle.tk_stream.specs.Tables.{TablesView};
+ghost use Rattle.tk_watch.specs.Course.{Sees};
+ghost use Rattle.tk_watch.specs.Drawing.{Sends};
+ghost use Rattle.tk_watch.specs.Keyed.{Standing, text_of as screen_of};
 ghost use Rattle.tk_watch.specs.Keying as spec;
 
 use crate::drawing::Screen;
+use crate::seen::Course;
 use std::alloc::{AllocError, Global};
 use std::io::Write;
-use tk_client::{Client, Warning, warnings_in};
 use tk_fault::AppFault;
-use tk_frame::{Asked, asked_frame};
+use tk_frame::{Asked, Odd, asked_frame};
 use tk_screen::put_screen;
 use tk_stream::{Tables, send};
 
-/// A client that has applied so many lines, what keys have asked for, and in a pause the tables that are shown.
+/// Tables, and what is odd about them.
+#[derive(Drop)]
+pub(crate) struct Held {
+    pub tables: Tables,
+    pub odd: Odd,
+}
+
+/// A client that has applied so many lines, what keys have asked for, and in a pause what is shown.
 #[derive(Drop)]
 pub(crate) struct Session {
-    pub client: Client,
+    pub course: Course,
     pub lines: u64,
     pub asked: Asked,
-    pub held: Option<Tables>,
+    pub held: Option<Held>,
 }
 
 /// The tables that are shown.
@@ -28,58 +38,49 @@ pub(crate) fn tables_of(session: &Session) -> &Tables
     ensures { result.now ≡ spec.tables_of session.now }
 {
     match &session.held {
-        Some(tables) => tables,
-        None => session.client.tables(),
+        Some(held) => &held.tables,
+        None => session.course.tables(),
     }
 }
 
 fn text_by(
     alloc: Global,
     tables: &Tables,
-    warnings: &[Warning],
+    odd: &Odd,
     screen: &Screen<'_>,
     asked: &Asked,
 ) -> Result<Vec<u8>, AllocError>
-    ensures { IfOk result (λ text. text.items ≡ screen_text screen.now.canvas (lines_of asked.now screen.now.query tables.now warnings.now)) }
+    ensures { IfOk result (λ text. text.items ≡ asked_screen screen.now.canvas screen.now.query odd.now asked.now tables.now) }
 {
-    let lines = asked_frame(alloc, tables, warnings, &screen.query, asked)?;
+    let lines = asked_frame(alloc, screen.canvas, tables, odd, &screen.query, asked)?;
     let mut text = Vec::new(alloc);
     put_screen(&mut text, screen.canvas, lines.as_slice())?;
     Ok(text)
 }
 
-fn text_of_client(
-    client: &Client,
+// The screen of what a client has come to.
+fn text_of_course(
+    course: &Course,
     alloc: Global,
     screen: &Screen<'_>,
     asked: &Asked,
 ) -> Result<Vec<u8>, AllocError>
-    ensures { IfOk result (λ text. text.items ≡ asked_screen screen.now.canvas screen.now.query screen.now.lints asked.now client.now.start.tables) }
+    ensures { (shown : List TablesView) → Sees screen.now.lints shown course.now.seen
+        → IfOk result (λ text. text.items ≡ spec.screen_after screen.now shown asked.now course.now.client.start.tables) }
 {
-    let Ok(warnings) = client.warnings(&screen.lints) else {
-        return Err(AllocError);
-    };
-    text_by(alloc, client.tables(), warnings.as_slice(), screen, asked)
-}
-
-fn text_of_tables(
-    tables: &Tables,
-    alloc: Global,
-    screen: &Screen<'_>,
-    asked: &Asked,
-) -> Result<Vec<u8>, AllocError>
-    ensures { IfOk result (λ text. text.items ≡ asked_screen screen.now.canvas screen.now.query screen.now.lints asked.now tables.now) }
-{
-    let warnings = warnings_in(alloc, tables, &screen.lints)?;
-    text_by(alloc, tables, warnings.as_slice(), screen, asked)
+    match course.odd(alloc) {
+        Ok(odd) => text_by(alloc, course.tables(), &odd, screen, asked),
+        Err(error) => Err(error),
+    }
 }
 
 fn text_of(session: &Session, alloc: Global, screen: &Screen<'_>) -> Result<Vec<u8>, AllocError>
-    ensures { IfOk result (λ text. text.items ≡ spec.shows screen.now session.now) }
+    ensures { (st : Standing) → spec.Shows screen.now.lints st session.now
+        → IfOk result (λ text. text.items ≡ screen_of screen.now st) }
 {
     match &session.held {
-        Some(tables) => text_of_tables(tables, alloc, screen, &session.asked),
-        None => text_of_client(&session.client, alloc, screen, &session.asked),
+        Some(held) => text_by(alloc, &held.tables, &held.odd, screen, &session.asked),
+        None => text_of_course(&session.course, alloc, screen, &session.asked),
     }
 }
 
@@ -90,7 +91,8 @@ pub(crate) fn draw<W: Write>(
     writer: &mut W,
     screen: &Screen<'_>,
 ) -> Result<(), AppFault>
-    ensures { spec.Sends (spec.shows screen.now session.now) result (W.contents writer.old) (W.contents writer.new) }
+    ensures { (st : Standing) → spec.Shows screen.now.lints st session.now
+        → Sends (screen_of screen.now st) result (W.contents writer.old) (W.contents writer.new) }
 {
     let Ok(text) = text_of(session, alloc, screen) else {
         return Err(AppFault::Memory);
@@ -101,10 +103,23 @@ pub(crate) fn draw<W: Write>(
     }
 }
 
-/// Holds the tables from a pause on, and till it ends.
-pub(crate) fn turn(session: &mut Session, paused: bool) -> Result<(), AllocError>
-    ensures held { OnOk result (session.new.held ≡ spec.held_then paused session.old.held session.old.client.start.tables) }
-    ensures client { session.new.client ≡ session.old.client }
+// The tables of a client, to be held with what is odd about them.
+fn hold(course: &Course, alloc: Global) -> Result<Held, AllocError>
+    ensures { (lints : LintsView) (shown : List TablesView) → Sees lints shown course.now.seen
+        → IfOk result (λ held. held ≡ spec.holding lints shown course.now.client.start.tables) }
+{
+    let odd = course.odd(alloc)?;
+    match course.tables().copy() {
+        Ok(tables) => Ok(Held { tables, odd }),
+        Err(error) => Err(error),
+    }
+}
+
+/// Holds what is shown from a pause on, and till it ends.
+pub(crate) fn turn(session: &mut Session, alloc: Global, paused: bool) -> Result<(), AllocError>
+    ensures held { (lints : LintsView) (shown : List TablesView) → Sees lints shown session.old.course.seen
+        → OnOk result (session.new.held ≡ spec.held_then paused session.old.held (spec.holding lints shown session.old.course.client.start.tables)) }
+    ensures course { session.new.course ≡ session.old.course }
     ensures lines { session.new.lines ≡ session.old.lines }
 {
     if !paused {
@@ -114,7 +129,7 @@ pub(crate) fn turn(session: &mut Session, paused: bool) -> Result<(), AllocError
     if session.held.is_some() {
         return Ok(());
     }
-    let tables = session.client.tables().copy()?;
-    session.held = Some(tables);
+    let held = hold(&session.course, alloc)?;
+    session.held = Some(held);
     Ok(())
 }

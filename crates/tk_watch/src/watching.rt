@@ -1,17 +1,20 @@
 //! A stream that is watched.
 ghost use Rattle.std.specs.Prelude.{◌≡◌, ◌≤◌, ◌<◌, ◌+◌, ◌^◌, ◌++◌, ℕ, List, Option, length, IfOk, true, false};
 ghost use Rattle.std.specs.Io.KnownBytes.{Consumes, IsAtEnd};
-ghost use Rattle.tk_reading.specs.Taken.{HasTaken, first};
+ghost use Rattle.tk_client.specs.Warnings.{LintsView};
+ghost use Rattle.tk_reading.specs.Taken.{HasTaken};
+ghost use Rattle.tk_watch.specs.Course.{IsNew, Sees};
 ghost use Rattle.tk_watch.specs.Drawing.{DrawsAt};
+ghost use Rattle.tk_watch.specs.Odd.{seen_in};
 ghost use Rattle.tk_watch.specs.Watches.{Watches};
 ghost use Rattle.tk_watch.specs.Watching as spec;
 
 use crate::drawing::{Screen, draw};
+use crate::seen::Course;
 use std::alloc::Global;
 use std::io::{Read, Write};
-use tk_client::Client;
 use tk_fault::AppFault;
-use tk_reading::{MAX_LINE, PIECE, Pace, Unwatched, feed_lines};
+use tk_reading::{PIECE, Pace, feed_lines};
 
 // How many lines are applied, and how many were when the last screen was drawn, if one was.
 #[derive(Clone, Copy)]
@@ -21,27 +24,28 @@ struct Progress {
 }
 
 // Feeds a client that has applied so many lines, and answers how many it has then applied.
-pub(crate) fn feed_more(client: &mut Client, lines: u64, piece: &[u8]) -> Result<u64, AppFault>
+pub(crate) fn feed_more(course: &mut Course, lines: u64, piece: &[u8]) -> Result<u64, AppFault>
     requires few { lines + 65536 ≤ 2 ^ 62 }
     requires short { length piece.now ≤ 65536 }
-    ensures takes { (front : List ℕ) → HasTaken front lines client.old → spec.TakesTo (front ++ piece.now) result client.new }
+    ensures takes { (lints : LintsView) (front : List ℕ) → HasTaken front lines course.old.client → Sees lints (seen_in front) course.old.seen
+        → spec.TakesTo lints (front ++ piece.now) result course.new }
     ensures few { IfOk result (λ sum. sum ≤ lines + 65536) }
 {
-    feed_lines(client, &mut Unwatched, lines, piece)
+    feed_lines(&mut course.client, &mut course.seen, lines, piece)
 }
 
 // Draws what stands at a fault of the stream, and answers that fault, or the one by which it could not be drawn.
 fn draw_at<W: Write>(
-    client: &Client,
+    course: &Course,
     alloc: Global,
     writer: &mut W,
     screen: &Screen<'_>,
     fault: AppFault,
 ) -> AppFault
-    ensures { DrawsAt screen.now client.now.start.tables fault result (W.contents writer.old) (W.contents writer.new) }
+    ensures { DrawsAt screen.now course.now fault result (W.contents writer.old) (W.contents writer.new) }
 {
     match fault {
-        AppFault::Stream { .. } => match draw(client, alloc, writer, screen) {
+        AppFault::Stream { .. } => match draw(course, alloc, writer, screen) {
             Ok(()) => fault,
             Err(stop) => stop,
         },
@@ -51,7 +55,7 @@ fn draw_at<W: Write>(
 
 // Takes a piece. At a fault of the stream the screen of what stands is drawn.
 fn take_piece<W: Write>(
-    client: &mut Client,
+    course: &mut Course,
     alloc: Global,
     writer: &mut W,
     screen: &Screen<'_>,
@@ -61,13 +65,13 @@ fn take_piece<W: Write>(
     requires few { lines + 65536 ≤ 2 ^ 62 }
     requires short { length piece.now ≤ 65536 }
     ensures goes { (given left new old : Option (List ℕ)) (drawn : Option ℕ) → Consumes left new piece.now
-        → spec.Watching screen.now given left lines drawn client.old old (W.contents writer.old)
-        → spec.Goes screen.now given new result drawn client.new old (W.contents writer.new) }
+        → spec.Watching screen.now given left lines drawn course.old old (W.contents writer.old)
+        → spec.Goes screen.now given new result drawn course.new old (W.contents writer.new) }
     ensures few { IfOk result (λ sum. sum ≤ lines + 65536) }
 {
-    match feed_more(client, lines, piece) {
+    match feed_more(course, lines, piece) {
         Ok(sum) => Ok(sum),
-        Err(fault) => Err(draw_at(client, alloc, writer, screen, fault)),
+        Err(fault) => Err(draw_at(course, alloc, writer, screen, fault)),
     }
 }
 
@@ -84,21 +88,21 @@ fn is_new(lines: u64, drawn: Option<u64>) -> bool
 
 // Draws a screen where lines came since the last one, which had so many, and answers how many the last one then has.
 fn draw_new<W: Write>(
-    client: &Client,
+    course: &Course,
     alloc: Global,
     writer: &mut W,
     screen: &Screen<'_>,
     lines: u64,
     drawn: Option<u64>,
 ) -> Result<Option<u64>, AppFault>
-    ensures drew { (given left old : Option (List ℕ)) → spec.Watching screen.now given left lines drawn client.now old (W.contents writer.old)
-        → spec.Drew screen.now given left lines result client.now old (W.contents writer.new) }
+    ensures drew { (given left old : Option (List ℕ)) → spec.Watching screen.now given left lines drawn course.now old (W.contents writer.old)
+        → spec.Drew screen.now given left lines result course.now old (W.contents writer.new) }
     ensures covers { IfOk result (λ last. spec.Covers last lines) }
 {
     if !is_new(lines, drawn) {
         return Ok(drawn);
     }
-    draw(client, alloc, writer, screen)?;
+    draw(course, alloc, writer, screen)?;
     Ok(Some(lines))
 }
 
@@ -117,7 +121,7 @@ fn may_draw<P: Pace>(pace: &mut P, piece: &[u8]) -> bool {
 
 // Draws a screen after a piece, where one may be drawn and lines came since the last one.
 fn draw_after<W: Write, P: Pace>(
-    client: &Client,
+    course: &Course,
     alloc: Global,
     writer: &mut W,
     screen: &Screen<'_>,
@@ -126,20 +130,20 @@ fn draw_after<W: Write, P: Pace>(
     drawn: Option<u64>,
     piece: &[u8],
 ) -> Result<Option<u64>, AppFault>
-    ensures drew { (given left old : Option (List ℕ)) → spec.Watching screen.now given left lines drawn client.now old (W.contents writer.old)
-        → spec.Drew screen.now given left lines result client.now old (W.contents writer.new) }
+    ensures drew { (given left old : Option (List ℕ)) → spec.Watching screen.now given left lines drawn course.now old (W.contents writer.old)
+        → spec.Drew screen.now given left lines result course.now old (W.contents writer.new) }
 {
     if !is_new(lines, drawn) || !may_draw(pace, piece) {
         return Ok(drawn);
     }
-    let last = draw_new(client, alloc, writer, screen, lines, drawn)?;
+    let last = draw_new(course, alloc, writer, screen, lines, drawn)?;
     pace.mark();
     Ok(last)
 }
 
 // Takes a piece that was read, and draws a screen where one may be drawn.
 fn after_piece<W: Write, P: Pace>(
-    client: &mut Client,
+    course: &mut Course,
     alloc: Global,
     writer: &mut W,
     screen: &Screen<'_>,
@@ -150,13 +154,13 @@ fn after_piece<W: Write, P: Pace>(
     requires few { progress.lines + 65536 ≤ 2 ^ 62 }
     requires short { length piece.now ≤ 65536 }
     ensures steps { (given left new old : Option (List ℕ)) → Consumes left new piece.now
-        → spec.Watching screen.now given left progress.lines progress.drawn client.old old (W.contents writer.old)
-        → spec.Steps screen.now given new result client.new old (W.contents writer.new) }
+        → spec.Watching screen.now given left progress.lines progress.drawn course.old old (W.contents writer.old)
+        → spec.Steps screen.now given new result course.new old (W.contents writer.new) }
     ensures few { spec.IsFew progress.lines result }
 {
-    let lines = take_piece(client, alloc, writer, screen, progress.lines, piece)?;
+    let lines = take_piece(course, alloc, writer, screen, progress.lines, piece)?;
     let drawn = draw_after(
-        client,
+        course,
         alloc,
         writer,
         screen,
@@ -170,7 +174,7 @@ fn after_piece<W: Write, P: Pace>(
 
 // Draws what isn't drawn yet at the end of what the reader gave, and asks whether more may come.
 fn at_end<W: Write, P: Pace>(
-    client: &Client,
+    course: &Course,
     alloc: Global,
     writer: &mut W,
     screen: &Screen<'_>,
@@ -178,12 +182,12 @@ fn at_end<W: Write, P: Pace>(
     progress: Progress,
 ) -> Result<Option<Progress>, AppFault>
     ensures steps { (given left old : Option (List ℕ)) → IsAtEnd left
-        → spec.Watching screen.now given left progress.lines progress.drawn client.now old (W.contents writer.old)
-        → spec.Steps screen.now given left result client.now old (W.contents writer.new) }
+        → spec.Watching screen.now given left progress.lines progress.drawn course.now old (W.contents writer.old)
+        → spec.Steps screen.now given left result course.now old (W.contents writer.new) }
     ensures few { spec.IsFew progress.lines result }
 {
     let lines = progress.lines;
-    let drawn = draw_new(client, alloc, writer, screen, lines, progress.drawn)?;
+    let drawn = draw_new(course, alloc, writer, screen, lines, progress.drawn)?;
     if pace.goes_on() {
         Ok(Some(Progress { lines, drawn }))
     } else {
@@ -193,7 +197,7 @@ fn at_end<W: Write, P: Pace>(
 
 // Reads once, and does what is to be done then. It answers how far it has come, unless this is the end.
 fn step<R: Read, W: Write, P: Pace>(
-    client: &mut Client,
+    course: &mut Course,
     alloc: Global,
     reader: &mut R,
     writer: &mut W,
@@ -205,27 +209,27 @@ fn step<R: Read, W: Write, P: Pace>(
     requires few { progress.lines + 65536 ≤ 2 ^ 62 }
     requires room { length piece.old ≡ 65536 }
     ensures steps { (given old : Option (List ℕ))
-        → spec.Watching screen.now given (R.remaining reader.old) progress.lines progress.drawn client.old old (W.contents writer.old)
-        → spec.Steps screen.now given (R.remaining reader.new) result client.new old (W.contents writer.new) }
+        → spec.Watching screen.now given (R.remaining reader.old) progress.lines progress.drawn course.old old (W.contents writer.old)
+        → spec.Steps screen.now given (R.remaining reader.new) result course.new old (W.contents writer.new) }
     ensures few { spec.IsFew progress.lines result }
 {
     match reader.read(piece) {
-        Ok(0) => at_end(client, alloc, writer, screen, pace, progress),
-        Ok(n) => after_piece(client, alloc, writer, screen, pace, progress, &piece[..n]),
+        Ok(0) => at_end(course, alloc, writer, screen, pace, progress),
+        Ok(n) => after_piece(course, alloc, writer, screen, pace, progress, &piece[..n]),
         Err(_) => Err(AppFault::Read),
     }
 }
 
 // What `watch_stream` does by a new client. It gives up after 2^32 reads.
 fn watch_by<R: Read, W: Write, P: Pace>(
-    client: &mut Client,
+    course: &mut Course,
     alloc: Global,
     reader: &mut R,
     writer: &mut W,
     screen: &Screen<'_>,
     pace: &mut P,
 ) -> Result<(), AppFault>
-    requires { client.old ≡ first }
+    requires { IsNew screen.now.lints course.old }
     ensures { Watches screen.now (R.remaining reader.old) (R.remaining reader.new) result (W.contents writer.old) (W.contents writer.new) }
 {
     let mut piece = [0u8; PIECE];
@@ -235,7 +239,7 @@ fn watch_by<R: Read, W: Write, P: Pace>(
     };
     for _ in 0u64..4_294_967_296 {
         match step(
-            client, alloc, reader, writer, screen, pace, progress, &mut piece,
+            course, alloc, reader, writer, screen, pace, progress, &mut piece,
         )? {
             Some(next) => progress = next,
             None => return Ok(()),
@@ -249,7 +253,7 @@ fn watch_by<R: Read, W: Write, P: Pace>(
 ///
 /// Each screen is made whole before its first byte is written. A last line without its line end is ignored.
 ///
-/// - `Memory`: there was no memory for the tables or for a screen, of which then nothing was written.
+/// - `Memory`: there was no memory for the tables, for what is odd about them, or for a screen, of which then nothing was written.
 /// - `Read`: the reader failed, or gave no end within 2^32 reads.
 /// - `Stream`: a line has a fault, or more than 268,435,456 bytes. The screen of what stood before it was drawn.
 /// - `Write`: the writer failed. A proper front of the last screen went out.
@@ -264,8 +268,8 @@ pub fn watch_stream<R: Read, W: Write, P: Pace>(
 ) -> Result<(), AppFault>
     ensures { Watches screen.now (R.remaining reader.old) (R.remaining reader.new) result (W.contents writer.old) (W.contents writer.new) }
 {
-    match Client::new(alloc, MAX_LINE) {
-        Ok(mut client) => watch_by(&mut client, alloc, reader, writer, screen, pace),
+    match Course::new(alloc, screen.lints) {
+        Ok(mut course) => watch_by(&mut course, alloc, reader, writer, screen, pace),
         Err(_) => Err(AppFault::Memory),
     }
 }

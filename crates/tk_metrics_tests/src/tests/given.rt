@@ -74,6 +74,18 @@ taskscope_dropped_events_total{kind=\"op\"} 0
 # TYPE taskscope_stream_lines_total counter
 # HELP taskscope_stream_lines_total Lines of the stream.
 taskscope_stream_lines_total 2
+# TYPE taskscope_findings gauge
+# HELP taskscope_findings How many tasks a finding is about.
+taskscope_findings{kind=\"lost-waker\",when=\"now\",place=\"spawn at script:2:1 name fetch\"} 1
+# TYPE taskscope_held_up_seconds_total counter
+# UNIT taskscope_held_up_seconds seconds
+# HELP taskscope_held_up_seconds_total How long others waited while tasks of a place ran long.
+# TYPE taskscope_waited_seconds_total counter
+# UNIT taskscope_waited_seconds seconds
+# HELP taskscope_waited_seconds_total How long tasks waited for a poll, by what for.
+taskscope_waited_seconds_total{for=\"long-polls\"} 0.000000000
+taskscope_waited_seconds_total{for=\"queue\"} 0.000000000
+taskscope_waited_seconds_total{for=\"nobody\"} 0.000000000
 # EOF
 ";
 
@@ -147,6 +159,18 @@ taskscope_dropped_events_total{kind=\"op\"} 0
 # TYPE taskscope_stream_lines_total counter
 # HELP taskscope_stream_lines_total Lines of the stream.
 taskscope_stream_lines_total 2
+# TYPE taskscope_findings gauge
+# HELP taskscope_findings How many tasks a finding is about.
+taskscope_findings{id=\"1.1\",kind=\"lost-waker\",when=\"now\",place=\"spawn at script:2:1 name fetch\"} 1
+# TYPE taskscope_held_up_seconds_total counter
+# UNIT taskscope_held_up_seconds seconds
+# HELP taskscope_held_up_seconds_total How long others waited while tasks of a place ran long.
+# TYPE taskscope_waited_seconds_total counter
+# UNIT taskscope_waited_seconds seconds
+# HELP taskscope_waited_seconds_total How long tasks waited for a poll, by what for.
+taskscope_waited_seconds_total{for=\"long-polls\"} 0.000000000
+taskscope_waited_seconds_total{for=\"queue\"} 0.000000000
+taskscope_waited_seconds_total{for=\"nobody\"} 0.000000000
 # EOF
 ";
 
@@ -224,6 +248,17 @@ taskscope_dropped_events_total{kind=\"op\"} 0
 # TYPE taskscope_stream_lines_total counter
 # HELP taskscope_stream_lines_total Lines of the stream.
 taskscope_stream_lines_total 4
+# TYPE taskscope_findings gauge
+# HELP taskscope_findings How many tasks a finding is about.
+# TYPE taskscope_held_up_seconds_total counter
+# UNIT taskscope_held_up_seconds seconds
+# HELP taskscope_held_up_seconds_total How long others waited while tasks of a place ran long.
+# TYPE taskscope_waited_seconds_total counter
+# UNIT taskscope_waited_seconds seconds
+# HELP taskscope_waited_seconds_total How long tasks waited for a poll, by what for.
+taskscope_waited_seconds_total{for=\"long-polls\"} 0.000000000
+taskscope_waited_seconds_total{for=\"queue\"} 0.000000000
+taskscope_waited_seconds_total{for=\"nobody\"} 0.000000000
 # EOF
 ";
 
@@ -283,6 +318,17 @@ taskscope_dropped_events_total{kind=\"op\"} 0
 # TYPE taskscope_stream_lines_total counter
 # HELP taskscope_stream_lines_total Lines of the stream.
 taskscope_stream_lines_total 4
+# TYPE taskscope_findings gauge
+# HELP taskscope_findings How many tasks a finding is about.
+# TYPE taskscope_held_up_seconds_total counter
+# UNIT taskscope_held_up_seconds seconds
+# HELP taskscope_held_up_seconds_total How long others waited while tasks of a place ran long.
+# TYPE taskscope_waited_seconds_total counter
+# UNIT taskscope_waited_seconds seconds
+# HELP taskscope_waited_seconds_total How long tasks waited for a poll, by what for.
+taskscope_waited_seconds_total{for=\"long-polls\"} 0.000000000
+taskscope_waited_seconds_total{for=\"queue\"} 0.000000000
+taskscope_waited_seconds_total{for=\"nobody\"} 0.000000000
 # EOF
 ";
 
@@ -348,5 +394,63 @@ taskscope_dropped_events_total{kind=\"op\"} 3
 # TYPE taskscope_stream_lines_total counter
 # HELP taskscope_stream_lines_total Lines of the stream.
 taskscope_stream_lines_total 1
+# TYPE taskscope_findings gauge
+# HELP taskscope_findings How many tasks a finding is about.
+# TYPE taskscope_held_up_seconds_total counter
+# UNIT taskscope_held_up_seconds seconds
+# HELP taskscope_held_up_seconds_total How long others waited while tasks of a place ran long.
+# TYPE taskscope_waited_seconds_total counter
+# UNIT taskscope_waited_seconds seconds
+# HELP taskscope_waited_seconds_total How long tasks waited for a poll, by what for.
+taskscope_waited_seconds_total{for=\"long-polls\"} 0.000000000
+taskscope_waited_seconds_total{for=\"queue\"} 0.000000000
+taskscope_waited_seconds_total{for=\"nobody\"} 0.000000000
+# EOF
+";
+
+// A report holds up `accept`, then nobody runs, and then another report does.
+pub(super) const HELD: &[u8] =
+    b"{\"dropped\":[0,0,0],\"new_ops\":[],\"new_resources\":[],\"new_tasks\":[{\"id\":1099511627777,\"kind\":\"spawn\",\"loc\":[\"script\",1,1],\"name\":\"accept\"},{\"id\":1099511627778,\"kind\":\"spawn\",\"loc\":[\"script\",2,1],\"name\":\"report-1\"},{\"id\":1099511627779,\"kind\":\"spawn\",\"loc\":[\"script\",3,1],\"name\":\"report-2\"}],\"now\":1000,\"op_stats\":[],\"poll_counts\":[],\"resource_stats\":[],\"seq\":1,\"snapshot\":false,\"task_stats\":[{\"busy\":1000,\"clones\":1,\"created\":0,\"dropped\":null,\"drops\":0,\"first_poll\":0,\"handles\":2,\"id\":1099511627777,\"last_ended\":1000,\"last_started\":0,\"last_wake\":null,\"polling\":false,\"polls\":1,\"sched\":0,\"scheduled\":false,\"self_wakes\":0,\"wakes\":0},{\"busy\":0,\"clones\":0,\"created\":0,\"dropped\":null,\"drops\":0,\"first_poll\":null,\"handles\":1,\"id\":1099511627778,\"last_ended\":null,\"last_started\":null,\"last_wake\":null,\"polling\":false,\"polls\":0,\"sched\":0,\"scheduled\":true,\"self_wakes\":0,\"wakes\":0},{\"busy\":0,\"clones\":0,\"created\":0,\"dropped\":null,\"drops\":0,\"first_poll\":null,\"handles\":1,\"id\":1099511627779,\"last_ended\":null,\"last_started\":null,\"last_wake\":null,\"polling\":false,\"polls\":0,\"sched\":0,\"scheduled\":true,\"self_wakes\":0,\"wakes\":0}],\"v\":1}\n{\"dropped\":[0,0,0],\"new_ops\":[],\"new_resources\":[],\"new_tasks\":[],\"now\":200002000,\"op_stats\":[],\"poll_counts\":[],\"resource_stats\":[],\"seq\":2,\"snapshot\":false,\"task_stats\":[{\"busy\":1000,\"clones\":1,\"created\":0,\"dropped\":null,\"drops\":0,\"first_poll\":0,\"handles\":2,\"id\":1099511627777,\"last_ended\":1000,\"last_started\":0,\"last_wake\":10000,\"polling\":false,\"polls\":1,\"sched\":0,\"scheduled\":true,\"self_wakes\":0,\"wakes\":1},{\"busy\":0,\"clones\":0,\"created\":0,\"dropped\":null,\"drops\":0,\"first_poll\":2000,\"handles\":1,\"id\":1099511627778,\"last_ended\":null,\"last_started\":2000,\"last_wake\":null,\"polling\":true,\"polls\":1,\"sched\":2000,\"scheduled\":false,\"self_wakes\":0,\"wakes\":0}],\"v\":1}\n{\"dropped\":[0,0,0],\"new_ops\":[],\"new_resources\":[],\"new_tasks\":[],\"now\":400001000,\"op_stats\":[],\"poll_counts\":[],\"resource_stats\":[],\"seq\":3,\"snapshot\":false,\"task_stats\":[{\"busy\":2000,\"clones\":1,\"created\":0,\"dropped\":null,\"drops\":0,\"first_poll\":0,\"handles\":2,\"id\":1099511627777,\"last_ended\":300001000,\"last_started\":300000000,\"last_wake\":400000000,\"polling\":false,\"polls\":2,\"sched\":299990000,\"scheduled\":true,\"self_wakes\":0,\"wakes\":2},{\"busy\":299998000,\"clones\":0,\"created\":0,\"dropped\":null,\"drops\":0,\"first_poll\":2000,\"handles\":1,\"id\":1099511627778,\"last_ended\":300000000,\"last_started\":2000,\"last_wake\":null,\"polling\":false,\"polls\":1,\"sched\":2000,\"scheduled\":false,\"self_wakes\":0,\"wakes\":0}],\"v\":1}\n{\"dropped\":[0,0,0],\"new_ops\":[],\"new_resources\":[],\"new_tasks\":[],\"now\":600001000,\"op_stats\":[],\"poll_counts\":[],\"resource_stats\":[],\"seq\":4,\"snapshot\":false,\"task_stats\":[],\"v\":1}\n{\"dropped\":[0,0,0],\"new_ops\":[],\"new_resources\":[],\"new_tasks\":[],\"now\":800001000,\"op_stats\":[],\"poll_counts\":[],\"resource_stats\":[],\"seq\":5,\"snapshot\":false,\"task_stats\":[{\"busy\":0,\"clones\":0,\"created\":0,\"dropped\":null,\"drops\":0,\"first_poll\":600001000,\"handles\":1,\"id\":1099511627779,\"last_ended\":null,\"last_started\":600001000,\"last_wake\":null,\"polling\":true,\"polls\":1,\"sched\":600001000,\"scheduled\":false,\"self_wakes\":0,\"wakes\":0}],\"v\":1}\n";
+
+// What their numbers end with.
+pub(super) const HELD_END: &str = "# TYPE taskscope_findings gauge
+# HELP taskscope_findings How many tasks a finding is about.
+taskscope_findings{kind=\"holds-up\",when=\"now\",place=\"spawn at script:3:1 name report-#\"} 1
+taskscope_findings{kind=\"lost-waker\",when=\"now\",place=\"spawn at script:2:1 name report-#\"} 1
+taskscope_findings{kind=\"holds-up\",when=\"earlier\",place=\"spawn at script:2:1 name report-#\"} 1
+taskscope_findings{kind=\"nobody-ran\",when=\"earlier\",place=\"\"} 1
+# TYPE taskscope_held_up_seconds_total counter
+# UNIT taskscope_held_up_seconds seconds
+# HELP taskscope_held_up_seconds_total How long others waited while tasks of a place ran long.
+taskscope_held_up_seconds_total{place=\"spawn at script:1:1 name accept\"} 0.000000000
+taskscope_held_up_seconds_total{place=\"spawn at script:2:1 name report-#\"} 0.599987999
+taskscope_held_up_seconds_total{place=\"spawn at script:3:1 name report-#\"} 0.200000000
+# TYPE taskscope_waited_seconds_total counter
+# UNIT taskscope_waited_seconds seconds
+# HELP taskscope_waited_seconds_total How long tasks waited for a poll, by what for.
+taskscope_waited_seconds_total{for=\"long-polls\"} 0.799987999
+taskscope_waited_seconds_total{for=\"queue\"} 0.000001000
+taskscope_waited_seconds_total{for=\"nobody\"} 0.500003001
+# EOF
+";
+
+pub(super) const HELD_END_BY_ID: &str = "# TYPE taskscope_findings gauge
+# HELP taskscope_findings How many tasks a finding is about.
+taskscope_findings{id=\"1.3\",kind=\"holds-up\",when=\"now\",place=\"spawn at script:3:1 name report-#\"} 1
+taskscope_findings{id=\"1.2\",kind=\"lost-waker\",when=\"now\",place=\"spawn at script:2:1 name report-#\"} 1
+taskscope_findings{id=\"1.2\",kind=\"holds-up\",when=\"earlier\",place=\"spawn at script:2:1 name report-#\"} 1
+taskscope_findings{kind=\"nobody-ran\",when=\"earlier\",place=\"\"} 1
+# TYPE taskscope_held_up_seconds_total counter
+# UNIT taskscope_held_up_seconds seconds
+# HELP taskscope_held_up_seconds_total How long others waited while tasks of a place ran long.
+taskscope_held_up_seconds_total{place=\"spawn at script:1:1 name accept\"} 0.000000000
+taskscope_held_up_seconds_total{place=\"spawn at script:2:1 name report-#\"} 0.599987999
+taskscope_held_up_seconds_total{place=\"spawn at script:3:1 name report-#\"} 0.200000000
+# TYPE taskscope_waited_seconds_total counter
+# UNIT taskscope_waited_seconds seconds
+# HELP taskscope_waited_seconds_total How long tasks waited for a poll, by what for.
+taskscope_waited_seconds_total{for=\"long-polls\"} 0.799987999
+taskscope_waited_seconds_total{for=\"queue\"} 0.000001000
+taskscope_waited_seconds_total{for=\"nobody\"} 0.500003001
 # EOF
 ";

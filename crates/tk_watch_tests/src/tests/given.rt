@@ -26,22 +26,37 @@ pub(super) const SECOND: &[u8] =
 pub(super) const THIRD: &[u8] =
     b"{\"dropped\":[0,0,0],\"gone_ops\":[],\"gone_resources\":[],\"gone_tasks\":[1099511627777],\"new_ops\":[],\"new_resources\":[],\"new_tasks\":[],\"now\":15,\"op_stats\":[],\"poll_counts\":[],\"resource_stats\":[],\"seq\":3,\"snapshot\":false,\"task_stats\":[],\"v\":2}\n";
 
+// A task is made 199 ms after the first line, and waits: a line at 200000006.
+pub(super) const LATER: &[u8] =
+    b"{\"dropped\":[0,0,0],\"gone_ops\":[],\"gone_resources\":[],\"gone_tasks\":[],\"new_ops\":[],\"new_resources\":[],\"new_tasks\":[{\"id\":1099511627778,\"kind\":\"spawn\",\"loc\":[\"script\",3,1],\"name\":\"b\"}],\"now\":200000006,\"op_stats\":[],\"poll_counts\":[],\"resource_stats\":[],\"seq\":2,\"snapshot\":false,\"task_stats\":[{\"busy\":0,\"clones\":0,\"created\":199000006,\"dropped\":null,\"drops\":0,\"first_poll\":null,\"handles\":1,\"id\":1099511627778,\"last_ended\":null,\"last_started\":null,\"last_wake\":null,\"polling\":false,\"polls\":0,\"sched\":0,\"scheduled\":true,\"self_wakes\":0,\"wakes\":0}],\"v\":2}\n";
+
 // The screens of these.
 pub(super) const FIRST_SCREEN: &str =
-    "now 6 ns  tasks 1: 0 polling, 0 scheduled, 0 idle, 1 closed  warnings 0
+    "now 6 ns  tasks 1: 0 polling, 0 scheduled, 0 idle, 1 closed  findings 0
+no finding now; who holds up others can't be seen: the lines span 0 ns, and it takes at least 100.0 ms
    TASK STATE          BUSY     SCHED   POLLS   WAKES SELF NAME                 KIND     LOCATION
 
 ";
 
 pub(super) const SECOND_SCREEN: &str =
-    "now 14 ns  tasks 1: 0 polling, 0 scheduled, 0 idle, 1 closed  warnings 0
+    "now 14 ns  tasks 1: 0 polling, 0 scheduled, 0 idle, 1 closed  findings 0
+no finding now; who holds up others can't be seen: the lines span 8 ns, and it takes at least 100.0 ms
    TASK STATE          BUSY     SCHED   POLLS   WAKES SELF NAME                 KIND     LOCATION
 
 ";
 
 pub(super) const THIRD_SCREEN: &str =
-    "now 15 ns  tasks 0: 0 polling, 0 scheduled, 0 idle, 0 closed  warnings 0
+    "now 15 ns  tasks 0: 0 polling, 0 scheduled, 0 idle, 0 closed  findings 0
+no finding now; who holds up others can't be seen: the lines span 9 ns, and it takes at least 100.0 ms
    TASK STATE          BUSY     SCHED   POLLS   WAKES SELF NAME                 KIND     LOCATION
+
+";
+
+pub(super) const LATER_SCREEN: &str =
+    "now 200.0 ms  tasks 2: 0 polling, 1 scheduled, 0 idle, 1 closed  findings 0
+no finding now or earlier: 1 task waits, the longest for 1.0 ms
+   TASK STATE          BUSY     SCHED   POLLS   WAKES SELF NAME                 KIND     LOCATION
+    1.2 scheduled      0 ns    1.0 ms       0       0    - b                    spawn    script:3:1
 
 ";
 

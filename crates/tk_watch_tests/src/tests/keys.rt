@@ -88,13 +88,10 @@ fn draws(alloc: Global, events: &[Comes], fault: &str, output: &str, taken: usiz
 }
 
 const ODD_BY_BUSY: &str = "sorted by busy  ? shows the keys
-now 1.0 s  tasks 2: 1 polling, 0 scheduled, 1 idle, 0 closed  warnings 3
-warning 1.1 self-wakes: 66% of its wakes are its own
-  let what it waits for wake it (main, script:1:1)
-warning 1.1 lost-waker: nobody is left who could wake it
-  keep a waker of it until the wake (main, script:1:1)
-warning 1.2 never-yielded: its first poll has run for 1.0 s
-  move work that blocks to a blocking task (resize, script:2:1)
+now 1.0 s  tasks 2: 1 polling, 0 scheduled, 1 idle, 0 closed  findings 3
+ 1 NOW     resize 1.2 has never yielded, for 1.0 s (never-yielded, script:2:1)
+ 2 NOW     main 1.1 can be woken by nobody, for 999.9 ms (lost-waker, script:1:1)
+ 3 NOW     main 1.1 wakes itself, 66% of its wakes (self-wakes, script:1:1)
    TASK STATE          BUSY     SCHED   POLLS   WAKES SELF NAME                 KIND     LOCATION
 >    1.2 polling       1.0 s     50 ns       1       0    - resize               spawn    script:2:1
     1.1 idle          20 ns    100 ns       2       3  66% main                 spawn    script:1:1
@@ -102,13 +99,10 @@ warning 1.2 never-yielded: its first poll has run for 1.0 s
 ";
 
 const ODD_BY_POLLS: &str = "sorted by polls  ? shows the keys
-now 1.0 s  tasks 2: 1 polling, 0 scheduled, 1 idle, 0 closed  warnings 3
-warning 1.1 self-wakes: 66% of its wakes are its own
-  let what it waits for wake it (main, script:1:1)
-warning 1.1 lost-waker: nobody is left who could wake it
-  keep a waker of it until the wake (main, script:1:1)
-warning 1.2 never-yielded: its first poll has run for 1.0 s
-  move work that blocks to a blocking task (resize, script:2:1)
+now 1.0 s  tasks 2: 1 polling, 0 scheduled, 1 idle, 0 closed  findings 3
+ 1 NOW     resize 1.2 has never yielded, for 1.0 s (never-yielded, script:2:1)
+ 2 NOW     main 1.1 can be woken by nobody, for 999.9 ms (lost-waker, script:1:1)
+ 3 NOW     main 1.1 wakes itself, 66% of its wakes (self-wakes, script:1:1)
    TASK STATE          BUSY     SCHED   POLLS   WAKES SELF NAME                 KIND     LOCATION
     1.1 idle          20 ns    100 ns       2       3  66% main                 spawn    script:1:1
 >    1.2 polling       1.0 s     50 ns       1       0    - resize               spawn    script:2:1
@@ -149,10 +143,10 @@ drops        1
 handles      2
 created      1.0 s ago
 closed       -
-warning 1.1 self-wakes: 66% of its wakes are its own
-  let what it waits for wake it (main, script:1:1)
-warning 1.1 lost-waker: nobody is left who could wake it
-  keep a waker of it until the wake (main, script:1:1)
+ 2 NOW     main 1.1 can be woken by nobody, for 999.9 ms (lost-waker, script:1:1)
+  keep a waker of it until the wake
+ 3 NOW     main 1.1 wakes itself, 66% of its wakes (self-wakes, script:1:1)
+  let an event or a timer wake it
 
 ";
 
@@ -172,7 +166,8 @@ fn enter_shows_tables_again(rt: HostRuntime) {
 }
 
 const SEMAPHORE_SCREEN: &str = "sorted by busy  ? shows the keys
-now 50 ns  tasks 1: 0 polling, 1 scheduled, 0 idle, 0 closed  warnings 0
+now 50 ns  tasks 1: 0 polling, 1 scheduled, 0 idle, 0 closed  findings 0
+no finding now; who holds up others can't be seen: the lines span 0 ns, and it takes at least 100.0 ms
    TASK STATE          BUSY     SCHED   POLLS   WAKES SELF NAME                 KIND     LOCATION
 >    1.1 scheduled      0 ns     40 ns       0       0    - worker               spawn    script:1:1
 RESOURCE    READY  PENDING TYPE (KIND) LOCATION
@@ -212,15 +207,18 @@ fn a_key_shows_the_keys(rt: HostRuntime) {
 
 // The screens of the first line, of the same in a pause, and of the second line.
 const PAUSED: &str = "sorted by busy  ? shows the keys
-now 6 ns  tasks 1: 0 polling, 0 scheduled, 0 idle, 1 closed  warnings 0
+now 6 ns  tasks 1: 0 polling, 0 scheduled, 0 idle, 1 closed  findings 0
+no finding now; who holds up others can't be seen: the lines span 0 ns, and it takes at least 100.0 ms
    TASK STATE          BUSY     SCHED   POLLS   WAKES SELF NAME                 KIND     LOCATION
 
 sorted by busy  paused  ? shows the keys
-now 6 ns  tasks 1: 0 polling, 0 scheduled, 0 idle, 1 closed  warnings 0
+now 6 ns  tasks 1: 0 polling, 0 scheduled, 0 idle, 1 closed  findings 0
+no finding now; who holds up others can't be seen: the lines span 0 ns, and it takes at least 100.0 ms
    TASK STATE          BUSY     SCHED   POLLS   WAKES SELF NAME                 KIND     LOCATION
 
 sorted by busy  ? shows the keys
-now 14 ns  tasks 1: 0 polling, 0 scheduled, 0 idle, 1 closed  warnings 0
+now 14 ns  tasks 1: 0 polling, 0 scheduled, 0 idle, 1 closed  findings 0
+no finding now; who holds up others can't be seen: the lines span 8 ns, and it takes at least 100.0 ms
    TASK STATE          BUSY     SCHED   POLLS   WAKES SELF NAME                 KIND     LOCATION
 
 ";
@@ -246,7 +244,8 @@ fn nothing_is_taken_after_a_key_that_quits(rt: HostRuntime) {
 }
 
 const FIRST_SCREEN: &str = "sorted by busy  ? shows the keys
-now 6 ns  tasks 1: 0 polling, 0 scheduled, 0 idle, 1 closed  warnings 0
+now 6 ns  tasks 1: 0 polling, 0 scheduled, 0 idle, 1 closed  findings 0
+no finding now; who holds up others can't be seen: the lines span 0 ns, and it takes at least 100.0 ms
    TASK STATE          BUSY     SCHED   POLLS   WAKES SELF NAME                 KIND     LOCATION
 
 ";

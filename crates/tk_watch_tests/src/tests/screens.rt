@@ -5,13 +5,10 @@ use std::alloc::Global;
 use tk_frame::Column;
 use tk_screen::{Canvas, Size};
 
-const ODD_SCREEN: &str = "now 1.0 s  tasks 2: 1 polling, 0 scheduled, 1 idle, 0 closed  warnings 3
-warning 1.1 self-wakes: 66% of its wakes are its own
-  let what it waits for wake it (main, script:1:1)
-warning 1.1 lost-waker: nobody is left who could wake it
-  keep a waker of it until the wake (main, script:1:1)
-warning 1.2 never-yielded: its first poll has run for 1.0 s
-  move work that blocks to a blocking task (resize, script:2:1)
+const ODD_SCREEN: &str = "now 1.0 s  tasks 2: 1 polling, 0 scheduled, 1 idle, 0 closed  findings 3
+ 1 NOW     resize 1.2 has never yielded, for 1.0 s (never-yielded, script:2:1)
+ 2 NOW     main 1.1 can be woken by nobody, for 999.9 ms (lost-waker, script:1:1)
+ 3 NOW     main 1.1 wakes itself, 66% of its wakes (self-wakes, script:1:1)
    TASK STATE          BUSY     SCHED   POLLS   WAKES SELF NAME                 KIND     LOCATION
     1.2 polling       1.0 s     50 ns       1       0    - resize               spawn    script:2:1
     1.1 idle          20 ns    100 ns       2       3  66% main                 spawn    script:1:1
@@ -32,7 +29,8 @@ const WITH_AIN: &str =
 ";
 
 const SEMAPHORE_SCREEN: &str =
-    "now 50 ns  tasks 1: 0 polling, 1 scheduled, 0 idle, 0 closed  warnings 0
+    "now 50 ns  tasks 1: 0 polling, 1 scheduled, 0 idle, 0 closed  findings 0
+no finding now; who holds up others can't be seen: the lines span 0 ns, and it takes at least 100.0 ms
    TASK STATE          BUSY     SCHED   POLLS   WAKES SELF NAME                 KIND     LOCATION
     1.1 scheduled      0 ns     40 ns       0       0    - worker               spawn    script:1:1
 RESOURCE    READY  PENDING TYPE (KIND) LOCATION
@@ -44,10 +42,10 @@ OPERATION STATE      POLLS      BUSY     TASK RESOURCE SOURCE
 
 // The first screen on a terminal of 20 columns and 4 lines.
 const NARROW_SCREEN: &str =
-    "\x1b[H\x1b[Know 1.0 s  tasks 2: \n\x1b[K\x1b[31mwarning 1.1 self-wak\x1b[0m\n\x1b[K  let what it waits \n\x1b[J";
+    "\x1b[H\x1b[Know 1.0 s  tasks 2: \n\x1b[K\x1b[31m 1 NOW     resize 1.\x1b[0m\n\x1b[K.. and 2 more\n\x1b[J";
 
 // The first screen on such a terminal without colors, and lower by a line.
-const DULL_SCREEN: &str = "\x1b[H\x1b[Know 1.0 s  tasks 2: \n\x1b[Kwarning 1.1 self-wak\n\x1b[J";
+const DULL_SCREEN: &str = "\x1b[H\x1b[Know 1.0 s  tasks 2: \n\x1b[K 1 NOW     resize 1.\n\x1b[J";
 
 fn written(alloc: Global, stream: &'static [u8], asked: Asked) -> Vec<u8> {
     let mut reader = stream;

@@ -1,7 +1,8 @@
 //! When screens are drawn.
 
 use super::given::{
-    FIRST, FIRST_SCREEN, Few, PLAIN, SECOND, SECOND_SCREEN, THIRD, THIRD_SCREEN, comes_to,
+    FIRST, FIRST_SCREEN, Few, LATER, LATER_SCREEN, PLAIN, SECOND, SECOND_SCREEN, THIRD,
+    THIRD_SCREEN, comes_to,
 };
 use std::alloc::Global;
 use std::io;
@@ -84,6 +85,13 @@ fn a_stream_that_is_followed_goes_on_at_its_end(rt: HostRuntime) {
 }
 
 #[test]
+fn where_there_is_no_finding_the_screen_says_how_many_wait(rt: HostRuntime) {
+    let lines = [FIRST, LATER, b"", b"", b""];
+    let screens = [FIRST_SCREEN, LATER_SCREEN];
+    assert!(rt; draws(rt.alloc(), lines, 9, 0, "", 0, &screens));
+}
+
+#[test]
 fn at_a_fault_what_stands_is_drawn(rt: HostRuntime) {
     let fault = "stream after 1 lines: Gap expected 2 found 3";
     let lines = [FIRST, THIRD, b"", b"", b""];
@@ -103,7 +111,8 @@ fn at_a_fault_what_stands_is_drawn(rt: HostRuntime) {
 #[test]
 fn an_end_before_the_first_line_is_drawn(rt: HostRuntime) {
     let screens = [
-        "now 0 ns  tasks 0: 0 polling, 0 scheduled, 0 idle, 0 closed  warnings 0
+        "now 0 ns  tasks 0: 0 polling, 0 scheduled, 0 idle, 0 closed  findings 0
+no line came: nothing is known of any task
    TASK STATE          BUSY     SCHED   POLLS   WAKES SELF NAME                 KIND     LOCATION
 
 ",

@@ -12,10 +12,11 @@ pub returns : goal.returns
 returns c =
     let tables = c.args.tables.now in
     let shown : c.items.result.now ≡ top_tasks c.args.query.now tables = c.items.ensures ∙ c.in_ok-states.ensures.top in
-    let head : Puts c.args.lines.now.items c.push_head.new.lines.items (plain (head_text tables (states_of tables.tasks) (length c.args.warnings.now)) ∷ []) =
-    subst (λ s. Puts c.args.lines.now.items c.push_head.new.lines.items (plain (head_text tables s (length c.args.warnings.now)) ∷ [])) c.in_ok-states.ensures.states c.in_ok-push_head.ensures in
-    let columns : Puts c.push_warnings.new.lines.items c.push_heading.new.lines.items (heading task_heading ∷ []) =
-    subst (λ t. Puts c.push_warnings.new.lines.items c.push_heading.new.lines.items (heading t ∷ [])) c.task_heading.ensures c.in_ok-push_heading.ensures in
+    let head : Puts c.args.lines.now.items c.push_head.new.lines.items (plain (head_text tables (states_of tables.tasks) (length c.args.odd.now.findings)) ∷ []) =
+    subst (λ s. Puts c.args.lines.now.items c.push_head.new.lines.items (plain (head_text tables s (length c.args.odd.now.findings)) ∷ [])) c.in_ok-states.ensures.states
+    (subst (λ n. Puts c.args.lines.now.items c.push_head.new.lines.items (plain (head_text tables c.in_ok-states.states n) ∷ [])) c.count.ensures c.in_ok-push_head.ensures) in
+    let columns : Puts c.push_findings.new.lines.items c.push_heading.new.lines.items (heading task_heading ∷ []) =
+    subst (λ t. Puts c.push_findings.new.lines.items c.push_heading.new.lines.items (heading t ∷ [])) c.task_heading.ensures c.in_ok-push_heading.ensures in
     let tasks : Puts c.push_heading.new.lines.items c.push_tasks.new.lines.items (flat_map (task_at tables) (top_tasks c.args.query.now tables)) =
     subst (λ xs. Puts c.push_heading.new.lines.items c.push_tasks.new.lines.items (flat_map (task_at tables) xs)) shown c.in_ok-push_tasks.ensures in
-    both head (both c.in_ok-push_warnings.ensures (both (both columns tasks) c.in_ok-push_items.ensures))
+    both head (both c.in_ok-push_findings.ensures (both (both columns tasks) c.in_ok-push_items.ensures))

@@ -1,26 +1,17 @@
-use Rattle.std.proofs.Common.{Ok, arith, subst}
-use Rattle.std.proofs.lemmas.Result.{err_from_is_err_and}
-use Rattle.tk_metrics.specs.Kept.{Steps}
-use Rattle.tk_metrics.proofs.KeepLemmas.{none_put, starts}
+use Rattle.std.proofs.Common.{[], subst, sym}
+use Rattle.tk_metrics.specs.Following.{Sees}
+use Rattle.tk_metrics.specs.Keeping.{Keeps}
+use Rattle.tk_metrics.specs.Streams.{usual}
+use Rattle.tk_metrics.proofs.KeepLemmas.{none_put}
 use Rattle.tk_metrics.proofs.keeping.keep_by.Goals as goal
 
-pub loop-init : goal.loop-init
-loop-init g c = record {
-  kept = starts c.args.path.now c.args.by c.args.lints.now (g.R.Read.remaining c.args.reader.now) (g.P.Place.texts c.args.place.now) c.args.client.now _ c.requires c.in-Ok.ensures;
-  few = omega arith;
-}
+pub keep_seen-requires-clause-seen : goal.keep_seen-requires-clause-seen
+keep_seen-requires-clause-seen g c = subst (λ b. Sees b (usual c.args.lints.now) [] c.in-Ok.seen) (sym c.in-Ok.ensures.0.notes.told) c.in-Ok.ensures
 
-pub returns-in_default : goal.returns-in_default
-returns-in_default g c = none_put c.args.path.now c.args.by c.args.lints.now (g.R.Read.remaining c.args.reader.now) (g.P.Place.texts c.args.place.now)
+pub returns-in-Ok : goal.returns-in-Ok
+returns-in-Ok g c =
+    subst (λ b. Keeps c.args.path.now b c.args.lints.now (g.R.Read.remaining c.args.reader.now) (g.R.Read.remaining c.keep_seen.new.reader) c.keep_seen.result
+    (g.P.Place.texts c.args.place.now) (g.P.Place.texts c.keep_seen.new.place)) c.in-Ok.ensures.0.notes.told c.keep_seen.ensures
 
-pub returns-in-None : goal.returns-in-None
-returns-in-None g c =
-    let given = g.R.Read.remaining c.args.reader.now in
-    let old = g.P.Place.texts c.args.place.now in
-    subst (λ next. Steps c.args.path.now c.args.by c.args.lints.now given (g.R.Read.remaining c.step.new.reader) (Ok next) c.step.new.client c.step.new.leavers old (g.P.Place.texts c.step.new.place)) c.in-None.is
-    (c.in_ok-next.ensures.steps c.args.by given old c.loop.invariant.kept)
-
-pub returns-in_err-next : goal.returns-in_err-next
-returns-in_err-next g c =
-    let p = err_from_is_err_and c.from_residual.result c.from_residual.ensures.1 in
-    rw (p.1, p.2) (c.in_err-next.ensures.steps c.args.by (g.R.Read.remaining c.args.reader.now) (g.P.Place.texts c.args.place.now) c.loop.invariant.kept)
+pub returns-in-Err : goal.returns-in-Err
+returns-in-Err g c = none_put c.args.path.now c.args.by c.args.lints.now (g.R.Read.remaining c.args.reader.now) (g.P.Place.texts c.args.place.now)

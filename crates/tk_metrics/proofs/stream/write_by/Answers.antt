@@ -1,42 +1,12 @@
-use Rattle.std.proofs.Common.{◌≡◌, [], subst, sym, ◌∙◌}
-use Rattle.std.proofs.lemmas.Result.{err_from_is_err_and}
-use Rattle.tk_reading.specs.Reads.{SawAll}
-use Rattle.tk_reading.specs.Shown.{shown_of}
-use Rattle.tk_metrics.specs.Following.{Follows}
-use Rattle.tk_metrics.specs.Streams.{stream_text}
-use Rattle.tk_metrics.proofs.StreamLemmas.{measures_all, measures_front, measures_none}
+use Rattle.std.proofs.Common.{[], subst, sym}
+use Rattle.tk_metrics.specs.Following.{Sees}
+use Rattle.tk_metrics.specs.Streams.{Measures, usual}
 use Rattle.tk_metrics.proofs.stream.write_by.Goals as goal
 
-pub read_stream-requires-clause-observer : goal.read_stream-requires-clause-observer
-read_stream-requires-clause-observer g c = subst (λ b. Follows b [] c.in-Ok.leavers) (sym c.in-Ok.ensures.notes.told) c.in-Ok.ensures
+pub write_seen-requires-clause-seen : goal.write_seen-requires-clause-seen
+write_seen-requires-clause-seen g c = subst (λ b. Sees b (usual c.args.lints.now) [] c.in-Ok.seen) (sym c.in-Ok.ensures.0.notes.told) c.in-Ok.ensures
 
-pub returns-in_err-read_stream-clause-measures : goal.returns-in_err-read_stream-clause-measures
-returns-in_err-read_stream-clause-measures g c =
-    let p = err_from_is_err_and c.from_residual.result c.from_residual.ensures.1 in
-    rw (p.1, p.2) (measures_none (Follows c.in-Ok.leavers.by) c.args.by c.args.lints.now _ _ _ _ c.read_stream.new.client c.read_stream.new.observer c.in_err-read_stream.field-0.0
-    c.in_err-read_stream.ensures)
-
-pub returns-in-Ok-send-clause-measures : goal.returns-in-Ok-send-clause-measures
-returns-in-Ok-send-clause-measures g c =
-    let by = c.args.by in
-    let lints = c.args.lints.now in
-    let client = c.read_stream.new.client in
-    let leavers = c.read_stream.new.observer in
-    let given = g.R.Read.remaining c.args.reader.now in
-    let told : SawAll (Follows by) given client leavers = subst (λ b. SawAll (Follows b) given client leavers) c.in-Ok.ensures.notes.told c.in_ok-read_stream.ensures in
-    let is : c.as_slice.result.now ≡ stream_text by lints client.start.tables told.bytes =
-    c.as_slice.ensures.value ∙ c.in-Ok-numbers_now.ensures by (shown_of told.bytes) told.seen in
-    measures_all by lints given (g.R.Read.remaining c.read_stream.new.reader) (g.W.Write.contents c.args.writer.now) (g.W.Write.contents c.send.new.writer) client leavers c.as_slice.result.now told is c.in-Ok-send.ensures
-
-pub returns-clause-measures : goal.returns-clause-measures
-returns-clause-measures g c =
-    let by = c.args.by in
-    let lints = c.args.lints.now in
-    let client = c.read_stream.new.client in
-    let leavers = c.read_stream.new.observer in
-    let given = g.R.Read.remaining c.args.reader.now in
-    let told : SawAll (Follows by) given client leavers = subst (λ b. SawAll (Follows b) given client leavers) c.in-Ok.ensures.notes.told c.in_ok-read_stream.ensures in
-    let is : c.as_slice.result.now ≡ stream_text by lints client.start.tables told.bytes =
-    c.as_slice.ensures.value ∙ c.in-Ok-numbers_now.ensures by (shown_of told.bytes) told.seen in
-    let sent = c.in-Err.ensures in
-    measures_front by lints given (g.R.Read.remaining c.read_stream.new.reader) (g.W.Write.contents c.args.writer.now) (g.W.Write.contents c.send.new.writer) client leavers c.as_slice.result.now told is sent.0 sent.1 sent.2
+pub returns-in-Ok-clause-measures : goal.returns-in-Ok-clause-measures
+returns-in-Ok-clause-measures g c =
+    subst (λ b. Measures b c.args.lints.now (g.R.Read.remaining c.args.reader.now) (g.R.Read.remaining c.write_seen.new.reader) c.write_seen.result
+    (g.W.Write.contents c.args.writer.now) (g.W.Write.contents c.write_seen.new.writer)) c.in-Ok.ensures.0.notes.told c.write_seen.ensures.measures

@@ -7,5 +7,4 @@ returns c =
     (both c.in_ok-put_resources.ensures
     (both c.in_ok-put_warnings.ensures
     (both c.in_ok-put_dropped.ensures
-    (both c.in_ok-put_lines.ensures
-    c.in_ok-put.ensures)))))
+    c.in_ok-put_lines.ensures))))

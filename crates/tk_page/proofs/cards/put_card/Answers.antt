@@ -3,7 +3,10 @@ use Rattle.tk_page.proofs.cards.put_card.Goals as goal
 
 pub returns : goal.returns
 returns c =
-    then c.in_ok-start_card.ensures
-    (then c.in_ok-put_link.ensures
-    (then c.in_ok-put_one.ensures
-    (then c.in_ok-put_facts.ensures c.in_ok-end_card.ensures)))
+    rw (c.task_of-task.ensures, c.as_slice.ensures.value) at
+    (then c.in_ok-start_card.ensures
+    (then c.in_ok-put_who.ensures
+    (then c.in_ok-put_said.ensures
+    (then c.in_ok-put_facts.ensures
+    (then c.in_ok-put_others.ensures
+    (then c.in_ok-put_made.ensures c.in_ok-end_card.ensures))))))

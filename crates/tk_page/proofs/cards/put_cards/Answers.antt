@@ -1,17 +1,17 @@
 use Rattle.std.proofs.Common.{arith}
 use Rattle.tk_page.specs.Cards.{card}
 use Rattle.tk_paper.proofs.PutLemmas.{nothing}
-use Rattle.tk_page.proofs.LoopLemmas.{all_mapped, item_at, next_part}
+use Rattle.tk_page.proofs.LoopLemmas.{all_parts, item_at, next_part}
 use Rattle.tk_page.proofs.cards.put_cards.Goals as goal
 
-pub loop-task-init : goal.loop-task-init
-loop-task-init c = nothing c.args.paper.now
+pub loop-found-init : goal.loop-found-init
+loop-found-init c = nothing c.args.paper.now
 
-pub loop-task-preserved : goal.loop-task-preserved
-loop-task-preserved c =
-    let xs = c.args.tasks.now in
-    let i = c.loop-task.task-index in
-    next_part (λ x. (card c.args.scale c.args.holder c.args.oddity) x.now) xs i c.task-item.result (item_at xs i c.task-item.result (omega arith) c.task-item.is) c.loop-task.invariant c.in_ok-put_card.ensures
+pub loop-found-preserved : goal.loop-found-preserved
+loop-found-preserved c =
+    let xs = c.args.findings.now in
+    let i = c.loop-found.found-index in
+    next_part (card c.args.scale c.args.long c.args.tables.now.tasks) xs i c.found-item.result (item_at xs i c.found-item.result (omega arith) c.found-item.is) c.loop-found.invariant c.in_ok-put_card.ensures
 
 pub returns : goal.returns
-returns c = all_mapped (λ x. x.now) (card c.args.scale c.args.holder c.args.oddity) c.args.tasks.now c.loop-task.task-index (omega arith) c.loop-task.invariant
+returns c = all_parts (card c.args.scale c.args.long c.args.tables.now.tasks) c.args.findings.now c.loop-found.found-index (omega arith) c.loop-found.invariant

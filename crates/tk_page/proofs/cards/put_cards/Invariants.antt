@@ -5,5 +5,5 @@ use Rattle.tk_page.specs.Cards.{card}
 use Rattle.tk_page.proofs.cards.put_cards.Given as goal
 
 -- the cards so far
-abbrev pub invariant-loop-task : goal.invariant-loop-task
-invariant-loop-task l = Writes l.initial.paper l.paper (flat_map (λ t. card l.scale l.holder l.oddity t.now) (take l.task-index l.tasks))
+abbrev pub invariant-loop-found : goal.invariant-loop-found
+invariant-loop-found l = Writes l.initial.paper l.paper (flat_map (card l.scale l.long l.tables.tasks) (take l.found-index l.findings))

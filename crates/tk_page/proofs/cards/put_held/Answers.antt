@@ -1,4 +1,5 @@
+use Rattle.tk_paper.proofs.PutLemmas.{then}
 use Rattle.tk_page.proofs.cards.put_held.Goals as goal
 
 pub returns : goal.returns
-returns c = rw (c.since.ensures, c.since-2.ensures, c.share-ran.ensures.share, c.time.ensures) at c.put.ensures
+returns c = then c.in_ok-put_steps.ensures (then c.in_ok-put_timed.ensures (then c.in_ok-put_longest.ensures c.in_ok-put_alone.ensures))

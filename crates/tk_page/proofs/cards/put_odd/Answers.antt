@@ -2,5 +2,4 @@ use Rattle.tk_paper.proofs.PutLemmas.{then}
 use Rattle.tk_page.proofs.cards.put_odd.Goals as goal
 
 pub returns : goal.returns
-returns c =
-    then c.in_ok-start_section.ensures c.in_ok-put_what_is_odd.ensures
+returns c = then c.in_ok-start_section.ensures c.in_ok-put_what_is_odd.ensures

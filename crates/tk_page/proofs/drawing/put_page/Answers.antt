@@ -1,7 +1,14 @@
+use Rattle.tk_paper.proofs.PutLemmas.{then}
 use Rattle.tk_page.proofs.drawing.put_page.Goals as goal
 
 pub returns : goal.returns
-returns c = record {
-  sections = rw (c.start_of.ensures, c.first.ensures, c.now-now.ensures, c.self_wake_percent.ensures.value, c.never_yielded_ns.ensures, c.id_of.ensures, c.in_ok-holder.ensures) at
-      c.in_ok-put_sections.ensures;
-}
+returns c =
+    let t = c.in_ok-put_tasks.ensures in
+    record {
+      ranks = t.ranks;
+      ranked = t.ranked;
+      height = t.height;
+      most = t.most;
+      wrote = rw (c.watched.ensures, c.lines-lines.ensures, c.gone.ensures) at
+          (then c.in_ok-put_banner.ensures (then c.in_ok-put_header.ensures (then c.in_ok-put.ensures (then c.in_ok-put_odd.ensures (then t.wrote (then c.in_ok-put_resources.ensures c.in_ok-put-2.ensures))))));
+    }

@@ -1,14 +1,15 @@
 use Rattle.std.proofs.lemmas.Result.{err_from_is_err_and}
+use Rattle.tk_watch.specs.Odd.{seen_in}
 use Rattle.tk_watch.proofs.WatchLemmas.{draws_more, draws_not}
 use Rattle.tk_watch.proofs.watching.draw_new.Goals as goal
 
 pub returns-in_err-draw-clause-drew : goal.returns-in_err-draw-clause-drew
 returns-in_err-draw-clause-drew g c = λ given left old w.
     let p = err_from_is_err_and c.from_residual.result c.from_residual.ensures.1 in
-    rw (p.1, p.2) (draws_not c.args.screen.now given left old c.args.lines c.args.drawn c.args.client.now (g.W.Write.contents c.args.writer.now) w
-    c.in_err-draw.field-0.0 (g.W.Write.contents c.draw.new.writer) c.in_err-draw.ensures)
+    rw (p.1, p.2) (draws_not c.args.screen.now given left old c.args.lines c.args.drawn c.args.course.now (g.W.Write.contents c.args.writer.now) w
+    c.in_err-draw.field-0.0 (g.W.Write.contents c.draw.new.writer) (c.in_err-draw.ensures (seen_in w.bytes) w.seen))
 
 pub returns-clause-drew : goal.returns-clause-drew
 returns-clause-drew g c = λ given left old w.
-    draws_more c.args.screen.now given left old c.args.lines c.args.drawn c.args.client.now (g.W.Write.contents c.args.writer.now) w
-    (g.W.Write.contents c.draw.new.writer) c.in_ok-draw.ensures (c.is_new.ensures.new c.if-not-is_new.false)
+    draws_more c.args.screen.now given left old c.args.lines c.args.drawn c.args.course.now (g.W.Write.contents c.args.writer.now) w
+    (g.W.Write.contents c.draw.new.writer) (c.in_ok-draw.ensures (seen_in w.bytes) w.seen) (c.is_new.ensures.new c.if-not-is_new.false)

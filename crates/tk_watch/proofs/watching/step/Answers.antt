@@ -8,7 +8,7 @@ returns-in-Ok-eq0-clause-steps g c = λ given old w.
     let left = g.R.Read.remaining c.read.new.self in
     let read = reads_none _ _ c.in-Ok-eq0.field-0 c.read.new.buf c.in-Ok-eq0.field-0-test c.in-Ok-eq0.ensures.bytes.0 in
     c.at_end.ensures.steps given left old (c.in-Ok-eq0.ensures.bytes.1 c.in-Ok-eq0.field-0-test (search rules))
-    (keeps_on c.args.screen.now given _ old c.args.progress.lines c.args.progress.drawn c.args.client.now _ w left read)
+    (keeps_on c.args.screen.now given _ old c.args.progress.lines c.args.progress.drawn c.args.course.now _ w left read)
 
 pub returns-in-Ok-clause-steps : goal.returns-in-Ok-clause-steps
 returns-in-Ok-clause-steps g c = λ given old w.

@@ -1,0 +1,14 @@
+use Rattle.std.proofs.Common.{List, ◌+◌, subst, sym, arith}
+use Rattle.tk_screen.specs.Screens.{LineView}
+use Rattle.tk_screen.specs.Texts.{Puts}
+use Rattle.tk_screen.proofs.PutLemmas.{both}
+use Rattle.tk_frame.specs.Findings.{shown_line}
+use Rattle.tk_frame.proofs.FindingLemmas.{numbered_more}
+use Rattle.tk_frame.proofs.odd_lines.push_each.Goals as goal
+
+pub loop-i-preserved : goal.loop-i-preserved
+loop-i-preserved c =
+    let i = c.loop-i.i in
+    subst (λ (p : List LineView). Puts c.args.lines.now.items c.push_finding.new.lines.items p)
+    (sym (numbered_more (shown_line c.args.tables.now.tasks) 1 c.args.list.now i c.index-list-i.result (i + 1) c.loop-i-test.true c.index-list-i.is (omega arith)))
+    (both c.loop-i.invariant c.in_ok-push_finding.ensures)

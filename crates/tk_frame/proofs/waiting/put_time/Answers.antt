@@ -1,0 +1,7 @@
+use Rattle.tk_screen.proofs.PutLemmas.{both}
+use Rattle.tk_frame.proofs.waiting.put_time.Goals as goal
+
+pub returns : goal.returns
+returns c =
+    both c.in_ok-put_text.ensures
+    (c.in_ok-put_duration.ensures)

@@ -1,0 +1,65 @@
+//! What is told of what is odd.
+ghost use Rattle.std.specs.Prelude.{◌≡◌, length, map};
+ghost use Rattle.tk_odd.specs.Findings.{placed};
+
+use std::marker::Model;
+use tk_odd::Found;
+
+/// What is told of what is odd about a stream's tasks. Times are nanoseconds.
+#[derive(Drop)]
+pub struct Odd {
+    findings: Vec<Found>,
+    span: Option<u64>,
+    long: u64,
+}
+
+impl Model for Odd {
+    ghost use Rattle.std.specs.Prelude.{map};
+    ghost use Rattle.tk_odd.specs.Findings.{placed};
+    ghost use Rattle.tk_frame.specs.Findings.{OddView};
+
+    ghost Value = { OddView };
+
+    ghost view = { λ odd. record { findings = map placed odd.findings.items; span = odd.span; long = odd.long } };
+}
+
+impl Odd {
+    /// Findings, worst first; how long the time is from the first line to the last, where one came; and from when on a poll is a long one.
+    pub fn new(findings: Vec<Found>, span: Option<u64>, long: u64) -> Odd
+        ensures { result ≡ record { findings = map placed findings.items; span = span; long = long } }
+    {
+        Odd {
+            findings,
+            span,
+            long,
+        }
+    }
+
+    /// The findings, worst first.
+    pub fn findings(&self) -> &[Found]
+        ensures { map placed result.now ≡ self.now.findings }
+    {
+        self.findings.as_slice()
+    }
+
+    /// How many findings there are.
+    pub fn count(&self) -> usize
+        ensures { result ≡ length self.now.findings }
+    {
+        self.findings.len()
+    }
+
+    /// How long the time is from the first line to the last; `None` where no line came.
+    pub fn span(&self) -> Option<u64>
+        ensures { result ≡ self.now.span }
+    {
+        self.span
+    }
+
+    /// From when on a poll is a long one.
+    pub fn long(&self) -> u64
+        ensures { result ≡ self.now.long }
+    {
+        self.long
+    }
+}

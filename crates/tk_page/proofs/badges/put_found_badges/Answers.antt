@@ -1,0 +1,17 @@
+use Rattle.std.proofs.Common.{arith}
+use Rattle.tk_page.specs.Badges.{found_badge}
+use Rattle.tk_paper.proofs.PutLemmas.{nothing}
+use Rattle.tk_page.proofs.LoopLemmas.{all_parts, item_at, next_part}
+use Rattle.tk_page.proofs.badges.put_found_badges.Goals as goal
+
+pub loop-found-init : goal.loop-found-init
+loop-found-init c = nothing c.args.paper.now
+
+pub loop-found-preserved : goal.loop-found-preserved
+loop-found-preserved c =
+    let xs = c.args.findings.now in
+    let i = c.loop-found.found-index in
+    next_part (found_badge c.args.task.now) xs i c.found-item.result (item_at xs i c.found-item.result (omega arith) c.found-item.is) c.loop-found.invariant c.in_ok-put_found_badge.ensures
+
+pub returns : goal.returns
+returns c = all_parts (found_badge c.args.task.now) c.args.findings.now c.loop-found.found-index (omega arith) c.loop-found.invariant

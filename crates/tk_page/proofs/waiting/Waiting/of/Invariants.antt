@@ -1,0 +1,7 @@
+use Rattle.std.proofs.Common.{◌≡◌, take}
+use Rattle.tk_page.specs.Waiting as spec
+use Rattle.tk_page.proofs.waiting.Waiting.of.Given as goal
+
+-- those so far
+abbrev pub invariant-loop-place : goal.invariant-loop-place
+invariant-loop-place l = l.waiting ≡ spec.waiting_of l.tables.now (take l.place l.tables.tasks)

@@ -1,0 +1,37 @@
+-- What a screen tells of what is odd about a stream, as far as its lines came.
+use Rattle.std.specs.Prelude.{ℕ, ◌-◌, List, [], ◌∷◌, take, Option, Some, None}
+use Rattle.std.specs.Option.{option_map}
+use Rattle.tk_client.specs.Warnings.{LintsView}
+use Rattle.tk_frame.specs.Findings.{OddView}
+use Rattle.tk_odd.specs.declared.limits.Limits.{Limits}
+use Rattle.tk_odd.specs.Diagnosis.{standing_of}
+use Rattle.tk_odd.specs.Findings.{findings_of}
+use Rattle.tk_reading.specs.Fronts.{lines_in, tables_in}
+use Rattle.tk_reading.specs.Outcomes.{outcome_of}
+use Rattle.tk_reading.specs.Shown.{shown_of}
+use Rattle.tk_stream.specs.Tables.{TablesView}
+
+-- how much is too much: a poll of 100 milliseconds is a long one
+abbrev pub limits_of : LintsView → Limits
+limits_of lints = record { long = 100000000; lints = lints }
+
+-- the tables after each line of a stream's bytes that is applied: at a fault those before it
+abbrev pub seen_in : List ℕ → List TablesView
+seen_in bytes = take (lines_in (outcome_of bytes)) (shown_of bytes)
+
+-- the moment of the first line, where one came
+abbrev pub first_moment : List TablesView → Option ℕ
+first_moment [] = None
+first_moment (t ∷ ts) = Some t.now
+
+-- what is odd about tables to which these lines came
+abbrev pub odd_after : LintsView → List TablesView → TablesView → OddView
+odd_after lints shown tables = record {
+  findings = findings_of (limits_of lints) (standing_of (limits_of lints) shown) tables;
+  span = option_map (λ from. tables.now - from) (first_moment shown);
+  long = (limits_of lints).long;
+}
+
+-- what is odd about what a stream's bytes come to
+abbrev pub odd_in : LintsView → List ℕ → OddView
+odd_in lints bytes = odd_after lints (seen_in bytes) (tables_in (outcome_of bytes))

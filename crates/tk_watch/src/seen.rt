@@ -1,0 +1,122 @@
+//! What a watch keeps of the lines that came.
+ghost use Rattle.std.specs.Prelude.{◌≡◌, [], IfOk, List};
+ghost use Rattle.tk_client.specs.Warnings.{LintsView};
+ghost use Rattle.tk_reading.specs.Taken.{first};
+ghost use Rattle.tk_stream.specs.Tables.{TablesView};
+ghost use Rattle.tk_watch.specs.Course as spec;
+ghost use Rattle.tk_watch.specs.Odd.{odd_after};
+
+use std::alloc::{AllocError, Global};
+use tk_client::{Client, Lints};
+use tk_frame::Odd;
+use tk_odd::{Diagnosis, Limits};
+use tk_reading::{MAX_LINE, Observes};
+use tk_stream::Tables;
+
+// How long a poll is that is a long one, in nanoseconds: 100 ms.
+const LONG_POLL: u64 = 100_000_000;
+
+/// What was seen of the lines of a stream.
+#[derive(Drop)]
+pub(crate) struct Seen {
+    // The moment of the first line, where one came.
+    first: Option<u64>,
+    diagnosis: Diagnosis,
+}
+
+impl Seen {
+    /// Of no lines yet, by these lints.
+    pub fn new(alloc: Global, lints: Lints) -> Result<Seen, AllocError>
+        ensures { IfOk result (λ seen. spec.Sees lints [] seen) }
+    {
+        let limits = Limits {
+            long: LONG_POLL,
+            lints,
+        };
+        let diagnosis = Diagnosis::new(alloc, limits)?;
+        Ok(Seen {
+            first: None,
+            diagnosis,
+        })
+    }
+
+    // How long the time is from the first line to a moment.
+    fn span_to(&self, now: u64) -> Option<u64>
+        ensures { result ≡ spec.span_to now self.now.first }
+    {
+        match self.first {
+            Some(from) => Some(now.saturating_sub(from)),
+            None => None,
+        }
+    }
+
+    /// What is odd about the tables of the last line.
+    pub fn odd(&self, alloc: Global, tables: &Tables) -> Result<Odd, AllocError>
+        ensures { (lints : LintsView) (shown : List TablesView) → spec.Sees lints shown self.now
+            → IfOk result (λ odd. odd ≡ odd_after lints shown tables.now) }
+    {
+        let span = self.span_to(tables.now());
+        match self.diagnosis.findings(alloc, tables) {
+            Ok(findings) => Ok(Odd::new(findings, span, LONG_POLL)),
+            Err(error) => Err(error),
+        }
+    }
+
+    // Keeps the moment of the first line.
+    fn mark(&mut self, now: u64)
+        ensures first { self.new.first ≡ spec.first_or self.old.first now }
+        ensures diagnosis { self.new.diagnosis ≡ self.old.diagnosis }
+    {
+        if self.first.is_none() {
+            self.first = Some(now);
+        }
+    }
+}
+
+impl Observes for Seen {
+    ghost use Rattle.tk_watch.specs.Course.{Sees};
+
+    ghost saw = { λ from shown seen. Sees from.diagnosis.limits.lints shown seen };
+
+    fn line(&mut self, tables: &Tables) -> Result<(), AllocError> {
+        self.mark(tables.now());
+        self.diagnosis.note(tables)
+    }
+}
+
+/// A client of a stream, and what was seen of its lines.
+#[derive(Drop)]
+pub(crate) struct Course {
+    pub client: Client,
+    pub seen: Seen,
+}
+
+impl Course {
+    /// Of no bytes yet, by these lints.
+    pub fn new(alloc: Global, lints: Lints) -> Result<Course, AllocError>
+        ensures { IfOk result (λ course. spec.IsNew lints course) }
+    {
+        let Ok(client) = Client::new(alloc, MAX_LINE) else {
+            return Err(AllocError);
+        };
+        match Seen::new(alloc, lints) {
+            Ok(seen) => Ok(Course { client, seen }),
+            Err(error) => Err(error),
+        }
+    }
+
+    /// The tables of its last line.
+    pub fn tables(&self) -> &Tables
+        ensures { result.now ≡ self.now.client.start.tables }
+    {
+        self.client.tables()
+    }
+
+    /// What is odd about them.
+    pub fn odd(&self, alloc: Global) -> Result<Odd, AllocError>
+        ensures { (lints : LintsView) (shown : List TablesView) → spec.Sees lints shown self.now.seen
+            → IfOk result (λ odd. odd ≡ odd_after lints shown self.now.client.start.tables) }
+    {
+        self.seen.odd(alloc, self.client.tables())
+    }
+}
