@@ -1,19 +1,13 @@
 -- The lines of what is odd: a line for each finding, worst first, its words and numbers, and at the end its place.
-use Rattle.std.specs.Prelude.{ℕ, ◌+◌, List, [], ◌∷◌, ◌++◌, codes, decimal, flat_map, Bool, true, false, Option, Some, None}
+use Rattle.std.specs.Prelude.{ℕ, ◌+◌, List, [], ◌∷◌, ◌++◌, codes, decimal, flat_map, Option, Some, None}
 use Rattle.tk_ids.specs.Ids.{id_text}
 use Rattle.tk_report.specs.Report.{line}
 use Rattle.tk_odd.specs.declared.finding.Finding.{Finding}
 use Rattle.tk_odd.specs.declared.finding.OddKind.{OddKind}
-use Rattle.tk_odd.specs.declared.finding.OddKind.TheVariants.{HoldsUp, StandsStill, LeftAlone, Overloaded, NeverYielded, LostWaker, PassedOver, NeverPolled, LongPoll, SelfWakes}
 use Rattle.tk_odd.specs.Findings.{Placed}
-use Rattle.tk_odd.specs.Words.{advice_of, name_of, shape_of}
+use Rattle.tk_odd.specs.Words.{advice_of, kinds, name_of, shape_of, when_word}
 use Rattle.tk_odd.specs.declared.words.Shape.{Shape}
 use Rattle.tk_odd.specs.declared.words.Shape.TheVariants.{Held, Alone, Stretch, Lasting, Longest, Share}
-
--- whether it holds at the last line
-abbrev pub when_word : Bool → List ℕ
-when_word true = codes "now"
-when_word false = codes "earlier"
 
 -- a number after its word
 abbrev pub pair : List ℕ → ℕ → List (List ℕ) → List (List ℕ)
@@ -50,10 +44,6 @@ abbrev pub finding_lines : List Placed → List ℕ
 finding_lines list = lines_from 1 list
 
 -- ---- what there is to find
-
--- each kind, in the order of the worst of each
-abbrev pub kinds : List OddKind
-kinds = HoldsUp ∷ StandsStill ∷ LeftAlone ∷ Overloaded ∷ LongPoll ∷ NeverYielded ∷ LostWaker ∷ PassedOver ∷ NeverPolled ∷ SelfWakes ∷ []
 
 -- the line of a kind, after two spaces: its name, and what to do
 abbrev pub kind_line : OddKind → List ℕ

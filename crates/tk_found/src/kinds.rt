@@ -1,25 +1,12 @@
 //! Which kinds of findings there are.
 ghost use Rattle.std.specs.Prelude.{◌≡◌, IfOk, OnOk, flat_map, string_bytes};
+ghost use Rattle.tk_odd.specs.Words.{kinds};
 ghost use Rattle.tk_report.specs.Pieces.{Puts};
 ghost use Rattle.tk_found.specs.Lines as spec;
 
 use std::alloc::{AllocError, Global};
 use std::fmt::Write;
-use tk_odd::OddKind;
-
-// In the order of the worst of each.
-const KINDS: [OddKind; 10] = [
-    OddKind::HoldsUp,
-    OddKind::StandsStill,
-    OddKind::LeftAlone,
-    OddKind::Overloaded,
-    OddKind::LongPoll,
-    OddKind::NeverYielded,
-    OddKind::LostWaker,
-    OddKind::PassedOver,
-    OddKind::NeverPolled,
-    OddKind::SelfWakes,
-];
+use tk_odd::{OddKind, kinds};
 
 fn put_kind(out: &mut String, kind: OddKind) -> Result<(), AllocError>
     ensures { OnOk result (Puts (string_bytes out.old) (string_bytes out.new) (spec.kind_line kind)) }
@@ -29,9 +16,9 @@ fn put_kind(out: &mut String, kind: OddKind) -> Result<(), AllocError>
 }
 
 fn put_kinds(out: &mut String) -> Result<(), AllocError>
-    ensures { OnOk result (Puts (string_bytes out.old) (string_bytes out.new) (flat_map spec.kind_line spec.kinds)) }
+    ensures { OnOk result (Puts (string_bytes out.old) (string_bytes out.new) (flat_map spec.kind_line kinds)) }
 {
-    for kind in &KINDS {
+    for kind in &kinds() {
         put_kind(out, *kind)?;
     }
     Ok(())

@@ -2,14 +2,14 @@
 ghost use Rattle.std.specs.Prelude.{◌≡◌, ◌∷◌, ◌++◌, [], codes, decimal, map, IfOk, OnOk, string_bytes};
 ghost use Rattle.tk_ids.specs.Ids.{id_text};
 ghost use Rattle.tk_odd.specs.Findings.{placed};
-ghost use Rattle.tk_odd.specs.Words.{name_of, shape_of};
+ghost use Rattle.tk_odd.specs.Words.{name_of, shape_of, when_word};
 ghost use Rattle.tk_report.specs.Pieces.{Puts, spaced};
 ghost use Rattle.tk_report.specs.Report.{rest_of_line};
 ghost use Rattle.tk_found.specs.Lines as spec;
 
 use std::alloc::{AllocError, Global};
 use tk_ids::TaskId;
-use tk_odd::{Finding, Found, Shape};
+use tk_odd::{Finding, Found, Shape, when_word};
 
 fn put(out: &mut Vec<u8>, text: &[u8]) -> Result<(), AllocError>
     ensures { OnOk result (Puts out.old.items out.new.items text.now) }
@@ -17,16 +17,10 @@ fn put(out: &mut Vec<u8>, text: &[u8]) -> Result<(), AllocError>
     out.extend_from_slice(text)
 }
 
-fn when_word(is_now: bool) -> &'static str
-    ensures { result.now ≡ spec.when_word is_now }
-{
-    if is_now { "now" } else { "earlier" }
-}
-
 // What stands before the numbers of a finding.
 fn head_of(alloc: Global, number: u64, finding: &Finding) -> Result<String, AllocError>
     ensures { IfOk result (λ text. string_bytes text
-        ≡ codes "finding" ++ spaced (decimal number ∷ name_of finding.now.kind ∷ spec.when_word finding.now.is_now ∷ [])) }
+        ≡ codes "finding" ++ spaced (decimal number ∷ name_of finding.now.kind ∷ when_word finding.now.is_now ∷ [])) }
 {
     let name = finding.kind.name();
     let when = when_word(finding.is_now);

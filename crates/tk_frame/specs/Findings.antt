@@ -20,8 +20,9 @@ use Rattle.tk_screen.specs.declared.canvas.Canvas.TheVariants.{Plain, Terminal}
 use Rattle.tk_stream.specs.Tables.{TablesView, task_with}
 use Rattle.tk_stream.specs.declared.tables.task.Task.{Task}
 use Rattle.tk_frame.specs.Lines.{cell, location_text, plain, word}
-use Rattle.tk_frame.specs.Waiting.{waiting_of, waiting_text}
-use Rattle.tk_frame.specs.declared.waiting.Waiting.{Waiting}
+use Rattle.tk_frame.specs.Waiting.{waiting_text}
+use Rattle.tk_odd.specs.Waiting.{waiting_of}
+use Rattle.tk_odd.specs.declared.waiting.Waiting.{Waiting}
 
 -- what is told of what is odd: the findings, worst first; how long the time is from the first line to the last, where one came; and from when on a poll
 -- is a long one

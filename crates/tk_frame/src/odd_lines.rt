@@ -7,7 +7,7 @@ ghost use Rattle.tk_frame.specs.Findings as spec;
 use crate::cells::put_text;
 use crate::findings::{advice_line, finding_line};
 use crate::odd::Odd;
-use crate::waiting::{Waiting, put_waiting};
+use crate::waiting::put_waiting;
 use std::alloc::{AllocError, Global};
 use tk_odd::{Found, place_of};
 use tk_screen::{Canvas, Line, Style, put_duration};

@@ -1,62 +1,13 @@
-//! Which tasks wait.
-ghost use Rattle.std.specs.Prelude.{◌≡◌, OnOk, slice_get, string_bytes};
-ghost use Rattle.std.specs.Option.{option_map_or};
+//! How many tasks wait.
+ghost use Rattle.std.specs.Prelude.{◌≡◌, OnOk, string_bytes};
 ghost use Rattle.tk_screen.specs.Texts.{Puts};
 ghost use Rattle.tk_frame.specs.Waiting as spec;
 
 use crate::cells::put_text;
 use std::alloc::AllocError;
 use std::fmt::Write;
-use tk_client::is_spawn;
+use tk_odd::Waiting;
 use tk_screen::put_duration;
-use tk_stream::{Tables, Task};
-
-/// How many tasks wait for a poll, and for how long the longest of them does, in nanoseconds.
-#[derive(Clone, Copy, Debug, PartialEq, Eq)]
-pub(crate) struct Waiting {
-    pub count: u64,
-    pub longest: u64,
-}
-
-impl Waiting {
-    // With a task more.
-    fn with(self, now: u64, task: &Task) -> Waiting
-        ensures { result ≡ spec.with_task now self task.now }
-    {
-        let row = &task.row;
-        if !is_spawn(task.info.kind) || !row.scheduled || row.polling {
-            return self;
-        }
-        Waiting {
-            count: self.count.saturating_add(1),
-            longest: self.longest.max(row.waits_for(now)),
-        }
-    }
-
-    // With the task at a place.
-    fn with_at(self, tables: &Tables, place: usize) -> Waiting
-        ensures { result ≡ option_map_or (λ t. spec.with_task tables.now.now self t) (slice_get tables.now.tasks place) self }
-    {
-        match tables.task_at(place) {
-            Some(task) => self.with(tables.now(), task),
-            None => self,
-        }
-    }
-
-    /// Of the tasks of tables, at their moment.
-    pub fn of(tables: &Tables) -> Waiting
-        ensures { result ≡ spec.waiting_of tables.now.now tables.now.tasks }
-    {
-        let mut waiting = Waiting {
-            count: 0,
-            longest: 0,
-        };
-        for place in 0..tables.task_count() {
-            waiting = waiting.with_at(tables, place);
-        }
-        waiting
-    }
-}
 
 fn wait_words(count: u64) -> &'static str
     ensures { result.now ≡ spec.wait_words count }

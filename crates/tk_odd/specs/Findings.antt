@@ -165,6 +165,10 @@ gravity is_now PassedOver = 5
 gravity is_now NeverPolled = 6
 gravity is_now SelfWakes = 8
 
+-- a finding holds now, and is of gravity 1 to 3
+abbrev pub is_urgent : Finding → Bool
+is_urgent f = f.is_now && nat_le (gravity f.is_now f.kind) 3
+
 -- one stands before another: it is graver, or as grave and of a greater figure
 abbrev pub stands_before : Finding → Finding → Bool
 stands_before a b =

@@ -18,5 +18,7 @@ pub mod Diagnosis
 pub mod Inner
 -- What is odd, worst first
 pub mod Findings
+-- Which tasks wait now
+pub mod Waiting
 -- What is said of what is odd, to people
 pub mod Words

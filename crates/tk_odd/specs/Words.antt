@@ -1,9 +1,19 @@
 -- What is said of what is odd, to people.
-use Rattle.std.specs.Prelude.{ℕ, Bool, if◌then◌else◌, List, codes}
+use Rattle.std.specs.Prelude.{ℕ, Bool, if◌then◌else◌, List, [], ◌∷◌, codes}
 use Rattle.tk_odd.specs.declared.finding.OddKind.{OddKind}
 use Rattle.tk_odd.specs.declared.finding.OddKind.TheVariants.{HoldsUp, StandsStill, LeftAlone, Overloaded, NeverYielded, LostWaker, PassedOver, NeverPolled, LongPoll, SelfWakes}
 use Rattle.tk_odd.specs.declared.words.Shape.{Shape}
 use Rattle.tk_odd.specs.declared.words.Shape.TheVariants as shapes
+use Rattle.tk_odd.specs.declared.words.Sign.{Sign}
+use Rattle.tk_odd.specs.declared.words.Sign.TheVariants as marks
+
+-- every kind, in the order of the worst of each
+abbrev pub kinds : List OddKind
+kinds = HoldsUp ∷ StandsStill ∷ LeftAlone ∷ Overloaded ∷ LongPoll ∷ NeverYielded ∷ LostWaker ∷ PassedOver ∷ NeverPolled ∷ SelfWakes ∷ []
+
+-- whether a finding holds now
+abbrev pub when_word : Bool → List ℕ
+when_word is_now = if is_now then codes "now" else codes "earlier"
 
 -- the name of a kind
 abbrev pub name_of : OddKind → List ℕ
@@ -17,6 +27,32 @@ name_of PassedOver = codes "passed-over"
 name_of NeverPolled = codes "never-polled"
 name_of LongPoll = codes "long-poll"
 name_of SelfWakes = codes "self-wakes"
+
+-- what a kind is a sign of
+abbrev pub sign_of : OddKind → Sign
+sign_of HoldsUp = marks.Runs
+sign_of StandsStill = marks.Runs
+sign_of LeftAlone = marks.Waits
+sign_of Overloaded = marks.Waits
+sign_of NeverYielded = marks.NeverReturns
+sign_of LostWaker = marks.IsLost
+sign_of PassedOver = marks.Waits
+sign_of NeverPolled = marks.Waits
+sign_of LongPoll = marks.Runs
+sign_of SelfWakes = marks.Loops
+
+-- what is said of a task in a word or two
+abbrev pub badge_of : OddKind → List ℕ
+badge_of HoldsUp = codes "held up others"
+badge_of StandsStill = codes "all stood still"
+badge_of LeftAlone = codes "nobody ran"
+badge_of Overloaded = codes "overloaded"
+badge_of NeverYielded = codes "never yielded"
+badge_of LostWaker = codes "nobody can wake it"
+badge_of PassedOver = codes "passed over"
+badge_of NeverPolled = codes "never polled"
+badge_of LongPoll = codes "long poll"
+badge_of SelfWakes = codes "wakes itself"
 
 -- what is said of who it is about, where it holds now
 abbrev pub now_of : OddKind → List ℕ

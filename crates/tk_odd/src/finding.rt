@@ -105,6 +105,13 @@ impl Finding {
         if self.is_now { now } else { earlier }
     }
 
+    /// Whether it holds now, and somebody should look at once: others wait, or a poll is a long one.
+    pub fn is_urgent(&self) -> bool
+        ensures { result ≡ spec.is_urgent self.now }
+    {
+        self.is_now && self.gravity() <= 3
+    }
+
     /// Whether it stands before another: it is graver, or as grave and of a greater figure.
     pub fn stands_before(&self, other: &Finding) -> bool
         ensures { result ≡ spec.stands_before self.now other.now }

@@ -19,6 +19,7 @@ mod shares;
 mod sharing;
 mod signs;
 mod step;
+mod waiting;
 mod words;
 
 pub use apart::Stretch;
@@ -31,4 +32,5 @@ pub use limits::Limits;
 pub use moved::Moved;
 pub use place::place_of;
 pub use shares::Shares;
-pub use words::Shape;
+pub use waiting::Waiting;
+pub use words::{Shape, Sign, kinds, when_word};

@@ -21,6 +21,48 @@ pub enum Shape {
     Share,
 }
 
+/// What a finding is a sign of, by which an outlet gives it a colour and a mark.
+#[derive(Clone, Copy, Debug, PartialEq, Eq)]
+pub enum Sign {
+    /// A task runs long.
+    Runs,
+    /// Tasks wait.
+    Waits,
+    /// A first poll doesn't end.
+    NeverReturns,
+    /// Nobody can wake a task.
+    IsLost,
+    /// A task wakes itself.
+    Loops,
+}
+
+const KINDS: [OddKind; 10] = [
+    OddKind::HoldsUp,
+    OddKind::StandsStill,
+    OddKind::LeftAlone,
+    OddKind::Overloaded,
+    OddKind::LongPoll,
+    OddKind::NeverYielded,
+    OddKind::LostWaker,
+    OddKind::PassedOver,
+    OddKind::NeverPolled,
+    OddKind::SelfWakes,
+];
+
+/// Every kind, in the order of the worst of each.
+pub fn kinds() -> [OddKind; 10]
+    ensures { result ≡ spec.kinds }
+{
+    KINDS
+}
+
+/// `now` or `earlier`: whether a finding holds at the last line.
+pub fn when_word(is_now: bool) -> &'static str
+    ensures { result.now ≡ spec.when_word is_now }
+{
+    if is_now { "now" } else { "earlier" }
+}
+
 impl OddKind {
     /// Its name, as outlets write it.
     pub fn name(self) -> &'static str
@@ -37,6 +79,42 @@ impl OddKind {
             OddKind::NeverPolled => "never-polled",
             OddKind::LongPoll => "long-poll",
             OddKind::SelfWakes => "self-wakes",
+        }
+    }
+
+    /// What it is a sign of.
+    pub fn sign(self) -> Sign
+        ensures { result ≡ spec.sign_of self }
+    {
+        match self {
+            OddKind::HoldsUp => Sign::Runs,
+            OddKind::StandsStill => Sign::Runs,
+            OddKind::LeftAlone => Sign::Waits,
+            OddKind::Overloaded => Sign::Waits,
+            OddKind::NeverYielded => Sign::NeverReturns,
+            OddKind::LostWaker => Sign::IsLost,
+            OddKind::PassedOver => Sign::Waits,
+            OddKind::NeverPolled => Sign::Waits,
+            OddKind::LongPoll => Sign::Runs,
+            OddKind::SelfWakes => Sign::Loops,
+        }
+    }
+
+    /// What is said of a task in a word or two.
+    pub fn badge(self) -> &'static str
+        ensures { result.now ≡ spec.badge_of self }
+    {
+        match self {
+            OddKind::HoldsUp => "held up others",
+            OddKind::StandsStill => "all stood still",
+            OddKind::LeftAlone => "nobody ran",
+            OddKind::Overloaded => "overloaded",
+            OddKind::NeverYielded => "never yielded",
+            OddKind::LostWaker => "nobody can wake it",
+            OddKind::PassedOver => "passed over",
+            OddKind::NeverPolled => "never polled",
+            OddKind::LongPoll => "long poll",
+            OddKind::SelfWakes => "wakes itself",
         }
     }
 

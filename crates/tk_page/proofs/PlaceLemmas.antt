@@ -31,7 +31,7 @@ use Rattle.tk_page.specs.declared.strips.Area.{Area}
 use Rattle.tk_page.specs.declared.strips.Boxes.{Boxes}
 use Rattle.tk_page.specs.declared.strips.Boxes.TheVariants as which
 use Rattle.tk_page.specs.declared.strips.Height.{Height}
-use Rattle.tk_page.specs.declared.waiting.Waiting.{Waiting}
+use Rattle.tk_odd.specs.declared.waiting.Waiting.{Waiting}
 use Rattle.tk_page.specs.Badges as badges
 use Rattle.tk_page.specs.Banner as banners
 use Rattle.tk_page.specs.Cards as cards
@@ -46,7 +46,8 @@ use Rattle.tk_page.specs.Rows as rows
 use Rattle.tk_core.specs.Lasting.{busy_until, sched_until}
 use Rattle.tk_page.specs.Samples.{sample_of}
 use Rattle.tk_page.specs.Strips as strips
-use Rattle.tk_page.specs.Waiting.{waiting_of, waits_from_last_wake}
+use Rattle.tk_odd.specs.Waiting.{waiting_of}
+use Rattle.tk_page.specs.Waiting.{waits_from_last_wake}
 use Rattle.tk_page.proofs.Leading.{Leads, bits_to, cut_to, each_to, none_to, then_to}
 
 -- parts that begin and end between tags
@@ -179,7 +180,7 @@ alarm_to now w tasks place f =
     (then_to (waiting_to w) (cut_to 1 refl (then_to (made_to place (cards.task_of tasks f)) (bits_to (banners.end_banner f.kind) refl))))))
 
 alarm_if_to : (now : ℕ) (w : Waiting) (tasks : List Task) (x : Found) → Between (banners.alarm_if now w tasks x)
-alarm_if_to now w tasks x = either (banners.is_urgent x.finding) (alarm_to now w tasks x.place.items x.finding) none_between
+alarm_if_to now w tasks x = either (is_urgent x.finding) (alarm_to now w tasks x.place.items x.finding) none_between
 
 banner_to : (signs : Signs) (lines : ℕ) (tables : TablesView) → Between (banners.banner signs lines tables)
 unfolding after_all

@@ -1,7 +1,7 @@
 -- What holds now, above all else.
-use Rattle.std.specs.Prelude.{ℕ, ◌==◌, nat_le, Bool, ◌&&◌, Option, Some, None, if◌then◌else◌, List, [], ◌∷◌, ◌++◌, codes, flat_map}
+use Rattle.std.specs.Prelude.{ℕ, ◌==◌, Bool, Option, Some, None, if◌then◌else◌, List, [], ◌∷◌, ◌++◌, codes, flat_map}
 use Rattle.tk_core.specs.Lasting.{runs_for}
-use Rattle.tk_odd.specs.Findings.{gravity}
+use Rattle.tk_odd.specs.Findings.{is_urgent}
 use Rattle.tk_odd.specs.Words.{advice_of, said_of}
 use Rattle.tk_odd.specs.declared.finding.Finding.{Finding}
 use Rattle.tk_odd.specs.declared.finding.Found.{Found}
@@ -11,14 +11,10 @@ use Rattle.tk_stream.specs.declared.tables.task.Task.{Task}
 use Rattle.tk_paper.specs.Parts.{Bit, text, number, span, close, class}
 use Rattle.tk_paper.specs.declared.marks.Tag.TheVariants as tags
 use Rattle.tk_page.specs.declared.oddities.Signs.{Signs}
-use Rattle.tk_page.specs.declared.waiting.Waiting.{Waiting}
+use Rattle.tk_odd.specs.declared.waiting.Waiting.{Waiting}
 use Rattle.tk_page.specs.Cards.{made, task_of, who}
 use Rattle.tk_page.specs.Odd.{carded}
-use Rattle.tk_page.specs.Waiting.{waiting_of}
-
--- a finding holds now, and is of gravity 1 to 3
-abbrev pub is_urgent : Finding → Bool
-is_urgent f = f.is_now && nat_le (gravity f.is_now f.kind) 3
+use Rattle.tk_odd.specs.Waiting.{waiting_of}
 
 -- what is said of who a finding is about
 abbrev pub doing_so : Bool → OddKind → List Bit

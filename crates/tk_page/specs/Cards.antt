@@ -3,7 +3,7 @@ use Rattle.std.specs.Prelude.{ℕ, ◌-◌, ◌==◌, nat_lt, Bool, ◌||◌, no
 use Rattle.std.specs.List.{list_any}
 use Rattle.std.specs.Option.{option_and_then}
 use Rattle.std.specs.Str.{is_utf8}
-use Rattle.tk_odd.specs.Words.{advice_of, after_of, before_of, said_of, shape_of}
+use Rattle.tk_odd.specs.Words.{advice_of, after_of, before_of, said_of, shape_of, sign_of}
 use Rattle.tk_odd.specs.declared.words.Shape.{Shape}
 use Rattle.tk_odd.specs.declared.words.Shape.TheVariants.{Held, Alone, Stretch, Lasting, Longest, Share}
 use Rattle.tk_odd.specs.declared.finding.Finding.{Finding}
@@ -66,8 +66,8 @@ made place (Some t) = made_at t
 -- the beginning of a card, with its sign
 abbrev pub start_card : OddKind → List Bit
 start_card kind =
-    class tags.Li (class_of kind) ∷ start tags.H3 ∷ opens tags.Span ∷ having attrs.Class (codes "icon") ∷ having attrs.AriaHidden (codes "true") ∷ ends
-    ∷ text (icon_of kind) ∷ close tags.Span ∷ text (codes " ") ∷ []
+    class tags.Li (class_of (sign_of kind)) ∷ start tags.H3 ∷ opens tags.Span ∷ having attrs.Class (codes "icon") ∷ having attrs.AriaHidden (codes "true") ∷ ends
+    ∷ text (icon_of (sign_of kind)) ∷ close tags.Span ∷ text (codes " ") ∷ []
 
 -- its end, with what to do
 abbrev pub end_card : OddKind → List Bit

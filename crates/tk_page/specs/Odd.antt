@@ -1,12 +1,12 @@
 -- What is odd about a task.
-use Rattle.std.specs.Prelude.{◌≡◌, ◌==◌, List, [], ◌∷◌, map, take, Bool, true, false, ◌&&◌, ◌||◌}
+use Rattle.std.specs.Prelude.{◌≡◌, ◌==◌, List, [], ◌∷◌, map, take, Bool, true, false, ◌&&◌, ◌||◌, not}
 use Rattle.std.specs.List.{list_any}
 use Rattle.std.specs.Option.{option_map_or}
 use Rattle.tk_client.specs.Warnings.{has_lost_waker, has_never_yielded, is_spawn, wakes_itself}
 use Rattle.tk_odd.specs.Findings.{Placed, is_never_polled, placed}
 use Rattle.tk_odd.specs.declared.finding.Found.{Found}
 use Rattle.tk_odd.specs.declared.finding.OddKind.{OddKind}
-use Rattle.tk_odd.specs.declared.finding.OddKind.TheVariants.{HoldsUp, StandsStill, LeftAlone, Overloaded, NeverYielded, LostWaker, PassedOver, NeverPolled, LongPoll, SelfWakes}
+use Rattle.tk_odd.specs.declared.finding.OddKind.TheVariants.{NeverYielded, LostWaker, NeverPolled, SelfWakes}
 use Rattle.tk_odd.specs.declared.limits.Limits.{Limits}
 use Rattle.tk_stream.specs.Tables.{TablesView}
 use Rattle.tk_stream.specs.declared.tables.task.Task.{Task}
@@ -30,22 +30,17 @@ names t f = option_map_or (λ id. id == t.info.id) f.finding.task false
 abbrev pub is_named : Signs → Task → Bool
 is_named signs t = list_any (names t) (carded signs)
 
--- findings of this kind say of a task what its row doesn't show
-abbrev pub is_of_steps : OddKind → Bool
-is_of_steps HoldsUp = true
-is_of_steps StandsStill = true
-is_of_steps LeftAlone = false
-is_of_steps Overloaded = false
-is_of_steps NeverYielded = false
-is_of_steps LostWaker = false
-is_of_steps PassedOver = true
-is_of_steps NeverPolled = false
-is_of_steps LongPoll = true
-is_of_steps SelfWakes = false
+-- a task's row shows such a thing
+abbrev pub is_of_rows : OddKind → Bool
+is_of_rows NeverYielded = true
+is_of_rows LostWaker = true
+is_of_rows NeverPolled = true
+is_of_rows SelfWakes = true
+is_of_rows other = false
 
--- a finding says such a thing of a task
+-- a finding says of a task what its row doesn't show
 abbrev pub says : Task → Found → Bool
-says t f = names t f && is_of_steps f.finding.kind
+says t f = names t f && not (is_of_rows f.finding.kind)
 
 -- nobody can wake a task
 abbrev pub is_lost : Task → Bool
@@ -53,16 +48,11 @@ is_lost t = is_spawn t.info.kind && has_lost_waker t.row
 
 -- this shows a task's row: what the client warns of, and that it was never polled
 abbrev pub has_sign : Signs → OddKind → Task → Bool
-has_sign signs HoldsUp t = false
-has_sign signs StandsStill t = false
-has_sign signs LeftAlone t = false
-has_sign signs Overloaded t = false
 has_sign signs NeverYielded t = is_spawn t.info.kind && has_never_yielded signs.limits.lints.never_yielded_ns signs.moment t.row
 has_sign signs LostWaker t = is_lost t
-has_sign signs PassedOver t = false
 has_sign signs NeverPolled t = is_spawn t.info.kind && is_never_polled signs.limits.lints.never_yielded_ns signs.moment t.row
-has_sign signs LongPoll t = false
 has_sign signs SelfWakes t = is_spawn t.info.kind && wakes_itself signs.limits.lints.self_wake_percent t.row
+has_sign signs other t = false
 
 -- what a row may show, in the order of its badges
 abbrev pub row_kinds : List OddKind

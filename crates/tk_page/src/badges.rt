@@ -6,75 +6,43 @@ ghost use Rattle.tk_paper.specs.Pieces.{Writes};
 
 use crate::oddities::{ROW_KINDS, Signs, says};
 use std::alloc::AllocError;
-use tk_odd::{Found, OddKind};
+use tk_odd::{Found, OddKind, Sign};
 use tk_paper::Part::{Class, Close, End, Open, Quote, Text, Value, With};
 use tk_paper::{Attr, Paper, Tag};
 use tk_stream::Task;
 
-/// The words for a kind.
+/// How a sign is drawn.
 #[derive(Clone, Copy)]
-pub(crate) struct Words {
+pub(crate) struct Mark {
     pub class: &'static str,
     pub icon: &'static str,
-    pub badge: &'static str,
 }
 
-/// The words for a kind.
-pub(crate) fn words_of(kind: OddKind) -> Words
-    ensures class { result.class.now ≡ spec.class_of kind }
-    ensures icon { result.icon.now ≡ spec.icon_of kind }
-    ensures badge { result.badge.now ≡ spec.words_of_badge kind }
+/// How a sign is drawn.
+pub(crate) fn mark_of(sign: Sign) -> Mark
+    ensures class { result.class.now ≡ spec.class_of sign }
+    ensures icon { result.icon.now ≡ spec.icon_of sign }
 {
-    match kind {
-        OddKind::HoldsUp => Words {
+    match sign {
+        Sign::Runs => Mark {
             class: "holds",
             icon: "▮",
-            badge: "▮ held up others",
         },
-        OddKind::StandsStill => Words {
-            class: "holds",
-            icon: "▮",
-            badge: "▮ all stood still",
-        },
-        OddKind::LeftAlone => Words {
+        Sign::Waits => Mark {
             class: "unpolled",
             icon: "…",
-            badge: "… nobody ran",
         },
-        OddKind::Overloaded => Words {
-            class: "unpolled",
-            icon: "…",
-            badge: "… overloaded",
-        },
-        OddKind::NeverYielded => Words {
+        Sign::NeverReturns => Mark {
             class: "never",
             icon: "∞",
-            badge: "∞ never yielded",
         },
-        OddKind::LostWaker => Words {
+        Sign::IsLost => Mark {
             class: "lost",
             icon: "∅",
-            badge: "∅ nobody can wake it",
         },
-        OddKind::PassedOver => Words {
-            class: "unpolled",
-            icon: "…",
-            badge: "… passed over",
-        },
-        OddKind::NeverPolled => Words {
-            class: "unpolled",
-            icon: "…",
-            badge: "… never polled",
-        },
-        OddKind::LongPoll => Words {
-            class: "holds",
-            icon: "▮",
-            badge: "▮ long poll",
-        },
-        OddKind::SelfWakes => Words {
+        Sign::Loops => Mark {
             class: "self",
             icon: "↻",
-            badge: "↻ wakes itself",
         },
     }
 }
@@ -85,15 +53,17 @@ fn put_badge(paper: &mut Paper, odd: bool, kind: OddKind) -> Result<(), AllocErr
     if !odd {
         return paper.put(&[]);
     }
-    let words = words_of(kind);
+    let mark = mark_of(kind.sign());
     paper.put(&[
         Open(Tag::Span),
         Value(Attr::Class),
         Text("badge "),
-        Text(words.class),
+        Text(mark.class),
         Quote,
         End,
-        Text(words.badge),
+        Text(mark.icon),
+        Text(" "),
+        Text(kind.badge()),
         Close(Tag::Span),
     ])
 }

@@ -6,30 +6,11 @@ ghost use Rattle.tk_paper.specs.Pieces.{Writes};
 
 use crate::cards::{put_made, put_who, task_of};
 use crate::oddities::Signs;
-use crate::waiting::Waiting;
 use std::alloc::AllocError;
-use tk_odd::{Finding, Found, OddKind};
+use tk_odd::{Finding, Found, OddKind, Waiting};
 use tk_paper::Part::{Class, Close, Number, Span, Text};
 use tk_paper::{Paper, Tag};
 use tk_stream::{Tables, Task};
-
-// Whether a finding holds now, and is among the worst.
-fn is_urgent(finding: &Finding) -> bool
-    ensures { result ≡ spec.is_urgent finding.now }
-{
-    match finding.kind {
-        OddKind::HoldsUp => finding.is_now,
-        OddKind::StandsStill => finding.is_now,
-        OddKind::LeftAlone => finding.is_now,
-        OddKind::Overloaded => finding.is_now,
-        OddKind::NeverYielded => false,
-        OddKind::LostWaker => false,
-        OddKind::PassedOver => false,
-        OddKind::NeverPolled => false,
-        OddKind::LongPoll => finding.is_now,
-        OddKind::SelfWakes => false,
-    }
-}
 
 // Puts what is said of who a finding is about.
 fn put_said(paper: &mut Paper, is_now: bool, kind: OddKind) -> Result<(), AllocError>
@@ -147,7 +128,7 @@ fn put_alarm_if(
     ensures { OnOk result (Writes paper.old paper.new (spec.alarm_if tables.now.now waiting tables.now.tasks found.now)) }
 {
     let finding = &found.finding;
-    if is_urgent(finding) {
+    if finding.is_urgent() {
         put_alarm(paper, waiting, tables, found.place.as_slice(), finding)
     } else {
         paper.put(&[])

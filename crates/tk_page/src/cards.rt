@@ -7,7 +7,7 @@ ghost use Rattle.tk_page.specs.Courses.{courses_of};
 ghost use Rattle.tk_paper.specs.Parts.{text};
 ghost use Rattle.tk_paper.specs.Pieces.{Writes};
 
-use crate::badges::{start_section, words_of};
+use crate::badges::{mark_of, start_section};
 use crate::figures::{Scale, count, each, share};
 use crate::history::History;
 use crate::oddities::{CARDS, Signs};
@@ -128,15 +128,15 @@ pub(crate) fn put_made(
 fn start_card(paper: &mut Paper, kind: OddKind) -> Result<(), AllocError>
     ensures { OnOk result (Writes paper.old paper.new (spec.start_card kind)) }
 {
-    let words = words_of(kind);
+    let mark = mark_of(kind.sign());
     paper.put(&[
-        Class(Tag::Li, words.class),
+        Class(Tag::Li, mark.class),
         Start(Tag::H3),
         Open(Tag::Span),
         With(Attr::Class, "icon"),
         With(Attr::AriaHidden, "true"),
         End,
-        Text(words.icon),
+        Text(mark.icon),
         Close(Tag::Span),
         Text(" "),
     ])

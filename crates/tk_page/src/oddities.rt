@@ -45,21 +45,16 @@ fn names(task: &Task, found: &Found) -> bool
     }
 }
 
-// Whether findings of this kind say of a task what its row doesn't show.
-fn is_of_steps(kind: OddKind) -> bool
-    ensures { result ≡ spec.is_of_steps kind }
+// Whether a task's row shows such a thing.
+fn is_of_rows(kind: OddKind) -> bool
+    ensures { result ≡ spec.is_of_rows kind }
 {
     match kind {
-        OddKind::HoldsUp => true,
-        OddKind::StandsStill => true,
-        OddKind::LeftAlone => false,
-        OddKind::Overloaded => false,
-        OddKind::NeverYielded => false,
-        OddKind::LostWaker => false,
-        OddKind::PassedOver => true,
-        OddKind::NeverPolled => false,
-        OddKind::LongPoll => true,
-        OddKind::SelfWakes => false,
+        OddKind::NeverYielded => true,
+        OddKind::LostWaker => true,
+        OddKind::NeverPolled => true,
+        OddKind::SelfWakes => true,
+        _ => false,
     }
 }
 
@@ -67,7 +62,7 @@ fn is_of_steps(kind: OddKind) -> bool
 pub(crate) fn says(task: &Task, found: &Found) -> bool
     ensures { result ≡ spec.says task.now found.now }
 {
-    names(task, found) && is_of_steps(found.finding.kind)
+    names(task, found) && !is_of_rows(found.finding.kind)
 }
 
 // Whether one of findings names a task.
@@ -128,16 +123,11 @@ impl Signs {
         let lints = self.limits.lints;
         let limit = lints.never_yielded_ns();
         match kind {
-            OddKind::HoldsUp => false,
-            OddKind::StandsStill => false,
-            OddKind::LeftAlone => false,
-            OddKind::Overloaded => false,
             OddKind::NeverYielded => spawned && has_never_yielded(limit, self.moment, row),
             OddKind::LostWaker => is_lost(task),
-            OddKind::PassedOver => false,
             OddKind::NeverPolled => spawned && is_never_polled(limit, self.moment, row),
-            OddKind::LongPoll => false,
             OddKind::SelfWakes => spawned && wakes_itself(lints.self_wake_percent(), row),
+            _ => false,
         }
     }
 

@@ -6,7 +6,8 @@ use Rattle.tk_odd.specs.declared.finding.OddKind.{OddKind}
 use Rattle.tk_odd.specs.declared.finding.OddKind.TheVariants.{HoldsUp}
 use Rattle.tk_report.specs.Pieces.{Puts}
 use Rattle.tk_report.proofs.PutLemmas.{both}
-use Rattle.tk_found.specs.Lines.{kind_line, kinds}
+use Rattle.tk_found.specs.Lines.{kind_line}
+use Rattle.tk_odd.specs.Words.{kinds}
 use Rattle.tk_found.proofs.LineLemmas.{flat_more}
 use Rattle.tk_found.proofs.kinds.put_kinds.Goals as goal
 

@@ -1,4 +1,4 @@
 use Rattle.tk_page.proofs.cards.start_card.Goals as goal
 
 pub returns : goal.returns
-returns c = rw (c.words_of-words.ensures.class, c.words_of-words.ensures.icon) at c.put.ensures
+returns c = rw (c.mark_of-mark.ensures.class, c.mark_of-mark.ensures.icon, c.sign.ensures) at c.put.ensures

@@ -2,9 +2,9 @@ use Rattle.std.proofs.Common.{ap, sym, ◌∙◌, slice_get, arith}
 use Rattle.std.specs.Option.{option_map_or}
 use Rattle.std.proofs.lemmas.List.{take_all}
 use Rattle.tk_odd.proofs.LoopLemmas.{folded_more}
-use Rattle.tk_frame.specs.Waiting.{waiting_of, with_task}
-use Rattle.tk_frame.specs.declared.waiting.Waiting.{Waiting}
-use Rattle.tk_frame.proofs.waiting.Waiting.of.Goals as goal
+use Rattle.tk_odd.specs.Waiting.{waiting_of, with_task}
+use Rattle.tk_odd.specs.declared.waiting.Waiting.{Waiting}
+use Rattle.tk_odd.proofs.waiting.Waiting.of.Goals as goal
 
 pub loop-place-preserved : goal.loop-place-preserved
 loop-place-preserved c =

@@ -1,6 +1,6 @@
 use Rattle.std.proofs.Common.{◌≡◌, take}
-use Rattle.tk_page.specs.Waiting as spec
-use Rattle.tk_page.proofs.waiting.Waiting.of.Given as goal
+use Rattle.tk_odd.specs.Waiting as spec
+use Rattle.tk_odd.proofs.waiting.Waiting.of.Given as goal
 
 -- those so far
 abbrev pub invariant-loop-place : goal.invariant-loop-place
