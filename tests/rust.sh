@@ -444,7 +444,7 @@ times_agree() {
 # the system may take the processor away for as long as a tenth of it.
 findings_name_who() {
     "$program" lint --findings --long-poll 20 < "$work/starving.stream" > "$work/findings"
-    [ $? -eq 3 ] && grep -q '^finding 1 holds-up .* name json-index$' "$work/findings" && ! grep ' name client-' "$work/findings" &&
+    [ $? -eq 3 ] && grep -q '^finding 1 holds-up .* name json-index$' "$work/findings" && ! grep '^finding .* name client-' "$work/findings" &&
         "$program" lint --findings --long-poll 1000 < "$work/requests.stream" > "$work/findings" && [ ! -s "$work/findings" ] || {
         cat "$work/findings"
         return 1

@@ -166,6 +166,12 @@ class Step:
         blame = x.gain.ran * less(less(self.all_parts, self.parts[x.task]), apart) // WHOLE
         return blame if self.long <= blame else 0
 
+    def held_for(self, x, y):
+        run = only_run(self.now, x)
+        if x.task == y.task or run is not None and is_outside(self.now, y, run):
+            return 0
+        return x.gain.ran * self.parts[y.task] // WHOLE
+
     def stood_still(self, x):
         f = self.free
         return (
@@ -223,6 +229,7 @@ class Diagnosis:
         self.limits, self.lines = limits, 0
         self.first = self.before = Tables(0, {})
         self.members, self.places, self.guilty = {}, {}, set()
+        self.pairs = {}  # place of who is charged: place of who waited: how long
         self.shares = dict(charged=0, queued=0, nobody=0)
         self.free = dict(polls=0, time=0, lull=0, longest=0)
         self.overloaded = self.alone = None
@@ -253,6 +260,7 @@ class Diagnosis:
         step.check_the_law()
         for x in step.moved:
             self.hold(step, x)
+            self.note_victims(step, x)
         self.free = step.free_after()
         for share, nanos in step.shares().items():
             self.shares[share] = capped(self.shares[share] + nanos)
@@ -275,6 +283,17 @@ class Diagnosis:
                 h["tasks"] += 1
         if x.gain.longest > h["longest"]:
             h["longest"], h["task"] = x.gain.longest, x.task
+
+    def note_victims(self, step, x):
+        charge = step.charge_of(x)
+        if not charge:
+            return
+        times = [(y.place, step.held_for(x, y)) for y in step.moved]
+        assert sum(time for _, time in times) <= charge, "others waited no longer than what is charged"
+        victims = self.pairs.setdefault(x.place, {})
+        for place, time in times:
+            if time:
+                victims[place] = capped(victims.get(place, 0) + capped(time))
 
     # ---- what is odd
 
@@ -385,7 +404,14 @@ def findings_of(lines, limits):
     diagnosis, tables = Diagnosis(limits), Tables(0, {})
     for tables in tables_of(lines):
         diagnosis.after_line(tables)
-    return [written(number, f) for number, f in enumerate(diagnosis.findings(tables), 1)]
+    lines = []
+    for number, f in enumerate(diagnosis.findings(tables), 1):
+        lines.append(written(number, f))
+        victims = diagnosis.pairs.get(f.place, {}) if f.kind == "holds-up" else {}
+        if victims:
+            place = max(victims, key=victims.get)  # of equals the first
+            lines.append(f"  whom {victims[place]} kind {place}")
+    return lines
 
 
 def main():

@@ -276,7 +276,7 @@ def found_by(program, lines):
     run = subprocess.run([program, "lint", "--findings"], input=text, capture_output=True, text=True, check=False)
     if run.returncode not in (0, 3):
         return None, run.stderr
-    found = [line.split() for line in run.stdout.splitlines()]
+    found = [line.split() for line in run.stdout.splitlines() if line.startswith("finding ")]
     return [(words[2], words[-1].removesuffix("-#") if "name" in words else None) for words in found], ""
 
 

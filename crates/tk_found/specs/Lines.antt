@@ -6,6 +6,7 @@ use Rattle.tk_odd.specs.declared.finding.Finding.{Finding}
 use Rattle.tk_odd.specs.declared.finding.OddKind.{OddKind}
 use Rattle.tk_odd.specs.Findings.{Placed}
 use Rattle.tk_odd.specs.Words.{advice_of, kinds, name_of, shape_of, when_word}
+use Rattle.tk_odd.specs.Victims.{Pairs, most_held}
 use Rattle.tk_odd.specs.declared.words.Shape.{Shape}
 use Rattle.tk_odd.specs.declared.words.Shape.TheVariants.{Held, Alone, Stretch, Lasting, Longest, Share}
 
@@ -34,14 +35,28 @@ abbrev pub finding_line : ℕ → Placed → List ℕ
 finding_line n (place, x) =
     line (codes "finding") (decimal n ∷ name_of x.kind ∷ when_word x.is_now ∷ (figures_of (shape_of x.kind) x ++ task_words x.task place))
 
+-- below a finding, who waited longest for it: how long, and their place
+abbrev pub whom_line : Option (List ℕ × ℕ) → List ℕ
+whom_line None = []
+whom_line (Some (victim, time)) = line (codes "  whom") (decimal time ∷ codes "kind" ∷ victim ∷ [])
+
+-- the same, where others waited for the tasks of a place
+abbrev pub whom_by : Shape → Pairs → List ℕ → List ℕ
+whom_by Held pairs place = whom_line (most_held place pairs)
+whom_by other pairs place = []
+
+-- the lines of the finding that stands at this number
+abbrev pub lines_at : Pairs → ℕ → Placed → List ℕ
+lines_at pairs n (place, x) = finding_line n (place, x) ++ whom_by (shape_of x.kind) pairs place
+
 -- the lines of findings, numbered from this number on
-abbrev pub lines_from : ℕ → List Placed → List ℕ
-lines_from n [] = []
-lines_from n (x ∷ xs) = finding_line n x ++ lines_from (n + 1) xs
+abbrev pub lines_from : Pairs → ℕ → List Placed → List ℕ
+lines_from pairs n [] = []
+lines_from pairs n (x ∷ xs) = lines_at pairs n x ++ lines_from pairs (n + 1) xs
 
 -- the lines of all findings, numbered from 1
-abbrev pub finding_lines : List Placed → List ℕ
-finding_lines list = lines_from 1 list
+abbrev pub finding_lines : Pairs → List Placed → List ℕ
+finding_lines pairs list = lines_from pairs 1 list
 
 -- ---- what there is to find
 

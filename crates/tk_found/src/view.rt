@@ -11,9 +11,10 @@ use std::alloc::{AllocError, Global};
 use std::io::{Read, Write};
 use tk_client::{Client, Lints};
 use tk_fault::AppFault;
-use tk_odd::{Diagnosis, Found, Limits};
+use tk_odd::{Diagnosis, Found, Limits, Waited};
 use tk_reading::{MAX_LINE, read_stream};
 use tk_report::{View, timed_report_with};
+use tk_series::Series;
 use tk_stream::send;
 
 /// Nanoseconds of a millisecond.
@@ -34,15 +35,16 @@ fn text_of(
     view: View,
     times: bool,
     client: &Client,
+    pairs: &Series<Waited>,
     list: &[Found],
 ) -> Result<Vec<u8>, AllocError>
-    ensures { IfOk result (λ text. text.items ≡ spec.found_text view times client.now.start (map placed list.now)) }
+    ensures { IfOk result (λ text. text.items ≡ spec.found_text view times client.now.start pairs.now (map placed list.now)) }
 {
     let mut text = match view {
         View::Report => timed_report_with(alloc, client.tables(), client.times(), times, &[])?,
         View::Lint => Vec::new(alloc),
     };
-    put_findings(&mut text, alloc, list)?;
+    put_findings(&mut text, alloc, pairs, list)?;
     Ok(text)
 }
 
@@ -66,7 +68,7 @@ fn view_by<R: Read, W: Write>(
     let Ok(list) = diagnosis.findings(alloc, client.tables()) else {
         return Err(AppFault::Memory);
     };
-    let Ok(text) = text_of(alloc, view, times, client, &list) else {
+    let Ok(text) = text_of(alloc, view, times, client, diagnosis.pairs(), &list) else {
         return Err(AppFault::Memory);
     };
     match send(writer, text.as_slice()) {

@@ -13,6 +13,7 @@ use Rattle.tk_odd.specs.declared.shares.Shares.{Shares}
 use Rattle.tk_odd.specs.Charging.{all_charged, charge_of, queued}
 use Rattle.tk_odd.specs.Members.{Member, looked_at, members_after, moved_of}
 use Rattle.tk_odd.specs.Sharing.{nobody}
+use Rattle.tk_odd.specs.Victims.{Pairs, pairs_after}
 use Rattle.tk_odd.specs.Steps.{are_left_alone, free_after, is_overloaded, is_passed, stood_still}
 
 -- ---- places
@@ -70,7 +71,7 @@ places_after long free from to members places =
 -- ---- line by line
 
 -- what stands after some lines: how many there were, the tables at the begin of the step that isn't over, those of the last line, who ran or waited in
--- that step, the places and who was charged, what free steps were like, what was waited, when tasks waited and no task was to blame, and who was
+-- that step, the places and who was charged, who waited for whom, what free steps were like, what was waited, when tasks waited and no task was to blame, and who was
 -- passed over in the last step
 pub record Standing : Type 0 where
   pub lines : ℕ
@@ -78,6 +79,7 @@ pub record Standing : Type 0 where
   pub before : TablesView
   pub members : List Member
   pub places : Places
+  pub pairs : Pairs
   pub free : Free
   pub shares : Shares
   pub overloaded : Option Stretch
@@ -92,6 +94,7 @@ nothing = record {
   before = empty_tables;
   members = [];
   places = ([], []);
+  pairs = [];
   free = record { polls = 0; time = 0; lull = 0; longest = 0 };
   shares = record { charged = 0; queued = 0; nobody = 0 };
   overloaded = None;
@@ -122,6 +125,7 @@ ends limits d tables =
     let time = tables.now - from in
     record d {
       places = places_after long d.free from tables.now d.members d.places;
+      pairs = pairs_after long time tables.now d.members d.pairs;
       free = free_after long time moved d.free;
       shares = with_shares long time tables.now moved d.shares;
       overloaded = also (is_overloaded long wait time tables.now d.first moved) from tables.now d.overloaded;

@@ -23,6 +23,7 @@ standing_in d = record {
   before = d.before;
   members = shown d.members.entries;
   places = places_of d.places;
+  pairs = d.pairs;
   free = d.free;
   shares = d.shares;
   overloaded = d.overloaded;

@@ -12,6 +12,8 @@ pub mod Steps
 pub mod Places
 -- Who ran or waited in a step
 pub mod Members
+-- Who waited for those that are charged, by places
+pub mod Victims
 -- Line by line: what the steps of a stream came to
 pub mod Diagnosis
 -- Inner: how what is kept shows what the definitions say

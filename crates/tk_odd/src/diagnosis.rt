@@ -16,6 +16,8 @@ use crate::places::{Places, Step, Totals, totals_of};
 use crate::shares::Shares;
 use crate::sharing::{all_charged, all_held, all_waited};
 use crate::step::{are_left_alone, free_after, is_overloaded, passed_over};
+use crate::victims::add_pairs;
+use crate::waited::Waited;
 use indexmap::IndexMap;
 use std::alloc::{AllocError, Global};
 use tk_series::Series;
@@ -33,6 +35,7 @@ pub struct Diagnosis {
     // Who ran or waited in that step.
     members: Members,
     pub(crate) places: Places,
+    pub(crate) pairs: Series<Waited>,
     free: Free,
     shares: Shares,
     pub(crate) overloaded: Option<Stretch>,
@@ -112,6 +115,7 @@ impl Diagnosis {
                 held: Series::new(alloc),
                 guilty: Vec::new(alloc),
             },
+            pairs: Series::new(alloc),
             free: Free::none(),
             shares: Shares {
                 charged: 0,
@@ -150,6 +154,7 @@ impl Diagnosis {
         let totals = totals_of(&moved);
         self.places
             .add_step(self.alloc, &step, self.free, totals, &self.members)?;
+        add_pairs(&mut self.pairs, self.alloc, &step, totals, &self.members)?;
         let parts = split(&step, totals);
         let first = &self.first;
         let over = is_overloaded(long, wait, first, &moved, totals.polls, parts.1);
@@ -224,6 +229,14 @@ impl Diagnosis {
         ensures { (shown : List TablesView) → inner.Follows shown self.now → result.now ≡ (spec.standing_of self.now.limits shown).places.0 }
     {
         &self.places.held
+    }
+
+    /// How long tasks of each place waited for those of another that are charged, in the steps that are over: by both places, in the order in which
+    /// they first came. [`most_held`](crate::most_held) reads them.
+    pub fn pairs(&self) -> &Series<Waited>
+        ensures { (shown : List TablesView) → inner.Follows shown self.now → result.now ≡ (spec.standing_of self.now.limits shown).pairs }
+    {
+        &self.pairs
     }
 
     /// What was waited in the steps that are over, shared out.

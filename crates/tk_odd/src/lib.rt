@@ -19,6 +19,8 @@ mod shares;
 mod sharing;
 mod signs;
 mod step;
+mod victims;
+mod waited;
 mod waiting;
 mod words;
 
@@ -32,5 +34,7 @@ pub use limits::Limits;
 pub use moved::Moved;
 pub use place::place_of;
 pub use shares::Shares;
+pub use victims::{Victim, most_held};
+pub use waited::Waited;
 pub use waiting::Waiting;
 pub use words::{Shape, Sign, kinds, when_word};

@@ -4,6 +4,7 @@ ghost use Rattle.tk_odd.specs.Apart as apart;
 ghost use Rattle.tk_odd.specs.Charging as charging;
 ghost use Rattle.tk_odd.specs.declared.moved.Moved.{Moved as MovedView};
 ghost use Rattle.tk_odd.specs.Sharing as spec;
+ghost use Rattle.tk_odd.specs.Victims as victims;
 
 use crate::apart::{Stretch, is_outside, only_run};
 use crate::gain::Gain;
@@ -123,6 +124,17 @@ fn blame_of(now: u64, moved: &[Moved], ran: u128, parts: u128, one: &Moved) -> u
     let others = parts.saturating_sub(u128::from(part_in(ran, one)));
     let met = others.saturating_sub(apart_parts(now, moved, ran, one));
     u128::from(one.gain.ran) * met / u128::from(WHOLE)
+}
+
+/// For how long a task held up another, where all ran so long.
+pub(crate) fn held_for(now: u64, ran: u128, one: &Moved, other: &Moved) -> u128
+    ensures { (moved : List MovedView) → ran ≡ spec.all_ran moved → result ≡ victims.held_for now moved one.now other.now }
+{
+    let run = only_run(now, one);
+    if one.task == other.task || is_apart(now, run, one, other) {
+        return 0;
+    }
+    u128::from(one.gain.ran) * u128::from(part_in(ran, other)) / u128::from(WHOLE)
 }
 
 /// What a task is charged with in a step of this time that ends now, where all ran so long, and their parts are so much.

@@ -5,7 +5,9 @@ use tk_report::View;
 
 // The hog ran 300 ms, and the other waited during all of that.
 const HOLDS_UP: &str =
-    "finding 1 holds-up now held 300000000 alone 0 longest 300000000 since 100000000 until 400000000 tasks 1 task 1.1 kind spawn at a.rs:1:1 name hog\n";
+    "finding 1 holds-up now held 300000000 alone 0 longest 300000000 since 100000000 until 400000000 tasks 1 task 1.1 kind spawn at a.rs:1:1 name hog
+  whom 300000000 kind spawn at a.rs:2:1 name conn-#
+";
 
 const LONG_POLL: &str =
     "finding 1 long-poll now longest 300000000 task 1.1 kind spawn at a.rs:1:1 name hog\n";

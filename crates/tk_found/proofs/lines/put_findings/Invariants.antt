@@ -6,4 +6,4 @@ use Rattle.tk_found.proofs.lines.put_findings.Given as goal
 
 -- the lines of those so far were put
 abbrev pub invariant-loop-i : goal.invariant-loop-i
-invariant-loop-i l = Puts l.initial.out.items l.out.items (lines_from 1 (map placed (take l.i l.list)))
+invariant-loop-i l = Puts l.initial.out.items l.out.items (lines_from l.pairs 1 (map placed (take l.i l.list)))
