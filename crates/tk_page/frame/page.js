@@ -12,8 +12,26 @@ const show = () => {
   }
   shown.textContent = n === all.length ? '' : n + ' of ' + all.length + ' tasks';
 };
-filter.addEventListener('input', show);
-only.addEventListener('change', show);
+const keep = () => {
+  const asked = new URLSearchParams();
+  const head = table.tHead.querySelector('[aria-sort]');
+  if (filter.value) asked.set('name', filter.value);
+  if (only.checked) asked.set('odd', '1');
+  if (head) asked.set('sort', (head.ariaSort === 'descending' ? '-' : '') + head.cellIndex);
+  const words = asked.toString();
+  history.replaceState(null, '', (words ? '?' + words : location.pathname) + location.hash);
+};
+filter.addEventListener('input', () => { show(); keep(); });
+only.addEventListener('change', () => { show(); keep(); });
+addEventListener('hashchange', () => {
+  const row = document.getElementById(location.hash.slice(1));
+  if (row && row.hidden) {
+    filter.value = '';
+    only.checked = false;
+    show();
+    row.scrollIntoView();
+  }
+});
 const of = (cell) => cell.dataset.v === undefined ? cell.textContent : BigInt(cell.dataset.v);
 for (const button of table.tHead.querySelectorAll('button')) {
   const head = button.parentNode;
@@ -26,5 +44,14 @@ for (const button of table.tHead.querySelectorAll('button')) {
       return (x < y ? -1 : x > y ? 1 : 0) * (down ? -1 : 1);
     });
     body.append(...all);
+    keep();
   });
 }
+const asked = new URLSearchParams(location.search), sort = asked.get('sort');
+filter.value = asked.get('name') || '';
+only.checked = asked.has('odd');
+if (sort) {
+  const button = table.tHead.rows[1].cells[Math.abs(sort)]?.querySelector('button');
+  if (button) for (let times = sort[0] === '-' ? 1 : 2; times > 0; times--) button.click();
+}
+show();

@@ -2,7 +2,7 @@
 
 /// What stands before the page's text.
 pub const HEAD: &str = "<!DOCTYPE html>
-<html lang=\"en\"><head><meta charset=\"utf-8\"><meta http-equiv=\"Content-Security-Policy\" content=\"default-src 'none'; style-src 'sha256-VfQjYSWVcxSEda9BQAgUOcNZv1cCXbHxpXN2U77yyRI='; script-src 'sha256-AP46l21RYjgXy5GFR5n6f9DKzmT8OhDhAXr5f9rCN/w='\"><meta name=\"viewport\" content=\"width=device-width, initial-scale=1\"><meta name=\"color-scheme\" content=\"light dark\"><title>taskscope</title><style>:root{--bg:#fff;--ink:#1a2027;--dim:#5a6672;--rule:#d5dce3;--card:#f6f8fa;--idle:#e6ebf0;--busy:#1f6fb8;--wait:#e07b00;--wake:#7b8794;--own:#b5179e;--bad:#c62828;--link:#0b5cad}
+<html lang=\"en\"><head><meta charset=\"utf-8\"><meta http-equiv=\"Content-Security-Policy\" content=\"default-src 'none'; style-src 'sha256-po+BNr+ZMFSrkTTVJYwBF5UM9F5gEo3DJKYOaEaQ8tY='; script-src 'sha256-GSu538MSVnerL3EsvS3jav20ePqr+6pZR9LsF3yOM94='\"><meta name=\"viewport\" content=\"width=device-width, initial-scale=1\"><meta name=\"color-scheme\" content=\"light dark\"><title>taskscope</title><style>:root{--bg:#fff;--ink:#1a2027;--dim:#5a6672;--rule:#d5dce3;--card:#f6f8fa;--idle:#e6ebf0;--busy:#1f6fb8;--wait:#b05f00;--wake:#7b8794;--own:#b5179e;--bad:#c62828;--link:#0b5cad}
 @media (prefers-color-scheme:dark){:root{--bg:#11161c;--ink:#e4e9ee;--dim:#9aa7b4;--rule:#2b353f;--card:#19212a;--idle:#25303b;--busy:#4fa3e8;--wait:#ffa53d;--wake:#8796a5;--own:#f06fd8;--bad:#ff6b61;--link:#7fc0ff}}
 *{box-sizing:border-box}
 body{margin:0;background:var(--bg);color:var(--ink);font:15px/1.45 system-ui,'Segoe UI','DejaVu Sans',sans-serif}
@@ -14,7 +14,7 @@ h3{font-size:15px;margin:0}
 p{margin:4px 0}
 small,.facts,.legend,.controls,caption{color:var(--dim)}
 small{font-size:12px;font-weight:400}
-.facts b{color:var(--ink)}
+.facts b{color:var(--ink);white-space:nowrap}
 .count{background:var(--bad);color:var(--bg);border-radius:10px;padding:1px 9px;font-size:13px}
 a{color:inherit;text-decoration-color:var(--dim);text-underline-offset:3px}
 ul.odd{list-style:none;margin:0;padding:0;display:grid;grid-template-columns:repeat(auto-fit,minmax(300px,1fr));gap:12px}
@@ -25,12 +25,12 @@ ul.odd li.unpolled{border-color:var(--wait)}
 ul.odd h3 .icon{font-weight:700}
 .do{color:var(--dim);font-size:14px}
 .legend{display:flex;flex-wrap:wrap;gap:4px 18px;font-size:13px}
-.legend i{display:inline-block;width:14px;height:12px;border-radius:2px;vertical-align:-1px}
-.k-busy{background:var(--busy)}.k-wait{background:var(--wait)}.k-alive{background:var(--idle)}.k-lost{background:var(--bad);opacity:.4}
+.legend i{forced-color-adjust:none;display:inline-block;width:14px;height:12px;border-radius:2px;vertical-align:-1px}
+.k-busy{background:var(--busy)}.k-wait{background:var(--wait)}.k-alive{background:var(--idle)}.k-lost{background:var(--bad);opacity:.55}
 .legend .k-wake,.legend .k-own{height:5px;vertical-align:2px}.k-wake{background:var(--wake)}.k-own{background:var(--own)}
 .controls{display:flex;flex-wrap:wrap;gap:6px 20px;font-size:14px;align-items:center}
 input[type=search]{font:inherit;padding:3px 8px;border:1px solid var(--rule);border-radius:4px;background:var(--bg);color:inherit}
-.scroll{overflow-x:auto}
+@media(max-width:1240px){.scroll{overflow-x:auto}}
 table{border-collapse:collapse;width:100%;font-size:14px}
 caption{text-align:left;font-size:13px;padding:2px 0 6px}
 th,td{padding:4px 8px;text-align:left;border-bottom:1px solid var(--rule);vertical-align:middle}
@@ -47,16 +47,17 @@ svg.strip{width:100%;height:30px}
 svg.total{width:100%;height:44px;border-bottom:1px solid var(--rule)}
 tr.sum td{border:0;padding-bottom:0}tr.sum td:nth-child(2){padding-left:0;padding-right:0}
 .lead{text-align:right;font-size:13px}
-svg.bar{display:inline-block;width:52px;height:9px;background:var(--idle);border-radius:2px;vertical-align:0;margin-right:4px}
-.busy{fill:var(--busy)}.wait{fill:var(--wait)}.alive{fill:var(--idle)}.wake{fill:var(--wake)}.own{fill:var(--own)}.lost{fill:var(--bad);fill-opacity:.28}
+#table td:nth-child(4),#table td:nth-child(5){min-width:118px}
+svg.bar{float:left;margin-top:6px;width:52px;height:9px;background:var(--idle);border-radius:2px;margin-right:4px}
+.busy{fill:var(--busy)}.wait{fill:var(--wait)}.alive{fill:var(--idle)}.wake{fill:var(--wake)}.own{fill:var(--own)}.lost{fill:var(--bad);fill-opacity:.55}
 .axis{display:flex;justify-content:space-between;font-size:11px;color:var(--dim)}
 .badge{display:inline-block;font-size:11.5px;font-weight:600;border:1px solid currentColor;border-radius:9px;padding:0 7px;margin:2px 4px 0 0;color:var(--bad);white-space:nowrap}
 .badge.holds{color:var(--busy)}.badge.self{color:var(--own)}.badge.unpolled{color:var(--wait)}
-.name::after{content:''}.st{white-space:nowrap}.st.closed{color:var(--dim)}.st.running{color:var(--busy);font-weight:600}.st.waiting{color:var(--wait);font-weight:600}
+.name{display:-webkit-inline-box;-webkit-box-orient:vertical;-webkit-line-clamp:2;overflow:hidden;vertical-align:bottom}.st{white-space:nowrap}.st.closed{color:var(--dim)}.st.running{color:var(--busy);font-weight:600}.st.waiting{color:var(--wait);font-weight:600}
 .res{border:1px solid var(--rule);border-radius:4px;padding:10px 14px;margin-bottom:10px}
 dl{display:flex;flex-wrap:wrap;gap:2px 22px;margin:2px 0}dl div{display:flex;gap:6px}dt{color:var(--dim)}dd{margin:0;font-weight:600;font-variant-numeric:tabular-nums}
 summary{cursor:pointer}
-@media print{:root{--bg:#fff;--ink:#000;--dim:#444;--rule:#bbb;--card:#f4f4f4;--idle:#e6ebf0;--busy:#1f6fb8;--wait:#e07b00;--wake:#7b8794;--own:#b5179e;--bad:#c62828}*{print-color-adjust:exact;-webkit-print-color-adjust:exact}.controls{display:none}tr,li,.res{break-inside:avoid}thead{display:table-row-group}thead th{position:static}.do,.legend,.lead,.controls,caption,h3,small,.badge{font-size:inherit}body{font-size:11px}header,main{padding:0;max-width:none}table{font-size:10.5px}.course{min-width:0}@page{size:landscape;margin:12mm}}
+@media print{:root{--bg:#fff;--ink:#000;--dim:#444;--rule:#bbb;--card:#f4f4f4;--idle:#e6ebf0;--busy:#1f6fb8;--wait:#b05f00;--wake:#7b8794;--own:#b5179e;--bad:#c62828}*{print-color-adjust:exact;-webkit-print-color-adjust:exact}.controls{display:none}tr,li,.res{break-inside:avoid}thead th{position:static}.do,.legend,.lead,.controls,caption,h3,small,.badge{font-size:inherit}body{font-size:11px}header,main{padding:0;max-width:none}table{font-size:10.5px}.course{min-width:0}@page{size:landscape;margin:12mm}}
 .note{flex-basis:100%;margin:0;color:var(--dim)}
 .now{max-width:1392px;width:calc(100% - 48px);margin:14px auto 0;border:2px solid var(--bad);border-radius:6px;padding:8px 16px}
 .now .tag{background:var(--bad);color:var(--bg);border-radius:4px;padding:1px 8px;font-weight:700;font-size:12px;text-transform:uppercase}
@@ -66,6 +67,10 @@ ul.odd h3 small{font-weight:400;margin-left:4px}
 .badges{line-height:1.5}
 .controls{visibility:hidden}.live .controls{visibility:visible}
 td dl{margin:0}
+@media(max-width:700px){header,main{padding:0 12px}.scroll{overflow:visible}#table,#table caption,#table thead,#table tbody,#table th,#table td{display:block}#table thead tr{display:none}#table thead tr.sum{display:block}tr.sum td:last-child{display:none}.lead{text-align:left}
+#table tbody tr{display:grid;grid-template-columns:repeat(3,1fr);padding:6px 0;border-bottom:1px solid var(--rule)}#table tbody tr[hidden]{display:none}#table tbody th,#table tbody td{border:0;padding:2px 4px;min-width:0;max-width:none}
+#table tbody th{grid-column:1/3}#table tbody td:nth-child(2){text-align:right}#table tbody .course{grid-column:1/-1;width:auto}#table tbody td:nth-child(n+7){display:none}#table tbody .num{text-align:left}svg.bar{display:none}
+#table tbody td:nth-child(4)::before{content:'busy '}#table tbody td:nth-child(5)::before{content:'waiting '}#table tbody td:nth-child(6)::before{content:'a poll '}}
 </style></head><body>
 ";
 
@@ -85,8 +90,26 @@ const show = () => {
   }
   shown.textContent = n === all.length ? '' : n + ' of ' + all.length + ' tasks';
 };
-filter.addEventListener('input', show);
-only.addEventListener('change', show);
+const keep = () => {
+  const asked = new URLSearchParams();
+  const head = table.tHead.querySelector('[aria-sort]');
+  if (filter.value) asked.set('name', filter.value);
+  if (only.checked) asked.set('odd', '1');
+  if (head) asked.set('sort', (head.ariaSort === 'descending' ? '-' : '') + head.cellIndex);
+  const words = asked.toString();
+  history.replaceState(null, '', (words ? '?' + words : location.pathname) + location.hash);
+};
+filter.addEventListener('input', () => { show(); keep(); });
+only.addEventListener('change', () => { show(); keep(); });
+addEventListener('hashchange', () => {
+  const row = document.getElementById(location.hash.slice(1));
+  if (row && row.hidden) {
+    filter.value = '';
+    only.checked = false;
+    show();
+    row.scrollIntoView();
+  }
+});
 const of = (cell) => cell.dataset.v === undefined ? cell.textContent : BigInt(cell.dataset.v);
 for (const button of table.tHead.querySelectorAll('button')) {
   const head = button.parentNode;
@@ -99,7 +122,16 @@ for (const button of table.tHead.querySelectorAll('button')) {
       return (x < y ? -1 : x > y ? 1 : 0) * (down ? -1 : 1);
     });
     body.append(...all);
+    keep();
   });
 }
+const asked = new URLSearchParams(location.search), sort = asked.get('sort');
+filter.value = asked.get('name') || '';
+only.checked = asked.has('odd');
+if (sort) {
+  const button = table.tHead.rows[1].cells[Math.abs(sort)]?.querySelector('button');
+  if (button) for (let times = sort[0] === '-' ? 1 : 2; times > 0; times--) button.click();
+}
+show();
 </script></body></html>
 ";
