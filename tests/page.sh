@@ -41,6 +41,7 @@ step "the frame is what its script writes" python3 "$root/crates/tk_page/frame/m
 step "the service's script is what its script writes" python3 "$examples/service.py" --check
 step "the long tail's script is what its script writes" python3 "$examples/long-tail.py" --check
 step "the picture has at most 150 kB" is_small "$picture"
+step "the colours have the contrast that people need" python3 "$root/tests/page/check_contrast.py" "$root/crates/tk_page/frame/page.css"
 
 # A service in which chance falls as this number says, and whose closed tasks leave: its stream and its page.
 make_service() {

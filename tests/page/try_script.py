@@ -1,6 +1,6 @@
 #!/usr/bin/python3
 """Opens pages in a browser without a window: the page's own script runs under its policy and a stranger's doesn't; each column of
-numbers sorts both ways; the filter hides and shows.
+numbers sorts both ways; the filter hides and shows; what is asked for stands in the address, and a link to a hidden row shows it.
 
 Usage: try_script.py PAGE [PAGE ..]
 
@@ -41,13 +41,31 @@ document.title = seen.every((x) => x) + " " + seen.length;
 }</script></body>"""
 
 
-def opened(html):
+# What an address asks for: names with a letter, sorted by busy time, longest first; then the link to a row that this hides.
+ASKED = "?name=-&sort=-3"
+LINKS = """<script>{
+const rows = () => [...document.querySelectorAll("#table tbody tr")];
+const hides = (row) => !row.querySelector("th").textContent.includes("-");
+const busy = rows().map((row) => BigInt(row.cells[3].dataset.v));
+const seen = [rows().every((row) => row.hidden === hides(row)), rows().some(hides), busy.every((x, i) => i === 0 || busy[i - 1] >= x)];
+document.getElementById("filter").dispatchEvent(new Event("input"));
+const kept = new URLSearchParams(location.search);
+seen.push(kept.get("name") === "-", kept.get("sort") === "-3");
+addEventListener("hashchange", () => setTimeout(() => {
+  seen.push(rows().every((row) => !row.hidden));
+  document.title = seen.every((x) => x) + " " + seen;
+}, 100));
+location.hash = rows().find(hides).id;
+}</script></body>"""
+
+
+def opened(html, asked=""):
     """The document as the browser has it once its scripts ran."""
     with tempfile.TemporaryDirectory() as folder:
         page = os.path.join(folder, "page.html")
         with open(page, "w", encoding="utf-8") as file:
             file.write(html)
-        command = ["chromium", *FLAGS, f"--user-data-dir={folder}/profile", f"file://{page}"]
+        command = ["chromium", *FLAGS, f"--user-data-dir={folder}/profile", f"file://{page}{asked}"]
         return subprocess.run(command, capture_output=True, text=True, timeout=120, check=True).stdout
 
 
@@ -60,6 +78,9 @@ def try_page(path):
     clicked = opened(re.sub(POLICY, "", text).replace("</body>", CLICKS))
     seen = re.search("<title>(.*?)</title>", clicked).group(1)
     assert seen.startswith("true "), seen
+    linked = opened(re.sub(POLICY, "", text).replace("</body>", LINKS), ASKED)
+    seen = re.search("<title>(.*?)</title>", linked).group(1)
+    assert seen.startswith("true "), f"the address {ASKED}, and a link: {seen}"
 
 
 for page in sys.argv[1:]:

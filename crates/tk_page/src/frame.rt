@@ -2,7 +2,7 @@
 
 /// What stands before the page's text.
 pub const HEAD: &str = "<!DOCTYPE html>
-<html lang=\"en\"><head><meta charset=\"utf-8\"><meta http-equiv=\"Content-Security-Policy\" content=\"default-src 'none'; style-src 'sha256-po+BNr+ZMFSrkTTVJYwBF5UM9F5gEo3DJKYOaEaQ8tY='; script-src 'sha256-GSu538MSVnerL3EsvS3jav20ePqr+6pZR9LsF3yOM94='\"><meta name=\"viewport\" content=\"width=device-width, initial-scale=1\"><meta name=\"color-scheme\" content=\"light dark\"><title>taskscope</title><style>:root{--bg:#fff;--ink:#1a2027;--dim:#5a6672;--rule:#d5dce3;--card:#f6f8fa;--idle:#e6ebf0;--busy:#1f6fb8;--wait:#b05f00;--wake:#7b8794;--own:#b5179e;--bad:#c62828;--link:#0b5cad}
+<html lang=\"en\"><head><meta charset=\"utf-8\"><meta http-equiv=\"Content-Security-Policy\" content=\"default-src 'none'; style-src 'sha256-gLZyRw5MYZhxcXMiJDNqLG56pW8paqs5DLGiQ/lsNY4='; script-src 'sha256-GSu538MSVnerL3EsvS3jav20ePqr+6pZR9LsF3yOM94='\"><meta name=\"viewport\" content=\"width=device-width, initial-scale=1\"><meta name=\"color-scheme\" content=\"light dark\"><title>taskscope</title><style>:root{--bg:#fff;--ink:#1a2027;--dim:#5a6672;--rule:#d5dce3;--card:#f6f8fa;--idle:#e6ebf0;--busy:#1f6fb8;--wait:#a85a00;--wake:#7b8794;--own:#b5179e;--bad:#c62828;--link:#0b5cad}
 @media (prefers-color-scheme:dark){:root{--bg:#11161c;--ink:#e4e9ee;--dim:#9aa7b4;--rule:#2b353f;--card:#19212a;--idle:#25303b;--busy:#4fa3e8;--wait:#ffa53d;--wake:#8796a5;--own:#f06fd8;--bad:#ff6b61;--link:#7fc0ff}}
 *{box-sizing:border-box}
 body{margin:0;background:var(--bg);color:var(--ink);font:15px/1.45 system-ui,'Segoe UI','DejaVu Sans',sans-serif}
@@ -57,7 +57,7 @@ svg.bar{float:left;margin-top:6px;width:52px;height:9px;background:var(--idle);b
 .res{border:1px solid var(--rule);border-radius:4px;padding:10px 14px;margin-bottom:10px}
 dl{display:flex;flex-wrap:wrap;gap:2px 22px;margin:2px 0}dl div{display:flex;gap:6px}dt{color:var(--dim)}dd{margin:0;font-weight:600;font-variant-numeric:tabular-nums}
 summary{cursor:pointer}
-@media print{:root{--bg:#fff;--ink:#000;--dim:#444;--rule:#bbb;--card:#f4f4f4;--idle:#e6ebf0;--busy:#1f6fb8;--wait:#b05f00;--wake:#7b8794;--own:#b5179e;--bad:#c62828}*{print-color-adjust:exact;-webkit-print-color-adjust:exact}.controls{display:none}tr,li,.res{break-inside:avoid}thead th{position:static}.do,.legend,.lead,.controls,caption,h3,small,.badge{font-size:inherit}body{font-size:11px}header,main{padding:0;max-width:none}table{font-size:10.5px}.course{min-width:0}@page{size:landscape;margin:12mm}}
+@media print{:root{--bg:#fff;--ink:#000;--dim:#444;--rule:#bbb;--card:#f4f4f4;--idle:#e6ebf0;--busy:#1f6fb8;--wait:#a85a00;--wake:#7b8794;--own:#b5179e;--bad:#c62828}*{print-color-adjust:exact;-webkit-print-color-adjust:exact}.controls{display:none}tr,li,.res{break-inside:avoid}thead th{position:static}.do,.legend,.lead,.controls,caption,h3,small,.badge{font-size:inherit}body{font-size:11px}header,main{padding:0;max-width:none}table{font-size:10.5px}.course{min-width:0}@page{size:landscape;margin:12mm}}
 .note{flex-basis:100%;margin:0;color:var(--dim)}
 .now{max-width:1392px;width:calc(100% - 48px);margin:14px auto 0;border:2px solid var(--bad);border-radius:6px;padding:8px 16px}
 .now .tag{background:var(--bad);color:var(--bg);border-radius:4px;padding:1px 8px;font-weight:700;font-size:12px;text-transform:uppercase}
