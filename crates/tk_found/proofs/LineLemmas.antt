@@ -3,22 +3,21 @@ use Rattle.std.proofs.Common.{◌≡◌, ℕ, zero, suc, ◌+◌, ◌<◌, ◌�
 use Rattle.std.specs.Prelude.{flat_map}
 use Rattle.std.proofs.lemmas.List.{take_all}
 use Rattle.tk_odd.specs.declared.finding.Found.{Found}
-use Rattle.tk_odd.specs.Findings.{placed}
-use Rattle.tk_odd.specs.Victims.{Pairs}
+use Rattle.tk_odd.specs.Findings.{told}
 use Rattle.tk_found.specs.Lines.{finding_lines, lines_at, lines_from}
 
 -- the lines of the first findings, and of the one after them
-pub lines_more : (pairs : Pairs) (n : ℕ) (xs : List Found) (i : ℕ) (x : Found) (m : ℕ) → i < length xs → x ≡ get_or xs i x → m ≡ n + i
-    → lines_from pairs n (map placed (take (i + 1) xs)) ≡ lines_from pairs n (map placed (take i xs)) ++ lines_at pairs m (placed x)
-lines_more pairs n xs i x m h at is = rw add-one (by n xs i m h at is)
+pub lines_more : (n : ℕ) (xs : List Found) (i : ℕ) (x : Found) (m : ℕ) → i < length xs → x ≡ get_or xs i x → m ≡ n + i
+    → lines_from n (map told (take (i + 1) xs)) ≡ lines_from n (map told (take i xs)) ++ lines_at m (told x)
+lines_more n xs i x m h at is = rw add-one (by n xs i m h at is)
   where
     by : (k : ℕ) (ys : List Found) (j m : ℕ) → j < length ys → x ≡ get_or ys j x → m ≡ k + j
-        → lines_from pairs k (map placed (take (suc j) ys)) ≡ lines_from pairs k (map placed (take j ys)) ++ lines_at pairs m (placed x)
+        → lines_from k (map told (take (suc j) ys)) ≡ lines_from k (map told (take j ys)) ++ lines_at m (told x)
     by k [] j m g e same = absurd (omega (arith, g))
-    by k (y ∷ ys) zero m g e same = append-nil (lines_at pairs k (placed y)) ∙ ap₂ (λ (l : ℕ) (z : Found). lines_at pairs l (placed z)) (omega (arith, same)) (sym e)
+    by k (y ∷ ys) zero m g e same = append-nil (lines_at k (told y)) ∙ ap₂ (λ (l : ℕ) (z : Found). lines_at l (told z)) (omega (arith, same)) (sym e)
     by k (y ∷ ys) (suc j) m g e same =
-        ap (λ (zs : List ℕ). lines_at pairs k (placed y) ++ zs) (by (k + 1) ys j m (omega (arith, g)) e (omega (arith, same)))
-        ∙ sym (append_assoc (lines_at pairs k (placed y)) (lines_from pairs (k + 1) (map placed (take j ys))) (lines_at pairs m (placed x)))
+        ap (λ (zs : List ℕ). lines_at k (told y) ++ zs) (by (k + 1) ys j m (omega (arith, g)) e (omega (arith, same)))
+        ∙ sym (append_assoc (lines_at k (told y)) (lines_from (k + 1) (map told (take j ys))) (lines_at m (told x)))
 
 -- the texts of the first items, and of the one after them
 pub flat_more : {A : Type 0} (f : A → List ℕ) (xs : List A) (i : ℕ) (x : A) → i < length xs → x ≡ get_or xs i x
@@ -31,5 +30,5 @@ flat_more {A} f xs i x h at = rw add-one (by xs i h at)
     by (y ∷ ys) (suc j) g e = ap (λ (zs : List ℕ). f y ++ zs) (by ys j (omega (arith, g)) e) ∙ sym (append_assoc (f y) (flat_map f (take j ys)) (f x))
 
 -- those of all
-pub lines_all : (pairs : Pairs) (xs : List Found) (i : ℕ) → length xs ≤ i → lines_from pairs 1 (map placed (take i xs)) ≡ finding_lines pairs (map placed xs)
-lines_all pairs xs i past = ap (λ (ys : List Found). lines_from pairs 1 (map placed ys)) (take_all i xs past)
+pub lines_all : (xs : List Found) (i : ℕ) → length xs ≤ i → lines_from 1 (map told (take i xs)) ≡ finding_lines (map told xs)
+lines_all xs i past = ap (λ (ys : List Found). lines_from 1 (map told ys)) (take_all i xs past)

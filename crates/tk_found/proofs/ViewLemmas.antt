@@ -12,10 +12,9 @@ use Rattle.tk_report.specs.declared.view.View.{View}
 use Rattle.tk_odd.specs.declared.diagnosis.Diagnosis.{Diagnosis}
 use Rattle.tk_odd.specs.declared.limits.Limits.{Limits}
 use Rattle.tk_odd.specs.Diagnosis.{standing_of}
-use Rattle.tk_odd.specs.Findings.{Placed, findings_of}
+use Rattle.tk_odd.specs.Findings.{Told, told_of}
 use Rattle.tk_odd.specs.Inner.{Follows}
-use Rattle.tk_odd.specs.Victims.{Pairs}
-use Rattle.tk_found.specs.Views.{LeadToFindings, ViewsFindings, found_in, found_text, pairs_in}
+use Rattle.tk_found.specs.Views.{LeadToFindings, ViewsFindings, found_in, found_text}
 
 -- what a diagnosis has seen, from what it was
 abbrev pub saw : Diagnosis → List TablesView → Diagnosis → Type 0
@@ -30,29 +29,23 @@ module _ (from : Diagnosis) (view : View) (times : Bool) (given left old new : O
   shows_none (faults.Script line name) h = absurd h
   shows_none (faults.Stream lines fault) h = h
 
-  module _ (all : SawAll (saw from) given client it) (tables : TablesView) (same : tables ≡ client.start.tables) (list : List Placed)
-      (found : (shown : List TablesView) → Follows shown it → list ≡ findings_of it.limits (standing_of it.limits shown) tables)
-      (pairs : Pairs) (whom : (shown : List TablesView) → Follows shown it → pairs ≡ (standing_of it.limits shown).pairs)
-      (text : List ℕ) (is : text ≡ found_text view times client.start pairs list) where
+  module _ (all : SawAll (saw from) given client it) (tables : TablesView) (same : tables ≡ client.start.tables) (list : List Told)
+      (found : (shown : List TablesView) → Follows shown it → list ≡ told_of it.limits (standing_of it.limits shown) tables)
+      (text : List ℕ) (is : text ≡ found_text view times client.start list) where
     -- this is odd about what all bytes come to
     is_found : list ≡ found_in from.limits all.bytes client.start.tables
     is_found =
         found (shown_of all.bytes) all.seen.0
-        ∙ ap (λ (limits : Limits). findings_of limits (standing_of limits (shown_of all.bytes)) tables) all.seen.1
+        ∙ ap (λ (limits : Limits). told_of limits (standing_of limits (shown_of all.bytes)) tables) all.seen.1
         ∙ ap (λ (t : TablesView). found_in from.limits all.bytes t) same
 
-    -- and so they waited for whom
-    is_whom : pairs ≡ pairs_in from.limits all.bytes
-    is_whom = whom (shown_of all.bytes) all.seen.0 ∙ ap (λ (limits : Limits). pairs_in limits all.bytes) all.seen.1
-
-    leads : LeadToFindings given from.limits client.start pairs list
-    leads = record { bytes = all.bytes; all = all.all; lines = all.lines; come = all.taken.took.came; found = is_found; whom = is_whom }
+    leads : LeadToFindings given from.limits client.start list
+    leads = record { bytes = all.bytes; all = all.all; lines = all.lines; come = all.taken.took.came; found = is_found }
 
     -- its text went out
     pub shows_all : (count : ℕ) → Appends old new text → count ≡ length list → ViewsFindings view from.limits times given left (Ok count) old new
     shows_all count wrote counted = record {
       start = client.start;
-      pairs = pairs;
       list = list;
       lead = leads;
       wrote = subst (Appends old new) is wrote;
@@ -63,7 +56,6 @@ module _ (from : Diagnosis) (view : View) (times : Bool) (given left old new : O
     pub shows_front : (front : List ℕ) → IsCut text front → Appends old new front → ViewsFindings view from.limits times given left (Err faults.Write) old new
     shows_front front cut wrote = record {
       start = client.start;
-      pairs = pairs;
       list = list;
       lead = leads;
       front = front;

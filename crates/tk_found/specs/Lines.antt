@@ -4,9 +4,8 @@ use Rattle.tk_ids.specs.Ids.{id_text}
 use Rattle.tk_report.specs.Report.{line}
 use Rattle.tk_odd.specs.declared.finding.Finding.{Finding}
 use Rattle.tk_odd.specs.declared.finding.OddKind.{OddKind}
-use Rattle.tk_odd.specs.Findings.{Placed}
+use Rattle.tk_odd.specs.Findings.{Placed, Told}
 use Rattle.tk_odd.specs.Words.{advice_of, kinds, name_of, shape_of, when_word}
-use Rattle.tk_odd.specs.Victims.{Pairs, most_held}
 use Rattle.tk_odd.specs.declared.words.Shape.{Shape}
 use Rattle.tk_odd.specs.declared.words.Shape.TheVariants.{Held, Alone, Stretch, Lasting, Longest, Share}
 
@@ -40,23 +39,18 @@ abbrev pub whom_line : Option (List ℕ × ℕ) → List ℕ
 whom_line None = []
 whom_line (Some (victim, time)) = line (codes "  whom") (decimal time ∷ codes "kind" ∷ victim ∷ [])
 
--- the same, where others waited for the tasks of a place
-abbrev pub whom_by : Shape → Pairs → List ℕ → List ℕ
-whom_by Held pairs place = whom_line (most_held place pairs)
-whom_by other pairs place = []
-
 -- the lines of the finding that stands at this number
-abbrev pub lines_at : Pairs → ℕ → Placed → List ℕ
-lines_at pairs n (place, x) = finding_line n (place, x) ++ whom_by (shape_of x.kind) pairs place
+abbrev pub lines_at : ℕ → Told → List ℕ
+lines_at n (x, victim) = finding_line n x ++ whom_line victim
 
 -- the lines of findings, numbered from this number on
-abbrev pub lines_from : Pairs → ℕ → List Placed → List ℕ
-lines_from pairs n [] = []
-lines_from pairs n (x ∷ xs) = lines_at pairs n x ++ lines_from pairs (n + 1) xs
+abbrev pub lines_from : ℕ → List Told → List ℕ
+lines_from n [] = []
+lines_from n (x ∷ xs) = lines_at n x ++ lines_from (n + 1) xs
 
 -- the lines of all findings, numbered from 1
-abbrev pub finding_lines : Pairs → List Placed → List ℕ
-finding_lines pairs list = lines_from pairs 1 list
+abbrev pub finding_lines : List Told → List ℕ
+finding_lines list = lines_from 1 list
 
 -- ---- what there is to find
 

@@ -1,8 +1,7 @@
 //! The lines of findings, each put after what is written.
 ghost use Rattle.std.specs.Prelude.{◌≡◌, ◌∷◌, ◌++◌, [], Some, codes, decimal, map, IfOk, OnOk, string_bytes};
 ghost use Rattle.tk_ids.specs.Ids.{id_text};
-ghost use Rattle.tk_odd.specs.Findings.{placed};
-ghost use Rattle.tk_odd.specs.Victims.{most_held};
+ghost use Rattle.tk_odd.specs.Findings.{placed, told, victim_of};
 ghost use Rattle.tk_odd.specs.Words.{name_of, shape_of, when_word};
 ghost use Rattle.tk_report.specs.Pieces.{Puts, spaced};
 ghost use Rattle.tk_report.specs.Report.{rest_of_line};
@@ -10,8 +9,7 @@ ghost use Rattle.tk_found.specs.Lines as spec;
 
 use std::alloc::{AllocError, Global};
 use tk_ids::TaskId;
-use tk_odd::{Finding, Found, Shape, Victim, Waited, most_held, when_word};
-use tk_series::Series;
+use tk_odd::{Finding, Found, Shape, Victim, when_word};
 
 fn put(out: &mut Vec<u8>, text: &[u8]) -> Result<(), AllocError>
     ensures { OnOk result (Puts out.old.items out.new.items text.now) }
@@ -140,7 +138,7 @@ fn put_finding(
 ) -> Result<(), AllocError>
     ensures { OnOk result (Puts out.old.items out.new.items (spec.finding_line number (placed found.now))) }
 {
-    let Found { place, finding } = found;
+    let Found { place, finding, .. } = found;
     put(out, head_of(alloc, number, finding)?.as_bytes())?;
     put(out, figures_of(alloc, finding)?.as_bytes())?;
     put_task(out, alloc, finding.task, place)
@@ -152,59 +150,45 @@ fn time_word(alloc: Global, time: u64) -> Result<String, AllocError>
     format!(in alloc; "  whom {time} kind")
 }
 
-fn put_victim(out: &mut Vec<u8>, alloc: Global, victim: Victim<'_>) -> Result<(), AllocError>
-    ensures { OnOk result (Puts out.old.items out.new.items (spec.whom_line (Some (victim.place.now, victim.time)))) }
+fn put_victim(out: &mut Vec<u8>, alloc: Global, victim: &Victim) -> Result<(), AllocError>
+    ensures { OnOk result (Puts out.old.items out.new.items (spec.whom_line (Some (victim.now.place.items, victim.now.time)))) }
 {
     put(out, time_word(alloc, victim.time)?.as_bytes())?;
     put(out, b" ")?;
-    put(out, victim.place)?;
+    put(out, &victim.place)?;
     put(out, b"\n")?;
     Ok(())
 }
 
-// Who waited longest for the tasks of a place.
-fn put_whom(
-    out: &mut Vec<u8>,
-    alloc: Global,
-    pairs: &Series<Waited>,
-    place: &[u8],
-) -> Result<(), AllocError>
-    ensures { OnOk result (Puts out.old.items out.new.items (spec.whom_line (most_held place.now pairs.now))) }
+// Who waited longest for it.
+fn put_whom(out: &mut Vec<u8>, alloc: Global, found: &Found) -> Result<(), AllocError>
+    ensures { OnOk result (Puts out.old.items out.new.items (spec.whom_line (victim_of found.now.victim))) }
 {
-    match most_held(pairs, alloc, place)? {
+    match &found.victim {
         Some(victim) => put_victim(out, alloc, victim),
-        None => Ok(()),
+        None => put(out, b""),
     }
 }
 
 // A finding, and below it who waited for it.
-fn put_found(
-    out: &mut Vec<u8>,
-    alloc: Global,
-    pairs: &Series<Waited>,
-    number: u64,
-    found: &Found,
-) -> Result<(), AllocError>
-    ensures { OnOk result (Puts out.old.items out.new.items (spec.lines_at pairs.now number (placed found.now))) }
+fn put_found(out: &mut Vec<u8>, alloc: Global, number: u64, found: &Found) -> Result<(), AllocError>
+    ensures { OnOk result (Puts out.old.items out.new.items (spec.lines_at number (told found.now))) }
 {
     put_finding(out, alloc, number, found)?;
-    match found.finding.kind.shape() {
-        Shape::Held => put_whom(out, alloc, pairs, &found.place),
-        _ => put(out, b""),
-    }
+    put_whom(out, alloc, found)?;
+    Ok(())
 }
 
 /// The lines of findings, in their order.
 pub(crate) fn put_findings(
     out: &mut Vec<u8>,
     alloc: Global,
-    pairs: &Series<Waited>,
     list: &[Found],
 ) -> Result<(), AllocError>
-    ensures { OnOk result (Puts out.old.items out.new.items (spec.finding_lines pairs.now (map placed list.now))) }
+    ensures { OnOk result (Puts out.old.items out.new.items (spec.finding_lines (map told list.now))) }
 {
     for (i, found) in list.iter().enumerate() {
-        put_found(out, alloc, pairs, i as u64 + 1, found)?;
+        put_found(out, alloc, i as u64 + 1, found)?;
     }
     Ok(())
 }

@@ -1,6 +1,6 @@
 //! Views of a stream that tell what is odd about it.
 ghost use Rattle.std.specs.Prelude.{◌≡◌, [], map, IfOk, IfErr};
-ghost use Rattle.tk_odd.specs.Findings.{placed};
+ghost use Rattle.tk_odd.specs.Findings.{told};
 ghost use Rattle.tk_odd.specs.Inner.{Follows};
 ghost use Rattle.tk_reading.specs.Taken.{first};
 ghost use Rattle.tk_report.specs.Views.{IsOfWriter};
@@ -11,10 +11,9 @@ use std::alloc::{AllocError, Global};
 use std::io::{Read, Write};
 use tk_client::{Client, Lints};
 use tk_fault::AppFault;
-use tk_odd::{Diagnosis, Found, Limits, Waited};
+use tk_odd::{Diagnosis, Found, Limits};
 use tk_reading::{MAX_LINE, read_stream};
 use tk_report::{View, timed_report_with};
-use tk_series::Series;
 use tk_stream::send;
 
 /// Nanoseconds of a millisecond.
@@ -35,16 +34,15 @@ fn text_of(
     view: View,
     times: bool,
     client: &Client,
-    pairs: &Series<Waited>,
     list: &[Found],
 ) -> Result<Vec<u8>, AllocError>
-    ensures { IfOk result (λ text. text.items ≡ spec.found_text view times client.now.start pairs.now (map placed list.now)) }
+    ensures { IfOk result (λ text. text.items ≡ spec.found_text view times client.now.start (map told list.now)) }
 {
     let mut text = match view {
         View::Report => timed_report_with(alloc, client.tables(), client.times(), times, &[])?,
         View::Lint => Vec::new(alloc),
     };
-    put_findings(&mut text, alloc, pairs, list)?;
+    put_findings(&mut text, alloc, list)?;
     Ok(text)
 }
 
@@ -65,10 +63,10 @@ fn view_by<R: Read, W: Write>(
     ensures unwritten { IfErr result (λ fault. (IsOfWriter fault → ⊥) → writer.new ≡ writer.old) }
 {
     read_stream(client, diagnosis, reader)?;
-    let Ok(list) = diagnosis.findings(alloc, client.tables()) else {
+    let Ok(list) = diagnosis.findings_with_victims(alloc, client.tables()) else {
         return Err(AppFault::Memory);
     };
-    let Ok(text) = text_of(alloc, view, times, client, diagnosis.pairs(), &list) else {
+    let Ok(text) = text_of(alloc, view, times, client, &list) else {
         return Err(AppFault::Memory);
     };
     match send(writer, text.as_slice()) {

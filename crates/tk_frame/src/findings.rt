@@ -179,7 +179,7 @@ fn put_finding(
 ) -> Result<(), AllocError>
     ensures { OnOk result (Puts (string_bytes out.old) (string_bytes out.new) (spec.finding_text number (option_map (λ t. t.now) task.entry) (placed found.now).0 (placed found.now).1)) }
 {
-    let Found { place, finding } = found;
+    let Found { place, finding, .. } = found;
     put_number(out, room, number, finding.is_now)?;
     put_said(out, task, place.as_slice(), finding)?;
     put_source(out, finding.kind, task)?;

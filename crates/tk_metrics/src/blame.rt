@@ -68,7 +68,7 @@ fn put_task_label(
 fn finding_labels(alloc: Global, by: By, found: &Found) -> Result<Vec<u8>, AllocError>
     ensures { IfOk result (λ labels. labels.items ≡ spec.finding_labels by (placed found.now)) }
 {
-    let Found { place, finding } = found;
+    let Found { place, finding, .. } = found;
     let mut labels = Vec::new(alloc);
     put_task_label(&mut labels, alloc, by, finding.task)?;
     put_label(&mut labels, "kind", finding.kind.name().as_bytes())?;

@@ -13,6 +13,7 @@ use Rattle.tk_stream.specs.declared.tables.task.Task.{Task}
 use Rattle.tk_odd.specs.declared.apart.Stretch.{Stretch}
 use Rattle.tk_odd.specs.declared.finding.Finding.{Finding}
 use Rattle.tk_odd.specs.declared.finding.Found.{Found}
+use Rattle.tk_odd.specs.declared.finding.Victim.{Victim}
 use Rattle.tk_odd.specs.declared.finding.OddKind.{OddKind}
 use Rattle.tk_odd.specs.declared.finding.OddKind.TheVariants.{HoldsUp, StandsStill, LeftAlone, Overloaded, NeverYielded, LostWaker, PassedOver, NeverPolled, LongPoll, SelfWakes}
 use Rattle.tk_odd.specs.declared.held.Held.{Held}
@@ -20,7 +21,10 @@ use Rattle.tk_odd.specs.declared.limits.Limits.{Limits}
 use Rattle.tk_odd.specs.Diagnosis.{Standing}
 use Rattle.tk_odd.specs.Gains.{waits}
 use Rattle.tk_odd.specs.Places.{place_of}
-use Rattle.tk_odd.specs.Words.{name_of}
+use Rattle.tk_odd.specs.Victims.{Pairs, most_held}
+use Rattle.tk_odd.specs.Words.{name_of, shape_of}
+use Rattle.tk_odd.specs.declared.words.Shape.{Shape}
+use Rattle.tk_odd.specs.declared.words.Shape.TheVariants as shapes
 
 -- what is found, with the place that it is about. What is of all has none
 abbrev pub Placed : Type 0
@@ -29,6 +33,18 @@ Placed = List ℕ × Finding
 -- both, as they are answered
 abbrev pub placed : Found → Placed
 placed x = (x.place.items, x.finding)
+
+-- who waited longest for it, as it is answered
+abbrev pub victim_of : Option Victim → Option (List ℕ × ℕ)
+victim_of victim = option_map (λ v. (v.place.items, v.time)) victim
+
+-- what is found, with who waited longest for it
+abbrev pub Told : Type 0
+Told = Placed × Option (List ℕ × ℕ)
+
+-- the same, as it is answered
+abbrev pub told : Found → Told
+told x = (placed x, victim_of x.victim)
 
 -- ---- of tasks, at the tables' moment
 
@@ -194,3 +210,16 @@ all_odd limits d tables =
 -- all that is odd, worst first
 unfoldable pub findings_of : Limits → Standing → TablesView → List Placed
 findings_of limits d tables = fold put_in [] (all_odd limits d tables)
+
+-- who waited longest for a place, where others waited for it
+abbrev pub whom_by : Shape → Option (List ℕ × ℕ) → Option (List ℕ × ℕ)
+whom_by shapes.Held victim = victim
+whom_by other victim = None
+
+-- a finding, with who waited longest for its place
+abbrev pub with_whom : Pairs → Placed → Told
+with_whom pairs x = (x, whom_by (shape_of x.1.kind) (most_held x.0 pairs))
+
+-- all that is odd, worst first, each with who waited longest for it
+abbrev pub told_of : Limits → Standing → TablesView → List Told
+told_of limits d tables = map (with_whom d.pairs) (findings_of limits d tables)

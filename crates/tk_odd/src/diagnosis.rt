@@ -231,14 +231,6 @@ impl Diagnosis {
         &self.places.held
     }
 
-    /// How long tasks of each place waited for those of another that are charged, in the steps that are over: by both places, in the order in which
-    /// they first came. [`most_held`](crate::most_held) reads them.
-    pub fn pairs(&self) -> &Series<Waited>
-        ensures { (shown : List TablesView) → inner.Follows shown self.now → result.now ≡ (spec.standing_of self.now.limits shown).pairs }
-    {
-        &self.pairs
-    }
-
     /// What was waited in the steps that are over, shared out.
     pub fn shares(&self) -> Shares
         ensures { (shown : List TablesView) → inner.Follows shown self.now → result ≡ (spec.standing_of self.now.limits shown).shares }

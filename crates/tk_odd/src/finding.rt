@@ -63,6 +63,17 @@ pub struct Found {
     pub place: Vec<u8>,
     /// What it is.
     pub finding: Finding,
+    /// Of a place that holds up others, who waited longest for it, where [`findings_with_victims`](crate::Diagnosis::findings_with_victims) was asked.
+    pub victim: Option<Victim>,
+}
+
+/// Who waited longest for the tasks of a place.
+#[derive(Drop)]
+pub struct Victim {
+    /// The place of those that waited.
+    pub place: Vec<u8>,
+    /// How long they did, in nanoseconds, at least.
+    pub time: u64,
 }
 
 impl Added for Finding {

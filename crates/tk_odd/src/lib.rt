@@ -26,7 +26,7 @@ mod words;
 
 pub use apart::Stretch;
 pub use diagnosis::Diagnosis;
-pub use finding::{Finding, Found, OddKind};
+pub use finding::{Finding, Found, OddKind, Victim};
 pub use free::Free;
 pub use gain::Gain;
 pub use held::Held;
@@ -34,7 +34,6 @@ pub use limits::Limits;
 pub use moved::Moved;
 pub use place::place_of;
 pub use shares::Shares;
-pub use victims::{Victim, most_held};
 pub use waited::Waited;
 pub use waiting::Waiting;
 pub use words::{Shape, Sign, kinds, when_word};

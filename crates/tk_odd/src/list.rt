@@ -14,6 +14,7 @@ use crate::finding::{Finding, Found, OddKind};
 use crate::held::Held;
 use crate::place::place_of;
 use crate::signs::{Look, signs_of};
+use crate::victims::with_victims;
 use std::alloc::{AllocError, Global};
 use tk_client::is_spawn;
 use tk_series::Series;
@@ -108,7 +109,11 @@ fn found_in(alloc: Global, place: &[u8], finding: Finding) -> Result<Found, Allo
     ensures { IfOk result (λ found. spec.placed found ≡ (place.now, finding)) }
 {
     let place = Vec::from_slice(alloc, place)?;
-    Ok(Found { place, finding })
+    Ok(Found {
+        place,
+        finding,
+        victim: None,
+    })
 }
 
 fn add_place_at(
@@ -180,6 +185,7 @@ fn add_stretch(
     list.push(Found {
         place: Vec::new(alloc),
         finding,
+        victim: None,
     })?;
     Ok(())
 }
@@ -282,5 +288,18 @@ impl Diagnosis {
             → IfOk result (λ list. map spec.placed list.items ≡ spec.findings_of self.now.limits (standing_of self.now.limits shown) tables.now) }
     {
         sorted(alloc, self.all_odd(alloc, tables)?)
+    }
+
+    /// The same, each with who waited longest for it.
+    pub fn findings_with_victims(
+        &self,
+        alloc: Global,
+        tables: &Tables,
+    ) -> Result<Vec<Found>, AllocError>
+        ensures { (shown : List TablesView) → inner.Follows shown self.now
+            → IfOk result (λ list. map spec.told list.items ≡ spec.told_of self.now.limits (standing_of self.now.limits shown) tables.now) }
+    {
+        let list = self.findings(alloc, tables)?;
+        with_victims(&self.pairs, alloc, &list)
     }
 }

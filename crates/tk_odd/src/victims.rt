@@ -1,16 +1,21 @@
 //! Who waited for those that are charged, by places.
-ghost use Rattle.std.specs.Prelude.{◌≡◌, ◌≤◌, ◌^◌, ◌-◌, ℕ, List, OnOk, IfOk, fold, length, slice_get};
+ghost use Rattle.std.specs.Prelude.{◌≡◌, ◌≤◌, ◌^◌, ◌-◌, ℕ, List, OnOk, IfOk, fold, length, map, slice_get};
 ghost use Rattle.std.specs.Option.{option_map, option_map_or};
+ghost use Rattle.tk_odd.specs.Findings as findings;
+ghost use Rattle.tk_odd.specs.Findings.{placed};
 ghost use Rattle.tk_odd.specs.Inner as inner;
 ghost use Rattle.tk_odd.specs.Members.{looked_at, moved_of as moved_in};
 ghost use Rattle.tk_odd.specs.Sharing as sharing;
 ghost use Rattle.tk_odd.specs.Victims as spec;
+ghost use Rattle.tk_odd.specs.Words.{shape_of};
 
+use crate::finding::{Found, OddKind, Victim};
 use crate::members::{Member, Members};
 use crate::moved::Moved;
 use crate::places::{Step, Totals};
 use crate::sharing::{charge_of, held_for};
 use crate::waited::Waited;
+use crate::words::Shape;
 use std::alloc::{AllocError, Global};
 use tk_series::Series;
 
@@ -177,22 +182,20 @@ fn starts_with(text: &[u8], begin: &[u8]) -> bool
     }
 }
 
-/// Who waited longest for the tasks of a place.
-#[derive(Clone, Copy, Debug, PartialEq, Eq)]
-pub struct Victim<'a> {
-    /// The place of those that waited.
-    pub place: &'a [u8],
-    /// How long they did, in nanoseconds, at least.
-    pub time: u64,
+// Who waited longest so far.
+#[derive(Clone, Copy)]
+struct Longest<'a> {
+    place: &'a [u8],
+    time: u64,
 }
 
 // The longest so far, after the pair at an index.
 fn longer_at<'a>(
     pairs: &'a Series<Waited>,
     begin: &[u8],
-    most: Option<Victim<'a>>,
+    most: Option<Longest<'a>>,
     i: usize,
-) -> Option<Victim<'a>>
+) -> Option<Longest<'a>>
     ensures { (place : List ℕ) → begin.now ≡ spec.begin_of place → option_map (λ v. (v.place.now, v.time)) result
         ≡ option_map_or (λ pair. spec.most_with place (option_map (λ v. (v.place.now, v.time)) most) pair) (slice_get pairs.now i)
         (option_map (λ v. (v.place.now, v.time)) most) }
@@ -207,19 +210,18 @@ fn longer_at<'a>(
     if !longer || !starts_with(text, begin) {
         return most;
     }
-    Some(Victim {
+    Some(Longest {
         place: text.get(begin.len()..).unwrap_or(&[]),
         time: waited.time,
     })
 }
 
-/// Of what [`Diagnosis::pairs`](crate::Diagnosis::pairs) has, who waited longest for the tasks of a place: of equals the one that came first, and `None`
-/// where none of them is charged. `AllocError`: there was no memory.
-pub fn most_held<'a>(
+// Of pairs of places, who waited longest for the tasks of one.
+fn longest<'a>(
     pairs: &'a Series<Waited>,
     alloc: Global,
     place: &[u8],
-) -> Result<Option<Victim<'a>>, AllocError>
+) -> Result<Option<Longest<'a>>, AllocError>
     ensures { IfOk result (λ victim. option_map (λ v. (v.place.now, v.time)) victim ≡ spec.most_held place.now pairs.now) }
 {
     let begin = begin_of(alloc, place)?;
@@ -228,4 +230,62 @@ pub fn most_held<'a>(
         most = longer_at(pairs, &begin, most, i);
     }
     Ok(most)
+}
+
+fn most_held(
+    pairs: &Series<Waited>,
+    alloc: Global,
+    place: &[u8],
+) -> Result<Option<Victim>, AllocError>
+    ensures { IfOk result (λ victim. findings.victim_of victim ≡ spec.most_held place.now pairs.now) }
+{
+    let Some(most) = longest(pairs, alloc, place)? else {
+        return Ok(None);
+    };
+    let place = Vec::from_slice(alloc, most.place)?;
+    let time = most.time;
+    Ok(Some(Victim { place, time }))
+}
+
+// Who waited longest for a place, where others waited for it.
+fn victim_at(
+    pairs: &Series<Waited>,
+    alloc: Global,
+    kind: OddKind,
+    place: &[u8],
+) -> Result<Option<Victim>, AllocError>
+    ensures { IfOk result (λ victim. findings.victim_of victim ≡ findings.whom_by (shape_of kind) (spec.most_held place.now pairs.now)) }
+{
+    match kind.shape() {
+        Shape::Held => most_held(pairs, alloc, place),
+        _ => Ok(None),
+    }
+}
+
+fn with_victim(pairs: &Series<Waited>, alloc: Global, found: &Found) -> Result<Found, AllocError>
+    ensures { IfOk result (λ x. findings.told x ≡ findings.with_whom pairs.now (placed found.now)) }
+{
+    let finding = found.finding;
+    let victim = victim_at(pairs, alloc, finding.kind, &found.place)?;
+    let place = Vec::from_slice(alloc, &found.place)?;
+    Ok(Found {
+        place,
+        finding,
+        victim,
+    })
+}
+
+/// Findings, each with who waited longest for it.
+pub(crate) fn with_victims(
+    pairs: &Series<Waited>,
+    alloc: Global,
+    list: &[Found],
+) -> Result<Vec<Found>, AllocError>
+    ensures { IfOk result (λ all. map findings.told all.items ≡ map (findings.with_whom pairs.now) (map placed list.now)) }
+{
+    let mut all = Vec::new(alloc);
+    for found in list {
+        all.push(with_victim(pairs, alloc, found)?)?;
+    }
+    Ok(all)
 }

@@ -1,5 +1,5 @@
 -- What a banner and a card say, by what is known.
-use Rattle.std.proofs.Common.{◌≡◌, ℕ, List, [], ◌∷◌, length, Bool, true, false, cond, nat_eq, not, refl, ap}
+use Rattle.std.proofs.Common.{◌≡◌, ℕ, List, [], ◌∷◌, length, Some, Bool, true, false, cond, nat_eq, not, refl, ap}
 use Rattle.std.specs.Prelude.{codes}
 use Rattle.std.specs.Str.{IsUtf8, is_utf8}
 use Rattle.std.proofs.lemmas.Str.{IsUtf8-from_is_utf8, is_utf8-from_IsUtf8}
@@ -9,7 +9,7 @@ use Rattle.tk_stream.specs.declared.tables.task.Task.{Task}
 use Rattle.tk_paper.specs.Parts.{span, text}
 use Rattle.tk_page.specs.declared.sample.Sample.{Sample}
 use Rattle.tk_page.specs.Banner.{doing_of, doing_so}
-use Rattle.tk_page.specs.Cards.{mean_wait, place_of}
+use Rattle.tk_page.specs.Cards.{mean_wait, place_of, whom}
 use Rattle.tk_page.specs.Figures.{each_of}
 
 -- the place of a task that has left is text
@@ -23,6 +23,21 @@ unplaced place some isnt = rw some (by (is_utf8 place) refl)
   where
     by : (b : Bool) → is_utf8 place ≡ b → cond (not b) [] (text (codes " It was of this place: ") ∷ text place ∷ text (codes ".") ∷ []) ≡ []
     by true e = absurd (isnt (IsUtf8-from_is_utf8 place e))
+    by false e = refl
+
+-- the place of those who waited is text
+pub known : (victim : List ℕ) (time : ℕ) → IsUtf8 victim
+    → whom (Some (victim, time))
+    ≡ text (codes " The largest part was waited by tasks of this place, at least ") ∷ span time ∷ text (codes ": ") ∷ text victim ∷ text (codes ".") ∷ []
+known victim time is = rw (is_utf8-from_IsUtf8 victim is) refl
+
+-- or it is none
+pub unknown : (victim : List ℕ) (time : ℕ) → (IsUtf8 victim → ⊥) → whom (Some (victim, time)) ≡ []
+unknown victim time isnt = by (is_utf8 victim) refl
+  where
+    by : (b : Bool) → is_utf8 victim ≡ b
+        → cond b (text (codes " The largest part was waited by tasks of this place, at least ") ∷ span time ∷ text (codes ": ") ∷ text victim ∷ text (codes ".") ∷ []) [] ≡ []
+    by true e = absurd (isnt (IsUtf8-from_is_utf8 victim e))
     by false e = refl
 
 -- some task was polled

@@ -6,7 +6,7 @@ use Rattle.tk_client.specs.Warnings.{warnings_in}
 use Rattle.tk_fault.specs.declared.fault.AppFault.{AppFault}
 use Rattle.tk_fault.specs.declared.fault.AppFault.TheVariants as faults
 use Rattle.tk_odd.specs.Diagnosis.{standing_of}
-use Rattle.tk_odd.specs.Findings.{findings_of}
+use Rattle.tk_odd.specs.Findings.{told_of}
 use Rattle.tk_odd.specs.Inner.{Follows}
 use Rattle.tk_odd.specs.declared.diagnosis.Diagnosis.{Diagnosis}
 use Rattle.tk_odd.specs.declared.limits.Limits.{Limits}
@@ -61,7 +61,7 @@ Watched limits shown both = Tells shown both.first × (Follows shown both.second
 
 module _ (limits : Limits) (given left old new : Option (List ℕ)) (client : ClientView) (seen : Both History Diagnosis) (text : List ℕ)
     (told : SawAll (Watched limits) given client seen)
-    (drawn : IsDrawn limits (findings_of limits (standing_of limits (shown_of told.bytes)) client.start.tables) (courses_of seen.first) client.start.tables text) where
+    (drawn : IsDrawn limits (told_of limits (standing_of limits (shown_of told.bytes)) client.start.tables) (courses_of seen.first) client.start.tables text) where
   -- the page went out
   pub pages_all : (warnings : ℕ) → Appends old new text → warnings ≡ length (warnings_in limits.lints client.start.tables) → PagesWith limits given left (Ok warnings) old new
   pages_all warnings wrote counted = record {

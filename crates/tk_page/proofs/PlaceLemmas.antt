@@ -22,6 +22,7 @@ use Rattle.tk_odd.specs.declared.finding.Found.{Found}
 use Rattle.tk_odd.specs.declared.finding.OddKind.{OddKind}
 use Rattle.tk_odd.specs.declared.words.Shape.{Shape}
 use Rattle.tk_odd.specs.declared.words.Shape.TheVariants.{Held, Alone, Stretch, Lasting, Longest, Share}
+use Rattle.tk_odd.specs.Findings.{is_urgent, victim_of}
 use Rattle.tk_odd.specs.Words.{after_of, before_of, shape_of}
 use Rattle.tk_page.specs.declared.oddities.Signs.{Signs}
 use Rattle.tk_page.specs.declared.ranks.Rank.{Rank}
@@ -126,12 +127,17 @@ others_to : (tasks : ℕ) → Between (cards.others tasks)
 unfolding after_all
 others_to tasks = either (nat_lt 1 tasks) (record { is = refl }) none_between
 
+whom_to : (victim : Option (List ℕ × ℕ)) → Between (cards.whom victim)
+unfolding after_all
+whom_to None = none_between
+whom_to (Some (victim, time)) = either (is_utf8 victim) (record { is = refl }) none_between
+
 card_to : (scale : Scale) (long : ℕ) (tasks : List Task) (x : Found) → Between (cards.card scale long tasks x)
 unfolding after_all
 card_to scale long tasks x =
     let f = x.finding in
     then_to (bits_to (cards.start_card f.kind) refl) (then_to (who_to (cards.task_of tasks f) f.task) (then_to (bits_to (cards.said f.is_now f.kind) refl)
-    (then_to (facts_to scale long f.kind f) (then_to (others_to f.tasks) (then_to (made_to x.place.items (cards.task_of tasks f)) (bits_to (cards.end_card f.kind) refl))))))
+    (then_to (facts_to scale long f.kind f) (then_to (whom_to (victim_of x.victim)) (then_to (others_to f.tasks) (then_to (made_to x.place.items (cards.task_of tasks f)) (bits_to (cards.end_card f.kind) refl)))))))
 
 all_odd_to : (scale : Scale) (signs : Signs) (tasks : List Task) → Between (cards.all_odd scale signs tasks)
 unfolding after_all

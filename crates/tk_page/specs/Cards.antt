@@ -3,6 +3,7 @@ use Rattle.std.specs.Prelude.{ℕ, ◌-◌, ◌==◌, nat_lt, Bool, ◌||◌, no
 use Rattle.std.specs.List.{list_any}
 use Rattle.std.specs.Option.{option_and_then}
 use Rattle.std.specs.Str.{is_utf8}
+use Rattle.tk_odd.specs.Findings.{victim_of}
 use Rattle.tk_odd.specs.Words.{advice_of, after_of, before_of, said_of, shape_of, sign_of}
 use Rattle.tk_odd.specs.declared.words.Shape.{Shape}
 use Rattle.tk_odd.specs.declared.words.Shape.TheVariants.{Held, Alone, Stretch, Lasting, Longest, Share}
@@ -126,15 +127,23 @@ facts scale long kind f = facts_of (shape_of kind) scale long f (before_of kind)
 abbrev pub others : ℕ → List Bit
 others tasks = if nat_lt 1 tasks then text (codes " The same holds of ") ∷ number (tasks - 1) ∷ text (codes " more of its place.") ∷ [] else []
 
--- the card of a finding
-abbrev pub card_of : Scale → ℕ → List Task → List ℕ → Finding → List Bit
-card_of scale long tasks place f =
-    start_card f.kind ++ (who (task_of tasks f) f.task ++ (said f.is_now f.kind ++ (facts scale long f.kind f
-    ++ (others f.tasks ++ (made place (task_of tasks f) ++ end_card f.kind)))))
+-- who waited longest for it
+abbrev pub whom : Option (List ℕ × ℕ) → List Bit
+whom None = []
+whom (Some (victim, time)) =
+    if is_utf8 victim
+    then text (codes " The largest part was waited by tasks of this place, at least ") ∷ span time ∷ text (codes ": ") ∷ text victim ∷ text (codes ".") ∷ []
+    else []
 
--- the same, with the place that it is about
+-- the card of a finding
+abbrev pub card_of : Scale → ℕ → List Task → List ℕ → Finding → Option (List ℕ × ℕ) → List Bit
+card_of scale long tasks place f victim =
+    start_card f.kind ++ (who (task_of tasks f) f.task ++ (said f.is_now f.kind ++ (facts scale long f.kind f
+    ++ (whom victim ++ (others f.tasks ++ (made place (task_of tasks f) ++ end_card f.kind))))))
+
+-- the same, with the place that it is about, and who waited for it
 abbrev pub card : Scale → ℕ → List Task → Found → List Bit
-card scale long tasks x = card_of scale long tasks x.place.items x.finding
+card scale long tasks x = card_of scale long tasks x.place.items x.finding (victim_of x.victim)
 
 -- ---- all cards
 

@@ -1,6 +1,6 @@
 -- The page between its frame, as one list of parts.
 use Rattle.std.specs.Prelude.{◌≡◌, List, [], ◌∷◌, ◌++◌}
-use Rattle.tk_odd.specs.Findings.{Placed}
+use Rattle.tk_odd.specs.Findings.{Told}
 use Rattle.tk_odd.specs.declared.limits.Limits.{Limits}
 use Rattle.tk_stream.specs.Tables.{TablesView}
 use Rattle.tk_paper.specs.Pieces.{Writes}
@@ -42,7 +42,7 @@ abbrev pub scale_of : Courses → TablesView → Scale
 scale_of courses tables = record { start = start_of courses.first tables.tasks; now = tables.now }
 
 -- the page of tables, their courses and what is odd was put
-pub record DrawsPage (limits : Limits) (findings : List Placed) (courses : Courses) (tables : TablesView) (old new : PaperView) : Type 0 where
+pub record DrawsPage (limits : Limits) (findings : List Told) (courses : Courses) (tables : TablesView) (old new : PaperView) : Type 0 where
   pub signs : Signs
   pub looked : AreSigns limits findings tables signs
   pub sections : DrawsSections (scale_of courses tables) signs courses tables old new

@@ -3,7 +3,7 @@ use Rattle.std.specs.Prelude.{◌≡◌, ◌==◌, List, [], ◌∷◌, map, tak
 use Rattle.std.specs.List.{list_any}
 use Rattle.std.specs.Option.{option_map_or}
 use Rattle.tk_client.specs.Warnings.{has_lost_waker, has_never_yielded, is_spawn, wakes_itself}
-use Rattle.tk_odd.specs.Findings.{Placed, is_never_polled, placed}
+use Rattle.tk_odd.specs.Findings.{Told, is_never_polled, told}
 use Rattle.tk_odd.specs.declared.finding.Found.{Found}
 use Rattle.tk_odd.specs.declared.finding.OddKind.{OddKind}
 use Rattle.tk_odd.specs.declared.finding.OddKind.TheVariants.{NeverYielded, LostWaker, NeverPolled, SelfWakes}
@@ -13,10 +13,10 @@ use Rattle.tk_stream.specs.declared.tables.task.Task.{Task}
 use Rattle.tk_page.specs.declared.oddities.Signs.{Signs}
 
 -- tasks of tables are looked at for this: by these limits, and with these findings
-pub record AreSigns (limits : Limits) (list : List Placed) (tables : TablesView) (signs : Signs) : Type 0 where
+pub record AreSigns (limits : Limits) (list : List Told) (tables : TablesView) (signs : Signs) : Type 0 where
   pub moment : signs.moment ≡ tables.now
   pub measures : signs.limits ≡ limits
-  pub findings : map placed signs.findings.items ≡ list
+  pub findings : map told signs.findings.items ≡ list
 
 -- the findings that have cards: the first 20
 abbrev pub carded : Signs → List Found

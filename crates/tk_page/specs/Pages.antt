@@ -5,7 +5,7 @@ use Rattle.tk_client.specs.Warnings.{LintsView, warnings_in}
 use Rattle.tk_fault.specs.declared.fault.AppFault.{AppFault}
 use Rattle.tk_fault.specs.declared.fault.AppFault.TheVariants as faults
 use Rattle.tk_odd.specs.Diagnosis.{standing_of}
-use Rattle.tk_odd.specs.Findings.{Placed, findings_of}
+use Rattle.tk_odd.specs.Findings.{Told, told_of}
 use Rattle.tk_odd.specs.declared.limits.Limits.{Limits}
 use Rattle.tk_page.specs.declared.frame.TheConstants.{HEAD, TAIL}
 use Rattle.tk_page.specs.Courses.{Courses, TellOf}
@@ -18,12 +18,12 @@ use Rattle.tk_stream.specs.Sent.{IsCut}
 use Rattle.tk_stream.specs.Tables.{TablesView}
 
 -- what is odd with the tables to which these bytes lead, worst first
-abbrev pub odd_in : Limits → List ℕ → TablesView → List Placed
-odd_in limits bytes tables = findings_of limits (standing_of limits (shown_of bytes)) tables
+abbrev pub odd_in : Limits → List ℕ → TablesView → List Told
+odd_in limits bytes tables = told_of limits (standing_of limits (shown_of bytes)) tables
 
 -- the page of tables, courses and what is odd: between the page's own head and end stand its parts, and every byte is the page's own markup or an
 -- escaped byte of a text, each where it may stand
-pub record IsDrawn (limits : Limits) (findings : List Placed) (courses : Courses) (tables : TablesView) (text : List ℕ) : Type 0 where
+pub record IsDrawn (limits : Limits) (findings : List Told) (courses : Courses) (tables : TablesView) (text : List ℕ) : Type 0 where
   pub inner : List ℕ
   pub drawn : DrawsPage limits findings courses tables no_paper (record { text = inner; place = Some places.Text })
   pub woven : ∥ Woven inner places.Text ∥₁

@@ -1,6 +1,7 @@
 //! What is odd, in words with what to do.
-ghost use Rattle.std.specs.Prelude.{◌≡◌, ◌-◌, ◌==◌, ◌∷◌, ◌++◌, [], OnOk, codes, flat_map};
+ghost use Rattle.std.specs.Prelude.{◌≡◌, ◌-◌, ◌==◌, ◌∷◌, ◌++◌, [], OnOk, Some, codes, flat_map};
 ghost use Rattle.std.specs.Option.{option_map};
+ghost use Rattle.tk_odd.specs.Findings.{victim_of};
 ghost use Rattle.tk_odd.specs.Words.{after_of, before_of};
 ghost use Rattle.tk_page.specs.Cards as spec;
 ghost use Rattle.tk_page.specs.Courses.{courses_of};
@@ -16,7 +17,7 @@ use crate::sample::Sample;
 use crate::waiting::any_waits_from_last_wake;
 use std::alloc::AllocError;
 use tk_ids::TaskId;
-use tk_odd::{Finding, Found, OddKind, Shape};
+use tk_odd::{Finding, Found, OddKind, Shape, Victim};
 use tk_paper::Part::{Class, Close, End, Number, Open, Share, Span, Start, Text, With, WithNumber};
 use tk_paper::{Attr, Paper, Tag};
 use tk_report::kind_word;
@@ -334,6 +335,31 @@ fn put_others(paper: &mut Paper, tasks: u64) -> Result<(), AllocError>
     }
 }
 
+// Puts who waited longest for it, and for how long.
+fn put_victim(paper: &mut Paper, victim: &Victim) -> Result<(), AllocError>
+    ensures { OnOk result (Writes paper.old paper.new (spec.whom (Some (victim.now.place.items, victim.now.time)))) }
+{
+    match str::from_utf8(&victim.place) {
+        Ok(place) => paper.put(&[
+            Text(" The largest part was waited by tasks of this place, at least "),
+            Span(victim.time),
+            Text(": "),
+            Text(place),
+            Text("."),
+        ]),
+        Err(_) => paper.put(&[]),
+    }
+}
+
+fn put_whom(paper: &mut Paper, found: &Found) -> Result<(), AllocError>
+    ensures { OnOk result (Writes paper.old paper.new (spec.whom (victim_of found.now.victim))) }
+{
+    match &found.victim {
+        Some(victim) => put_victim(paper, victim),
+        None => paper.put(&[]),
+    }
+}
+
 // Puts the card of a finding.
 fn put_card(
     paper: &mut Paper,
@@ -351,6 +377,7 @@ fn put_card(
     put_who(paper, task, finding.task)?;
     put_said(paper, is_now, kind)?;
     put_facts(paper, scale, long, kind, finding)?;
+    put_whom(paper, found)?;
     put_others(paper, finding.tasks)?;
     put_made(paper, found.place.as_slice(), task)?;
     end_card(paper, kind)?;

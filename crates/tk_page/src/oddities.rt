@@ -1,7 +1,7 @@
 //! What is odd about tasks.
 ghost use Rattle.std.specs.Prelude.{◌≡◌, map};
 ghost use Rattle.std.specs.List.{list_any};
-ghost use Rattle.tk_odd.specs.Findings.{is_never_polled as is_unpolled, placed};
+ghost use Rattle.tk_odd.specs.Findings.{is_never_polled as is_unpolled, told};
 ghost use Rattle.tk_page.specs.Odd as spec;
 
 use crate::figures::front;
@@ -91,7 +91,7 @@ pub(crate) struct Signs {
 impl Signs {
     /// Of tables, by these limits and with these findings.
     pub fn of(tables: &Tables, limits: Limits, findings: Vec<Found>) -> Signs
-        ensures { spec.AreSigns limits (map placed findings.items) tables.now result }
+        ensures { spec.AreSigns limits (map told findings.items) tables.now result }
     {
         Signs {
             moment: tables.now(),

@@ -1,7 +1,7 @@
 //! The page of a stream, once it was read to its end.
 ghost use Rattle.std.specs.Prelude.{◌≡◌, ◌++◌, [], List, map, IfOk, IfErr, IfSome};
 ghost use Rattle.tk_odd.specs.Diagnosis.{standing_of};
-ghost use Rattle.tk_odd.specs.Findings.{findings_of, placed};
+ghost use Rattle.tk_odd.specs.Findings.{told_of, told};
 ghost use Rattle.tk_odd.specs.Inner.{Follows};
 ghost use Rattle.tk_reading.specs.Taken.{first};
 ghost use Rattle.tk_report.specs.Views.{IsOfWriter};
@@ -44,7 +44,7 @@ fn page_of(
     limits: Limits,
     findings: Vec<Found>,
 ) -> Result<Vec<u8>, AllocError>
-    ensures { IfOk result (λ text. IsDrawn limits (map placed findings.items) (courses_of history.now) tables.now text.items) }
+    ensures { IfOk result (λ text. IsDrawn limits (map told findings.items) (courses_of history.now) tables.now text.items) }
 {
     let signs = Signs::of(tables, limits, findings);
     let scale = scale_of(history, tables);
@@ -63,9 +63,9 @@ fn page_after(
     limits: Limits,
 ) -> Result<Vec<u8>, AllocError>
     ensures { (shown : List TablesView) → Follows shown seen.now.second → seen.now.second.limits ≡ limits
-        → IfOk result (λ text. IsDrawn limits (findings_of limits (standing_of limits shown) tables.now) (courses_of seen.now.first) tables.now text.items) }
+        → IfOk result (λ text. IsDrawn limits (told_of limits (standing_of limits shown) tables.now) (courses_of seen.now.first) tables.now text.items) }
 {
-    let findings = seen.second.findings(alloc, tables)?;
+    let findings = seen.second.findings_with_victims(alloc, tables)?;
     page_of(alloc, &seen.first, tables, limits, findings)
 }
 

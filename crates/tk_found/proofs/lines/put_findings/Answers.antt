@@ -8,5 +8,5 @@ pub loop-i-preserved : goal.loop-i-preserved
 loop-i-preserved c =
     let i = c.loop-i.i in
     subst (λ (p : List ℕ). Puts c.args.out.now.items c.put_found.new.out.items p)
-    (sym (lines_more c.args.pairs.now 1 c.args.list.now i c.index-list-i.result (i + 1) c.loop-i-test.true c.index-list-i.is (omega arith)))
+    (sym (lines_more 1 c.args.list.now i c.index-list-i.result (i + 1) c.loop-i-test.true c.index-list-i.is (omega arith)))
     (both c.loop-i.invariant c.in_ok-put_found.ensures)

@@ -4,7 +4,7 @@ use Rattle.std.proofs.lemmas.Result.{err_from_is_err_and}
 use Rattle.tk_stream.specs.Tables.{TablesView}
 use Rattle.tk_odd.specs.declared.finding.Found.{Found}
 use Rattle.tk_odd.specs.Diagnosis.{standing_of}
-use Rattle.tk_odd.specs.Findings.{findings_of, placed}
+use Rattle.tk_odd.specs.Findings.{told_of, told}
 use Rattle.tk_odd.specs.Inner.{Follows}
 use Rattle.tk_found.specs.Views.{found_text}
 use Rattle.tk_found.proofs.ViewLemmas.{shows_all, shows_front, shows_none}
@@ -19,25 +19,25 @@ pub returns-in-Ok-send-clause-views : goal.returns-in-Ok-send-clause-views
 returns-in-Ok-send-clause-views g c =
     let client = c.read_stream.new.client in
     let it = c.read_stream.new.observer in
-    let list = map placed c.in-Ok.list.items in
-    let found : (shown : List TablesView) → Follows shown it → list ≡ findings_of it.limits (standing_of it.limits shown) c.tables.result.now = c.in-Ok.ensures in
-    let text_is : c.as_slice.result.now ≡ found_text c.args.view c.args.times client.start c.pairs.result.now list =
+    let list = map told c.in-Ok.list.items in
+    let found : (shown : List TablesView) → Follows shown it → list ≡ told_of it.limits (standing_of it.limits shown) c.tables.result.now = c.in-Ok.ensures in
+    let text_is : c.as_slice.result.now ≡ found_text c.args.view c.args.times client.start list =
     c.as_slice.ensures.value ∙ c.in-Ok-text_of.ensures
-    ∙ ap (λ (xs : List Found). found_text c.args.view c.args.times client.start c.pairs.result.now (map placed xs)) c.deref.ensures.value in
+    ∙ ap (λ (xs : List Found). found_text c.args.view c.args.times client.start (map told xs)) c.deref.ensures.value in
     let items : length c.deref.result.now ≡ length c.in-Ok.list.items = ap length c.deref.ensures.value in
-    let counted : c.len.result ≡ length list = omega (arith, c.len.ensures, c.deref.ensures.len, items, length-map c.in-Ok.list.items placed) in
+    let counted : c.len.result ≡ length list = omega (arith, c.len.ensures, c.deref.ensures.len, items, length-map c.in-Ok.list.items told) in
     shows_all c.args.diagnosis.now c.args.view c.args.times (g.R.Read.remaining c.args.reader.now) (g.R.Read.remaining c.read_stream.new.reader) (g.W.Write.contents c.args.writer.now)
-    (g.W.Write.contents c.send.new.writer) client it c.in_ok-read_stream.ensures c.tables.result.now c.tables.ensures list found c.pairs.result.now c.pairs.ensures c.as_slice.result.now text_is c.len.result c.in-Ok-send.ensures counted
+    (g.W.Write.contents c.send.new.writer) client it c.in_ok-read_stream.ensures c.tables.result.now c.tables.ensures list found c.as_slice.result.now text_is c.len.result c.in-Ok-send.ensures counted
 
 pub returns-clause-views : goal.returns-clause-views
 returns-clause-views g c =
     let client = c.read_stream.new.client in
     let it = c.read_stream.new.observer in
-    let list = map placed c.in-Ok.list.items in
-    let found : (shown : List TablesView) → Follows shown it → list ≡ findings_of it.limits (standing_of it.limits shown) c.tables.result.now = c.in-Ok.ensures in
-    let text_is : c.as_slice.result.now ≡ found_text c.args.view c.args.times client.start c.pairs.result.now list =
+    let list = map told c.in-Ok.list.items in
+    let found : (shown : List TablesView) → Follows shown it → list ≡ told_of it.limits (standing_of it.limits shown) c.tables.result.now = c.in-Ok.ensures in
+    let text_is : c.as_slice.result.now ≡ found_text c.args.view c.args.times client.start list =
     c.as_slice.ensures.value ∙ c.in-Ok-text_of.ensures
-    ∙ ap (λ (xs : List Found). found_text c.args.view c.args.times client.start c.pairs.result.now (map placed xs)) c.deref.ensures.value in
+    ∙ ap (λ (xs : List Found). found_text c.args.view c.args.times client.start (map told xs)) c.deref.ensures.value in
     let sent = c.in-Err.ensures in
     shows_front c.args.diagnosis.now c.args.view c.args.times (g.R.Read.remaining c.args.reader.now) (g.R.Read.remaining c.read_stream.new.reader) (g.W.Write.contents c.args.writer.now)
-    (g.W.Write.contents c.send.new.writer) client it c.in_ok-read_stream.ensures c.tables.result.now c.tables.ensures list found c.pairs.result.now c.pairs.ensures c.as_slice.result.now text_is sent.0 sent.1 sent.2
+    (g.W.Write.contents c.send.new.writer) client it c.in_ok-read_stream.ensures c.tables.result.now c.tables.ensures list found c.as_slice.result.now text_is sent.0 sent.1 sent.2

@@ -8,5 +8,6 @@ returns c =
     (then c.in_ok-put_who.ensures
     (then c.in_ok-put_said.ensures
     (then c.in_ok-put_facts.ensures
+    (then c.in_ok-put_whom.ensures
     (then c.in_ok-put_others.ensures
-    (then c.in_ok-put_made.ensures c.in_ok-end_card.ensures))))))
+    (then c.in_ok-put_made.ensures c.in_ok-end_card.ensures)))))))

@@ -1,6 +1,6 @@
 use Rattle.std.proofs.Common.{IfOk, ◌∙◌, ap, subst}
 use Rattle.tk_odd.specs.Diagnosis.{standing_of}
-use Rattle.tk_odd.specs.Findings.{findings_of}
+use Rattle.tk_odd.specs.Findings.{told_of}
 use Rattle.tk_page.specs.Courses.{courses_of}
 use Rattle.tk_page.specs.Pages.{IsDrawn}
 use Rattle.tk_page.proofs.view.page_after.Goals as goal
@@ -11,4 +11,4 @@ returns c shown follows same =
     let tables = c.args.tables.now in
     let limits = c.args.limits in
     subst (λ xs. IfOk c.page_of.result (λ text. IsDrawn limits xs (courses_of seen.first) tables text.items))
-    (c.in_ok-findings.ensures shown follows ∙ ap (λ l. findings_of l (standing_of l shown) tables) same) c.page_of.ensures
+    (c.in_ok-findings_with_victims.ensures shown follows ∙ ap (λ l. told_of l (standing_of l shown) tables) same) c.page_of.ensures

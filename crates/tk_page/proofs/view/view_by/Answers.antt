@@ -2,7 +2,7 @@ use Rattle.std.proofs.Common.{◌≡◌, length, ap, subst, sym, ◌∙◌}
 use Rattle.std.proofs.lemmas.Result.{err_from_is_err_and}
 use Rattle.tk_client.specs.Warnings.{warnings_in}
 use Rattle.tk_odd.specs.Diagnosis.{standing_of}
-use Rattle.tk_odd.specs.Findings.{findings_of}
+use Rattle.tk_odd.specs.Findings.{told_of}
 use Rattle.tk_page.specs.Courses.{courses_of}
 use Rattle.tk_page.specs.Pages.{IsDrawn}
 use Rattle.tk_reading.specs.Shown.{shown_of}
@@ -24,9 +24,9 @@ returns-in-Ok-send-clause-pages g c =
     let shown = shown_of told.bytes in
     let same : c.deref.result.now ≡ seen = c.deref.ensures in
     let listed : c.as_slice-warnings.result.now ≡ warnings_in limits.lints tables = c.as_slice-warnings.ensures.value ∙ c.in-Ok.ensures.ok in
-    let drawn : IsDrawn limits (findings_of limits (standing_of limits shown) tables) (courses_of seen.first) tables c.as_slice.result.now =
-    subst (λ v. IsDrawn limits (findings_of limits (standing_of limits shown) v) (courses_of seen.first) v c.as_slice.result.now) c.tables.ensures
-    (subst (IsDrawn limits (findings_of limits (standing_of limits shown) c.tables.result.now) (courses_of seen.first) c.tables.result.now) (sym c.as_slice.ensures.value)
+    let drawn : IsDrawn limits (told_of limits (standing_of limits shown) tables) (courses_of seen.first) tables c.as_slice.result.now =
+    subst (λ v. IsDrawn limits (told_of limits (standing_of limits shown) v) (courses_of seen.first) v c.as_slice.result.now) c.tables.ensures
+    (subst (IsDrawn limits (told_of limits (standing_of limits shown) c.tables.result.now) (courses_of seen.first) c.tables.result.now) (sym c.as_slice.ensures.value)
     ((rw same at c.in-Ok-page_after.ensures) shown told.seen.1.0 told.seen.1.1)) in
     pages_all limits (g.R.Read.remaining c.args.reader.now) (g.R.Read.remaining c.read_stream.new.reader) (g.W.Write.contents c.args.writer.now)
     (g.W.Write.contents c.send.new.writer) c.read_stream.new.client seen c.as_slice.result.now told drawn
@@ -41,9 +41,9 @@ returns-clause-pages g c =
     let told = rw limited at c.in_ok-read_stream.ensures in
     let shown = shown_of told.bytes in
     let same : c.deref.result.now ≡ seen = c.deref.ensures in
-    let drawn : IsDrawn limits (findings_of limits (standing_of limits shown) tables) (courses_of seen.first) tables c.as_slice.result.now =
-    subst (λ v. IsDrawn limits (findings_of limits (standing_of limits shown) v) (courses_of seen.first) v c.as_slice.result.now) c.tables.ensures
-    (subst (IsDrawn limits (findings_of limits (standing_of limits shown) c.tables.result.now) (courses_of seen.first) c.tables.result.now) (sym c.as_slice.ensures.value)
+    let drawn : IsDrawn limits (told_of limits (standing_of limits shown) tables) (courses_of seen.first) tables c.as_slice.result.now =
+    subst (λ v. IsDrawn limits (told_of limits (standing_of limits shown) v) (courses_of seen.first) v c.as_slice.result.now) c.tables.ensures
+    (subst (IsDrawn limits (told_of limits (standing_of limits shown) c.tables.result.now) (courses_of seen.first) c.tables.result.now) (sym c.as_slice.ensures.value)
     ((rw same at c.in-Ok-page_after.ensures) shown told.seen.1.0 told.seen.1.1)) in
     let sent = c.in-Err.ensures in
     pages_front limits (g.R.Read.remaining c.args.reader.now) (g.R.Read.remaining c.read_stream.new.reader) (g.W.Write.contents c.args.writer.now)

@@ -2,7 +2,7 @@ use Rattle.std.proofs.Common.{◌≡◌, take, None}
 use Rattle.std.specs.Prelude.{fold}
 use Rattle.std.specs.Option.{option_map}
 use Rattle.tk_odd.specs.Victims.{most_with}
-use Rattle.tk_odd.proofs.victims.most_held.Given as goal
+use Rattle.tk_odd.proofs.victims.longest.Given as goal
 
 -- the longest so far
 abbrev pub invariant-loop-i : goal.invariant-loop-i

@@ -1,6 +1,0 @@
-use Rattle.std.proofs.Common.{ap}
-use Rattle.tk_odd.specs.Diagnosis.{Standing}
-use Rattle.tk_odd.proofs.diagnosis.Diagnosis.pairs.Goals as goal
-
-pub returns : goal.returns
-returns c = λ shown f. ap (λ (s : Standing). s.pairs) f
