@@ -9,7 +9,7 @@ use crate::findings::{advice_line, finding_line};
 use crate::odd::Odd;
 use crate::waiting::put_waiting;
 use std::alloc::{AllocError, Global};
-use tk_odd::{Found, place_of};
+use tk_odd::{Found, Waiting, place_of};
 use tk_screen::{Canvas, Line, Style, put_duration};
 use tk_stream::{Tables, Task};
 
