@@ -184,7 +184,7 @@ fn starts_with(text: &[u8], begin: &[u8]) -> bool
 
 // Who waited longest so far.
 #[derive(Clone, Copy)]
-struct Longest<'a> {
+struct Most<'a> {
     place: &'a [u8],
     time: u64,
 }
@@ -193,12 +193,12 @@ struct Longest<'a> {
 fn longer_at<'a>(
     pairs: &'a Series<Waited>,
     begin: &[u8],
-    most: Option<Longest<'a>>,
+    most: Option<Most<'a>>,
     i: usize,
-) -> Option<Longest<'a>>
+) -> Option<Most<'a>>
     ensures { (place : List ℕ) → begin.now ≡ spec.begin_of place → option_map (λ v. (v.place.now, v.time)) result
-        ≡ option_map_or (λ pair. spec.most_with place (option_map (λ v. (v.place.now, v.time)) most) pair) (slice_get pairs.now i)
-        (option_map (λ v. (v.place.now, v.time)) most) }
+        ≡ option_map_or (λ pair. spec.most_with place (option_map (λ v. (v.place.now, v.time)) most.entry) pair) (slice_get pairs.now i)
+        (option_map (λ v. (v.place.now, v.time)) most.entry) }
 {
     let Some((text, waited)) = pairs.at(i) else {
         return most;
@@ -210,7 +210,7 @@ fn longer_at<'a>(
     if !longer || !starts_with(text, begin) {
         return most;
     }
-    Some(Longest {
+    Some(Most {
         place: text.get(begin.len()..).unwrap_or(&[]),
         time: waited.time,
     })
@@ -221,7 +221,7 @@ fn longest<'a>(
     pairs: &'a Series<Waited>,
     alloc: Global,
     place: &[u8],
-) -> Result<Option<Longest<'a>>, AllocError>
+) -> Result<Option<Most<'a>>, AllocError>
     ensures { IfOk result (λ victim. option_map (λ v. (v.place.now, v.time)) victim ≡ spec.most_held place.now pairs.now) }
 {
     let begin = begin_of(alloc, place)?;
