@@ -295,6 +295,11 @@ class Diagnosis:
             if time:
                 victims[place] = capped(victims.get(place, 0) + capped(time))
 
+    def victim(self, f):
+        """The place whose tasks waited longest for those of a finding, and how long: of equals the first."""
+        victims = self.pairs.get(f.place) if f.kind == "holds-up" else None
+        return max(victims.items(), key=lambda pair: pair[1]) if victims else None
+
     # ---- what is odd
 
     def signs(self, tables):
@@ -407,10 +412,9 @@ def findings_of(lines, limits):
     lines = []
     for number, f in enumerate(diagnosis.findings(tables), 1):
         lines.append(written(number, f))
-        victims = diagnosis.pairs.get(f.place, {}) if f.kind == "holds-up" else {}
-        if victims:
-            place = max(victims, key=victims.get)  # of equals the first
-            lines.append(f"  whom {victims[place]} kind {place}")
+        victim = diagnosis.victim(f)
+        if victim:
+            lines.append(f"  whom {victim[1]} kind {victim[0]}")
     return lines
 
 

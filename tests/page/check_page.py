@@ -123,12 +123,12 @@ class Limits:
 
 
 def findings_of(stream):
-    """Of each finding its kind, whether it holds now, and its task."""
+    """Of each finding its kind, whether it holds now, its task, and the place that waited longest for it."""
     diagnosis, tables = plain_findings.Diagnosis(Limits), plain_findings.Tables(0, {})
     with open(stream, encoding="ascii") as file:
         for tables in plain_findings.tables_of(line for line in file if line.endswith("\n")):
             diagnosis.after_line(tables)
-    return [(finding.kind, finding.is_now, finding.task) for finding in diagnosis.findings(tables)]
+    return [(finding.kind, finding.is_now, finding.task, (diagnosis.victim(finding) or [None])[0]) for finding in diagnosis.findings(tables)]
 
 
 def links_of(element):
@@ -144,13 +144,16 @@ def check_cards(elements, tables, findings):
     assert counts == ([str(len(findings))] if findings else []), (counts, findings)
     cards = [e for e in elements if name_of(e) == "li"]
     said = [(e.get("class"), [text_of(small) for small in e.iter() if name_of(small) == "small"], links_of(e)) for e in cards]
-    wanted = [(CLASSES[kind], ["now" if now else "earlier"], link_to(task, tables)) for kind, now, task in findings[:CARDS]]
+    wanted = [(CLASSES[kind], ["now" if now else "earlier"], link_to(task, tables)) for kind, now, task, _ in findings[:CARDS]]
     assert said == wanted, (said, wanted)
+    victims = [text_of(card).partition("was waited by tasks of this place, at least ")[2].partition(": ")[2] for card in cards]
+    for told, (kind, _, _, victim) in zip(victims, findings):
+        assert told.startswith(f"{victim}.") if victim else not told, (kind, told, victim)
 
 
 def check_banners(elements, tables, findings):
     banners = [links_of(e) for e in elements if name_of(e) == "p" and e.get("class") == "now"]
-    urgent = [task for kind, now, task in findings[:CARDS] if now and plain_findings.GRAVITY[kind][0] <= URGENT]
+    urgent = [task for kind, now, task, _ in findings[:CARDS] if now and plain_findings.GRAVITY[kind][0] <= URGENT]
     assert banners == ([link_to(task, tables) for task in urgent] if tables.lines else [[]]), (banners, urgent)
 
 
