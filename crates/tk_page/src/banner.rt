@@ -1,5 +1,5 @@
 //! What holds now, above all else.
-ghost use Rattle.std.specs.Prelude.{◌≡◌, OnOk, flat_map};
+ghost use Rattle.std.specs.Prelude.{OnOk, flat_map};
 ghost use Rattle.std.specs.Option.{option_map};
 ghost use Rattle.tk_page.specs.Banner as spec;
 ghost use Rattle.tk_paper.specs.Pieces.{Writes};

@@ -1,4 +1,4 @@
-use Rattle.std.proofs.Common.{List, ℕ, zero, suc, [], ◌∷◌, ◌≡◌, ◌<◌, length, get_or, subst, sym, refl, arith}
+use Rattle.std.proofs.Common.{List, ℕ, zero, suc, [], ◌∷◌, ◌≡◌, ◌<◌, ◌≤◌, length, get_or, subst, sym, refl, arith, ◌∙◌}
 use Rattle.std.specs.Prelude.{string_bytes}
 use Rattle.std.proofs.lemmas.List.{take_all}
 use Rattle.std.specs.Prelude.{flat_map}
@@ -7,7 +7,6 @@ use Rattle.tk_odd.specs.declared.finding.OddKind.TheVariants.{HoldsUp}
 use Rattle.tk_report.specs.Pieces.{Puts}
 use Rattle.tk_report.proofs.PutLemmas.{both}
 use Rattle.tk_found.specs.Lines.{kind_line}
-use Rattle.tk_odd.specs.Words.{kinds}
 use Rattle.tk_found.proofs.LineLemmas.{flat_more}
 use Rattle.tk_found.proofs.kinds.put_kinds.Goals as goal
 
@@ -20,11 +19,15 @@ same_at (z ∷ zs) (suc i) x y h = same_at zs i x y (omega (arith, h))
 pub loop-kind-preserved : goal.loop-kind-preserved
 loop-kind-preserved c =
     let i = c.loop-kind.kind-index in
+    let ks = c.kinds.result in
+    let there : i < length ks = subst (λ (xs : List OddKind). i < length xs) (sym c.kinds.ensures) c.loop-kind-test.true in
     subst (λ (p : List ℕ). Puts (string_bytes c.args.out.now) (string_bytes c.put_kind.new.out) p)
-    (sym (flat_more kind_line kinds i (get_or kinds i HoldsUp) c.loop-kind-test.true (same_at kinds i HoldsUp (get_or kinds i HoldsUp) c.loop-kind-test.true)))
+    (sym (flat_more kind_line ks i (get_or ks i HoldsUp) there (same_at ks i HoldsUp (get_or ks i HoldsUp) there)))
     (both c.loop-kind.invariant c.in_ok-put_kind.ensures)
 
 pub returns : goal.returns
 returns c =
+    let i = c.loop-kind.kind-index in
+    let all : length c.kinds.result ≤ i = subst (λ (xs : List OddKind). length xs ≤ i) (sym c.kinds.ensures) c.loop-kind-test.false in
     subst (λ (ks : List OddKind). Puts (string_bytes c.args.out.now) (string_bytes c.loop-kind.out) (flat_map kind_line ks))
-    (take_all c.loop-kind.kind-index kinds c.loop-kind-test.false) c.loop-kind.invariant
+    (take_all i c.kinds.result all ∙ c.kinds.ensures) c.loop-kind.invariant

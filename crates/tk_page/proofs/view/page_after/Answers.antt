@@ -11,4 +11,4 @@ returns c shown follows same =
     let tables = c.args.tables.now in
     let limits = c.args.limits in
     subst (λ xs. IfOk c.page_of.result (λ text. IsDrawn limits xs (courses_of seen.first) tables text.items))
-    (c.in_ok-findings_with_victims.ensures shown follows ∙ ap (λ l. told_of l (standing_of l shown) tables) same) c.page_of.ensures
+    (c.in_ok-findings.ensures shown follows ∙ ap (λ l. told_of l (standing_of l shown) tables) same) c.page_of.ensures
