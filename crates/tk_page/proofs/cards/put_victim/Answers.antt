@@ -11,4 +11,4 @@ returns-in-Ok c =
 pub returns-in-Err : goal.returns-in-Err
 returns-in-Err c =
     let v = c.args.victim.now in
-    rw (unknown v.place.items v.time (λ is. c.in-Err.ensures.cases.0 (rw c.deref.ensures.value is))) c.put.ensures
+    rw (unknown v.place.items v.time (λ is. c.in-Err.ensures.cases.0 (rw c.deref.ensures.value is))) c.put-in-Err.ensures
