@@ -1,11 +1,10 @@
 -- Who holds up whom: the families that tell what is odd about a stream's tasks.
 use Rattle.std.specs.Prelude.{ℕ, ◌+◌, max, List, [], ◌∷◌, ◌++◌, map, codes, Option, Some, None}
 use Rattle.tk_core.specs.Lists.{capped}
-use Rattle.tk_found.specs.Lines.{when_word}
 use Rattle.tk_ids.specs.Ids.{id_text}
 use Rattle.tk_odd.specs.Diagnosis.{standing_of}
 use Rattle.tk_odd.specs.Findings.{Placed, findings_of}
-use Rattle.tk_odd.specs.Words.{name_of}
+use Rattle.tk_odd.specs.Words.{name_of, when_word}
 use Rattle.tk_odd.specs.declared.finding.Finding.{Finding}
 use Rattle.tk_odd.specs.declared.held.Held.{Held}
 use Rattle.tk_odd.specs.declared.limits.Limits.{Limits}

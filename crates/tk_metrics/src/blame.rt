@@ -1,7 +1,6 @@
 //! Who holds up whom, family by family.
 ghost use Rattle.std.specs.Prelude.{◌≡◌, List, IfOk, OnOk, map, slice_get, []};
 ghost use Rattle.std.specs.Option.{option_map_or};
-ghost use Rattle.tk_found.specs.Lines.{when_word};
 ghost use Rattle.tk_odd.specs.Findings.{placed};
 ghost use Rattle.tk_odd.specs.Inner.{Follows as Diagnoses};
 ghost use Rattle.tk_report.specs.Pieces.{Puts};
@@ -15,7 +14,7 @@ use crate::family::Family;
 use crate::text::{put, put_head, put_label, put_sample};
 use std::alloc::{AllocError, Global};
 use tk_ids::TaskId;
-use tk_odd::{Diagnosis, Finding, Found, Held, Shares};
+use tk_odd::{Diagnosis, Finding, Found, Held, Shares, when_word};
 use tk_series::{Added, Series};
 use tk_stream::Tables;
 
@@ -40,12 +39,6 @@ impl Added for Tally {
 }
 
 // ---- findings
-
-fn when_word(is_now: bool) -> &'static str
-    ensures { result.now ≡ when_word is_now }
-{
-    if is_now { "now" } else { "earlier" }
-}
 
 fn put_task_label(
     out: &mut Vec<u8>,
