@@ -33,7 +33,7 @@ const BANNER: &str =
     "<p class=\"now\"><span class=\"tag\">now</span> <a href=\"#t1099511627777\">hog</a> has held its thread for 2.0 s; 1 task waits, the longest for 2.0 s. It was made at script:1:1, kind spawn. What to do: split its polls, or move the work to a blocking task.</p>";
 
 const CARD: &str =
-    "<span class=\"count\">3</span></h2><ul class=\"odd\"><li class=\"holds\"><h3><span class=\"icon\" aria-hidden=\"true\">▮</span> <a href=\"#t1099511627777\">hog</a> holds up the others <small>now</small></h3><p>Between 1.0 s and 3.0 s others waited for it, at least 2.0 s in all. A poll of it took at least 2.0 s. It was made at script:1:1, kind spawn.</p><p class=\"do\">What to do: split its polls, or move the work to a blocking task.</p></li>";
+    "<span class=\"count\">3</span></h2><ul class=\"odd\"><li class=\"holds\"><h3><span class=\"icon\" aria-hidden=\"true\">▮</span> <a href=\"#t1099511627777\">hog</a> holds up the others <small>now</small></h3><p>Between 1.0 s and 3.0 s others waited for it, at least 2.0 s in all. A poll of it took at least 2.0 s. The largest part was waited by tasks of this place, at least 2.0 s: spawn at script:1:1 name victim. It was made at script:1:1, kind spawn.</p><p class=\"do\">What to do: split its polls, or move the work to a blocking task.</p></li>";
 
 // The page of a stream, and how many warnings it has.
 fn page_of(alloc: Global, stream: &[u8]) -> Option<(Vec<u8>, u64)> {
