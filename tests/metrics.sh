@@ -3,13 +3,14 @@
 #
 # Usage: tests/metrics.sh. TASKSCOPE may name another program than `./taskscope`.
 #
-# Of each example's stream, of services at random, whose closed tasks leave, and of random streams, the numbers are those that
-# tests/metrics/plain_metrics.py reckons, byte for byte, on the output and in a file that is kept while a stream comes, and promtool finds
+# Of each example's stream, of services at random, whose closed tasks leave, and of random streams, with histograms and without, the numbers are those
+# that tests/metrics/plain_metrics.py reckons, byte for byte, with an end of series and without, on the output and in a file that is kept while a stream comes, and promtool finds
 # no fault in them. A node exporter on the loopback reads
 # them from a file, a Prometheus scrapes it, and what it answers to a query is what the report says. promtool checks docs/alerts.yml, and that of a hang
-# these alerts name the culprit.
+# these alerts name the culprit. docs/dashboard.json has what Grafana needs, and the Prometheus takes its queries.
+# A hang is played in real time, and an Alertmanager lets the culprit's alert through and no victim's.
 #
-# promtool and Prometheus are Debian's prometheus, the node exporter its prometheus-node-exporter. Where they are missing they are installed by apt-get;
+# promtool and Prometheus are Debian's prometheus, the node exporter its prometheus-node-exporter, the Alertmanager its prometheus-alertmanager. Where they are missing they are installed by apt-get;
 # where they can't be, that is said and their steps skipped, or with CI=true it is a failure.
 #
 # Its last line is `N passed, M failed`, and its status 1 where M isn't 0.
@@ -24,9 +25,25 @@ plain() {
 }
 
 are_numbers_of() {
-    for by in name id; do
+    for by in name id place; do
         "$program" metrics --by "$by" "$1" > "$work/numbers" && plain --by "$by" "$1" > "$work/plain" && cmp "$work/numbers" "$work/plain" || return 1
     done
+}
+
+# So are those with an end of series, however few there are.
+are_numbers_of_few() {
+    for by in name id place; do
+        for series in 1 2 5; do
+            "$program" metrics --by "$by" --series "$series" "$1" > "$work/numbers" && plain --by "$by" --series "$series" "$1" > "$work/plain" &&
+                cmp "$work/numbers" "$work/plain" || return 1
+        done
+    done
+}
+
+# With no more labels than there may be, the numbers are those without an end, but for the one that says how many tasks have no series.
+are_all_of_many() {
+    "$program" metrics --by place --series 1000 "$1" | grep -v taskscope_other_tasks > "$work/numbers" && "$program" metrics --by place "$1" > "$work/plain" &&
+        cmp "$work/numbers" "$work/plain"
 }
 
 # A file has the numbers of the whole stream, nothing is written beside, and no half is left.
@@ -95,41 +112,87 @@ kept_of_a_file_that_grows() {
     [ "$came" -eq 0 ]
 }
 
-# At a fault of the stream the file has the lines before it, and where no file can be written the old one stays.
+# With the file that takes the place of one that is followed the stream goes on: its first line stands for all there is, and lines are numbered on.
+kept_of_a_file_made_anew() {
+    stream=$examples/service.script.stdout
+    rm -rf "$work/kept" && mkdir "$work/kept" && head -n 3 "$stream" > "$work/kept/stream" || return 1
+    { head -n 3 "$stream" && head -n 2 "$stream" | sed 's/"seq":1,"snapshot":false/"seq":4,"snapshot":true/; s/"seq":2,/"seq":5,/'; } > "$work/joined"
+    "$program" metrics --to "$work/kept/tasks.prom" --every 0 --follow "$work/kept/stream" &
+    reader=$!
+    has_lines "$stream" 3 "$work/kept/tasks.prom" && mv "$work/kept/stream" "$work/kept/old" && sleep 0.3 && head -n 1 "$stream" > "$work/kept/stream" &&
+        has_lines "$work/joined" 4 "$work/kept/tasks.prom" && sed -n 2p "$stream" >> "$work/kept/stream" && has_lines "$work/joined" 5 "$work/kept/tasks.prom"
+    came=$?
+    kill "$reader" && wait "$reader" 2> /dev/null
+    [ "$came" -eq 0 ]
+}
+
+# At a fault of the stream the file has the lines before it, and where no file can be written the old one stays, which is said once.
 kept_at_faults() {
     stream=$examples/service.script.stdout
     rm -rf "$work/kept" && mkdir "$work/kept" && { head -n 3 "$stream" && echo '{}'; } > "$work/kept/stream" || return 1
     "$program" metrics --to "$work/kept/tasks.prom" "$work/kept/stream" 2> "$work/faults"
     [ $? -eq 1 ] && has_lines "$stream" 3 "$work/kept/tasks.prom" && cat "$work/faults" && [ "$(cat "$work/faults")" = 'fault: stream after 3 lines: BadShape' ] || return 1
-    "$program" metrics --to "$work/no/such/folder" "$stream" 2> "$work/faults"
-    [ $? -eq 1 ] && cat "$work/faults" && [ "$(cat "$work/faults")" = 'fault: Write' ]
+    "$program" metrics --to "$work/no/such/folder" --every 0 "$stream" 2> "$work/faults"
+    [ $? -eq 1 ] && cat "$work/faults" && [ "$(wc -l < "$work/faults")" -eq 1 ] && grep -q "^fault: Write $work/no/such/folder: [^ ]" "$work/faults"
+}
+
+# Where a place can't be written, as with a folder of that name, and then can, the numbers are put, and what couldn't be written is said once.
+kept_once_there_is_room() {
+    keep_every 0 2> "$work/faults" || return 1
+    mkdir "$work/kept/tasks.prom" && head -n 2 "$stream" >&4 && sleep 1 && sed -n 3p "$stream" >&4 && sleep 1 && rmdir "$work/kept/tasks.prom" &&
+        sed -n 4,5p "$stream" >&4 && has_lines "$stream" 5 "$work/kept/tasks.prom"
+    came=$?
+    ends_with_lines 5 && [ "$came" -eq 0 ] && cat "$work/faults" && [ "$(grep -c '^fault: Write ' "$work/faults")" -eq 1 ] &&
+        [ "$(ls "$work/kept" | sort | xargs)" = 'pipe tasks.prom' ]
+}
+
+# What has the name of the new file, as a link or a pipe of somebody else, is never opened.
+kept_past_a_link() {
+    stream=$examples/service.script.stdout
+    rm -rf "$work/kept" && mkdir "$work/kept" && echo mine > "$work/kept/other" && ln -s other "$work/kept/tasks.prom.new" &&
+        timeout 60 "$program" metrics --to "$work/kept/tasks.prom" "$stream" && [ "$(cat "$work/kept/other")" = mine ] &&
+        has_lines "$stream" 60 "$work/kept/tasks.prom" || return 1
+    rm "$work/kept/tasks.prom" && mkfifo "$work/kept/tasks.prom.new" && timeout 60 "$program" metrics --to "$work/kept/tasks.prom" "$stream" &&
+        has_lines "$stream" 60 "$work/kept/tasks.prom" && [ "$(ls "$work/kept" | sort | xargs)" = 'other tasks.prom' ]
+}
+
+as_it_is() {
+    cat
 }
 
 # A service in which chance falls as this number says, and whose closed tasks leave.
 are_numbers_of_service() {
     { echo 'retention 3000000000' && python3 "$examples/service.py" --seed "$1"; } > "$work/script" &&
-        "$program" run "$work/script" > "$work/service" && are_numbers_of "$work/service"
+        "$program" run "$work/script" > "$work/service" && are_numbers_of "$work/service" && are_numbers_of_few "$work/service"
 }
 
-# So many random streams, of which most have something odd.
+# So many random streams, of which most have something odd, as a filter makes them.
 are_numbers_of_random() {
-    rm -rf "$work/random" && mkdir "$work/random" && python3 "$root/tests/odd/random_streams.py" "$1" "$2" > "$work/streams" &&
+    rm -rf "$work/random" && mkdir "$work/random" && python3 "$root/tests/odd/random_streams.py" "$1" "$2" | "$3" "$1" > "$work/streams" &&
         awk -v to="$work/random/" '$0 == "=" { stream = to (++number); next } { print > stream }' "$work/streams" || return 1
     [ "$(ls "$work/random" | wc -l)" -eq "$2" ] || return 1
     for stream in "$work/random"/*; do
-        are_numbers_of "$stream" || return 1
+        are_numbers_of "$stream" && are_numbers_of_few "$stream" && are_all_of_many "$stream" || return 1
     done
 }
 
 # No count falls from one line to the next, though tasks leave.
 never_fall() {
-    { echo 'retention 3000000000' && python3 "$examples/service.py" --seed 1; } > "$work/script" &&
+    { printf 'retention 3000000000\ntimes\n' && python3 "$examples/service.py" --seed 1; } > "$work/script" &&
         "$program" run "$work/script" > "$work/service" || return 1
-    : > "$work/before"
-    for lines in 20 40 60 80 100 120 140 160 180 200; do
-        head -n "$lines" "$work/service" > "$work/front" && "$program" metrics "$work/front" | grep '^taskscope[a-z_]*_total' > "$work/after" &&
-            python3 "$root/tests/metrics/never_fall.py" "$work/before" "$work/after" && mv "$work/after" "$work/before" || return 1
+    for words in '--by name' '--by place' '--by name --series 2' '--by place --series 3'; do
+        : > "$work/before"
+        for lines in 20 40 60 80 100 120 140 160 180 200; do
+            head -n "$lines" "$work/service" > "$work/front" && "$program" metrics $words "$work/front" |
+                grep -E '^taskscope[a-z_]*_(total|bucket|sum|count)[{ ]' > "$work/after" &&
+                python3 "$root/tests/metrics/never_fall.py" "$work/before" "$work/after" && mv "$work/after" "$work/before" || return 1
+        done
     done
+}
+
+# A dashboard has what Grafana needs, and the Prometheus that runs takes its queries.
+takes_dashboard() {
+    python3 "$root/tests/metrics/check_dashboard.py" "$root/docs/dashboard.json" "http://127.0.0.1:$prometheus"
 }
 
 # ---- Prometheus
@@ -202,7 +265,8 @@ done
 for seed in 1 2 3 4; do
     step "a service at random, by seed $seed, its numbers" are_numbers_of_service "$seed"
 done
-step "random streams, their numbers" are_numbers_of_random 1 20
+step "random streams, their numbers" are_numbers_of_random 1 20 as_it_is
+step "random streams with histograms and resources, their numbers" are_numbers_of_random 2 20 "$root/tests/metrics/with_more.py"
 step "no count falls while tasks leave" never_fall
 for script in "$examples"/*.script; do
     step "$(basename "$script" .script), its numbers in a file" are_kept "$script.stdout"
@@ -210,7 +274,10 @@ done
 step "numbers are kept while a stream comes" kept_while_it_comes
 step "and no more often than is asked for" kept_no_more_often
 step "also of a file that grows" kept_of_a_file_that_grows
+step "and of one that is made anew" kept_of_a_file_made_anew
 step "at a fault there are the numbers before it" kept_at_faults
+step "once there is room again they are put" kept_once_there_is_room
+step "a link or a pipe in the place of the new file is never opened" kept_past_a_link
 
 if package promtool prometheus && package prometheus-node-exporter prometheus-node-exporter; then
     for script in "$examples"/*.script; do
@@ -220,6 +287,12 @@ if package promtool prometheus && package prometheus-node-exporter prometheus-no
     step "the alerts, as promtool reads them" promtool check rules "$root/docs/alerts.yml"
     step "of a hang the alerts name the culprit" promtool test rules "$root/tests/metrics/alerts_test.yml"
     step "a Prometheus that scrapes a node exporter answers with the report's numbers" try_prometheus
+    step "it takes each query of the dashboard" takes_dashboard
+    if package prometheus-alertmanager prometheus-alertmanager; then
+        mkdir "$work/hang"
+        step "of a hang that is played in real time only the culprit's alert is let through, and rates are not 0" \
+            python3 "$root/tests/metrics/hang.py" "$program" "$work/hang"
+    fi
 fi
 
 finish

@@ -10,12 +10,14 @@
 # crate, and runs the packed tests elsewhere. Then it runs the service of
 # rust/examples/service.rs: `view` of its stream must tell of each task as many polls as the service counted itself, and of the semaphore as
 # many poll operations, and `lint` the two warnings that are due and no other. `view` must take the streams of the tests with threads too.
+# `metrics` of a console's stream must have the numbers that the console gives itself.
 #
 # Of rust/taskscope-subscriber it runs the tests, also under the sanitizers, then tokio's echo server: `view` must tell of as many polls and tasks as the runtime's own
 # metrics; a program with three faults, of which `lint` must warn and of no other; and one that logs and hands its requests on, of which
 # `lint` must warn of nothing. It pastes the program of the README. A build without tokio's flag, one without tokio's feature and one without
 # the archive must each say so once. Then readers attach to a service, at a port and at a socket, and follow it when it starts anew; and the
-# stream of a disk that was full for a while must be viewed.
+# stream of a disk that was full for a while must be viewed. A Prometheus (Debian's prometheus) scrapes a service, and answers with the numbers of
+# the service's stream; where it is missing and can't be installed, that is said and the step skipped, or with CI=true it is a failure.
 #
 # It works on a copy of rust/ and without network, over the crates that Debian's packages have: cargo, rustc, curl,
 # librust-tokio-dev, librust-tracing-dev, librust-tracing-subscriber-dev. Where one is missing it tries to install it by apt-get. Where it can't, it says so
@@ -312,6 +314,22 @@ view_streams() {
     done
 }
 
+# A console's own numbers are those that the program has of its stream, up to what lasts, and where there are too many places up to sums.
+has_numbers_of() {
+    numbers=$work/streams/metrics-$1
+    shift
+    python3 "$root/tests/metrics/console_numbers.py" "$program" "$numbers.stream" "$numbers.prom" "$@"
+}
+
+numbers_agree() {
+    for times in true false; do
+        for waits in true false; do
+            has_numbers_of "times-$times-waits-$waits" || return 1
+        done
+    done
+    has_numbers_of lasting --lasting && has_numbers_of places --sums
+}
+
 # The same of the subscriber, over a registry that has the packed crate too. All its tests are built, and one file of them runs, since
 # all take long and run below.
 packed_subscriber() {
@@ -341,6 +359,7 @@ if step 'the service runs' run_service && step 'its stream is viewed' view "$wor
     step 'the same of a stream to standard output' to_standard_output
 fi
 step 'the streams of threads are viewed' view_streams
+step "a console has the numbers of its stream" numbers_agree
 
 # A tokio program, inspected by one line in its `main`. tokio tells of its tasks where all is compiled with this flag.
 unstable=$CARGO_TARGET_DIR/unstable
@@ -600,6 +619,7 @@ attached_at_port() {
         [ "$(curl -s "http://127.0.0.1:$port/snapshot" | living_of)" -eq 5 ] &&
         [ "$(curl -sN --max-time 1 "http://127.0.0.1:$port/stream" | living_of)" -eq 5 ] &&
         curl -s "http://127.0.0.1:$port/" | grep -q "^taskscope watch tcp:127.0.0.1:$port " &&
+        curl -s "http://127.0.0.1:$port/metrics" | grep -q '^taskscope_tasks{name="live",.*,state="idle"} [1-5]$' &&
         [ "$(curl -s -o /dev/null -w '%{http_code}' "http://127.0.0.1:$port/other")" = 404 ] &&
         [ "$(curl -s -o /dev/null -w '%{http_code}' -H 'Host: evil.example' "http://127.0.0.1:$port/snapshot")" = 403 ] &&
         service_was_silent
@@ -623,6 +643,48 @@ watch_goes_on() {
     grep -q '  tasks 4: ' "$work/watched" && grep -q '  tasks 8: ' "$work/watched" || { head -n 3 "$work/watched"; return 1; }
 }
 
+# A Prometheus scrapes a service each second. How many tasks there are doesn't change, and how often they were polled soon lies between what two
+# reports say.
+scraped_by_prometheus() {
+    server=$((port + 1))
+    mkdir "$work/data" && cat > "$work/prometheus.yml" << END || return 1
+global: { scrape_interval: 1s }
+scrape_configs:
+  - job_name: service
+    static_configs: [{ targets: ["127.0.0.1:$port"] }]
+END
+    start_service "tcp:127.0.0.1:$port" 5 60 0 || return 1
+    curl -s "http://127.0.0.1:$port/metrics" | promtool check metrics || return 1
+    prometheus --config.file="$work/prometheus.yml" --storage.tsdb.path="$work/data" --web.listen-address="127.0.0.1:$server" \
+        > "$work/prometheus.said" 2>&1 &
+    prometheus=$!
+    answers_agree
+    agree=$?
+    kill "$prometheus" "$service"
+    wait "$prometheus" "$service"
+    return "$agree"
+}
+
+answer_of() {
+    python3 "$root/tests/metrics/ask.py" "http://127.0.0.1:$server" "$1"
+}
+
+polls_in_report() {
+    "$program" view "tcp:127.0.0.1:$port" | awk '$1 == "task" { polls += $6 } END { print polls + 0 }'
+}
+
+answers_agree() {
+    tasks=$(answer_of 'sum(taskscope_tasks)') && report=$("$program" view "tcp:127.0.0.1:$port" | grep -c '^task ') || return 1
+    before=$(polls_in_report) || return 1
+    for _ in $(seq 20); do
+        sleep 1
+        polls=$(answer_of 'sum(taskscope_task_polls_total)') && [ "$polls" -gt "$before" ] && break
+    done
+    after=$(polls_in_report)
+    echo "tasks: $tasks, and the report says $report; polls: $polls, and the reports say $before and $after"
+    [ "$tasks" -eq "$report" ] && [ "$report" -eq 6 ] && [ "$before" -lt "$polls" ] && [ "$polls" -lt "$after" ]
+}
+
 # The disk is full, as the file may have no more blocks, and then it isn't.
 full_disk_is_read() {
     (
@@ -641,5 +703,8 @@ if step 'a service is built' over_unstable build --example load; then
     step 'readers attach to a socket' attached_at_socket
     step 'watch goes on when the service starts anew' watch_goes_on
     step 'the stream of a disk that was full is read' full_disk_is_read
+    if package prometheus prometheus; then
+        step "a Prometheus that scrapes a service answers with its stream's numbers" scraped_by_prometheus
+    fi
 fi
 finish

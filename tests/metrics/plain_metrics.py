@@ -1,11 +1,12 @@
 #!/usr/bin/env python3
 """The numbers of a stream, reckoned plainly: the text that `taskscope metrics` writes of it.
 
-Usage: plain_metrics.py STREAM [--by name|id]
+Usage: plain_metrics.py STREAM [--by name|id|place] [--series N]
 """
 import argparse
 import json
 import os
+import re
 import sys
 from collections import Counter
 from types import SimpleNamespace
@@ -13,6 +14,7 @@ from types import SimpleNamespace
 sys.path.insert(0, os.path.join(os.path.dirname(os.path.dirname(os.path.abspath(__file__))), "odd"))
 import plain_findings  # noqa: E402
 
+VERSION = "0.1.0"
 LIMITS = SimpleNamespace(long=10**8, wait=10**9, percent=50)
 MOST = 2**64 - 1
 STATES = ("idle", "scheduled", "polling", "closed")
@@ -33,19 +35,27 @@ LASTING = (
 )
 
 
+BOUNDS = [2**power for power in range(14, 27)]
+TIMES = (
+    ("taskscope_task_poll_seconds", "polls", "How long polls of tasks ran that have ended."),
+    ("taskscope_task_wait_seconds", "waits", "How long tasks waited for polls that have started."),
+)
+
+
 class Stream:
-    """Tables that the lines of a stream lead to, and what has left them."""
+    """Tables that the lines of a stream lead to, and what has left them, each task with its histogram and the moment at which it was last shown."""
 
     def __init__(self):
-        self.tasks, self.resources, self.ops, self.polls = {}, {}, {}, {}
+        self.tasks, self.resources, self.ops, self.polls, self.times = {}, {}, {}, {}, {}
         self.left_tasks, self.left_resources = [], []
+        self.seen = []  # Each task's info as it came and as it left, with whether it came.
         self.dropped, self.now, self.lines = (0, 0, 0), 0, 0
         self.diagnosis = plain_findings.Diagnosis(LIMITS)
 
     def take(self, line):
-        before = (dict(self.tasks), dict(self.resources), dict(self.polls))
+        before = (dict(self.tasks), dict(self.resources), dict(self.polls), dict(self.times), self.now)
         if line["snapshot"]:
-            self.tasks, self.resources, self.ops, self.polls = {}, {}, {}, {}
+            self.tasks, self.resources, self.ops, self.polls, self.times = {}, {}, {}, {}, {}
         for kind in ("tasks", "resources", "ops"):
             items = getattr(self, kind)
             for id in line.get("gone_" + kind, ()):
@@ -54,10 +64,15 @@ class Stream:
             for row in line[{"tasks": "task", "resources": "resource", "ops": "op"}[kind] + "_stats"]:
                 items[row["id"]] = (items[row["id"]][0], row)
         self.polls.update((id, (ready, pending)) for id, ready, pending in line["poll_counts"])
+        for id in line.get("gone_tasks", ()):
+            self.times.pop(id, None)
+        self.times.update((times["id"], times) for times in line.get("task_times", ()))
         self.dropped, self.now = line["dropped"], line["now"]
         self.lines += 1
-        tasks, resources, polls = before
-        self.left_tasks += [item for id, item in tasks.items() if id not in self.tasks]
+        tasks, resources, polls, times, now = before
+        self.seen += [(info, True) for id, (info, _) in self.tasks.items() if id not in tasks]
+        self.seen += [(info, False) for id, (info, _) in tasks.items() if id not in self.tasks]
+        self.left_tasks += [(*item, times.get(id), now) for id, item in tasks.items() if id not in self.tasks]
         self.left_resources += [(info, polls.get(id, (0, 0))) for id, (info, _) in resources.items() if id not in self.resources]
         self.diagnosis.after_line(self.tables())
 
@@ -75,12 +90,18 @@ def runs_for(row, now):
     return max(0, now - row["last_started"]) if row["polling"] else 0
 
 
+def lasting(row, now):
+    """How long a task that waits has waited since its last wake."""
+    if not row["scheduled"] or row["polling"]:
+        return 0
+    return max(0, now - max(row["created"], row["last_wake"] or 0, row["last_ended"] or 0))
+
+
 def waits_for(row, now):
     """How long a task that waits has waited: of a row that counts its waits all of it, of another one since its last wake."""
     if not row["scheduled"] or row["polling"]:
         return 0
-    since = max(row["created"], row["last_wake"] or 0, row["last_ended"] or 0)
-    lasts = max(0, now - since)
+    lasts = lasting(row, now)
     return min(row["sched"][2] + lasts, 2**56 - 1) if isinstance(row["sched"], list) else lasts
 
 
@@ -98,8 +119,32 @@ def id_label(number):
 
 
 def labels_of(info, by):
+    if by == "place":
+        file, line, column = info["loc"]
+        name = re.sub("[0-9]+", "#", info["name"])
+        return ",".join((label("name", name), label("kind", info["kind"]), label("location", f"{file}:{line}:{column}")))
     own = label("name", info["name"]) + "," + label("kind", info["kind"])
     return id_label(info["id"]) + own if by == "id" else own
+
+
+class Named:
+    """The labels that tasks are shown by: those of the first so many stand by themselves, in the order in which their tasks came."""
+
+    def __init__(self, stream, by, series):
+        self.by, self.own = by, None
+        self.other_tasks = None
+        if series is None or by == "id":
+            return
+        all_labels = dict.fromkeys(labels_of(info, by) for info, _ in stream.seen)
+        self.own = set(list(all_labels)[:series])
+        self.other_tasks = min(sum(came and labels_of(info, by) not in self.own for info, came in stream.seen), MOST)
+
+    def __call__(self, info):
+        labels = labels_of(info, self.by)
+        if self.own is None or labels in self.own:
+            return labels
+        others = [label("name", "(others)"), label("kind", "-")]
+        return ",".join(others + [label("location", "-")] * (self.by == "place"))
 
 
 def finding_labels(finding, by):
@@ -143,28 +188,64 @@ def warnings_of(stream):
             yield "never-yielded"
 
 
-def lines_of(stream, by):
-    left = stream.left_tasks if by == "name" else []
+def filled(histogram, key):
+    """The counts of the fourteen buckets of polls or of waits; None where they aren't counted."""
+    key = {"polls": "counts", "waits": "waits"}[key]
+    if histogram is None or key not in histogram:
+        return None
+    counts = [0] * (len(BOUNDS) + 1)
+    for bucket, count in histogram[key]:
+        counts[bucket] = count
+    return counts
+
+
+def times_of(tasks, named):
+    for name, key, text in TIMES:
+        counts, sums = {}, {}
+        for info, row, histogram, _ in tasks:
+            of_task = filled(histogram, key)
+            if of_task is None:
+                continue
+            labels = named(info)
+            seen = [min(sum(of_task[: bucket + 1]), MOST) for bucket in range(len(of_task))]
+            before = counts.get(labels, [0] * len(seen))
+            counts[labels] = [min(a + b, MOST) for a, b in zip(before, seen)]
+            sums[labels] = min(sums.get(labels, 0) + count_of(row, {"polls": "busy", "waits": "sched"}[key]), MOST)
+        if not counts:
+            continue
+        yield from head(name, "histogram", "seconds", text)
+        for labels in counts:
+            for bound, count in zip([*map(seconds, BOUNDS), "+Inf"], counts[labels]):
+                yield f'{name}_bucket{{{labels},{label("le", bound)}}} {count}'
+            yield f"{name}_sum{{{labels}}} {seconds(sums[labels])}"
+            yield f"{name}_count{{{labels}}} {counts[labels][-1]}"
+
+
+def lines_of(stream, by, series):
+    named = Named(stream, by, series)
+    timed_left = stream.left_tasks if by != "id" else []
+    left = [(info, row) for info, row, _, _ in timed_left]
+    there = [(info, row, stream.times.get(id), stream.now) for id, (info, row) in stream.tasks.items()]
+    all_tasks = [*timed_left, *there]
     tasks = [*left, *stream.tasks.values()]
     for name, key, unit, text in COUNTS:
         yield from head(name, "counter", unit, text)
-        for labels, number in summed((labels_of(info, by), count_of(row, key)) for info, row in tasks).items():
+        for labels, number in summed((named(info), count_of(row, key)) for info, row, _, _ in all_tasks).items():
             yield f"{name}{{{labels}}} {seconds(number) if unit else number}"
     yield from head("taskscope_tasks", "gauge", None, "Tasks by the state that they are in.")
-    states = Counter((labels_of(info, by), state_of(row)) for info, row in stream.tasks.values())
-    for labels in dict.fromkeys(labels_of(info, by) for info, _ in tasks):
+    states = Counter((named(info), state_of(row)) for info, row in stream.tasks.values())
+    for labels in dict.fromkeys(named(info) for info, _ in tasks):
         for state in STATES:
             yield f'taskscope_tasks{{{labels},state="{state}"}} {states[labels, state]}'
     for (name, join, text), lasts in zip(LASTING, (runs_for, waits_for, waits_for)):
         yield from head(name, "gauge", "seconds", text)
-        gone = [(labels_of(info, by), 0) for info, _ in left]
-        now = [(labels_of(info, by), lasts(row, stream.now)) for info, row in stream.tasks.values()]
+        gone = [(named(info), 0) for info, _ in left]
+        now = [(named(info), lasts(row, stream.now)) for info, row in stream.tasks.values()]
         for labels, number in joined(gone + now, join).items():
             yield f"{name}{{{labels}}} {seconds(number)}"
     name = "taskscope_resource_poll_ops_total"
     yield from head(name, "counter", None, "Poll operations of resources by what they answered.")
-    resources = stream.left_resources if by == "name" else []
-    resources = [*resources, *((info, stream.polls.get(id, (0, 0))) for id, (info, _) in stream.resources.items())]
+    resources = [*stream.left_resources, *((info, stream.polls.get(id, (0, 0))) for id, (info, _) in stream.resources.items())]
     ready = summed((label("type", info["type"]), polls[0]) for info, polls in resources)
     pending = summed((label("type", info["type"]), polls[1]) for info, polls in resources)
     for labels in ready:
@@ -179,6 +260,13 @@ def lines_of(stream, by):
         yield f'taskscope_dropped_events_total{{kind="{kind}"}} {number}'
     yield from head("taskscope_stream_lines_total", "counter", None, "Lines of the stream.")
     yield f"taskscope_stream_lines_total {stream.lines}"
+    yield from head("taskscope_stream_moment_seconds", "gauge", "seconds", "The moment of the last line, by the clock of the stream.")
+    yield f"taskscope_stream_moment_seconds {seconds(stream.now)}"
+    yield from head("taskscope_build_info", "gauge", None, "The program that made these numbers.")
+    yield f'taskscope_build_info{{version="{VERSION}"}} 1'
+    if named.other_tasks is not None:
+        yield from head("taskscope_other_tasks_total", "counter", None, "Tasks that came and have no series of their own labels.")
+        yield f"taskscope_other_tasks_total {named.other_tasks}"
     yield from head("taskscope_findings", "gauge", None, "How many tasks a finding is about.")
     findings = stream.diagnosis.findings(stream.tables())
     for labels, number in summed((finding_labels(finding, by), max(1, finding.tasks)) for finding in findings).items():
@@ -191,20 +279,22 @@ def lines_of(stream, by):
     yield from head(name, "counter", "seconds", "How long tasks waited for a poll, by what for.")
     for what, share in (("long-polls", "charged"), ("queue", "queued"), ("nobody", "nobody")):
         yield f"{name}{{{label('for', what)}}} {seconds(stream.diagnosis.shares[share])}"
+    yield from times_of(all_tasks, named)
     yield "# EOF"
 
 
 def main():
     words = argparse.ArgumentParser(description=__doc__.splitlines()[0])
     words.add_argument("stream")
-    words.add_argument("--by", choices=("name", "id"), default="name")
+    words.add_argument("--by", choices=("name", "id", "place"), default="name")
+    words.add_argument("--series", type=int)
     words = words.parse_args()
     stream = Stream()
     with open(words.stream, encoding="ascii") as lines:
         for line in lines:
             if line.endswith("\n"):
                 stream.take(json.loads(line))
-    for line in lines_of(stream, words.by):
+    for line in lines_of(stream, words.by, words.series):
         print(line)
 
 

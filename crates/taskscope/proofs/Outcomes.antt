@@ -9,14 +9,11 @@ use Rattle.tk_metrics.specs.Places.{Texts}
 use Rattle.tk_metrics.proofs.KeepLemmas.{none_put}
 use Rattle.tk_watch.proofs.KeyLemmas.{none_came}
 use Rattle.tk_watch.proofs.WatchLemmas.{none_drawn}
-use Rattle.tk_client.specs.Warnings.{LintsView}
-use Rattle.tk_report.specs.declared.options.TimesOptions.{TimesOptions}
-use Rattle.tk_report.specs.declared.view.View.{View}
-use Rattle.taskscope.specs.Program.{Does, DoesOfFile, ViewsStream, MeasuresTo, WatchesAtKeys, WatchesBy, filter_text, screen_by}
+use Rattle.taskscope.specs.Program.{Does, MeasuresTo, WatchesAtKeys, WatchesBy, filter_text, screen_by}
 use Rattle.taskscope.specs.declared.command_line.MetricsOptions.{MetricsOptions}
 use Rattle.taskscope.specs.declared.command_line.Request.{Request}
 use Rattle.taskscope.specs.declared.command_line.WatchOptions.{WatchOptions}
-use Rattle.taskscope.specs.declared.command_line.Request.TheVariants.{Demo, Find, Metrics, Page, Run, Show, Watch}
+use Rattle.taskscope.specs.declared.command_line.Request.TheVariants.{Demo, Find, Metrics, Page, Run, Show, Sites, Watch}
 
 -- nothing was written
 nothing_more : (known : Option (List ℕ)) → Appends known known []
@@ -35,7 +32,7 @@ none_measured (Some path) options given known texts status told = (
   record {
     outcome = Err faults.Memory;
     told = told;
-    keeps = none_put path options.by options.lints given texts;
+    keeps = none_put path options.apart options.lints given texts;
   },
   refl,
 )
@@ -90,6 +87,12 @@ nothing_done terminal filter to (Find view limits times) given known texts statu
   views = tt;
   unwritten = λ other. refl;
 }
+nothing_done terminal filter to (Sites view lints wait_ms) given known texts status told = record {
+  outcome = Err faults.Memory;
+  told = told;
+  views = tt;
+  unwritten = λ other. refl;
+}
 nothing_done terminal filter to (Page lints) given known texts status told = record {
   outcome = Err faults.Memory;
   told = told;
@@ -104,9 +107,3 @@ nothing_done terminal filter to Demo given known texts status told = record {
   shows = refl;
   unread = refl;
 }
-
--- the bytes of a file are viewed
-pub shown_of_file : (terminal : Canvas) (filter to : Option (List ℕ)) (place : Option Texts) {request : Request} {view : View} {lints : LintsView} {times : TimesOptions}
-    {given left old new : Option (List ℕ)} {status : ℕ}
-    → request ≡ Show view lints times → ViewsStream view lints times given left old new status → DoesOfFile terminal filter to request old new place place status
-shown_of_file terminal filter to place {given = given} {left = left} is views = (given, left, rw is views)

@@ -28,7 +28,7 @@ use Rattle.tk_report.specs.declared.view.View.TheVariants.{Report, Lint}
 use Rattle.tk_frame.specs.declared.query.Column.{Column}
 use Rattle.taskscope.specs.declared.command_line.Request.TheVariants.{Metrics, Page, Watch}
 use Rattle.tk_metrics.specs.declared.by.By.{By}
-use Rattle.taskscope.specs.Requests.{asked, asked_in, by_at, column_at, file_argument, flag_option, lints_in, span_option, metrics_by, name_fault, names_nothing, number_of, number_option, program, refusals, view_by, watch_by}
+use Rattle.taskscope.specs.Requests.{asked, asked_in, by_at, by_place_at, column_at, file_argument, flag_option, lints_in, span_option, metrics_by, name_fault, names_nothing, number_of, number_option, program, refusals, text_option, view_of, view_by, watch_by}
 
 -- ---- lists of kinds
 
@@ -197,6 +197,23 @@ module _ (name : Text) (no_percent : bytes_eq name percent_id ≡ false) (no_lim
       rw one.1 (good_at name (more_values CommandLine (one.0 ∷ [])) (new_row name CommandLine one.0 ∷ []) (without name rows)
       (good_at name (λ _. []) [] rows good (λ r g. tt) tt) (good_more CommandLine (one.0 ∷ [])) (new_span one.0, tt))
 
+-- nor is an option of a text
+module _ (name : Text) (no_percent : bytes_eq name percent_id ≡ false) (no_limit : bytes_eq name limit_id ≡ false) where
+  abbrev text_rule : Rule
+  text_rule = with_index 1 (filled (text_option name))
+
+  -- a use of it has one value
+  text_use : (again : Bool) (values : List Text) (rows : List Row) → use_fault again text_rule values rows ≡ [] → (v : Text) × (values ≡ v ∷ [])
+  text_use again [] rows none = absurd (some_kind _ _ none)
+  text_use again (v ∷ []) rows none = (v, refl)
+  text_use again (v ∷ w ∷ vs) rows none = absurd (some_kind _ _ (sym (two_values (length vs)) ∙ first_none _ _ none))
+
+  sound_text : Sound text_rule
+  sound_text again values rows good none =
+      let one = text_use again values rows none in
+      rw one.1 (good_at name (more_values CommandLine (one.0 ∷ [])) (new_row name CommandLine one.0 ∷ []) (without name rows)
+      (good_at name (λ _. []) [] rows good (λ r g. tt) tt) (good_more CommandLine (one.0 ∷ [])) (new_span name no_percent no_limit one.0, tt))
+
 -- where no value is wanted, one is too many
 no_values : (n : ℕ) → range_kinds 0 0 (suc n) ≡ WrongNumberOfValues ∷ []
 no_values n = rw (ne_eqb 0 (suc n) (λ e. omega (arith, e))) refl
@@ -249,11 +266,17 @@ long_wait_rule = span_rule (codes "long-wait") refl refl
 abbrev findings_rule : Rule
 findings_rule = flag_rule (codes "findings") refl refl
 
+abbrev by_rule : Rule
+by_rule = text_rule (codes "by") refl refl
+
+abbrev place_rule : Rule
+place_rule = span_rule (codes "place") refl refl
+
 abbrev lint_rules : List Rule
-lint_rules = long_poll_rule ∷ long_wait_rule ∷ findings_rule ∷ explain_rule ∷ page_rules
+lint_rules = long_poll_rule ∷ long_wait_rule ∷ findings_rule ∷ by_rule ∷ explain_rule ∷ page_rules
 
 abbrev view_rules : List Rule
-view_rules = long_poll_rule ∷ long_wait_rule ∷ findings_rule ∷ times_rule ∷ explain_rule ∷ page_rules
+view_rules = long_poll_rule ∷ long_wait_rule ∷ findings_rule ∷ by_rule ∷ times_rule ∷ place_rule ∷ explain_rule ∷ page_rules
 
 -- ---- the walk keeps rows good
 
@@ -504,10 +527,10 @@ page_keeps : AllKeep page_rules
 page_keeps = (keeps_without (codes "help"), tt)
 
 lint_keeps : AllKeep lint_rules
-lint_keeps = (keeps_without (codes "long-poll"), (keeps_without (codes "long-wait"), (keeps_findings, (keeps_explain, page_keeps))))
+lint_keeps = (keeps_without (codes "long-poll"), (keeps_without (codes "long-wait"), (keeps_findings, (keeps_without (codes "by"), (keeps_explain, page_keeps)))))
 
 view_keeps : AllKeep view_rules
-view_keeps = (keeps_without (codes "long-poll"), (keeps_without (codes "long-wait"), (keeps_findings, (keeps_times, (keeps_explain, page_keeps)))))
+view_keeps = (keeps_without (codes "long-poll"), (keeps_without (codes "long-wait"), (keeps_findings, (keeps_without (codes "by"), (keeps_times, (keeps_without (codes "place"), (keeps_explain, page_keeps)))))))
 
 both_defaults : (rows : List Row) → AreGood rows → HaveNumbers (defaulted limit_id (codes "1000000000") (defaulted percent_id (codes "50") rows))
 unfolding HaveNumbers
@@ -561,9 +584,16 @@ lints_there rows numbers =
 
 -- ---- the command that the words name
 
-view_asks : (view : View) (options : List Row) (lints : Option LintsView) → IsSome lints → IsSome (option_and_then (λ l. Some (view_by view options l)) lints)
-view_asks view options None some = absurd (true≢false (sym some))
-view_asks view options (Some l) some = refl
+view_asks : (view : View) (options : List Row) (by_place : Bool) (lints : Option LintsView) → IsSome lints
+    → IsSome (option_and_then (λ l. Some (view_by view options by_place l)) lints)
+view_asks view options by_place None some = absurd (true≢false (sym some))
+view_asks view options by_place (Some l) some = refl
+
+-- something that a view adds tasks up by, or nothing
+view_asks_of : (view : View) (options : List Row) (by_place : Option Bool) → not (is_some by_place) ≡ false → IsSome (lints_in options)
+    → IsSome (option_and_then (view_of view options) by_place)
+view_asks_of view options None wrong some = absurd (true≢false wrong)
+view_asks_of view options (Some by_place) right some = view_asks view options by_place (lints_in options) some
 
 page_asks_of : (lints : Option LintsView) → IsSome lints → IsSome (option_and_then (λ l. Some (Page l)) lints)
 page_asks_of None some = absurd (true≢false (sym some))
@@ -720,15 +750,21 @@ abbrev options_in : Option (Text × List Row) → List Row
 options_in None = []
 options_in (Some command) = command.1
 
+show_named : (options : List Row) → names_nothing (Some (codes "view", options)) ≡ false → IsSome (lints_in options) → IsSome (asked_in (Some (codes "view", options)))
+show_named options named = view_asks_of Report options (by_place_at options) named
+
 show_asks : (words : List Text) → TakenAsks (codes "view") words
 show_asks words none named =
-    view_asks Report (options_in (entered there (Some (codes "view", words)))) _
-    (lints_there _ (numbers_there view_rules (sound_span (codes "long-poll") refl refl, (sound_span (codes "long-wait") refl refl, (sound_flag (codes "findings") refl refl, (sound_flag (codes "times") refl refl, (sound_flag (codes "explain") refl refl, (sound_help, tt)))))) view_keeps _ words refl none))
+    show_named (options_in (entered there (Some (codes "view", words)))) named
+    (lints_there _ (numbers_there view_rules (sound_span (codes "long-poll") refl refl, (sound_span (codes "long-wait") refl refl, (sound_flag (codes "findings") refl refl, (sound_text (codes "by") refl refl, (sound_flag (codes "times") refl refl, (sound_span (codes "place") refl refl, (sound_flag (codes "explain") refl refl, (sound_help, tt)))))))) view_keeps _ words refl none))
+
+warn_named : (options : List Row) → names_nothing (Some (codes "lint", options)) ≡ false → IsSome (lints_in options) → IsSome (asked_in (Some (codes "lint", options)))
+warn_named options named = view_asks_of Lint options (by_place_at options) named
 
 lint_asks : (words : List Text) → TakenAsks (codes "lint") words
 lint_asks words none named =
-    view_asks Lint (options_in (entered there (Some (codes "lint", words)))) _
-    (lints_there _ (numbers_there lint_rules (sound_span (codes "long-poll") refl refl, (sound_span (codes "long-wait") refl refl, (sound_flag (codes "findings") refl refl, (sound_flag (codes "explain") refl refl, (sound_help, tt))))) lint_keeps _ words refl none))
+    warn_named (options_in (entered there (Some (codes "lint", words)))) named
+    (lints_there _ (numbers_there lint_rules (sound_span (codes "long-poll") refl refl, (sound_span (codes "long-wait") refl refl, (sound_flag (codes "findings") refl refl, (sound_text (codes "by") refl refl, (sound_flag (codes "explain") refl refl, (sound_help, tt)))))) lint_keeps _ words refl none))
 
 page_asks : (words : List Text) → TakenAsks (codes "page") words
 page_asks words none named = page_asks_of _ (lints_there _ (numbers_there page_rules (sound_help, tt) page_keeps _ words refl none))

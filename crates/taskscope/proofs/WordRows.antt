@@ -6,9 +6,10 @@ use Rattle.clap.proofs.OnLiterals.{clap_on_literals}
 use Rattle.tk_report.specs.Timed.{no_times}
 use Rattle.tk_report.specs.declared.view.View.TheVariants.{Report, Lint}
 use Rattle.tk_client.specs.Warnings.{default_lints}
-use Rattle.taskscope.specs.declared.command_line.Request.TheVariants.{Demo, Find, Metrics, Page, Run, Show, Watch}
+use Rattle.taskscope.specs.declared.command_line.Request.TheVariants.{Demo, Find, Metrics, Page, Run, Show, Sites, Watch}
 use Rattle.tk_frame.specs.declared.query.Column.TheVariants.{Sched}
-use Rattle.tk_metrics.specs.declared.by.By.TheVariants.{Id}
+use Rattle.tk_metrics.specs.declared.by.By.TheVariants.{Id, Place}
+use Rattle.tk_sites.specs.declared.sites_view.SitesView.TheVariants.{All, One}
 use Rattle.taskscope.specs.Requests.{AsksFor, AsksForHelp, AsksForInput, AsksForVersion, IsMistake, file_of, filter_of, plain_metrics, plain_watch, refusals, to_of}
 
 -- the program is called by some name
@@ -78,6 +79,34 @@ module _ (name : List ℕ) where
   unfolding clap_on_literals
   odd_below_a_report = (refl, refl)
 
+  the_places : AsksFor (Sites (All Report) default_lints None) (name ∷ codes "view" ∷ codes "--by" ∷ codes "place" ∷ [])
+  unfolding clap_on_literals
+  the_places = (refl, refl)
+
+  places_that_wait : AsksFor (Sites (All Lint) default_lints (Some 100)) (name ∷ codes "lint" ∷ codes "--by=place" ∷ codes "--long-wait=100" ∷ [])
+  unfolding clap_on_literals
+  places_that_wait = (refl, refl)
+
+  no_such_places : refusals (name ∷ codes "view" ∷ codes "--by" ∷ codes "name" ∷ []) ≡ InvalidValue ∷ []
+  unfolding clap_on_literals
+  no_such_places = refl
+
+  one_place : AsksFor (Sites (One 4) default_lints None) (name ∷ codes "view" ∷ codes "--place" ∷ codes "4" ∷ [])
+  unfolding clap_on_literals
+  one_place = (refl, refl)
+
+  no_histograms_of_one_place : refusals (name ∷ codes "view" ∷ codes "--place=4" ∷ codes "--times" ∷ []) ≡ InvalidValue ∷ []
+  unfolding clap_on_literals
+  no_histograms_of_one_place = refl
+
+  no_findings_by_place : refusals (name ∷ codes "lint" ∷ codes "--by=place" ∷ codes "--findings" ∷ []) ≡ InvalidValue ∷ []
+  unfolding clap_on_literals
+  no_findings_by_place = refl
+
+  no_long_polls_by_place : refusals (name ∷ codes "lint" ∷ codes "--by=place" ∷ codes "--long-poll=5" ∷ []) ≡ InvalidValue ∷ []
+  unfolding clap_on_literals
+  no_long_polls_by_place = refl
+
   the_longest_waits : AsksFor (Watch (record plain_watch { sort = Sched; rows = 5; plain = true; resources = true }))
       (name ∷ codes "watch" ∷ codes "--sort=sched" ∷ codes "--rows=5" ∷ codes "--plain" ∷ codes "--resources" ∷ [])
   unfolding clap_on_literals
@@ -91,10 +120,22 @@ module _ (name : List ℕ) where
   unfolding clap_on_literals
   no_such_column = refl
 
-  each_task_twice_a_minute : AsksFor (Metrics (record plain_metrics { by = Id; every = 30; follow = true }))
+  each_task_twice_a_minute : AsksFor (Metrics (record plain_metrics { apart = record { by = Id; most = None }; every = 30; follow = true }))
       (name ∷ codes "metrics" ∷ codes "--by=id" ∷ codes "--to" ∷ codes "tasks.prom" ∷ codes "--every=30" ∷ codes "--follow" ∷ [])
   unfolding clap_on_literals
   each_task_twice_a_minute = (refl, refl)
+
+  each_place : AsksFor (Metrics (record plain_metrics { apart = record { by = Place; most = None } })) (name ∷ codes "metrics" ∷ codes "--by" ∷ codes "place" ∷ [])
+  unfolding clap_on_literals
+  each_place = (refl, refl)
+
+  a_hundred_places : AsksFor (Metrics (record plain_metrics { apart = record { by = Place; most = Some 100 } })) (name ∷ codes "metrics" ∷ codes "--by=place" ∷ codes "--series" ∷ codes "100" ∷ [])
+  unfolding clap_on_literals
+  a_hundred_places = (refl, refl)
+
+  no_series : refusals (name ∷ codes "metrics" ∷ codes "--series=0" ∷ []) ≡ ValueValidation ∷ []
+  unfolding clap_on_literals
+  no_series = refl
 
   that_place : to_of (name ∷ codes "metrics" ∷ codes "--to" ∷ codes "tasks.prom" ∷ []) ≡ Some (codes "tasks.prom")
   unfolding clap_on_literals

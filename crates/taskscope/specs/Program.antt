@@ -1,5 +1,5 @@
 -- What a run of the program does with a script, with a stream, and for the demo.
-use Rattle.std.specs.Prelude.{◌≡◌, ◌==◌, ◌&&◌, is_some, ℕ, Bool, true, false, List, [], Option, Some, None, Result, Ok, Err, IfErr, if◌then◌else◌, unwrap_or}
+use Rattle.std.specs.Prelude.{◌≡◌, ◌⊎◌, ◌==◌, ◌&&◌, is_some, ℕ, Bool, true, false, List, [], Option, Some, None, Result, Ok, Err, IfErr, if◌then◌else◌, unwrap_or}
 use Rattle.std.specs.Borrow.{Bor}
 use Rattle.std.specs.Io.KnownBytes.{Appends}
 use Rattle.tk_client.specs.Warnings.{LintsView}
@@ -10,6 +10,9 @@ use Rattle.tk_metrics.specs.Places.{Texts}
 use Rattle.tk_metrics.specs.Streams.{Measures}
 use Rattle.tk_odd.specs.declared.limits.Limits.{Limits}
 use Rattle.tk_found.specs.Views.{ViewsFindings}
+use Rattle.tk_sites.specs.Views.{ViewsSites}
+use Rattle.tk_sites.specs.declared.sites_view.SitesView.{SitesView}
+use Rattle.tk_sites.specs.declared.sites_view.SitesView.TheVariants.{All, One}
 use Rattle.tk_page.specs.Pages.{Pages}
 use Rattle.tk_report.specs.Timed.{no_times}
 use Rattle.tk_report.specs.TimedViews.{ViewsTimed, count_of}
@@ -25,7 +28,7 @@ use Rattle.tk_report.specs.declared.view.View.{View}
 use Rattle.tk_report.specs.declared.view.View.TheVariants.{Report, Lint}
 use Rattle.tk_report.specs.declared.view.Viewed.{Viewed}
 use Rattle.taskscope.specs.declared.command_line.Request.{Request}
-use Rattle.taskscope.specs.declared.command_line.Request.TheVariants.{Demo, Find, Metrics, Page, Run, Show, Watch}
+use Rattle.taskscope.specs.declared.command_line.Request.TheVariants.{Demo, Find, Metrics, Page, Run, Show, Sites, Watch}
 use Rattle.taskscope.specs.declared.command_line.MetricsOptions.{MetricsOptions}
 use Rattle.taskscope.specs.declared.command_line.WatchOptions.{WatchOptions}
 
@@ -57,7 +60,7 @@ abbrev pub view_status : View → Result Viewed AppFault → ℕ
 view_status view (Ok viewed) = status_at view viewed.warnings
 view_status view (Err fault) = 1
 
--- the status that tells of so many findings, or of a fault
+-- the status that tells of so many findings, or of so many warnings by place, or of a fault
 abbrev pub found_status : View → Result ℕ AppFault → ℕ
 found_status view (Ok findings) = status_at view findings
 found_status view (Err fault) = 1
@@ -82,6 +85,19 @@ pub record FindsInStream (view : View) (limits : Limits) (times : Bool) (given l
   pub outcome : Result ℕ AppFault
   pub told : status ≡ found_status view outcome
   pub views : ViewsFindings view limits times given left outcome old new
+  -- only a writer's fault comes once something was written
+  pub unwritten : IfErr outcome (λ fault. (IsOfWriter fault → ⊥) → new ≡ old)
+
+-- a view of one place tells by its status as a report does
+abbrev pub view_in : SitesView → View
+view_in (All view) = view
+view_in (One number) = Report
+
+-- a stream is read and its tasks are added up by place, with long waits among the warnings where they are asked for, and the status tells the outcome
+pub record AddsUpStream (view : SitesView) (lints : LintsView) (wait_ms : Option ℕ) (given left old new : Option (List ℕ)) (status : ℕ) : Type 0 where
+  pub outcome : Result ℕ AppFault
+  pub told : status ≡ found_status (view_in view) outcome
+  pub views : ViewsSites view lints wait_ms given left outcome old new
   -- only a writer's fault comes once something was written
   pub unwritten : IfErr outcome (λ fault. (IsOfWriter fault → ⊥) → new ≡ old)
 
@@ -138,7 +154,7 @@ WatchesBy false options text terminal given left old new status = WatchesStream 
 pub record MeasuresStream (options : MetricsOptions) (given left old new : Option (List ℕ)) (status : ℕ) : Type 0 where
   pub outcome : Result (Unit {0}) AppFault
   pub told : status ≡ status_of outcome
-  pub measures : Measures options.by options.lints given left outcome old new
+  pub measures : Measures options.apart options.lints given left outcome old new
   -- only a writer's fault comes once something was written
   pub unwritten : IfErr outcome (λ fault. (IsOfWriter fault → ⊥) → new ≡ old)
 
@@ -147,7 +163,7 @@ pub record MeasuresStream (options : MetricsOptions) (given left old new : Optio
 pub record KeepsStream (options : MetricsOptions) (path : List ℕ) (given left : Option (List ℕ)) (before after : Option Texts) (status : ℕ) : Type 0 where
   pub outcome : Result (Unit {0}) AppFault
   pub told : status ≡ status_of outcome
-  pub keeps : Keeps path options.by options.lints given left outcome before after
+  pub keeps : Keeps path options.apart options.lints given left outcome before after
 
 -- numbers are written, or kept under a path where one is given, and then nothing is written
 abbrev pub MeasuresTo : Option (List ℕ) → MetricsOptions → Option (List ℕ) → Option (List ℕ) → Option (List ℕ) → Option (List ℕ) → Option Texts → Option Texts → ℕ → Type 0
@@ -171,12 +187,15 @@ abbrev pub Does : Canvas → Option (List ℕ) → Option (List ℕ) → Request
 Does terminal filter to Run given left old new before after status = RunsScript given old new status
 Does terminal filter to (Show view lints times) given left old new before after status = ViewsStream view lints times given left old new status
 Does terminal filter to (Find view limits times) given left old new before after status = FindsInStream view limits times given left old new status
+Does terminal filter to (Sites view lints wait_ms) given left old new before after status = AddsUpStream view lints wait_ms given left old new status
 Does terminal filter to (Page lints) given left old new before after status = PagesStream lints given left old new status
 Does terminal filter to (Watch options) given left old new before after status = WatchesBy options.keys options (filter_text filter) terminal given left old new status
 Does terminal filter to (Metrics options) given left old new before after status = MeasuresTo to options given left old new before after status
 Does terminal filter to Demo given left old new before after status = ShowsDemo given left old new status
 
--- what is asked for is done with the bytes of some reader, of which nothing is known
-abbrev pub DoesOfFile : Canvas → Option (List ℕ) → Option (List ℕ) → Request → Option (List ℕ) → Option (List ℕ) → Option Texts → Option Texts → ℕ → Type 0
-DoesOfFile terminal filter to request old new before after status =
-    (given : Option (List ℕ)) × (left : Option (List ℕ)) × Does terminal filter to request given left old new before after status
+-- what is asked for is done with the bytes of a file, of which this says which readers have them, and what a reader has left; or it could not be opened,
+-- and nothing was done
+abbrev pub DoesOfFile : {F : Type 0} → (F → Option (List ℕ)) → (F → Type 0) → Canvas → Option (List ℕ) → Option (List ℕ) → Request → Option (List ℕ) → Option (List ℕ) → Option Texts → Option Texts → ℕ → Type 0
+DoesOfFile {F} remaining is_of terminal filter to request old new before after status =
+    ((file : F) × (is_of file × ((left : Option (List ℕ)) × Does terminal filter to request (remaining file) left old new before after status)))
+    ⊎ ((status ≡ 1) × ((new ≡ old) × (after ≡ before)))

@@ -1,5 +1,5 @@
 -- What words of a command line ask for.
-use Rattle.std.specs.Prelude.{◌≡◌, ◌≢◌, ◌&&◌, ℕ, Bool, true, false, not, List, [], ◌∷◌, Option, Some, None, if◌then◌else◌, codes, map, nat_le, option_and_then, is_some, unwrap_or, String, IsSome}
+use Rattle.std.specs.Prelude.{◌≡◌, ◌≢◌, ◌&&◌, ◌||◌, ℕ, Bool, true, false, not, List, [], ◌∷◌, Option, Some, None, if◌then◌else◌, codes, map, nat_le, option_and_then, is_some, unwrap_or, String, IsSome}
 use Rattle.std.specs.List.{list_all}
 use Rattle.std.specs.Option.{option_map_or}
 use Rattle.std.specs.Str.{bytes_eq}
@@ -21,10 +21,12 @@ use Rattle.tk_frame.specs.declared.query.Column.{Column}
 use Rattle.tk_frame.specs.declared.query.Column.TheVariants.{Busy, Sched, Polls, Wakes, SelfWakes}
 use Rattle.tk_odd.specs.declared.limits.Limits.{Limits}
 use Rattle.tk_found.specs.Views.{limits_by}
+use Rattle.tk_sites.specs.declared.sites_view.SitesView.{SitesView}
+use Rattle.tk_sites.specs.declared.sites_view.SitesView.TheVariants.{All, One}
 use Rattle.tk_metrics.specs.declared.by.By.{By}
-use Rattle.tk_metrics.specs.declared.by.By.TheVariants.{Name, Id}
+use Rattle.tk_metrics.specs.declared.by.By.TheVariants.{Name, Id, Place}
 use Rattle.taskscope.specs.declared.command_line.Request.{Request}
-use Rattle.taskscope.specs.declared.command_line.Request.TheVariants.{Demo, Find, Metrics, Page, Run, Show, Watch}
+use Rattle.taskscope.specs.declared.command_line.Request.TheVariants.{Demo, Find, Metrics, Page, Run, Show, Sites, Watch}
 use Rattle.taskscope.specs.declared.command_line.MetricsOptions.{MetricsOptions}
 use Rattle.taskscope.specs.declared.command_line.WatchOptions.{WatchOptions}
 
@@ -65,7 +67,7 @@ reading_command name = with_rule (new_app name) file_argument
 abbrev pub view_command : Text → App
 view_command name = with_rule (with_rule (reading_command name) percent_option) limit_option
 
--- an option of so many milliseconds, from 1 on, which is there or not
+-- an option of a number from 1 on, as so many milliseconds, which is there or not
 abbrev pub span_option : Text → Rule
 span_option name = record (new_rule name) {
   long = Some name;
@@ -74,11 +76,12 @@ span_option name = record (new_rule name) {
 }
 
 -- such a command that also warns of long polls and long waits, where these options are there: from how many milliseconds on they are long. It tells
--- what is odd in place of warnings where it is asked to
+-- what is odd in place of warnings where it is asked to, and adds tasks up where it is said by what
 abbrev pub spans_command : Text → App
 spans_command name =
     let spans = with_rule (with_rule (view_command name) (span_option (codes "long-poll"))) (span_option (codes "long-wait")) in
-    with_rule spans (flag_option (codes "findings"))
+    let odd = with_rule spans (flag_option (codes "findings")) in
+    with_rule odd (text_option (codes "by"))
 
 -- a command that explains a fault where it is asked to
 abbrev pub explaining : App → App
@@ -88,9 +91,9 @@ explaining command = with_rule command (flag_option (codes "explain"))
 abbrev pub run_command : App
 run_command = explaining (reading_command (codes "run"))
 
--- the command that writes the report, with histograms where they are asked for
+-- the command that writes the report, with histograms, or one place by its number, where they are asked for
 abbrev pub report_command : App
-report_command = explaining (with_rule (spans_command (codes "view")) (flag_option (codes "times")))
+report_command = explaining (with_rule (with_rule (spans_command (codes "view")) (flag_option (codes "times"))) (span_option (codes "place")))
 
 -- the command that writes the warnings
 abbrev pub lint_command : App
@@ -118,7 +121,8 @@ metrics_command =
     let told_apart = with_rule (view_command (codes "metrics")) (text_option (codes "by")) in
     let kept = with_rule told_apart (text_option (codes "to")) in
     let slow = with_rule kept (number_option (codes "every") (codes "10") 86400) in
-    with_rule slow (flag_option (codes "follow"))
+    let followed = with_rule slow (flag_option (codes "follow")) in
+    with_rule followed (span_option (codes "series"))
 
 -- a command is required
 abbrev pub requiring : App → App
@@ -189,15 +193,44 @@ times_in options = record {
 abbrev pub limits_in : LintsView → List Row → Limits
 limits_in lints options = limits_by lints (number_at (codes "long-poll") options)
 
+-- an option is there that places have no part in
+abbrev pub tells_no_places : List Row → Bool
+tells_no_places options =
+    flag_at (codes "findings") options || (flag_at (codes "times") options || is_some (number_at (codes "long-poll") options))
+
+-- whether a view adds tasks up by place, where this is what `--by` says: there is no other key, and none beside such an option
+abbrev pub by_place_named : List Row → Text → Option Bool
+by_place_named options name = if bytes_eq name (codes "place") && not (tells_no_places options) then Some true else None
+
+-- where `--by` is not there a view adds no tasks up by place, unless `--place` names one, which is not beside such an option either
+abbrev pub by_none : List Row → Option Bool
+by_none options = if is_some (number_at (codes "place") options) && tells_no_places options then None else Some false
+
+-- whether `--by` says that a view adds tasks up by place
+abbrev pub by_place_at : List Row → Option Bool
+by_place_at options = option_map_or (by_place_named options) (text_at (codes "by") options) (by_none options)
+
+-- what is shown of places: the one that `--place` names, or all where it is said so, or nothing
+abbrev pub places_by : View → List Row → Bool → Option SitesView
+places_by view options by_place = option_map_or (λ number. Some (One number)) (number_at (codes "place") options) (if by_place then Some (All view) else None)
+
 -- a view of these tables, or of what is odd where that is asked for
-abbrev pub view_by : View → List Row → LintsView → Request
-view_by view options lints =
+abbrev pub tasks_by : View → List Row → LintsView → Request
+tasks_by view options lints =
     if flag_at (codes "findings") options then Find view (limits_in lints options) (flag_at (codes "times") options) else
     Show view lints (times_in options)
 
+-- a view of places where that is asked for, and else of tasks
+abbrev pub view_by : View → List Row → Bool → LintsView → Request
+view_by view options by_place lints =
+    option_map_or (λ places. Sites places lints (number_at (codes "long-wait") options)) (places_by view options by_place) (tasks_by view options lints)
+
+abbrev pub view_of : View → List Row → Bool → Option Request
+view_of view options by_place = option_and_then (λ lints. Some (view_by view options by_place lints)) (lints_in options)
+
 -- a view with these options
 abbrev pub view_with : View → List Row → Option Request
-view_with view options = option_and_then (λ lints. Some (view_by view options lints)) (lints_in options)
+view_with view options = option_and_then (view_of view options) (by_place_at options)
 
 -- a page with these options
 abbrev pub page_with : List Row → Option Request
@@ -247,16 +280,18 @@ abbrev pub by_named : Text → Option By
 by_named name =
     if bytes_eq name (codes "name") then Some Name
     else if bytes_eq name (codes "id") then Some Id
+    else if bytes_eq name (codes "place") then Some Place
     else None
 
 -- what tasks are told apart by: their names where nothing is said
 abbrev pub by_at : List Row → Option By
 by_at options = option_map_or by_named (text_at (codes "by") options) (Some Name)
 
--- what numbers are written and when they are put in a file, by what tasks are told apart by and these options
+-- what numbers are written and when they are put in a file, by what tasks are told apart by and these options: `--series` says how many labels stand by
+-- themselves
 abbrev pub metrics_by : By → List Row → MetricsOptions
 metrics_by by options = record {
-  by = by;
+  apart = record { by = by; most = number_at (codes "series") options };
   every = number_or 10 (codes "every") options;
   follow = flag_at (codes "follow") options;
   lints = lints_or_plain options;
@@ -303,6 +338,10 @@ filter_in = option_and_then (λ command. text_at (codes "filter") command.1)
 abbrev pub filter_of : List Text → Option Text
 filter_of words = filter_in (subcommand_of program words)
 
+-- the path of that file, where they name one
+abbrev pub file_text : List Text → Text
+file_text words = unwrap_or (file_of words) []
+
 -- the file that numbers are kept in, where the words name one
 abbrev pub to_in : Option (Text × List Row) → Option Text
 to_in = option_and_then (λ command. text_at (codes "to") command.1)
@@ -321,10 +360,18 @@ explains words = explains_in (subcommand_of program words)
 abbrev pub texts : {Z : Type 0} → List (String Z) → List (List ℕ)
 texts = map (λ w. w.bytes.items)
 
--- an option names nothing that there is: no column of a watch, or nothing that tasks are told apart by
+-- an option of a command names nothing that there is: no column of a watch, nothing that tasks are told apart by, or nothing that a view adds them up by
+abbrev pub option_names_nothing : Text → List Row → Bool
+option_names_nothing name options =
+    if bytes_eq name (codes "watch") then not (is_some (column_at options))
+    else if bytes_eq name (codes "metrics") then not (is_some (by_at options))
+    else if bytes_eq name (codes "view") then not (is_some (by_place_at options))
+    else if bytes_eq name (codes "lint") then not (is_some (by_place_at options))
+    else false
+
+-- so does an option of the command that the words name
 abbrev pub names_nothing : Option (Text × List Row) → Bool
-names_nothing command = option_map_or
-    (λ c. if bytes_eq c.0 (codes "watch") then not (is_some (column_at c.1)) else (bytes_eq c.0 (codes "metrics") && not (is_some (by_at c.1)))) command false
+names_nothing command = option_map_or (λ c. option_names_nothing c.0 c.1) command false
 
 abbrev pub name_fault : Option (Text × List Row) → Kinds
 name_fault command = if names_nothing command then kind.InvalidValue ∷ [] else []
@@ -365,7 +412,7 @@ plain_watch = record {
 
 -- which numbers are asked for where no option is given
 abbrev pub plain_metrics : MetricsOptions
-plain_metrics = record { by = Name; every = 10; follow = false; lints = default_lints }
+plain_metrics = record { apart = record { by = Name; most = None }; every = 10; follow = false; lints = default_lints }
 
 -- the watch at keys that is asked for, if one is
 abbrev pub at_keys : Request → Option WatchOptions

@@ -11,12 +11,12 @@ ghost use Rattle.taskscope.specs.Requests as spec;
 ghost use Rattle.taskscope.specs.Requests.{program, refusals, texts};
 
 use crate::help::{
-    ABOUT, AFTER_HELP, BY_HELP, DEMO_ABOUT, DEMO_LONG_ABOUT, EVERY_HELP, EVERY_SECONDS_HELP,
-    EXPLAIN_HELP, FILE_HELP, FILTER_HELP, FINDINGS_HELP, FOLLOW_HELP, FOLLOW_INTO_HELP, KEYS_HELP,
-    LIMIT_HELP, LINT_ABOUT, LONG_ABOUT, LONG_POLL_HELP, LONG_WAIT_HELP, METRICS_ABOUT,
-    METRICS_LONG_ABOUT, PAGE_ABOUT, PAGE_LONG_ABOUT, PERCENT_HELP, PLAIN_HELP, RESOURCES_HELP,
-    ROWS_HELP, RUN_ABOUT, RUN_LONG_ABOUT, SORT_HELP, TIMES_HELP, TO_HELP, VIEW_ABOUT,
-    VIEW_LONG_ABOUT, WATCH_ABOUT, WATCH_LONG_ABOUT,
+    ABOUT, AFTER_HELP, BY_HELP, BY_PLACE_HELP, DEMO_ABOUT, DEMO_LONG_ABOUT, EVERY_HELP,
+    EVERY_SECONDS_HELP, EXPLAIN_HELP, FILE_HELP, FILTER_HELP, FINDINGS_HELP, FOLLOW_HELP,
+    FOLLOW_INTO_HELP, KEYS_HELP, LIMIT_HELP, LINT_ABOUT, LONG_ABOUT, LONG_POLL_HELP,
+    LONG_WAIT_HELP, METRICS_ABOUT, METRICS_LONG_ABOUT, PAGE_ABOUT, PAGE_LONG_ABOUT, PERCENT_HELP,
+    PLACE_HELP, PLAIN_HELP, RESOURCES_HELP, ROWS_HELP, RUN_ABOUT, RUN_LONG_ABOUT, SERIES_HELP,
+    SORT_HELP, TIMES_HELP, TO_HELP, VIEW_ABOUT, VIEW_LONG_ABOUT, WATCH_ABOUT, WATCH_LONG_ABOUT,
 };
 use clap::builder::ValueParser;
 use clap::error::ErrorKind;
@@ -26,8 +26,10 @@ use tk_app::{TimesOptions, View};
 use tk_client::{Lints, TimeLimits};
 use tk_found::limits_by;
 use tk_frame::Column;
-use tk_metrics::By;
+use tk_metrics::{Apart, By};
 use tk_odd::Limits;
+use tk_report::VERSION;
+use tk_sites::SitesView;
 
 /// A call of the program: what its words ask for, and the texts that they give.
 pub(crate) struct Call<'a> {
@@ -58,6 +60,12 @@ pub(crate) enum Request {
         view: View,
         limits: Limits,
         times: bool,
+    },
+    /// To add a stream's tasks up by place, with warnings by these lints, and of waits of so many milliseconds.
+    Sites {
+        view: SitesView,
+        lints: Lints,
+        wait_ms: Option<u64>,
     },
     /// To draw a stream as one page, with warnings by these lints.
     Page {
@@ -95,8 +103,8 @@ pub(crate) struct WatchOptions {
 /// Which numbers of a stream are written, and when they are put in a file anew.
 #[derive(Clone, Copy)]
 pub(crate) struct MetricsOptions {
-    /// What tasks are told apart by.
-    pub by: By,
+    /// What tasks are told apart by, and how many labels stand by themselves.
+    pub apart: Apart,
     /// How many seconds lie between two texts of a file at least.
     pub every: u64,
     /// Whether more may come once the stream has ended.
@@ -104,9 +112,6 @@ pub(crate) struct MetricsOptions {
     /// From when on a task is warned of.
     pub lints: Lints,
 }
-
-// That of the crate for programs in Rust, rust/taskscope.
-const VERSION: &str = "0.1.0";
 
 const PERCENT: &str = "self-wake-percent";
 
@@ -118,7 +123,11 @@ const LONG_WAIT: &str = "long-wait";
 
 const FINDINGS: &str = "findings";
 
+const PLACE: &str = "place";
+
 const TIMES: &str = "times";
+
+const SERIES: &str = "series";
 
 const SORT: &str = "sort";
 
@@ -183,14 +192,14 @@ fn number_arg<'a>(
         .value_parser(ValueParser::unsigned(0, most))
 }
 
-// An option of so many milliseconds.
-fn span_arg<'a>(alloc: Global, name: &'a str, told: &'a str) -> Arg<'a>
+// An option of a number from 1 on, as so many milliseconds.
+fn span_arg<'a>(alloc: Global, name: &'a str, value: &'a str, told: &'a str) -> Arg<'a>
     ensures rule { rule_of result ≡ spec.span_option name.entry.now }
     ensures local { result.global ≡ false }
 {
     Arg::new(alloc, name)
         .long(name)
-        .value_name("MS")
+        .value_name(value)
         .help(told)
         .value_parser(ValueParser::unsigned(1, 18_446_744_073_709_551_615))
 }
@@ -243,7 +252,7 @@ fn view_command<'a>(
     )
 }
 
-// A command that views a stream, and warns of long polls and long waits where they are asked for, or tells what is odd.
+// A command that views a stream, and warns of long polls and long waits where they are asked for, or tells what is odd, or adds tasks up.
 fn spans_command<'a>(
     alloc: Global,
     name: &'a str,
@@ -254,14 +263,16 @@ fn spans_command<'a>(
     ensures local { IfOk result (λ c. (fields_of c).has_globals ≡ false) }
     ensures err { IfErr result (λ e. kind_of e ≡ ErrorKind.OutOfMemory) }
 {
-    let long_poll = span_arg(alloc, LONG_POLL, LONG_POLL_HELP);
-    let long_wait = span_arg(alloc, LONG_WAIT, LONG_WAIT_HELP);
+    let long_poll = span_arg(alloc, LONG_POLL, "MS", LONG_POLL_HELP);
+    let long_wait = span_arg(alloc, LONG_WAIT, "MS", LONG_WAIT_HELP);
     let findings = flag_arg(alloc, FINDINGS, FINDINGS_HELP);
+    let by = text_arg(alloc, BY, "KEY", BY_PLACE_HELP);
     Ok(
         view_command(alloc, name, about, long_about)?
             .arg(long_poll)?
             .arg(long_wait)?
-            .arg(findings)?,
+            .arg(findings)?
+            .arg(by)?,
     )
 }
 
@@ -276,17 +287,19 @@ fn run_command<'a>(alloc: Global) -> Result<Command<'a>, Error>
     Ok(run.arg(explain)?)
 }
 
-// The report, with histograms where they are asked for.
+// The report, with histograms, or one place, where they are asked for.
 fn report_command<'a>(alloc: Global) -> Result<Command<'a>, Error>
     ensures ok { IfOk result (λ c. app_of c ≡ spec.report_command) }
     ensures local { IfOk result (λ c. (fields_of c).has_globals ≡ false) }
     ensures err { IfErr result (λ e. kind_of e ≡ ErrorKind.OutOfMemory) }
 {
     let times = flag_arg(alloc, TIMES, TIMES_HELP);
+    let place = span_arg(alloc, PLACE, "N", PLACE_HELP);
     let explain = flag_arg(alloc, EXPLAIN, EXPLAIN_HELP);
     Ok(
         spans_command(alloc, "view", VIEW_ABOUT, VIEW_LONG_ABOUT)?
             .arg(times)?
+            .arg(place)?
             .arg(explain)?,
     )
 }
@@ -350,12 +363,14 @@ fn metrics_command<'a>(alloc: Global) -> Result<Command<'a>, Error>
     let to = text_arg(alloc, TO, "PATH", TO_HELP);
     let every = number_arg(alloc, EVERY, EVERY_SECONDS_HELP, "10", 86_400);
     let follow = flag_arg(alloc, FOLLOW, FOLLOW_INTO_HELP);
+    let series = span_arg(alloc, SERIES, "N", SERIES_HELP);
     Ok(
         view_command(alloc, "metrics", METRICS_ABOUT, METRICS_LONG_ABOUT)?
             .arg(by)?
             .arg(to)?
             .arg(every)?
-            .arg(follow)?,
+            .arg(follow)?
+            .arg(series)?,
     )
 }
 
@@ -453,9 +468,63 @@ fn times_in(options: &ArgMatches) -> TimesOptions
     }
 }
 
-// A view of the tables, or of what is odd where that is asked for.
-fn view_by(view: View, lints: Lints, options: &ArgMatches) -> Request
-    ensures { result ≡ spec.view_by view (rows_of (found_of options.now)) lints }
+// Whether an option is there that places have no part in.
+fn tells_no_places(options: &ArgMatches) -> bool
+    ensures { result ≡ spec.tells_no_places (rows_of (found_of options.now)) }
+{
+    flag_at(options, FINDINGS) || flag_at(options, TIMES) || number_at(options, LONG_POLL).is_some()
+}
+
+fn by_place_named(options: &ArgMatches, word: &str) -> Option<bool>
+    ensures { result ≡ spec.by_place_named (rows_of (found_of options.now)) word.now }
+{
+    if word == "place" && !tells_no_places(options) {
+        Some(true)
+    } else {
+        None
+    }
+}
+
+// Where no key is named: `None` if a place is named, and can't be beside another option.
+fn by_none(options: &ArgMatches) -> Option<bool>
+    ensures { result ≡ spec.by_none (rows_of (found_of options.now)) }
+{
+    if number_at(options, PLACE).is_some() && tells_no_places(options) {
+        None
+    } else {
+        Some(false)
+    }
+}
+
+// Whether the key says that tasks are added up by place. `None`: there is no such key, or it can't be beside another option.
+fn by_place_at(options: &ArgMatches) -> Option<bool>
+    ensures { result ≡ spec.by_place_at (rows_of (found_of options.now)) }
+{
+    match text_at(options, BY) {
+        Some(word) => by_place_named(options, word),
+        None => by_none(options),
+    }
+}
+
+// What is shown of places, if they are asked for.
+fn places_by(view: View, by_place: bool, options: &ArgMatches) -> Option<SitesView>
+    ensures { result ≡ spec.places_by view (rows_of (found_of options.now)) by_place }
+{
+    match number_at(options, PLACE) {
+        Some(number) => Some(SitesView::One(number)),
+        None => {
+            if by_place {
+                Some(SitesView::All(view))
+            } else {
+                None
+            }
+        }
+    }
+}
+
+// A view of the tables, or of what is odd, where that is asked for.
+fn tasks_by(view: View, lints: Lints, options: &ArgMatches) -> Request
+    ensures { result ≡ spec.tasks_by view (rows_of (found_of options.now)) lints }
 {
     let times = times_in(options);
     if !flag_at(options, FINDINGS) {
@@ -468,11 +537,26 @@ fn view_by(view: View, lints: Lints, options: &ArgMatches) -> Request
     }
 }
 
+// A view of places where that is asked for, and else of tasks.
+fn view_by(view: View, by_place: bool, lints: Lints, options: &ArgMatches) -> Request
+    ensures { result ≡ spec.view_by view (rows_of (found_of options.now)) by_place lints }
+{
+    match places_by(view, by_place, options) {
+        Some(view) => Request::Sites {
+            view,
+            lints,
+            wait_ms: times_in(options).limits.wait_ms,
+        },
+        None => tasks_by(view, lints, options),
+    }
+}
+
 fn view_with(view: View, options: &ArgMatches) -> Option<Request>
     ensures { result ≡ spec.view_with view (rows_of (found_of options.now)) }
 {
+    let by_place = by_place_at(options)?;
     let lints = lints_in(options)?;
-    Some(view_by(view, lints, options))
+    Some(view_by(view, by_place, lints, options))
 }
 
 fn page_with(options: &ArgMatches) -> Option<Request>
@@ -551,6 +635,7 @@ fn by_named(word: &str) -> Option<By>
     match word {
         "name" => Some(By::Name),
         "id" => Some(By::Id),
+        "place" => Some(By::Place),
         _ => None,
     }
 }
@@ -569,7 +654,10 @@ fn metrics_by(by: By, options: &ArgMatches) -> MetricsOptions
     ensures { result ≡ spec.metrics_by by (rows_of (found_of options.now)) }
 {
     MetricsOptions {
-        by,
+        apart: Apart {
+            by,
+            most: number_at(options, SERIES),
+        },
         every: number_or(options, EVERY, 10),
         follow: flag_at(options, FOLLOW),
         lints: lints_or_plain(options),
@@ -650,20 +738,43 @@ fn explains_in(matches: &ArgMatches) -> bool
     }
 }
 
+// Whether an option of a command names nothing that there is.
+fn option_names_nothing(name: &str, options: &ArgMatches) -> bool
+    ensures { result ≡ spec.option_names_nothing name.now (rows_of (found_of options.now)) }
+{
+    match name {
+        "watch" => column_at(options).is_none(),
+        "metrics" => by_at(options).is_none(),
+        "view" => by_place_at(options).is_none(),
+        "lint" => by_place_at(options).is_none(),
+        _ => false,
+    }
+}
+
 // Whether an option names nothing that there is.
 fn names_nothing(matches: &ArgMatches) -> bool
     ensures { result ≡ spec.names_nothing (subcommand_rows_of matches.now) }
 {
     match matches.subcommand() {
-        Some((name, options)) => {
-            if name == "watch" {
-                column_at(options).is_none()
-            } else {
-                name == "metrics" && by_at(options).is_none()
-            }
-        }
+        Some((name, options)) => option_names_nothing(name, options),
         None => false,
     }
+}
+
+// What a view adds tasks up by in place of what it was asked for, or what can't stand beside that.
+fn keys_there(alloc: Global, options: &ArgMatches) -> Result<String, AllocError> {
+    let argument = match options.get_str(BY) {
+        Some("place") => "--by <KEY>",
+        None => "--place <N>",
+        Some(word) => {
+            return format!(in alloc;
+                "invalid value '{word}' for '--by <KEY>'\n  [possible values: place]"
+            );
+        }
+    };
+    format!(in alloc;
+        "the argument '{argument}' cannot be used with '--findings', '--times' or '--long-poll <MS>'"
+    )
 }
 
 // What there is in place of a name that an option has.
@@ -672,9 +783,10 @@ fn names_there(alloc: Global, matches: &ArgMatches) -> Result<String, AllocError
         Some(("metrics", options)) => {
             let word = options.get_str(BY).unwrap_or("");
             format!(in alloc;
-                "invalid value '{word}' for '--by <KEY>'\n  [possible values: name, id]"
+                "invalid value '{word}' for '--by <KEY>'\n  [possible values: name, id, place]"
             )
         }
+        Some(("view" | "lint", options)) => keys_there(alloc, options),
         Some((_, options)) => {
             let word = options.get_str(SORT).unwrap_or("");
             format!(in alloc;

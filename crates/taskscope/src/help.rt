@@ -77,6 +77,11 @@ A wall clock can't tell a long poll from one whose thread the system had put asi
 
 With `--findings` the report ends with what is odd in place of the warnings, as `taskscope lint --findings` tells it.
 
+With `--by place` the report adds tasks up by place: where they were spawned, as what, and by which name but for
+numbers. Each place has a line, which counts the tasks that have left, too, and one for each kind of warning there.
+Resources and async operations are left out. `--place N` shows the place of that number, and the tasks of it that are
+there. Neither can stand beside `--findings`, `--times` and `--long-poll`.
+
 If a stream has no histograms, `--long-poll` tells of the polls that its lines show, which ran at least as long. A
 line on standard error says so.
 
@@ -100,6 +105,9 @@ A task has these warnings:
 A wall clock can't tell a long poll from one whose thread the system had put aside. If a stream has no histograms,
 `--long-poll` tells of the polls that its lines show, which ran at least as long, and a line on standard error says
 so. Of waits only the one that lasts is known then.
+
+With `--by place` a line tells how many tasks of a place have one kind of warning, and which of them comes first. It
+can't stand beside `--findings` and `--long-poll`.
 
 A waker, a task or a poll that a program lets go without its last call makes no entry, and counts as live: such a
 waker hides a lost-waker, and such a task never closes.
@@ -174,14 +182,21 @@ pub(crate) const METRICS_LONG_ABOUT: &str =
   taskscope run < examples/lost-waker.script | taskscope metrics > /var/lib/prometheus/node-exporter/tasks.prom
 
 Counts and times of tasks are sums over those of one name and kind. With tasks that left the stream, each sum
-keeps what they had come to. With `--by id` each task has numbers of its own, as long as it hasn't left.
-While one task holds the thread no count moves: gauges say how long the longest poll and the longest wait have lasted.
+keeps what they had come to. With `--by place` they are sums over those that one line of the source spawns, whose
+names differ in numbers alone, as `worker-17`. That is best for Prometheus, since there are few series. With `--by id`
+each task has numbers of its own, as long as it hasn't left.
+Names without end make series without end. With `--series 100` the first 100 names or places that come have numbers
+of their own. All later ones are added up under the name `(others)`, and `taskscope_other_tasks_total` says how many
+tasks these are.
+While one task holds the thread no count of polls moves. Gauges say how long the longest poll and the longest wait
+have lasted, and counters for how long tasks waited, and for whom.
 Findings tell who holds up whom, with the limits that `taskscope lint --findings` has where none is set.
 `taskscope lint --help` explains the warnings, docs/FORMATS.md the families, and docs/alerts.yml has alerts to copy.
 
 With `--to` the numbers are kept in a file while the stream comes, and nothing is written to standard output. The
 file is written anew once lines came, and at the end of the stream in any case: beside the old one, with `.new`
-after its name, which then takes its place. So who reads it never finds half of it.
+after its name, which then takes its place. So who reads it never finds half of it. Where it can't be written, as
+on a full disk, the old one stays, that is said once, and it is tried again when it is time.
 
   service | taskscope metrics --to /var/lib/prometheus/node-exporter/tasks.prom
 
@@ -209,6 +224,9 @@ pub(crate) const LONG_POLL_HELP: &str =
 pub(crate) const FINDINGS_HELP: &str =
     "Tells who holds up whom and what else is odd, in place of warnings";
 
+pub(crate) const BY_PLACE_HELP: &str =
+    "Adds tasks up by `place`: where they were spawned, as what, and by which name but for numbers";
+
 pub(crate) const LONG_WAIT_HELP: &str =
     "Warns where a wait for a poll took so many milliseconds, from 1 on";
 
@@ -223,25 +241,34 @@ pub(crate) const FILTER_HELP: &str = "Shows only tasks in whose name this stands
 
 pub(crate) const RESOURCES_HELP: &str = "Shows resources and async operations too";
 
-pub(crate) const EVERY_HELP: &str = "Draws no two screens within so many milliseconds";
+pub(crate) const EVERY_HELP: &str =
+    "Draws no two screens within so many milliseconds, 0 to 3600000";
 
-pub(crate) const FOLLOW_HELP: &str = "Goes on at the end of the stream, as a file grows";
+pub(crate) const FOLLOW_HELP: &str =
+    "Goes on at the end of a file as it grows, and with the file that takes its place";
 
 pub(crate) const KEYS_HELP: &str = "Hears the terminal's keys: `?` tells which there are";
+
+pub(crate) const PLACE_HELP: &str =
+    "Shows the place of this number alone, with its tasks that are there";
 
 pub(crate) const PLAIN_HELP: &str =
     "Writes screens as text, one after the other, also on a terminal";
 
 pub(crate) const BY_HELP: &str =
-    "Adds up tasks by `name`, as where nothing is said, or shows each by `id`";
+    "Adds up tasks by `name`, as where nothing is said, or by `place`, or shows each by `id`";
+
+pub(crate) const SERIES_HELP: &str =
+    "Gives so many names or places numbers of their own, from 1 on, and adds up all others";
 
 pub(crate) const TO_HELP: &str =
     "Keeps the numbers in this file, and writes none to standard output";
 
-pub(crate) const EVERY_SECONDS_HELP: &str = "Writes that file anew at most once in so many seconds";
+pub(crate) const EVERY_SECONDS_HELP: &str =
+    "Writes that file anew at most once in so many seconds, 0 to 86400";
 
 pub(crate) const FOLLOW_INTO_HELP: &str =
-    "Goes on at the end of the stream, as a file grows, where numbers are kept in a file";
+    "Goes on at the end of a file as it grows, and with the file that takes its place, where numbers are kept in a file";
 
 pub(crate) const EXPLAIN_HELP: &str =
     "Tells below a fault its line and the rule that this breaks, and else what was left out";

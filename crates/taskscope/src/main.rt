@@ -7,11 +7,13 @@ mod help;
 mod notes;
 mod outputs;
 mod program;
+mod sources;
 mod terminal;
 
 use files::WholeFiles;
 use outputs::{Faults, Output};
 use program::{refuse_words, run_program};
+use sources::SystemFiles;
 use std::cell::Cell;
 use std::env::Env;
 use std::io::IsTerminal;
@@ -34,9 +36,10 @@ fn main(rt: HostRuntime) -> ExitCode {
             rt.alloc(),
             words.as_slice(),
             terminal_of(&rt, rt.stdout().is_terminal()),
+            &SystemFiles::new(&rt),
             &mut rt.stdin(),
             &mut output,
-            &mut WholeFiles::new(&rt, rt.alloc()),
+            &mut WholeFiles::new(&rt, rt.alloc(), Faults::new(io::writer(&errors), &is_left)),
             &mut faults,
         ),
         Err(error) => refuse_words(error.kind(), &mut faults),

@@ -6,12 +6,13 @@ ghost use Rattle.tk_report.specs.Timed.{no_times};
 ghost use Rattle.tk_report.specs.TimedViews.{count_of};
 ghost use Rattle.tk_client.specs.Warnings.{default_lints};
 ghost use Rattle.taskscope.specs.Requests as spec;
-ghost use Rattle.taskscope.specs.Requests.{AsksForFile, AsksForHelp, AsksForInput, AsksForVersion, IsMistake, IsPlain, asked, filter_of, is_mistake, plain_metrics, plain_watch, refusals, texts, to_of};
-ghost use Rattle.taskscope.specs.Program.{Does, DoesOfFile, FindsInStream, KeepsStream, RunsScript, ViewsStream, WatchesAtKeys, WatchesStream, filter_text, found_status, is_noted, page_status, screen_by, status_at, status_of, view_status};
+ghost use Rattle.taskscope.specs.Requests.{AsksForFile, AsksForHelp, AsksForInput, AsksForVersion, IsMistake, IsPlain, asked, file_text, filter_of, is_mistake, plain_metrics, plain_watch, refusals, texts, to_of};
+ghost use Rattle.taskscope.specs.Program.{AddsUpStream, Does, DoesOfFile, FindsInStream, KeepsStream, RunsScript, ViewsStream, WatchesAtKeys, WatchesStream, filter_text, found_status, is_noted, page_status, screen_by, status_at, status_of, view_in, view_status};
 
 use crate::command_line::{Call, MetricsOptions, Request, WatchOptions, call_of};
 use crate::help::lint_long_about;
 use crate::notes::note_untimed;
+use crate::sources::Sources;
 use clap::Error;
 use clap::error::ErrorKind;
 use std::alloc::{AllocGlobal, Global};
@@ -34,6 +35,7 @@ use tk_page::view_page;
 use tk_reading::Every;
 use tk_report::Viewed;
 use tk_screen::Canvas;
+use tk_sites::{SitesView, view_sites};
 use tk_watch::{Screen, watch_stream};
 
 /// All was done, which may be to show help.
@@ -97,7 +99,7 @@ fn tell_view<E: Write>(view: View, outcome: Result<Viewed, AppFault>, faults: &m
     }
 }
 
-// The status of a stream's findings.
+// The status of a stream's findings, or of its warnings by place.
 fn tell_found<E: Write>(view: View, outcome: Result<u64, AppFault>, faults: &mut E) -> u8
     ensures { result ≡ found_status view outcome }
 {
@@ -210,6 +212,52 @@ fn find_explained<I: Read, O: Write, E: Write>(
 {
     let mut stream = Kept::last_lines(alloc, input);
     let (outcome, status) = find(alloc, view, limits, times, &mut stream, output, faults);
+    let _ = explain_stream(&stream, outcome, faults);
+    (stream.into_reader(), status)
+}
+
+// A view of one place tells by its status as a report does.
+fn view_in(view: SitesView) -> View
+    ensures { result ≡ view_in view }
+{
+    match view {
+        SitesView::All(view) => view,
+        SitesView::One(_) => View::Report,
+    }
+}
+
+// Adds the tasks of a stream up by place, and answers how many warnings there are, or the fault, and the status.
+fn add_up<I: Read, O: Write, E: Write>(
+    alloc: Global,
+    view: SitesView,
+    lints: &Lints,
+    wait_ms: Option<u64>,
+    input: &mut I,
+    output: &mut O,
+    faults: &mut E,
+) -> (Result<u64, AppFault>, u8)
+    ensures does { AddsUpStream view lints.now wait_ms (I.remaining input.old) (I.remaining input.new) (O.contents output.old) (O.contents output.new) result.1 }
+    ensures status { (result.1 ≤ FAULT) ⊎ (result.1 ≡ WARNED) }
+{
+    let warned = view_sites(alloc, input, output, view, lints, wait_ms);
+    (warned, tell_found(view_in(view), warned, faults))
+}
+
+// Adds the tasks of an input's stream up by place, and answers that input, as its reads left it, and the status. What is explained of a fault stands below it.
+fn add_up_explained<I: Read, O: Write, E: Write>(
+    alloc: Global,
+    view: SitesView,
+    lints: &Lints,
+    wait_ms: Option<u64>,
+    input: I,
+    output: &mut O,
+    faults: &mut E,
+) -> (I, u8)
+    ensures does { AddsUpStream view lints.now wait_ms (I.remaining input) (I.remaining result.0) (O.contents output.old) (O.contents output.new) result.1 }
+    ensures status { (result.1 ≤ FAULT) ⊎ (result.1 ≡ WARNED) }
+{
+    let mut stream = Kept::last_lines(alloc, input);
+    let (outcome, status) = add_up(alloc, view, lints, wait_ms, &mut stream, output, faults);
     let _ = explain_stream(&stream, outcome, faults);
     (stream.into_reader(), status)
 }
@@ -328,6 +376,16 @@ where
     }
 }
 
+// The status of numbers that were kept. A place tells itself of what it doesn't take.
+fn tell_kept<E: Write>(outcome: Result<(), AppFault>, faults: &mut E) -> u8
+    ensures { result ≡ status_of outcome }
+{
+    match outcome {
+        Err(AppFault::Write) => FAULT,
+        outcome => tell_outcome(outcome, faults),
+    }
+}
+
 // Keeps a stream's numbers under a path, and answers the status.
 fn keep<R: Clock, I: Read, P: Place, E: Write>(
     rt: &R,
@@ -342,13 +400,13 @@ fn keep<R: Clock, I: Read, P: Place, E: Write>(
     ensures status { result ≤ FAULT }
 {
     let mut pace = Every::new(rt, options.every.saturating_mul(1000), options.follow);
-    tell_outcome(
+    tell_kept(
         keep_metrics(
             alloc,
             input,
             place,
             path,
-            options.by,
+            options.apart,
             &options.lints,
             &mut pace,
         ),
@@ -400,6 +458,14 @@ fn fulfil<
             let (_, status) = find(alloc, view, limits, times, input, output, faults);
             status
         }
+        Request::Sites {
+            view,
+            lints,
+            wait_ms,
+        } => {
+            let (_, status) = add_up(alloc, view, &lints, wait_ms, input, output, faults);
+            status
+        }
         Request::Page { lints } => tell_page(view_page(alloc, input, output, &lints), faults),
         Request::Watch(options) => {
             let text = filter_text(filter);
@@ -408,7 +474,7 @@ fn fulfil<
         Request::Metrics(options) => match to {
             Some(path) => keep(rt, alloc, &options, path, input, place, faults),
             None => tell_outcome(
-                metrics_stream(alloc, input, output, options.by, &options.lints),
+                metrics_stream(alloc, input, output, options.apart, &options.lints),
                 faults,
             ),
         },
@@ -476,6 +542,18 @@ where
             *input = left;
             return status;
         }
+        if let Request::Sites {
+            view,
+            lints,
+            wait_ms,
+        } = request
+        {
+            let (left, status) = add_up_explained(
+                alloc, view, &lints, wait_ms, *input, output, faults,
+            );
+            *input = left;
+            return status;
+        }
     }
     match at_keys(&request) {
         Some(options) => {
@@ -488,7 +566,7 @@ where
     }
 }
 
-// Does what is asked for with the bytes of a file.
+// Does what is asked for with the bytes of the file that a path names.
 fn fulfil_of_file<
     R: Threads
         + Wait
@@ -501,12 +579,14 @@ fn fulfil_of_file<
         + Sync
         + Drop
         + 'static,
+    S: Sources,
     O: Write,
     P: Place,
     E: Write,
 >(
     rt: &R,
     alloc: Global,
+    sources: &S,
     request: Request,
     filter: Option<&str>,
     to: Option<&str>,
@@ -519,12 +599,12 @@ fn fulfil_of_file<
 ) -> u8
 where
     R::File: Send + 'static,
-    ensures does { DoesOfFile terminal (option_map (λ f. f.now) filter.entry) (option_map (λ p. p.now) to.entry) request
+    ensures does { DoesOfFile S.File.remaining (S.is_of sources.now path.now) terminal (option_map (λ f. f.now) filter.entry) (option_map (λ p. p.now) to.entry) request
         (O.contents output.old) (O.contents output.new) (P.texts place.old) (P.texts place.new) result }
     ensures kept { option_map (λ p. p.now) to.entry ≡ None → place.new ≡ place.old }
     ensures status { (result ≤ FAULT) ⊎ (result ≡ WARNED) }
 {
-    let mut file = match fs::open(rt, path) {
+    let mut file = match sources.open(path) {
         Ok(file) => file,
         Err(error) => return tell_unopened(path, error, faults),
     };
@@ -545,6 +625,15 @@ where
         } = request
         {
             let (_, status) = find_explained(alloc, view, limits, times, file, output, faults);
+            return status;
+        }
+        if let Request::Sites {
+            view,
+            lints,
+            wait_ms,
+        } = request
+        {
+            let (_, status) = add_up_explained(alloc, view, &lints, wait_ms, file, output, faults);
             return status;
         }
     }
@@ -609,6 +698,7 @@ pub(crate) fn run_program<
         + Sync
         + Drop
         + 'static,
+    S: Sources,
     I: Read + Copy + Send + Drop + 'static,
     O: Write,
     P: Place,
@@ -618,6 +708,7 @@ pub(crate) fn run_program<
     alloc: Global,
     words: &[String],
     terminal: Canvas,
+    sources: &S,
     input: &mut I,
     output: &mut O,
     place: &mut P,
@@ -625,16 +716,16 @@ pub(crate) fn run_program<
 ) -> u8
 where
     R::File: Send + 'static,
-    // What is asked for is done: a run reads and writes as `run_script` does, a view as `view_stream_with` does, or as `view_findings` does where
+    // What is asked for is done: a run reads and writes as `run_script` does, a view as `view_stream_with` does, as `view_sites` does by place, or as `view_findings` does where
     // what is odd is asked for, a page as `view_page` does, a watch as `watch_stream` does, or as `watch_terminal` does of some stream where keys are heard, numbers as
     // `metrics_stream` does, or as `keep_metrics` does where a path is given, and the demo writes as `demo` does. The status is 1 exactly where there was a fault, and 3 exactly where `lint` found warnings, or findings where they are asked for.
     ensures does { (request : Request) → AsksForInput request (texts words.now)
         → Does terminal (filter_of (texts words.now)) (to_of (texts words.now)) request
         (I.remaining input.old) (I.remaining input.new) (O.contents output.old) (O.contents output.new) (P.texts place.old) (P.texts place.new) result }
-    // With a file the same is done of its bytes, of which nothing is known, and the input is as it was.
+    // With a file the same is done of the bytes that stand under the path that the words name, or it could not be opened. The input is as it was.
     ensures file { (request : Request) → AsksForFile request (texts words.now)
         → (input.new ≡ input.old)
-        × DoesOfFile terminal (filter_of (texts words.now)) (to_of (texts words.now)) request
+        × DoesOfFile S.File.remaining (S.is_of sources.now (file_text (texts words.now))) terminal (filter_of (texts words.now)) (to_of (texts words.now)) request
         (O.contents output.old) (O.contents output.new) (P.texts place.old) (P.texts place.new) result }
     // Numbers alone are put in a place, and only where the words are taken and name a path.
     ensures kept { refusals (texts words.now) ≡ [] → to_of (texts words.now) ≡ None → place.new ≡ place.old }
@@ -674,7 +765,8 @@ where
     };
     match file {
         Some(path) => fulfil_of_file(
-            rt, alloc, request, filter, to, terminal, explains, path, output, place, faults,
+            rt, alloc, sources, request, filter, to, terminal, explains, path, output, place,
+            faults,
         ),
         None => fulfil_of_input(
             rt, alloc, request, filter, to, terminal, explains, input, output, place, faults,

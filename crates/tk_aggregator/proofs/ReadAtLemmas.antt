@@ -1,5 +1,5 @@
 -- One reading beside a hand keeps what holds inside, and changes one row alone.
-use Rattle.std.proofs.Common.{◌≡◌, ℕ, zero, suc, List, [], ◌∷◌, Some, set, refl, sym, ap, ap₂, ◌∙◌, subst}
+use Rattle.std.proofs.Common.{◌≡◌, ℕ, zero, suc, List, [], ◌∷◌, Some, None, set, refl, sym, ap, ap₂, ◌∙◌, subst}
 use Rattle.std.specs.Prelude.{Bool, Option, slice_get}
 use Rattle.tk_core.specs.declared.op.row.OpRow.{OpRow}
 use Rattle.tk_core.specs.declared.resource.row.ResourceRow.{ResourceRow}
@@ -11,9 +11,12 @@ use Rattle.tk_events.specs.declared.event.Event.{Event}
 use Rattle.tk_ledgers.specs.Ops.{OpSight}
 use Rattle.tk_ledgers.specs.Resources.{ResourceSight}
 use Rattle.tk_ledgers.specs.Tasks.{TaskSight}
+use Rattle.tk_ledgers.specs.Times.{TimesSight, added_times}
 use Rattle.tk_stream.specs.Applied.{Kind, task_kind, BeginWith}
 use Rattle.tk_stream.specs.Fronts.{ToldView, task_at, resource_at, op_at, told_tables}
 use Rattle.tk_stream.specs.Tables.{TablesView, changed_at}
+use Rattle.tk_stream.specs.Times.{TaskTimes, times_with}
+use Rattle.tk_stream.specs.declared.tables.times.PollTimes.{PollTimes}
 use Rattle.tk_stream.specs.declared.tables.op.Op.{Op}
 use Rattle.tk_stream.specs.declared.tables.resource.Resource.{Resource}
 use Rattle.tk_stream.specs.declared.tables.task.Task.{Task}
@@ -21,12 +24,12 @@ use Rattle.tk_aggregator.specs.Aggregates.{Pairs, Aggregating, ReadTask, ReadRes
 use Rattle.tk_aggregator.specs.Beside.{IsAfter, ReadsBeside, ReadsTaskBeside, ReadsResourceBeside, ReadsOpBeside, StaysHand}
 use Rattle.tk_aggregator.specs.Readings.{Reads, OnlyReads, task_ledger, resource_ledger, op_ledger}
 use Rattle.tk_aggregator.specs.Standing.{IsStanding, TimesStand, ResourceFits, OpFits, TellsSame}
-use Rattle.tk_aggregator.specs.Timing.{TimingView}
-use Rattle.tk_aggregator.proofs.BesideLemmas.{handled_at}
+use Rattle.tk_aggregator.specs.Timing.{TimingView, ReadTimes, ReadsTimesBeside, times_ledger, times_of}
+use Rattle.tk_aggregator.proofs.BesideLemmas.{handled_at, pairs_changed}
 use Rattle.tk_aggregator.proofs.HandleLemmas.{reads_read, task_reads, resource_reads, op_reads, still_reads, task_draws_none, resource_draws_none, op_draws_none}
 use Rattle.tk_aggregator.proofs.HandledLemmas.{Both, TasksStand, ResourcesStand, OpsStand, tasks_handled, resources_handled, ops_handled, tasks_stand, resources_stand, ops_stand}
 use Rattle.tk_aggregator.proofs.StandingLemmas.{whole}
-use Rattle.tk_aggregator.proofs.TimingLemmas.{known_later}
+use Rattle.tk_aggregator.proofs.TimingLemmas.{AreKnown, known_later, times_reads}
 
 module _ {Item Handle : Type 0} (P : Item → Handle → Type 0) where
   -- the item of the handle at a place
@@ -183,6 +186,25 @@ module _ (shown : TablesView) (telling : ToldView) (tasks : List TaskSight) (res
       timing = timing;
     },
   )
+
+-- ---- a histogram, beside its owner
+
+known_changed : (tasks : List Task) (xs : List TaskTimes) (i : ℕ) (times : PollTimes) → AreKnown tasks xs → AreKnown tasks (changed_at (λ x. times_with x times) xs i)
+known_changed tasks [] i times known = tt
+known_changed tasks (x ∷ xs) zero times known = (known.0, known.1)
+known_changed tasks (x ∷ xs) (suc i) times known = (known.0, known_changed tasks xs i times known.1)
+
+-- it is of the same task, and its reader read it
+pub times_at_stand : (tasks : List Task) (owner : TimesSight) (t u : TimingView) (place : Option ℕ) → ReadsTimesBeside owner t u place → TimesStand tasks t → TimesStand tasks u
+times_at_stand tasks owner t u None reads stands = subst (λ (x : TimingView). TimesStand tasks x) (sym reads) stands
+times_at_stand tasks owner t u (Some i) reads stands =
+    let times = times_of (added_times owner.token) in
+    let read = reads.3 in
+    subst (λ (x : TimingView). TimesStand tasks x) (sym reads.4) (record {
+      pairs = pairs_changed ReadTimes t.shown t.readers i (λ x. times_with x times) reads.0 reads.1 stands.pairs reads.2
+          (λ x p. (read.2.id ∙ p.0, (read.0, read.1, reads_read times_ledger times_reads reads.0 read.0 reads.1 read.2)));
+      known = known_changed tasks t.shown i times stands.known;
+    })
 
 -- histograms stay those of the tasks
 pub task_at_times : (shown now : TablesView) (place : ℕ) (row : TaskRow) → now ≡ record shown { tasks = changed_at (λ x. task_at x row) shown.tasks place } → (t : TimingView) → TimesStand shown.tasks t → TimesStand now.tasks t

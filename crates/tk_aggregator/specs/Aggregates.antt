@@ -26,6 +26,7 @@ use Rattle.tk_aggregator.specs.Absorbing.{Step, infos_of, no_infos, absorb, info
 use Rattle.tk_stream.specs.Applied.{GoOn, BeginWith, times_kind, without_gone}
 use Rattle.tk_stream.specs.Fronts.{with_rows, task_at, resource_at, op_at}
 use Rattle.tk_stream.specs.Lines.{LineView, GoneView, none_gone}
+use Rattle.tk_stream.specs.Places.{place_with}
 use Rattle.tk_stream.specs.Polls.{counted}
 use Rattle.tk_aggregator.specs.Readings.{task_ledger, resource_ledger, op_ledger, Reads, IsRead, OnlyReads, ReadAll, AreLater}
 use Rattle.tk_stream.specs.Retention.{due_of}
@@ -33,8 +34,8 @@ use Rattle.tk_stream.specs.Spelling.{sent_text}
 use Rattle.tk_stream.specs.Streams.{AreInRange, AreToldOf, Sending, line_sent, line_untimed}
 use Rattle.tk_stream.specs.Tables.{TablesView, empty_tables, AreFit, staying, task_with, with_task, resource_with, with_resource, op_with, with_op}
 use Rattle.tk_stream.specs.Sent.{IsCut}
-use Rattle.tk_stream.specs.Times.{times_shown}
-use Rattle.tk_aggregator.specs.Timing.{TimingView, no_timing, times_ledger, ReadTimes, ReadsTimes, told_by, timing_without}
+use Rattle.tk_stream.specs.Times.{times_id, times_shown}
+use Rattle.tk_aggregator.specs.Timing.{TimingView, no_timing, times_ledger, ReadTimes, ReadsTimes, ReadsTimesBeside, told_by, timing_without}
 
 -- what contracts see of an aggregator
 pub record Aggregating : Type 0 where
@@ -276,6 +277,10 @@ ReadsOps old new = (rows : List OpRow) × ReadAll op_ledger old.ops rows new.ops
 -- each histogram was read once, where they are read; nothing else changed
 abbrev pub ReadsHistograms : Aggregating → Aggregating → Type 0
 ReadsHistograms old new = ReadsTimes old.timing new.timing × (new ≡ record old { timing = new.timing })
+
+-- the histogram of an owner's task was read beside the owner, if there is one; nothing else changed
+abbrev pub ReadsHistogramBeside : TimesSight → Aggregating → Aggregating → Type 0
+ReadsHistogramBeside owner old new = ReadsTimesBeside owner old.timing new.timing (place_with times_id owner.id old.timing.shown) × (new ≡ record old { timing = new.timing })
 
 -- each handle read once, and what it read is the row of its item, or its histogram; nothing else changed
 pub record Refreshes (old new : Aggregating) : Type 0 where

@@ -13,7 +13,7 @@ use Rattle.tk_core.specs.OpMeaning.{op_meaning}
 use Rattle.tk_core.specs.ResourceMeaning.{resource_meaning}
 use Rattle.tk_core.specs.TaskMeaning.{task_meaning}
 use Rattle.tk_events.specs.Buffer.{IsNamed}
-use Rattle.tk_events.specs.Handles.{Recording, Taking}
+use Rattle.tk_events.specs.Handles.{Recording, Taking, dropped_by}
 use Rattle.tk_events.specs.Offers.{by}
 use Rattle.tk_events.specs.declared.event.Event.{Event}
 use Rattle.tk_ledgers.specs.Called.{HasCalled}
@@ -82,6 +82,14 @@ pub record TookAll (r : Recording) (t : Taking) : Type 0 where
   pub all : by r.number t.taken ≡ r.kept
   pub named : All (IsNamed t.recorders) t.taken
 
+-- a recorder that met the taker may know of more that was taken of it. Otherwise it is as it was
+abbrev pub StaysRecorder : Recording → Recording → Type 0
+StaysRecorder old new = new ≡ record old { gone = new.gone }
+
+-- it knows that all that it kept was taken
+abbrev pub KnowsAllTaken : Recording → Type 0
+KnowsAllTaken r = r.gone ≡ length r.kept
+
 -- `count` events were taken in, at most `limit`, and fewer only where all that the recorder kept was taken. None is held then; with limit 0
 -- nothing changes
 pub record GathersUpToBeside (r : Recording) (old : Aggregating) (before : Taking) (limit count : ℕ) (new : Aggregating) (after : Taking) : Type 0 where
@@ -93,10 +101,12 @@ pub record GathersUpToBeside (r : Recording) (old : Aggregating) (before : Takin
   pub none_held : 0 < limit → new.held ≡ None
   pub nothing : limit ≡ 0 → (new ≡ old) × (after ≡ before)
 
--- so many events were taken in beside a recorder, and then the totals are the taker's
+-- so many events were taken in beside a recorder, and then the totals are the taker's: exactly what the recorder dropped, where it is the
+-- console's only one
 pub record CollectsBeside (r : Recording) (old : Aggregating) (before : Taking) (limit count : ℕ) (new : Aggregating) (after : Taking) : Type 0 where
   pub gathered : Aggregating
   pub taker : Taking
   pub gathering : GathersUpToBeside r old before limit count gathered taker
   pub totals : TellsTotals taker after
+  pub exact : before.recorders ≡ 1 → after.last ≡ dropped_by r
   pub now : new ≡ record gathered { tables = record gathered.tables { dropped = dropped_in after.last } }

@@ -1,16 +1,17 @@
 -- What an aggregator keeps of histograms of poll times: those of its tasks, those that the last whole line's readers hold, and who reads them.
-use Rattle.std.specs.Prelude.{◌≡◌, ℕ, ◌≤◌, List, [], ◌∷◌, ◌++◌, length, map, Bool, false, if◌then◌else◌, Option, Some, None}
+use Rattle.std.specs.Prelude.{◌≡◌, ℕ, ◌≤◌, List, [], ◌∷◌, ◌++◌, length, map, slice_get, slice_set, Bool, false, if◌then◌else◌, Option, Some, None}
+use Rattle.std.specs.List.{AllByRecursion}
 use Rattle.tk_core.specs.declared.times.row.TimesRow.{TimesRow}
 use Rattle.tk_core.specs.declared.times.call.TimesCall.{TimesCall}
-use Rattle.tk_core.specs.declared.times.call.TimesCall.TheVariants.{Read}
-use Rattle.tk_core.specs.Times.{times_kind, opening_row}
+use Rattle.tk_core.specs.declared.times.call.TimesCall.TheVariants.{Add, Read}
+use Rattle.tk_core.specs.Times.{times_kind, opening_row, longest_of, counts_from}
 use Rattle.tk_core.specs.TimesMeaning.{times_meaning}
-use Rattle.tk_ledgers.specs.Times.{TimesSight}
+use Rattle.tk_ledgers.specs.Times.{TimesSight, added_times}
 use Rattle.tk_stream.specs.declared.tables.times.PollTimes.{PollTimes}
 use Rattle.tk_stream.specs.Fronts.{Telling, with_rows}
 use Rattle.tk_stream.specs.Lines.{told_times}
 use Rattle.tk_stream.specs.Retention.{stats_without}
-use Rattle.tk_stream.specs.Tables.{staying}
+use Rattle.tk_stream.specs.Tables.{staying, changed_at}
 use Rattle.tk_stream.specs.Times.{TaskTimes, times_id, times_shown, times_with}
 use Rattle.tk_aggregator.specs.Readings.{Ledger, Reads, IsRead, ReadAll}
 
@@ -47,6 +48,35 @@ ReadTimes t s = (s.id ≡ times_id t) × ((row : TimesRow) × (t.1 ≡ times_sho
 abbrev pub ReadsTimes : TimingView → TimingView → Type 0
 ReadsTimes old new = (rows : List TimesRow) × ReadAll times_ledger old.readers rows new.readers
     × (new ≡ record old { shown = with_rows times_with old.shown (map times_shown rows); readers = new.readers })
+
+-- ---- reading beside an owner
+
+-- the histogram of these times
+abbrev pub times_of : List ℕ → PollTimes
+times_of times = record { longest = longest_of (map Add times); counts = counts_from 0 14 (map Add times); waits = None }
+
+-- an owner is of the same histogram, to which it has added the same times
+pub record StaysOwner (old new : TimesSight) : Type 0 where
+  pub id : new.id ≡ old.id
+  pub ledger : new.token.ledger ≡ old.token.ledger
+  pub added : added_times new.token ≡ added_times old.token
+
+-- a reader read beside the owner of its histogram: this is that of the times that the owner has added, and of no others
+pub record ReadsShownBeside (owner reader : TimesSight) (times : PollTimes) (owner_then read : TimesSight) : Type 0 where
+  pub reading : ReadsShown reader times read
+  pub shows : times ≡ times_of (added_times owner.token)
+  pub owner_stays : StaysOwner owner owner_then
+
+-- readers of an owner's task are of its histogram
+abbrev pub AreOfOwner : TimesSight → List TimesSight → Type 0
+AreOfOwner owner readers = AllByRecursion (λ (s : TimesSight). s.id ≡ owner.id → s.token.ledger ≡ owner.token.ledger) readers
+
+-- a histogram was read beside its owner: where that of the owner's task is at this place, it is that of the times that the owner has added, and
+-- nothing else changed; where there is none, nothing did
+abbrev pub ReadsTimesBeside : TimesSight → TimingView → TimingView → Option ℕ → Type 0
+ReadsTimesBeside owner old new None = new ≡ old
+ReadsTimesBeside owner old new (Some place) = (reader read : TimesSight) × (slice_get old.readers place ≡ Some reader) × ReadsShown reader (times_of (added_times owner.token)) read
+    × (new ≡ record old { shown = changed_at (λ t. times_with t (times_of (added_times owner.token))) old.shown place; readers = slice_set old.readers place read })
 
 -- ---- a histogram more
 

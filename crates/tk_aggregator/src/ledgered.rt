@@ -20,7 +20,7 @@ use tk_core::{OpRow, ResourceRow, TaskRow};
 use tk_ids::{OpInfo, ResourceId, ResourceInfo, TaskId, TaskInfo};
 use tk_ledgers::{
     OpCallers, OpInspector, ResourceCallers, ResourceInspector, TaskCallers, TaskInspector,
-    TimesInspector,
+    TimesInspector, TimesOwner,
 };
 use tk_stream::{Op, PollTimes, Resource, Table, Tables, Task, Told, ToldRows, ToldTables};
 
@@ -150,6 +150,25 @@ impl Handed for Op {
     }
 }
 
+impl Handed for (TaskId, PollTimes) {
+    ghost use Rattle.std.specs.Prelude.{◌≡◌};
+    ghost use Rattle.tk_aggregator.specs.Timing.{ReadsShownBeside};
+
+    type Hand = TimesOwner;
+
+    ghost of = { λ hand handle. handle.token.ledger ≡ hand.token.ledger };
+
+    ghost beside = { ReadsShownBeside };
+
+    fn read_beside<R: Wait>(
+        hand: &mut TimesOwner,
+        handle: &mut TimesInspector,
+        rt: &R,
+    ) -> PollTimes {
+        PollTimes::of(&hand.read_beside(rt, handle))
+    }
+}
+
 /// The handle at a place reads beside a hand, and the row of its item is what it read. A row that is the same is not written.
 pub(crate) fn read_at<T: Handed, R: Wait>(
     rt: &R,
@@ -165,6 +184,7 @@ pub(crate) fn read_at<T: Handed, R: Wait>(
     ensures reads { (handle : T.Handle) × (read : T.Handle) × (row : T.Row) × (slice_get handles.old.items place ≡ Some handle) × T.beside hand.old handle row hand.new read
         × (handles.new.items ≡ slice_set handles.old.items place read) × (table.new ≡ changed_at (λ item. T.with_row item row) table.old place) }
     ensures told { TellsSame T.with_row table.old told.old table.new told.new }
+    ensures seats { vec_capacity handles.new ≡ vec_capacity handles.old }
 {
     let row = T::read_beside(hand, &mut handles[place], rt);
     told.set(table, place, &row);

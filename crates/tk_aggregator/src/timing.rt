@@ -5,7 +5,7 @@
 //! [`Timing::fill`] reads, or [`Timing::cancel`] takes the entry off again.
 //!
 //! `specs/Timing.antt` says what each call makes of them.
-ghost use Rattle.std.specs.Prelude.{◌≡◌, ◌≤◌, ◌+◌, ◌++◌, ◌∷◌, [], length, vec_capacity, map, take, nat_eq, true, false, None, option_map, unwrap_or, OnOk, OnErr, IfOk, IfErr};
+ghost use Rattle.std.specs.Prelude.{◌≡◌, ◌≤◌, ◌<◌, ◌+◌, ◌++◌, ◌∷◌, [], ℕ, length, slice_get, vec_capacity, map, take, nat_eq, true, false, Some, None, option_map, unwrap_or, OnOk, OnErr, IfOk, IfErr};
 ghost use Rattle.std.specs.List.{IsDistinct, AllByRecursion};
 ghost use Rattle.std.specs.Option.{option_map_or};
 ghost use Rattle.tk_core.specs.declared.times.row.TimesRow.{TimesRow};
@@ -16,15 +16,16 @@ ghost use Rattle.tk_stream.specs.Ranges.{AreTimes};
 ghost use Rattle.tk_stream.specs.Tables.{item_with, changed_at, staying};
 ghost use Rattle.tk_stream.specs.Times.{times_id, times_shown, times_with};
 ghost use Rattle.tk_aggregator.specs.Readings.{Reads};
-ghost use Rattle.tk_aggregator.specs.Timing.{times_ledger, no_timing, ReadsTimes, timing_opened, told_by, timing_told};
+ghost use Rattle.tk_stream.specs.Places.{place_with};
+ghost use Rattle.tk_aggregator.specs.Timing.{times_ledger, no_timing, ReadsTimes, ReadsTimesBeside, StaysOwner, timing_opened, told_by, timing_told};
 
-use crate::ledgered::refresh_all;
+use crate::ledgered::{read_at, refresh_all};
 use std::alloc::{AllocError, Global};
 use std::marker::Model;
 use std::sync::Wait;
 use tk_core::TimesRow;
 use tk_ids::TaskId;
-use tk_ledgers::TimesInspector;
+use tk_ledgers::{TimesInspector, TimesOwner};
 use tk_stream::{Leaving, Line, LineError, PollTimes, Table, ToldRows};
 
 /// The histograms of the tasks that have one, in order of arrival, what lines told of them, and who reads them, in the same order.
@@ -172,6 +173,37 @@ impl Timing {
         ensures { ReadsTimes self.old self.new }
     {
         refresh_all(rt, &mut self.times, &mut self.told, &mut self.readers);
+    }
+
+    /// The reader of the histogram of an owner's task reads beside the owner, if there is one. It takes no memory.
+    pub(crate) fn read_beside<R: Wait>(&mut self, rt: &R, owner: &mut TimesOwner)
+        requires in_step { length self.old.readers ≡ length self.old.shown }
+        requires of { (place : ℕ) (reader : TimesSight) → place_with times_id owner.old.id self.old.shown ≡ Some place → slice_get self.old.readers place ≡ Some reader
+            → reader.token.ledger ≡ owner.old.token.ledger }
+        ensures reads { ReadsTimesBeside owner.old self.old self.new (place_with times_id owner.old.id self.old.shown) }
+        ensures owner { StaysOwner owner.old owner.new }
+    {
+        if let Some(place) = self.times.place(owner.task().value()) {
+            self.read_at(rt, place, owner);
+        }
+    }
+
+    // The one at a place.
+    fn read_at<R: Wait>(&mut self, rt: &R, place: usize, owner: &mut TimesOwner)
+        requires place { place < length self.old.shown }
+        requires in_step { length self.old.readers ≡ length self.old.shown }
+        requires of { (reader : TimesSight) → slice_get self.old.readers place ≡ Some reader → reader.token.ledger ≡ owner.old.token.ledger }
+        ensures reads { ReadsTimesBeside owner.old self.old self.new (Some place) }
+        ensures owner { StaysOwner owner.old owner.new }
+    {
+        read_at(
+            rt,
+            &mut self.times,
+            &mut self.told,
+            &mut self.readers,
+            place,
+            owner,
+        );
     }
 
     /// The line as one that tells histograms, where these are read: those that are new since they were told, or others now, but for

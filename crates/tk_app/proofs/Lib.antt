@@ -11,3 +11,5 @@ pub mod CourseSizes
 pub mod ShortLines
 pub mod Wrote
 pub mod Shown
+-- The names of the demo's tasks
+pub mod Names

@@ -13,14 +13,12 @@ use Rattle.tk_stream.specs.Times.{TaskTimes, times_id, same_times, all_times}
 use Rattle.tk_stream.specs.declared.tables.times.PollTimes.{PollTimes}
 use Rattle.tk_stream.proofs.LinesLemmas.{map-same}
 use Rattle.tk_stream.proofs.PruneLemmas.{all_filter}
-use Rattle.tk_ledgers.specs.Times.{TimesSight}
-use Rattle.tk_aggregator.specs.Aggregates.{Pairs}
-use Rattle.tk_aggregator.specs.Timing.{ReadTimes}
 use Rattle.tk_aggregator.specs.Contents.{Content}
 use Rattle.tk_client.specs.Meaning.{greatest_line}
 use Rattle.tk_client.specs.Streams.{AreShort}
 use Rattle.tk_live.specs.Course.{Due, start_of_all, course_of}
-use Rattle.tk_live.specs.Ran.{AreLinesOf, IsStreamOf, TellsTimes, kept_between, leaving, times_before, times_led_to}
+use Rattle.tk_live.specs.Pasts.{Pasts}
+use Rattle.tk_live.specs.Ran.{AreLinesOf, IsPolledTask, IsStreamOf, TellsTimes, kept_between, leaving, times_before, times_led_to}
 use Rattle.tk_live.specs.Runs.{RiseTo}
 use Rattle.tk_script.specs.Commands.{Line, lines_of}
 use Rattle.tk_script.specs.declared.settings.Settings.{Settings}
@@ -55,31 +53,29 @@ some_told old new =
     let p = is_told times_id same_times old in
     omega (arith, length-map (filter p new) all_times, length-filter p new, count_by-le-length p new)
 
-tells_few : (timed : Bool) (before : TablesView) (had : List TaskTimes) (s : Sending) → TellsTimes timed before had s → times_count s.told ≤ length s.tables.tasks
-tells_few true before had s are =
+tells_few : (timed : Bool) (ps : Pasts) (before : TablesView) (had : List TaskTimes) (s : Sending) → TellsTimes timed ps before had s → times_count s.told ≤ length s.tables.tasks
+tells_few true ps before had s are =
     let shown = times_led_to had before s in
     omega (arith, ap times_count are.told, some_told (times_before had s) shown, ap length are.one_each, length-map shown times_id, length-map s.tables.tasks task_id)
-tells_few false before had s none = omega (arith, ap times_count none)
+tells_few false ps before had s none = omega (arith, ap times_count none)
 
 -- a histogram has none of waits beside it
 abbrev IsAlone : TaskTimes → Type 0
 IsAlone t = t.1.waits ≡ None
 
--- those that a script's tasks have are read from rows of polls
-read_alone : (times : List TaskTimes) (readers : List TimesSight) → Pairs ReadTimes times readers → AllByRecursion IsAlone times
-read_alone [] [] pairs = tt
-read_alone [] (s ∷ readers) pairs = absurd pairs
-read_alone (t ∷ times) [] pairs = absurd pairs
-read_alone (t ∷ times) (s ∷ readers) pairs = (ap (λ (p : PollTimes). p.waits) pairs.0.1.1, read_alone times readers pairs.1)
+-- those that a script's tasks have are of polls
+polled_alone : (ps : Pasts) (times : List TaskTimes) → AllByRecursion (IsPolledTask ps) times → AllByRecursion IsAlone times
+polled_alone ps [] polls = tt
+polled_alone ps (t ∷ times) polls = (ap (λ (p : PollTimes). p.waits) polls.0.times, polled_alone ps times polls.1)
 
-told_alone : (timed : Bool) (before : TablesView) (had : List TaskTimes) (s : Sending) → TellsTimes timed before had s → IfSome s.told (AllByRecursion IsAlone)
-told_alone true before had s are =
+told_alone : (timed : Bool) (ps : Pasts) (before : TablesView) (had : List TaskTimes) (s : Sending) → TellsTimes timed ps before had s → IfSome s.told (AllByRecursion IsAlone)
+told_alone true ps before had s are =
     let shown = times_led_to had before s in
     let differs = is_told times_id same_times (times_before had s) in
     let all : AllByRecursion IsAlone (told_times (times_before had s) shown) =
-    subst (AllByRecursion IsAlone) (sym (map-same (filter differs shown))) (all_filter IsAlone differs shown (read_alone shown are.readers are.read)) in
+    subst (AllByRecursion IsAlone) (sym (map-same (filter differs shown))) (all_filter IsAlone differs shown (polled_alone ps shown are.polls)) in
     subst (λ (told : Option (List TaskTimes)). IfSome told (AllByRecursion IsAlone)) (sym are.told) all
-told_alone false before had s none = subst (λ (told : Option (List TaskTimes)). IfSome told (AllByRecursion IsAlone)) (sym none) tt
+told_alone false ps before had s none = subst (λ (told : Option (List TaskTimes)). IfSome told (AllByRecursion IsAlone)) (sym none) tt
 
 all_polls : (times : List TaskTimes) → AllByRecursion AreTimes times → AllByRecursion IsAlone times → AllByRecursion ArePolls times
 all_polls [] are alone = tt
@@ -114,7 +110,7 @@ module _ (settings : Settings) (kept : List Bool) (told : List Content) (few : I
           now,
           sum_by-take-le told_size told from,
           sum_by-take-le told_size told d.recorded,
-          sent_short before s may.fit (each_told s.tables s.told may.told (told_alone settings.times before had s line.times)) (tells_few settings.times before had s line.times),
+          sent_short before s may.fit (each_told s.tables s.told may.told (told_alone settings.times d.pasts before had s line.times)) (tells_few settings.times d.pasts before had s line.times),
         ),
         lines_short s.tables (times_led_to had before s) d.recorded s.seq due sent rise.1 lines.1 on.2 now,
       )

@@ -1,10 +1,10 @@
 //! How the layers are used together: three tasks, from the console that records them to their report.
 //!
 //! `yield` wakes itself three times, `lose` drops its only waker, and `hold` keeps one that nobody calls.
-ghost use Rattle.std.specs.Prelude.{◌≡◌, ℕ, List, Ok, IfOk, IfErr, OnOk};
+ghost use Rattle.std.specs.Prelude.{◌≡◌, ℕ, List, Ok, Some, IfOk, IfErr, OnOk, slice_get, true};
 ghost use Rattle.tk_aggregator.specs.Aggregates.{new_aggregating};
 ghost use Rattle.tk_stream.specs.Streams.{IsStreamTo};
-ghost use Rattle.tk_app.specs.Demo.{Demonstrates, IsReportOfAStream};
+ghost use Rattle.tk_app.specs.Demo.{Demonstrates, IsReportOfDemo, demo_names, task_names};
 
 use futures::executor::block_on;
 use std::alloc::{AllocGlobal, Global};
@@ -165,6 +165,32 @@ fn has_drawn_wakers(tables: &Tables) -> bool {
     })
 }
 
+// Whether a task of this name stands at a place.
+fn is_named(tables: &Tables, place: usize, name: &str) -> bool
+    ensures { result ≡ true → slice_get (task_names tables.now) place ≡ Some name.now }
+{
+    match tables.task_at(place) {
+        Some(task) => task.info.name.as_str() == name,
+        None => false,
+    }
+}
+
+// Whether the tasks are those of the demo, and no others.
+fn are_demonstrated(tables: &Tables) -> bool
+    ensures { result ≡ true → task_names tables.now ≡ demo_names }
+{
+    if tables.task_count() != 3 {
+        return false;
+    }
+    if !is_named(tables, 0, "yield") {
+        return false;
+    }
+    if !is_named(tables, 1, "lose") {
+        return false;
+    }
+    is_named(tables, 2, "hold")
+}
+
 // Takes in what was recorded, reads it, and tells of it by a line.
 fn tell<R: Wait>(
     rt: &R,
@@ -192,14 +218,14 @@ fn report_by<R: Wait>(
     now: u64,
 ) -> Result<Vec<u8>, AppFault>
     requires { aggregator.old ≡ new_aggregating 0 None }
-    ensures ok { IfOk result (λ text. IsReportOfAStream text.items) }
+    ensures ok { IfOk result (λ text. IsReportOfDemo text.items) }
     ensures memory { IfErr result (λ fault. fault ≡ AppFault.Memory) }
 {
     if tell(rt, alloc, aggregator, taker, now).is_err() {
         return Err(AppFault::Memory);
     }
     let tables = aggregator.tables();
-    if !has_drawn_wakers(tables) {
+    if !has_drawn_wakers(tables) || !are_demonstrated(tables) {
         return Err(AppFault::Memory);
     }
     report(alloc, tables, &Lints::default())
@@ -217,7 +243,7 @@ fn boxed<T: Drop, E: Drop>(alloc: Global, made: Result<T, E>) -> Result<Box<T>, 
 }
 
 fn text_of<R: Wait>(rt: &R, alloc: Global, taker: &mut Taker, now: u64) -> Result<Vec<u8>, AppFault>
-    ensures ok { IfOk result (λ text. IsReportOfAStream text.items) }
+    ensures ok { IfOk result (λ text. IsReportOfDemo text.items) }
     ensures memory { IfErr result (λ fault. fault ≡ AppFault.Memory) }
 {
     let mut aggregator = boxed(alloc, Aggregator::new(alloc, 0))?;
@@ -230,7 +256,7 @@ fn show_recorded<R: Wait + RandomSource + AllocGlobal>(
     recorders: &mut [Recorder],
     taker: &mut Taker,
 ) -> Result<Vec<u8>, AppFault>
-    ensures ok { IfOk result (λ text. IsReportOfAStream text.items) }
+    ensures ok { IfOk result (λ text. IsReportOfDemo text.items) }
     ensures memory { IfErr result (λ fault. fault ≡ AppFault.Memory) }
 {
     let mut told = 0;
@@ -241,7 +267,7 @@ fn show_recorded<R: Wait + RandomSource + AllocGlobal>(
 }
 
 fn show<R: Wait + RandomSource + AllocGlobal>(rt: &R, alloc: Global) -> Result<Vec<u8>, AppFault>
-    ensures ok { IfOk result (λ text. IsReportOfAStream text.items) }
+    ensures ok { IfOk result (λ text. IsReportOfDemo text.items) }
     ensures memory { IfErr result (λ fault. fault ≡ AppFault.Memory) }
 {
     match Console::open(alloc, LIMITS) {

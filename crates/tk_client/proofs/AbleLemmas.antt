@@ -297,7 +297,7 @@ unlisted-next was ids id n = by (nat_eq id n) refl was (is_among ids n) ∙ ap (
     by false e true true = refl
     by false e true false = rw (other n id (λ same. true≢false (sym (eq-eqb id n (sym same)) ∙ e))) refl
 
-none-told : {Stats : Type 0} (stats_id : Stats → ℕ) (id : ℕ) (stats : List Stats) → is_among (map stats_id stats) id ≡ false → item_with stats_id id stats ≡ None
+pub none-told : {Stats : Type 0} (stats_id : Stats → ℕ) (id : ℕ) (stats : List Stats) → is_among (map stats_id stats) id ≡ false → item_with stats_id id stats ≡ None
 none-told stats_id id [] none = refl
 none-told stats_id id (s ∷ stats) none =
     let parts = or_parts (nat_eq id (stats_id s)) (is_among (map stats_id stats) id) none in rw parts.0 (none-told stats_id id stats parts.1)

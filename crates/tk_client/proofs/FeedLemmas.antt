@@ -1,14 +1,17 @@
 -- Feeding one piece after another.
-use Rattle.std.proofs.Common.{◌≡◌, ℕ, ◌+◌, ◌-◌, ◌≤◌, List, [], ◌∷◌, ◌++◌, length, take, drop, true, refl, ap, ap₂, sym, ◌∙◌, arith, length-take, length-drop}
+use Rattle.std.proofs.Common.{◌≡◌, ℕ, ◌+◌, ◌-◌, ◌≤◌, ◌<◌, List, [], ◌∷◌, ◌++◌, length, take, drop, true, Option, Some, None, refl, ap, ap₂, sym, ◌∙◌, append-nil, arith, length-take, length-drop}
 use Rattle.std.proofs.lemmas.List.{take_all}
 use Rattle.std.proofs.Math.Seq.{take-add}
 use Rattle.tk_client.specs.declared.fault.Fault.{Fault}
 use Rattle.tk_client.specs.declared.fault.Fault.TheVariants.{Memory, BadJson, BadShape, Gap, UnknownId, Repeated, TooLong, Misfit, Failed}
 use Rattle.tk_client.specs.declared.fault.FeedError.{FeedError}
-use Rattle.tk_client.specs.Meaning.{Start, Outcome, goes, stops, after, meaning}
-use Rattle.tk_client.specs.Feeding.{ClientView, StoppedBy}
+use Rattle.tk_client.specs.Meaning.{Start, Outcome, cut, goes, stops, after, meaning}
+use Rattle.tk_client.specs.Changes.{timed_in}
+use Rattle.tk_client.specs.Feeding.{ClientView, StoppedBy, lines_of}
 use Rattle.tk_client.specs.Applying.{EndedBy}
-use Rattle.tk_client.proofs.Pieces.{meaning-append}
+use Rattle.tk_stream.specs.Spelling.{is_one_line}
+use Rattle.tk_client.proofs.Ends.{cut-no_end}
+use Rattle.tk_client.proofs.Pieces.{cut-append, glue, meaning-append}
 
 pub goes-then : (max : ℕ) (s t u : Start) (a b : List ℕ) (m n : ℕ) → meaning max s a ≡ goes t m → meaning max t b ≡ goes u n → meaning max s (a ++ b) ≡ goes u (m + n)
 goes-then max s t u a b m n e f = meaning-append max s t a b m e ∙ ap (after m (length a)) f
@@ -71,3 +74,29 @@ stops_on max s t piece at m e new within came h =
 
 pub within_piece : (at used : ℕ) (piece : List ℕ) → at ≤ length piece → used ≤ length (take (length piece - at) (drop at piece)) → at + used ≤ length piece
 within_piece at used piece within h = omega (arith, length-take (length piece - at) (drop at piece), length-drop at piece)
+
+-- ---- one line of bytes
+
+-- a line and its end
+pub cut-line : (line : List ℕ) → is_one_line line ≡ true → cut (line ++ 10 ∷ []) ≡ (line ∷ [], [])
+cut-line line whole =
+    cut-append line (10 ∷ [])
+    ∙ ap (λ (c : List (List ℕ) × List ℕ). glue c (cut (10 ∷ []))) (cut-no_end line whole)
+    ∙ ap (λ (l : List ℕ). (l ∷ [], [])) (append-nil line)
+
+-- of one line at most there are no more than bytes
+pub lines-few : {A : Type 0} (said : Option A) (used : ℕ) → 0 < used → lines_of said ≤ used
+lines-few None used some = omega arith
+lines-few (Some x) used some = omega (arith, some)
+
+-- a line end that wasn't taken leaves what is shown
+pub ended-kept : (fault : Fault) (old new : ClientView) → EndedBy fault old new → timed_in new.start ≡ timed_in old.start
+ended-kept Memory old new h = ap (λ (v : ClientView). timed_in v.start) h
+ended-kept BadJson old new h = ap (λ (v : ClientView). timed_in v.start) h.1
+ended-kept BadShape old new h = ap (λ (v : ClientView). timed_in v.start) h.1
+ended-kept (Gap x y) old new h = ap (λ (v : ClientView). timed_in v.start) h.1
+ended-kept UnknownId old new h = ap (λ (v : ClientView). timed_in v.start) h.1
+ended-kept Repeated old new h = ap (λ (v : ClientView). timed_in v.start) h.1
+ended-kept TooLong old new h = ap (λ (v : ClientView). timed_in v.start) h.1
+ended-kept Misfit old new h = ap (λ (v : ClientView). timed_in v.start) h.1
+ended-kept Failed old new h = ap (λ (v : ClientView). timed_in v.start) h.1

@@ -19,3 +19,6 @@ pub mod AppliedLemmas
 pub mod AbleLemmas
 pub mod LeaveLemmas
 pub mod AnyWarningLemmas
+pub mod ChangeLemmas
+pub mod NotedLemmas
+pub mod StepLemmas

@@ -31,7 +31,7 @@ EndedBy Memory old new = new ≡ old
 EndedBy fault old new = (meaning old.max_line old.start (line_end ∷ []) ≡ stops old.start.tables 0 fault 1) × (new ≡ record old { has_failed = true })
 
 -- what a line end did: the line was taken, or not
-abbrev pub Ended : ClientView → Result (Unit {0}) Fault → ClientView → Type 0
+abbrev pub Ended : {A : Type 0} → ClientView → Result A Fault → ClientView → Type 0
 Ended old (Ok done) new = Took old (line_end ∷ []) 1 new
 Ended old (Err fault) new = EndedBy fault old new
 
@@ -42,7 +42,7 @@ EndedWholeBy fault old line new =
     (meaning old.max_line old.start (line ++ line_end ∷ []) ≡ stops old.start.tables 0 fault (length line + 1)) × (new ≡ record old { has_failed = true })
 
 -- what a whole line and its end did
-abbrev pub EndedWhole : ClientView → List ℕ → Result (Unit {0}) Fault → ClientView → Type 0
+abbrev pub EndedWhole : {A : Type 0} → ClientView → List ℕ → Result A Fault → ClientView → Type 0
 EndedWhole old line (Ok done) new = Took old (line ++ line_end ∷ []) 1 new
 EndedWhole old line (Err fault) new = EndedWholeBy fault old line new
 

@@ -1,4 +1,4 @@
--- Which tasks can be warned of, whatever the lints and the moment, and how they are listed. No public clause cites this.
+-- Which tasks can be warned of, whatever the lints and the moment, and how they are listed. Public clauses cite `places_by` alone.
 use Rattle.std.specs.Prelude.{◌≡◌, ℕ, suc, ◌==◌, List, [], ◌∷◌, Bool, false, ◌&&◌, ◌||◌, nat_lt, if◌then◌else◌}
 use Rattle.std.specs.List.{flat_map, slice_get}
 use Rattle.std.specs.Option.{option_map_or, option_to_list}

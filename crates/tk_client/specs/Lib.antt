@@ -11,6 +11,8 @@ pub mod LongPolls
 pub mod LongWaits
 -- All warnings of tables
 pub mod AnyWarnings
+-- What a line changed
+pub mod Changes
 -- Which bytes are an uninterrupted stream
 pub mod Streams
 -- The numbers of faults
@@ -19,3 +21,5 @@ pub mod Faults
 pub mod Applying
 -- Inner: which tasks can be warned of
 pub mod Candidates
+-- Inner: how a line says what it changes
+pub mod Changing

@@ -63,8 +63,8 @@ pub(crate) fn unlist(able: &mut IndexSet<u64>, gone: &[u64])
     }
 }
 
-// The places of the listed tasks, in the order of the list.
-fn places_listed(
+/// The places of the tasks with these ids, in the order of the list.
+pub(crate) fn places_listed(
     alloc: Global,
     able: &IndexSet<u64>,
     tables: &Tables,

@@ -4,9 +4,12 @@
 ghost use Rattle.std.specs.Prelude.{◌≡◌, ◌+◌, ◌≤◌, ◌<◌, ◌^◌, ◌==◌, IfOk, IfErr, OnErr, IfSome, IfNone, Ok, Err, length, take, true, false, Some, [], ◌∷◌, ◌++◌, position};
 ghost use Rattle.tk_stream.specs.Spelling.{line_end, is_one_line};
 ghost use Rattle.tk_client.specs.Meaning as spec;
-ghost use Rattle.tk_client.specs.Feeding.{Took, Stopped, Steps};
+ghost use Rattle.tk_client.specs.Feeding.{Took, Stopped, lines_of};
 ghost use Rattle.tk_client.specs.Applying.{Answers, Ended, EndedWhole};
+ghost use Rattle.tk_client.specs.Changes.{timed_in};
+ghost use Rattle.tk_client.specs.Changing.{Noted, Steps};
 
+use crate::change::{Change, Notes, Unnoted};
 use crate::fault::{Fault, FeedError};
 use crate::lints::Lints;
 use crate::shown::Shown;
@@ -17,6 +20,15 @@ use std::alloc::Global;
 use std::marker::Model;
 use tk_ids::TaskId;
 use tk_stream::{Line, PollTimes, Table, Tables};
+
+/// What a client took of a piece: its first line, or all of it where no line ends.
+#[derive(Drop)]
+pub struct FedLine {
+    /// How many bytes were taken.
+    pub used: usize,
+    /// What the line changed, where one ended.
+    pub change: Option<Change>,
+}
 
 /// A client of a stream.
 #[derive(Drop)]
@@ -83,20 +95,31 @@ fn is_next(last: Option<u64>, line: &Line) -> bool
     }
 }
 
-// Applies a line's text, or leaves the tables as they are. It answers the line's number.
+// How many lines ended.
+fn ended<N: Notes>(note: &Option<N>) -> u64
+    ensures { result ≡ lines_of note.now }
+{
+    match note {
+        Some(_) => 1,
+        None => 0,
+    }
+}
+
+// Applies a line's text, or leaves the tables as they are. It answers the line's number, and what is noted of the line.
 #[tactic(auto, unfolding(crate::specs::Meaning::line_taken))]
-fn take_line(
+fn take_line<N: Notes>(
     alloc: Global,
     shown: &mut Shown,
     times: &mut Times,
     last: Option<u64>,
     text: &[u8],
-) -> Result<u64, Fault>
+) -> Result<(u64, N), Fault>
     requires { IfSome last (λ n. n ≤ 2 ^ 63) }
-    ensures taken { Answers (λ n. record { tables = shown.new; last = Some n; part = []; times = times.new }) result (spec.line_taken shown.old times.old last text.now) }
+    ensures taken { Answers (λ t. record { tables = shown.new; last = Some t.0; part = []; times = times.new }) result (spec.line_taken shown.old times.old last text.now) }
+    ensures noted { IfOk result (λ t. Noted N.says (shown.old, times.old) (shown.new, times.new) t.1) }
     ensures kept { OnErr result (shown.new ≡ shown.old) }
     ensures kept_times { OnErr result (times.new ≡ times.old) }
-    ensures number { IfOk result (λ n. n ≤ 2 ^ 63) }
+    ensures number { IfOk result (λ t. t.0 ≤ 2 ^ 63) }
 {
     let mut line = Line::read(alloc, text)?;
     let found = line.seq();
@@ -106,13 +129,16 @@ fn take_line(
             found,
         });
     }
-    apply(alloc, shown, times, &mut line)?;
-    Ok(found)
+    let note = N::of(alloc, shown.tables(), times, &line)?;
+    match apply(alloc, shown, times, &mut line) {
+        Ok(()) => Ok((found, note)),
+        Err(fault) => Err(fault),
+    }
 }
 
 impl Client {
     ghost use Rattle.tk_client.specs.Meaning.{empty_start};
-    ghost use Rattle.tk_client.specs.Feeding.{Fed};
+    ghost use Rattle.tk_client.specs.Feeding.{Fed, FedOne};
     ghost use Rattle.tk_client.specs.Warnings.{warnings_in};
 
     /// A client with empty tables, whose next line is a first one. It takes lines of at most `max_line` bytes, their ends not
@@ -168,6 +194,8 @@ impl Client {
         requires sound { self.old.has_failed ≡ false }
         ensures held { IfOk result (λ _. Took self.old bytes.now 0 self.new) }
         ensures stopped { IfErr result (λ e. Stopped self.old bytes.now e self.new) }
+        ensures kept { timed_in self.new.start ≡ timed_in self.old.start }
+        ensures none { IfErr result (λ e. e.lines ≡ 0) }
         ensures limit { self.new.max_line ≡ self.old.max_line }
     {
         let room = self.limit - self.part.len();
@@ -190,22 +218,23 @@ impl Client {
     }
 
     // Takes a line end after the part line.
-    fn end_line(&mut self) -> Result<(), Fault>
+    fn end_line<N: Notes>(&mut self) -> Result<N, Fault>
         requires { self.old.has_failed ≡ false }
         ensures ended { Ended self.old result self.new }
+        ensures noted { IfOk result (Noted N.says (timed_in self.old.start) (timed_in self.new.start)) }
         ensures limit { self.new.max_line ≡ self.old.max_line }
     {
-        match take_line(
+        match take_line::<N>(
             self.alloc,
             &mut self.shown,
             &mut self.times,
             self.last,
             self.part.as_slice(),
         ) {
-            Ok(number) => {
+            Ok((number, note)) => {
                 self.last = Some(number);
                 self.part.clear();
-                Ok(())
+                Ok(note)
             }
             Err(Fault::Memory) => Err(Fault::Memory),
             Err(fault) => {
@@ -216,24 +245,25 @@ impl Client {
     }
 
     // Takes a whole line and its end, where no part line stands before it. It is read where it lies.
-    fn take_whole(&mut self, line: &[u8]) -> Result<(), Fault>
+    fn take_whole<N: Notes>(&mut self, line: &[u8]) -> Result<N, Fault>
         requires sound { self.old.has_failed ≡ false }
         requires empty { self.old.start.part ≡ [] }
         requires whole { is_one_line line.now ≡ true }
         requires short { length line.now ≤ self.old.max_line }
         ensures ended { EndedWhole self.old line.now result self.new }
+        ensures noted { IfOk result (Noted N.says (timed_in self.old.start) (timed_in self.new.start)) }
         ensures limit { self.new.max_line ≡ self.old.max_line }
     {
-        match take_line(
+        match take_line::<N>(
             self.alloc,
             &mut self.shown,
             &mut self.times,
             self.last,
             line,
         ) {
-            Ok(number) => {
+            Ok((number, note)) => {
                 self.last = Some(number);
-                Ok(())
+                Ok(note)
             }
             Err(fault) => match fault {
                 Fault::Memory => Err(fault),
@@ -246,18 +276,22 @@ impl Client {
     }
 
     // Takes a whole line in place: its bytes and its end, or none of them where there is no memory.
-    fn step_whole(&mut self, bytes: &[u8], end: usize) -> Result<(u64, usize), FeedError>
+    fn step_whole<N: Notes>(
+        &mut self,
+        bytes: &[u8],
+        end: usize,
+    ) -> Result<(Option<N>, usize), FeedError>
         requires sound { self.old.has_failed ≡ false }
         requires empty { self.old.start.part ≡ [] }
         requires inside { end < length bytes.now }
         requires short { end ≤ self.old.max_line }
         requires before { is_one_line (take end bytes.now) ≡ true }
         requires through { take (end + 1) bytes.now ≡ take end bytes.now ++ line_end ∷ [] }
-        ensures step { Steps self.old bytes.now result self.new }
+        ensures step { Steps N.says self.old bytes.now result self.new }
         ensures limit { self.new.max_line ≡ self.old.max_line }
     {
-        match self.take_whole(&bytes[..end]) {
-            Ok(()) => Ok((1, end + 1)),
+        match self.take_whole::<N>(&bytes[..end]) {
+            Ok(note) => Ok((Some(note), end + 1)),
             Err(fault) => {
                 let used = match fault {
                     Fault::Memory => 0,
@@ -273,46 +307,50 @@ impl Client {
     }
 
     // Takes the rest of a line after its part, and its end.
-    fn step_rest(&mut self, bytes: &[u8], end: usize) -> Result<(u64, usize), FeedError>
+    fn step_rest<N: Notes>(
+        &mut self,
+        bytes: &[u8],
+        end: usize,
+    ) -> Result<(Option<N>, usize), FeedError>
         requires sound { self.old.has_failed ≡ false }
         requires inside { end < length bytes.now }
         requires before { is_one_line (take end bytes.now) ≡ true }
         requires through { take (end + 1) bytes.now ≡ take end bytes.now ++ line_end ∷ [] }
-        ensures step { Steps self.old bytes.now result self.new }
+        ensures step { Steps N.says self.old bytes.now result self.new }
         ensures limit { self.new.max_line ≡ self.old.max_line }
     {
         self.hold(&bytes[..end])?;
-        match self.end_line() {
-            Ok(()) => Ok((1, end + 1)),
-            Err(fault) => {
-                let used = match fault {
-                    Fault::Memory => end,
-                    _ => end + 1,
-                };
-                Err(FeedError {
+        match self.end_line::<N>() {
+            Ok(note) => Ok((Some(note), end + 1)),
+            Err(fault) => match fault {
+                Fault::Memory => Err(FeedError {
                     lines: 0,
-                    used,
+                    used: end,
                     fault,
-                })
-            }
+                }),
+                _ => Err(FeedError {
+                    lines: 0,
+                    used: end + 1,
+                    fault,
+                }),
+            },
         }
     }
 
-    // Takes the bytes through the first line end, or all of them. It answers the lines applied and the bytes taken.
-    fn step(&mut self, bytes: &[u8]) -> Result<(u64, usize), FeedError>
-        requires some { 0 < length bytes.now }
+    // Takes the bytes through the first line end, or all of them. It answers what is noted of the line, if one ended, and the bytes taken.
+    fn step<N: Notes>(&mut self, bytes: &[u8]) -> Result<(Option<N>, usize), FeedError>
         requires sound { self.old.has_failed ≡ false }
-        ensures step { Steps self.old bytes.now result self.new }
+        ensures step { Steps N.says self.old bytes.now result self.new }
         ensures limit { self.new.max_line ≡ self.old.max_line }
     {
         let Some(end) = first_end(bytes) else {
             self.hold(bytes)?;
-            return Ok((0, bytes.len()));
+            return Ok((None, bytes.len()));
         };
         if self.part.is_empty() && end <= self.limit {
-            self.step_whole(bytes, end)
+            self.step_whole::<N>(bytes, end)
         } else {
-            self.step_rest(bytes, end)
+            self.step_rest::<N>(bytes, end)
         }
     }
 
@@ -347,9 +385,9 @@ impl Client {
         let mut lines = 0;
         let mut at = 0;
         while at < piece.len() {
-            match self.step(&piece[at..]) {
-                Ok((more, used)) => {
-                    lines += more;
+            match self.step::<Unnoted>(&piece[at..]) {
+                Ok((note, used)) => {
+                    lines += ended(&note);
                     at += used;
                 }
                 Err(e) => {
@@ -362,6 +400,33 @@ impl Client {
             }
         }
         Ok(lines)
+    }
+
+    /// Takes the first line of a piece: its bytes through the first line end, or all of them where none ends. It answers how many bytes it took,
+    /// which are some where the piece has any, and what the line changed, if one ended. That costs no more than what the line tells.
+    ///
+    /// What comes of the bytes that were taken is what [`Client::feed`] makes of them, with its errors, and `lines` is 0 in them. What a line changed
+    /// is found before it is applied, so that where there is no memory for that, it is applied in no part, too.
+    pub fn feed_line(&mut self, piece: &[u8]) -> Result<FedLine, FeedError>
+        ensures fed { self.old.has_failed ≡ false → FedOne self.old piece.now result self.new }
+        ensures some { IfOk result (λ fed. 0 < length piece.now → 0 < fed.used) }
+        ensures within { IfOk result (λ fed. fed.used ≤ length piece.now) }
+        ensures none { IfErr result (λ e. e.lines ≡ 0) }
+        ensures failed { self.old.has_failed ≡ true → result ≡ Err (record { lines = 0; used = 0; fault = Fault.Failed }) }
+        ensures unchanged { self.old.has_failed ≡ true → self.new ≡ self.old }
+        ensures limit { self.new.max_line ≡ self.old.max_line }
+    {
+        if !self.failed {
+            return match self.step::<Change>(piece) {
+                Ok((change, used)) => Ok(FedLine { used, change }),
+                Err(error) => Err(error),
+            };
+        }
+        Err(FeedError {
+            lines: 0,
+            used: 0,
+            fault: Fault::Failed,
+        })
     }
 
     /// The warnings of the tables: for each task in table order those that hold, `SelfWakes` before `LostWaker` before

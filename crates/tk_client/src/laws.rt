@@ -1,11 +1,12 @@
 //! Laws of the definitions: each is the contract of a function that does nothing.
-ghost use Rattle.std.specs.Prelude.{◌≡◌, ◌+◌, ◌++◌, ℕ, List, [], Some, length, take};
+ghost use Rattle.std.specs.Prelude.{◌≡◌, ◌+◌, ◌++◌, ℕ, List, [], None, Some, false, if◌then◌else◌, length, map, take};
 ghost use Rattle.std.specs.List.{AllByRecursion};
 ghost use Rattle.tk_stream.specs.declared.tables.task.Task.{Task};
-ghost use Rattle.tk_stream.specs.Tables.{AreDistinct, TablesView, empty_tables, task_with};
+ghost use Rattle.tk_stream.specs.Tables.{AreDistinct, TablesView, empty_tables, is_among, task_with};
 ghost use Rattle.tk_client.specs.declared.fault.Fault.{Fault};
 ghost use Rattle.tk_client.specs.declared.fault.FeedError.{FeedError};
 ghost use Rattle.tk_client.specs.declared.warning.Warning.{Warning};
+ghost use Rattle.tk_client.specs.Changes.{ChangeView, IsChange, Timed, left_id};
 ghost use Rattle.tk_client.specs.Feeding.{ClientView, Took, Stopped};
 ghost use Rattle.tk_client.specs.Meaning.{Start, empty_start, goes, stops, meaning, after};
 ghost use Rattle.tk_client.specs.Streams.{AreShort, HasNoFault};
@@ -63,6 +64,12 @@ pub fn streams_are_fed()
     lines_lead_on();
     lines_read_back();
 }
+
+/// What a line changed says all: a task that it doesn't tell of is in the tables after the line as in those before it, unless it has left.
+pub fn changes_say_all()
+    ensures { (before after : Timed) (change : ChangeView) (id : ℕ) → IsChange before after change → is_among change.told id ≡ false
+        → task_with id after.0.tasks ≡ if is_among (map left_id change.left) id then None else task_with id before.0.tasks }
+{}
 
 /// In tables in which no task stands twice, each warning finds by its id the task that it is about.
 pub fn warnings_find_their_tasks()

@@ -23,7 +23,7 @@ use tk_ids::{TaskId, TaskInfo};
 use tk_stream::{Line, PollTimes, Table};
 
 /// Histograms of poll times, each with its task's id.
-pub(crate) type Times = Table<(TaskId, PollTimes)>;
+pub type Times = Table<(TaskId, PollTimes)>;
 
 // ---- what is found
 
@@ -37,8 +37,8 @@ fn told_ids(alloc: Global, told: &[(TaskId, PollTimes)]) -> Result<Vec<u64>, All
     Ok(ids)
 }
 
-// The ids of new tasks, among which each is found at once.
-fn new_ids(alloc: Global, infos: &[TaskInfo]) -> Result<IndexSet<u64>, AllocError>
+/// The ids of new tasks, among which each is found at once.
+pub(crate) fn new_ids(alloc: Global, infos: &[TaskInfo]) -> Result<IndexSet<u64>, AllocError>
     ensures { IfOk result (λ set. (id : ℕ) → is_among set.keys id ≡ is_among (map spec.new_id infos.now) id) }
 {
     let mut ids = IndexSet::with_capacity(alloc, infos.len())?;

@@ -1,6 +1,7 @@
 //! Streams that are fed in memory.
 
 mod beside;
+mod changes;
 mod faults;
 mod given;
 mod gone;

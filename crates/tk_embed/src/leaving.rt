@@ -31,10 +31,11 @@ fn is_due(closed: Option<u64>, moment: u64, retention: u64) -> bool
     }
 }
 
-/// Whether a task leaves that was told with these words.
+/// Whether a task leaves that was told with these words. Of words that no row has it answers `false`.
 #[unsafe(no_mangle)]
 pub extern "C" fn taskscope_task_leaves(told: &[u64; 16], moment: u64, retention: u64) -> bool
-    ensures { (row : TaskRow) → task_words.words_of row ≡ told.now → result ≡ retentions.is_due retention moment row.dropped }
+    ensures when { (row : TaskRow) → task_words.words_of row ≡ told.now → result ≡ retentions.is_due retention moment row.dropped }
+    ensures known { result ≡ true → (row : TaskRow) × (task_words.words_of row ≡ told.now) }
 {
     match TaskRow::from_words(told) {
         Some(row) => is_due(row.dropped, moment, retention),
@@ -42,10 +43,11 @@ pub extern "C" fn taskscope_task_leaves(told: &[u64; 16], moment: u64, retention
     }
 }
 
-/// Whether a resource leaves that was told with these words.
+/// Whether a resource leaves that was told with these words. Of words that no row has it answers `false`.
 #[unsafe(no_mangle)]
 pub extern "C" fn taskscope_resource_leaves(told: &[u64; 16], moment: u64, retention: u64) -> bool
-    ensures { (row : ResourceRow) → resource_words.words_of row ≡ told.now → result ≡ retentions.is_due retention moment row.dropped }
+    ensures when { (row : ResourceRow) → resource_words.words_of row ≡ told.now → result ≡ retentions.is_due retention moment row.dropped }
+    ensures known { result ≡ true → (row : ResourceRow) × (resource_words.words_of row ≡ told.now) }
 {
     match ResourceRow::from_words(told) {
         Some(row) => is_due(row.dropped, moment, retention),
@@ -53,10 +55,11 @@ pub extern "C" fn taskscope_resource_leaves(told: &[u64; 16], moment: u64, reten
     }
 }
 
-/// Whether an async operation leaves that was told with these words.
+/// Whether an async operation leaves that was told with these words. Of words that no row has it answers `false`.
 #[unsafe(no_mangle)]
 pub extern "C" fn taskscope_op_leaves(told: &[u64; 16], moment: u64, retention: u64) -> bool
-    ensures { (row : OpRow) → op_words.words_of row ≡ told.now → result ≡ retentions.is_due retention moment row.dropped }
+    ensures when { (row : OpRow) → op_words.words_of row ≡ told.now → result ≡ retentions.is_due retention moment row.dropped }
+    ensures known { result ≡ true → (row : OpRow) × (op_words.words_of row ≡ told.now) }
 {
     match OpRow::from_words(told) {
         Some(row) => is_due(row.dropped, moment, retention),

@@ -11,7 +11,7 @@ use Rattle.tk_events.specs.Buffer.{IsContentFor}
 use Rattle.tk_events.specs.Handles.{Place, Recording, new_recording, new_recordings}
 use Rattle.tk_events.proofs.ListLemmas.{by_whole}
 
-pub held_alone : (v : View) (items : List Item) → IsContentFor v items → v.recorders ≡ 1 → 0 < v.number → v.number ≤ v.recorders → length items ≤ length v.kept
+pub held_alone : (v : View) (items : List Item) → IsContentFor v items → v.recorders ≡ 1 → 0 < v.number → v.number ≤ v.recorders → length items + v.gone ≤ length v.kept
 held_alone v items h one low high =
     let offers = offers_of items in
     let mine : All (λ (o : Offer). o.recorder ≡ v.number) offers = λ k d lt. let n = h.named k d lt in omega (arith, n.0, n.1, one, low, high) in
@@ -19,7 +19,7 @@ held_alone v items h one low high =
     let parts : by v.number h.before ++ by v.number offers ≡ v.kept = sym (filter-append (λ (y : Offer). Rattle.std.specs.Prelude.nat_eq y.recorder v.number) h.before offers) ∙ h.mine in
     let lengths : length (by v.number h.before) + length (by v.number offers) ≡ length v.kept = sym (length-append (by v.number h.before) (by v.number offers)) ∙ ap length parts in
     let same : length (by v.number offers) ≡ length items = ap length all ∙ length-map items offer_of in
-    omega (arith, lengths, same)
+    omega (arith, lengths, same, h.gone)
 
 -- the recorders of a console are of this console
 pub own_console : (console : Place) (capacity recorders limit n : ℕ) → All (λ (r : Recording). r.console ≡ console) (new_recordings console capacity recorders limit n)

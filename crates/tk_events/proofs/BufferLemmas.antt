@@ -1,5 +1,5 @@
 -- Each step keeps the rule of a buffer.
-use Rattle.std.proofs.Common.{◌≡◌, ◌≢◌, ℕ, zero, suc, ◌+◌, ◌<◌, ◌≤◌, List, [], ◌∷◌, ◌++◌, length, get_or, set, Option, Some, None, refl, ap, sym, ◌∙◌, subst, arith, ⊎_elim, append_assoc}
+use Rattle.std.proofs.Common.{◌≡◌, ◌≢◌, ℕ, zero, suc, ◌+◌, ◌<◌, ◌≤◌, List, [], ◌∷◌, ◌++◌, length, length-append, get_or, set, Option, Some, None, refl, ap, sym, ◌∙◌, subst, arith, ⊎_elim, append_assoc}
 use Rattle.std.specs.List.{All, AllPairs}
 use Rattle.std.proofs.lemmas.List.{append-nil, map-append}
 use Rattle.std.proofs.lemmas.List.Elements.{filter-append, All-push, All-head, All-nil}
@@ -81,7 +81,7 @@ module _ (pass : ℕ) (v : View) (x : Item) (role : v.role ≡ Records) (own : x
     abbrev offer : Offer
     offer = offer_of x
 
-    mine : IsRecorder k.recorders k.made all v
+    mine : IsRecorder k.recorders k.made k.taken all v
     mine = (k.parts pass v at).recorder role
 
     kept_more : by v.number (all ++ offer ∷ []) ≡ v.kept ++ offer ∷ []
@@ -97,6 +97,7 @@ module _ (pass : ℕ) (v : View) (x : Item) (role : v.role ≡ Records) (own : x
             low = r.low;
             high = r.high;
             kept = filter-append (λ (y : Offer). Rattle.std.specs.Prelude.nat_eq y.recorder u.number) all (offer ∷ []) ∙ (ap (λ (l : List Offer). by u.number all ++ l) (by_other u.number offer apart) ∙ (append-nil (by u.number all) ∙ r.kept));
+            gone = r.gone;
           };
       taker = λ is.
           let t = (k.parts j u e).taker is in
@@ -112,7 +113,7 @@ module _ (pass : ℕ) (v : View) (x : Item) (role : v.role ≡ Records) (own : x
 
     mine_more : IsPart k.recorders k.made k.taken (all ++ offer ∷ []) (keeps v offer)
     mine_more = record {
-      recorder = λ is. record { same = mine.same; low = mine.low; high = mine.high; kept = kept_more };
+      recorder = λ is. record { same = mine.same; low = mine.low; high = mine.high; kept = kept_more; gone = mine.gone };
       taker = λ is. absurd (cc (role));
     }
 
@@ -156,6 +157,7 @@ contents pass v role items views k at =
     record {
       before = k.taken;
       mine = mine.kept;
+      gone = mine.gone;
       named = λ i d lt. let h = all_right (IsNamed k.made) k.taken (offers_of items) k.named i d lt in let r = k.room in let s = mine.same in (h.0, omega (arith, h.1, r, s));
     }
 
@@ -170,6 +172,12 @@ balances pass v role items views k at =
       rises = subst (λ (l : List Offer). Rises (l ++ offers_of items)) (sym mine.taken') k.rises;
     }
 
+-- what was taken only grows
+gone_more : (taken more : List Offer) (n gone : ℕ) → gone ≤ length (by n taken) → gone ≤ length (by n (taken ++ more))
+gone_more taken more n gone le =
+    let both = ap length (filter-append (λ (y : Offer). Rattle.std.specs.Prelude.nat_eq y.recorder n) taken more) ∙ length-append (by n taken) (by n more) in
+    omega (arith, le, both)
+
 -- A pop of the taker.
 module _ (pass : ℕ) (v : View) (role : v.role ≡ Takes) (x : Item) (items : List Item) (views : List View) (k : Kept (x ∷ items) views) (at : get_elem? views pass ≡ some v) where
   abbrev taken' : List Offer
@@ -180,7 +188,9 @@ module _ (pass : ℕ) (v : View) (role : v.role ≡ Takes) (x : Item) (items : L
 
   pop_others : (j : ℕ) (u : View) → j ≢ pass → get_elem? views j ≡ some u → IsPart k.recorders k.made taken' (taken' ++ offers_of items) u
   pop_others j u ne e = record {
-    recorder = λ is. subst (λ (l : List Offer). IsRecorder k.recorders k.made l u) same_all ((k.parts j u e).recorder is);
+    recorder = λ is.
+        let r = (k.parts j u e).recorder is in
+        record { same = r.same; low = r.low; high = r.high; kept = subst (λ (l : List Offer). by u.number l ≡ u.kept) same_all r.kept; gone = gone_more k.taken (offer_of x ∷ []) u.number u.gone r.gone };
     taker = λ is. absurd (alone views k.once pass j v u 0 ne at e (taker_one v role) (taker_one u is));
   }
 
@@ -226,13 +236,13 @@ module _ (pass : ℕ) (v : View) (o : Option Offer) (role : v.role ≡ Records) 
   abbrev n_all : List Offer
   n_all = k.taken ++ offers_of items
 
-  n_mine : IsRecorder k.recorders k.made n_all v
+  n_mine : IsRecorder k.recorders k.made k.taken n_all v
   n_mine = (k.parts pass v at).recorder role
 
   n_noted : (p : Option Offer) → IsPart k.recorders k.made k.taken n_all (notes p v)
   n_noted None = k.parts pass v at
   n_noted (Some p) = record {
-    recorder = λ is. record { same = n_mine.same; low = n_mine.low; high = n_mine.high; kept = n_mine.kept };
+    recorder = λ is. record { same = n_mine.same; low = n_mine.low; high = n_mine.high; kept = n_mine.kept; gone = n_mine.gone };
     taker = λ is. absurd (cc (role));
   }
 
@@ -318,13 +328,13 @@ module _ (pass : ℕ) (v : View) (role : v.role ≡ Takes) (room : v.made < v.re
 
   m_newborn_now : IsPart k.recorders (k.made + 1) k.taken m_all (newborn v)
   m_newborn_now = record {
-    recorder = λ is. let m = m_mine.made' in record { same = m_mine.same; low = omega arith; high = omega (arith, m); kept = m_none_of };
+    recorder = λ is. let m = m_mine.made' in record { same = m_mine.same; low = omega arith; high = omega (arith, m); kept = m_none_of; gone = omega arith };
     taker = λ is. absurd (cc);
   }
 
   m_others : (j : ℕ) (u : View) → j ≢ pass → get_elem? views j ≡ some u → IsPart k.recorders (k.made + 1) k.taken m_all u
   m_others j u ne e = record {
-    recorder = λ is. let r = (k.parts j u e).recorder is in let h = r.high in record { same = r.same; low = r.low; high = omega (arith, h); kept = r.kept };
+    recorder = λ is. let r = (k.parts j u e).recorder is in let h = r.high in record { same = r.same; low = r.low; high = omega (arith, h); kept = r.kept; gone = r.gone };
     taker = λ is. absurd (alone views k.once pass j v u 0 ne at e (taker_one v role) (taker_one u is));
   }
 
@@ -388,10 +398,10 @@ module _ (pass : ℕ) (v : View) (role : v.role ≡ Takes) (room : v.made < v.re
   }
 
 -- The taker gives the one recorder back that it took in.
-lent_few : (n recorders : ℕ) (l : List Returned) → holds n (lent recorders l) ≤ times n (numbers_known l)
-lent_few n recorders [] = omega arith
-lent_few n recorders (r ∷ []) = omega arith
-lent_few n recorders (r ∷ (s ∷ l)) = omega arith
+lent_few : (n recorders : ℕ) (taken : List Offer) (l : List Returned) → holds n (lent recorders taken l) ≤ times n (numbers_known l)
+lent_few n recorders taken [] = omega arith
+lent_few n recorders taken (r ∷ []) = omega arith
+lent_few n recorders taken (r ∷ (s ∷ l)) = omega arith
 
 module _ (pass : ℕ) (v : View) (role : v.role ≡ Takes) (items : List Item) (views : List View) (k : Kept items views) (at : get_elem? views pass ≡ some v) where
   abbrev g_all : List Offer
@@ -406,10 +416,10 @@ module _ (pass : ℕ) (v : View) (role : v.role ≡ Takes) (items : List Item) (
     taker = λ is. record { same = g_mine.same; made' = g_mine.made'; taken' = g_mine.taken'; known = λ i d lt. absurd (omega (arith, lt)) };
   }
 
-  g_lent : (l : List Returned) → All (IsKnown k.made g_all) l → IsPart k.recorders k.made k.taken g_all (lent v.recorders l)
+  g_lent : (l : List Returned) → All (IsKnown k.made g_all) l → IsPart k.recorders k.made k.taken g_all (lent v.recorders v.taken l)
   g_lent [] each = record { recorder = λ is. absurd (cc); taker = λ is. absurd (cc) }
   g_lent (r ∷ []) each = let h = each 0 r (omega arith) in record {
-    recorder = λ is. record { same = g_mine.same; low = h.low; high = h.high; kept = h.kept };
+    recorder = λ is. record { same = g_mine.same; low = h.low; high = h.high; kept = h.kept; gone = let same = ap (λ (l : List Offer). length (by r.number l)) g_mine.taken' in omega (arith, same) };
     taker = λ is. absurd (cc);
   }
   g_lent (r ∷ (s ∷ l)) each = record { recorder = λ is. absurd (cc); taker = λ is. absurd (cc) }
@@ -421,7 +431,7 @@ module _ (pass : ℕ) (v : View) (role : v.role ≡ Takes) (items : List Item) (
       let a = holds_taker n v role in
       let b = holds_taker n (gives_back v) role in
       let c = times-append n (0 ∷ []) (numbers_known v.known) in
-      let f = lent_few n v.recorders v.known in
+      let f = lent_few n v.recorders v.taken v.known in
       let o = k.once n in
       omega (arith, t, s, a, b, c, f, o)
 
@@ -473,7 +483,7 @@ module _ (pass : ℕ) (v : View) (other : ℕ) (u : View) (takes' : v.role ≡ T
   j_mine : IsTaker k.recorders k.made k.taken j_all v
   j_mine = (k.parts pass v at).taker takes'
 
-  j_theirs : IsRecorder k.recorders k.made j_all u
+  j_theirs : IsRecorder k.recorders k.made k.taken j_all u
   j_theirs = (k.parts other u j_was).recorder records
 
   j_both_now : IsPart k.recorders k.made k.taken j_all j_both

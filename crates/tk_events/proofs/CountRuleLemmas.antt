@@ -11,7 +11,7 @@ use Rattle.tk_events.specs.declared.counts.view.Role.{Role}
 use Rattle.tk_events.specs.declared.counts.view.Role.TheVariants.{Reads as ReadsRole, Adds as AddsRole, Spent}
 use Rattle.tk_events.specs.declared.counts.view.Tally.{Tally}
 use Rattle.tk_events.specs.declared.counts.view.View.{View}
-use Rattle.tk_events.specs.Counts.{word_of, most, first, spent, adds, sees, makes, newborn, tally, takes_in, numbers_known, numbers_of, holds, IsCounted, IsAdder, IsReader, IsPart, Counted, Adds, Reads}
+use Rattle.tk_events.specs.Counts.{word_of, most, first, spent, adds, sees, makes, newborn, tally, takes_in, gives_back, lent, given_back, numbers_known, numbers_of, holds, IsCounted, IsAdder, IsReader, IsPart, Counted, Adds, Reads}
 use Rattle.tk_cell.specs.Views.{times}
 use Rattle.tk_core.specs.Lists.{total}
 use Rattle.tk_cell.proofs.ListLemmas.{dec_eq, times-append, times_itself, times_other, total_set, total_snoc, total_one, total_two, total_none}
@@ -309,6 +309,67 @@ module _ (n id : ℕ) (v : View) (role : v.role ≡ ReadsRole) (room : v.made < 
 
 pub splits : (n id : ℕ) (v : View) → v.role ≡ ReadsRole → v.made < v.adders → Splits {S = ℕ} (Counted n) id v (makes v) (newborn v)
 splits n id v role room s h at = m_counted n id v role room s h at
+
+-- The reader gives the one adder back that it took in.
+lent_few : (m adders : ℕ) (l : List Tally) → holds m (lent adders l) ≤ times m (numbers_known l)
+lent_few m adders [] = omega arith
+lent_few m adders (t ∷ []) = omega arith
+lent_few m adders (t ∷ (u ∷ l)) = omega arith
+
+module _ (n id : ℕ) (v : View) (role : v.role ≡ ReadsRole) (s : State ℕ View) (h : Counted n s) (at : get_elem? s.views id ≡ some v) where
+  g_mine : IsReader n h.made s.words v
+  g_mine = (h.parts id v at).reader role
+
+  g_now : IsPart n h.made s.words (gives_back v)
+  g_now = record {
+    adder = λ is. absurd (cc (role));
+    reader = λ is. record { same = g_mine.same; made' = g_mine.made'; seen = g_mine.seen; size = g_mine.size; known = All-nil (λ (t : Tally). IsCounted h.made s.words t.number t.counts) };
+  }
+
+  g_lent : (l : List Tally) → All (λ t. IsCounted h.made s.words t.number t.counts) l → IsPart n h.made s.words (lent v.adders l)
+  g_lent [] each = spent_part n h.made s.words
+  g_lent (t ∷ []) each = record {
+    adder = λ is. record { same = g_mine.same; counted = All-head (λ (x : Tally). IsCounted h.made s.words x.number x.counts) t [] each };
+    reader = λ is. absurd (cc);
+  }
+  g_lent (t ∷ (u ∷ l)) each = spent_part n h.made s.words
+
+  g_once : (m : ℕ) → total (holds m) (set s.views id (gives_back v) ++ given_back v ∷ []) ≤ 1
+  g_once m =
+      let t = total_set (holds m) s.views id v (gives_back v) at in
+      let z = total_snoc (holds m) (set s.views id (gives_back v)) (given_back v) in
+      let a = holds_reader m v role in
+      let b = holds_reader m (gives_back v) role in
+      let c = times-append m (0 ∷ []) (numbers_known v.known) in
+      let f = lent_few m v.adders v.known in
+      let o = h.once m in
+      omega (arith, t, z, a, b, c, f, o)
+
+  g_counted : Counted n (record { words = s.words; homes = s.homes; views = set s.views id (gives_back v) ++ given_back v ∷ [] })
+  g_counted = record {
+    made = h.made;
+    room = h.room;
+    size = h.size;
+    parts = each_snoc (λ (u : View). IsPart n h.made s.words u) s.views id (gives_back v) (given_back v) g_now (g_lent v.known g_mine.known) (λ j u ne e. h.parts j u e);
+    once = g_once;
+    vacant = h.vacant;
+    small = h.small;
+  }
+
+pub splits_back : (n id : ℕ) (v : View) → v.role ≡ ReadsRole → Splits {S = ℕ} (Counted n) id v (gives_back v) (given_back v)
+splits_back n id v role s h at = g_counted n id v role s h at
+
+-- An adder lends its seat.
+pub splits_whole : (n id : ℕ) (v : View) → Splits {S = ℕ} (Counted n) id v spent v
+splits_whole n id v s h at = record {
+  made = h.made;
+  room = h.room;
+  size = h.size;
+  parts = each_snoc (λ (u : View). IsPart n h.made s.words u) s.views id spent v (spent_part n h.made s.words) (h.parts id v at) (λ j u ne e. h.parts j u e);
+  once = λ m. let t = total_set (holds m) s.views id v spent at in let z = total_snoc (holds m) (set s.views id spent) v in let o = h.once m in omega (arith, t, z, o);
+  vacant = h.vacant;
+  small = h.small;
+}
 
 -- The reader takes in an adder.
 module _ (n id : ℕ) (v : View) (other : ℕ) (u : View) (reads : v.role ≡ ReadsRole) (adds' : u.role ≡ AddsRole) (s : State ℕ View) (h : Counted n s) (at : get_elem? s.views id ≡ some v) (two : ¬ (other ≡ id)) (at' : get_elem? (set s.views id (takes_in v u)) other ≡ some u) where

@@ -1,5 +1,5 @@
 -- The rule of a buffer.
-use Rattle.std.specs.Prelude.{◌≡◌, ℕ, ◌+◌, ◌<◌, ◌≤◌, List, [], ◌∷◌, ◌++◌, map, All, Option, Some, None}
+use Rattle.std.specs.Prelude.{◌≡◌, ℕ, ◌+◌, ◌<◌, ◌≤◌, List, [], ◌∷◌, ◌++◌, length, map, All, Option, Some, None}
 use mathlib.Core.Option.{some}
 use lib.ListN.{get_elem?}
 use Rattle.tk_cell.specs.Views.{times}
@@ -14,11 +14,11 @@ use Rattle.tk_events.specs.Offers.{offers_of, by, Rises}
 
 -- the view of the taker before it has made a recorder
 abbrev pub first : View
-first = record { role = Takes; recorders = 0; number = 0; kept = []; refused = []; made = 0; taken = []; known = [] }
+first = record { role = Takes; recorders = 0; number = 0; kept = []; refused = []; gone = 0; made = 0; taken = []; known = [] }
 
 -- a view that was handed on
 abbrev pub spent : View
-spent = record { role = Spent; recorders = 0; number = 0; kept = []; refused = []; made = 0; taken = []; known = [] }
+spent = record { role = Spent; recorders = 0; number = 0; kept = []; refused = []; gone = 0; made = 0; taken = []; known = [] }
 
 -- a recorder offered something that the buffer keeps
 abbrev pub keeps : View → Offer → View
@@ -43,7 +43,7 @@ abbrev pub makes : View → View
 makes v = record v { made = v.made + 1 }
 
 abbrev pub newborn : View → View
-newborn v = record { role = Records; recorders = v.recorders; number = v.made + 1; kept = []; refused = []; made = 0; taken = []; known = [] }
+newborn v = record { role = Records; recorders = v.recorders; number = v.made + 1; kept = []; refused = []; gone = 0; made = 0; taken = []; known = [] }
 
 -- what a recorder had offered
 abbrev pub returned : View → Returned
@@ -57,13 +57,13 @@ takes_in v w = record v { known = v.known ++ returned w ∷ [] }
 abbrev pub gives_back : View → View
 gives_back v = record v { known = [] }
 
--- the view of the one recorder that was taken in, as it was
-abbrev pub lent : ℕ → List Returned → View
-lent recorders (r ∷ []) = record { role = Records; recorders = recorders; number = r.number; kept = r.kept; refused = r.refused; made = 0; taken = []; known = [] }
-lent recorders _ = spent
+-- the view of the one recorder that was taken in, as it was, but that it knows how many of its offers were taken
+abbrev pub lent : ℕ → List Offer → List Returned → View
+lent recorders taken (r ∷ []) = record { role = Records; recorders = recorders; number = r.number; kept = r.kept; refused = r.refused; gone = length (by r.number taken); made = 0; taken = []; known = [] }
+lent recorders taken _ = spent
 
 abbrev pub given_back : View → View
-given_back v = lent v.recorders v.known
+given_back v = lent v.recorders v.taken v.known
 
 abbrev pub numbers_known : List Returned → List ℕ
 numbers_known known = map (λ r. r.number) known
@@ -83,11 +83,13 @@ pub record IsKnown (made : ℕ) (all : List Offer) (r : Returned) : Type 0 where
   pub high : r.number ≤ made
   pub kept : by r.number all ≡ r.kept
 
-pub record IsRecorder (recorders made : ℕ) (all : List Offer) (v : View) : Type 0 where
+-- what a recorder had kept, and that as many of its offers were taken as it knows of, or more
+pub record IsRecorder (recorders made : ℕ) (taken all : List Offer) (v : View) : Type 0 where
   pub same : v.recorders ≡ recorders
   pub low : 0 < v.number
   pub high : v.number ≤ made
   pub kept : by v.number all ≡ v.kept
+  pub gone : v.gone ≤ length (by v.number taken)
 
 pub record IsTaker (recorders made : ℕ) (taken all : List Offer) (v : View) : Type 0 where
   pub same : v.recorders ≡ recorders
@@ -97,7 +99,7 @@ pub record IsTaker (recorders made : ℕ) (taken all : List Offer) (v : View) : 
 
 -- a view that was handed on may be anything
 pub record IsPart (recorders made : ℕ) (taken all : List Offer) (v : View) : Type 0 where
-  pub recorder : v.role ≡ Records → IsRecorder recorders made all v
+  pub recorder : v.role ≡ Records → IsRecorder recorders made taken all v
   pub taker : v.role ≡ Takes → IsTaker recorders made taken all v
 
 -- an offer of a recorder that was made
@@ -115,10 +117,12 @@ pub record Kept (items : List Item) (views : List View) : Type 0 where
   pub named : All (IsNamed made) (taken ++ offers_of items)
   pub rises : Rises (taken ++ offers_of items)
 
--- what a recorder can tell of what the buffer holds: what it kept is what was taken of it before, and then what the buffer holds of it
+-- what a recorder can tell of what the buffer holds: what it kept is what was taken of it before, which is as much as it knows of or more, and
+-- then what the buffer holds of it
 pub record IsContentFor (v : View) (items : List Item) : Type 0 where
   pub before : List Offer
   pub mine : by v.number (before ++ offers_of items) ≡ v.kept
+  pub gone : v.gone ≤ length (by v.number before)
   pub named : All (IsNamed v.recorders) (offers_of items)
 
 -- what the taker can tell of what the buffer holds

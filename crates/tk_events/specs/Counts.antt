@@ -3,6 +3,7 @@ use Rattle.std.specs.Prelude.{◌≡◌, ℕ, zero, suc, ◌+◌, ◌-◌, ◌*�
 use mathlib.Core.Option.{some}
 use lib.ListN.{get_elem?}
 use Rattle.tk_cell.specs.Views.{times}
+use Rattle.tk_ids.specs.declared.info.Dropped.{Dropped}
 use Rattle.tk_core.specs.Lists.{total}
 use Rattle.atomic_table.specs.Table.{State, Me, Step}
 use Rattle.tk_events.specs.declared.counts.view.Role.{Role}
@@ -43,6 +44,18 @@ tally v = record { number = v.number; counts = v.counts }
 
 abbrev pub takes_in : View → View → View
 takes_in v w = record v { known = v.known ++ tally w ∷ [] }
+
+-- the reader gives back what it took in
+abbrev pub gives_back : View → View
+gives_back v = record v { known = [] }
+
+-- the view of the one adder that was taken in, as it was
+abbrev pub lent : ℕ → List Tally → View
+lent adders (t ∷ []) = record { role = AddsRole; adders = adders; number = t.number; counts = t.counts; made = 0; seen = []; known = [] }
+lent adders _ = spent
+
+abbrev pub given_back : View → View
+given_back v = lent v.adders v.known
 
 abbrev pub numbers_known : List Tally → List ℕ
 numbers_known known = map (λ t. t.number) known
@@ -109,6 +122,18 @@ total_of k (suc n) words = total_of k n words + slice_index words (3 * n + k)
 abbrev pub counted_of : ℕ → List Tally → ℕ
 counted_of k [] = 0
 counted_of k (t ∷ ts) = slice_index t.counts k + counted_of k ts
+
+-- the totals of the words of the first n adders, by kind
+abbrev pub dropped_at : ℕ → List ℕ → Dropped
+dropped_at n words = record { tasks = total_of 0 n words; resources = total_of 1 n words; ops = total_of 2 n words }
+
+-- what the adders that were joined counted together, by kind
+abbrev pub dropped_known : List Tally → Dropped
+dropped_known known = record { tasks = counted_of 0 known; resources = counted_of 1 known; ops = counted_of 2 known }
+
+-- no total is less
+abbrev pub AreNoLess : Dropped → Dropped → Type 0
+AreNoLess old new = (old.tasks ≤ new.tasks) × (old.resources ≤ new.resources) × (old.ops ≤ new.ops)
 
 -- each adder from 1 to n was joined, once
 pub record IsWhole (n : ℕ) (known : List Tally) : Type 0 where

@@ -28,7 +28,7 @@ pub record Totals : Type 0 where
   pub resources : ℕ
   pub ops : ℕ
 
--- a recorder: its console with its sizes, its number, and its offers
+-- a recorder: its console with its sizes, its number, its offers, and how many of those that were kept it knows to be taken
 pub record Recording : Type 0 where
   pub console : Place
   pub capacity : ℕ
@@ -37,6 +37,7 @@ pub record Recording : Type 0 where
   pub number : ℕ
   pub kept : List Offer
   pub refused : List Offer
+  pub gone : ℕ
 
 -- a recorder that makes no more offers
 pub record Retiring : Type 0 where
@@ -89,6 +90,14 @@ with_kept r o = record r { kept = r.kept ++ o ∷ [] }
 abbrev pub with_refused : Recording → Offer → Recording
 with_refused r o = record r { refused = r.refused ++ o ∷ [] }
 
+-- a recorder that met the taker, which took these: it knows how many of its offers they are
+abbrev pub met_with : List Offer → Recording → Recording
+met_with taken r = record r { gone = length (by r.number taken) }
+
+-- the totals of what one recorder dropped
+abbrev pub dropped_by : Recording → Totals
+dropped_by r = record { tasks = dropped_of 0 r.refused; resources = dropped_of 1 r.refused; ops = dropped_of 2 r.refused }
+
 -- a taker that took one more
 abbrev pub with_taken : Taking → Offer → Taking
 with_taken t o = record t { taken = t.taken ++ o ∷ [] }
@@ -99,7 +108,7 @@ events_of t = map (λ o. o.event) t.taken
 
 -- a recorder without offers
 abbrev pub new_recording : Place → ℕ → ℕ → ℕ → ℕ → Recording
-new_recording console capacity recorders limit number = record { console = console; capacity = capacity; recorders = recorders; limit = limit; number = number; kept = []; refused = [] }
+new_recording console capacity recorders limit number = record { console = console; capacity = capacity; recorders = recorders; limit = limit; number = number; kept = []; refused = []; gone = 0 }
 
 -- the recorders 1 to n, without offers
 abbrev pub new_recordings : Place → ℕ → ℕ → ℕ → ℕ → List Recording
@@ -161,10 +170,12 @@ pub record IsSettled (t : Taking) : Type 0 where
   pub named : All (IsNamed t.recorders) t.taken
   pub rises : Rises t.taken
 
--- what the buffer held at a moment, as a recorder can tell: its own kept offers, but for the first ones, in order, and otherwise offers of recorders of the console
+-- what the buffer held at a moment, as a recorder can tell: its own kept offers, but for the first ones, which are as many as it knows to be taken
+-- or more, in order, and otherwise offers of recorders of the console
 pub record HeldFor (r : Recording) (items : List Item) : Type 0 where
   pub before : List Offer
   pub mine : by r.number (before ++ offers_of items) ≡ r.kept
+  pub gone : r.gone ≤ length (by r.number before)
   pub named : All (IsNamed r.recorders) (offers_of items)
 
 -- how many offers of a kind were refused, of all these recorders

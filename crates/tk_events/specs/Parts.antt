@@ -83,12 +83,13 @@ pub record IsReading (counts : TableId) (key : ℕ) (s : Seat ℕ Count) (v : Vi
   pub low : 1 ≤ v.recorders
   pub few : v.recorders ≤ 64
   pub role : s.me.0.role ≡ ReadsRole
+  pub adders : s.me.0.adders ≡ v.recorders
   pub size : length s.me.0.seen ≡ 3 * v.recorders
   pub known : s.me.0.known ≡ map tally_of v.known
 
 module _ {Q A : Type 0} where
   abbrev pub recording : Slotted (Option Item) (Doing Item View) Q A → TableId → Pass Item View → ℕ → Recording
-  recording q counts p limit = record { console = place q.table.shared.table_id counts; capacity = ruled_capacity q; recorders = (view p).recorders; limit = limit; number = (view p).number; kept = (view p).kept; refused = (view p).refused }
+  recording q counts p limit = record { console = place q.table.shared.table_id counts; capacity = ruled_capacity q; recorders = (view p).recorders; limit = limit; number = (view p).number; kept = (view p).kept; refused = (view p).refused; gone = (view p).gone }
 
   abbrev pub taking : Slotted (Option Item) (Doing Item View) Q A → TableId → Pass Item View → Seat ℕ Count → Bool → Taking
   taking q counts p s finished = record { console = place q.table.shared.table_id counts; capacity = ruled_capacity q; recorders = (view p).recorders; taken = (view p).taken; known = (view p).known; last = totals_of (view p).recorders s.me.0.seen; finished = finished }

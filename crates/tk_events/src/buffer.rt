@@ -120,7 +120,8 @@ pub(crate) fn take_in(buffer: &Buffer, pass: &mut Pass<Item, View>, other: Pass<
     buffer.absorb::<TakeIn>(pass, other);
 }
 
-/// The pass of the one recorder that the taker's pass took in, as it was. So a taker can be lent a recorder's pass while it takes.
+/// The pass of the one recorder that the taker's pass took in, which knows then how many of its offers were taken. So a taker can be lent a
+/// recorder's pass while it takes.
 pub(crate) fn give_back(buffer: &Buffer, pass: &mut Pass<Item, View>) -> Pass<Item, View>
     requires own { IsPassOf buffer.now pass.old }
     requires role { (view pass.old).role ≡ Takes }
@@ -146,7 +147,7 @@ pub(crate) fn pop_beside<R: Wait>(
     requires knows_none { (view pass.old).known ≡ [] }
     ensures own { IsSamePass pass.old pass.new }
     ensures own_back { IsPassOf buffer.now result.1 }
-    ensures back { view result.1 ≡ lent (view pass.old).recorders (returned (view lender) ∷ []) }
+    ensures back { view result.1 ≡ lent (view pass.old).recorders (view pass.new).taken (returned (view lender) ∷ []) }
     ensures some { IfSome result.0 (λ x. view pass.new ≡ takes (view pass.old) (offer_of x)) }
     ensures none { IfNone result.0 (view pass.new ≡ view pass.old) }
     ensures left { (left : List Item) × IsBalanced (view pass.new) (offers_of left) }
@@ -181,7 +182,7 @@ pub(crate) fn pop_lent<R: Wait>(
     requires knows_none { (view pass.old).known ≡ [] }
     ensures own { IsSamePass pass.old pass.new }
     ensures own_back { IsPassOf buffer.now lender.new }
-    ensures back { view lender.new ≡ lent (view pass.old).recorders (returned (view lender.old) ∷ []) }
+    ensures back { view lender.new ≡ lent (view pass.old).recorders (view pass.new).taken (returned (view lender.old) ∷ []) }
     ensures some { IfSome result (λ x. view pass.new ≡ takes (view pass.old) (offer_of x)) }
     ensures none { IfNone result (view pass.new ≡ view pass.old) }
     ensures left { (left : List Item) × IsBalanced (view pass.new) (offers_of left) }

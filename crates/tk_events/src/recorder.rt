@@ -56,7 +56,7 @@ pub struct Recorder {
     buffer: Arc<Buffer>,
     counts: Arc<Counts>,
     pub(crate) pass: Pass<Item, View>,
-    seat: Seat<u8, Count>,
+    pub(crate) seat: Seat<u8, Count>,
     ids: IdBlock,
     made: u64,
     limit: u64,
@@ -182,7 +182,7 @@ impl Recorder {
         ensures kept { IfOk result (λ made. made.1 ≡ Kept → self.new ≡ with_kept self.old (next_offer self.old (MadeTask (task_info (next_task_id self.old) spec) made.0.token.ledger 1 None))) }
         ensures refused { IfOk result (λ made. made.1 ≡ DroppedFull → self.new ≡ with_refused self.old (next_offer self.old (MadeTask (task_info (next_task_id self.old) spec) made.0.token.ledger 1 None))) }
         ensures full { IfOk result (λ made. made.1 ≡ DroppedFull → Held self.old.capacity (HeldFor self.old)) }
-        ensures alone { IfOk result (λ made. made.1 ≡ DroppedFull → self.old.recorders ≡ 1 → self.old.capacity ≤ length self.old.kept) }
+        ensures alone { IfOk result (λ made. made.1 ≡ DroppedFull → self.old.recorders ≡ 1 → self.old.capacity + self.old.gone ≤ length self.old.kept) }
         ensures same { IsSameRecorder self.old self.new }
         ensures spent { (result ≡ Err (OffersSpent, spec)) ↔ (offers_made self.old ≡ self.old.limit) }
         ensures err { IfErr result (λ back. (back.1 ≡ spec) × (self.new ≡ self.old)) }
@@ -215,7 +215,7 @@ impl Recorder {
         ensures kept { IfOk result (λ made. made.1 ≡ Kept → self.new ≡ with_kept self.old (next_offer self.old (MadeTask (task_info (next_task_id self.old) spec) made.0.token.ledger 1 (times_ledger made.0.times)))) }
         ensures refused { IfOk result (λ made. made.1 ≡ DroppedFull → self.new ≡ with_refused self.old (next_offer self.old (MadeTask (task_info (next_task_id self.old) spec) made.0.token.ledger 1 (times_ledger made.0.times)))) }
         ensures full { IfOk result (λ made. made.1 ≡ DroppedFull → Held self.old.capacity (HeldFor self.old)) }
-        ensures alone { IfOk result (λ made. made.1 ≡ DroppedFull → self.old.recorders ≡ 1 → self.old.capacity ≤ length self.old.kept) }
+        ensures alone { IfOk result (λ made. made.1 ≡ DroppedFull → self.old.recorders ≡ 1 → self.old.capacity + self.old.gone ≤ length self.old.kept) }
         ensures same { IsSameRecorder self.old self.new }
         ensures spent { (result ≡ Err (OffersSpent, spec)) ↔ (offers_made self.old ≡ self.old.limit) }
         ensures err { IfErr result (λ back. (back.1 ≡ spec) × (self.new ≡ self.old)) }
@@ -249,7 +249,7 @@ impl Recorder {
         ensures kept { IfOk result (λ made. made.1 ≡ Kept → self.new ≡ with_kept self.old (next_offer self.old (MadeTask (task_info (next_task_id self.old) spec) made.0.token.ledger 1 (times_ledger made.0.times)))) }
         ensures refused { IfOk result (λ made. made.1 ≡ DroppedFull → self.new ≡ with_refused self.old (next_offer self.old (MadeTask (task_info (next_task_id self.old) spec) made.0.token.ledger 1 (times_ledger made.0.times)))) }
         ensures full { IfOk result (λ made. made.1 ≡ DroppedFull → Held self.old.capacity (HeldFor self.old)) }
-        ensures alone { IfOk result (λ made. made.1 ≡ DroppedFull → self.old.recorders ≡ 1 → self.old.capacity ≤ length self.old.kept) }
+        ensures alone { IfOk result (λ made. made.1 ≡ DroppedFull → self.old.recorders ≡ 1 → self.old.capacity + self.old.gone ≤ length self.old.kept) }
         ensures same { IsSameRecorder self.old self.new }
         ensures spent { (result ≡ Err (OffersSpent, spec)) ↔ (offers_made self.old ≡ self.old.limit) }
         ensures err { IfErr result (λ back. (back.1 ≡ spec) × (self.new ≡ self.old)) }
@@ -280,7 +280,7 @@ impl Recorder {
         ensures kept { IfOk result (λ made. made.1 ≡ Kept → self.new ≡ with_kept self.old (next_offer self.old (MadeResource (resource_info (next_resource_id self.old) spec) made.0.token.ledger 1))) }
         ensures refused { IfOk result (λ made. made.1 ≡ DroppedFull → self.new ≡ with_refused self.old (next_offer self.old (MadeResource (resource_info (next_resource_id self.old) spec) made.0.token.ledger 1))) }
         ensures full { IfOk result (λ made. made.1 ≡ DroppedFull → Held self.old.capacity (HeldFor self.old)) }
-        ensures alone { IfOk result (λ made. made.1 ≡ DroppedFull → self.old.recorders ≡ 1 → self.old.capacity ≤ length self.old.kept) }
+        ensures alone { IfOk result (λ made. made.1 ≡ DroppedFull → self.old.recorders ≡ 1 → self.old.capacity + self.old.gone ≤ length self.old.kept) }
         ensures same { IsSameRecorder self.old self.new }
         ensures spent { (result ≡ Err (OffersSpent, spec)) ↔ (offers_made self.old ≡ self.old.limit) }
         ensures err { IfErr result (λ back. (back.1 ≡ spec) × (self.new ≡ self.old)) }
@@ -311,7 +311,7 @@ impl Recorder {
         ensures kept { IfOk result (λ made. made.1 ≡ Kept → self.new ≡ with_kept self.old (next_offer self.old (MadeOp (op_info (next_op_id self.old) spec) made.0.token.ledger 1))) }
         ensures refused { IfOk result (λ made. made.1 ≡ DroppedFull → self.new ≡ with_refused self.old (next_offer self.old (MadeOp (op_info (next_op_id self.old) spec) made.0.token.ledger 1))) }
         ensures full { IfOk result (λ made. made.1 ≡ DroppedFull → Held self.old.capacity (HeldFor self.old)) }
-        ensures alone { IfOk result (λ made. made.1 ≡ DroppedFull → self.old.recorders ≡ 1 → self.old.capacity ≤ length self.old.kept) }
+        ensures alone { IfOk result (λ made. made.1 ≡ DroppedFull → self.old.recorders ≡ 1 → self.old.capacity + self.old.gone ≤ length self.old.kept) }
         ensures same { IsSameRecorder self.old self.new }
         ensures spent { (result ≡ Err (OffersSpent, spec)) ↔ (offers_made self.old ≡ self.old.limit) }
         ensures err { IfErr result (λ back. (back.1 ≡ spec) × (self.new ≡ self.old)) }
@@ -337,7 +337,7 @@ impl Recorder {
         ensures kept { result ≡ Ok Kept → self.new ≡ with_kept self.old (next_offer self.old (Polled op)) }
         ensures refused { result ≡ Ok DroppedFull → self.new ≡ with_refused self.old (next_offer self.old (Polled op)) }
         ensures full { result ≡ Ok DroppedFull → Held self.old.capacity (HeldFor self.old) }
-        ensures alone { result ≡ Ok DroppedFull → self.old.recorders ≡ 1 → self.old.capacity ≤ length self.old.kept }
+        ensures alone { result ≡ Ok DroppedFull → self.old.recorders ≡ 1 → self.old.capacity + self.old.gone ≤ length self.old.kept }
         ensures same { IsSameRecorder self.old self.new }
         ensures spent { IsErr result ↔ (offers_made self.old ≡ self.old.limit) }
         ensures err { IfErr result (λ e. (e.0 ≡ OffersSpent) × (e.1 ≡ op) × (self.new ≡ self.old)) }
@@ -359,7 +359,7 @@ impl Recorder {
         ensures kept { result ≡ Kept → self.new ≡ with_kept self.old (next_offer self.old (shown event)) }
         ensures refused { result ≡ DroppedFull → self.new ≡ with_refused self.old (next_offer self.old (shown event)) }
         ensures full { result ≡ DroppedFull → Held self.old.capacity (HeldFor self.old) }
-        ensures alone { result ≡ DroppedFull → self.old.recorders ≡ 1 → self.old.capacity ≤ length self.old.kept }
+        ensures alone { result ≡ DroppedFull → self.old.recorders ≡ 1 → self.old.capacity + self.old.gone ≤ length self.old.kept }
     {
         let number = self.made + 1;
         let item = Item::new(self.ids.recorder(), number, event);

@@ -9,13 +9,13 @@ ghost use Rattle.tk_events.specs.declared.item.Offer.{Offer};
 ghost use Rattle.tk_events.specs.Offers.{shown, offers_of, by, Rises};
 ghost use Rattle.tk_events.specs.Items.{Agrees};
 ghost use Rattle.tk_events.specs.Buffer.{first, limits as limited, IsNamed};
-ghost use Rattle.tk_events.specs.Handles.{new_taking, with_taken, offers_of_all, finished_with, IsWhole, HasOwnIds, IsSettled, AreLeft, AllTaken, place, AreExact};
+ghost use Rattle.tk_events.specs.Handles.{new_taking, with_taken, offers_of_all, finished_with, IsWhole, HasOwnIds, IsSettled, AreLeft, AllTaken, place, AreExact, dropped_by, met_with};
 ghost use Rattle.tk_events.specs.Parts.{making, knowing, IsReading, totals_of};
 
 use crate::buffer::view::View;
 use crate::buffer::{Buffer, pop, pop_lent, settle, take_in as take_in_offers};
 use crate::counts::view::View as Count;
-use crate::counts::{Counts, take_in as take_in_counts, total};
+use crate::counts::{Counts, take_in as take_in_counts, totals, totals_lent};
 use crate::error::FinishError;
 use crate::event::Event;
 use crate::item::Item;
@@ -137,13 +137,13 @@ impl Taker {
         Some(item.into_event())
     }
 
-    /// As [`Taker::take`], beside a recorder of the console, which stays as it is. What was taken of it, and then what is left, is
-    /// what it has kept; and where the buffer was empty, all of that was taken.
+    /// As [`Taker::take`], beside a recorder of the console, which then knows how many of its offers were taken, and otherwise stays as it
+    /// is. What was taken of it, and then what is left, is what it has kept; and where the buffer was empty, all of that was taken.
     pub fn take_beside<R: Wait>(&mut self, rt: &R, recorder: &mut Recorder) -> Option<Event>
         requires console { recorder.old.console ≡ self.old.console }
         requires recorders { recorder.old.recorders ≡ self.old.recorders }
         requires unfinished { self.old.finished ≡ false }
-        ensures same { recorder.new ≡ recorder.old }
+        ensures met { recorder.new ≡ met_with self.new.taken recorder.old }
         ensures some { IfSome result (λ event. (recorder number : ℕ) × (self.new ≡ with_taken self.old (record { recorder = recorder; number = number; event = shown event }))) }
         ensures agrees { IfSome result (λ event. Agrees event) }
         ensures none { IfNone result (self.new ≡ self.old) }
@@ -198,13 +198,27 @@ impl Taker {
         ensures ops { self.old.last.ops ≤ result.ops }
         ensures exact { self.old.finished ≡ true → AreExact self.old.known result.tasks result.resources result.ops }
     {
-        let tasks = total(&self.counts, &mut self.seat, self.recorders, 0);
-        let resources = total(&self.counts, &mut self.seat, self.recorders, 1);
-        let ops = total(&self.counts, &mut self.seat, self.recorders, 2);
-        Dropped {
-            tasks,
-            resources,
-            ops,
-        }
+        totals(&self.counts, &mut self.seat, self.recorders)
+    }
+
+    /// As [`Taker::dropped`], beside a recorder of the console, which stays as it is. Where it is the console's only one, the totals are exactly
+    /// what it dropped.
+    pub fn dropped_beside(&mut self, recorder: &mut Recorder) -> Dropped
+        requires console { recorder.old.console ≡ self.old.console }
+        requires recorders { recorder.old.recorders ≡ self.old.recorders }
+        requires unfinished { self.old.finished ≡ false }
+        ensures same { recorder.new ≡ recorder.old }
+        ensures last { self.new ≡ record self.old { last = record { tasks = result.tasks; resources = result.resources; ops = result.ops } } }
+        ensures tasks { self.old.last.tasks ≤ result.tasks }
+        ensures resources { self.old.last.resources ≤ result.resources }
+        ensures ops { self.old.last.ops ≤ result.ops }
+        ensures alone { self.old.recorders ≡ 1 → self.new.last ≡ dropped_by recorder.old }
+    {
+        totals_lent(
+            &self.counts,
+            &mut self.seat,
+            &mut recorder.seat,
+            self.recorders,
+        )
     }
 }

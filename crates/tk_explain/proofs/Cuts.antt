@@ -8,7 +8,7 @@ use Rattle.tk_explain.specs.Keeping.{IsOpenAt, unended}
 use Rattle.tk_client.proofs.Pieces.{cut-append}
 
 -- bytes in which no line ends are the line that goes on
-all_unended : (bs : List ℕ) → length (cut bs).0 ≡ 0 → (cut bs).1 ≡ bs
+pub all_unended : (bs : List ℕ) → length (cut bs).0 ≡ 0 → (cut bs).1 ≡ bs
 all_unended [] none = refl
 all_unended (b ∷ bs) none = by (nat_eq b 10) (cut bs) (all_unended bs) none
   where

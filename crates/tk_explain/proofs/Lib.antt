@@ -1,1 +1,3 @@
 mod Cuts
+pub mod Told
+pub mod Found

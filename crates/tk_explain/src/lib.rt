@@ -3,10 +3,11 @@
 //! - [`Kept`]: a reader that keeps the lines that a fault may come at.
 //! - [`explain_script`], [`explain_stream`]: what is told of a run and of a view.
 //!
-//! `specs/Keeping.antt` says what is kept. No contract says what these texts are.
+//! `specs/Keeping.antt` says what is kept, and `specs/Telling.antt` which line is told. No contract says what the rules are.
 #![tactic(auto)]
 
 mod kept;
+pub mod laws;
 mod lines;
 mod rules;
 mod script;

@@ -1,6 +1,42 @@
 //! The rules that a line breaks, by the names of faults.
+ghost use Rattle.std.specs.Prelude.{OnOk};
+ghost use Rattle.std.specs.Io.KnownBytes.{Appends};
+ghost use Rattle.tk_explain.specs.Rules.{rule_text};
 
+use crate::shown::show_line;
+use std::io;
+use std::io::Write;
 use tk_client::Fault;
+
+/// A rule as it is told: a text, in which a word of the line may stand.
+#[derive(Clone, Copy)]
+pub(crate) struct Rule<'a> {
+    pub(crate) before: &'static str,
+    pub(crate) word: &'a [u8],
+    pub(crate) after: &'static str,
+}
+
+impl<'a> Rule<'a> {
+    /// A rule that names no word.
+    pub(crate) fn plain(rule: &'static str) -> Rule<'a> {
+        Rule {
+            before: rule,
+            word: b"",
+            after: "",
+        }
+    }
+}
+
+/// Tells a rule.
+pub(crate) fn tell_rule<W: Write>(rule: Rule<'_>, out: &mut W) -> io::Result<()>
+    ensures { OnOk result (Appends (W.contents out.old) (W.contents out.new) (rule_text rule.entry.before.now rule.entry.word.now rule.entry.after.now)) }
+{
+    out.write_all(b"  ")?;
+    out.write_all(rule.before.as_bytes())?;
+    show_line(rule.word, out)?;
+    out.write_all(rule.after.as_bytes())?;
+    out.write_all(b"\n")
+}
 
 /// The rule by which a line of a script stops it under this name.
 pub(crate) fn stop_rule(name: &str) -> &'static str {
@@ -14,6 +50,7 @@ pub(crate) fn stop_rule(name: &str) -> &'static str {
         "Clock" => "its moment is below that of the line of the stream before",
         "Memory" => "there was no memory for it",
         "WriteFault" => "the line of the stream was not written whole",
+        "TooManyPolls" => "`polls` commands make at most 100,000,000 polls together",
         "NoThread" => "a thread of the block could not be started",
         "Stopped" => "a thread of the block was stopped at its gate",
         "HandlesSpent" => "the item has all the handles that it may have",

@@ -1,9 +1,11 @@
 //! What is told of a script that was run.
+ghost use Rattle.std.specs.Prelude.{◌≡◌, ◌-◌, OnOk, true};
+ghost use Rattle.tk_explain.specs.Telling as spec;
 
 use crate::kept::Kept;
-use crate::rules::stop_rule;
+use crate::rules::{Rule, stop_rule, tell_rule};
 use crate::shapes::{missing_by, shape_of};
-use crate::shown::show_line;
+use crate::shown::{line_after, show_numbered};
 use std::alloc::Global;
 use std::io;
 use std::io::Write;
@@ -60,65 +62,79 @@ fn block_rule(said: BlockSaid, in_block: bool, is_last: bool) -> &'static str {
     }
 }
 
-// Tells why a line outside of blocks is no command that may stand there.
-fn tell_no_command<W: Write>(alloc: Global, line: &[u8], out: &mut W) -> io::Result<()> {
-    let word = word_of(line);
-    let Some(shape) = shape_of(word) else {
-        write!(out, "  `")?;
-        show_line(Pieces::new(line, b' ').next().unwrap_or(line), out)?;
-        return writeln!(out, "` is no command: `taskscope run --help` has them all");
+// Why a line outside of blocks is no command that may stand there.
+fn no_command(alloc: Global, line: &[u8]) -> Rule<'_> {
+    let Some(shape) = shape_of(word_of(line)) else {
+        return Rule {
+            before: "`",
+            word: Pieces::new(line, b' ').next().unwrap_or(line),
+            after: "` is no command: `taskscope run --help` has them all",
+        };
     };
     match command_of(alloc, line) {
-        Ok(Some(_)) => writeln!(
-            out,
-            "  a setting stands once, and before all other commands"
-        ),
-        _ => writeln!(out, "  it is spelled: {shape}"),
+        Ok(Some(_)) => Rule::plain("a setting stands once, and before all other commands"),
+        _ => Rule {
+            before: "it is spelled: ",
+            word: b"",
+            after: shape,
+        },
     }
 }
 
-// Tells why a line may not stand where it stands.
-fn tell_bad_command<W: Write>(
-    alloc: Global,
-    line: &[u8],
-    in_block: bool,
-    is_last: bool,
-    out: &mut W,
-) -> io::Result<()> {
+// Why a line may not stand where it stands.
+fn bad_command(alloc: Global, line: &[u8], in_block: bool, is_last: bool) -> Rule<'_> {
     if let Some(said) = block_said(line) {
-        let rule = block_rule(said, in_block, is_last);
-        return writeln!(out, "  {rule}");
+        return Rule::plain(block_rule(said, in_block, is_last));
     }
     if !in_block {
-        return tell_no_command(alloc, line, out);
+        return no_command(alloc, line);
     }
     if is_skipped(line) {
-        return writeln!(out, "  the block is not joined");
+        return Rule::plain("the block is not joined");
     }
-    writeln!(
-        out,
-        "  in a block stand lines of its threads, as `1 wake WAKER MOMENT`, and `join`"
-    )
+    Rule::plain("in a block stand lines of its threads, as `1 wake WAKER MOMENT`, and `join`")
 }
 
-// Tells the rule by which a line stopped the script under this name.
-fn tell_rule<W: Write>(
+// The rule by which a line stopped the script under this name.
+fn rule_of<'a>(
     alloc: Global,
-    line: &[u8],
+    line: &'a [u8],
     name: &str,
     in_block: bool,
     is_last: bool,
-    out: &mut W,
-) -> io::Result<()> {
+) -> Rule<'a> {
     if name == "BadCommand" {
-        return tell_bad_command(alloc, line, in_block, is_last, out);
+        return bad_command(alloc, line, in_block, is_last);
     }
-    let rule = if name == "NoSuchItem" {
-        missing_by(word_of(line))
-    } else {
-        stop_rule(name)
-    };
-    writeln!(out, "  {rule}")
+    if name == "NoSuchItem" {
+        return Rule::plain(missing_by(word_of(line)));
+    }
+    Rule::plain(stop_rule(name))
+}
+
+// Whether a block is open after so many lines of a script.
+fn is_in_block(script: &[u8], lines: u64) -> bool {
+    let mut rest = Pieces::new(script, b'\n');
+    let mut in_block = false;
+    for _ in 0..lines {
+        let Some(line) = rest.next() else {
+            return in_block;
+        };
+        match block_said(line) {
+            Some(BlockSaid::Opens) => in_block = true,
+            Some(BlockSaid::Joins) => in_block = false,
+            _ => {}
+        }
+    }
+    in_block
+}
+
+// Whether nothing but an end stands after so many lines of a script.
+fn are_all(script: &[u8], lines: u64) -> bool {
+    match line_after(script, lines) {
+        Some(rest) => rest.is_empty() && line_after(script, lines.saturating_add(1)).is_none(),
+        None => true,
+    }
 }
 
 // Tells the line of a number, from 1, at which the script stopped under this name.
@@ -128,30 +144,17 @@ fn explain_line<W: Write>(
     number: u64,
     name: &str,
     out: &mut W,
-) -> io::Result<()> {
-    let mut lines = Pieces::new(script, b'\n');
-    let mut in_block = false;
-    for _ in 1..number {
-        let Some(line) = lines.next() else {
-            return Ok(());
-        };
-        match block_said(line) {
-            Some(BlockSaid::Opens) => in_block = true,
-            Some(BlockSaid::Joins) => in_block = false,
-            _ => {}
-        }
-    }
-    let Some(line) = lines.next() else {
+) -> io::Result<()>
+    ensures { OnOk result (spec.TellsLine number (spec.line_after script.now (number - 1)) (W.contents out.old) (W.contents out.new)) }
+{
+    let before = number.saturating_sub(1);
+    let Some(line) = line_after(script, before) else {
         return Ok(());
     };
-    let is_last = match lines.next() {
-        Some(rest) => rest.is_empty() && lines.next().is_none(),
-        None => true,
-    };
-    write!(out, "  {number} | ")?;
-    show_line(line, out)?;
-    writeln!(out)?;
-    tell_rule(alloc, line, name, in_block, is_last, out)
+    show_numbered(number, line, out)?;
+    let in_block = is_in_block(script, before);
+    let is_last = are_all(script, number);
+    tell_rule(rule_of(alloc, line, name, in_block, is_last), out)
 }
 
 /// Tells below the fault of a script's run the line that it came at and the rule that this breaks, and of a script that asks for no line of
@@ -163,7 +166,9 @@ pub fn explain_script<R, W: Write>(
     script: &Kept<R>,
     outcome: Result<(), AppFault>,
     out: &mut W,
-) -> io::Result<()> {
+) -> io::Result<()>
+    ensures { script.now.whole ≡ true → OnOk result (spec.TellsStop script.now.lines outcome (W.contents out.old) (W.contents out.new)) }
+{
     if !script.is_whole() {
         return Ok(());
     }

@@ -1,9 +1,12 @@
 //! What is told of a stream that was read.
+ghost use Rattle.std.specs.Prelude.{◌≡◌, ◌+◌, ◌-◌, OnOk, true};
+ghost use Rattle.std.specs.Io.Iter.{u64_saturate};
+ghost use Rattle.tk_explain.specs.Telling.{TellsFault, TellsLine, line_after};
 
 use crate::kept::Kept;
-use crate::rules::fault_rule;
+use crate::rules::{Rule, fault_rule, tell_rule};
 use crate::shapes::shape_of;
-use crate::shown::show_line;
+use crate::shown::{line_after, show_numbered};
 use std::io;
 use std::io::Write;
 use tk_client::Fault;
@@ -42,22 +45,18 @@ fn explain_fault<R, W: Write>(
     lines: u64,
     fault: Fault,
     out: &mut W,
-) -> io::Result<()> {
-    let mut kept = Pieces::new(stream.bytes(), b'\n');
-    for _ in stream.lines_before()..lines {
-        kept.next();
-    }
-    let Some(line) = kept.next() else {
+) -> io::Result<()>
+    ensures { OnOk result (TellsLine (u64_saturate (lines + 1)) (line_after stream.now.lines.bytes (lines - stream.now.lines.before))
+        (W.contents out.old) (W.contents out.new)) }
+{
+    let place = lines.saturating_sub(stream.lines_before());
+    let Some(line) = line_after(stream.bytes(), place) else {
         return Ok(());
     };
-    let number = lines.saturating_add(1);
-    write!(out, "  {number} | ")?;
-    show_line(line, out)?;
-    writeln!(out)?;
-    let rule = fault_rule(fault, lines);
-    writeln!(out, "  {rule}")?;
+    show_numbered(lines.saturating_add(1), line, out)?;
+    tell_rule(Rule::plain(fault_rule(fault, lines)), out)?;
     if fault == Fault::BadJson && is_of_script(line) {
-        return writeln!(out, "  it looks like a script, which `taskscope run` takes");
+        return out.write_all(b"  it looks like a script, which `taskscope run` takes\n");
     }
     Ok(())
 }
@@ -70,7 +69,9 @@ pub fn explain_stream<R, W: Write>(
     stream: &Kept<R>,
     outcome: Result<u64, AppFault>,
     out: &mut W,
-) -> io::Result<()> {
+) -> io::Result<()>
+    ensures { stream.now.whole ≡ true → OnOk result (TellsFault stream.now.lines outcome (W.contents out.old) (W.contents out.new)) }
+{
     if !stream.is_whole() {
         return Ok(());
     }

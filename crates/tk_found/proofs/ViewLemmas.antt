@@ -3,11 +3,12 @@ use Rattle.std.proofs.Common.{◌≡◌, ℕ, List, length, Bool, Option, Ok, Er
 use Rattle.std.specs.Io.KnownBytes.{Appends}
 use Rattle.tk_stream.specs.Sent.{IsCut}
 use Rattle.tk_stream.specs.Tables.{TablesView}
+use Rattle.tk_client.specs.Changes.{Timed}
 use Rattle.tk_client.specs.Feeding.{ClientView}
 use Rattle.tk_fault.specs.declared.fault.AppFault.{AppFault}
 use Rattle.tk_fault.specs.declared.fault.AppFault.TheVariants as faults
 use Rattle.tk_reading.specs.Reads.{Reads, SawAll}
-use Rattle.tk_reading.specs.Shown.{shown_of}
+use Rattle.tk_reading.specs.Shown.{shown_of, tables_of}
 use Rattle.tk_report.specs.declared.view.View.{View}
 use Rattle.tk_odd.specs.declared.diagnosis.Diagnosis.{Diagnosis}
 use Rattle.tk_odd.specs.declared.limits.Limits.{Limits}
@@ -17,8 +18,8 @@ use Rattle.tk_odd.specs.Inner.{Follows}
 use Rattle.tk_found.specs.Views.{LeadToFindings, ViewsFindings, found_in, found_text}
 
 -- what a diagnosis has seen, from what it was
-abbrev pub saw : Diagnosis → List TablesView → Diagnosis → Type 0
-saw from shown it = Follows shown it × (it.limits ≡ from.limits)
+abbrev pub saw : Diagnosis → List Timed → Diagnosis → Type 0
+saw from seen it = Follows (tables_of seen) it × (it.limits ≡ from.limits)
 
 module _ (from : Diagnosis) (view : View) (times : Bool) (given left old new : Option (List ℕ)) (client : ClientView) (it : Diagnosis) where
   -- a stream that isn't taken isn't shown

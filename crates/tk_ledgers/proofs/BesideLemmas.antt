@@ -1,6 +1,7 @@
--- Readings beside a hand: the row is that after the hand's calls.
-use Rattle.std.proofs.Common.{◌≡◌, ℕ, List, [], ◌∷◌, ◌++◌, Some, refl, ap, sym, ◌∙◌, subst, append_assoc, ⊎_elim}
+-- Calls beside another token; and readings beside a hand: the row is that after the hand's calls.
+use Rattle.std.proofs.Common.{◌≡◌, ℕ, ◌+◌, List, [], ◌∷◌, ◌++◌, length, Some, refl, ap, sym, ◌∙◌, subst, arith, append_assoc, length-append, ⊎_elim}
 use Rattle.std.proofs.lemmas.List.{append-nil}
+use mathlib.Core.List.{IsPrefix}
 use Rattle.tk_core.specs.declared.history.Entry.{Entry}
 use Rattle.tk_core.specs.declared.reply.Reply.{Reply}
 use Rattle.tk_core.specs.declared.reply.Reply.TheVariants.{Shown}
@@ -24,11 +25,63 @@ use Rattle.tk_core.specs.Laws.OpSteps as op_steps
 use Rattle.tk_core.specs.Laws.ResourceSteps as resource_steps
 use Rattle.tk_core.specs.Laws.TaskSteps as task_steps
 use Rattle.tk_cell.specs.declared.view.View.{View}
-use Rattle.tk_cell.specs.Calls.{entry}
+use Rattle.tk_cell.specs.Calls.{entry, Calls}
 use Rattle.tk_cell.specs.Ours.{Interleaves, ours, CallsBeside, HoldTheirOwn}
 use Rattle.tk_cell.proofs.BesideLemmas.{is_after_theirs}
 use Rattle.tk_cell.proofs.ListLemmas.{snoc_cases}
+use Rattle.tk_cell.proofs.RoleLemmas.{longer_second}
 use Rattle.tk_ledgers.specs.Beside.{AllRead, ShowsCallsOf, ShowsTheirCalls}
+
+-- ---- a call beside another token is a call
+
+module _ {O C R : Type 0} (m : Meaning O C R) (v q w u : View O C R) (call : C) (reply : R) (k : CallsBeside m v q call reply w u) where
+  abbrev met : List (Entry C R)
+  met = k.v_met.seen
+
+  -- the call, of who had met the hand
+  met_call : Calls m (record q { seen = met }) call reply k.q_called
+  met_call = subst (λ (x : View O C R). Calls m x call reply k.q_called) k.before.second_is k.entry
+
+  too_long : (a b between : List (Entry C R)) (e : Entry C R) → IsPrefix b a → b ≡ (a ++ between) ++ e ∷ [] → ⊥
+  too_long a b between e p grows =
+      let le : length b + length p.0 ≡ length a = sym (length-append b p.0) ∙ ap length p.1 in
+      let more : length b ≡ (length a + length between) + 1 = ap length grows ∙ (length-append (a ++ between) (e ∷ []) ∙ ap (λ (n : ℕ). n + 1) (length-append a between)) in
+      omega (arith, le, more)
+
+  -- after it both have seen what the caller then had seen
+  saw_call : w.seen ≡ k.q_called.seen
+  saw_call = ⊎_elim
+      (λ (t : IsPrefix met k.q_called.seen × (w.seen ≡ k.q_called.seen)). t.1)
+      (λ (t : IsPrefix k.q_called.seen met × (w.seen ≡ met)). absurd (too_long met k.q_called.seen met_call.between (entry q.caller call reply) t.0 met_call.grows))
+      k.again.longer
+
+  is_called : u ≡ k.q_called
+  is_called = k.again.second_is ∙ ap (λ (s : List (Entry C R)). record k.q_called { seen = s }) saw_call
+
+  -- a call beside a hand is a call
+  pub beside_is_call : Calls m q call reply u
+  beside_is_call = subst (λ (x : View O C R). Calls m q call reply x) (sym is_called) (
+      let c = met_call in
+      let p : IsPrefix q.seen met = longer_second m v.seen q.seen met k.before.longer in
+      record {
+        opening = c.opening;
+        opened = c.opened;
+        opens = c.opens;
+        between = p.0 ++ c.between;
+        grows = c.grows ∙ ap (λ (s : List (Entry C R)). (s ++ c.between) ++ entry q.caller call reply ∷ []) (sym p.1) ∙ ap (λ (s : List (Entry C R)). s ++ entry q.caller call reply ∷ []) (append_assoc q.seen p.0 c.between);
+        legal = c.legal;
+        mine = c.mine ∙ ap (λ (s : List (Entry C R)). s ++ entry q.caller call reply ∷ []) (k.before.second q.caller k.before.other_holds_itself);
+        others = λ n there ne. c.others n there ne ∙ k.before.second n there;
+        drawn = c.drawn;
+        now_held = c.now_held;
+        same_caller = c.same_caller;
+        same_opening = c.same_opening;
+        holds_itself = c.holds_itself;
+        distinct = c.distinct;
+        still_distinct = c.still_distinct;
+      })
+
+-- ---- readings beside a hand that holds the other callers
 
 module _ {Row C : Type 0} (m : Meaning Row C (Reply Row)) where
   -- the next row depends on the row and the call alone

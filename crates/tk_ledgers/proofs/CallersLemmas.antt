@@ -302,7 +302,7 @@ module _ {O C R : Type 0} (m : Meaning O C R) where
     reader_held none = ap (λ (x : View O C R). x.held) k.again.second_is
         ∙ (k.entry.now_held ∙ (ap (λ (o : Option ℕ). k.q_met.held ++ list_of o) none ∙ (append-nil k.q_met.held ∙ ap (λ (x : View O C R). x.held) k.before.second_is)))
 
-    same_own : (j : ℕ) → Holds v j → own j w.seen ≡ own j v.seen
+    pub same_own : (j : ℕ) → Holds v j → own j w.seen ≡ own j v.seen
     same_own j there =
         let here : Holds k.v_met j = subst (λ (l : List ℕ). 0 < times j l) (sym (ap (λ (x : View O C R). x.held) k.before.first_is)) there in
         k.again.first j here ∙ k.before.first j there

@@ -10,7 +10,7 @@ use Rattle.tk_cell.specs.declared.view.View.{View}
 use Rattle.tk_cell.specs.Views.{after_split, split_off}
 use Rattle.tk_cell.specs.Calls.{Calls, Joins, Meets}
 use Rattle.tk_cell.specs.Ours.{CallsBeside}
-use Rattle.tk_cell.proofs.RoleLemmas.{owner_role, made_role, owner_calls, made_calls, owner_after_split, made_after_split, owner_joins, made_joins, drawn_made, call_reply, second_caller, second_begins, second_mine, later_owner, later_made}
+use Rattle.tk_cell.proofs.RoleLemmas.{owner_role, made_role, owner_calls, made_calls, owner_after_split, made_after_split, owner_joins, made_joins, drawn_made, call_reply, first_caller, first_begins, first_mine, second_caller, second_begins, second_mine, later_owner, later_made}
 use Rattle.tk_ledgers.specs.Handles.{Caller, owner, made_by, role_may, HasRole, Gives, IsDrawing, IsReading, IsWake}
 
 module _ {O C R : Type 0} (m : Meaning O C R) where
@@ -42,6 +42,14 @@ module _ {O C R : Type 0} (m : Meaning O C R) where
   pub role_beside : (role : Caller C) (v q w u : View O C R) (call : C) (reply : R) → CallsBeside m v q call reply w u → m.is_last call ≡ false → HasRole m role q → HasRole m role u
   role_beside role v q w u call reply k isnt has =
       role_meets role k.v_met k.q_called w u k.again (role_calls role k.q_met call reply k.q_called k.entry isnt (role_meets role v q k.v_met k.q_met k.before has))
+
+  role_stays : (role : Caller C) (v q w u : View O C R) → Meets m v q w u → HasRole m role v → HasRole m role w
+  role_stays owner v q w u k has = later_owner m v w (first_caller m v q w u k) (first_begins m v q w u k) (first_mine m v q w u k) has
+  role_stays (made_by made) v q w u k has = later_made m v w (first_caller m v q w u k) (first_begins m v q w u k) (first_mine m v q w u k) made has
+
+  -- and of that other token
+  pub role_lends : (role : Caller C) (v q w u : View O C R) (call : C) (reply : R) → CallsBeside m v q call reply w u → HasRole m role v → HasRole m role w
+  role_lends role v q w u call reply k has = role_stays role k.v_met k.q_called w u k.again (role_stays role v q k.v_met k.q_met k.before has)
 
   -- the caller of a number that was drawn has the role that the drawing call gives
   pub drawn_role : (role : Caller C) (v : View O C R) (call : C) (reply : R) (w : View O C R) → Calls m v call reply w → NumbersAreNew m → role ≡ made_by call → (n : ℕ) → m.number reply ≡ Some n → HasRole m role (split_off n w)

@@ -79,7 +79,7 @@ times_more (Some a) b c xs ys p q =
     )
 
 -- a time that is added
-added_then : (old new : KnownTimes) (time : ℕ) → old.view.caller ≡ 0 → Calls times_meaning old.view (Add time) Done new.view → added_times new ≡ added_times old ++ time ∷ []
+pub added_then : (old new : KnownTimes) (time : ℕ) → old.view.caller ≡ 0 → Calls times_meaning old.view (Add time) Done new.view → added_times new ≡ added_times old ++ time ∷ []
 added_then old new time caller k =
     let mine : own 0 new.view.seen ≡ own 0 old.view.seen ++ entry 0 (Add time) Done ∷ [] = subst (λ (n : ℕ). own n new.view.seen ≡ own n old.view.seen ++ entry n (Add time) Done ∷ []) caller k.mine in
     ap (λ (h : List (Entry TimesCall (Reply TimesRow))). filter_map time_of (accepted is_accepted h)) mine

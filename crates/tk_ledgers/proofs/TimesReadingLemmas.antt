@@ -25,11 +25,14 @@ use Rattle.tk_core.specs.Laws.TimesLaws.{legal_fold}
 use Rattle.tk_cell.specs.declared.view.View.{View}
 use Rattle.tk_cell.specs.Views.{times, Holds}
 use Rattle.tk_cell.specs.Calls.{entry, Calls, Joins}
+use Rattle.tk_cell.specs.Ours.{CallsBeside}
 use Rattle.tk_cell.proofs.HistoryLemmas.{prefix_is_legal}
 use Rattle.tk_cell.proofs.ListLemmas.{dec_eq}
 use Rattle.tk_cell.proofs.RoleLemmas.{call_reply}
 use Rattle.tk_ledgers.specs.Tasks.{owner_calls}
 use Rattle.tk_ledgers.specs.Times.{added_times, runs_of, ShowsTimes, ShowsFirst, ShowsFirstPolls, ShowsAllPolls, ShowsFirstBefore}
+use Rattle.tk_ledgers.proofs.BesideLemmas.{beside_is_call}
+use Rattle.tk_ledgers.proofs.CallersLemmas.{same_own}
 use Rattle.tk_ledgers.proofs.OwnerLemmas.{accepted_append, picked_of_owner}
 
 abbrev Seen : Type 0
@@ -174,6 +177,19 @@ module _ (v : Seen) (row : TimesRow) (w : Seen) (k : Calls times_meaning v Read 
     ap (λ (r : TimesRow). r.longest) shown ∙ (longest_same calls_before ∙ ap (λ (ts : List ℕ). longest_of (map Add ts)) before),
     ap (λ (r : TimesRow). r.counts) shown ∙ (counts_same 0 14 calls_before ∙ ap (λ (ts : List ℕ). counts_from 0 14 (map Add ts)) before),
   )
+
+-- a reading beside the owner leaves the owner's list, and shows its times
+module _ (v q w u : Seen) (row : TimesRow) (caller : v.caller ≡ 0) (k : CallsBeside times_meaning v q Read (Shown row) w u) where
+  pub list_stays : own 0 w.seen ≡ own 0 v.seen
+  list_stays = same_own times_meaning v q w u Read (Shown row) k 0 (subst (λ (n : ℕ). Holds v n) caller k.before.holds_itself)
+
+  pub added_stay : times_in (accepted is_accepted (own 0 w.seen)) ≡ times_in (accepted is_accepted (own 0 v.seen))
+  added_stay = ap (λ (h : Log). times_in (accepted is_accepted h)) list_stays
+
+  pub shows_added : ShowsTimes row (times_in (accepted is_accepted (own 0 v.seen)))
+  shows_added = subst (λ (h : Log). ShowsTimes row (times_in (accepted is_accepted h)))
+      (ap (λ (x : Seen). own 0 x.seen) k.again.second_is ∙ list_stays)
+      (shows q row u (beside_is_call times_meaning v q w u Read (Shown row) k))
 
 counted : (row : TimesRow) (ts : List ℕ) → ShowsTimes row ts → All (λ (n : ℕ). n < 2 ^ 64 - 1) row.counts → sum row.counts ≡ length ts
 counted row ts shows all = ap (λ (l : List ℕ). sum l) shows.1 ∙ (added_up 0 14 ts (subst (λ (l : List ℕ). All (λ (n : ℕ). n < 2 ^ 64 - 1) l) shows.1 all) ∙ all_lie ts)

@@ -161,6 +161,25 @@ impl<O: Sequential<Reply = Reply<O>>, K: Role<O::Call>> Handle<O, K> {
         row
     }
 
+    /// Another handle of the ledger makes a call that shows the row, beside this one: both have seen the same before it and after it.
+    pub fn read_by<D: Role<O::Call>, R: Wait>(
+        &mut self,
+        rt: &R,
+        reader: &mut Handle<O, D>,
+        call: O::Call,
+    ) -> O
+        requires same { reader.old.ledger ≡ self.old.ledger }
+        requires may { role_may O.meaning D.role call ≡ true }
+        requires goes_on { O.meaning.is_last call ≡ false }
+        requires form { Gives O.meaning IsReading call }
+        ensures own { self.new.ledger ≡ self.old.ledger }
+        ensures reader { reader.new.ledger ≡ reader.old.ledger }
+        ensures beside { CallsBeside O.meaning self.old.view reader.old.view call (Shown result) self.new.view reader.new.view }
+        ensures role { HasRole O.meaning K.role self.old.view }
+    {
+        reader.read_beside(rt, &mut self.token, call)
+    }
+
     /// Makes a call that wakes, and isn't the caller's last.
     #[inline(always)]
     pub fn wake<R: Wait>(&mut self, rt: &R, call: O::Call) -> WakeReply

@@ -61,4 +61,4 @@ holds_nothing tasks wakers resources ops t w r o =
 -- and none is read
 pub links_nothing : (tasks : List TaskItem) (resources : List ResourceItem) (ops : List OpItem) (kept : List Offer) (settings : Settings) (a : Aggregating) → kept ≡ [] → a ≡ record (new_aggregating 0 settings.retention) { timing = no_timing settings.times } → AreLinked tasks resources ops kept a
 links_nothing tasks resources ops kept settings a none is =
-    subst (λ (p : List Offer × Aggregating). AreLinked tasks resources ops p.0 p.1) (λ j. (sym none j, sym is j)) (record { offers = tt; task_readers = tt; resource_readers = tt; op_readers = tt })
+    subst (λ (p : List Offer × Aggregating). AreLinked tasks resources ops p.0 p.1) (λ j. (sym none j, sym is j)) (record { offers = tt; task_readers = tt; times_readers = tt; resource_readers = tt; op_readers = tt })

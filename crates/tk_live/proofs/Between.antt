@@ -12,7 +12,7 @@ none_kept {X} ks xs is = ap (items_where_true ks) is ∙ by ks
     by (k ∷ ks) = refl
 
 -- what was kept is what was kept of the first ones and of the rest
-kept_apart : {X : Type 0} (n : ℕ) (ks : List Bool) (xs : List X) → items_where_true ks xs ≡ items_where_true (take n ks) (take n xs) ++ items_where_true (drop n ks) (drop n xs)
+pub kept_apart : {X : Type 0} (n : ℕ) (ks : List Bool) (xs : List X) → items_where_true ks xs ≡ items_where_true (take n ks) (take n xs) ++ items_where_true (drop n ks) (drop n xs)
 kept_apart zero ks xs = refl
 kept_apart (suc n) [] xs = refl
 kept_apart (suc n) (k ∷ ks) [] = sym (none_kept (drop n ks) [] refl)

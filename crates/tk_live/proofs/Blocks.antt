@@ -17,7 +17,7 @@ use Rattle.tk_script.specs.Words.{moment}
 use Rattle.tk_live.specs.Course.{Course, start_of_all, step, step_on, joined, line_after}
 use Rattle.tk_live.specs.Runs.{Represents, IsOpen, CommandResult, BlockLineResult, LineResult, block_of}
 use Rattle.tk_live.specs.Script.{Fronts}
-use Rattle.tk_live.specs.Stops.{StopReason, line_stop, stop_inside, stop_outside, LineStopReason, LineStopByEnvironment, WhereByEnvironment, InsideByEnvironment, OutsideByEnvironment, GateStops, JoinStop, TakesMemory, if_there, work_stop}
+use Rattle.tk_live.specs.Stops.{StopsBy, command_stop, line_stop, stop_inside, stop_outside, LineStopReason, LineStopByEnvironment, WhereByEnvironment, InsideByEnvironment, OutsideByEnvironment, GateStops, JoinStop, TakesMemory, if_there, work_stop}
 use Rattle.tk_live.specs.Threads.{Apart}
 use Rattle.tk_script.specs.declared.block.BlockSaid.{BlockSaid}
 use Rattle.tk_script.specs.declared.block.BlockSaid.TheVariants as blocks
@@ -61,10 +61,12 @@ with_block i settings c kept sent b stands = record {
   offered = stands.offered;
   takes = stands.takes;
   taken = stands.taken;
+  gone = stands.gone;
   has_told = stands.has_told;
   timed = stands.timed;
   holds = stands.holds;
   linked = stands.linked;
+  polled = stands.polled;
   capacity_said = stands.capacity_said;
   retention_said = stands.retention_said;
   times_said = stands.times_said;
@@ -81,10 +83,12 @@ opened i new settings c kept sent stands is = subst (λ (n : Interpreter). Repre
   offered = stands.offered;
   takes = stands.takes;
   taken = stands.taken;
+  gone = stands.gone;
   has_told = stands.has_told;
   timed = stands.timed;
   holds = stands.holds;
   linked = stands.linked;
+  polled = stands.polled;
   capacity_said = stands.capacity_said;
   retention_said = stands.retention_said;
   times_said = stands.times_said;
@@ -186,12 +190,12 @@ still_apart Two l b apart un n named = by_number (cases_eq n l.waker)
 
 -- a line that says a command, where no block is open
 pub said_came : (answers : ℕ → Bool → Type 0) (n : ℕ) (settings : Settings) (c : Course) (kept : List Bool) (sent : List Sending) (s : Said) (new : Interpreter) (block : Option OpenBlock) (result : Result (Unit {0}) Stop) (before after : Option (List ℕ))
-    → c.block ≡ None → IsOpen block c → CommandResult step_on settings c kept sent n s new result before after → LineResult answers settings c kept sent n (says s) new block result before after
+    → c.block ≡ None → IsOpen block c → CommandResult command_stop step_on settings c kept sent n s new result before after → LineResult answers settings c kept sent n (says s) new block result before after
 said_came answers n settings c kept sent s new block (Ok done) before after none was h =
     (outside c (says s) none ∙ h.0, h.1, h.2, h.3, open_same block c (step_on c n s) was (step_block c n s), h.4)
 said_came answers n settings c kept sent s new block (Err stop) before after none was h = (by_cause h.0, h.1, h.2, h.3)
   where
-    by_cause : StopReason c s stop → LineStopReason answers c (says s) stop
+    by_cause : StopsBy (command_stop c s) c s stop → LineStopReason answers c (says s) stop
     by_cause (inl e) = inl (outside c (says s) none ∙ e)
     by_cause (inr m) = inr (fails_outside c (says s) answers stop none m)
 

@@ -35,10 +35,10 @@ below (suc w) (suc i) le = ⊎_elim (λ (t : w ≤ i). inl (omega (arith, t))) (
 -- ---- one hand
 
 pub hand_same : (t : TaskItem) → IsHandOf t t
-hand_same t = record { id = refl; ledger = refl; closed = refl }
+hand_same t = record { id = refl; ledger = refl; closed = refl; times = refl; started = refl }
 
 pub hand_trans : (t u v : TaskItem) → IsHandOf t u → IsHandOf u v → IsHandOf t v
-hand_trans t u v p q = record { id = q.id ∙ p.id; ledger = q.ledger ∙ p.ledger; closed = q.closed ∙ p.closed }
+hand_trans t u v p q = record { id = q.id ∙ p.id; ledger = q.ledger ∙ p.ledger; closed = q.closed ∙ p.closed; times = q.times ∙ p.times; started = q.started ∙ p.started }
 
 lent_none : (Out : ℕ → Type 0) (t : TaskItem) → IsLent Out [] t t
 lent_none Out t = record { hand = hand_same t; opening = refl; seen = sym (append-nil t.callers.token.view.seen); quiet = tt; fewer = λ j h. h; rest = λ j h. inl h }

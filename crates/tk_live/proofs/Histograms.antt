@@ -9,24 +9,22 @@ use Rattle.tk_events.specs.declared.event.Event.{Event}
 use Rattle.tk_events.specs.declared.event.Event.TheVariants as events
 use Rattle.tk_events.specs.declared.event.Shown.{Shown}
 use Rattle.tk_events.specs.declared.item.Offer.{Offer}
-use Rattle.tk_core.specs.declared.times.row.TimesRow.{TimesRow}
 use Rattle.tk_ledgers.specs.Handles.{KnownTimes}
-use Rattle.tk_ledgers.specs.Times.{TimesSight}
-use Rattle.tk_stream.specs.Fronts.{with_rows}
 use Rattle.tk_stream.specs.Lines.{is_told, told_times}
 use Rattle.tk_stream.specs.Retention.{stats_without}
 use Rattle.tk_stream.specs.Streams.{Sending}
 use Rattle.tk_stream.specs.Tables.{is_among, staying, task_id, task_with, resource_with, op_with}
-use Rattle.tk_stream.specs.Times.{TaskTimes, times_id, times_shown, times_with, same_times}
+use Rattle.tk_stream.specs.Times.{TaskTimes, times_id, times_shown, same_times}
 use Rattle.tk_stream.proofs.LinesLemmas.{map-same}
-use Rattle.tk_aggregator.specs.Aggregates.{Aggregating, Gathers, TakesIn, TakesAllIn, TakesTimes, IsSound, Pairs, after_line, free, held_events, leaving_at, sending_at}
-use Rattle.tk_aggregator.specs.Readings.{ReadAll}
-use Rattle.tk_aggregator.specs.Timing.{TimingView, ReadTimes, ReadsTimes, times_ledger}
+use Rattle.tk_aggregator.specs.Aggregates.{Aggregating, Gathers, TakesIn, TakesAllIn, TakesTimes, IsSound, after_line, free, held_events, leaving_at, sending_at}
+use Rattle.tk_aggregator.specs.Timing.{TimingView}
 use Rattle.tk_aggregator.proofs.FollowLemmas.{TakesWhere, by_case}
 use Rattle.tk_aggregator.proofs.LeaveLemmas.{left_is}
 use Rattle.tk_aggregator.proofs.SendLemmas.{leads_on}
-use Rattle.tk_live.specs.Ran.{AreTimesOf, TellsTimes}
+use Rattle.tk_live.specs.Pasts.{Pasts}
+use Rattle.tk_live.specs.Ran.{AreTimesOf, IsPolledTask, TellsTimes}
 use Rattle.tk_live.specs.Runs.{HasTimes, HaveTimes}
+use Rattle.tk_live.proofs.Rows.{all_stay}
 
 -- ---- of all of two lists
 
@@ -117,21 +115,6 @@ gathered_times a b t u taken g none reads each all =
     let have : AllByRecursion Has (taken ++ held_events b.held) = subst (λ (l : List Event). AllByRecursion Has l) in_order came in
     (takes_all (free a) taken (free b) g.taken_in (all_first Has taken (held_events b.held) have) (reads, each)).1
 
--- ---- readings
-
-rows_ids : (xs : List TaskTimes) (ss : List TimesSight) (rows : List TimesRow) (ts : List TimesSight) → Pairs ReadTimes xs ss → ReadAll times_ledger ss rows ts → map times_id (with_rows times_with xs (map times_shown rows)) ≡ map times_id xs
-rows_ids [] ss [] ts pairs all = refl
-rows_ids [] ss (r ∷ rows) ts pairs all = refl
-rows_ids (x ∷ xs) [] rows ts pairs all = absurd pairs
-rows_ids (x ∷ xs) (s ∷ ss) [] [] pairs all = absurd all
-rows_ids (x ∷ xs) (s ∷ ss) [] (t ∷ ts) pairs all = absurd all
-rows_ids (x ∷ xs) (s ∷ ss) (r ∷ rows) [] pairs all = absurd all
-rows_ids (x ∷ xs) (s ∷ ss) (r ∷ rows) (t ∷ ts) pairs all = ap (λ ids. x.0 ∷ ids) (rows_ids xs ss rows ts pairs.1 all.1)
-
--- reading keeps tasks and histograms
-pub read_times : (a b : Aggregating) → ReadsTimes a.timing b.timing → Pairs ReadTimes a.timing.shown a.timing.readers → map times_id b.timing.shown ≡ map times_id a.timing.shown
-read_times a b reads pairs = ap (λ (t : TimingView). map times_id t.shown) reads.2 ∙ rows_ids a.timing.shown a.timing.readers reads.0 b.timing.readers pairs reads.1
-
 -- ---- a line
 
 -- the ids of what stays
@@ -174,11 +157,10 @@ line_one_each whole a now each =
     ∙ ap (λ (x : Aggregating). map task_id x.tables.tasks) (left_is whole a now)
 
 -- the line tells the histograms of its tasks, where these are read
-module _ (whole : Bool) (a : Aggregating) (now : ℕ) (sound : IsSound a) (later : IsSound (after_line whole a now)) where
-  tells_all : a.timing.reads ≡ true → map times_id a.timing.shown ≡ map task_id a.tables.tasks → AreTimesOf a.told a.timing.told (sending_at whole a now)
+module _ (ps : Pasts) (whole : Bool) (a : Aggregating) (now : ℕ) (sound : IsSound a) (polls : AllByRecursion (IsPolledTask ps) a.timing.shown) where
+  tells_all : a.timing.reads ≡ true → map times_id a.timing.shown ≡ map task_id a.tables.tasks → AreTimesOf ps a.told a.timing.told (sending_at whole a now)
   tells_all reads each =
       let s : Sending = sending_at whole a now in
-      let b = after_line whole a now in
       let base : List TaskTimes = if whole then [] else a.timing.told in
       let gone = (leaving_at whole a now).tasks in
       let leads = leads_on a now whole sound in
@@ -187,11 +169,10 @@ module _ (whole : Bool) (a : Aggregating) (now : ℕ) (sound : IsSound a) (later
             ap (λ r. if r then Some (stats_without times_id gone (told_times base a.timing.shown)) else None) reads
             ∙ ap Some (told_stay gone base a.timing.shown ∙ ap (told_times base) (stay_shown whole a now ∙ sym leads));
         one_each = ap (map times_id) leads ∙ line_one_each whole a now each;
-        readers = b.timing.readers;
-        read = subst (λ (xs : List TaskTimes). Pairs ReadTimes xs b.timing.readers) (sym leads) later.times;
+        polls = subst (λ (xs : List TaskTimes). AllByRecursion (IsPolledTask ps) xs) (stay_shown whole a now ∙ sym leads) (all_stay (IsPolledTask ps) _ a.timing.shown polls);
       }
 
   -- and where these aren't it tells none
-  pub line_tells : (times : Bool) → a.timing.reads ≡ times → (times ≡ true → map times_id a.timing.shown ≡ map task_id a.tables.tasks) → TellsTimes times a.told a.timing.told (sending_at whole a now)
+  pub line_tells : (times : Bool) → a.timing.reads ≡ times → (times ≡ true → map times_id a.timing.shown ≡ map task_id a.tables.tasks) → TellsTimes times ps a.told a.timing.told (sending_at whole a now)
   line_tells true reads each = tells_all reads (each refl)
   line_tells false reads each = ap (λ r. if r then Some (stats_without times_id (leaving_at whole a now).tasks (told_times (if whole then [] else a.timing.told) a.timing.shown)) else None) reads

@@ -1,6 +1,6 @@
 -- What a block of threads leaves of the tasks whose wakers it ran.
 use Rattle.std.proofs.Common.{◌≡◌, ℕ, zero, suc, ◌+◌, ◌<◌, ◌≤◌, ◌⊎◌, ◌==◌, ◌||◌, Bool, true, false, cond, filter, not, List, [], ◌∷◌, ◌++◌, Option, Some, None, refl, ap, sym, ◌∙◌, subst, arith, append_assoc, inl, inr, ⊎_elim}
-use Rattle.std.specs.Prelude.{map, if◌then◌else◌, unwrap_or, is_some}
+use Rattle.std.specs.Prelude.{map, if◌then◌else◌, unwrap_or, is_some, option_map}
 use Rattle.std.specs.List.{AllByRecursion}
 use Rattle.std.specs.Option.{option_or}
 use Rattle.std.proofs.Math.Bool.{or-false}
@@ -23,6 +23,7 @@ use Rattle.tk_cell.specs.declared.view.View.{View}
 use Rattle.tk_cell.specs.Views.{times, Holds}
 use Rattle.tk_cell.specs.Ours.{is_held, of_held, ours}
 use Rattle.tk_ledgers.specs.Callers.{HoldsAllBut}
+use Rattle.tk_ledgers.specs.Times.{TimesSight, runs_of}
 use Rattle.tk_live.specs.Blocks.{Block, is_named, spends, call_of, calls_by, calls_on, tasks_after, wakers_after, lines_of_both, after_block}
 use Rattle.tk_live.specs.Handed.{TaskEntries, IsQuiet, IsLiveIn, Share, its_lines, is_out, IsOut, IsLent, calls_for, IsBackFrom, TakenBack}
 use Rattle.tk_live.specs.Items.{EachFrom, IsTask, woken_by, HoldsTasks}
@@ -146,6 +147,9 @@ module _ (n : ℕ) (p : TaskPast) (t u : TaskItem) (Out : ℕ → Type 0) (more 
     closed = ap (λ (o : Option ℕ). is_some o) (last_quiet close_at is.calls extra (all_map IsQuiet (λ (e : E). close_at e.call ≡ None) extra (λ e q. q.closes_not) l.quiet))
         ∙ (is.closed ∙ sym (ap (λ (cs : List TaskCall). is_some (last_of close_at cs)) (outside_beside p.called lists)));
     is_closed = l.hand.closed ∙ (is.is_closed ∙ sym (ap (λ (cs : List TaskCall). is_some (last_of close_at cs)) (outside_beside p.called lists)));
+    times = λ o at. let was = is.times o (sym l.hand.times ∙ at) in (was.0, was.1 ∙ ap (λ (cs : List TaskCall). runs_of cs) (sym (outside_beside p.called lists)));
+    started = λ polls. ap (last_of start_at) (outside_beside p.called lists)
+        ∙ (is.started (sym (ap (is_polling start_at end_at) (outside_beside p.called lists)) ∙ polls) ∙ ap (λ m. Some m) (sym l.hand.started));
   }
 
 -- ---- lines of both workers
@@ -193,7 +197,7 @@ joined_same share wakers before now back = go 1 before now back.tasks
     go n [] [] b = tt
     go n [] (u ∷ us) b = absurd b
     go n (t ∷ ts) [] b = absurd b
-    go n (t ∷ ts) (u ∷ us) b = ((b.0.1.hand.id, b.0.1.hand.ledger), go (n + 1) ts us b.1)
+    go n (t ∷ ts) (u ∷ us) b = ((b.0.1.hand.id, b.0.1.hand.ledger, ap (option_map (λ (o : TimesSight). o.token.ledger)) b.0.1.hand.times), go (n + 1) ts us b.1)
 
 module _ (share : Share) (ls : List WorkerLine) (same : (w : ℕ) → calls_by w (share w) ≡ calls_by w ls) (wakers : List (Option WakerItem)) where
   -- none is out any more

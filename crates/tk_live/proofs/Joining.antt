@@ -28,7 +28,7 @@ same_stay : (old new : List TaskItem) → AreSameTasks old new → TasksStay old
 same_stay old new same n t made =
     let p = made_place n old t made in
     let q = same_get _ old new p.0 t same p.2 in
-    (q.0, at_place n p.0 new p.1 ∙ q.1, q.2.1)
+    (q.0, at_place n p.0 new p.1 ∙ q.1, q.2.1, q.2.2)
 
 -- a block makes no task
 after_long : (n : ℕ) (wakers : List (Option ℕ)) (ls : List WorkerLine) (ps : List TaskPast) → length (tasks_after n wakers ls ps) ≡ length ps
@@ -43,10 +43,12 @@ unblocked i settings c b kept sent stands = record {
   offered = stands.offered;
   takes = stands.takes;
   taken = stands.taken;
+  gone = stands.gone;
   has_told = stands.has_told;
   timed = stands.timed;
   holds = stands.holds;
   linked = stands.linked;
+  polled = stands.polled;
   capacity_said = stands.capacity_said;
   retention_said = stands.retention_said;
   times_said = stands.times_said;

@@ -17,7 +17,7 @@ use Rattle.tk_aggregator.specs.Aggregates.{Aggregating, IsSound, pruned, tables_
 use Rattle.tk_aggregator.specs.Contents.{Content, content_of}
 use Rattle.tk_aggregator.proofs.FollowLemmas.{infos_left}
 use Rattle.tk_live.specs.Course.{Due}
-use Rattle.tk_live.specs.Ran.{infos_with, leaving, times_led_to, kept_between, IsLineOf, AreLinesOf}
+use Rattle.tk_live.specs.Ran.{infos_with, leaving, times_led_to, kept_between, lost_first, IsLineOf, AreLinesOf}
 use Rattle.tk_live.specs.Runs.{RiseTo, recorded_by}
 use Rattle.tk_script.specs.declared.settings.Settings.{Settings}
 
@@ -63,10 +63,19 @@ just_due false a now sound removes = by a.retention removes
     by None none = absurd cc
     by (Some r) some = ap gone_of (sym (pruned_line a.told a.tables now r 1 (distinct_begin a.told a.tables sound.on sound.fit.distinct) sound.on))
 
+-- a line has the totals of dropped events that are there
+pub dropped_stay : (whole : Bool) (a : Aggregating) (now : ℕ) → (tables_at whole a now).dropped ≡ a.tables.dropped
+dropped_stay true a now = refl
+dropped_stay false a now = by a.retention
+  where
+    by : (o : Option ℕ) → (pruned o a now).tables.dropped ≡ a.tables.dropped
+    by None = refl
+    by (Some r) = refl
+
 -- ---- one line more
 
 pub lines_push : (settings : Settings) (kept : List Bool) (told : List Content) (t : TablesView) (had : List TaskTimes) (from : ℕ) (due : List Due) (sent : List Sending) (d : Due) (s : Sending) → AreLinesOf settings kept told t had from due sent
-    → IsLineOf settings (tables_sent t sent) (times_sent had t sent) (kept_between kept told (recorded_by from due) d.recorded) d s → AreLinesOf settings kept told t had from (due ++ d ∷ []) (sent ++ s ∷ [])
+    → IsLineOf settings (tables_sent t sent) (times_sent had t sent) (kept_between kept told (recorded_by from due) d.recorded) (lost_first kept told d.recorded) d s → AreLinesOf settings kept told t had from (due ++ d ∷ []) (sent ++ s ∷ [])
 lines_push settings kept told t had from [] [] d s each line = (line, tt)
 lines_push settings kept told t had from [] (y ∷ ys) d s each line = absurd each
 lines_push settings kept told t had from (e ∷ es) [] d s each line = absurd each

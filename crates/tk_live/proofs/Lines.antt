@@ -1,23 +1,28 @@
 -- Lines, one after the other.
-use Rattle.std.proofs.Common.{◌≡◌, ℕ, ◌+◌, ◌≤◌, List, [], ◌∷◌, ◌++◌, length, length-append, Bool, Option, Result, Ok, Err, refl, sym, ap, ◌∙◌, subst, arith}
-use Rattle.std.specs.Prelude.{◌==◌, ◌||◌, not, fold}
+use Rattle.std.proofs.Common.{◌≡◌, ℕ, ◌+◌, ◌-◌, ◌^◌, ◌≤◌, ◌<◌, List, [], ◌∷◌, ◌++◌, length, length-append, Bool, Option, Some, Result, Ok, Err, inl, inr, refl, sym, ap, ◌∙◌, subst, arith}
+use Rattle.std.specs.Prelude.{◌==◌, ◌||◌, if◌then◌else◌, min, not, fold}
 use Rattle.std.specs.List.{enumerate_from}
 use Rattle.std.proofs.KnownBytes.{Appends-nil}
+use Rattle.std.proofs.lemmas.Bool.{le-ltb, lt-ltb}
 use Rattle.std.proofs.lemmas.List.{append-nil}
 use Rattle.std.proofs.lemmas.List.Sums.{fold-append, count_by-le-length}
 use Rattle.std.proofs.lemmas.List.Splits.{length-slice_split}
 use Rattle.tk_stream.specs.Streams.{Sending}
-use Rattle.tk_script.specs.Commands.{Said, Line, says, bad, is_setting}
+use Rattle.tk_script.specs.Commands.{Said, Line, says, bad, is_setting, polls_in}
 use Rattle.tk_script.specs.Commands as said
 use Rattle.tk_live.specs.Course.{Course, step, step_on, start_of_all, line_after, course_of}
 use Rattle.tk_script.specs.Pieces.{pieces_at}
 use Rattle.tk_live.specs.Runs.{Represents, SilentSpec, CommandSpec}
 use Rattle.tk_live.specs.Script.{FrontOf}
-use Rattle.tk_live.specs.Stops.{Goes, AllGo}
+use Rattle.tk_live.specs.Stops.{Goes, AllGo, StopReason, StopsBy, command_stop, most_polls, stop_by_text}
 use Rattle.tk_live.specs.declared.interpreter.Interpreter.{Interpreter}
 use Rattle.tk_script.specs.declared.stop.Stop.{Stop}
-use Rattle.tk_script.specs.declared.stop.Stop.TheVariants.{BadCommand, NoSuchItem, Call, OffersSpent, Clock, NumbersSpent, Memory, WriteFault, NoThread, Stopped}
+use Rattle.tk_script.specs.declared.stop.Stop.TheVariants.{BadCommand, TooManyPolls, NoSuchItem, Call, OffersSpent, Clock, NumbersSpent, Memory, WriteFault, NoThread, Stopped}
 use Rattle.tk_script.specs.declared.settings.Settings.{Settings}
+
+-- a line that makes too many polls writes nothing
+pub many_is_no_write : TooManyPolls ≡ WriteFault → ⊥
+many_is_no_write e = cc
 
 -- no line was sent
 pub unsent : (i : Interpreter) (settings : Settings) (k : Course) (kept : List Bool) (sent : List Sending) → Represents i settings k kept sent → Represents i settings k kept (sent ++ [])
@@ -28,7 +33,7 @@ pub unmarked : (i : Interpreter) (settings : Settings) (k : Course) (kept : List
 unmarked i settings k kept sent stands = subst (λ (m : List Bool). Represents i settings k m sent) (sym (append-nil kept)) stands
 
 -- a command that writes nothing
-pub quietly : (line : ℕ) (s : Said) (old new : Interpreter) (result : Result (Unit {0}) Stop) (before : Option (List ℕ)) → SilentSpec line s old new result → ((sent : List Sending) (stop : Stop) → FrontOf sent s stop []) → CommandSpec step line s old new result before before
+pub quietly : (line : ℕ) (s : Said) (old new : Interpreter) (result : Result (Unit {0}) Stop) (before : Option (List ℕ)) → SilentSpec line s old new result → ((sent : List Sending) (stop : Stop) → FrontOf sent s stop []) → CommandSpec stop_by_text step line s old new result before before
 quietly line s old new (Ok done) before does fronts settings c kept sent stands =
     let d = does settings c kept sent stands in
     (d.0, d.1, [], unsent new settings (step c line s) (kept ++ d.1) sent d.2, Appends-nil before)
@@ -37,18 +42,20 @@ quietly line s old new (Err stop) before does fronts settings c kept sent stands
 
 -- a command is begun
 pub begun : (i new : Interpreter) (settings : Settings) (c : Course) (line : ℕ) (s : Said) (kept : List Bool) (sent : List Sending) → Represents i settings (step c line s) kept sent
-    → (b : Bool) → new ≡ record i { begun = b } → b ≡ (not (is_setting s) || c.begun)
+    → (n : ℕ) (b : Bool) → new ≡ record i { polled = n; begun = b } → n ≡ c.polled + polls_in s → b ≡ (not (is_setting s) || c.begun)
     → Represents new settings (step_on c line s) kept sent
-begun i new settings c line s kept sent stands b is same = subst (λ (n : Interpreter). Represents n settings (step_on c line s) kept sent) (sym is) (record {
+begun i new settings c line s kept sent stands n b is count same = subst (λ (n : Interpreter). Represents n settings (step_on c line s) kept sent) (sym is) (record {
   came = stands.came;
   rise = stands.rise;
   offered = stands.offered;
   takes = stands.takes;
   taken = stands.taken;
+  gone = stands.gone;
   has_told = stands.has_told;
   timed = stands.timed;
   holds = stands.holds;
   linked = stands.linked;
+  polled = count;
   capacity_said = stands.capacity_said;
   retention_said = stands.retention_said;
   times_said = stands.times_said;
@@ -57,9 +64,28 @@ begun i new settings c line s kept sent stands b is same = subst (λ (n : Interp
   times_is = stands.times_is;
 })
 
+-- too many polls, with those of a command
+pub too_many : (c : Course) (s : Said) (polled more all : ℕ) → polled ≡ c.polled → more ≡ polls_in s → all ≡ min (polled + more) (2 ^ 64 - 1) → most_polls < all → command_stop c s ≡ Some TooManyPolls
+too_many c s polled more all is count sum many =
+    let over : most_polls < c.polled + polls_in s = omega (arith, is, count, sum, many) in
+    ap (λ (b : Bool). if b then Some TooManyPolls else stop_by_text c s) (lt-ltb most_polls (c.polled + polls_in s) over)
+
+-- and not too many
+pub few_enough : (c : Course) (s : Said) (polled more all : ℕ) → polled ≡ c.polled → more ≡ polls_in s → all ≡ min (polled + more) (2 ^ 64 - 1) → all ≤ most_polls
+    → (command_stop c s ≡ stop_by_text c s) × (all ≡ c.polled + polls_in s)
+few_enough c s polled more all is count sum few =
+    let under : c.polled + polls_in s ≤ most_polls = omega (arith, is, count, sum, few) in
+    (ap (λ (b : Bool). if b then Some TooManyPolls else stop_by_text c s) (le-ltb most_polls (c.polled + polls_in s) under), omega (arith, is, count, sum, few))
+
+-- why it stops then
+pub stops_still : (c : Course) (s : Said) (stop : Stop) → command_stop c s ≡ stop_by_text c s → StopReason c s stop → StopsBy (command_stop c s) c s stop
+stops_still c s stop same (inl by_text) = inl (same ∙ by_text)
+stops_still c s stop same (inr other) = inr other
+
 -- nothing goes out of a command that stops, but at a fault of the writer
 publish_front : (sent : List Sending) (m : ℕ) (whole : Bool) (stop : Stop) → (stop ≡ WriteFault → ⊥) → FrontOf sent (said.publish m whole) stop []
 publish_front sent m whole BadCommand ne = refl
+publish_front sent m whole TooManyPolls ne = refl
 publish_front sent m whole NoSuchItem ne = refl
 publish_front sent m whole (Call refusal) ne = refl
 publish_front sent m whole OffersSpent ne = refl

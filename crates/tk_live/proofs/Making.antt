@@ -1,6 +1,7 @@
 -- What an interpreter stands for after the offer of a new item.
 use Rattle.std.proofs.Common.{◌≡◌, ℕ, ◌+◌, ◌<◌, ◌≤◌, ◌⊎◌, true, false, inr, List, [], ◌∷◌, ◌++◌, Bool, length, Some, None, Option, refl, sym, ap, ◌∙◌, subst, arith, length-append}
-use Rattle.std.specs.Prelude.{IsSome, is_some}
+use Rattle.std.specs.Prelude.{IsSome, is_some, option_map}
+use Rattle.std.specs.List.{filter_map}
 use Rattle.std.specs.Global.{Vec}
 use Rattle.tk_ids.specs.Ids.{id_of}
 use Rattle.tk_ids.specs.declared.attr.AttrSpec.{AttrSpec}
@@ -14,6 +15,11 @@ use Rattle.tk_core.specs.declared.reply.Reply.{Reply}
 use Rattle.tk_core.specs.declared.reply.Reply.TheVariants.{Number}
 use Rattle.tk_core.specs.declared.resource.call.ResourceCall.TheVariants as resource_calls
 use Rattle.tk_core.specs.declared.task.call.TaskCall.TheVariants.{Enlist}
+use Rattle.tk_core.specs.declared.times.call.TimesCall.TheVariants as times_calls
+use Rattle.tk_core.specs.Fold.{is_accepted}
+use Rattle.tk_core.specs.History.{accepted}
+use Rattle.tk_core.specs.Legal.{own}
+use Rattle.tk_core.specs.Times.{opening_row, time_of}
 use Rattle.tk_core.specs.Lists.{last_of}
 use Rattle.tk_core.specs.Meaning.{Meaning}
 use Rattle.tk_core.specs.Op as op_rules
@@ -37,10 +43,12 @@ use Rattle.tk_ledgers.specs.Handles.{KnownTimes}
 use Rattle.tk_ledgers.specs.Ops.{OpSight}
 use Rattle.tk_ledgers.specs.Resources.{ResourceSight}
 use Rattle.tk_ledgers.specs.Tasks.{TaskSight}
+use Rattle.tk_ledgers.specs.Times.{IsOfTask, TimesSight, added_times, known_times}
+use Rattle.tk_ledgers.proofs.TimedLemmas.{runs_silent}
 use Rattle.tk_stream.specs.Streams.{Sending}
 use Rattle.tk_aggregator.specs.Contents.{Content, made_task, made_resource, made_op, polled}
 use Rattle.tk_live.specs.Course.{Course, place, step, script_task_info, script_resource_info, script_op_info}
-use Rattle.tk_live.specs.Items.{IsTask, IsResource, IsOp, AreWakers, Holds, HoldsTasks}
+use Rattle.tk_live.specs.Items.{IsTask, IsResource, IsOp, AreWakers, Holds, HoldsTasks, times_ledger_of}
 use Rattle.tk_live.specs.Named.{made_item}
 use Rattle.tk_live.specs.Pasts.{Pasts, new_task, new_resource, new_op}
 use Rattle.tk_live.specs.Runs.{Represents, numbers_of, Offered}
@@ -114,11 +122,28 @@ module _ {Row C : Type 0} (m : Meaning Row C (Reply Row)) (numbers : m.number (N
   pub first_called : HasCalled m (1 ∷ []) row (enlist ∷ []) (events.owner_view enlist row)
   first_called = record { opened = refl; in_order = refl; accepted = (refl, tt); holds = holds_first }
 
+-- the histogram of a new task has no times
+no_times : (t : KnownTimes) → t.view ≡ events.owner_view times_calls.Enlist opening_row → added_times t ≡ []
+unfolding accepted
+no_times t is = ap (λ v. filter_map time_of (accepted is_accepted (own 0 v.seen))) is
+
+new_times : (b : Bool) (times : Option KnownTimes) (t : KnownTimes) → HasTimesAs b times → times ≡ Some t → added_times t ≡ []
+new_times true times t has is = let same : t ≡ has.0 = some_same (sym is ∙ has.1) in ap added_times same ∙ no_times has.0 has.2
+  where
+    some_same : {x y : KnownTimes} → Some x ≡ Some y → x ≡ y
+    some_same e = cc
+new_times false times t none is = absurd (let e : None ≡ Some t = sym none ∙ is in cc)
+
+-- an owner's histogram is of the ledger that is known
+pub known_ledger : (o : Option TimesSight) (k : Option KnownTimes) → known_times o ≡ k → option_map (λ (s : TimesSight). s.token.ledger) o ≡ times_ledger k
+known_ledger None k e = ap times_ledger e
+known_ledger (Some s) k e = ap times_ledger e
+
 -- what is kept of a new task is one
 pub is_new_task : (item : TaskItem) (owner : TaskSight) (waits : Bool) (created n : ℕ) → item.callers.id ≡ owner.id → item.callers.token ≡ owner.token → item.closed ≡ false → owner.id ≡ id_of 1 n
-    → owner.token.view ≡ events.owner_view Enlist (opening_as waits created) → IsTask n (new_task waits created) item
+    → owner.token.view ≡ events.owner_view Enlist (opening_as waits created) → known_times item.times ≡ owner.times → IsOfTask owner.id item.times → (b : Bool) → HasTimesAs b owner.times → IsTask n (new_task waits created) item
 unfolding last_of
-is_new_task item owner waits created n id token unclosed id_is view = record {
+is_new_task item owner waits created n id token unclosed id_is view times task b has = record {
   id = id ∙ id_is;
   calls = Enlist ∷ [];
   order = ([], refl, refl);
@@ -126,6 +151,11 @@ is_new_task item owner waits created n id token unclosed id_is view = record {
   polled = refl;
   closed = refl;
   is_closed = unclosed;
+  times = λ o at. (
+    subst (IsOfTask owner.id) at task ∙ id_is,
+    new_times b owner.times o.token has (sym times ∙ ap known_times at) ∙ sym (runs_silent [] Enlist refl),
+  );
+  started = λ polls. absurd (let no : false ≡ true = polls in cc);
 }
 
 -- and of a new operation
@@ -200,15 +230,15 @@ one_longer xs ys z is = λ n x at. ap (made_item n) is ∙ made_still xs z n x a
 
 -- what it stood for, and an offer that the recorder made, whatever became of it
 module _ (i new : Interpreter) (settings : Settings) (c : Course) (kept : List Bool) (sent : List Sending) (stands : Represents i settings c kept sent) (same : IsSameRecorder i.recorder new.recorder) (left : offers_made i.recorder ≡ i.recorder.limit → ⊥) (became : Recorded)
-    (full : became ≡ DroppedFull → i.recorder.recorders ≡ 1 → i.recorder.capacity ≤ length i.recorder.kept) where
+    (full : became ≡ DroppedFull → i.recorder.recorders ≡ 1 → i.recorder.capacity + i.recorder.gone ≤ length i.recorder.kept) where
   -- it was that of a new task, of which this is kept
   pub task_made : (spec : TaskSpec) (owner : TaskSight) (item : TaskItem) (line created : ℕ) (kind : TaskKind) (name : List ℕ)
       → (became ≡ Kept → new.recorder ≡ with_kept i.recorder (next_offer i.recorder (MadeTask (events.task_info (next_task_id i.recorder) spec) owner.token.ledger 1 (times_ledger owner.times))))
       → (became ≡ DroppedFull → new.recorder ≡ with_refused i.recorder (next_offer i.recorder (MadeTask (events.task_info (next_task_id i.recorder) spec) owner.token.ledger 1 (times_ledger owner.times))))
-      → (spec.kind ≡ kind) × (spec.name ≡ name) × (spec.location ≡ place line) → (settings.times ≡ true → IsSome owner.times) → ((n : ℕ) → owner.id ≡ id_of 1 n → IsTask n (new_task c.waits_said created) item)
+      → (spec.kind ≡ kind) × (spec.name ≡ name) × (spec.location ≡ place line) → (settings.times ≡ true → IsSome owner.times) → times_ledger_of item ≡ times_ledger owner.times → ((n : ℕ) → owner.id ≡ id_of 1 n → IsTask n (new_task c.waits_said created) item)
       → owner.id ≡ next_task_id i.recorder → item.callers.token.ledger ≡ owner.token.ledger → new ≡ record i { recorder = new.recorder; tasks = new.tasks } → new.tasks.items ≡ i.tasks.items ++ item ∷ []
       → (mark : Bool) × Represents new settings (step c line (said.task created kind name)) (kept ++ mark ∷ []) sent
-  task_made spec owner item line created kind name keeps drops spec_is timed is id ledger rest items =
+  task_made spec owner item line created kind name keeps drops spec_is timed histogram is id ledger rest items =
       let n = length c.pasts.tasks + 1 in
       let ps : Pasts = record c.pasts { tasks = c.pasts.tasks ++ new_task c.waits_said created ∷ [] } in
       let event = MadeTask (events.task_info (next_task_id i.recorder) spec) owner.token.ledger 1 (times_ledger owner.times) in
@@ -222,8 +252,10 @@ module _ (i new : Interpreter) (settings : Settings) (c : Course) (kept : List B
       (ap made_task (task_info_is i.recorder settings.capacity c.pasts c.told kept stands.offered spec line kind name spec_is))
       (λ t. has_ledger owner.times (timed t))
       (one_longer i.tasks.items new.tasks.items item items, as_long i.resources.items new.resources.items (ap (λ (v : Vec ResourceItem). v.items) resources), as_long i.ops.items new.ops.items (ap (λ (v : Vec OpItem). v.items) ops))
-      (subst (λ (l : List TaskItem × Vec ResourceItem × Vec OpItem). Holds l.0 i.wakers.items l.1.items l.2.items ps) (λ j. (sym items j, sym resources j, sym ops j)) (task_more i.tasks.items i.wakers.items i.resources.items i.ops.items c.pasts stands.holds c.waits_said created item (is n (id ∙ id_is))))
-      (n, item, id_is, ap (made_item n) items ∙ made_last i.tasks.items item n (ap (λ m. m + 1) long), ledger)
+      (subst (λ (l : List TaskItem × Vec ResourceItem × Vec OpItem). Holds l.0 i.wakers.items l.1.items l.2.items ps) (λ j. (sym items j, sym resources j, sym ops j)) (task_more i.tasks.items i.wakers.items i.resources.items i.ops.items c.pasts stands.holds c.waits_said created item (is n (id ∙ id_is)))) (
+        (n, item, id_is, ap (made_item n) items ∙ made_last i.tasks.items item n (ap (λ m. m + 1) long), ledger),
+        λ known of. (n, item, id_is, ap (made_item n) items ∙ made_last i.tasks.items item n (ap (λ m. m + 1) long), histogram ∙ of),
+      )
 
   -- of a new resource
   pub resource_made : (spec : ResourceSpec) (owner : ResourceSight) (item : ResourceItem) (line created : ℕ) (kind concrete : List ℕ) (attrs : List AttrSpec)

@@ -7,7 +7,7 @@ use Rattle.tk_ledgers.specs.Callers.{IsLive}
 use Rattle.tk_stream.specs.Streams.{Sending}
 use Rattle.tk_script.specs.Commands.{Said}
 use Rattle.tk_live.specs.Course.{Course, step}
-use Rattle.tk_live.specs.Items.{EachFrom, IsTask, AreWakers, Holds, IsSameTask, TaskDid}
+use Rattle.tk_live.specs.Items.{EachFrom, IsTask, AreWakers, Holds, IsSameTask, TaskDid, times_ledger_of}
 use Rattle.tk_live.specs.Named.{made_item}
 use Rattle.tk_live.specs.Pasts.{TaskPast, Pasts, Piece, one, and_called, called_at, task_called, open_task, is_closed}
 use Rattle.tk_live.specs.Runs.{Numbers, numbers_of, Represents, SilentSpec}
@@ -25,10 +25,20 @@ use Rattle.tk_live.proofs.Standing.{called_put, length_called, open_there, none_
 pub tasks_numbered : (n : ℕ) (calls : List TaskCall) (ps : Pasts) → numbers_of (task_called n calls ps) ≡ numbers_of ps
 tasks_numbered n calls ps = ap {B = Numbers} (λ (l : ℕ). record { tasks = l; resources = length ps.resources; ops = length ps.ops }) (length_called n (map one calls) ps.tasks)
 
+-- a task's ledgers are those of another
+abbrev SameLedgers : TaskItem → TaskItem → Type 0
+SameLedgers x y = (y.callers.token.ledger ≡ x.callers.token.ledger) × (times_ledger_of y ≡ times_ledger_of x)
+
+own_ledgers : (x : TaskItem) → SameLedgers x x
+own_ledgers x = (refl, refl)
+
 module _ (tasks : List TaskItem) (place : ℕ) (old next : TaskItem) (stood : slice_get tasks place ≡ Some old) where
   -- each task stays, of its ledger
-  pub tasks_stay : next.callers.token.ledger ≡ old.callers.token.ledger → TasksStay tasks (slice_set tasks place next)
-  tasks_stay ledger n t made = made_put (λ m x y. y.callers.token.ledger ≡ x.callers.token.ledger) (λ m x. refl) tasks place old next n t stood ledger made
+  pub tasks_stay : next.callers.token.ledger ≡ old.callers.token.ledger → times_ledger_of next ≡ times_ledger_of old → TasksStay tasks (slice_set tasks place next)
+  tasks_stay ledger times n t made =
+      let same : SameLedgers old next = (ledger, times) in
+      let there = made_put (λ m x y. SameLedgers x y) (λ m x. own_ledgers x) tasks place old next n t stood same made in
+      (there.0, there.1, there.2.0, there.2.1)
 
   -- each waker stays live
   pub wakers_stay : (wakers : List (Option WakerItem)) → IsSameTask old next → AreWakers tasks wakers → AreWakers (slice_set tasks place next) wakers
@@ -69,7 +79,7 @@ task_went i new settings c kept sent n place old next calls stands stood is put 
       resources_are = stands.holds.resources_are;
       ops_are = stands.holds.ops_are;
     }))
-    (subst (λ (tasks : List TaskItem). TasksStay i.tasks.items tasks) (sym put) (tasks_stay i.tasks.items place old next stood same.ledger))
+    (subst (λ (tasks : List TaskItem). TasksStay i.tasks.items tasks) (sym put) (tasks_stay i.tasks.items place old next stood same.ledger same.times))
     (resources_rest i.resources.items) (ops_rest i.ops.items) (tasks_numbered n calls c.pasts)))
 
 -- a command by which the owner of an open task calls, did what the call did

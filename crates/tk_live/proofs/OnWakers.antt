@@ -125,7 +125,7 @@ waker_went i new settings c kept sent w place a call old next stands stood live 
       resources_are = stands.holds.resources_are;
       ops_are = stands.holds.ops_are;
     })))
-    (subst (λ (tasks : List TaskItem). TasksStay i.tasks.items tasks) (sym put) (tasks_stay i.tasks.items place old next stood spent.ledger))
+    (subst (λ (tasks : List TaskItem). TasksStay i.tasks.items tasks) (sym put) (tasks_stay i.tasks.items place old next stood spent.ledger spent.times))
     (resources_rest i.resources.items) (ops_rest i.ops.items) (tasks_numbered a.task (call ∷ []) c.pasts))))
 
 -- a command that was a waker's last did what the call did
@@ -197,7 +197,7 @@ drawn_went i new settings c kept sent n place old next a stands stood is task dr
       resources_are = stands.holds.resources_are;
       ops_are = stands.holds.ops_are;
     })))
-    (subst (λ (tasks : List TaskItem). TasksStay i.tasks.items tasks) (sym put) (tasks_stay i.tasks.items place old next stood draws.goes_on.ledger))
+    (subst (λ (tasks : List TaskItem). TasksStay i.tasks.items tasks) (sym put) (tasks_stay i.tasks.items place old next stood draws.goes_on.ledger draws.goes_on.times))
     (resources_rest i.resources.items) (ops_rest i.ops.items) (tasks_numbered n (CloneWaker ∷ []) c.pasts)))
 
 -- a command that draws a waker of a task did what the draw did, where this is what the text tells of it

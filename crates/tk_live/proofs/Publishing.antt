@@ -13,6 +13,7 @@ use Rattle.tk_events.specs.declared.item.Offer.{Offer}
 use Rattle.tk_ledgers.specs.Ops.{OpSight}
 use Rattle.tk_ledgers.specs.Resources.{ResourceSight}
 use Rattle.tk_ledgers.specs.Tasks.{TaskSight}
+use Rattle.tk_ledgers.specs.Times.{TimesSight}
 use Rattle.tk_stream.specs.Spelling.{sent_text}
 use Rattle.tk_stream.specs.Applied.{times_after}
 use Rattle.tk_stream.specs.Streams.{Sending, MaySend, gone_by, tables_sent, times_sent, last_sent, line_sent}
@@ -22,6 +23,7 @@ use Rattle.tk_aggregator.specs.Absorbing.{Infos, infos_of, infos_without}
 use Rattle.tk_aggregator.specs.Aggregates.{Aggregating, Gathers, TookMore, IsSound, IsSameStream, held_events, pruned, left_at, tables_at, after_line, line_at, sending_at}
 use Rattle.tk_aggregator.specs.Contents.{Content, content_of}
 use Rattle.tk_aggregator.proofs.FollowLemmas.{gathered_is_absorbed, gathers_stays}
+use Rattle.tk_aggregator.proofs.LeaveLemmas.{left_is}
 use Rattle.tk_aggregator.proofs.SendLemmas.{leads_on}
 use Rattle.tk_aggregator.proofs.TimingLemmas.{times_more}
 use Rattle.tk_script.specs.Commands.{publish}
@@ -29,11 +31,12 @@ use Rattle.tk_script.specs.declared.settings.Settings.{Settings}
 use Rattle.tk_script.specs.declared.stop.Stop.TheVariants.{Clock, NumbersSpent}
 use Rattle.tk_live.specs.Course.{Course, due_at}
 use Rattle.tk_live.specs.Pasts.{Pasts}
-use Rattle.tk_live.specs.Ran.{infos_with, leaving, kept_between, TellsTimes, IsCalledTask, IsCalledResource, IsCalledOp, AreCalled, TellOf, IsStreamOf}
+use Rattle.tk_live.specs.Ran.{infos_with, leaving, dropped_of, kept_between, lost_first, TellsTimes, IsCalledTask, IsCalledResource, IsCalledOp, AreCalled, IsPolledTask, TellOf, IsStreamOf}
 use Rattle.tk_live.specs.Runs.{Numbers, Offered, IsTakerOf, HaveTimes, HasTold, offer_content, recorded_by, bytes_after}
 use Rattle.tk_live.specs.Stops.{stop_by_text}
 use Rattle.tk_live.proofs.Histograms.{gathered_times, line_one_each, line_tells}
-use Rattle.tk_live.proofs.Leaving.{absorb_told, infos_leave, just_due, lines_push}
+use Rattle.tk_live.proofs.Growing.{before_push}
+use Rattle.tk_live.proofs.Leaving.{absorb_told, dropped_stay, infos_leave, just_due, lines_push}
 use Rattle.tk_live.proofs.Rows.{all_stay}
 use Rattle.tk_live.proofs.Streams.{goes_push, tables_push, last_push}
 
@@ -193,17 +196,13 @@ called_stay ps false a now called = by a.retention
     by (Some r) = record { tasks = all_stay (IsCalledTask ps) _ a.tables.tasks called.tasks; resources = all_stay (IsCalledResource ps) _ a.tables.resources called.resources; ops = all_stay (IsCalledOp ps) _ a.tables.ops called.ops }
 
 -- and of readers that are all so
-module _ (P : TaskSight → Type 0) (Q : ResourceSight → Type 0) (R : OpSight → Type 0) where
+module _ (P : TaskSight → Type 0) (Q : ResourceSight → Type 0) (R : OpSight → Type 0) (S : TimesSight → Type 0) where
   abbrev AllReaders : Aggregating → Type 0
-  AllReaders a = AllByRecursion P a.tasks × AllByRecursion Q a.resources × AllByRecursion R a.ops
+  AllReaders a = AllByRecursion P a.tasks × AllByRecursion Q a.resources × AllByRecursion R a.ops × AllByRecursion S a.timing.readers
 
   pub readers_stay : (whole : Bool) (a : Aggregating) (now : ℕ) → AllReaders a → AllReaders (after_line whole a now)
-  readers_stay true a now all = all
-  readers_stay false a now all = by a.retention
-    where
-      by : (o : Option ℕ) → AllReaders (pruned o a now)
-      by None = all
-      by (Some r) = (all_stay P _ a.tasks all.0, all_stay Q _ a.resources all.1, all_stay R _ a.ops all.2)
+  readers_stay whole a now all =
+      subst AllReaders (left_is whole a now) (all_stay P _ a.tasks all.0, all_stay Q _ a.resources all.1, all_stay R _ a.ops all.2, all_stay S _ a.timing.readers all.3)
 
 -- a line was sent
 module _ (a : Aggregating) (settings : Settings) (c : Course) (kept : List Bool) (sent : List Sending) (now : ℕ) (whole : Bool) (are : HasGathered a settings c.now (length c.due) sent (kept_between kept c.told (recorded_by 0 c.due) (length c.told)))
@@ -212,10 +211,10 @@ module _ (a : Aggregating) (settings : Settings) (c : Course) (kept : List Bool)
   line = sending_at whole a now
 
   -- it is as the text says it
-  pub came_line : IsStreamOf settings c kept sent → AreCalled c.pasts a.tables → TellOf settings c.told (c.due ++ due_at c now whole ∷ []) kept (sent ++ line ∷ [])
-  came_line came called = record {
+  pub came_line : IsStreamOf settings c kept sent → AreCalled c.pasts a.tables → AllByRecursion (IsPolledTask c.pasts) a.timing.shown → a.tables.dropped ≡ dropped_of (lost_first kept c.told (length c.told)) → TellOf settings c.told (c.due ++ due_at c now whole ∷ []) kept (sent ++ line ∷ [])
+  came_line came called polls totals = record {
     one_each = came.one_each;
-    first = came.first;
+    first = λ i lt low. came.first i lt (subst (λ n. i < n + settings.capacity) (before_push 0 c.due (due_at c now whole) i (omega (arith, lt, came.one_each))) low);
     lines = lines_push settings kept c.told empty_tables [] 0 c.due sent (due_at c now whole) line came.lines (record {
       moment = refl;
       snapshot = refl;
@@ -223,8 +222,9 @@ module _ (a : Aggregating) (settings : Settings) (c : Course) (kept : List Bool)
       infos = infos_leave whole a now ∙ ap (λ i. infos_without (leaving a.retention a.told line) i) are.infos
           ∙ (λ i. infos_without (leaving (are.retention_is i) (are.told i) line) (infos_with (infos_of (are.told i)) (kept_between kept c.told (recorded_by 0 c.due) (length c.told))));
       gone = λ removes. ap (λ b. gone_by b line) (sym are.told) ∙ just_due whole a now sound removes ∙ (λ i. leaving (are.retention_is i) (are.told i) line);
+      dropped = dropped_stay whole a now ∙ totals;
       rows = called_stay c.pasts whole a now called;
-      times = subst (λ (p : TablesView × List TaskTimes). TellsTimes settings.times p.0 p.1 line) (λ i. (are.told i, are.times_told i)) (line_tells whole a now sound later settings.times are.reads are.times);
+      times = subst (λ (p : TablesView × List TaskTimes). TellsTimes settings.times c.pasts p.0 p.1 line) (λ i. (are.told i, are.times_told i)) (line_tells c.pasts whole a now sound polls settings.times are.reads are.times);
     });
     stream = goes_push empty_tables 0 sent line came.stream (ap (λ n. n + 1) are.last) (subst (λ b. MaySend b line) are.told may);
   }

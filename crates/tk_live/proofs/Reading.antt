@@ -23,7 +23,7 @@ use Rattle.tk_stream.specs.declared.tables.resource.Resource.{Resource}
 use Rattle.tk_stream.specs.declared.tables.task.Task.{Task}
 use Rattle.tk_aggregator.specs.Aggregates.{Aggregating}
 use Rattle.tk_aggregator.specs.Beside.{AreOf, StaysHand, ReadsTaskBeside, ReadsResourceBeside, ReadsOpBeside}
-use Rattle.tk_live.specs.Items.{EachFrom, IsTask, IsResource, IsOp, KeepsValues, IsSameTask, IsSameResource, IsSameOp}
+use Rattle.tk_live.specs.Items.{EachFrom, IsTask, IsResource, IsOp, KeepsValues, IsSameTask, IsSameResource, IsSameOp, times_ledger_of}
 use Rattle.tk_live.specs.Named.{made_item}
 use Rattle.tk_live.specs.Pasts.{TaskPast, ResourcePast, OpPast, IsTaskRow, IsResourceRow, IsOpRow}
 use Rattle.tk_live.specs.Read.{AreReadTo, AreTasksRead, AreResourcesRead, AreOpsRead}
@@ -36,11 +36,11 @@ use Rattle.tk_live.proofs.Rows.{all_so, all_put, all_themselves, each_goes_on, i
 
 -- ---- tasks
 
-task_itself : (x : TaskItem) → IsSameTask x x
-task_itself x = record { id = refl; ledger = refl; live = λ k live. live }
+pub task_itself : (x : TaskItem) → IsSameTask x x
+task_itself x = record { id = refl; ledger = refl; times = refl; live = λ k live. live }
 
-task_then : (x y z : TaskItem) → IsSameTask x y → IsSameTask y z → IsSameTask x z
-task_then x y z p q = record { id = q.id ∙ p.id; ledger = q.ledger ∙ p.ledger; live = λ k live. q.live k (p.live k live) }
+pub task_then : (x y z : TaskItem) → IsSameTask x y → IsSameTask y z → IsSameTask x z
+task_then x y z p q = record { id = q.id ∙ p.id; ledger = q.ledger ∙ p.ledger; times = q.times ∙ p.times; live = λ k live. q.live k (p.live k live) }
 
 task_ids : (ts : List Task) → map (λ (i : TaskInfo). i.id) (map task_info ts) ≡ map task_id ts
 task_ids [] = refl
@@ -87,10 +87,12 @@ module _ (i : ℕ) (first a : Aggregating) (xs ys : List TaskItem) (read : AreTa
       polled = it.polled;
       closed = it.closed;
       is_closed = ap (λ (z : TaskItem). z.closed) is ∙ it.is_closed;
+      times = λ o at. it.times o (sym (ap (λ (z : TaskItem). z.times) is) ∙ at);
+      started = λ polls. it.started polls ∙ ap (λ (z : TaskItem). Some z.started) (sym is);
     }
 
     is_same_task : IsSameTask x y
-    is_same_task = record { id = hand.id; ledger = hand.ledger; live = hand.live }
+    is_same_task = record { id = hand.id; ledger = hand.ledger; times = ap times_ledger_of is; live = hand.live }
 
     now_distinct_tasks : IsDistinct nat_eq (map task_id a.tables.tasks)
     now_distinct_tasks = subst (λ (ids : List ℕ). IsDistinct nat_eq ids) (sym (same_task_ids first.tables.tasks a.tables.tasks read.infos)) distinct

@@ -5,7 +5,6 @@ use Rattle.std.specs.List.{AllByRecursion, IsDistinct, position_or_len}
 use Rattle.std.proofs.lemmas.List.{length-map}
 use Rattle.std.proofs.lemmas.List.Quantifiers.{position-Some}
 use borrow.Author.Tests.{eqb-true, eqb-false}
-use Rattle.atomic_table.specs.Seated.{TableId}
 use Rattle.tk_ids.specs.Ids.{id_of}
 use Rattle.tk_stream.specs.Places.{place_with}
 use Rattle.tk_stream.specs.Tables.{changed_at}
@@ -18,7 +17,7 @@ use Rattle.tk_live.proofs.Places.{at_place, each_made, get_some, made_place, mad
 pub one_number : (n m : ℕ) → id_of 1 n ≡ id_of 1 m → n ≡ m
 one_number n m e = omega (arith, e)
 
-some_same : {X : Type 0} {x y : X} → Some x ≡ Some y → x ≡ y
+pub some_same : {X : Type 0} {x y : X} → Some x ≡ Some y → x ≡ y
 some_same e = cc
 
 -- ---- of all elements of a list
@@ -63,19 +62,19 @@ each_goes_on {P} {X} R n (p ∷ ps) (z ∷ xs) (suc i) x y at on each =
 
 -- ---- who reads
 
-module _ {X : Type 0} (ledger_of : X → TableId) where
+module _ {X L : Type 0} (ledger_of : X → L) where
   -- an id and a ledger are those of an item
-  abbrev IsOf : List X → ℕ → TableId → Type 0
+  abbrev IsOf : List X → ℕ → L → Type 0
   IsOf xs id ledger = (n : ℕ) × (x : X) × (id ≡ id_of 1 n) × (made_item n xs ≡ Some x) × (ledger_of x ≡ ledger)
 
   -- so they are where the items are the same
-  pub still_of : (R : X → X → Type 0) → ((x y : X) → R x y → ledger_of y ≡ ledger_of x) → (xs ys : List X) → AreSame R xs ys → (id : ℕ) (ledger : TableId) → IsOf xs id ledger → IsOf ys id ledger
+  pub still_of : (R : X → X → Type 0) → ((x y : X) → R x y → ledger_of y ≡ ledger_of x) → (xs ys : List X) → AreSame R xs ys → (id : ℕ) (ledger : L) → IsOf xs id ledger → IsOf ys id ledger
   still_of R stays xs ys same id ledger is =
       let there = same is.0 is.1 is.3 in
       (is.0, there.0, is.2, there.1, stays is.1 there.0 there.2 ∙ is.4)
 
   -- an item's id has its ledger
-  pub its_ledger : (xs : List X) (i : ℕ) (x : X) (id : ℕ) (ledger : TableId) → slice_get xs i ≡ Some x → id ≡ id_of 1 (i + 1) → IsOf xs id ledger → ledger ≡ ledger_of x
+  pub its_ledger : (xs : List X) (i : ℕ) (x : X) (id : ℕ) (ledger : L) → slice_get xs i ≡ Some x → id ≡ id_of 1 (i + 1) → IsOf xs id ledger → ledger ≡ ledger_of x
   its_ledger xs i x id ledger at here is =
       let n : is.0 ≡ i + 1 = one_number is.0 (i + 1) (sym is.2 ∙ here) in
       let same : is.1 ≡ x = some_same (sym is.3 ∙ (at_place is.0 i xs n ∙ at)) in

@@ -18,10 +18,12 @@ module _ (i : Interpreter) (settings : Settings) (c : Course) (kept : List Bool)
         offered = stands.offered;
         takes = stands.takes;
         taken = stands.taken;
+        gone = stands.gone;
         has_told = stands.has_told;
         timed = stands.timed;
         holds = stands.holds;
         linked = stands.linked;
+        polled = stands.polled;
         capacity_said = refl;
         retention_said = refl;
         times_said = refl;

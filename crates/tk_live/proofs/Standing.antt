@@ -11,14 +11,15 @@ use Rattle.tk_events.specs.declared.item.Offer.{Offer}
 use Rattle.tk_ledgers.specs.Ops.{OpSight}
 use Rattle.tk_ledgers.specs.Resources.{ResourceSight}
 use Rattle.tk_ledgers.specs.Tasks.{TaskSight}
+use Rattle.tk_ledgers.specs.Times.{TimesSight}
 use Rattle.tk_aggregator.specs.Aggregates.{Aggregating}
 use Rattle.tk_aggregator.specs.Contents.{Content}
 use Rattle.tk_stream.specs.Streams.{Sending}
 use Rattle.tk_live.specs.Course.{Course}
-use Rattle.tk_live.specs.Items.{EachFrom, Holds}
+use Rattle.tk_live.specs.Items.{EachFrom, Holds, times_ledger_of}
 use Rattle.tk_live.specs.Named.{made_item, with_item}
 use Rattle.tk_live.specs.Pasts.{Past, Pasts, and_called, called_at, unless_closed}
-use Rattle.tk_live.specs.Runs.{Numbers, numbers_of, Offered, IsTaskLedger, IsResourceLedger, IsOpLedger, OffersLedger, AreLinked, Represents}
+use Rattle.tk_live.specs.Runs.{Numbers, numbers_of, Offered, IsTaskLedger, IsTimesLedger, IsResourceLedger, IsOpLedger, OffersLedger, AreLinked, Represents}
 use Rattle.tk_live.specs.Stops.{if_there}
 use Rattle.tk_live.specs.declared.interpreter.Interpreter.{Interpreter}
 use Rattle.tk_live.specs.declared.items.OpItem.{OpItem}
@@ -71,7 +72,7 @@ isnt_there (Some x) stop e = absurd cc
 
 -- each item stays at its number, of the same ledger
 abbrev pub TasksStay : List TaskItem → List TaskItem → Type 0
-TasksStay old new = (n : ℕ) (t : TaskItem) → made_item n old ≡ Some t → (u : TaskItem) × (made_item n new ≡ Some u) × (u.callers.token.ledger ≡ t.callers.token.ledger)
+TasksStay old new = (n : ℕ) (t : TaskItem) → made_item n old ≡ Some t → (u : TaskItem) × (made_item n new ≡ Some u) × (u.callers.token.ledger ≡ t.callers.token.ledger) × (times_ledger_of u ≡ times_ledger_of t)
 
 abbrev pub ResourcesStay : List ResourceItem → List ResourceItem → Type 0
 ResourcesStay old new = (n : ℕ) (t : ResourceItem) → made_item n old ≡ Some t → (u : ResourceItem) × (made_item n new ≡ Some u) × (u.callers.token.ledger ≡ t.callers.token.ledger)
@@ -80,7 +81,7 @@ abbrev pub OpsStay : List OpItem → List OpItem → Type 0
 OpsStay old new = (n : ℕ) (t : OpItem) → made_item n old ≡ Some t → (u : OpItem) × (made_item n new ≡ Some u) × (u.callers.token.ledger ≡ t.callers.token.ledger)
 
 pub tasks_rest : (tasks : List TaskItem) → TasksStay tasks tasks
-tasks_rest tasks n t made = (t, made, refl)
+tasks_rest tasks n t made = (t, made, refl, refl)
 
 pub resources_rest : (resources : List ResourceItem) → ResourcesStay resources resources
 resources_rest resources n t made = (t, made, refl)
@@ -97,6 +98,9 @@ module _ (tasks tasks_now : List TaskItem) (resources resources_now : List Resou
   task_on : (id : ℕ) (ledger : TableId) → IsTaskLedger tasks id ledger → IsTaskLedger tasks_now id ledger
   task_on id ledger h = let there = tasks_stay h.0 h.1 h.3 in (h.0, there.0, h.2, there.1, there.2 ∙ h.4)
 
+  times_on : (id : ℕ) (ledger : TableId) → IsTimesLedger tasks id ledger → IsTimesLedger tasks_now id ledger
+  times_on id ledger h = let there = tasks_stay h.0 h.1 h.3 in (h.0, there.0, h.2, there.1, there.3 ∙ h.4)
+
   resource_on : (id : ℕ) (ledger : TableId) → IsResourceLedger resources id ledger → IsResourceLedger resources_now id ledger
   resource_on id ledger h = let there = resources_stay h.0 h.1 h.3 in (h.0, there.0, h.2, there.1, there.2 ∙ h.4)
 
@@ -104,7 +108,7 @@ module _ (tasks tasks_now : List TaskItem) (resources resources_now : List Resou
   op_on id ledger h = let there = ops_stay h.0 h.1 h.3 in (h.0, there.0, h.2, there.1, there.2 ∙ h.4)
 
   offer_on : (event : Shown) → OffersLedger tasks resources ops event → OffersLedger tasks_now resources_now ops_now event
-  offer_on (MadeTask info ledger caller times) h = task_on info.id ledger h
+  offer_on (MadeTask info ledger caller times) h = (task_on info.id ledger h.0, λ histogram of. times_on info.id histogram (h.1 histogram of))
   offer_on (MadeResource info ledger caller) h = resource_on info.id ledger h
   offer_on (MadeOp info ledger caller) h = op_on info.id ledger h
   offer_on event h = h
@@ -114,6 +118,7 @@ module _ (tasks tasks_now : List TaskItem) (resources resources_now : List Resou
   linked_on kept a linked = record {
     offers = all_on (λ (o : Offer). OffersLedger tasks resources ops o.event) (λ (o : Offer). OffersLedger tasks_now resources_now ops_now o.event) (λ o h. offer_on o.event h) kept linked.offers;
     task_readers = all_on (λ (s : TaskSight). IsTaskLedger tasks s.id s.token.ledger) (λ (s : TaskSight). IsTaskLedger tasks_now s.id s.token.ledger) (λ s h. task_on s.id s.token.ledger h) a.tasks linked.task_readers;
+    times_readers = all_on (λ (s : TimesSight). IsTimesLedger tasks s.id s.token.ledger) (λ (s : TimesSight). IsTimesLedger tasks_now s.id s.token.ledger) (λ s h. times_on s.id s.token.ledger h) a.timing.readers linked.times_readers;
     resource_readers = all_on (λ (s : ResourceSight). IsResourceLedger resources s.id s.token.ledger) (λ (s : ResourceSight). IsResourceLedger resources_now s.id s.token.ledger) (λ s h. resource_on s.id s.token.ledger h) a.resources linked.resource_readers;
     op_readers = all_on (λ (s : OpSight). IsOpLedger ops s.id s.token.ledger) (λ (s : OpSight). IsOpLedger ops_now s.id s.token.ledger) (λ s h. op_on s.id s.token.ledger h) a.ops linked.op_readers;
   }
@@ -139,10 +144,12 @@ went_on i new settings c ps kept sent stands holds tasks_stay resources_stay ops
   offered = subst (λ (n : Numbers). Offered i.recorder settings.capacity n c.told kept) (sym same) stands.offered;
   takes = stands.takes;
   taken = stands.taken;
+  gone = stands.gone;
   has_told = stands.has_told;
   timed = stands.timed;
   holds = holds;
   linked = linked_on i.tasks.items new.tasks.items i.resources.items new.resources.items i.ops.items new.ops.items tasks_stay resources_stay ops_stay i.recorder.kept i.aggregator stands.linked;
+  polled = stands.polled;
   capacity_said = stands.capacity_said;
   retention_said = stands.retention_said;
   times_said = stands.times_said;

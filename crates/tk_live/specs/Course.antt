@@ -13,7 +13,7 @@ use Rattle.tk_events.specs.Items.{infos_of}
 use Rattle.tk_aggregator.specs.Contents.{Content, made_task, made_resource, made_op, polled}
 use Rattle.tk_live.specs.Blocks.{Block, no_lines, with_line, after_block}
 use Rattle.tk_live.specs.Pasts.{Pasts, no_pasts, called_by}
-use Rattle.tk_script.specs.Commands.{Said, Line, says, opens, joins, works, task, resource, op, poll_op, capacity, retention, times, waits, publish, is_setting}
+use Rattle.tk_script.specs.Commands.{Said, Line, says, opens, joins, works, task, resource, op, poll_op, capacity, retention, times, waits, publish, is_setting, polls_in}
 
 -- a line that is due: its moment, whether it is a snapshot, how much was recorded before it, and what was called before it
 pub record Due : Type 0 where
@@ -23,12 +23,13 @@ pub record Due : Type 0 where
   pub pasts : Pasts
 
 -- what commands come to: what they call on each item, what the recording ones tell, in order, the lines that are due, the moment of the
--- last one, which settings were said, whether there was any other command, and the lines of the block that is open, if one is
+-- last one, how many polls `polls` commands make, which settings were said, whether there was any other command, and the lines of the block that is open, if one is
 pub record Course : Type 0 where
   pub pasts : Pasts
   pub told : List Content
   pub due : List Due
   pub now : ℕ
+  pub polled : ℕ
   pub capacity_said : Bool
   pub retention_said : Bool
   pub times_said : Bool
@@ -38,7 +39,7 @@ pub record Course : Type 0 where
 
 -- before any command
 abbrev pub start_of_all : Course
-start_of_all = record { pasts = no_pasts; told = []; due = []; now = 0; capacity_said = false; retention_said = false; times_said = false; waits_said = false; begun = false; block = None }
+start_of_all = record { pasts = no_pasts; told = []; due = []; now = 0; polled = 0; capacity_said = false; retention_said = false; times_said = false; waits_said = false; begun = false; block = None }
 
 -- an item stands on a line of the script, at its first column
 abbrev pub place : ℕ → Location
@@ -79,7 +80,7 @@ step c line s = record c { pasts = called_by c.waits_said c.pasts s; told = c.to
 
 -- what one command more comes to. After one that isn't a setting no setting may stand
 abbrev pub step_on : Course → ℕ → Said → Course
-step_on c line s = record (step c line s) { begun = not (is_setting s) || c.begun }
+step_on c line s = record (step c line s) { polled = c.polled + polls_in s; begun = not (is_setting s) || c.begun }
 
 -- what a block comes to whose threads are joined. It is closed
 abbrev pub joined : Course → Block → Course

@@ -120,6 +120,8 @@ pub record IsHandOf (old new : TaskItem) : Type 0 where
   pub id : new.callers.id ≡ old.callers.id
   pub ledger : new.callers.token.ledger ≡ old.callers.token.ledger
   pub closed : new.closed ≡ old.closed
+  pub times : new.times ≡ old.times
+  pub started : new.started ≡ old.started
 
 -- the waker is live in the hand of its task
 abbrev pub IsLiveIn : List TaskItem → WakerItem → Type 0

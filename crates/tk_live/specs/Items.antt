@@ -1,6 +1,7 @@
 -- What is kept of a script's items: the hands that make their calls. Inner: no public clause cites it.
-use Rattle.std.specs.Prelude.{◌≡◌, ◌≢◌, ℕ, ◌+◌, List, [], ◌∷◌, map, Option, Some, None, option_map, is_some, Result, Ok, Err}
+use Rattle.std.specs.Prelude.{◌≡◌, ◌≢◌, ℕ, ◌+◌, List, [], ◌∷◌, ◌++◌, map, true, Option, Some, None, option_map, is_some, Result, Ok, Err}
 use Rattle.std.specs.List.{filter_map}
+use Rattle.atomic_table.specs.Seated.{TableId}
 use Rattle.tk_ids.specs.Ids.{id_of}
 use Rattle.tk_core.specs.declared.attrs.AttrOp.{AttrOp}
 use Rattle.tk_core.specs.declared.history.Entry.{Entry}
@@ -23,8 +24,9 @@ use Rattle.tk_core.specs.ResourceMeaning.{resource_meaning}
 use Rattle.tk_core.specs.TaskMeaning.{task_meaning}
 use Rattle.tk_ledgers.specs.Called.{HasCalled}
 use Rattle.tk_ledgers.specs.Callers.{IsLive}
+use Rattle.tk_ledgers.specs.Times.{TimesSight, added_times, runs_of}
 use Rattle.tk_live.specs.Named.{made_item, live_item}
-use Rattle.tk_live.specs.Pasts.{TaskPast, ResourcePast, OpPast, Pasts, InOrder, one, and_called, is_polled, is_closed, is_closed_resource, is_closed_op}
+use Rattle.tk_live.specs.Pasts.{TaskPast, ResourcePast, OpPast, Pasts, InOrder, one, and_called, outside_blocks, is_polled, is_closed, is_closed_resource, is_closed_op}
 use Rattle.tk_live.specs.declared.items.OpItem.{OpItem}
 use Rattle.tk_live.specs.declared.items.ResourceItem.{ResourceItem}
 use Rattle.tk_live.specs.declared.items.TaskItem.{TaskItem}
@@ -38,8 +40,12 @@ EachFrom R n [] (y ∷ ys) = ⊥
 EachFrom R n (x ∷ xs) [] = ⊥
 EachFrom R n (x ∷ xs) (y ∷ ys) = R n x y × EachFrom R (n + 1) xs ys
 
+-- the ledger of a task's histogram, if it has one
+abbrev pub times_ledger_of : TaskItem → Option TableId
+times_ledger_of t = option_map (λ (o : TimesSight). o.token.ledger) t.times
+
 -- what is kept of the task of a number: its hand made the text's calls, in an order that they allow, and no others but an inspector's
--- readings
+-- readings. To its histogram, if it has one, was added how long its polls ran, of each poll once, in their order, and nothing else
 pub record IsTask (n : ℕ) (p : TaskPast) (t : TaskItem) : Type 0 where
   pub id : t.callers.id ≡ id_of 1 n
   pub calls : List TaskCall
@@ -49,6 +55,8 @@ pub record IsTask (n : ℕ) (p : TaskPast) (t : TaskItem) : Type 0 where
   pub polled : is_polling start_at end_at calls ≡ is_polled p
   pub closed : is_some (last_of close_at calls) ≡ is_closed p
   pub is_closed : t.closed ≡ is_closed p
+  pub times : (o : TimesSight) → t.times ≡ Some o → (o.id ≡ id_of 1 n) × (added_times o.token ≡ runs_of (outside_blocks p.called))
+  pub started : is_polled p ≡ true → last_of start_at (outside_blocks p.called) ≡ Some t.started
 
 -- which attribute of a resource a call changes, and how, if it does
 abbrev pub change_in : ResourceCall → Option (ℕ × AttrOp)
@@ -100,10 +108,16 @@ pub record Holds (tasks : List TaskItem) (wakers : List (Option WakerItem)) (res
 
 -- ---- what a call leaves of an item
 
--- a task's hand is of the same task and ledger, and who was live stays so
+-- a time was added to a histogram, if there is one
+abbrev pub AddsTo : Option TimesSight → ℕ → Option TimesSight → Type 0
+AddsTo None time new = new ≡ None
+AddsTo (Some old) time new = (o : TimesSight) × (new ≡ Some o) × (o.id ≡ old.id) × (o.token.ledger ≡ old.token.ledger) × (added_times o.token ≡ added_times old.token ++ time ∷ [])
+
+-- a task's hand is of the same task and ledger, its histogram is of the same ledger, and who was live stays so
 pub record IsSameTask (old new : TaskItem) : Type 0 where
   pub id : new.callers.id ≡ old.callers.id
   pub ledger : new.callers.token.ledger ≡ old.callers.token.ledger
+  pub times : times_ledger_of new ≡ times_ledger_of old
   pub live : (k : ℕ) → IsLive task_meaning old.callers.token.view k → IsLive task_meaning new.callers.token.view k
 
 -- a call of a task's owner: where the text stops it, this is the stop; else its calls are more by these
@@ -119,6 +133,7 @@ WakerDid call old new = (n : ℕ) (p : TaskPast) → IsTask n p old → IsTask n
 pub record IsSpent (waker : ℕ) (old new : TaskItem) : Type 0 where
   pub id : new.callers.id ≡ old.callers.id
   pub ledger : new.callers.token.ledger ≡ old.callers.token.ledger
+  pub times : times_ledger_of new ≡ times_ledger_of old
   pub live : (k : ℕ) → k ≢ waker → IsLive task_meaning old.callers.token.view k → IsLive task_meaning new.callers.token.view k
 
 -- a waker was drawn: it is live, and was none of those that were

@@ -1,28 +1,30 @@
 -- What readings before a line leave. Inner: no public clause cites it.
-use Rattle.std.specs.Prelude.{◌≡◌, ℕ, ◌≤◌, List, map, length, Some, None, All}
+use Rattle.std.specs.Prelude.{◌≡◌, ℕ, ◌≤◌, List, map, length, Option, Some, None, All}
 use Rattle.std.specs.List.{AllByRecursion}
 use Rattle.tk_ids.specs.Ids.{id_of}
 use Rattle.tk_events.specs.Buffer.{IsNamed}
-use Rattle.tk_events.specs.Handles.{Recording, Taking}
+use Rattle.tk_events.specs.Handles.{Recording, Taking, dropped_by}
 use Rattle.tk_events.specs.Offers.{by}
 use Rattle.tk_events.specs.declared.event.Event.{Event}
 use Rattle.tk_ledgers.specs.Ops.{OpSight}
 use Rattle.tk_ledgers.specs.Resources.{ResourceSight}
 use Rattle.tk_ledgers.specs.Tasks.{TaskSight}
+use Rattle.tk_ledgers.specs.Times.{TimesSight, added_times}
 use Rattle.tk_stream.specs.Lines.{task_info, resource_info, op_info}
 use Rattle.tk_stream.specs.Tables.{task_id, resource_id, op_id}
-use Rattle.tk_aggregator.specs.Aggregates.{Aggregating, Gathers, Pairs, TellsTotals, ReadsHistograms, dropped_in}
-use Rattle.tk_aggregator.specs.Timing.{ReadTimes}
+use Rattle.tk_stream.specs.Times.{TaskTimes, times_id}
+use Rattle.tk_aggregator.specs.Aggregates.{Aggregating, Gathers, TellsTotals, ReadsHistogramBeside, dropped_in}
+use Rattle.tk_aggregator.specs.Timing.{StaysOwner, times_of}
 use Rattle.tk_live.specs.Items.{EachFrom, Holds, IsTask, IsResource, IsOp, IsSameTask, IsSameResource, IsSameOp}
 use Rattle.tk_live.specs.Named.{made_item}
 use Rattle.tk_live.specs.Pasts.{TaskPast, ResourcePast, OpPast, Pasts, IsTaskRow, IsResourceRow, IsOpRow}
-use Rattle.tk_live.specs.Runs.{IsTaskLedger, IsResourceLedger, IsOpLedger}
+use Rattle.tk_live.specs.Runs.{IsTaskLedger, IsTimesLedger, IsResourceLedger, IsOpLedger}
 use Rattle.tk_live.specs.declared.interpreter.Interpreter.{Interpreter}
 use Rattle.tk_live.specs.declared.items.OpItem.{OpItem}
 use Rattle.tk_live.specs.declared.items.ResourceItem.{ResourceItem}
 use Rattle.tk_live.specs.declared.items.TaskItem.{TaskItem}
 
--- all was taken in that the recorder had kept
+-- all was taken in that the recorder had kept, and the totals are those of what it dropped, if it is the console's only one
 pub record CollectsAll (r : Recording) (old : Aggregating) (before : Taking) (new : Aggregating) (after : Taking) : Type 0 where
   pub taken : List Event
   pub gathered : Aggregating
@@ -32,6 +34,7 @@ pub record CollectsAll (r : Recording) (old : Aggregating) (before : Taking) (ne
   pub named : All (IsNamed after.recorders) after.taken
   pub none_held : new.held ≡ None
   pub totals : TellsTotals taker after
+  pub exact : before.recorders ≡ 1 → after.last ≡ dropped_by r
   pub now : new ≡ record gathered { tables = record gathered.tables { dropped = dropped_in after.last } }
 
 -- what each number names is the same item, now or later
@@ -80,6 +83,26 @@ pub record AreOpsRead (count : ℕ) (a : Aggregating) (ops : List OpItem) (b : A
   pub readers : AllByRecursion (λ (s : OpSight). IsOpLedger new s.id s.token.ledger) b.ops
   pub rest : b ≡ record a { tables = record a.tables { ops = b.tables.ops }; ops = b.ops }
 
+-- a histogram was read beside its owner, if there is one
+abbrev pub ReadsOwned : Option TimesSight → Aggregating → Aggregating → Option TimesSight → Type 0
+ReadsOwned None a b new = (b ≡ a) × (new ≡ None)
+ReadsOwned (Some owner) a b new = (owner_then : TimesSight) × ReadsHistogramBeside owner a b × (new ≡ Some owner_then) × StaysOwner owner owner_then
+
+-- a histogram is that of the times that were added to a task's, if it has one
+abbrev pub ShowsAdded : TaskItem → TaskTimes → Type 0
+ShowsAdded x t = (o : TimesSight) → x.times ≡ Some o → t.1 ≡ times_of (added_times o.token)
+
+-- the histograms of the first so many tasks were read, each beside its owner: they are the same tasks, of which the hands made the same calls,
+-- and so are the histograms of the aggregator and who reads them
+pub record AreTimesRead (count : ℕ) (a : Aggregating) (tasks : List TaskItem) (b : Aggregating) (new : List TaskItem) : Type 0 where
+  pub same : AreSame IsSameTask tasks new
+  pub many : length new ≡ length tasks
+  pub hands : (ps : List TaskPast) → EachFrom IsTask 1 ps tasks → EachFrom IsTask 1 ps new
+  pub rows : AreReadTo times_id ShowsAdded count tasks b.timing.shown
+  pub ids : map times_id b.timing.shown ≡ map times_id a.timing.shown
+  pub readers : AllByRecursion (λ (s : TimesSight). IsTimesLedger new s.id s.token.ledger) b.timing.readers
+  pub rest : b ≡ record a { timing = record a.timing { shown = b.timing.shown; readers = b.timing.readers } }
+
 -- each item may be read beside its hand: it is kept of the number that it has, and the aggregator's readers are of such items
 pub record MayRead (i : Interpreter) : Type 0 where
   pub pasts : Pasts
@@ -87,15 +110,16 @@ pub record MayRead (i : Interpreter) : Type 0 where
   pub tasks : AllByRecursion (λ (s : TaskSight). IsTaskLedger i.tasks.items s.id s.token.ledger) i.aggregator.tasks
   pub resources : AllByRecursion (λ (s : ResourceSight). IsResourceLedger i.resources.items s.id s.token.ledger) i.aggregator.resources
   pub ops : AllByRecursion (λ (s : OpSight). IsOpLedger i.ops.items s.id s.token.ledger) i.aggregator.ops
+  pub times : AllByRecursion (λ (s : TimesSight). IsTimesLedger i.tasks.items s.id s.token.ledger) i.aggregator.timing.readers
 
 -- all items were read, one kind after the other, and then the histograms
 pub record AreItemsRead (old new : Interpreter) : Type 0 where
   pub tasks_then : Aggregating
   pub resources_then : Aggregating
   pub ops_then : Aggregating
-  pub tasks : AreTasksRead (length old.tasks.items) old.aggregator old.tasks.items tasks_then new.tasks.items
+  pub items_then : List TaskItem
+  pub tasks : AreTasksRead (length old.tasks.items) old.aggregator old.tasks.items tasks_then items_then
   pub resources : AreResourcesRead (length old.resources.items) tasks_then old.resources.items resources_then new.resources.items
   pub ops : AreOpsRead (length old.ops.items) resources_then old.ops.items ops_then new.ops.items
-  pub times : ReadsHistograms ops_then new.aggregator
-  pub paired : Pairs ReadTimes ops_then.timing.shown ops_then.timing.readers
+  pub times : AreTimesRead (length items_then) ops_then items_then new.aggregator new.tasks.items
   pub rest : new ≡ record old { aggregator = new.aggregator; tasks = new.tasks; resources = new.resources; ops = new.ops }

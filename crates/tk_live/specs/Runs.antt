@@ -1,5 +1,5 @@
 -- What an interpreter stands for. Inner: no public clause cites it.
-use Rattle.std.specs.Prelude.{◌≡◌, ℕ, ◌+◌, ◌≤◌, ◌⊎◌, List, [], ◌∷◌, ◌++◌, map, length, slice_get, slice_set, take, Bool, true, false, Option, Some, None, option_map, IsSome, Result, Ok, Err}
+use Rattle.std.specs.Prelude.{◌≡◌, ℕ, ◌+◌, ◌≤◌, ◌⊎◌, List, [], ◌∷◌, ◌++◌, map, length, slice_get, slice_set, take, Bool, true, false, not, Option, Some, None, option_map, IsSome, Result, Ok, Err}
 use Rattle.std.specs.List.{AllByRecursion, enumerate_from, items_where_true}
 use Rattle.std.specs.Io.KnownBytes.{Appends}
 use Rattle.atomic_table.specs.Seated.{TableId}
@@ -17,6 +17,7 @@ use Rattle.tk_ledgers.specs.Callers.{IsLive}
 use Rattle.tk_ledgers.specs.Ops.{OpSight}
 use Rattle.tk_ledgers.specs.Resources.{ResourceSight}
 use Rattle.tk_ledgers.specs.Tasks.{TaskSight}
+use Rattle.tk_ledgers.specs.Times.{TimesSight}
 use Rattle.tk_fault.specs.declared.fault.AppFault.{AppFault}
 use Rattle.tk_fault.specs.declared.fault.AppFault.TheVariants as faults
 use Rattle.tk_stream.specs.Streams.{Sending, lines_sent, bytes_sent, tables_sent, times_sent, last_sent}
@@ -28,13 +29,13 @@ use Rattle.tk_aggregator.specs.Contents.{Content, content_of}
 use Rattle.tk_live.specs.Blocks.{Block}
 use Rattle.tk_script.specs.Commands.{Said, Line}
 use Rattle.tk_live.specs.Course.{Due, Course, start_of_all, step, line_after, course_of}
-use Rattle.tk_live.specs.Items.{Holds, IsTask, Draws}
+use Rattle.tk_live.specs.Items.{Holds, IsTask, Draws, times_ledger_of}
 use Rattle.tk_live.specs.Named.{made_item}
 use Rattle.tk_live.specs.Pasts.{TaskPast, Pasts}
 use Rattle.tk_live.specs.Ran.{IsStreamOf, written_by}
 use Rattle.tk_script.specs.Refusals.{stop_name}
 use Rattle.tk_live.specs.Script.{FrontOf, Fronts}
-use Rattle.tk_live.specs.Stops.{IsReply, StopReason, stop_by_text, line_stop, Goes, AllGo, LineStopReason}
+use Rattle.tk_live.specs.Stops.{IsReply, StopsBy, StopReason, stop_by_text, line_stop, Goes, AllGo, LineStopReason}
 use Rattle.tk_live.specs.Threads.{Apart}
 use Rattle.tk_live.specs.declared.block.OpenBlock.{OpenBlock}
 use Rattle.tk_live.specs.declared.interpreter.Interpreter.{Interpreter}
@@ -61,7 +62,7 @@ pub record Numbers : Type 0 where
 abbrev pub numbers_of : Pasts → Numbers
 numbers_of ps = record { tasks = length ps.tasks; resources = length ps.resources; ops = length ps.ops }
 
--- the one recorder of a console offered what was recorded, and these marks tell what was kept
+-- the one recorder of a console offered what was recorded, and these marks tell what was kept, and what was refused
 pub record Offered (r : Recording) (capacity : ℕ) (numbers : Numbers) (told : List Content) (kept : List Bool) : Type 0 where
   pub number : r.number ≡ 1
   pub alone : r.recorders ≡ 1
@@ -70,6 +71,7 @@ pub record Offered (r : Recording) (capacity : ℕ) (numbers : Numbers) (told : 
   pub made : offers_made r ≡ length told
   pub few : length told ≤ last_number
   pub picks : map offer_content r.kept ≡ items_where_true kept told
+  pub lost : map offer_content r.refused ≡ items_where_true (map not kept) told
   pub tasks_are : tasks_in r.kept + tasks_in r.refused ≡ numbers.tasks
   pub resources_are : resources_in r.kept + resources_in r.refused ≡ numbers.resources
   pub ops_are : ops_in r.kept + ops_in r.refused ≡ numbers.ops
@@ -97,15 +99,19 @@ RiseTo all from (d ∷ due) = ((k : ℕ) × (from + k ≡ d.recorded)) × RiseTo
 abbrev pub IsTaskLedger : List TaskItem → ℕ → TableId → Type 0
 IsTaskLedger tasks id ledger = (n : ℕ) × (t : TaskItem) × (id ≡ id_of 1 n) × (made_item n tasks ≡ Some t) × (t.callers.token.ledger ≡ ledger)
 
+-- and of a task's histogram
+abbrev pub IsTimesLedger : List TaskItem → ℕ → TableId → Type 0
+IsTimesLedger tasks id ledger = (n : ℕ) × (t : TaskItem) × (id ≡ id_of 1 n) × (made_item n tasks ≡ Some t) × (times_ledger_of t ≡ Some ledger)
+
 abbrev pub IsResourceLedger : List ResourceItem → ℕ → TableId → Type 0
 IsResourceLedger resources id ledger = (n : ℕ) × (r : ResourceItem) × (id ≡ id_of 1 n) × (made_item n resources ≡ Some r) × (r.callers.token.ledger ≡ ledger)
 
 abbrev pub IsOpLedger : List OpItem → ℕ → TableId → Type 0
 IsOpLedger ops id ledger = (n : ℕ) × (o : OpItem) × (id ≡ id_of 1 n) × (made_item n ops ≡ Some o) × (o.callers.token.ledger ≡ ledger)
 
--- an offer of a new item has the ledger of the item of its number
+-- an offer of a new item has the ledger of the item of its number, and that of a task has its histogram's
 abbrev pub OffersLedger : List TaskItem → List ResourceItem → List OpItem → Shown → Type 0
-OffersLedger tasks resources ops (MadeTask info ledger caller times) = IsTaskLedger tasks info.id ledger
+OffersLedger tasks resources ops (MadeTask info ledger caller times) = IsTaskLedger tasks info.id ledger × ((histogram : TableId) → times ≡ Some histogram → IsTimesLedger tasks info.id histogram)
 OffersLedger tasks resources ops (MadeResource info ledger caller) = IsResourceLedger resources info.id ledger
 OffersLedger tasks resources ops (MadeOp info ledger caller) = IsOpLedger ops info.id ledger
 OffersLedger tasks resources ops event = Unit {0}
@@ -114,6 +120,7 @@ OffersLedger tasks resources ops event = Unit {0}
 pub record AreLinked (tasks : List TaskItem) (resources : List ResourceItem) (ops : List OpItem) (kept : List Offer) (a : Aggregating) : Type 0 where
   pub offers : AllByRecursion (λ (o : Offer). OffersLedger tasks resources ops o.event) kept
   pub task_readers : AllByRecursion (λ (s : TaskSight). IsTaskLedger tasks s.id s.token.ledger) a.tasks
+  pub times_readers : AllByRecursion (λ (s : TimesSight). IsTimesLedger tasks s.id s.token.ledger) a.timing.readers
   pub resource_readers : AllByRecursion (λ (s : ResourceSight). IsResourceLedger resources s.id s.token.ledger) a.resources
   pub op_readers : AllByRecursion (λ (s : OpSight). IsOpLedger ops s.id s.token.ledger) a.ops
 
@@ -153,10 +160,12 @@ pub record Represents (i : Interpreter) (settings : Settings) (c : Course) (kept
   pub offered : Offered i.recorder settings.capacity (numbers_of c.pasts) c.told kept
   pub takes : IsTakerOf i.recorder i.taker
   pub taken : map offer_content i.taker.taken ≡ items_where_true (take (recorded_by 0 c.due) kept) (take (recorded_by 0 c.due) c.told)
+  pub gone : i.recorder.gone ≡ length i.taker.taken
   pub has_told : HasTold i.aggregator settings c.now (length c.due) sent
   pub timed : settings.times ≡ true → HaveTimes i.recorder.kept
   pub holds : Holds i.tasks.items i.wakers.items i.resources.items i.ops.items c.pasts
   pub linked : AreLinked i.tasks.items i.resources.items i.ops.items i.recorder.kept i.aggregator
+  pub polled : i.polled ≡ c.polled
   pub capacity_said : i.capacity_said ≡ c.capacity_said
   pub retention_said : i.retention_said ≡ c.retention_said
   pub times_said : i.times_said ≡ c.times_said
@@ -195,16 +204,16 @@ SilentSpec line s old new result =
     (settings : Settings) (c : Course) (kept : List Bool) (sent : List Sending) → Represents old settings c kept sent → SilentResult settings c kept sent line s new result
 
 -- a command went on, with marks and lines more; or it stopped, and a front may have gone out
-abbrev pub CommandResult : (Course → ℕ → Said → Course) → Settings → Course → List Bool → List Sending → ℕ → Said → Interpreter → Result (Unit {0}) Stop → Option (List ℕ) → Option (List ℕ) → Type 0
-CommandResult next settings c kept sent line s new (Ok done) before after =
-    (stop_by_text c s ≡ None) × (marks : List Bool) × (more : List Sending) × Represents new settings (next c line s) (kept ++ marks) (sent ++ more) × Appends before after (bytes_after sent more)
-CommandResult next settings c kept sent line s new (Err stop) before after =
-    StopReason c s stop × (front : List ℕ) × FrontOf sent s stop front × Appends before after front
+abbrev pub CommandResult : (Course → Said → Option Stop) → (Course → ℕ → Said → Course) → Settings → Course → List Bool → List Sending → ℕ → Said → Interpreter → Result (Unit {0}) Stop → Option (List ℕ) → Option (List ℕ) → Type 0
+CommandResult stops next settings c kept sent line s new (Ok done) before after =
+    (stops c s ≡ None) × (marks : List Bool) × (more : List Sending) × Represents new settings (next c line s) (kept ++ marks) (sent ++ more) × Appends before after (bytes_after sent more)
+CommandResult stops next settings c kept sent line s new (Err stop) before after =
+    StopsBy (stops c s) c s stop × (front : List ℕ) × FrontOf sent s stop front × Appends before after front
 
 -- whatever the interpreter stood for, this came of the command
-abbrev pub CommandSpec : (Course → ℕ → Said → Course) → ℕ → Said → Interpreter → Interpreter → Result (Unit {0}) Stop → Option (List ℕ) → Option (List ℕ) → Type 0
-CommandSpec next line s old new result before after =
-    (settings : Settings) (c : Course) (kept : List Bool) (sent : List Sending) → Represents old settings c kept sent → CommandResult next settings c kept sent line s new result before after
+abbrev pub CommandSpec : (Course → Said → Option Stop) → (Course → ℕ → Said → Course) → ℕ → Said → Interpreter → Interpreter → Result (Unit {0}) Stop → Option (List ℕ) → Option (List ℕ) → Type 0
+CommandSpec stops next line s old new result before after =
+    (settings : Settings) (c : Course) (kept : List Bool) (sent : List Sending) → Represents old settings c kept sent → CommandResult stops next settings c kept sent line s new result before after
 
 -- the lines of a block
 abbrev pub block_of : OpenBlock → Block

@@ -1,5 +1,5 @@
 -- Why a command stops a script.
-use Rattle.std.specs.Prelude.{◌≡◌, ℕ, ◌^◌, ◌⊎◌, ◌==◌, ◌||◌, ◌<◌, List, [], ◌∷◌, ◌++◌, length, slice_get, nat_lt, nat_le, Bool, true, false, Option, Some, None, option_map, if◌then◌else◌}
+use Rattle.std.specs.Prelude.{◌≡◌, ℕ, ◌+◌, ◌^◌, ◌⊎◌, ◌==◌, ◌||◌, ◌<◌, List, [], ◌∷◌, ◌++◌, length, slice_get, nat_lt, nat_le, Bool, true, false, Option, Some, None, option_map, if◌then◌else◌}
 use Rattle.std.specs.Option.{option_map_or}
 use Rattle.tk_ids.specs.IdBlocks.{last_number}
 use Rattle.tk_ids.specs.declared.attr.AttrValue.{AttrValue}
@@ -18,12 +18,12 @@ use Rattle.tk_core.specs.ResourceMeaning.{resource_meaning}
 use Rattle.tk_core.specs.TaskMeaning.{task_meaning}
 use Rattle.tk_cell.specs.Calls.{entry}
 use Rattle.tk_live.specs.Blocks.{Block, is_named, spends, lines_of_worker, lines_of_other}
-use Rattle.tk_script.specs.Commands.{Said, Line, skipped, bad, says, opens, joins, works, task, start, finish, polls, close, self_wake, clone, again, wake_ref, wake, release, resource, close_resource, change_resource, op, op_task, start_op, finish_op, close_op, change_op, poll_op, capacity, retention, times, waits, publish}
+use Rattle.tk_script.specs.Commands.{Said, Line, skipped, bad, says, opens, joins, works, task, start, finish, polls, close, self_wake, clone, again, wake_ref, wake, release, resource, close_resource, change_resource, op, op_task, start_op, finish_op, close_op, change_op, poll_op, capacity, retention, times, waits, publish, polls_in}
 use Rattle.tk_live.specs.Course.{Course, line_after}
 use Rattle.tk_live.specs.Named.{made_item, live_item}
 use Rattle.tk_live.specs.Pasts.{Past, TaskPast, ResourcePast, OpPast, Pasts, is_polled, is_polled_op, is_closed_resource, resource_values, op_values, open_task, open_resource, open_op, new_resource}
 use Rattle.tk_script.specs.declared.stop.Stop.{Stop}
-use Rattle.tk_script.specs.declared.stop.Stop.TheVariants.{BadCommand, NoSuchItem, Call, OffersSpent, Clock, NumbersSpent, Memory, WriteFault, NoThread, Stopped}
+use Rattle.tk_script.specs.declared.stop.Stop.TheVariants.{BadCommand, TooManyPolls, NoSuchItem, Call, OffersSpent, Clock, NumbersSpent, Memory, WriteFault, NoThread, Stopped}
 use Rattle.tk_script.specs.declared.block.WorkerLine.{WorkerLine}
 
 -- a call that is made where no poll is open, of what is there
@@ -94,6 +94,14 @@ stop_by_text c (publish moment whole) =
     if nat_lt moment c.now then Some Clock else
     (if nat_le (2 ^ 63) (length c.due) then Some NumbersSpent else None)
 
+-- so many polls `polls` commands make together at most
+abbrev pub most_polls : ℕ
+most_polls = 100000000
+
+-- the stop that the text tells of a command: with it there are too many polls, or what else stops it
+abbrev pub command_stop : Course → Said → Option Stop
+command_stop c s = if nat_lt most_polls (c.polled + polls_in s) then Some TooManyPolls else stop_by_text c s
+
 -- a ledger's own reply to a call on an item: in some legal history, from the row that its command opens it with, the call is refused so
 pub record IsReply {Row C : Type 0} (m : Meaning Row C (Reply Row)) (opening : Option Row) (call : C) (refusal : Refusal) : Type 0 where
   pub row : Row
@@ -134,8 +142,12 @@ StopByEnvironment c (resource at kind concrete attrs) (Call HandlesSpent) = IsRe
 StopByEnvironment c s stop = ⊥
 
 -- why a command stops: by what the text tells, or else where it may fail
+abbrev pub StopsBy : Option Stop → Course → Said → Stop → Type 0
+StopsBy by_text c s stop = (by_text ≡ Some stop) ⊎ StopByEnvironment c s stop
+
+-- where the number of polls was seen to already
 abbrev pub StopReason : Course → Said → Stop → Type 0
-StopReason c s stop = (stop_by_text c s ≡ Some stop) ⊎ StopByEnvironment c s stop
+StopReason c s stop = StopsBy (stop_by_text c s) c s stop
 
 -- the stop that the text tells of a worker's line: its waker has lines of the other worker, or isn't there after the worker's own
 abbrev pub work_stop : List WorkerLine → List WorkerLine → List (Option ℕ) → WorkerLine → Option Stop
@@ -145,7 +157,7 @@ work_stop own others wakers l = if is_named l.waker others then Some BadCommand 
 abbrev pub stop_outside : Course → Line → Option Stop
 stop_outside c skipped = None
 stop_outside c bad = Some BadCommand
-stop_outside c (says s) = stop_by_text c s
+stop_outside c (says s) = command_stop c s
 stop_outside c opens = None
 stop_outside c joins = Some BadCommand
 stop_outside c (works k l) = Some BadCommand

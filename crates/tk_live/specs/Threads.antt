@@ -3,6 +3,7 @@ use Rattle.std.specs.Prelude.{◌≡◌, ℕ, nat_eq, List, ◌∷◌, ◌++◌,
 use Rattle.std.specs.HashMap.{HashMap, get}
 use Rattle.std.specs.List.{AllZip}
 use Rattle.tk_live.specs.Blocks.{is_named, spends}
+use Rattle.tk_live.specs.Items.{times_ledger_of}
 use Rattle.tk_live.specs.declared.items.TaskItem.{TaskItem}
 use Rattle.tk_script.specs.declared.block.WorkerLine.{WorkerLine}
 
@@ -18,6 +19,6 @@ LastsAreLast ls = (before after : List WorkerLine) (l : WorkerLine) → before +
 abbrev pub AreMarked : {S : Type 0} → List WorkerLine → HashMap ℕ Bool S → Type 0
 AreMarked ls marks = (w : ℕ) → get nat_eq marks w ≡ if is_named w ls then Some (spends w ls) else None
 
--- the same tasks, by their ids and ledgers, in order
+-- the same tasks, by their ids and ledgers and those of their histograms, in order
 abbrev pub AreSameTasks : List TaskItem → List TaskItem → Type 0
-AreSameTasks old new = AllZip (λ (s t : TaskItem). (t.callers.id ≡ s.callers.id) × (t.callers.token.ledger ≡ s.callers.token.ledger)) old new
+AreSameTasks old new = AllZip (λ (s t : TaskItem). (t.callers.id ≡ s.callers.id) × (t.callers.token.ledger ≡ s.callers.token.ledger) × (times_ledger_of t ≡ times_ledger_of s)) old new

@@ -18,6 +18,9 @@ use tk_aggregator::{Aggregator, StreamError};
 use tk_events::{Console, Limits, Recorder, Taker};
 use tk_script::{Command, Settings, Stop};
 
+// So many polls `polls` commands make together at most. They take some seconds.
+const MOST_POLLS: u64 = 100_000_000;
+
 /// The recorder, the taker and the aggregator of a script, and what is kept of its items, each at its number.
 #[derive(Drop)]
 pub(crate) struct Interpreter {
@@ -30,6 +33,8 @@ pub(crate) struct Interpreter {
     pub(crate) wakers: Vec<Option<WakerItem>>,
     pub(crate) resources: Vec<ResourceItem>,
     pub(crate) ops: Vec<OpItem>,
+    // How many polls `polls` commands made.
+    pub(crate) polled: u64,
     // Which settings were said, and whether there was any other command.
     pub(crate) capacity_said: bool,
     pub(crate) retention_said: bool,
@@ -55,6 +60,7 @@ impl Interpreter {
     ghost use Rattle.std.specs.Prelude.{◌≡◌, ◌≤◌, ◌||◌, not, ℕ, [], IfOk};
     ghost use Rattle.tk_script.specs.Commands.{view, IsGood, capacity, retention, times, waits, is_setting};
     ghost use Rattle.tk_live.specs.Course.{step, step_on, start_of_all};
+    ghost use Rattle.tk_live.specs.Stops.{command_stop, stop_by_text};
     ghost use Rattle.tk_live.specs.Runs.{Represents, RepresentsSome, CommandSpec, SilentSpec};
 
     pub(crate) fn new(alloc: Global, settings: Settings) -> Result<Interpreter, Stop>
@@ -84,6 +90,7 @@ impl Interpreter {
             wakers: Vec::new(alloc),
             resources: Vec::new(alloc),
             ops: Vec::new(alloc),
+            polled: 0,
             capacity_said: false,
             retention_said: false,
             times_said: false,
@@ -92,7 +99,8 @@ impl Interpreter {
         })
     }
 
-    /// What comes of a command, on a line of this number, and that no setting may stand after it if it is none.
+    /// What comes of a command, on a line of this number, and that no setting may stand after it if it is none. Too many polls stop it
+    /// before anything else does.
     pub(crate) fn run<R: Wait, W: Write>(
         &mut self,
         rt: &R,
@@ -103,12 +111,17 @@ impl Interpreter {
     ) -> Result<(), Stop>
         requires good { IsGood (view command) }
         requires stands { RepresentsSome self.old }
-        ensures { CommandSpec step_on line (view command.entry) self.old self.new result
+        ensures { CommandSpec command_stop step_on line (view command.entry) self.old self.new result
             (W.contents writer.old) (W.contents writer.new) }
     {
+        let polled = self.polled.saturating_add(command.polls());
+        if polled > MOST_POLLS {
+            return Err(Stop::TooManyPolls);
+        }
         let begun = self.begun_by(&command);
         match self.apply(rt, alloc, line, command, writer) {
             Ok(()) => {
+                self.polled = polled;
                 self.begun = begun;
                 Ok(())
             }
@@ -134,7 +147,7 @@ impl Interpreter {
     ) -> Result<(), Stop>
         requires good { IsGood (view command) }
         requires stands { RepresentsSome self.old }
-        ensures { CommandSpec step line (view command.entry) self.old self.new result
+        ensures { CommandSpec stop_by_text step line (view command.entry) self.old self.new result
             (W.contents writer.old) (W.contents writer.new) }
     {
         match command {

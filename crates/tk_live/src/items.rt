@@ -6,7 +6,7 @@ ghost use Rattle.tk_core.specs.declared.op.call.OpCall.TheVariants as op_calls;
 ghost use Rattle.tk_core.specs.declared.resource.call.ResourceCall.TheVariants as resource_calls;
 ghost use Rattle.tk_core.specs.ResourceMeaning.{resource_meaning};
 ghost use Rattle.tk_ledgers.specs.Callers.{IsLive};
-ghost use Rattle.tk_live.specs.Items.{IsTask, IsSameTask, IsSameResource, IsSameOp, TaskDid, WakerDid, ResourceDid, OpDid, IsSpent, Draws};
+ghost use Rattle.tk_live.specs.Items.{AddsTo, IsTask, IsSameTask, IsSameResource, IsSameOp, TaskDid, WakerDid, ResourceDid, OpDid, IsSpent, Draws};
 ghost use Rattle.tk_live.specs.Pasts.{TaskPast, is_polled, is_polled_op, polls_of, resource_values, op_values};
 ghost use Rattle.tk_live.specs.Stops.{IsReply, unless_polled, while_polled, unless_refused};
 ghost use Rattle.tk_script.specs.declared.stop.Stop.TheVariants.{Call};
@@ -72,7 +72,9 @@ fn make_change<R: Wait>(callers: &mut ResourceCallers, rt: &R, user: u64, index:
 }
 
 // Adds how long a poll ran to a histogram, if there is one.
-fn add_time<R: Wait>(times: &mut Option<TimesOwner>, rt: &R, time: u64) {
+fn add_time<R: Wait>(times: &mut Option<TimesOwner>, rt: &R, time: u64)
+    ensures { AddsTo times.old time times.new }
+{
     if let Some(times) = times {
         times.add(rt, time);
     }

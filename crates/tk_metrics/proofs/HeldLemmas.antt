@@ -2,6 +2,7 @@
 use Rattle.std.proofs.Common.{◌≡◌, ◌≤◌, ℕ, ◌+◌, ◌-◌, ◌^◌, List, [], ◌∷◌, ◌++◌, Bool, true, false, cond, subst, sym, arith}
 use Rattle.std.specs.Prelude.{fold, ◌==◌}
 use Rattle.std.specs.Str.{bytes_eq}
+use Rattle.std.proofs.lemmas.List.Sums.{fold-append}
 use Rattle.tk_core.specs.Lists.{capped}
 use Rattle.tk_odd.specs.Charging.{charge_of}
 use Rattle.tk_odd.specs.Diagnosis.{Places, Standing, after_line, begins, ends, goes_on, held_in, is_first, is_over, nothing, opens, plus_held, standing_of, with_one}
@@ -11,7 +12,6 @@ use Rattle.tk_odd.specs.declared.free.Free.{Free}
 use Rattle.tk_odd.specs.declared.held.Held.{Held}
 use Rattle.tk_odd.specs.declared.limits.Limits.{Limits}
 use Rattle.tk_odd.specs.declared.moved.Moved.{Moved}
-use Rattle.tk_odd.proofs.DiagnosisLemmas.{stands_more}
 use Rattle.tk_series.specs.Series.{with_value}
 use Rattle.tk_series.specs.Totals.{AreWithin, shown_at}
 use Rattle.tk_stream.specs.Tables.{TablesView}
@@ -89,7 +89,7 @@ module _ (limits : Limits) (d : Standing) (tables : TablesView) (fits : Fits d) 
   ended_fits =
       let e = goes_on d tables in
       record {
-        places = walk_fits limits.long e.free e.first.now tables.now (moved_of e.members) (looked_at e.members) e.places fits.places;
+        places = walk_fits limits.long e.free e.first.moment tables.now (moved_of e.members) (looked_at e.members) e.places fits.places;
         charged = omega arith;
         queued = omega arith;
         nobody = omega arith;
@@ -110,7 +110,7 @@ module _ (limits : Limits) (d : Standing) (tables : TablesView) (fits : Fits d) 
       by true c = omega arith
       by false true =
           let e = goes_on d tables in
-          walk_more limits.long e.free e.first.now tables.now (moved_of e.members) place (looked_at e.members) e.places fits.places
+          walk_more limits.long e.free e.first.moment tables.now (moved_of e.members) place (looked_at e.members) e.places fits.places
       by false false = omega arith
 
   line_shares : NoneFalls d.shares (after_line limits d tables).shares
@@ -128,6 +128,10 @@ fits_on limits (t ∷ shown) d fits = fits_on limits shown (after_line limits d 
 stands_within : (limits : Limits) (shown : List TablesView) → Fits (standing_of limits shown)
 unfolding standing_of
 stands_within limits shown = fits_on limits shown nothing (record { places = tt; charged = omega arith; queued = omega arith; nobody = omega arith })
+
+stands_more : (limits : Limits) (shown : List TablesView) (tables : TablesView) → standing_of limits (shown ++ tables ∷ []) ≡ after_line limits (standing_of limits shown) tables
+unfolding standing_of
+stands_more limits shown tables = fold-append (after_line limits) nothing shown (tables ∷ [])
 
 pub held_rises : (limits : Limits) (place : List ℕ) (shown : List TablesView) (tables : TablesView) → held_after limits place shown ≤ held_after limits place (shown ++ tables ∷ [])
 held_rises limits place shown tables =

@@ -1,20 +1,27 @@
 -- What leaves with one line more.
-use Rattle.std.proofs.Common.{◌≡◌, List, [], ◌∷◌, ◌++◌, map, refl, ap, sym, subst, ◌∙◌, append_assoc, append-nil}
-use Rattle.tk_stream.specs.Tables.{TablesView, empty_tables}
-use Rattle.tk_metrics.specs.declared.by.By.{By}
-use Rattle.tk_metrics.specs.declared.by.By.TheVariants.{Name, Id}
-use Rattle.tk_metrics.specs.declared.leavers.Leavers.{Leavers}
-use Rattle.tk_metrics.specs.Following.{Notes, last_shown}
-use Rattle.tk_metrics.specs.Leaving.{Holds, gone_in, resources_between, resources_since, tasks_between, tasks_since}
+use Rattle.std.proofs.Common.{◌≡◌, ℕ, List, [], ◌∷◌, ◌++◌, map, cond, refl, ap, sym, subst, ◌∙◌, append_assoc, append-nil}
+use Rattle.tk_stream.specs.Tables.{PollCounts, TablesView, empty_tables}
+use Rattle.tk_stream.specs.Times.{TaskTimes}
+use Rattle.tk_stream.specs.declared.tables.resource.Resource.{Resource}
+use Rattle.tk_stream.specs.declared.tables.task.Task.{Task}
+use Rattle.tk_client.specs.Changes.{ChangeView, IsChange, Timed, left_as, tasks_beside, untimed}
+use Rattle.tk_client.specs.declared.change.LeftTask.{LeftTask}
+use Rattle.tk_reading.specs.Shown.{last_shown, last_timed}
+use Rattle.tk_series.specs.Series.{series_of}
+use Rattle.tk_metrics.specs.declared.keys.Keys.{Keys}
+use Rattle.tk_metrics.specs.declared.left.Left.{Left}
+use Rattle.tk_metrics.specs.Leaving.{Holds, gone_in, left_entries, resources_between, resources_lost, resources_since, tasks_left, tasks_since, with_resources, with_tasks}
 use Rattle.tk_metrics.specs.Metrics.{Gone}
-use Rattle.tk_metrics.specs.Sums.{left_task, resource_entry}
+use Rattle.tk_metrics.specs.Entries.{left_task}
+use Rattle.tk_metrics.specs.Stays.{stays}
+use Rattle.tk_metrics.specs.Sums.{both_ops, plus, resource_entry}
 
-pub tasks_more : (old : TablesView) (shown : List TablesView) (t : TablesView)
-    → tasks_since old (shown ++ t ∷ []) ≡ tasks_since old shown ++ map left_task (tasks_between (last_shown old shown) t)
-tasks_more old [] t = append-nil (map left_task (tasks_between old t))
-tasks_more old (s ∷ shown) t =
-    ap (λ xs. map left_task (tasks_between old s) ++ xs) (tasks_more s shown t)
-    ∙ sym (append_assoc (map left_task (tasks_between old s)) (tasks_since s shown) (map left_task (tasks_between (last_shown s shown) t)))
+pub tasks_more : (by : Keys) (old : TablesView) (shown : List TablesView) (t : TablesView)
+    → tasks_since by old (shown ++ t ∷ []) ≡ tasks_since by old shown ++ tasks_left by (last_shown old shown) t
+tasks_more by old [] t = append-nil (tasks_left by old t)
+tasks_more by old (s ∷ shown) t =
+    ap (λ xs. tasks_left by old s ++ xs) (tasks_more by s shown t)
+    ∙ sym (append_assoc (tasks_left by old s) (tasks_since by s shown) (tasks_left by (last_shown s shown) t))
 
 resources_more : (old : TablesView) (shown : List TablesView) (t : TablesView)
     → resources_since old (shown ++ t ∷ [])
@@ -25,30 +32,30 @@ resources_more old (s ∷ shown) t =
     ∙ sym (append_assoc (map (resource_entry old.counts) (resources_between old s)) (resources_since s shown)
     (map (resource_entry (last_shown s shown).counts) (resources_between (last_shown s shown) t)))
 
-pub last_more : (old : TablesView) (shown : List TablesView) (t : TablesView) → last_shown old (shown ++ t ∷ []) ≡ t
-last_more old [] t = refl
-last_more old (s ∷ shown) t = last_more s shown t
+-- of those that left stands what they were
+entries_are : (by : Keys) (times : List TaskTimes) (ts : List Task) → map (λ (l : LeftTask). left_task by l.task) (map (left_as times) ts) ≡ map (left_task by) ts
+entries_are by times [] = refl
+entries_are by times (t ∷ ts) = ap (λ xs. left_task by t ∷ xs) (entries_are by times ts)
 
--- what is held once these tables are compared with the last ones
-abbrev pub taken_between : Gone → TablesView → TablesView → Gone
-taken_between gone old new = record {
-  tasks = gone.tasks ++ map left_task (tasks_between old new);
-  resources = gone.resources ++ map (resource_entry old.counts) (resources_between old new);
-}
+left-entries : (by : Keys) (before : Timed) (now : TablesView) → left_entries by (map (left_as before.1) (tasks_beside before.0 now)) ≡ tasks_left by before.0 now
+left-entries by before now = ap (λ xs. cond (stays by.by) xs []) (entries_are by before.1 (tasks_beside before.0 now))
 
--- tables by name are compared, and kept
-pub noted_by_name : (by : By) (shown : List TablesView) (t : TablesView) (old new : Leavers) → Notes by shown old → old.by ≡ Name → new.by ≡ old.by
-    → ((gone : Gone) → Holds gone old.left → Holds (taken_between gone old.before t) new.left) → new.before ≡ t → Notes by (shown ++ t ∷ []) new
-noted_by_name Name shown t old new h named kept takes before = record {
-  told = kept ∙ h.told;
-  held = subst (λ gone. Holds gone new.left)
-      (λ i. record { tasks = sym (tasks_more empty_tables shown t) i; resources = sym (resources_more empty_tables shown t) i })
-      (subst (λ b. Holds (taken_between (gone_in Name shown) b t) new.left) h.before (takes (gone_in Name shown) h.held));
-  before = before ∙ sym (last_more empty_tables shown t);
-}
-noted_by_name Id shown t old new h named kept takes before = absurd (let is : Id ≡ Name = sym h.told ∙ named in cc)
-
--- by id they are not
-pub noted_by_id : (by : By) (shown : List TablesView) (t : TablesView) (old : Leavers) → Notes by shown old → old.by ≡ Id → Notes by (shown ++ t ∷ []) old
-noted_by_id Id shown t old h named = record { told = h.told; held = h.held; before = h.before }
-noted_by_id Name shown t old h named = absurd (let is : Name ≡ Id = sym h.told ∙ named in cc)
+-- what a line changed was taken, and what has to be known of the next one
+module _ (by : Keys) (shown : List TablesView) (timed : List Timed) (t : TablesView) (ts : List TaskTimes) (change : ChangeView) (is : IsChange (last_timed untimed timed) (t, ts) change)
+    (same : (last_timed untimed timed).0 ≡ last_shown empty_tables shown) (old mid new : Left) (resources : List Resource) (counts : List PollCounts)
+    (are : resources ≡ (last_shown empty_tables shown).resources) (counted : counts ≡ (last_shown empty_tables shown).counts) (h : Holds (gone_in by shown) old) where
+  pub left_more : ((gone : Gone) → Holds gone old → Holds (with_tasks by change.left gone) mid)
+      → ((gone : Gone) → Holds gone mid → Holds (with_resources resources counts t gone) new)
+      → Holds (gone_in by (shown ++ t ∷ [])) new
+  left_more tasks lost =
+      let last = last_shown empty_tables shown in
+      let left : left_entries by change.left ≡ tasks_left by last t =
+      ap (left_entries by) is.left ∙ left-entries by (last_timed untimed timed) t ∙ ap (λ (b : TablesView). tasks_left by b t) same in
+      let gone = gone_in by shown in
+      let all = lost (with_tasks by change.left gone) (tasks gone h) in
+      record {
+        tasks = all.tasks ∙ ap (λ xs. series_of plus (gone.tasks ++ xs)) left ∙ ap (series_of plus) (sym (tasks_more by empty_tables shown t));
+        resources = all.resources
+            ∙ (λ i. series_of both_ops (gone.resources ++ map (resource_entry (counted i)) (resources_lost (are i) t)))
+            ∙ ap (series_of both_ops) (sym (resources_more empty_tables shown t));
+      }

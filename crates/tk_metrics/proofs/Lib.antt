@@ -4,3 +4,7 @@ pub mod StreamLemmas
 pub mod KeepLemmas
 pub mod RisingLemmas
 pub mod HeldLemmas
+pub mod FollowLemmas
+pub mod HistogramLemmas
+pub mod LatestLemmas
+pub mod KeysLemmas

@@ -14,7 +14,7 @@ use Rattle.tk_stream.specs.Tables.{TablesView}
 use Rattle.tk_metrics.specs.Samples.{family, head_of, label, sample, with_label}
 use Rattle.tk_metrics.specs.declared.blame.Tally.{Tally}
 use Rattle.tk_metrics.specs.declared.by.By.{By}
-use Rattle.tk_metrics.specs.declared.by.By.TheVariants.{Name, Id}
+use Rattle.tk_metrics.specs.declared.by.By.TheVariants.{Name, Id, Place}
 use Rattle.tk_metrics.specs.declared.family.Family.TheVariants as families
 
 -- who holds up whom: what is odd, worst first; for how long the tasks of each place held up others; and what was waited, shared out
@@ -36,6 +36,7 @@ blame_in limits shown tables = record {
 -- the task to look at, before other labels, where each task is shown by itself and a finding is about tasks
 abbrev pub task_label : By → Option ℕ → List ℕ
 task_label Name task = []
+task_label Place task = []
 task_label Id None = []
 task_label Id (Some task) = label (codes "id") (id_text task) ++ 44 ∷ []
 

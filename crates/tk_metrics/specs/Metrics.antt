@@ -1,6 +1,8 @@
 -- The text of a stream's numbers: a function of its tables, of what has left them, of who holds up whom, and of how many lines it has.
 use Rattle.std.specs.Prelude.{ℕ, List, [], ◌++◌, map, filter, length, codes, Bool, true, false}
+use Rattle.std.specs.Option.{option_map_or}
 use Rattle.tk_ids.specs.declared.info.Dropped.{Dropped}
+use Rattle.tk_report.specs.declared.version.TheConstants.{VERSION}
 use Rattle.tk_stream.specs.Tables.{TablesView}
 use Rattle.tk_client.specs.declared.warning.Warning.{Warning}
 use Rattle.tk_client.specs.declared.warning.WarningKind.{WarningKind}
@@ -16,7 +18,10 @@ use Rattle.tk_metrics.specs.declared.sums.PollOps.{PollOps}
 use Rattle.tk_metrics.specs.declared.sums.Sums.{Sums}
 use Rattle.tk_metrics.specs.Samples.{family, head_of, label, sample, with_label}
 use Rattle.tk_series.specs.Series.{series_of}
-use Rattle.tk_metrics.specs.Sums.{both_ops, plus, resource_entry, task_entry}
+use Rattle.tk_metrics.specs.Entries.{task_entry}
+use Rattle.tk_metrics.specs.Keys.{endless, others_in}
+use Rattle.tk_metrics.specs.declared.keys.Keys.{Keys}
+use Rattle.tk_metrics.specs.Sums.{both_ops, plus, resource_entry}
 
 -- what has left the tables: tasks by their name and kind, and resources by their type, each with what it had come to
 pub record Gone : Type 0 where
@@ -112,30 +117,47 @@ dropped_family dropped =
 abbrev pub line_family : ℕ → List ℕ
 line_family lines = head_of families.Lines ++ sample families.Lines ([], lines)
 
+-- the moment of the last line
+abbrev pub moment_family : ℕ → List ℕ
+moment_family now = head_of families.Moment ++ sample families.Moment ([], now)
+
+-- a sample of 1 with the version of the program that made the numbers
+abbrev pub version_sample : List ℕ
+version_sample = sample families.Build (label (codes "version") VERSION.now, 1)
+
+abbrev pub build_family : List ℕ
+build_family = head_of families.Build ++ version_sample
+
 -- ---- the text
 
--- the families of tables, of what has left them, and of lines, one after the other
-abbrev pub text_of : List (List ℕ × Sums) → List (List ℕ × PollOps) → List Warning → Dropped → ℕ → List ℕ
-text_of tasks resources warnings dropped lines =
+-- the families of tables, of what has left them, of lines and the moment of the last one, and of the program, one after the other
+abbrev pub text_of : List (List ℕ × Sums) → List (List ℕ × PollOps) → List Warning → Dropped → ℕ → ℕ → List ℕ
+text_of tasks resources warnings dropped lines now =
     task_families tasks
     ++ (family families.PollOps answer_samples resources
     ++ (warning_family warnings
     ++ (dropped_family dropped
-    ++ line_family lines)))
+    ++ (line_family lines
+    ++ (moment_family now
+    ++ build_family)))))
 
 -- the series of tasks: those that have left, and those of the tables
-abbrev pub task_series : By → TablesView → Gone → List (List ℕ × Sums)
+abbrev pub task_series : Keys → TablesView → Gone → List (List ℕ × Sums)
 task_series by tables gone = series_of plus (gone.tasks ++ map (task_entry by tables.now) tables.tasks)
 
 -- the series of resources
 abbrev pub resource_series : TablesView → Gone → List (List ℕ × PollOps)
 resource_series tables gone = series_of both_ops (gone.resources ++ map (resource_entry tables.counts) tables.resources)
 
--- the numbers of tables with these warnings, then who holds up whom, and the end
-abbrev pub metrics_with : By → TablesView → List Warning → Gone → Blame → ℕ → List ℕ
-metrics_with by tables warnings gone blame lines =
-    text_of (task_series by tables gone) (resource_series tables gone) warnings tables.dropped lines ++ (blame_families by blame ++ codes "# EOF\n")
+-- how many tasks came whose labels don't stand by themselves, where labels have an end
+abbrev pub others_family : Keys → List ℕ
+others_family by = option_map_or (λ names. head_of families.Others ++ sample families.Others ([], others_in names)) by.names []
 
--- the numbers of tables, of what has left them, of who holds up whom, and of so many lines
+-- the numbers of tables with these warnings, then of labels without an own series, who holds up whom, further families, and the end
+abbrev pub metrics_with : Keys → TablesView → List Warning → Gone → Blame → ℕ → List ℕ → List ℕ
+metrics_with by tables warnings gone blame lines more =
+    text_of (task_series by tables gone) (resource_series tables gone) warnings tables.dropped lines tables.now ++ (others_family by ++ (blame_families by.by blame ++ (more ++ codes "# EOF\n")))
+
+-- the numbers of tables, of what has left them, of who holds up whom, and of so many lines, without histograms
 abbrev pub metrics_text : By → LintsView → TablesView → Gone → Blame → ℕ → List ℕ
-metrics_text by lints tables gone blame lines = metrics_with by tables (warnings_in lints tables) gone blame lines
+metrics_text by lints tables gone blame lines = metrics_with (endless by) tables (warnings_in lints tables) gone blame lines []

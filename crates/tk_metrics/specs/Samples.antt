@@ -2,7 +2,7 @@
 use Rattle.std.specs.Prelude.{ℕ, ◌+◌, ◌/◌, ◌%◌, ◌==◌, List, [], ◌∷◌, ◌++◌, codes, decimal, flat_map, if◌then◌else◌}
 use Rattle.tk_metrics.specs.declared.family.Family.{Family}
 use Rattle.tk_metrics.specs.declared.family.FamilyKind.{FamilyKind}
-use Rattle.tk_metrics.specs.declared.family.FamilyKind.TheVariants.{Counter, Gauge}
+use Rattle.tk_metrics.specs.declared.family.FamilyKind.TheVariants.{Counter, Gauge, Histogram}
 use Rattle.tk_metrics.specs.Families.{base_of, help_of, is_in_seconds, kind_of}
 
 -- ---- labels
@@ -48,11 +48,13 @@ seconds n = decimal (n / 1000000000) ++ 46
 abbrev pub kind_word : FamilyKind → List ℕ
 kind_word Counter = codes "counter"
 kind_word Gauge = codes "gauge"
+kind_word Histogram = codes "histogram"
 
 -- counters end so
 abbrev pub suffix : FamilyKind → List ℕ
 suffix Counter = codes "_total"
 suffix Gauge = []
+suffix Histogram = []
 
 -- the name of a family's samples
 abbrev pub name_of : Family → List ℕ

@@ -1,17 +1,18 @@
 -- What is added up of tasks, and of resources.
-use Rattle.std.specs.Prelude.{ℕ, ◌+◌, max, Bool, ◌&&◌, not, is_some, unwrap_or, List, codes, [], ◌++◌, ◌∷◌, if◌then◌else◌}
+use Rattle.std.specs.Prelude.{ℕ, ◌+◌, max, Bool, ◌&&◌, not, is_some, unwrap_or, List, codes, ◌++◌, ◌∷◌, if◌then◌else◌}
 use Rattle.tk_core.specs.Lists.{capped}
 use Rattle.tk_core.specs.Lasting.{runs_for, waits_for}
 use Rattle.tk_core.specs.Task.{waited_of}
 use Rattle.tk_core.specs.declared.task.row.TaskRow.{TaskRow}
 use Rattle.tk_ids.specs.Ids.{id_text}
+use Rattle.tk_odd.specs.Places.{location_text, without_numbers}
 use Rattle.tk_stream.specs.Spelling.{kind_text}
 use Rattle.tk_stream.specs.Tables.{PollCounts, counts_of}
 use Rattle.tk_stream.specs.declared.tables.resource.Resource.{Resource}
 use Rattle.tk_stream.specs.declared.tables.task.Task.{Task}
 use Rattle.tk_metrics.specs.Samples.{label, with_label}
 use Rattle.tk_metrics.specs.declared.by.By.{By}
-use Rattle.tk_metrics.specs.declared.by.By.TheVariants.{Name, Id}
+use Rattle.tk_metrics.specs.declared.by.By.TheVariants.{Name, Id, Place}
 use Rattle.tk_metrics.specs.declared.sums.PollOps.{PollOps}
 use Rattle.tk_metrics.specs.declared.sums.Sums.{Sums}
 
@@ -71,26 +72,20 @@ plus a b = record {
   waiting = capped (a.waiting + b.waiting);
 }
 
--- a task's name and kind
-abbrev pub own_labels : Task → List ℕ
-own_labels t = with_label (label (codes "name") t.info.name) (codes "kind") (kind_text t.info.kind)
+-- a name and a kind
+abbrev pub name_labels : List ℕ → Task → List ℕ
+name_labels name t = with_label (label (codes "name") name) (codes "kind") (kind_text t.info.kind)
 
--- its id before them, where each task is shown by itself
-abbrev pub id_label : By → Task → List ℕ
-id_label Name t = []
-id_label Id t = label (codes "id") (id_text t.info.id) ++ 44 ∷ []
+-- the label of an id
+abbrev pub id_label : Task → List ℕ
+id_label t = label (codes "id") (id_text t.info.id)
 
--- a task's labels
+-- a task's labels: its name and kind; its id before them, where each task is shown by itself; and by places its name but for numbers, its kind, and where
+-- it was spawned
 abbrev pub task_labels : By → Task → List ℕ
-task_labels by t = id_label by t ++ own_labels t
-
--- a task, with what it has come to at a moment
-abbrev pub task_entry : By → ℕ → Task → List ℕ × Sums
-task_entry by now t = (task_labels by t, sums_of now t.row)
-
--- a task that has left
-abbrev pub left_task : Task → List ℕ × Sums
-left_task t = (own_labels t, sums_left t.row)
+task_labels Name t = name_labels t.info.name t
+task_labels Id t = id_label t ++ 44 ∷ name_labels t.info.name t
+task_labels Place t = with_label (name_labels (without_numbers t.info.name) t) (codes "location") (location_text t.info.location)
 
 -- ---- resources
 

@@ -7,6 +7,8 @@ pub enum FamilyKind {
     Counter,
     /// They rise and fall.
     Gauge,
+    /// How many times lie up to each of some bounds, how many there are, and their sum. They only rise.
+    Histogram,
 }
 
 /// One of the numbers of tasks: a count that only rises, or how long something has lasted by now.
@@ -27,11 +29,22 @@ pub enum Count {
     Waiting,
 }
 
+/// Of what a histogram of tasks is.
+#[derive(Clone, Copy, Debug, PartialEq, Eq)]
+pub enum Timing {
+    /// How long polls ran.
+    Polls,
+    /// How long waits for a poll took.
+    Waits,
+}
+
 /// What the samples of one name are of.
 #[derive(Clone, Copy, Debug, PartialEq, Eq)]
 pub enum Family {
     /// A number of tasks.
     Task(Count),
+    /// A histogram of tasks.
+    Times(Timing),
     /// How many tasks are in which state.
     Tasks,
     /// Poll operations of resources.
@@ -42,6 +55,12 @@ pub enum Family {
     Dropped,
     /// Lines of the stream.
     Lines,
+    /// The moment of the last line.
+    Moment,
+    /// The version of the program.
+    Build,
+    /// Tasks whose labels don't stand by themselves.
+    Others,
     /// What is odd about tasks.
     Findings,
     /// For how long tasks held up others.
@@ -103,11 +122,16 @@ impl Family {
             Family::Task(Count::OpenPoll) => "taskscope_task_open_poll_seconds",
             Family::Task(Count::OpenWait) => "taskscope_task_open_wait_seconds",
             Family::Task(Count::Waiting) => "taskscope_task_waiting_seconds",
+            Family::Times(Timing::Polls) => "taskscope_task_poll_seconds",
+            Family::Times(Timing::Waits) => "taskscope_task_wait_seconds",
             Family::Tasks => "taskscope_tasks",
             Family::PollOps => "taskscope_resource_poll_ops",
             Family::Warnings => "taskscope_warnings",
             Family::Dropped => "taskscope_dropped_events",
             Family::Lines => "taskscope_stream_lines",
+            Family::Moment => "taskscope_stream_moment_seconds",
+            Family::Build => "taskscope_build_info",
+            Family::Others => "taskscope_other_tasks",
             Family::Findings => "taskscope_findings",
             Family::HeldUp => "taskscope_held_up_seconds",
             Family::Waited => "taskscope_waited_seconds",
@@ -137,11 +161,16 @@ impl Family {
             Family::Task(Count::Waiting) => {
                 "How long all tasks that wait for a poll have waited for it."
             }
+            Family::Times(Timing::Polls) => "How long polls of tasks ran that have ended.",
+            Family::Times(Timing::Waits) => "How long tasks waited for polls that have started.",
             Family::Tasks => "Tasks by the state that they are in.",
             Family::PollOps => "Poll operations of resources by what they answered.",
             Family::Warnings => "Warnings about tasks.",
             Family::Dropped => "Events that the event buffer had no room for.",
             Family::Lines => "Lines of the stream.",
+            Family::Moment => "The moment of the last line, by the clock of the stream.",
+            Family::Build => "The program that made these numbers.",
+            Family::Others => "Tasks that came and have no series of their own labels.",
             Family::Findings => "How many tasks a finding is about.",
             Family::HeldUp => "How long others waited while tasks of a place ran long.",
             Family::Waited => "How long tasks waited for a poll, by what for.",
@@ -153,9 +182,15 @@ impl Family {
     {
         match self {
             Family::Task(count) => count.kind(),
-            Family::Tasks | Family::Warnings | Family::Findings => FamilyKind::Gauge,
-            Family::PollOps | Family::Dropped | Family::Lines | Family::HeldUp | Family::Waited =>
-                FamilyKind::Counter,
+            Family::Times(_) => FamilyKind::Histogram,
+            Family::Tasks | Family::Warnings | Family::Findings | Family::Moment | Family::Build =>
+                FamilyKind::Gauge,
+            Family::PollOps
+            | Family::Dropped
+            | Family::Lines
+            | Family::Others
+            | Family::HeldUp
+            | Family::Waited => FamilyKind::Counter,
         }
     }
 
@@ -165,7 +200,7 @@ impl Family {
     {
         match self {
             Family::Task(count) => count.is_time(),
-            Family::HeldUp | Family::Waited => true,
+            Family::Times(_) | Family::HeldUp | Family::Waited | Family::Moment => true,
             _ => false,
         }
     }

@@ -4,22 +4,24 @@ ghost use Rattle.std.specs.Io.KnownBytes.{Consumes, IsAtEnd};
 ghost use Rattle.tk_reading.specs.Taken.{first};
 ghost use Rattle.tk_stream.specs.Tables.{TablesView};
 ghost use Rattle.tk_metrics.specs.Following.{Sees};
+ghost use Rattle.tk_client.specs.Changes.{Timed, untimed};
+ghost use Rattle.tk_reading.specs.Shown.{last_timed};
 ghost use Rattle.tk_metrics.specs.Keeping.{Keeps};
 ghost use Rattle.tk_metrics.specs.Kept as spec;
 ghost use Rattle.tk_metrics.specs.Places.{Texts};
 ghost use Rattle.tk_metrics.specs.Streams.{numbers_after, usual};
-ghost use Rattle.tk_metrics.specs.declared.by.By.{By as Told};
+ghost use Rattle.tk_metrics.specs.declared.apart.Apart.{Apart as Told};
 
-use crate::by::By;
+use crate::apart::Apart;
+use crate::follower::Follower;
 use crate::following::{before_all, numbers_now};
-use crate::leavers::Leavers;
 use crate::place::Place;
+use crate::reading::follow_lines;
 use std::alloc::Global;
 use std::io::Read;
 use tk_client::{Client, Lints};
 use tk_fault::AppFault;
-use tk_odd::Diagnosis;
-use tk_reading::{Both, MAX_LINE, PIECE, Pace, feed_lines};
+use tk_reading::{MAX_LINE, PIECE, Pace};
 
 // How many lines are applied, and how many were when numbers were last put, if they were.
 #[derive(Clone, Copy)]
@@ -32,13 +34,14 @@ struct Progress {
 fn put_now<P: Place>(
     client: &Client,
     alloc: Global,
-    seen: &Both<Leavers, Diagnosis>,
+    seen: &Follower,
     place: &mut P,
     path: &str,
     lints: &Lints,
 ) -> Result<(), AppFault>
-    ensures { (by : Told) (shown : List TablesView) → Sees by (usual lints.now) shown seen.now
-        → spec.PutsNow path.now (numbers_after by lints.now shown client.now.start.tables) result
+    ensures { (by : Told) (shown : List TablesView) (timed : List Timed) → client.now.start.tables ≡ (last_timed untimed timed).0
+        → Sees by (usual lints.now) shown timed seen.now
+        → spec.PutsNow path.now (numbers_after by lints.now shown timed client.now.start.tables) result
         (P.texts place.old) (P.texts place.new) }
 {
     let Ok(text) = numbers_now(alloc, client, seen, lints) else {
@@ -56,11 +59,17 @@ fn is_of_stream(fault: &AppFault) -> bool
     matches!(fault, AppFault::Stream { .. })
 }
 
+fn is_of_place(fault: &AppFault) -> bool
+    ensures { result ≡ spec.is_of_place fault.now }
+{
+    matches!(fault, AppFault::Write)
+}
+
 // Takes a piece. At a fault of the stream the numbers of what stands are put.
 fn take_piece<P: Place>(
     client: &mut Client,
     alloc: Global,
-    seen: &mut Both<Leavers, Diagnosis>,
+    seen: &mut Follower,
     place: &mut P,
     path: &str,
     lints: &Lints,
@@ -74,7 +83,7 @@ fn take_piece<P: Place>(
         → spec.Goes path.now by lints.now given new result put client.new seen.new old (P.texts place.new) }
     ensures few { IfOk result (λ sum. sum ≤ lines + 65536) }
 {
-    match feed_lines(client, seen, lines, piece) {
+    match follow_lines(client, seen, lines, piece) {
         Ok(sum) => Ok(sum),
         Err(fault) => {
             if is_of_stream(&fault) {
@@ -96,11 +105,38 @@ fn is_new(lines: u64, put: Option<u64>) -> bool
     }
 }
 
+// Puts the numbers of what a client has come to, and answers of how many lines numbers were last put. A place that doesn't take them keeps those
+// before, and is tried again when it is time.
+fn try_now<P: Place>(
+    client: &Client,
+    alloc: Global,
+    seen: &Follower,
+    place: &mut P,
+    path: &str,
+    lints: &Lints,
+    progress: Progress,
+) -> Result<Option<u64>, AppFault>
+    requires { (most : ℕ) → progress.put ≡ Option.Some most → most < progress.lines }
+    ensures { (by : Told) (given left : Option (List ℕ)) (old : Option Texts)
+        → spec.Kept path.now by lints.now given left progress.lines progress.put client.now seen.now old (P.texts place.old)
+        → spec.Went path.now by lints.now given left progress.lines result client.now seen.now old (P.texts place.new) }
+{
+    match put_now(client, alloc, seen, place, path, lints) {
+        Ok(()) => Ok(Some(progress.lines)),
+        Err(fault) => {
+            if is_of_place(&fault) {
+                return Ok(progress.put);
+            }
+            Err(AppFault::Memory)
+        }
+    }
+}
+
 // Puts numbers where lines came since they were last put, of so many, and where it is time. It answers of how many they were last put.
 fn put_due<P: Place, C: Pace>(
     client: &Client,
     alloc: Global,
-    seen: &Both<Leavers, Diagnosis>,
+    seen: &Follower,
     place: &mut P,
     path: &str,
     lints: &Lints,
@@ -114,16 +150,16 @@ fn put_due<P: Place, C: Pace>(
     if !is_new(progress.lines, progress.put) || !pace.is_due() {
         return Ok(progress.put);
     }
-    put_now(client, alloc, seen, place, path, lints)?;
+    let put = try_now(client, alloc, seen, place, path, lints, progress)?;
     pace.mark();
-    Ok(Some(progress.lines))
+    Ok(put)
 }
 
 // Takes a piece that was read, and puts numbers where it is time.
 fn after_piece<P: Place, C: Pace>(
     client: &mut Client,
     alloc: Global,
-    seen: &mut Both<Leavers, Diagnosis>,
+    seen: &mut Follower,
     place: &mut P,
     path: &str,
     lints: &Lints,
@@ -160,7 +196,7 @@ fn after_piece<P: Place, C: Pace>(
 fn at_end<P: Place, C: Pace>(
     client: &Client,
     alloc: Global,
-    seen: &Both<Leavers, Diagnosis>,
+    seen: &Follower,
     place: &mut P,
     path: &str,
     lints: &Lints,
@@ -187,7 +223,7 @@ fn at_end<P: Place, C: Pace>(
 fn step<R: Read, P: Place, C: Pace>(
     client: &mut Client,
     alloc: Global,
-    seen: &mut Both<Leavers, Diagnosis>,
+    seen: &mut Follower,
     reader: &mut R,
     place: &mut P,
     path: &str,
@@ -223,7 +259,7 @@ fn step<R: Read, P: Place, C: Pace>(
 // What `keep_metrics` does by a new client and what follows its lines. It gives up after 2^32 reads.
 fn keep_seen<R: Read, P: Place, C: Pace>(
     client: &mut Client,
-    seen: &mut Both<Leavers, Diagnosis>,
+    seen: &mut Follower,
     alloc: Global,
     reader: &mut R,
     place: &mut P,
@@ -232,8 +268,8 @@ fn keep_seen<R: Read, P: Place, C: Pace>(
     pace: &mut C,
 ) -> Result<(), AppFault>
     requires client { client.old ≡ first }
-    requires seen { Sees seen.old.first.by (usual lints.now) [] seen.old }
-    ensures { Keeps path.now seen.old.first.by lints.now (R.remaining reader.old) (R.remaining reader.new) result (P.texts place.old) (P.texts place.new) }
+    requires seen { Sees seen.old.leavers.by (usual lints.now) [] [] seen.old }
+    ensures { Keeps path.now seen.old.leavers.by lints.now (R.remaining reader.old) (R.remaining reader.new) result (P.texts place.old) (P.texts place.new) }
 {
     let mut piece = [0u8; PIECE];
     let mut progress = Progress {
@@ -258,7 +294,7 @@ fn keep_by<R: Read, P: Place, C: Pace>(
     reader: &mut R,
     place: &mut P,
     path: &str,
-    by: By,
+    by: Apart,
     lints: &Lints,
     pace: &mut C,
 ) -> Result<(), AppFault>
@@ -277,7 +313,8 @@ fn keep_by<R: Read, P: Place, C: Pace>(
 /// - `Memory`: there was no memory for the tables or for a text, which then wasn't put.
 /// - `Read`: the reader failed, or gave no end within 2^32 reads.
 /// - `Stream`: a line has a fault, or more than 268,435,456 bytes. The numbers of the lines before it were put.
-/// - `Write`: the place didn't take a text.
+/// - `Write`: the place didn't take the last text, that of all or that of the lines before a fault. An earlier one that it didn't take is let go:
+///   numbers are put anew once more lines came, or the pace allows it.
 ///
 /// At each of them the place holds what was put last.
 pub fn keep_metrics<R: Read, P: Place, C: Pace>(
@@ -285,7 +322,7 @@ pub fn keep_metrics<R: Read, P: Place, C: Pace>(
     reader: &mut R,
     place: &mut P,
     path: &str,
-    by: By,
+    by: Apart,
     lints: &Lints,
     pace: &mut C,
 ) -> Result<(), AppFault>

@@ -5,33 +5,33 @@ ghost use Rattle.tk_report.specs.Views.{IsOfWriter};
 ghost use Rattle.tk_metrics.specs.Following.{Sees};
 ghost use Rattle.tk_metrics.specs.Streams.{Measures, usual};
 
-use crate::by::By;
+use crate::apart::Apart;
+use crate::follower::Follower;
 use crate::following::{before_all, numbers_now};
-use crate::leavers::Leavers;
+use crate::reading::follow_stream;
 use std::alloc::Global;
 use std::io::{Read, Write};
 use tk_client::{Client, Lints};
 use tk_fault::AppFault;
-use tk_odd::Diagnosis;
-use tk_reading::{Both, MAX_LINE, read_stream};
+use tk_reading::MAX_LINE;
 use tk_stream::send;
 
 // What `metrics_stream` does by a new client and what follows its lines.
 fn write_seen<R: Read, W: Write>(
     client: &mut Client,
-    seen: &mut Both<Leavers, Diagnosis>,
+    seen: &mut Follower,
     alloc: Global,
     reader: &mut R,
     writer: &mut W,
     lints: &Lints,
 ) -> Result<(), AppFault>
     requires client { client.old ≡ first }
-    requires seen { Sees seen.old.first.by (usual lints.now) [] seen.old }
-    ensures measures { Measures seen.old.first.by lints.now (R.remaining reader.old) (R.remaining reader.new) result
+    requires seen { Sees seen.old.leavers.by (usual lints.now) [] [] seen.old }
+    ensures measures { Measures seen.old.leavers.by lints.now (R.remaining reader.old) (R.remaining reader.new) result
         (W.contents writer.old) (W.contents writer.new) }
     ensures unwritten { IfErr result (λ fault. (IsOfWriter fault → ⊥) → writer.new ≡ writer.old) }
 {
-    read_stream(client, seen, reader)?;
+    follow_stream(client, seen, reader)?;
     let Ok(text) = numbers_now(alloc, client, seen, lints) else {
         return Err(AppFault::Memory);
     };
@@ -47,7 +47,7 @@ fn write_by<R: Read, W: Write>(
     alloc: Global,
     reader: &mut R,
     writer: &mut W,
-    by: By,
+    by: Apart,
     lints: &Lints,
 ) -> Result<(), AppFault>
     requires { client.old ≡ first }
@@ -70,7 +70,7 @@ pub fn metrics_stream<R: Read, W: Write>(
     alloc: Global,
     reader: &mut R,
     writer: &mut W,
-    by: By,
+    by: Apart,
     lints: &Lints,
 ) -> Result<(), AppFault>
     ensures measures { Measures by lints.now (R.remaining reader.old) (R.remaining reader.new) result

@@ -1,20 +1,27 @@
 //! What is added up of tasks, and of resources.
-ghost use Rattle.std.specs.Prelude.{◌≡◌, ◌++◌, ℕ, List, IfOk, OnOk, map, slice_get};
+ghost use Rattle.std.specs.Prelude.{◌≡◌, ◌++◌, ℕ, List, IfOk, OnOk, codes, map, slice_get};
 ghost use Rattle.std.specs.Option.{option_map_or};
+ghost use Rattle.tk_odd.specs.Places.{location_text};
 ghost use Rattle.tk_report.specs.Pieces.{Puts};
 ghost use Rattle.tk_series.specs.Series.{series_of, with_value};
+ghost use Rattle.tk_metrics.specs.Entries.{task_entry};
+ghost use Rattle.tk_metrics.specs.Keys.{labels_in};
+ghost use Rattle.tk_metrics.specs.Samples.{label};
 ghost use Rattle.tk_metrics.specs.Sums as spec;
 ghost use Rattle.tk_metrics.specs.declared.sums.PollOps.{PollOps as PollOpsView};
 ghost use Rattle.tk_metrics.specs.declared.sums.Sums.{Sums as SumsView};
 
 use crate::by::By;
 use crate::family::Count;
+use crate::keys::Keys;
 use crate::text::{put, put_label};
 use std::alloc::{AllocError, Global};
 use tk_core::TaskRow;
+use tk_ids::ResourceId;
+use tk_odd::without_numbers;
 use tk_report::kind_word;
 use tk_series::{Added, Series};
-use tk_stream::{Resource, Tables, Task};
+use tk_stream::{Resource, Table, Tables, Task};
 
 /// What tasks have come to, and how many are in which state. A sum that passes 2^64 - 1 stays there.
 #[derive(Clone, Copy, Debug, PartialEq, Eq)]
@@ -159,59 +166,79 @@ fn sums_of(row: &TaskRow, now: u64) -> Sums
     }
 }
 
-fn put_own_labels(out: &mut Vec<u8>, task: &Task) -> Result<(), AllocError>
-    ensures { OnOk result (Puts out.old.items out.new.items (spec.own_labels task.now)) }
+fn put_name_labels(out: &mut Vec<u8>, name: &[u8], task: &Task) -> Result<(), AllocError>
+    ensures { OnOk result (Puts out.old.items out.new.items (spec.name_labels name.now task.now)) }
 {
-    put_label(out, "name", task.info.name.as_bytes())?;
+    put_label(out, "name", name)?;
     put(out, ",")?;
     put_label(out, "kind", kind_word(task.info.kind).as_bytes())
 }
 
-fn put_id_label(out: &mut Vec<u8>, alloc: Global, by: By, task: &Task) -> Result<(), AllocError>
-    ensures { OnOk result (Puts out.old.items out.new.items (spec.id_label by task.now)) }
+fn put_id_label(out: &mut Vec<u8>, alloc: Global, task: &Task) -> Result<(), AllocError>
+    ensures { OnOk result (Puts out.old.items out.new.items (spec.id_label task.now)) }
+{
+    let id = format!(in alloc; "{}", task.info.id)?;
+    put_label(out, "id", id.as_bytes())
+}
+
+fn put_labels_by_id(out: &mut Vec<u8>, alloc: Global, task: &Task) -> Result<(), AllocError>
+    ensures { OnOk result (Puts out.old.items out.new.items (spec.task_labels By.Id task.now)) }
+{
+    put_id_label(out, alloc, task)?;
+    put(out, ",")?;
+    put_name_labels(out, task.info.name.as_bytes(), task)
+}
+
+fn put_location(out: &mut Vec<u8>, alloc: Global, task: &Task) -> Result<(), AllocError>
+    ensures { OnOk result (Puts out.old.items out.new.items (label (codes "location") (location_text task.now.info.location))) }
+{
+    let at = &task.info.location;
+    let text = format!(in alloc; "{}:{}:{}", at.file, at.line, at.column)?;
+    put_label(out, "location", text.as_bytes())
+}
+
+fn put_labels_by_place(out: &mut Vec<u8>, alloc: Global, task: &Task) -> Result<(), AllocError>
+    ensures { OnOk result (Puts out.old.items out.new.items (spec.task_labels By.Place task.now)) }
+{
+    let name = without_numbers(alloc, task.info.name.as_bytes())?;
+    put_name_labels(out, name.as_slice(), task)?;
+    put(out, ",")?;
+    put_location(out, alloc, task)
+}
+
+fn put_task_labels(out: &mut Vec<u8>, alloc: Global, by: By, task: &Task) -> Result<(), AllocError>
+    ensures { OnOk result (Puts out.old.items out.new.items (spec.task_labels by task.now)) }
 {
     match by {
-        By::Name => Ok(()),
-        By::Id => {
-            let id = format!(in alloc; "{}", task.info.id)?;
-            put_label(out, "id", id.as_bytes())?;
-            put(out, ",")
-        }
+        By::Name => put_name_labels(out, task.info.name.as_bytes(), task),
+        By::Id => put_labels_by_id(out, alloc, task),
+        By::Place => put_labels_by_place(out, alloc, task),
     }
 }
 
-/// A task's name and kind.
-pub(crate) fn own_labels(alloc: Global, task: &Task) -> Result<Vec<u8>, AllocError>
-    ensures { IfOk result (λ labels. labels.items ≡ spec.own_labels task.now) }
-{
-    let mut labels = Vec::new(alloc);
-    put_own_labels(&mut labels, task)?;
-    Ok(labels)
-}
-
-fn task_labels(alloc: Global, by: By, task: &Task) -> Result<Vec<u8>, AllocError>
+/// The labels of a task itself.
+pub(crate) fn task_labels(alloc: Global, by: By, task: &Task) -> Result<Vec<u8>, AllocError>
     ensures { IfOk result (λ labels. labels.items ≡ spec.task_labels by task.now) }
 {
     let mut labels = Vec::new(alloc);
-    put_id_label(&mut labels, alloc, by, task)?;
-    put_own_labels(&mut labels, task)?;
+    put_task_labels(&mut labels, alloc, by, task)?;
     Ok(labels)
 }
 
 fn add_task_at(
     series: &mut Series<Sums>,
     alloc: Global,
-    by: By,
+    keys: &Keys,
     tables: &Tables,
     place: usize,
 ) -> Result<(), AllocError>
     ensures { OnOk result (series.new ≡ option_map_or
-        (λ t. with_value spec.plus (spec.task_labels by t) (spec.sums_of tables.now.now t.row) series.old) (slice_get tables.now.tasks place) series.old) }
+        (λ t. with_value spec.plus (labels_in keys.now t) (spec.sums_of tables.now.now t.row) series.old) (slice_get tables.now.tasks place) series.old) }
 {
     match tables.task_at(place) {
         Some(task) => {
             let sums = sums_of(&task.row, tables.now());
-            series.add(task_labels(alloc, by, task)?, sums)
+            series.add(keys.labels(alloc, task)?, sums)
         }
         None => Ok(()),
     }
@@ -221,21 +248,40 @@ fn add_task_at(
 pub(crate) fn add_tasks(
     series: &mut Series<Sums>,
     alloc: Global,
-    by: By,
+    keys: &Keys,
     tables: &Tables,
 ) -> Result<(), AllocError>
     ensures { (before : List (List ℕ × SumsView)) → series.old ≡ series_of spec.plus before
-        → OnOk result (series.new ≡ series_of spec.plus (before ++ map (spec.task_entry by tables.now.now) tables.now.tasks)) }
+        → OnOk result (series.new ≡ series_of spec.plus (before ++ map (task_entry keys.now tables.now.now) tables.now.tasks)) }
 {
     for place in 0..tables.task_count() {
-        add_task_at(series, alloc, by, tables, place)?;
+        add_task_at(series, alloc, keys, tables, place)?;
     }
     Ok(())
 }
 
 // ---- resources
 
-pub(crate) fn poll_ops(tables: &Tables, resource: &Resource) -> PollOps
+/// How many poll operations of resources were ready, and how many pending.
+pub(crate) type Counts = Table<(ResourceId, u64, u64)>;
+
+/// Those of a resource.
+pub(crate) fn ops_in(counts: &Counts, resource: &Resource) -> PollOps
+    ensures { result ≡ spec.poll_ops counts.now resource.now }
+{
+    match counts.with_id(resource.info.id.value()) {
+        Some((_, ready, pending)) => PollOps {
+            ready: *ready,
+            pending: *pending,
+        },
+        None => PollOps {
+            ready: 0,
+            pending: 0,
+        },
+    }
+}
+
+fn poll_ops(tables: &Tables, resource: &Resource) -> PollOps
     ensures { result ≡ spec.poll_ops tables.now.counts resource.now }
 {
     let (ready, pending) = tables.poll_counts(resource.info.id);

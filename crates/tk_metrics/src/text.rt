@@ -19,7 +19,7 @@ pub(crate) fn put_bytes(out: &mut Vec<u8>, bytes: &[u8]) -> Result<(), AllocErro
     out.extend_from_slice(bytes)
 }
 
-fn put_number(out: &mut Vec<u8>, number: u64) -> Result<(), AllocError>
+pub(crate) fn put_number(out: &mut Vec<u8>, number: u64) -> Result<(), AllocError>
     ensures { OnOk result (Puts out.old.items out.new.items (decimal number)) }
 {
     let mut buffer = Buffer::new();
@@ -77,7 +77,7 @@ fn digit(number: u64, unit: u64) -> u8
     b'0' + (number / unit % 10) as u8
 }
 
-fn put_seconds(out: &mut Vec<u8>, nanos: u64) -> Result<(), AllocError>
+pub(crate) fn put_seconds(out: &mut Vec<u8>, nanos: u64) -> Result<(), AllocError>
     ensures { OnOk result (Puts out.old.items out.new.items (spec.seconds nanos)) }
 {
     put_number(out, nanos / 1_000_000_000)?;
@@ -104,6 +104,7 @@ fn kind_word(kind: FamilyKind) -> &'static str
     match kind {
         FamilyKind::Counter => "counter",
         FamilyKind::Gauge => "gauge",
+        FamilyKind::Histogram => "histogram",
     }
 }
 
@@ -112,7 +113,7 @@ fn suffix(kind: FamilyKind) -> &'static str
 {
     match kind {
         FamilyKind::Counter => "_total",
-        FamilyKind::Gauge => "",
+        FamilyKind::Gauge | FamilyKind::Histogram => "",
     }
 }
 

@@ -1,17 +1,21 @@
 //! The text of numbers, family by family.
-ghost use Rattle.std.specs.Prelude.{◌≡◌, OnOk, slice_get, []};
+ghost use Rattle.std.specs.Prelude.{◌≡◌, ◌++◌, OnOk, slice_get, []};
 ghost use Rattle.std.specs.Option.{option_map_or};
 ghost use Rattle.tk_report.specs.Pieces.{Puts};
+ghost use Rattle.tk_metrics.specs.Keys.{others_in as others_of};
 ghost use Rattle.tk_metrics.specs.Metrics as spec;
-ghost use Rattle.tk_metrics.specs.Samples.{family as family_text, sample, with_label};
+ghost use Rattle.tk_metrics.specs.Samples.{family as family_text, head_of, sample, with_label};
 
+use crate::blame::Tally;
 use crate::family::{Count, Family};
+use crate::keys::{Keys, others_in};
 use crate::sums::{PollOps, Sums};
 use crate::text::{put, put_bytes, put_head, put_label, put_sample};
 use std::alloc::{AllocError, Global};
 use tk_client::{Warning, WarningKind};
 use tk_ids::Dropped;
-use tk_series::Series;
+use tk_report::VERSION;
+use tk_series::{Limited, Series};
 
 // ---- tasks
 
@@ -246,7 +250,8 @@ fn put_dropped(out: &mut Vec<u8>, alloc: Global, dropped: Dropped) -> Result<(),
     put_head(out, Family::Dropped)?;
     put_kind(out, alloc, Family::Dropped, "task", dropped.tasks)?;
     put_kind(out, alloc, Family::Dropped, "resource", dropped.resources)?;
-    put_kind(out, alloc, Family::Dropped, "op", dropped.ops)
+    put_kind(out, alloc, Family::Dropped, "op", dropped.ops)?;
+    Ok(())
 }
 
 fn put_lines(out: &mut Vec<u8>, lines: u64) -> Result<(), AllocError>
@@ -256,7 +261,46 @@ fn put_lines(out: &mut Vec<u8>, lines: u64) -> Result<(), AllocError>
     put_sample(out, Family::Lines, b"", lines)
 }
 
-/// Puts the families of tables, of what has left them, and of lines.
+fn put_moment(out: &mut Vec<u8>, now: u64) -> Result<(), AllocError>
+    ensures { OnOk result (Puts out.old.items out.new.items (spec.moment_family now)) }
+{
+    put_head(out, Family::Moment)?;
+    put_sample(out, Family::Moment, b"", now)
+}
+
+fn put_version(out: &mut Vec<u8>, alloc: Global) -> Result<(), AllocError>
+    ensures { OnOk result (Puts out.old.items out.new.items spec.version_sample) }
+{
+    let mut labels = Vec::new(alloc);
+    put_label(&mut labels, "version", VERSION.as_bytes())?;
+    put_sample(out, Family::Build, labels.as_slice(), 1)
+}
+
+fn put_build(out: &mut Vec<u8>, alloc: Global) -> Result<(), AllocError>
+    ensures { OnOk result (Puts out.old.items out.new.items spec.build_family) }
+{
+    put_head(out, Family::Build)?;
+    put_version(out, alloc)
+}
+
+fn put_others_of(out: &mut Vec<u8>, names: &Limited<Tally>) -> Result<(), AllocError>
+    ensures { OnOk result (Puts out.old.items out.new.items (head_of Family.Others ++ sample Family.Others ([], others_of names.now))) }
+{
+    put_head(out, Family::Others)?;
+    put_sample(out, Family::Others, b"", others_in(names))
+}
+
+/// Puts how many tasks came whose labels don't stand by themselves, where labels have an end.
+pub(crate) fn put_others(out: &mut Vec<u8>, keys: &Keys) -> Result<(), AllocError>
+    ensures { OnOk result (Puts out.old.items out.new.items (spec.others_family keys.now)) }
+{
+    match keys.names() {
+        Some(names) => put_others_of(out, names),
+        None => Ok(()),
+    }
+}
+
+/// Puts the families of tables, of what has left them, of lines, and of the program.
 pub(crate) fn put_text(
     out: &mut Vec<u8>,
     alloc: Global,
@@ -265,14 +309,17 @@ pub(crate) fn put_text(
     warnings: &[Warning],
     dropped: Dropped,
     lines: u64,
+    now: u64,
 ) -> Result<(), AllocError>
     ensures { OnOk result (Puts out.old.items out.new.items
-        (spec.text_of tasks.now resources.now warnings.now dropped lines)) }
+        (spec.text_of tasks.now resources.now warnings.now dropped lines now)) }
 {
     put_tasks(out, alloc, tasks)?;
     put_resources(out, alloc, resources)?;
     put_warnings(out, alloc, warnings)?;
     put_dropped(out, alloc, dropped)?;
     put_lines(out, lines)?;
+    put_moment(out, now)?;
+    put_build(out, alloc)?;
     Ok(())
 }

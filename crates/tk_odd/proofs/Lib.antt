@@ -3,3 +3,4 @@ mod ShareLemmas
 pub mod ListLemmas
 pub mod LoopLemmas
 pub mod MemberLemmas
+pub mod RowLemmas

@@ -15,6 +15,7 @@ use Rattle.tk_odd.specs.Members.{Member, looked_at, members_after, moved_of}
 use Rattle.tk_odd.specs.Sharing.{nobody}
 use Rattle.tk_odd.specs.Victims.{Pairs, pairs_after}
 use Rattle.tk_odd.specs.Steps.{are_left_alone, free_after, is_overloaded, is_passed, stood_still}
+use Rattle.tk_odd.specs.Waiters.{WaitersView, no_waiters, waiters_of}
 
 -- ---- places
 
@@ -70,12 +71,12 @@ places_after long free from to members places =
 
 -- ---- line by line
 
--- what stands after some lines: how many there were, the tables at the begin of the step that isn't over, those of the last line, who ran or waited in
+-- what stands after some lines: how many there were, who waited at the begin of the step that isn't over, the tables of the last line, who ran or waited in
 -- that step, the places and who was charged, who waited for whom, what free steps were like, what was waited, when tasks waited and no task was to blame, and who was
 -- passed over in the last step
 pub record Standing : Type 0 where
   pub lines : ℕ
-  pub first : TablesView
+  pub first : WaitersView
   pub before : TablesView
   pub members : List Member
   pub places : Places
@@ -90,7 +91,7 @@ pub record Standing : Type 0 where
 abbrev pub nothing : Standing
 nothing = record {
   lines = 0;
-  first = empty_tables;
+  first = no_waiters;
   before = empty_tables;
   members = [];
   places = ([], []);
@@ -121,7 +122,7 @@ ends limits d tables =
     let moved = moved_of d.members in
     let long = limits.long in
     let wait = limits.lints.never_yielded_ns in
-    let from = d.first.now in
+    let from = d.first.moment in
     let time = tables.now - from in
     record d {
       places = places_after long d.free from tables.now d.members d.places;
@@ -135,7 +136,7 @@ ends limits d tables =
 
 -- a step begins with these tables
 abbrev pub begins : Standing → TablesView → Standing
-begins d tables = record d { first = tables; members = [] }
+begins d tables = record d { first = waiters_of tables; members = [] }
 
 -- the first line: what was before it is in no step
 abbrev pub opens : Standing → TablesView → Standing
@@ -147,7 +148,7 @@ goes_on d tables = record d { lines = capped (d.lines + 1); before = tables; mem
 
 -- a step is over once it is as long as a long poll
 abbrev pub is_over : Limits → Standing → TablesView → Bool
-is_over limits d tables = nat_le limits.long (tables.now - d.first.now)
+is_over limits d tables = nat_le limits.long (tables.now - d.first.moment)
 
 -- a line more
 abbrev pub after_line : Limits → Standing → TablesView → Standing

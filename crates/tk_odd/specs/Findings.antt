@@ -202,9 +202,9 @@ put_in ys x = insert ys (rank ys x.1) x
 -- all that is odd: of places in the order in which they first came, of all, and of tasks in table order
 abbrev pub all_odd : Limits → Standing → TablesView → List Placed
 all_odd limits d tables =
-    filter_map (of_place limits.long d.first.now (running limits.long tables)) d.places.0
-    ++ of_all LeftAlone d.alone d.first.now
-    ++ of_all Overloaded d.overloaded d.first.now
+    filter_map (of_place limits.long d.first.moment (running limits.long tables)) d.places.0
+    ++ of_all LeftAlone d.alone d.first.moment
+    ++ of_all Overloaded d.overloaded d.first.moment
     ++ map sign_placed (of_tasks limits tables.now d.passed tables.tasks)
 
 -- all that is odd, worst first

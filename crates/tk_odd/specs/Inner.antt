@@ -3,8 +3,10 @@ use Rattle.std.specs.Prelude.{◌≡◌, ℕ, List, map}
 use Rattle.tk_odd.specs.declared.diagnosis.Diagnosis.{Diagnosis}
 use Rattle.tk_odd.specs.declared.members.Member.{Member as Kept}
 use Rattle.tk_odd.specs.declared.places.Places.{Places as KeptPlaces}
-use Rattle.tk_stream.specs.Tables.{TablesView}
+use Rattle.tk_reading.specs.Shown.{last_shown}
+use Rattle.tk_stream.specs.Tables.{TablesView, empty_tables}
 use Rattle.tk_odd.specs.Diagnosis.{Places, Standing, standing_of}
+use Rattle.tk_odd.specs.Keeping.{Keeps}
 use Rattle.tk_odd.specs.Members.{Member}
 
 -- the members of a step, as they are kept
@@ -15,12 +17,12 @@ shown entries = map (λ e. (e.0, e.1.place.items, e.1.moved)) entries
 abbrev pub places_of : KeptPlaces → Places
 places_of p = (p.held, p.guilty.items)
 
--- what stands, as it is kept
-abbrev pub standing_in : Diagnosis → Standing
-standing_in d = record {
+-- what stands, as it is kept, where the last line led to these tables
+abbrev pub standing_in : TablesView → Diagnosis → Standing
+standing_in before d = record {
   lines = d.lines;
   first = d.first;
-  before = d.before;
+  before = before;
   members = shown d.members.entries;
   places = places_of d.places;
   pairs = d.pairs;
@@ -31,6 +33,12 @@ standing_in d = record {
   passed = d.passed.items;
 }
 
--- what is kept is what stands after these lines
-abbrev pub Follows : List TablesView → Diagnosis → Type 0
-Follows shown d = standing_in d ≡ standing_of d.limits shown
+-- what is kept is what stands after these lines, and of the last tables the rows
+pub record Follows (shown : List TablesView) (d : Diagnosis) : Type 0 where
+  pub standing : standing_in (last_shown empty_tables shown) d ≡ standing_of d.limits shown
+  pub rows : Keeps (last_shown empty_tables shown) d.rows
+
+-- what was kept is what is kept after one line more
+pub record Goes (step : Standing → TablesView → Standing) (before tables : TablesView) (old new : Diagnosis) : Type 0 where
+  pub standing : standing_in tables new ≡ step (standing_in before old) tables
+  pub rows : Keeps tables new.rows

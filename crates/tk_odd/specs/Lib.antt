@@ -1,5 +1,7 @@
 -- What a task ran and waited between two lines
 pub mod Gains
+-- Who waits for a poll at the begin of a step
+pub mod Waiters
 -- What tasks waited in a step, shared out among those that ran in it
 pub mod Sharing
 -- When one task ran, and another waited
@@ -16,6 +18,8 @@ pub mod Members
 pub mod Victims
 -- Line by line: what the steps of a stream came to
 pub mod Diagnosis
+-- Inner: what is kept of the last line's tasks
+pub mod Keeping
 -- Inner: how what is kept shows what the definitions say
 pub mod Inner
 -- What is odd, worst first

@@ -4,12 +4,12 @@ use Rattle.std.specs.List.{list_any}
 use Rattle.std.specs.Option.{option_map_or}
 use Rattle.tk_core.specs.Lists.{capped}
 use Rattle.tk_core.specs.Lasting.{waits_for}
-use Rattle.tk_stream.specs.Tables.{TablesView, task_with}
 use Rattle.tk_odd.specs.declared.free.Free.{Free}
 use Rattle.tk_odd.specs.declared.moved.Moved.{Moved}
 use Rattle.tk_odd.specs.Charging.{queued}
 use Rattle.tk_odd.specs.Gains.{waits}
 use Rattle.tk_odd.specs.Sharing.{all_ran}
+use Rattle.tk_odd.specs.Waiters.{WaitersView, waiter}
 
 -- ---- everything stands still
 
@@ -49,33 +49,33 @@ stood_still long f moved x =
 -- ---- who is passed over
 
 -- a task waited at the begin of a step, and had done so for so long
-abbrev pub waited_for : TablesView → ℕ → ℕ → Bool
-waited_for first wait id = option_map_or (λ t. waits t.row && nat_le wait (waits_for t.row first.now)) (task_with id first.tasks) false
+abbrev pub waited_for : WaitersView → ℕ → ℕ → Bool
+waited_for first wait id = option_map_or (λ x. nat_le wait (waits_for x first.moment)) (waiter first id) false
 
 -- a task was polled that didn't wait at the begin of the step
-abbrev pub overtakes : TablesView → List Moved → Bool
+abbrev pub overtakes : WaitersView → List Moved → Bool
 overtakes first moved = list_any (λ x. nat_le 1 x.gain.polls && not (waited_for first 0 x.task)) moved
 
 -- a task had waited for so long at the begin of the step, still waits, and wasn't polled, while one was that came later
-abbrev pub is_passed : ℕ → TablesView → List Moved → Moved → Bool
+abbrev pub is_passed : ℕ → WaitersView → List Moved → Moved → Bool
 is_passed wait first moved x = overtakes first moved && (x.gain.polls == 0 && (waits x.row && waited_for first wait x.task))
 
 -- what those waited who were passed over
-abbrev pub passed_time : ℕ → TablesView → List Moved → ℕ
+abbrev pub passed_time : ℕ → WaitersView → List Moved → ℕ
 passed_time wait first moved = sum_by (λ x. if is_passed wait first moved x then x.gain.waited else 0) moved
 
 -- ---- what no task is to blame for
 
 -- tasks waited in the queue as long as a long poll for each poll, those left out who were passed over
-abbrev pub is_overloaded : ℕ → ℕ → ℕ → ℕ → TablesView → List Moved → Bool
+abbrev pub is_overloaded : ℕ → ℕ → ℕ → ℕ → WaitersView → List Moved → Bool
 is_overloaded long wait time now first moved =
     nat_le (long * max (all_polls moved) 1) (queued long time now moved - passed_time wait first moved)
 
 -- a task waited so much longer than all others ran, and wasn't passed over
-abbrev pub is_left_alone : ℕ → ℕ → TablesView → List Moved → Moved → Bool
+abbrev pub is_left_alone : ℕ → ℕ → WaitersView → List Moved → Moved → Bool
 is_left_alone long wait first moved x =
     nat_le (long + (all_ran moved - x.gain.ran)) x.gain.waited && not (is_passed wait first moved x)
 
 -- that holds of a task
-abbrev pub are_left_alone : ℕ → ℕ → TablesView → List Moved → Bool
+abbrev pub are_left_alone : ℕ → ℕ → WaitersView → List Moved → Bool
 are_left_alone long wait first moved = list_any (is_left_alone long wait first moved) moved

@@ -5,7 +5,10 @@ ghost use Rattle.tk_odd.specs.Charging as charging;
 ghost use Rattle.tk_odd.specs.Diagnosis as spec;
 ghost use Rattle.tk_odd.specs.Inner as inner;
 ghost use Rattle.tk_odd.specs.Sharing as sharing;
-ghost use Rattle.tk_stream.specs.Tables.{TablesView};
+ghost use Rattle.tk_client.specs.Changes.{Leads};
+ghost use Rattle.tk_odd.specs.Keeping.{Keeps};
+ghost use Rattle.tk_reading.specs.Shown.{last_shown};
+ghost use Rattle.tk_stream.specs.Tables.{TablesView, empty_tables};
 
 use crate::apart::Stretch;
 use crate::free::Free;
@@ -13,13 +16,16 @@ use crate::held::Held;
 use crate::limits::Limits;
 use crate::members::{Members, add_line, moved_of};
 use crate::places::{Places, Step, Totals, totals_of};
+use crate::rows::Rows;
 use crate::shares::Shares;
 use crate::sharing::{all_charged, all_held, all_waited};
 use crate::step::{are_left_alone, free_after, is_overloaded, passed_over};
 use crate::victims::add_pairs;
 use crate::waited::Waited;
+use crate::waiters::Waiters;
 use indexmap::IndexMap;
 use std::alloc::{AllocError, Global};
+use tk_client::Change;
 use tk_series::Series;
 use tk_stream::Tables;
 
@@ -29,9 +35,9 @@ pub struct Diagnosis {
     alloc: Global,
     pub(crate) limits: Limits,
     lines: u64,
-    // The tables at the begin of the step that isn't over, and those of the last line.
-    pub(crate) first: Tables,
-    before: Tables,
+    // Who waited at the begin of the step that isn't over, and the rows of the last line's tasks.
+    pub(crate) first: Waiters,
+    rows: Rows,
     // Who ran or waited in that step.
     members: Members,
     pub(crate) places: Places,
@@ -101,15 +107,16 @@ fn also(holds: bool, from: u64, to: u64, span: Option<Stretch>) -> Option<Stretc
 impl Diagnosis {
     // Of no lines yet.
     fn none(alloc: Global, limits: Limits) -> Result<Diagnosis, AllocError>
-        ensures nothing { IfOk result (λ d. inner.standing_in d ≡ spec.nothing) }
+        ensures nothing { IfOk result (λ d. inner.standing_in empty_tables d ≡ spec.nothing) }
+        ensures rows { IfOk result (λ d. Keeps empty_tables d.rows) }
         ensures limits { IfOk result (λ d. d.limits ≡ limits) }
     {
         Ok(Diagnosis {
             alloc,
             limits,
             lines: 0,
-            first: Tables::new(alloc)?,
-            before: Tables::new(alloc)?,
+            first: Waiters::none(alloc),
+            rows: Rows::new(alloc),
             members: IndexMap::new(alloc),
             places: Places {
                 held: Series::new(alloc),
@@ -138,13 +145,14 @@ impl Diagnosis {
 
     // Ends the step with these tables.
     fn end_step(&mut self, tables: &Tables) -> Result<(), AllocError>
-        ensures ends { OnOk result (inner.standing_in self.new ≡ spec.ends self.old.limits (inner.standing_in self.old) tables.now) }
+        ensures ends { OnOk result (inner.standing_in empty_tables self.new ≡ spec.ends self.old.limits (inner.standing_in empty_tables self.old) tables.now) }
+        ensures rows { self.new.rows ≡ self.old.rows }
         ensures limits { self.new.limits ≡ self.old.limits }
     {
         let Limits { long, lints } = self.limits;
         let wait = lints.never_yielded_ns();
         let moved = moved_of(self.alloc, &self.members)?;
-        let (from, to) = (self.first.now(), tables.now());
+        let (from, to) = (self.first.moment(), tables.now());
         let step = Step {
             long,
             from,
@@ -169,54 +177,58 @@ impl Diagnosis {
         Ok(())
     }
 
-    // Begins a step with these tables.
+    // Begins a step with these tables, whose rows are kept.
     fn begin_step(&mut self, tables: &Tables) -> Result<(), AllocError>
-        ensures begins { OnOk result (inner.standing_in self.new ≡ spec.begins (inner.standing_in self.old) tables.now) }
+        ensures begins { Keeps tables.now self.old.rows
+            → OnOk result ((before : TablesView) → inner.standing_in before self.new ≡ spec.begins (inner.standing_in before self.old) tables.now) }
+        ensures rows { self.new.rows ≡ self.old.rows }
         ensures limits { self.new.limits ≡ self.old.limits }
     {
-        self.first = tables.copy()?;
+        self.first = Waiters::of(self.alloc, &self.rows, tables)?;
         self.members = IndexMap::new(self.alloc);
         Ok(())
     }
 
     // Begins the first step with these tables.
-    fn open(&mut self, tables: &Tables) -> Result<(), AllocError>
-        ensures opens { OnOk result (inner.standing_in self.new ≡ spec.opens (inner.standing_in self.old) tables.now) }
+    fn open(&mut self, tables: &Tables, change: &Change) -> Result<(), AllocError>
+        ensures opens { (before : TablesView) → Leads before tables.now change.now → Keeps before self.old.rows
+            → OnOk result (inner.Goes spec.opens before tables.now self.old self.new) }
         ensures limits { self.new.limits ≡ self.old.limits }
     {
         self.lines = 1;
-        self.before = tables.copy()?;
+        self.rows.follow(tables, change)?;
         self.begin_step(tables)
     }
 
     // Goes on with the step.
-    fn go_on(&mut self, tables: &Tables) -> Result<(), AllocError>
-        ensures goes_on { OnOk result (inner.standing_in self.new ≡ spec.goes_on (inner.standing_in self.old) tables.now) }
+    fn go_on(&mut self, tables: &Tables, change: &Change) -> Result<(), AllocError>
+        ensures goes_on { (before : TablesView) → Leads before tables.now change.now → Keeps before self.old.rows
+            → OnOk result (inner.Goes spec.goes_on before tables.now self.old self.new) }
         ensures limits { self.new.limits ≡ self.old.limits }
     {
-        add_line(&mut self.members, self.alloc, &self.before, tables)?;
+        add_line(&mut self.members, self.alloc, &self.rows, tables, change)?;
         self.lines = self.lines.saturating_add(1);
-        self.before = tables.copy()?;
-        Ok(())
+        self.rows.follow(tables, change)
     }
 
     // Whether the step is over with these tables.
     fn is_over(&self, tables: &Tables) -> bool
-        ensures { result ≡ spec.is_over self.now.limits (inner.standing_in self.now) tables.now }
+        ensures { (before : TablesView) → result ≡ spec.is_over self.now.limits (inner.standing_in before self.now) tables.now }
     {
-        self.limits.long <= tables.now().saturating_sub(self.first.now())
+        self.limits.long <= tables.now().saturating_sub(self.first.moment())
     }
 
-    // Takes the tables after a line.
-    fn after_line(&mut self, tables: &Tables) -> Result<(), AllocError>
-        ensures line { OnOk result (inner.standing_in self.new ≡ spec.after_line self.old.limits (inner.standing_in self.old) tables.now) }
+    // Takes the tables after a line, which changed this in those before it.
+    fn after_line(&mut self, tables: &Tables, change: &Change) -> Result<(), AllocError>
+        ensures line { (before : TablesView) → Leads before tables.now change.now → Keeps before self.old.rows
+            → OnOk result (inner.Goes (spec.after_line self.old.limits) before tables.now self.old self.new) }
         ensures limits { self.new.limits ≡ self.old.limits }
     {
         if self.lines == 0 {
-            return self.open(tables);
+            return self.open(tables, change);
         }
         let over = self.is_over(tables);
-        self.go_on(tables)?;
+        self.go_on(tables, change)?;
         if !over {
             return Ok(());
         }
@@ -238,11 +250,12 @@ impl Diagnosis {
         self.shares
     }
 
-    /// Takes the tables after a line.
-    pub fn note(&mut self, tables: &Tables) -> Result<(), AllocError>
-        ensures follows { (shown : List TablesView) → inner.Follows shown self.old → OnOk result (inner.Follows (shown ++ tables.now ∷ []) self.new) }
+    /// Takes the tables after a line, which changed this in those before it. It costs what the line changed, and the tasks that run or wait.
+    pub fn note(&mut self, tables: &Tables, change: &Change) -> Result<(), AllocError>
+        ensures follows { (shown : List TablesView) → Leads (last_shown empty_tables shown) tables.now change.now → inner.Follows shown self.old
+            → OnOk result (inner.Follows (shown ++ tables.now ∷ []) self.new) }
         ensures limits { self.new.limits ≡ self.old.limits }
     {
-        self.after_line(tables)
+        self.after_line(tables, change)
     }
 }

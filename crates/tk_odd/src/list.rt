@@ -6,7 +6,7 @@ ghost use Rattle.tk_odd.specs.Diagnosis.{standing_of};
 ghost use Rattle.tk_odd.specs.Findings as spec;
 ghost use Rattle.tk_odd.specs.Inner as inner;
 ghost use Rattle.tk_odd.specs.Words.{name_of};
-ghost use Rattle.tk_stream.specs.Tables.{TablesView};
+ghost use Rattle.tk_stream.specs.Tables.{TablesView, empty_tables};
 
 use crate::apart::Stretch;
 use crate::diagnosis::Diagnosis;
@@ -263,10 +263,10 @@ fn sorted(alloc: Global, all: Vec<Found>) -> Result<Vec<Found>, AllocError>
 impl Diagnosis {
     // All that is odd.
     fn all_odd(&self, alloc: Global, tables: &Tables) -> Result<Vec<Found>, AllocError>
-        ensures { IfOk result (λ list. map spec.placed list.items ≡ spec.all_odd self.now.limits (inner.standing_in self.now) tables.now) }
+        ensures { IfOk result (λ list. map spec.placed list.items ≡ spec.all_odd self.now.limits (inner.standing_in empty_tables self.now) tables.now) }
     {
         let long = self.limits.long;
-        let last = self.first.now();
+        let last = self.first.moment();
         let look = Look {
             limits: self.limits,
             moment: tables.now(),

@@ -1,15 +1,19 @@
 //! Who ran or waited in a step, while its lines are read.
-ghost use Rattle.std.specs.Prelude.{◌≡◌, ◌≤◌, ◌^◌, IfOk, OnOk, length, slice_get};
+ghost use Rattle.std.specs.Prelude.{◌≡◌, ◌≤◌, ◌^◌, IfOk, OnOk, fold, length, slice_get};
 ghost use Rattle.std.specs.Option.{option_map_or};
+ghost use Rattle.tk_client.specs.Changes.{Leads};
+ghost use Rattle.tk_stream.specs.Tables.{TablesView};
 ghost use Rattle.tk_odd.specs.Inner as inner;
+ghost use Rattle.tk_odd.specs.Keeping.{Keeps};
 ghost use Rattle.tk_odd.specs.Members as spec;
 
-use crate::gain::{Gain, fresh};
+use crate::gain::Gain;
 use crate::moved::Moved;
 use crate::place::place_of;
+use crate::rows::Rows;
 use indexmap::IndexMap;
 use std::alloc::{AllocError, Global};
-use tk_client::is_spawn;
+use tk_client::{Change, is_spawn};
 use tk_stream::{Tables, Task};
 
 // Of a step no more tasks are looked at.
@@ -26,16 +30,6 @@ pub(crate) struct Member {
 
 /// Who ran or waited in a step, by their ids.
 pub(crate) type Members = IndexMap<u64, Member>;
-
-fn gain_of(before: &Tables, tables: &Tables, task: &Task) -> Gain
-    ensures { result ≡ spec.gain_of before.now tables.now task.now }
-{
-    let now = tables.now();
-    match before.task(task.info.id) {
-        Some(old) => Gain::since(before.now(), now, &old.row, &task.row),
-        None => Gain::since(before.now(), now, &fresh(&task.row), &task.row),
-    }
-}
 
 // Adds what a task gained.
 fn add_gain(members: &mut Members, alloc: Global, task: &Task, gain: Gain) -> Result<(), AllocError>
@@ -58,21 +52,21 @@ fn add_gain(members: &mut Members, alloc: Global, task: &Task, gain: Gain) -> Re
     Ok(())
 }
 
-// Adds what the task at a place of tables gained since the tables before.
+// Adds what the task at a place of tables gained since the line before.
 fn add_task_at(
     members: &mut Members,
     alloc: Global,
-    before: &Tables,
+    rows: &Rows,
     tables: &Tables,
     place: usize,
 ) -> Result<(), AllocError>
-    ensures { OnOk result (inner.shown members.new.entries
-        ≡ option_map_or (λ t. spec.with_task before.now tables.now (inner.shown members.old.entries) t) (slice_get tables.now.tasks place) (inner.shown members.old.entries)) }
+    ensures { (before : TablesView) → Keeps before rows.now → OnOk result (inner.shown members.new.entries
+        ≡ option_map_or (spec.with_task before tables.now (inner.shown members.old.entries)) (slice_get tables.now.tasks place) (inner.shown members.old.entries)) }
 {
     let Some(task) = tables.task_at(place) else {
         return Ok(());
     };
-    let gain = gain_of(before, tables, task);
+    let gain = rows.gain_of(tables, task);
     if is_spawn(task.info.kind) && gain.is_some() {
         add_gain(members, alloc, task, gain)
     } else {
@@ -80,19 +74,38 @@ fn add_task_at(
     }
 }
 
-/// Adds what the tasks of tables gained since the tables before.
+// Adds what the tasks at these places gained since the line before.
+fn add_places(
+    members: &mut Members,
+    alloc: Global,
+    rows: &Rows,
+    tables: &Tables,
+    places: &[usize],
+) -> Result<(), AllocError>
+    ensures { (before : TablesView) → Keeps before rows.now → OnOk result (inner.shown members.new.entries
+        ≡ fold (λ shown place. option_map_or (spec.with_task before tables.now shown) (slice_get tables.now.tasks place) shown) (inner.shown members.old.entries) places.now) }
+{
+    for place in places {
+        add_task_at(members, alloc, rows, tables, *place)?;
+    }
+    Ok(())
+}
+
+/// Adds what the tasks of tables gained since the line before: those of which the line tells, and those that ran or waited.
 pub(crate) fn add_line(
     members: &mut Members,
     alloc: Global,
-    before: &Tables,
+    rows: &Rows,
     tables: &Tables,
+    change: &Change,
 ) -> Result<(), AllocError>
-    ensures { OnOk result (inner.shown members.new.entries ≡ spec.members_after before.now tables.now (inner.shown members.old.entries)) }
+    ensures { (before : TablesView) → Leads before tables.now change.now → Keeps before rows.now
+        → OnOk result (inner.shown members.new.entries ≡ spec.members_after before tables.now (inner.shown members.old.entries)) }
 {
-    for place in 0..tables.task_count() {
-        add_task_at(members, alloc, before, tables, place)?;
-    }
-    Ok(())
+    // Whoever counts tables' tasks learns that none stands twice.
+    tables.task_count();
+    let places = rows.places_after(alloc, tables, change.told())?;
+    add_places(members, alloc, rows, tables, &places)
 }
 
 /// What those did that are looked at.

@@ -29,6 +29,15 @@ fn put_without_numbers(out: &mut Vec<u8>, text: &[u8]) -> Result<(), AllocError>
     Ok(())
 }
 
+/// A text with each run of digits read as `#`.
+pub fn without_numbers(alloc: Global, text: &[u8]) -> Result<Vec<u8>, AllocError>
+    ensures { IfOk result (λ short. short.items ≡ spec.without_numbers text.now) }
+{
+    let mut short = Vec::new(alloc);
+    put_without_numbers(&mut short, text)?;
+    Ok(short)
+}
+
 /// The place of a task: its kind, where it was spawned, and its name with each run of digits read as `#`, as in
 /// `spawn at src/main.rs:21:5 name worker-#`.
 pub fn place_of(alloc: Global, info: &TaskInfo) -> Result<Vec<u8>, AllocError>

@@ -7,9 +7,8 @@ ghost use Rattle.tk_odd.specs.Steps as spec;
 use crate::free::Free;
 use crate::gain::waits;
 use crate::moved::Moved;
+use crate::waiters::Waiters;
 use std::alloc::{AllocError, Global};
-use tk_ids::TaskId;
-use tk_stream::Tables;
 
 /// How many polls started in a step.
 pub(crate) fn all_polls(moved: &[Moved]) -> u128
@@ -64,22 +63,12 @@ pub(crate) fn stood_still(long: u64, free: Free, moved: &[Moved], polls: u128, o
         && 10 * time <= expected
 }
 
-fn waited_for(first: &Tables, wait: u64, task: TaskId) -> bool
-    ensures { result ≡ spec.waited_for first.now wait task }
-{
-    let now = first.now();
-    match first.task(task) {
-        Some(task) => waits(&task.row) && wait <= task.row.waits_for(now),
-        None => false,
-    }
-}
-
 /// Whether a task was polled that didn't wait at the begin of the step.
-pub(crate) fn overtakes(first: &Tables, moved: &[Moved]) -> bool
+pub(crate) fn overtakes(first: &Waiters, moved: &[Moved]) -> bool
     ensures { result ≡ spec.overtakes first.now moved.now }
 {
     for one in moved {
-        if one.gain.polls >= 1 && !waited_for(first, 0, one.task) {
+        if one.gain.polls >= 1 && !first.waited_for(0, one.task) {
             return true;
         }
     }
@@ -87,18 +76,18 @@ pub(crate) fn overtakes(first: &Tables, moved: &[Moved]) -> bool
 }
 
 // Whether a task was passed over in a step, in which one was polled that came later, or none was.
-fn is_passed(wait: u64, first: &Tables, moved: &[Moved], overtaken: bool, one: &Moved) -> bool
+fn is_passed(wait: u64, first: &Waiters, moved: &[Moved], overtaken: bool, one: &Moved) -> bool
     requires { overtaken ≡ spec.overtakes first.now moved.now }
     ensures { result ≡ spec.is_passed wait first.now moved.now one.now }
 {
-    overtaken && one.gain.polls == 0 && waits(&one.row) && waited_for(first, wait, one.task)
+    overtaken && one.gain.polls == 0 && waits(&one.row) && first.waited_for(wait, one.task)
 }
 
 /// Who was passed over in a step.
 pub(crate) fn passed_over(
     alloc: Global,
     wait: u64,
-    first: &Tables,
+    first: &Waiters,
     moved: &[Moved],
 ) -> Result<Vec<u64>, AllocError>
     ensures { IfOk result (λ list. list.items ≡ map (λ x. x.task) (filter (spec.is_passed wait first.now moved.now) moved.now)) }
@@ -113,7 +102,7 @@ pub(crate) fn passed_over(
     Ok(list)
 }
 
-fn passed_time(wait: u64, first: &Tables, moved: &[Moved]) -> u128
+fn passed_time(wait: u64, first: &Waiters, moved: &[Moved]) -> u128
     requires { length moved.now ≤ 2 ^ 31 }
     ensures { result ≡ spec.passed_time wait first.now moved.now }
 {
@@ -132,7 +121,7 @@ fn passed_time(wait: u64, first: &Tables, moved: &[Moved]) -> u128
 pub(crate) fn is_overloaded(
     long: u64,
     wait: u64,
-    first: &Tables,
+    first: &Waiters,
     moved: &[Moved],
     polls: u128,
     queued: u128,
@@ -151,7 +140,7 @@ pub(crate) fn is_overloaded(
 pub(crate) fn are_left_alone(
     long: u64,
     wait: u64,
-    first: &Tables,
+    first: &Waiters,
     moved: &[Moved],
     ran: u128,
 ) -> bool

@@ -7,3 +7,4 @@ pub mod Counting
 pub mod Leading
 pub mod CardLemmas
 pub mod PlaceLemmas
+pub mod WithinLemmas

@@ -1,6 +1,7 @@
 -- What a page is made of, and what lines of a stream come to.
 use Rattle.std.proofs.Common.{◌≡◌, ℕ, List, length, Option, Some, Ok, Err, ap, sym, ◌∙◌, subst}
 use Rattle.std.specs.Io.KnownBytes.{Appends}
+use Rattle.tk_client.specs.Changes.{Timed}
 use Rattle.tk_client.specs.Feeding.{ClientView}
 use Rattle.tk_client.specs.Warnings.{warnings_in}
 use Rattle.tk_fault.specs.declared.fault.AppFault.{AppFault}
@@ -24,7 +25,7 @@ use Rattle.tk_page.specs.declared.oddities.Signs.{Signs}
 use Rattle.tk_page.proofs.HistoryLemmas.{tell_of}
 use Rattle.tk_page.proofs.PlaceLemmas.{sections_to}
 use Rattle.tk_reading.specs.Reads.{Reads, SawAll}
-use Rattle.tk_reading.specs.Shown.{shown_of}
+use Rattle.tk_reading.specs.Shown.{shown_of, tables_of}
 use Rattle.tk_reading.specs.declared.observes.Both.{Both}
 use Rattle.tk_reading.proofs.ReadLemmas.{lead_of}
 use Rattle.tk_stream.specs.Sent.{IsCut}
@@ -47,7 +48,7 @@ module _ (scale : Scale) (signs : Signs) (courses : Courses) (tables : TablesVie
 -- ---- what is written
 
 -- a stream that isn't taken has no page
-pub pages_none : (O : Type 0) (saw : List TablesView → O → Type 0) (limits : Limits) (given left old new : Option (List ℕ)) (now : ClientView) (observer : O) (answer : AppFault)
+pub pages_none : (O : Type 0) (saw : List Timed → O → Type 0) (limits : Limits) (given left old new : Option (List ℕ)) (now : ClientView) (observer : O) (answer : AppFault)
     → Reads saw given left (Err answer) now observer → PagesWith limits given left (Err answer) old new
 pages_none O saw limits given left old new now observer faults.Memory h = tt
 pages_none O saw limits given left old new now observer faults.Read h = tt
@@ -56,8 +57,8 @@ pages_none O saw limits given left old new now observer (faults.Script line name
 pages_none O saw limits given left old new now observer (faults.Stream lines fault) h = h
 
 -- what a history and a diagnosis have seen
-abbrev pub Watched : Limits → List TablesView → Both History Diagnosis → Type 0
-Watched limits shown both = Tells shown both.first × (Follows shown both.second × (both.second.limits ≡ limits))
+abbrev pub Watched : Limits → List Timed → Both History Diagnosis → Type 0
+Watched limits seen both = Tells (tables_of seen) both.first × (Follows (tables_of seen) both.second × (both.second.limits ≡ limits))
 
 module _ (limits : Limits) (given left old new : Option (List ℕ)) (client : ClientView) (seen : Both History Diagnosis) (text : List ℕ)
     (told : SawAll (Watched limits) given client seen)

@@ -20,6 +20,8 @@ pub mod Cards
 pub mod Banner
 -- Strips
 pub mod Strips
+-- How a strip's boxes and steps stand to the whole
+pub mod Within
 -- Which tasks are shown, and in which order
 pub mod Ranks
 -- The table of tasks
@@ -30,5 +32,7 @@ pub mod Items
 pub mod Heads
 -- The page between its frame
 pub mod Drawn
+-- Where a reader of HTML stands after a text
+pub mod Html
 -- What a page is
 pub mod Pages

@@ -11,6 +11,7 @@ ghost use Rattle.tk_stream.specs.Tables.{TablesView, task_id};
 use crate::sample::Sample;
 use indexmap::IndexMap;
 use std::alloc::{AllocError, Global};
+use tk_client::{Change, Times};
 use tk_paper::Course;
 use tk_reading::Observes;
 use tk_stream::Tables;
@@ -292,9 +293,16 @@ impl History {
 }
 
 impl Observes for History {
-    ghost saw = { λ from shown history. spec.Tells shown history };
+    ghost use Rattle.tk_reading.specs.Shown.{tables_of};
 
-    fn line(&mut self, tables: &Tables) -> Result<(), AllocError> {
+    ghost saw = { λ from seen history. spec.Tells (tables_of seen) history };
+
+    fn line(
+        &mut self,
+        tables: &Tables,
+        _times: &Times,
+        _change: &Change,
+    ) -> Result<(), AllocError> {
         let sum = note_tasks(&mut self.tasks, self.alloc, self.lines, tables, self.last)?;
         self.forget_gone(tables);
         self.end_line(tables.now(), sum)

@@ -11,6 +11,7 @@ mod drawing;
 mod figures;
 mod frame;
 mod history;
+pub mod laws;
 mod oddities;
 mod ranks;
 mod resources;

@@ -9,6 +9,9 @@ use tk_ids::{IdBlock, IdError};
 use tk_script::{Command, Stop};
 use tk_stream::Tables;
 
+// So many polls `polls` commands make together at most.
+const MOST_POLLS: u64 = 100_000_000;
+
 /// The task of a waker, by its number, and whether the waker is spent.
 #[derive(Clone, Copy, Drop)]
 pub(crate) struct Waker {
@@ -35,6 +38,8 @@ pub(crate) struct Plain {
     pub(crate) times_said: bool,
     // Whether the waits of tasks are counted.
     pub(crate) waits_said: bool,
+    // How many polls `polls` commands made.
+    pub(crate) polled: u64,
     pub(crate) capacity_said: bool,
     pub(crate) begun: bool,
 }
@@ -68,6 +73,7 @@ impl Plain {
             times: Vec::new(alloc),
             times_said: false,
             waits_said: false,
+            polled: 0,
             capacity_said: false,
             begun: false,
         })
@@ -205,6 +211,10 @@ impl Plain {
         command: Command<'_>,
         writer: &mut W,
     ) -> Result<(), Stop> {
+        self.polled = self.polled.saturating_add(command.polls());
+        if self.polled > MOST_POLLS {
+            return Err(Stop::TooManyPolls);
+        }
         if let Some(done) = self.apply_setting(&command) {
             return done;
         }

@@ -2,12 +2,12 @@
 use Rattle.std.proofs.Common.{◌≡◌, ℕ, ◌+◌, List, [], ◌∷◌, ◌++◌, take, Option, Some, None, Ok, Err, refl, ap, sym, ◌∙◌, append-nil, subst}
 use Rattle.std.specs.Io.KnownBytes.{Consumes, IsAtEnd}
 use Rattle.std.proofs.KnownBytes.{Consumes-trans}
+use Rattle.tk_client.specs.Changes.{Timed}
 use Rattle.tk_client.specs.Feeding.{ClientView, Took}
 use Rattle.tk_client.specs.Meaning.{empty_start, meaning, greatest_line}
 use Rattle.tk_client.proofs.FeedLemmas.{goes-then}
 use Rattle.tk_fault.specs.declared.fault.AppFault.{AppFault}
 use Rattle.tk_fault.specs.declared.fault.AppFault.TheVariants as faults
-use Rattle.tk_stream.specs.Tables.{TablesView}
 use Rattle.tk_reading.specs.Outcomes.{AreAll, LeadTo}
 use Rattle.tk_reading.specs.Reads.{Reads, SawAll, Seen, TakesMore}
 use Rattle.tk_reading.specs.Taken.{HasTaken, first}
@@ -51,7 +51,7 @@ all_read given left last bytes buf n is read none end =
 
 -- ---- what was read, and watched
 
-module _ (O : Type 0) (saw : List TablesView → O → Type 0) (given left new : Option (List ℕ)) (piece : List ℕ) (lines : ℕ) (old now : ClientView) (was observer : O)
+module _ (O : Type 0) (saw : List Timed → O → Type 0) (given left new : Option (List ℕ)) (piece : List ℕ) (lines : ℕ) (old now : ClientView) (was observer : O)
     (r : Seen saw given left lines old was) (read : Consumes left new piece) where
   -- a piece more was read, and taken
   pub reads_on : (sum : ℕ) → TakesMore saw r.bytes piece (Ok sum) now observer → Seen saw given new sum now observer
@@ -72,7 +72,7 @@ module _ (O : Type 0) (saw : List TablesView → O → Type 0) (given left new :
   }
 
 -- all bytes lead to the client's tables
-abbrev pub lead_of : {O : Type 0} (saw : List TablesView → O → Type 0) (given : Option (List ℕ)) (now : ClientView) (observer : O) → SawAll saw given now observer
+abbrev pub lead_of : {O : Type 0} (saw : List Timed → O → Type 0) (given : Option (List ℕ)) (now : ClientView) (observer : O) → SawAll saw given now observer
     → LeadTo given now.start.tables
 lead_of saw given now observer all =
     record { bytes = all.bytes; all = all.all; start = now.start; lines = all.lines; come = all.taken.took.came; shows = refl }

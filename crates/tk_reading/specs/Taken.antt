@@ -1,9 +1,9 @@
 -- How far a client has taken a stream.
-use Rattle.std.specs.Prelude.{◌≡◌, ◌⊎◌, ℕ, List, [], ◌∷◌, false}
+use Rattle.std.specs.Prelude.{◌≡◌, ℕ, List, false}
 use Rattle.tk_client.specs.declared.fault.Fault.{Fault}
 use Rattle.tk_client.specs.declared.fault.Fault.TheVariants as client
 use Rattle.tk_client.specs.Feeding.{ClientView, Took}
-use Rattle.tk_client.specs.Meaning.{cut, empty_start, greatest_line}
+use Rattle.tk_client.specs.Meaning.{empty_start, greatest_line}
 use Rattle.tk_fault.specs.declared.fault.AppFault.{AppFault}
 use Rattle.tk_fault.specs.declared.fault.AppFault.TheVariants as faults
 
@@ -20,7 +20,3 @@ stop_of lines fault = faults.Stream lines fault
 pub record HasTaken (bytes : List ℕ) (lines : ℕ) (now : ClientView) : Type 0 where
   pub took : Took first bytes lines now
   pub limit : now.max_line ≡ greatest_line
-
--- bytes are one line with its end, or end none
-abbrev pub IsLine : List ℕ → Type 0
-IsLine bytes = ((line : List ℕ) × (cut bytes ≡ (line ∷ [], []))) ⊎ ((cut bytes).0 ≡ [])

@@ -1,7 +1,7 @@
 //! A stream, read to its end or piece by piece, and what watches its lines.
 //!
 //! - [`read_stream`]: feeds a client all bytes of a reader. [`feed_lines`]: a piece of them.
-//! - [`Observes`]: what watches the tables after each line. [`Unwatched`] does nothing with them, and [`Both`] are two.
+//! - [`Observes`]: what watches each line: the tables after it, and what it changed. [`Unwatched`] does nothing with them, and [`Both`] are two.
 //! - [`MAX_LINE`], [`PIECE`]: how many bytes a line has at most, and how many are read at a time.
 //! - [`Pace`], [`Every`]: when what a stream has come to is shown anew, while it comes.
 #![tactic(auto)]

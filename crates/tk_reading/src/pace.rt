@@ -1,20 +1,33 @@
 //! When what a stream has come to may be shown.
+ghost use Rattle.std.specs.Prelude.{◌≡◌, ◌≤◌, ◌*◌, None};
+ghost use Rattle.std.specs.Duration.{as_nanos};
+
 use std::thread;
 use std::time::{Clock, Duration, Instant};
 
 /// What tells when a stream may be shown anew. How it is shown, as a screen or as a file, is no matter of its.
 pub trait Pace {
+    ghost use Rattle.std.specs.Prelude.{[], ◌∷◌, Bool, List, None, Option, true};
+    ghost use Rattle.tk_reading.specs.Pacing.{Says};
+
+    // What it has said, each time that it was asked or waited for, where this is known.
+    ghost said: { Self → Option (List Bool) } = { λ pace. None };
+
     /// Whether it may be shown now.
-    fn is_due(&mut self) -> bool;
+    fn is_due(&mut self) -> bool
+        ensures { Says (said self.old) (said self.new) (result ∷ []) };
 
     /// Lets time pass until it may be shown.
-    fn wait(&mut self);
+    fn wait(&mut self)
+        ensures { Says (said self.old) (said self.new) (true ∷ []) };
 
     /// It was shown now.
-    fn mark(&mut self);
+    fn mark(&mut self)
+        ensures { Says (said self.old) (said self.new) [] };
 
     /// At the end of what a reader gave: whether more may come, once some time has passed.
-    fn goes_on(&mut self) -> bool;
+    fn goes_on(&mut self) -> bool
+        ensures { Says (said self.old) (said self.new) [] };
 }
 
 /// By a clock: no two times within a span.
@@ -28,7 +41,11 @@ pub struct Every<'a, R: Clock> {
 
 impl<'a, R: Clock> Every<'a, R> {
     /// No two times within so many milliseconds. A stream that is followed goes on at its end.
-    pub fn new(clock: &'a R, millis: u64, follows: bool) -> Self {
+    pub fn new(clock: &'a R, millis: u64, follows: bool) -> Self
+        ensures span { as_nanos result.span ≡ millis * 1_000_000 }
+        ensures follows { result.follows ≡ follows }
+        ensures new { result.last ≡ None }
+    {
         Every {
             clock,
             span: Duration::from_millis(millis),
@@ -38,7 +55,10 @@ impl<'a, R: Clock> Every<'a, R> {
     }
 
     /// How long it is until it may be shown. A clock that can't be read asks for no time.
-    pub fn left(&self) -> Duration {
+    pub fn left(&self) -> Duration
+        ensures span { as_nanos result ≤ as_nanos self.now.span }
+        ensures new { self.now.last ≡ None → as_nanos result ≡ 0 }
+    {
         match &self.last {
             Some(last) => match last.elapsed(self.clock) {
                 Ok(gone) => self.span.saturating_sub(gone),
@@ -53,6 +73,8 @@ impl<'a, R: Clock> Every<'a, R> {
 const REST: u64 = 50;
 
 impl<R: Clock> Pace for Every<'_, R> {
+    ghost use Rattle.std.specs.Prelude.{◌≡◌};
+
     fn is_due(&mut self) -> bool {
         self.left().is_zero()
     }
@@ -65,7 +87,9 @@ impl<R: Clock> Pace for Every<'_, R> {
         self.last = Instant::now(self.clock).ok();
     }
 
-    fn goes_on(&mut self) -> bool {
+    fn goes_on(&mut self) -> bool
+        ensures { result ≡ self.old.follows }
+    {
         if self.follows {
             thread::sleep(self.clock, Duration::from_millis(REST));
         }

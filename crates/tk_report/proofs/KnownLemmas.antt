@@ -10,6 +10,9 @@ use Rattle.std.proofs.lemmas.List.Sums.{fold-append}
 use Rattle.indexmap.specs.IndexMap.{insert_entry}
 use Rattle.tk_stream.specs.Tables.{TablesView, task_id, task_with}
 use Rattle.tk_stream.specs.declared.tables.task.Task.{Task}
+use Rattle.tk_client.specs.Changes.{Timed}
+use Rattle.tk_reading.specs.Shown.{tables_of}
+use Rattle.tk_reading.proofs.ShownLemmas.{tables-append}
 use Rattle.tk_report.specs.declared.known.Known.{Known}
 use Rattle.tk_report.specs.Known.{known_after, known_more, longest_known, unknown}
 use Rattle.tk_report.specs.Watched.{Follows, known_at, noted}
@@ -64,6 +67,12 @@ follows_more shown tables before after is h = λ id.
     ∙ (noted_of tables.now before id tables.tasks
     ∙ (ap (λ k. known_more id k tables) (h id)
     ∙ sym (fold-append (known_more id) unknown shown (tables ∷ []))))
+
+-- the same of what is shown after each line
+pub follows_seen : (seen : List Timed) (t : Timed) (before after : List (ℕ × Known)) → after ≡ map (noted t.0.now before) t.0.tasks → Follows (tables_of seen) before
+    → Follows (tables_of (seen ++ t ∷ [])) after
+follows_seen seen t before after is h =
+    subst (λ (xs : List TablesView). Follows xs after) (sym (tables-append seen (t ∷ []))) (follows_more (tables_of seen) t.0 before after is h)
 
 -- before the first line
 pub follows_none : (es : List (ℕ × Known)) → es ≡ [] → Follows [] es

@@ -2,7 +2,7 @@
 use Rattle.std.proofs.Common.{◌≡◌, ℕ, List, length, Option, Ok, Err, subst}
 use Rattle.std.specs.Io.KnownBytes.{Appends}
 use Rattle.tk_stream.specs.Sent.{IsCut}
-use Rattle.tk_stream.specs.Tables.{TablesView}
+use Rattle.tk_client.specs.Changes.{Timed}
 use Rattle.tk_client.specs.Feeding.{ClientView}
 use Rattle.tk_client.specs.Warnings.{LintsView}
 use Rattle.tk_client.specs.declared.any_warnings.AnyWarning.{AnyWarning}
@@ -19,7 +19,7 @@ use Rattle.tk_report.specs.TimedViews.{LeadToStart, ViewsTimed}
 use Rattle.tk_report.specs.Watched.{Warned, Warns}
 
 module _ (lints : LintsView) (options : TimesOptions) (given left : Option (List ℕ)) where
-  module _ (O : Type 0) (saw : List TablesView → O → Type 0) (client : ClientView) (observer : O) where
+  module _ (O : Type 0) (saw : List Timed → O → Type 0) (client : ClientView) (observer : O) where
     -- a stream that isn't taken has no warnings
     pub warns_none : (answer : AppFault) → Reads saw given left (Err answer) client observer → Warns lints options given left (Err answer) client
     warns_none faults.Memory h = tt

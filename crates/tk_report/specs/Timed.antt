@@ -3,6 +3,7 @@ use Rattle.std.specs.Prelude.{ℕ, ◌*◌, ◌+◌, ◌==◌, List, [], ◌++�
 use Rattle.std.specs.List.{flat_map, position_from}
 use Rattle.std.specs.Option.{option_map_or}
 use Rattle.tk_ids.specs.Ids.{id_text}
+use Rattle.tk_core.specs.Lists.{capped}
 use Rattle.tk_core.specs.Percentiles.{begin_of, end_of, total_of}
 use Rattle.tk_core.specs.Task.{waiting_since}
 use Rattle.tk_stream.specs.declared.tables.task.Task.{Task}
@@ -48,10 +49,10 @@ bucket_words percent longest bucket = codes " p" ++ decimal percent ++ (codes " 
 abbrev pub percentile_words : ℕ → List ℕ → ℕ → List ℕ
 percentile_words longest counts percent = option_map_or (bucket_words percent longest) (percentile_of percent counts) []
 
--- what a histogram says, after a word that says of what: how many it counts, the longest, and three percentiles where it counts any
+-- what a histogram says, after a word that says of what: how many it counts, up to 2^64 - 1, the longest, and three percentiles where it counts any
 abbrev pub histogram_words : List ℕ → ℕ → List ℕ → List ℕ
 histogram_words word longest counts =
-    word ++ decimal (total_of counts)
+    word ++ decimal (capped (total_of counts))
     ++ (codes " longest " ++ decimal longest
     ++ (percentile_words longest counts 50
     ++ (percentile_words longest counts 90

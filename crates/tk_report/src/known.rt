@@ -8,7 +8,7 @@ ghost use Rattle.tk_report.specs.Watched as inner;
 use crate::runs::Ended;
 use indexmap::IndexMap;
 use std::alloc::{AllocError, Global};
-use tk_client::is_spawn;
+use tk_client::{Change, Times, is_spawn};
 use tk_core::TaskRow;
 use tk_ids::TaskId;
 use tk_reading::Observes;
@@ -157,9 +157,16 @@ impl Polls {
 }
 
 impl Observes for Polls {
-    ghost saw = { λ from shown polls. inner.Follows shown polls.tasks.entries };
+    ghost use Rattle.tk_reading.specs.Shown.{tables_of};
 
-    fn line(&mut self, tables: &Tables) -> Result<(), AllocError> {
+    ghost saw = { λ from seen polls. inner.Follows (tables_of seen) polls.tasks.entries };
+
+    fn line(
+        &mut self,
+        tables: &Tables,
+        _times: &Times,
+        _change: &Change,
+    ) -> Result<(), AllocError> {
         self.tasks = note_all(self.alloc, &self.tasks, tables)?;
         Ok(())
     }

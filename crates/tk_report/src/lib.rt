@@ -5,7 +5,9 @@
 //!   [`view_stream_with`], [`TimesOptions`], [`Viewed`]: with what is known of how long polls ran.
 //! - [`Ended`]: how long a poll is known to have run, by two rows of its task.
 //! - [`laws`]: what warning lines tell of.
+//! - [`put_task`]: the line of a task.
 //! - [`kind_word`], [`task_state`], [`op_state`], [`run_time`]: what a report says of a task and of an async operation.
+//! - [`VERSION`]: that of the program.
 //! - [`AppFault`]: what a run of the program stops at.
 #![tactic(auto)]
 
@@ -17,13 +19,16 @@ mod reporting;
 mod runs;
 mod timed;
 mod times;
+mod version;
 mod view;
 mod words;
 
+pub use lines::put_task;
 pub use options::TimesOptions;
 pub use reporting::report;
 pub use runs::Ended;
 pub use timed::timed_report_with;
 pub use tk_fault::AppFault;
+pub use version::VERSION;
 pub use view::{View, Viewed, view_stream, view_stream_with};
 pub use words::{kind_word, op_state, run_time, task_state};

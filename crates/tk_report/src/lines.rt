@@ -49,8 +49,8 @@ fn put_waited(out: &mut String, row: &TaskRow) -> Result<(), AllocError>
     }
 }
 
-/// The line of a task.
-pub(crate) fn put_task(out: &mut String, task: &Task) -> Result<(), AllocError>
+/// Puts the line of a task after what is written, as a report has it. `AllocError`: there was no memory, and a front of the line may be there.
+pub fn put_task(out: &mut String, task: &Task) -> Result<(), AllocError>
     ensures { OnOk result (Puts (string_bytes out.old) (string_bytes out.new) (spec.task_line task.now)) }
 {
     let Task { info, row } = task;

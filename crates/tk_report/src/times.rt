@@ -1,5 +1,6 @@
 //! The lines of histograms, of long polls and of long waits, each put after what is written.
 ghost use Rattle.std.specs.Prelude.{◌≡◌, ◌≤◌, ◌++◌, codes, decimal, slice_get, OnOk, string_bytes};
+ghost use Rattle.tk_core.specs.Lists.{capped};
 ghost use Rattle.tk_core.specs.Percentiles.{total_of, begin_of, end_of};
 ghost use Rattle.tk_core.specs.Times.{bounds};
 ghost use Rattle.tk_report.specs.Pieces.{Puts};
@@ -51,13 +52,13 @@ fn end_of(bucket: usize) -> Option<u64>
     bound_at(bucket)
 }
 
-// Fourteen counts add up to less than 2^128.
-fn total_of(counts: &[u64; 14]) -> u128
-    ensures { result ≡ total_of counts.now }
+// A sum that passes 2^64 - 1 stays there.
+fn total_of(counts: &[u64; 14]) -> u64
+    ensures { result ≡ capped (total_of counts.now) }
 {
-    let mut total = 0u128;
+    let mut total = 0u64;
     for count in counts {
-        total += u128::from(*count);
+        total = total.saturating_add(*count);
     }
     total
 }
@@ -124,7 +125,7 @@ fn put_percentile(
 }
 
 fn put_total(out: &mut String, word: &str, counts: &[u64; 14]) -> Result<(), AllocError>
-    ensures { OnOk result (Puts (string_bytes out.old) (string_bytes out.new) (word.now ++ decimal (total_of counts.now))) }
+    ensures { OnOk result (Puts (string_bytes out.old) (string_bytes out.new) (word.now ++ decimal (capped (total_of counts.now)))) }
 {
     put(out, word, &total_of(counts))
 }

@@ -326,6 +326,11 @@ is_setting times = true
 is_setting waits = true
 is_setting _ = false
 
+-- how many polls a command makes at once
+abbrev pub polls_in : Said → ℕ
+polls_in (polls n count at run every) = count
+polls_in _ = 0
+
 -- settings by a command
 abbrev pub settings_by : Settings → Said → Settings
 settings_by settings (capacity n) = record settings { capacity = n }

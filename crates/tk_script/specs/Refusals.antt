@@ -3,7 +3,7 @@ use Rattle.std.specs.Prelude.{ℕ, List, codes}
 use Rattle.tk_core.specs.declared.reply.Refusal.{Refusal}
 use Rattle.tk_core.specs.declared.reply.Refusal.TheVariants as refusals
 use Rattle.tk_script.specs.declared.stop.Stop.{Stop}
-use Rattle.tk_script.specs.declared.stop.Stop.TheVariants.{BadCommand, NoSuchItem, Call, OffersSpent, Clock, NumbersSpent, Memory, WriteFault, NoThread, Stopped}
+use Rattle.tk_script.specs.declared.stop.Stop.TheVariants.{BadCommand, TooManyPolls, NoSuchItem, Call, OffersSpent, Clock, NumbersSpent, Memory, WriteFault, NoThread, Stopped}
 
 -- the name of a refused call
 abbrev pub name_of : Refusal → List ℕ
@@ -19,6 +19,7 @@ name_of refusals.Memory = codes "Memory"
 -- the name by which a script stops
 abbrev pub stop_name : Stop → List ℕ
 stop_name BadCommand = codes "BadCommand"
+stop_name TooManyPolls = codes "TooManyPolls"
 stop_name NoSuchItem = codes "NoSuchItem"
 stop_name (Call refusal) = name_of refusal
 stop_name OffersSpent = codes "OffersSpent"

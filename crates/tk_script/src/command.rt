@@ -157,6 +157,16 @@ pub enum Command<'a> {
 }
 
 impl Command<'_> {
+    /// How many polls a `polls` command makes. Any other makes none.
+    pub fn polls(&self) -> u64
+        ensures { result ≡ spec.polls_in (spec.view self.now) }
+    {
+        match self {
+            Command::Polls { count, .. } => *count,
+            _ => 0,
+        }
+    }
+
     /// Whether it makes nothing and writes nothing, and says how the script is run.
     pub fn is_setting(&self) -> bool
         ensures { result ≡ spec.is_setting (spec.view self.now) }

@@ -10,6 +10,8 @@ pub enum Stop {
     /// The line says no command, a setting a second time or after another command, or what may not stand there: in a block what is
     /// no line of it, outside of blocks a `join` or a worker's line; or a block is open at the script's end.
     BadCommand,
+    /// With it `polls` commands would make more than 100,000,000 polls together.
+    TooManyPolls,
     /// A number names nothing, or what is spent.
     NoSuchItem,
     /// The ledger of an item refused the call.
@@ -52,6 +54,7 @@ impl Stop {
     {
         match self {
             Stop::BadCommand => "BadCommand",
+            Stop::TooManyPolls => "TooManyPolls",
             Stop::NoSuchItem => "NoSuchItem",
             Stop::Call(refusal) => name_of(refusal),
             Stop::OffersSpent => "OffersSpent",

@@ -1,6 +1,7 @@
 -- What was seen of the lines of bytes.
 use Rattle.std.proofs.Common.{◌≡◌, ℕ, zero, suc, ◌+◌, ◌≤◌, List, [], ◌∷◌, ◌++◌, length, take, false, Option, Some, None, Result, Ok, Err, OnOk, refl, ap, ap₂, sym, ◌∙◌, append_assoc, append-nil, arith, subst}
 use Rattle.tk_client.specs.declared.fault.Fault.{Fault}
+use Rattle.tk_client.specs.Changes.{Timed}
 use Rattle.tk_client.specs.Feeding.{ClientView}
 use Rattle.tk_client.specs.Meaning.{Outcome, Start, cut, empty_start, goes, greatest_line, stops}
 use Rattle.tk_client.specs.Warnings.{LintsView}
@@ -15,7 +16,7 @@ use Rattle.tk_odd.specs.Inner.{Follows}
 use Rattle.tk_reading.specs.Fronts.{IsFront, Rise, last_lines, lines_in, tables_in}
 use Rattle.tk_reading.specs.Outcomes.{outcome_of}
 use Rattle.tk_reading.specs.Reads.{StopsAfter, TakesMore}
-use Rattle.tk_reading.specs.Shown.{shown_from, shown_of}
+use Rattle.tk_reading.specs.Shown.{shown_of, tables_of, timed_from}
 use Rattle.tk_reading.specs.Taken.{HasTaken}
 use Rattle.tk_reading.proofs.FrontLemmas.{front_few, last_more}
 use Rattle.tk_reading.proofs.ShownLemmas.{shown-append, shown_count}
@@ -46,7 +47,7 @@ seen_front good rest s n come lines =
     let now : ClientView = record { start = s; has_failed = false; max_line = greatest_line } in
     let taken : HasTaken good n now = record { took = record { came = come; sound = refl }; limit = refl } in
     ap₂ (λ (k : ℕ) (xs : List TablesView). take k xs) lines (shown-append greatest_line empty_start s good rest n come)
-    ∙ take_front n (shown_of good) (shown_from s (cut rest).0) (shown_count good n now taken)
+    ∙ take_front n (shown_of good) (tables_of (timed_from s (cut rest).0)) (shown_count good n now taken)
 
 -- bytes without a fault
 seen_whole : (bytes : List ℕ) (s : Start) (n : ℕ) → outcome_of bytes ≡ goes s n → seen_in bytes ≡ shown_of bytes
@@ -58,7 +59,7 @@ pub seen_all : (bytes : List ℕ) (lines : ℕ) (now : ClientView) → HasTaken 
 seen_all bytes lines now h = seen_whole bytes now.start lines h.took.came
 
 -- at a fault those before it
-seen_to : (saw : List TablesView → Seen → Type 0) (front piece : List ℕ) (n : ℕ) (fault : Fault) (now : ClientView) (seen : Seen) (h : StopsAfter saw front piece n fault now seen)
+seen_to : (saw : List Timed → Seen → Type 0) (front piece : List ℕ) (n : ℕ) (fault : Fault) (now : ClientView) (seen : Seen) (h : StopsAfter saw front piece n fault now seen)
     → seen_in (front ++ piece) ≡ shown_of (front ++ h.part)
 seen_to saw front piece n fault now seen h =
     let whole : front ++ piece ≡ (front ++ h.part) ++ h.rest = ap (λ xs. front ++ xs) h.whole ∙ sym (append_assoc front h.part h.rest) in
@@ -120,9 +121,13 @@ pub odd_is : (lints : LintsView) (shown : List TablesView) (seen : Seen) (tables
 odd_is lints shown seen tables findings span s found spans =
     ap₂ odd_with (found ∙ ap (λ (l : Limits). findings_of l (standing_of l shown) tables) s.limits) (spans ∙ ap (span_to tables.now) s.first)
 
+-- it has seen the tables of what was shown after each line
+abbrev pub sees_in : LintsView → List Timed → Seen → Type 0
+sees_in lints lines seen = Sees lints (tables_of lines) seen
+
 -- a piece was taken, or its fault is one of all bytes, before which the client's tables stood
 takes_to : (lints : LintsView) (front piece : List ℕ) (now : Course) (result : Result ℕ AppFault)
-    → TakesMore (Sees lints) front piece result now.client now.seen → TakesTo lints (front ++ piece) result now
+    → TakesMore (sees_in lints) front piece result now.client now.seen → TakesTo lints (front ++ piece) result now
 takes_to lints front piece now (Ok lines) h = (h.0, subst (λ (xs : List TablesView). Sees lints xs now.seen) (sym (seen_all (front ++ piece) lines now.client h.0)) h.1)
 takes_to lints front piece now (Err faults.Memory) h = tt
 takes_to lints front piece now (Err faults.Read) h = absurd h
@@ -131,12 +136,12 @@ takes_to lints front piece now (Err (faults.Script line name)) h = absurd h
 takes_to lints front piece now (Err (faults.Stream lines fault)) h = (
   h.used,
   h.stop ∙ ap (λ t. stops t lines fault h.used) (sym h.tables),
-  subst (λ (xs : List TablesView). Sees lints xs now.seen) (sym (seen_to (Sees lints) front piece lines fault now.client now.seen h)) h.seen,
+  subst (λ (xs : List TablesView). Sees lints xs now.seen) (sym (seen_to (sees_in lints) front piece lines fault now.client now.seen h)) h.seen,
 )
 
 -- the same, by what a piece is fed to
 pub feeds : (lints : LintsView) (front piece : List ℕ) (lines : ℕ) (old new : Course) (result : Result ℕ AppFault) → HasTaken front lines old.client → Sees lints (seen_in front) old.seen
-    → (Sees old.seen.diagnosis.limits.lints (shown_of front) old.seen → TakesMore (Sees old.seen.diagnosis.limits.lints) front piece result new.client new.seen)
+    → (Sees old.seen.diagnosis.limits.lints (shown_of front) old.seen → TakesMore (sees_in old.seen.diagnosis.limits.lints) front piece result new.client new.seen)
     → TakesTo lints (front ++ piece) result new
 feeds lints front piece lines old new result taken s feed =
     let own = old.seen.diagnosis.limits.lints in
@@ -144,4 +149,4 @@ feeds lints front piece lines old new result taken s feed =
     let before : Sees own (shown_of front) old.seen =
     subst (λ (k : LintsView). Sees k (shown_of front) old.seen) (sym same)
     (subst (λ (xs : List TablesView). Sees lints xs old.seen) (seen_all front lines old.client taken) s) in
-    takes_to lints front piece new result (subst (λ (k : LintsView). TakesMore (Sees k) front piece result new.client new.seen) same (feed before))
+    takes_to lints front piece new result (subst (λ (k : LintsView). TakesMore (sees_in k) front piece result new.client new.seen) same (feed before))

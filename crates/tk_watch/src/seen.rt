@@ -7,7 +7,7 @@ ghost use Rattle.tk_watch.specs.Course as spec;
 ghost use Rattle.tk_watch.specs.Odd.{odd_after};
 
 use std::alloc::{AllocError, Global};
-use tk_client::{Client, Lints};
+use tk_client::{Change, Client, Lints, Times};
 use tk_frame::Odd;
 use tk_odd::{Diagnosis, Limits};
 use tk_reading::{MAX_LINE, Observes};
@@ -74,13 +74,14 @@ impl Seen {
 }
 
 impl Observes for Seen {
+    ghost use Rattle.tk_reading.specs.Shown.{tables_of};
     ghost use Rattle.tk_watch.specs.Course.{Sees};
 
-    ghost saw = { λ from shown seen. Sees from.diagnosis.limits.lints shown seen };
+    ghost saw = { λ from lines seen. Sees from.diagnosis.limits.lints (tables_of lines) seen };
 
-    fn line(&mut self, tables: &Tables) -> Result<(), AllocError> {
+    fn line(&mut self, tables: &Tables, _times: &Times, change: &Change) -> Result<(), AllocError> {
         self.mark(tables.now());
-        self.diagnosis.note(tables)
+        self.diagnosis.note(tables, change)
     }
 }
 

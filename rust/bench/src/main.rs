@@ -1,5 +1,6 @@
 //! What the inspection of a program costs: wakes, polls, clones of wakers and spawns, each plain, inspected, and under a
-//! `tracing` span; and lines, by how many tasks there are and how many of them changed, with histograms and waits, and without.
+//! `tracing` span; lines, by how many tasks there are and how many of them changed, with histograms and waits, and without; and
+//! numbers for Prometheus, with what a task costs that leaves.
 //!
 //! Usage: taskscope-bench
 //!
@@ -12,7 +13,7 @@ use std::pin::Pin;
 use std::sync::{Arc, Mutex};
 use std::task::{Context, Poll, Wake, Waker};
 use std::time::{Duration, Instant};
-use taskscope::{Console, Settings};
+use taskscope::{Console, Location, Settings, Task};
 use tokio::runtime::{Builder, Runtime};
 use tracing::Instrument;
 
@@ -188,6 +189,40 @@ fn lines(waits: bool) {
     }
 }
 
+/// So many tasks of so many places.
+fn tasks_of(console: &Console, count: u32, places: u32) -> Vec<Task> {
+    let open = |number| console.task("worker-17").location(Location::new("src/pool.rs", number % places, 5)).open();
+    (0..count).map(open).collect()
+}
+
+/// Nanoseconds of a task that leaves, while nobody reads lines.
+fn leaving(places: u32) -> f64 {
+    let console = console();
+    let round = |_| {
+        let tasks = tasks_of(&console, 100, places);
+        console.pass().unwrap();
+        drop(tasks);
+        let started = Instant::now();
+        console.pass().unwrap();
+        started.elapsed()
+    };
+    let least = (0..500).map(round).min().unwrap_or_default();
+    least.as_secs_f64() * 1e9 / 100.0
+}
+
+fn numbers() {
+    println!("\nA task that leaves: {:.0} ns, and one of 100 places {:.0} ns.\n", leaving(1), leaving(100));
+    println!("| tasks | places | numbers | bytes |");
+    println!("|---|---|---|---|");
+    for (count, places) in [(100, 10), (1_000, 10), (1_000, 50), (10_000, 50), (5_000, 5_000)] {
+        let console = console();
+        let tasks = tasks_of(&console, count, places);
+        let mut len = 0;
+        let nanos = least(10, 1, |_| len = console.metrics().unwrap().len());
+        println!("| {} | {places} | {:.0} | {len} |", tasks.len(), nanos / 1e3);
+    }
+}
+
 fn main() -> std::io::Result<()> {
     tracing::subscriber::set_global_default(tracing_subscriber::registry()).expect("no other subscriber is set");
     let opened = Instant::now();
@@ -204,5 +239,6 @@ fn main() -> std::io::Result<()> {
     spawns(clock)?;
     lines(false);
     lines(true);
+    numbers();
     Ok(())
 }

@@ -11,10 +11,13 @@ _taskscope() {
     view:--never-yielded-ns) return ;;
     view:--long-poll) return ;;
     view:--long-wait) return ;;
+    view:--by) return ;;
+    view:--place) return ;;
     lint:--self-wake-percent) return ;;
     lint:--never-yielded-ns) return ;;
     lint:--long-poll) return ;;
     lint:--long-wait) return ;;
+    lint:--by) return ;;
     page:--self-wake-percent) return ;;
     page:--never-yielded-ns) return ;;
     watch:--self-wake-percent) return ;;
@@ -27,14 +30,15 @@ _taskscope() {
     metrics:--never-yielded-ns) return ;;
     metrics:--by) return ;;
     metrics:--every) return ;;
+    metrics:--series) return ;;
     esac
     case ${COMP_WORDS[1]} in
     run) all='--explain --help' ;;
-    view) all='--self-wake-percent --never-yielded-ns --long-poll --long-wait --findings --times --explain --help' ;;
-    lint) all='--self-wake-percent --never-yielded-ns --long-poll --long-wait --findings --explain --help' ;;
+    view) all='--self-wake-percent --never-yielded-ns --long-poll --long-wait --findings --by --times --place --explain --help' ;;
+    lint) all='--self-wake-percent --never-yielded-ns --long-poll --long-wait --findings --by --explain --help' ;;
     page) all='--self-wake-percent --never-yielded-ns --help' ;;
     watch) all='--self-wake-percent --never-yielded-ns --sort --rows --filter --resources --every --follow --keys --plain --help' ;;
-    metrics) all='--self-wake-percent --never-yielded-ns --by --to --every --follow --help' ;;
+    metrics) all='--self-wake-percent --never-yielded-ns --by --to --every --follow --series --help' ;;
     demo) all='--help' ;;
     help) all='run view lint page watch metrics demo help' ;;
     esac

@@ -1,13 +1,16 @@
-//! The stream of a service that runs, as the proved program's standard input.
+//! The stream of a service that runs, over a socket or in a file that grows, as the proved program's standard input.
 
 use crate::address::Address;
 use crate::c;
+use crate::growing::Growing;
 use crate::lines::{Lines, Numbering};
 use std::ffi::OsString;
+use std::fmt;
 use std::io::{self, Read};
 use std::os::unix::io::AsRawFd;
 use std::os::unix::net::UnixStream;
 use std::os::unix::process::parent_id;
+use std::path::{Path, PathBuf};
 use std::process::{exit, id};
 use std::thread::sleep;
 use std::time::Duration;
@@ -26,10 +29,9 @@ pub enum Extent {
 impl Extent {
     /// What the words read of a socket, or `None` if their command reads no stream.
     pub fn of(words: &[OsString]) -> Option<Extent> {
-        let has = |option: &str| words.iter().any(|word| word.to_string_lossy().split('=').next() == Some(option));
         Some(match words.get(1)?.to_str()? {
             "view" | "lint" => Extent::Now,
-            "metrics" if has("--to") => Extent::Always,
+            "metrics" if has(words, "--to") => Extent::Always,
             "metrics" => Extent::Now,
             "page" | "run" => Extent::UntilEnd,
             "watch" => Extent::Always,
@@ -38,34 +40,90 @@ impl Extent {
     }
 }
 
-/// Options whose value is a text of the user's own, which may look like a socket.
-const WITH_TEXT: [&str; 2] = ["--filter", "--to"];
-
-/// The first word that names a socket, and its place.
-fn named_in(words: &[OsString]) -> Option<(usize, Address)> {
-    let after_command = words.iter().enumerate().skip(2);
-    let mut names = after_command.filter(|(place, _)| !WITH_TEXT.iter().any(|option| words[place - 1] == *option));
-    names.find_map(|(place, word)| Some((place, Address::of(word)?)))
+/// Whether an option is among the words, with its value in the same word or without.
+fn has(words: &[OsString], option: &str) -> bool {
+    words.iter().any(|word| word.to_string_lossy().split('=').next() == Some(option))
 }
 
-/// Connects to the socket that a word names, makes its lines standard input, and takes the word away. It answers whether there was one. No thread may
-/// have been started.
+/// Options of `watch` and `metrics` whose value may be a word of its own.
+const WITH_VALUE: [&str; 9] = [
+    "--self-wake-percent",
+    "--never-yielded-ns",
+    "--sort",
+    "--rows",
+    "--filter",
+    "--every",
+    "--by",
+    "--to",
+    "--series",
+];
+
+/// Where a stream is that others write.
+#[derive(Clone, Debug, PartialEq, Eq)]
+enum Source {
+    Socket(Address),
+    /// A file that is followed.
+    File(PathBuf),
+}
+
+impl Source {
+    fn open(&self) -> io::Result<Box<dyn Read + Send>> {
+        match self {
+            Source::Socket(address) => address.connect(),
+            Source::File(path) => Ok(Box::new(Growing::open(path)?)),
+        }
+    }
+}
+
+impl fmt::Display for Source {
+    fn fmt(&self, f: &mut fmt::Formatter<'_>) -> fmt::Result {
+        match self {
+            Source::Socket(address) => address.fmt(f),
+            Source::File(path) => path.display().fmt(f),
+        }
+    }
+}
+
+/// The words after the command that are no options and no values of those, each with its place.
+fn names_in(words: &[OsString]) -> impl Iterator<Item = (usize, &OsString)> {
+    let after_command = words.iter().enumerate().skip(2);
+    after_command.filter(move |(place, word)| {
+        !word.to_string_lossy().starts_with("--") && !WITH_VALUE.iter().any(|option| words[place - 1] == *option)
+    })
+}
+
+/// The first word that names a socket, or else the file that is to be followed; and its place. A file that is none, as a pipe, is left to the program.
+fn named_in(words: &[OsString]) -> Option<(usize, Source)> {
+    let socket = names_in(words).find_map(|(place, word)| Some((place, Source::Socket(Address::of(word)?))));
+    socket.or_else(|| {
+        let (place, word) = names_in(words).next().filter(|_| has(words, "--follow"))?;
+        let path = Path::new(word);
+        path.metadata().map_or(false, |named| named.is_file()).then(|| (place, Source::File(path.to_owned())))
+    })
+}
+
+/// Opens the socket or the file to follow that a word names, makes its lines standard input, and takes the word away, and the option to follow with it.
+/// It answers whether there was a socket. No thread may have been started.
 ///
 /// # Errors
-/// What the system says of the connection, after the word. Then the words and the input are as they were.
+/// What the system says of it, after the word. Then the words and the input are as they were.
 pub fn take_stream(words: &mut Vec<OsString>) -> Result<bool, String> {
-    let (extent, place, address) = match (Extent::of(words), named_in(words)) {
-        (Some(extent), Some((place, address))) => (extent, place, address),
+    let (extent, place, source) = match (Extent::of(words), named_in(words)) {
+        (Some(Extent::Now | Extent::UntilEnd), Some((_, Source::File(_)))) => return Ok(false),
+        (Some(extent), Some((place, source))) => (extent, place, source),
         _ => return Ok(false),
     };
-    feed_input(&address, extent).map_err(|error| format!("{address}: {error}"))?;
+    feed_input(&source, extent).map_err(|error| format!("{source}: {error}"))?;
     words.remove(place);
-    Ok(true)
+    if matches!(source, Source::File(_)) {
+        words.retain(|word| word != "--follow");
+    }
+    Ok(matches!(source, Source::Socket(_)))
 }
 
 /// Has a child write the lines, which ends with this process.
-fn feed_input(address: &Address, extent: Extent) -> io::Result<()> {
-    let connection = address.connect()?;
+fn feed_input(source: &Source, extent: Extent) -> io::Result<()> {
+    let connection = source.open()?;
     let (input, output) = UnixStream::pair()?;
     let parent = id();
     // SAFETY: there is no other thread.
@@ -77,7 +135,7 @@ fn feed_input(address: &Address, extent: Extent) -> io::Result<()> {
             unsafe { c::prctl(c::PR_SET_PDEATHSIG, c::SIGTERM) };
             if parent_id() == parent {
                 // That nobody reads any more is the end of it.
-                let _ = feed(address, extent, connection, output);
+                let _ = feed(source, extent, connection, output);
             }
             exit(0)
         }
@@ -91,12 +149,12 @@ fn feed_input(address: &Address, extent: Extent) -> io::Result<()> {
     }
 }
 
-fn feed(address: &Address, extent: Extent, connection: Box<dyn Read + Send>, mut output: UnixStream) -> io::Result<()> {
+fn feed(source: &Source, extent: Extent, connection: Box<dyn Read + Send>, mut output: UnixStream) -> io::Result<()> {
     let mut numbering = Numbering::default();
     let mut lines = Lines::new(connection);
     loop {
         while let Some(line) = lines.next_line() {
-            numbering.write(&line, &mut output)?;
+            numbering.write(line, &mut output)?;
             if extent == Extent::Now {
                 return Ok(());
             }
@@ -104,20 +162,21 @@ fn feed(address: &Address, extent: Extent, connection: Box<dyn Read + Send>, mut
         if extent != Extent::Always {
             return Ok(());
         }
-        lines = Lines::new(connect_again(address));
+        lines = Lines::new(open_again(source));
+        numbering.begin_anew();
     }
 }
 
 /// How long it waits from one try to the next.
 const PAUSES: [Duration; 3] = [Duration::from_millis(100), Duration::from_millis(200), Duration::from_millis(500)];
 
-fn connect_again(address: &Address) -> Box<dyn Read + Send> {
+fn open_again(source: &Source) -> Box<dyn Read + Send> {
     let mut pauses = PAUSES.iter();
     let mut pause = PAUSES[0];
     loop {
         pause = *pauses.next().unwrap_or(&pause);
         sleep(pause);
-        if let Ok(connection) = address.connect() {
+        if let Ok(connection) = source.open() {
             return connection;
         }
     }
@@ -152,17 +211,49 @@ mod tests {
 
     #[test]
     fn a_socket_is_a_word_of_its_own() {
+        let unix = |place| Some((place, Source::Socket(Address::Unix("s".into()))));
         let cases = [
-            ("taskscope view unix:s", Some((2, Address::Unix("s".into())))),
-            ("taskscope watch --keys tcp:localhost:1", Some((3, Address::Tcp("localhost:1".into())))),
+            ("taskscope view unix:s", unix(2)),
+            ("taskscope watch --keys tcp:localhost:1", Some((3, Source::Socket(Address::Tcp("localhost:1".into()))))),
             ("taskscope watch --filter tcp:a", None),
-            ("taskscope watch --filter tcp:a unix:s", Some((4, Address::Unix("s".into())))),
+            ("taskscope watch --filter tcp:a unix:s", unix(4)),
             ("taskscope metrics --to unix:s", None),
             ("taskscope view s", None),
             ("taskscope unix:s", None),
         ];
         for (text, socket) in cases {
             assert_eq!(named_in(&words(text)), socket, "{text}");
+        }
+    }
+
+    #[test]
+    fn a_file_is_followed_where_that_is_asked_for() {
+        let file = |place| Some((place, Source::File("Cargo.toml".into())));
+        let cases = [
+            ("taskscope watch --follow Cargo.toml", file(3)),
+            ("taskscope metrics Cargo.toml --follow --to numbers.prom", file(2)),
+            ("taskscope metrics --to Cargo.toml --follow", None),
+            ("taskscope watch --filter Cargo.toml --follow", None),
+            ("taskscope watch Cargo.toml", None),
+            ("taskscope watch --follow no-such-file", None),
+            ("taskscope watch --follow /dev/null", None),
+        ];
+        for (text, source) in cases {
+            assert_eq!(named_in(&words(text)), source, "{text}");
+        }
+    }
+
+    #[test]
+    fn each_option_with_a_value_is_known() {
+        for help in [
+            include_str!("../../../tests/program/watch-help.txt"),
+            include_str!("../../../tests/program/metrics-help.txt"),
+        ] {
+            let options =
+                help.lines().map(str::trim_start).filter(|line| line.starts_with("--") && line.ends_with('>'));
+            for option in options.filter_map(|line| line.split(' ').next()) {
+                assert!(WITH_VALUE.contains(&option), "{option}");
+            }
         }
     }
 }

@@ -27,27 +27,50 @@ impl<R: Read> Lines<R> {
 }
 
 const NUMBER: &[u8] = b"\"seq\":";
+const PART: &[u8] = b"\"snapshot\":false";
+const WHOLE: &[u8] = b"\"snapshot\":true";
 
-/// Where the number of a line stands. Within a text each quote stands after a backslash, so these bytes are no part of one.
+/// Where a key of a line begins. Within a text each quote stands after a backslash, so its bytes are no part of one.
+fn place_of(key: &[u8], line: &[u8]) -> Option<usize> {
+    line.windows(key.len()).position(|bytes| bytes == key)
+}
+
+/// Where the number of a line stands.
 fn place_of_number(line: &[u8]) -> Option<(usize, usize)> {
-    let from = line.windows(NUMBER.len()).position(|bytes| bytes == NUMBER)? + NUMBER.len();
+    let from = place_of(NUMBER, line)? + NUMBER.len();
     let digits = line[from..].iter().take_while(|byte| byte.is_ascii_digit()).count();
     Some((from, from + digits))
+}
+
+/// A line that says that it is all there is, as the first line of a stream is in any case.
+fn as_snapshot(line: Vec<u8>) -> Vec<u8> {
+    match place_of(PART, &line) {
+        Some(from) => [&line[..from], WHOLE, &line[from + PART.len()..]].concat(),
+        None => line,
+    }
 }
 
 /// Writes lines so that their numbers rise by one, whatever numbers they have: those of a service that was started anew go on after those before.
 #[derive(Default)]
 pub struct Numbering {
     next: Option<u64>,
+    // Whether the next line is the first one of a service that was started anew.
+    anew: bool,
 }
 
 impl Numbering {
+    /// The next line is the first of another stream. It takes the place of all that was before.
+    pub fn begin_anew(&mut self) {
+        self.anew = true;
+    }
+
     /// # Errors
     /// The writer's.
-    pub fn write(&mut self, line: &[u8], writer: &mut impl Write) -> io::Result<()> {
-        let (from, end) = match place_of_number(line) {
+    pub fn write(&mut self, line: Vec<u8>, writer: &mut impl Write) -> io::Result<()> {
+        let line = if std::mem::take(&mut self.anew) { as_snapshot(line) } else { line };
+        let (from, end) = match place_of_number(&line) {
             Some(place) => place,
-            None => return writer.write_all(line),
+            None => return writer.write_all(&line),
         };
         let own = std::str::from_utf8(&line[from..end]).ok().and_then(|digits| digits.parse().ok());
         let number: u64 = self.next.or(own).unwrap_or(1);
@@ -65,7 +88,7 @@ mod tests {
     fn numbered(lines: &[&str]) -> String {
         let (mut numbering, mut written) = (Numbering::default(), Vec::new());
         for line in lines {
-            numbering.write(line.as_bytes(), &mut written).unwrap();
+            numbering.write(line.as_bytes().to_vec(), &mut written).unwrap();
         }
         String::from_utf8(written).unwrap()
     }
@@ -88,6 +111,21 @@ mod tests {
         ];
         let expected = "{\"now\":5,\"seq\":7}\n{\"now\":6,\"seq\":8}\n{\"now\":1,\"seq\":9}\n{\"now\":2,\"seq\":10}\n";
         assert_eq!(numbered(&given), expected, "two lines of each run of a service");
+    }
+
+    #[test]
+    fn the_first_line_of_a_stream_that_begins_anew_is_all_there_is() {
+        let (mut numbering, mut written) = (Numbering::default(), Vec::new());
+        for line in ["{\"seq\":1,\"snapshot\":false}\n", "{\"seq\":2,\"snapshot\":false}\n"] {
+            numbering.write(line.as_bytes().to_vec(), &mut written).unwrap();
+        }
+        numbering.begin_anew();
+        for line in ["{\"seq\":1,\"snapshot\":false}\n", "{\"seq\":2,\"snapshot\":false}\n"] {
+            numbering.write(line.as_bytes().to_vec(), &mut written).unwrap();
+        }
+        let expected = "{\"seq\":1,\"snapshot\":false}\n{\"seq\":2,\"snapshot\":false}\n\
+                        {\"seq\":3,\"snapshot\":true}\n{\"seq\":4,\"snapshot\":false}\n";
+        assert_eq!(String::from_utf8(written).unwrap(), expected, "two lines of each stream");
     }
 
     #[test]

@@ -3,6 +3,7 @@
 use crate::fault::Fault;
 use crate::ffi::Head;
 use crate::item::{ItemKind, Lists};
+use crate::numbers::{Histograms, Left};
 use crate::op::OpCell;
 use crate::page::{has_room, Page};
 use crate::poll_counts::PollCounts;
@@ -63,8 +64,10 @@ pub(crate) struct Book {
     owes_all: bool,
     /// How many were dropped, as the last line told it.
     dropped: Total,
-    /// Whether lines tell histograms of poll times.
-    times: bool,
+    /// Which histograms the tasks have. Lines tell them, or none does.
+    histograms: Histograms,
+    /// What has left, for the numbers.
+    left: Left,
     tasks: Table<TaskCell>,
     resources: Table<ResourceCell>,
     ops: Table<OpCell>,
@@ -72,9 +75,9 @@ pub(crate) struct Book {
 }
 
 impl Book {
-    /// Nothing was told. Lines tell histograms of poll times, or none does.
-    pub(crate) fn new(times: bool) -> Book {
-        Book { times, ..Book::default() }
+    /// Nothing was told. Lines tell these histograms.
+    pub(crate) fn new(histograms: Histograms) -> Book {
+        Book { histograms, ..Book::default() }
     }
 
     fn tables(&mut self) -> [&mut dyn Told; 4] {
@@ -201,7 +204,7 @@ impl Book {
 
     /// The entries of a line of these items and the new ones.
     fn page(&mut self, listed: Listed) -> Page {
-        let mut page = Page::new(self.times);
+        let mut page = Page::new(self.histograms.polls);
         for table in self.tables() {
             table.enter(listed, &mut page);
         }
@@ -232,11 +235,11 @@ impl Book {
         };
         each_with(lines, &after).for_each(|(line, after)| line.extend_from_slice(after));
         lines.count = 2;
-        self.tasks.leave(&tasks, |_| ());
-        self.ops.leave(&ops, |_| ());
-        let counts = &mut self.counts;
-        // A reader keeps the counts of a resource that left; here nothing is kept.
-        self.resources.leave(&resources, |resource| counts.forget(&resource.counts));
+        let Book { left, counts, .. } = self;
+        self.tasks.leave(&tasks, |task, words| left.add_task(task, words));
+        self.ops.leave(&ops, |_, _| ());
+        // A reader keeps the counts of a resource that left; here nothing is kept but sums.
+        self.resources.leave(&resources, |resource, _| left.add_resource(resource, counts.forget(&resource.counts)));
     }
 
     /// Takes what is new and what changed as told, and lets go of what leaves, as a line would, though none is made. Only a line that
@@ -248,11 +251,32 @@ impl Book {
         }
         if let Some(retention) = retention {
             let moment = now();
-            self.tasks.pass_leaving(moment, retention, |_| ());
-            self.ops.pass_leaving(moment, retention, |_| ());
-            let counts = &mut self.counts;
-            self.resources.pass_leaving(moment, retention, |resource| counts.forget(&resource.counts));
+            let Book { left, counts, .. } = self;
+            self.tasks.pass_leaving(moment, retention, |task, words| left.add_task(task, words));
+            self.ops.pass_leaving(moment, retention, |_, _| ());
+            self.resources.pass_leaving(moment, retention, |resource, _| {
+                left.add_resource(resource, counts.forget(&resource.counts))
+            });
         }
+    }
+
+    /// Whether the next line stands for all there is, or is the first. If a thread publishes the lines, it may be about to begin.
+    pub(crate) fn is_unread(&self, is_claimed: bool) -> bool {
+        self.owes_all || (self.seq == 0 && !is_claimed)
+    }
+
+    /// How many items wait for the next line, as they are new.
+    pub(crate) fn new_items(&self) -> usize {
+        self.tasks.new_items() + self.resources.new_items() + self.ops.new_items()
+    }
+
+    /// The numbers of a moment: of what has left, and of the rows as they are.
+    pub(crate) fn numbers(&mut self, dropped: Total, moment: u64) -> Result<Vec<u8>, Fault> {
+        let mut numbers = self.left.numbers(moment)?;
+        self.tasks.all().try_for_each(|task| numbers.add_task(task))?;
+        self.resources.all().try_for_each(|resource| numbers.add_resource(resource))?;
+        let Total(dropped) = dropped;
+        numbers.text(dropped, self.histograms)
     }
 }
 

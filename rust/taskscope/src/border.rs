@@ -2,9 +2,11 @@
 
 /// What a call on a row is answered.
 pub mod reply {
+    pub const MADE: u32 = 0;
     pub const ALREADY_POLLING: u32 = 1;
     pub const NOT_POLLING: u32 = 2;
     pub const CLOSED: u32 = 3;
+    pub const HANDLES_SPENT: u32 = 4;
     pub const NO_ATTRIBUTE: u32 = 5;
     pub const WRONG_KIND: u32 = 6;
     pub const OUT_OF_RANGE: u32 = 7;
@@ -58,20 +60,43 @@ pub mod kind {
 /// The words of a row.
 pub mod word {
     pub const FLAGS: usize = 0;
+    /// When the item was created.
+    pub const CREATED: usize = 1;
     /// When the item was closed, where [`CLOSED`](super::flag::CLOSED) is set.
     pub const CLOSED: usize = 2;
+    /// How many polls of a task have started.
+    pub const POLLS: usize = 3;
+    /// When the last one started, and the last one ended, or 0.
+    pub const LAST_STARTED: usize = 5;
+    pub const LAST_ENDED: usize = 6;
+    /// How long those ran that have ended.
+    pub const BUSY: usize = 7;
+    /// How often a task was woken, how often from within itself, and when it was last woken, or 0.
+    pub const WAKES: usize = 8;
+    pub const SELF_WAKES: usize = 9;
+    pub const LAST_WAKE: usize = 10;
     /// How many wakers of a task were cloned.
     pub const CLONES: usize = 11;
     /// How many of them were dropped, or woke by value.
     pub const DROPS: usize = 12;
+    /// How long a task waited since its last wake each time.
+    pub const SCHED: usize = 14;
+    /// How long it waited in all, where [`COUNTED`](super::flag::COUNTED) is set.
+    pub const WAITED: usize = 15;
 }
 
 /// What the flags of a row say.
 pub mod flag {
     /// The item is closed.
     pub const CLOSED: u64 = 1;
+    /// A poll of the task is open.
+    pub const POLLED: u64 = 32;
     /// The task waits for a poll.
     pub const SCHEDULED: u64 = 64;
+    /// The waits of the task are counted.
+    pub const COUNTED: u64 = 128;
+    /// One nanosecond that was counted of the wait that lasts.
+    pub const WAIT_SO_FAR: u64 = 256;
 }
 
 /// What an item can have, and a recorder give.

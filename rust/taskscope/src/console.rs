@@ -10,6 +10,7 @@ use crate::item::{Item, Lists};
 use crate::light::Light;
 use crate::location::Made;
 use crate::lock::lock;
+use crate::numbers::Histograms;
 use crate::op::OpBuilder;
 use crate::process::Process;
 use crate::resource::{Resource, ResourceBuilder};
@@ -249,6 +250,13 @@ impl Inner {
         cell
     }
 
+    /// How many were dropped.
+    fn dropped(&self) -> Total {
+        let mut total = Total::default();
+        self.shards.iter().for_each(|shard| total.add_all(&shard.0.lock().dropped));
+        total
+    }
+
     /// Moves what the shards list to the book, and sums up what was dropped.
     fn take(&self, book: &mut Book) -> Result<Total, Fault> {
         let mut total = Total::default();
@@ -311,6 +319,23 @@ impl Inner {
         }
     }
 
+    /// The numbers of now. If nobody reads lines, items come and leave with it as with [`pass`](Inner::pass).
+    pub(crate) fn metrics(&self) -> Result<Vec<u8>, Fault> {
+        if !self.is_active() {
+            return Ok(Vec::new());
+        }
+        let mut book = lock(&self.book);
+        self.clock.follow();
+        // What is new for a writer that has stopped stays in the recorders, which have a bound.
+        let dropped = if book.new_items() < self.capacity { self.take(&mut book)? } else { self.dropped() };
+        if book.is_unread(self.is_claimed.load(Ordering::SeqCst)) {
+            book.pass(|| self.now_after(), self.retention);
+        }
+        // Read before the rows: a poll that ends meanwhile counts up to its end, and not up to a later moment.
+        let moment = self.now_after();
+        book.numbers(dropped, moment)
+    }
+
     /// Has one thread alone publish the lines, until [`give_back`](Inner::give_back). The answer is whether no other thread does.
     pub(crate) fn claim(&self) -> bool {
         !self.is_claimed.swap(true, Ordering::SeqCst)
@@ -362,7 +387,7 @@ impl Console {
             times: settings.times,
             waits: settings.waits,
             shards: Default::default(),
-            book: Mutex::new(Book::new(settings.times)),
+            book: Mutex::new(Book::new(Histograms { polls: settings.times, waits: settings.times && settings.waits })),
             is_claimed: AtomicBool::new(false),
         }))
     }
@@ -621,6 +646,43 @@ impl Console {
         self.0.unclaimed()?;
         self.0.pass();
         Ok(())
+    }
+
+    /// The numbers of now as Prometheus reads them, for a program that answers `GET /metrics` itself. A [`Server`](crate::Server) at a
+    /// port answers it, too. If nothing is recorded ([`is_active`](Console::is_active)) the text is empty.
+    ///
+    /// It is text of the exposition format 0.0.4: families of samples, then `# EOF`. They are those of `taskscope metrics --by place` of the
+    /// console's own stream: counters and histograms of tasks by place, with all tasks that have left, the states of tasks, what
+    /// lasts, poll operations of resources, warnings, and dropped events. A place is a task's name with each run of digits read as
+    /// `#`, its kind and where it was spawned, and stands in the labels `name`, `kind` and `location`. Times are in seconds.
+    ///
+    /// - 4,096 places have samples of their own, the first that left or were shown here. All others are one, `name="(others)"`.
+    ///   So it is with types of resources.
+    /// - No count falls, and no series ends.
+    /// - Findings and what is charged to who holds others up (`taskscope_findings`, `taskscope_held_up_seconds_total`,
+    ///   `taskscope_waited_seconds_total`) are left out, as they are of steps between lines, which a reader of the stream sees. So is
+    ///   `taskscope_stream_lines_total`. If alerts are to name the culprit of a hang, let `taskscope metrics --to` read the stream.
+    ///
+    /// This may be called beside a [`Publisher`](crate::Publisher) or a server, and takes nothing from its lines. If no line was made yet,
+    /// and while nobody reads them, items come and leave with it as with [`pass`](Console::pass), so a program may have numbers and no
+    /// stream. Each row is read once, as for a line that tells all; calls on rows don't wait for it.
+    ///
+    /// ```
+    /// use taskscope::{Console, Settings};
+    ///
+    /// let console = Console::open(Settings::default());
+    /// let task = console.task("fetch-17").open();
+    /// let text = String::from_utf8(console.metrics()?).expect("text");
+    /// assert!(text.contains("taskscope_task_polls_total{name=\"fetch-#\",kind=\"spawn\",location="));
+    /// assert!(text.ends_with("# EOF\n"));
+    /// # drop(task);
+    /// # Ok::<(), taskscope::Fault>(())
+    /// ```
+    ///
+    /// # Errors
+    /// [`Memory`](Fault::Memory) alone. No count is lost then.
+    pub fn metrics(&self) -> Result<Vec<u8>, Fault> {
+        self.0.metrics()
     }
 }
 

@@ -6,8 +6,9 @@
 //! [`Console::publish`] gives a line of JSON that tells what is new and what changed, which the same library writes. `taskscope
 //! view` shows such lines as a report, and `taskscope lint` the warnings about them.
 //!
-//! - [`Console`] makes items and publishes lines, by its [`Settings`]. [`Publisher`] writes them each so often, on a thread, and
-//!   [`Server`] serves them at an [`Address`], to readers that connect and go as they like, within [`Limits`].
+//! - [`Console`] makes items and publishes lines, by its [`Settings`], and gives numbers for Prometheus ([`Console::metrics`]).
+//!   [`Publisher`] writes lines each so often, on a thread, and [`Server`] serves them at an [`Address`], to readers that connect and
+//!   go as they like, within [`Limits`].
 //! - [`Inspected`] is a future whose polls and wakers are recorded, which [`InstrumentExt`] makes of any; [`Blocking`] is a call
 //!   that blocks its thread, and [`InspectedOp`] a future that is an async operation. Most programs need no more.
 //! - [`Task`] is the owner of a task, for polls by hand, [`TaskWaker`] one of its wakers. [`Resource`] is what tasks wait for,
@@ -83,6 +84,7 @@ mod lock;
 #[cfg(not(taskscope_inactive))]
 mod memory;
 mod name;
+mod numbers;
 mod op;
 mod page;
 mod poll_counts;

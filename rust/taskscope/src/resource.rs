@@ -20,7 +20,7 @@ pub(crate) struct ResourceCell {
     id: u64,
     /// The parent's id, or 0.
     parent: u64,
-    concrete: Name,
+    pub(crate) concrete: Name,
     kind: Name,
     location: Location,
     attrs: Attrs,

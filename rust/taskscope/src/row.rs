@@ -124,6 +124,11 @@ impl<W: Copy + Default + PartialEq> Row<W> {
         Reading { now: state.now, told: state.told() }
     }
 
+    /// The words now.
+    pub(crate) fn now(&self) -> W {
+        self.0.lock().now
+    }
+
     /// A line told these words. The answer is the item's place among those told.
     pub(crate) fn tell(&self, words: W) -> Option<u64> {
         let mut state = self.0.lock();
@@ -163,12 +168,14 @@ impl<W: Copy + Default + PartialEq> Row<W> {
         state.listed
     }
 
-    /// No line tells of the item any more.
-    pub(crate) fn leave(&self) {
+    /// No line tells of the item any more. The answer is its words in the last line that had it.
+    pub(crate) fn leave(&self) -> W {
         let mut state = self.0.lock();
+        let told = state.told();
         state.standing = Standing::Gone;
         state.told = None;
         state.listed = true;
+        told
     }
 
     pub(crate) fn is_gone(&self) -> bool {

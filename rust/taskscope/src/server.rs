@@ -40,7 +40,7 @@ use system::Wake;
 /// Rows are read once for all readers. While nobody reads no line is made, and closed items leave all the same. While nothing changes
 /// a line is sent once in a second, as a sign of life. While a recorder is half full the next line comes at once. At most a quarter
 /// of the thread's time goes into lines that tell all, so that readers that come again and again don't cost more. Such a line waits 2
-/// seconds at most for this.
+/// seconds at most for this. So it is with numbers for Prometheus.
 ///
 /// ```
 /// use std::io::{BufRead, BufReader};
@@ -69,8 +69,8 @@ use system::Wake;
 /// # A port
 ///
 /// Each user of this machine may read a port of it. Who says nothing for a tenth of a second gets lines, as `nc HOST PORT`. Who sends
-/// a request is answered by HTTP: `GET /stream` gives lines, `/snapshot` one line that tells all, `/` says what to type, and any other
-/// path is 404. The `Host` of a request has to be an address of this machine or `localhost`, so that no page of another site reads
+/// a request is answered by HTTP: `GET /stream` gives lines, `/snapshot` one line that tells all, `/metrics` the numbers of
+/// [`Console::metrics`], `/` says what to type, and any other path is 404. The `Host` of a request has to be an address of this machine or `localhost`, so that no page of another site reads
 /// the stream by a name that it made one of this machine's; any other is 403. No header allows other sites to read an answer. Of a
 /// reader 8 KiB are read at most, within 5 seconds.
 ///
@@ -128,6 +128,7 @@ impl Server {
             told: None,
             door_rests_until: None,
             all_rests_until: None,
+            numbers_rest_until: None,
         };
         let running = Running::start(Arc::<Control>::default(), move |control| serving.run(control))?;
         Ok(Server { address, counts, wake, running })

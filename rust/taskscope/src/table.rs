@@ -205,25 +205,35 @@ impl<T: Item> Table<T> {
     }
 
     /// Lets go of the items that leave at a moment, though no line says so.
-    pub(crate) fn pass_leaving(&mut self, moment: u64, retention: u64, left: impl FnMut(&T)) {
+    pub(crate) fn pass_leaving(&mut self, moment: u64, retention: u64, left: impl FnMut(&T, &T::Words)) {
         let leaving = self.take_leaving(moment, retention);
         self.leave(&leaving, left);
     }
 
-    /// These items left. They are gone from the tables, and each is handed to `left`.
-    pub(crate) fn leave(&mut self, leaving: &[(u64, u64)], mut left: impl FnMut(&T)) {
+    /// These items left. They are gone from the tables, and `left` gets each, with its words in the last line that had it.
+    pub(crate) fn leave(&mut self, leaving: &[(u64, u64)], mut left: impl FnMut(&T, &T::Words)) {
         for cell in leaving.iter().filter_map(|(place, _)| self.told.remove(place)) {
-            cell.row().leave();
-            left(&cell);
+            let words = cell.row().leave();
+            left(&cell, &words);
         }
     }
 
-    /// Nothing is kept of an item, which no line tells of any more.
-    pub(crate) fn forget(&mut self, cell: &T) {
+    /// Nothing is kept of an item, which no line tells of any more. Gives its words in the last line that had it.
+    pub(crate) fn forget(&mut self, cell: &T) -> T::Words {
         if let Some(place) = cell.row().place() {
             self.told.remove(&place);
         }
-        cell.row().leave();
+        cell.row().leave()
+    }
+
+    /// The items that are there, in the order in which a line lists them.
+    pub(crate) fn all(&self) -> impl Iterator<Item = &T> {
+        self.told.values().chain(&self.fresh).map(|cell| &**cell)
+    }
+
+    /// How many items wait for the next line, as they are new.
+    pub(crate) fn new_items(&self) -> usize {
+        self.fresh.len()
     }
 
     /// These items did not leave, as their line was not made.

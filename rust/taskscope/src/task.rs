@@ -74,7 +74,7 @@ pub(crate) struct TaskWords {
 
 impl TaskWords {
     /// The words of a new task, whose waits are counted or not. Where histograms are kept, one is of them.
-    fn opening(created: u64, waits: bool, times: bool) -> TaskWords {
+    pub(crate) fn opening(created: u64, waits: bool, times: bool) -> TaskWords {
         let mut words = TaskWords::default();
         // SAFETY: the words are lent for the calls.
         unsafe {
@@ -118,9 +118,9 @@ impl TaskWords {
 #[derive(Debug)]
 pub(crate) struct TaskCell {
     pub(crate) id: u64,
-    kind: TaskKind,
-    name: Name,
-    location: Location,
+    pub(crate) kind: TaskKind,
+    pub(crate) name: Name,
+    pub(crate) location: Location,
     row: Row<TaskWords>,
 }
 

@@ -204,10 +204,12 @@ fn numbers_of(source: &str) -> BTreeMap<String, String> {
 // Each number, the source that has it, and what it says there, with `#` in the number's place. Where the source says `_`, any
 // number that no other of the module has will do.
 #[rustfmt::skip]
-const NUMBERS: [(&str, &str, &str); 41] = [
+const NUMBERS: [(&str, &str, &str); 56] = [
+    ("reply::MADE",            "tk_embed/src/reply.rt", "Reply::Done | Reply::Number(_) | Reply::Shown(_) => #,"),
     ("reply::ALREADY_POLLING", "tk_core/src/reply.rt",  "Refusal::AlreadyPolling => #,"),
     ("reply::NOT_POLLING",     "tk_core/src/reply.rt",  "Refusal::NotPolling => #,"),
     ("reply::CLOSED",          "tk_core/src/reply.rt",  "Refusal::Closed => #,"),
+    ("reply::HANDLES_SPENT",   "tk_core/src/reply.rt",  "Refusal::HandlesSpent => #,"),
     ("reply::NO_ATTRIBUTE",    "tk_core/src/reply.rt",  "Refusal::NoAttribute => #,"),
     ("reply::WRONG_KIND",      "tk_core/src/reply.rt",  "Refusal::WrongKind => #,"),
     ("reply::OUT_OF_RANGE",    "tk_core/src/reply.rt",  "Refusal::OutOfRange => #,"),
@@ -240,10 +242,23 @@ const NUMBERS: [(&str, &str, &str); 41] = [
     ("word::CLOSED",           "tk_core/src/task/words.rt", "dropped: moment_of(flags % 2 == 1, words[#]),"),
     ("word::CLOSED",           "tk_core/src/resource/words.rt", "dropped: moment_of(flags % 2 == 1, words[#]),"),
     ("word::CLOSED",           "tk_core/src/op/words.rt", "dropped: moment_of(flags % 2 == 1, words[#]),"),
+    ("word::CREATED",          "tk_core/src/task/words.rt", "created: words[#],"),
+    ("word::POLLS",            "tk_core/src/task/words.rt", " polls: words[#],"),
+    ("word::LAST_STARTED",     "tk_core/src/task/words.rt", "last_started: moment_of(from_2 % 2 == 1, words[#]),"),
+    ("word::LAST_ENDED",       "tk_core/src/task/words.rt", "last_ended: moment_of(from_3 % 2 == 1, words[#]),"),
+    ("word::BUSY",             "tk_core/src/task/words.rt", "busy: words[#],"),
+    ("word::WAKES",            "tk_core/src/task/words.rt", " wakes: words[#],"),
+    ("word::SELF_WAKES",       "tk_core/src/task/words.rt", "self_wakes: words[#],"),
+    ("word::LAST_WAKE",        "tk_core/src/task/words.rt", "last_wake: moment_of(from_4 % 2 == 1, words[#]),"),
     ("word::CLONES",           "tk_core/src/task/words.rt", "clones: words[#],"),
     ("word::DROPS",            "tk_core/src/task/words.rt", "drops: words[#],"),
+    ("word::SCHED",            "tk_core/src/task/words.rt", "sched: words[#],"),
+    ("word::WAITED",           "tk_core/src/task/words.rt", "waits: waits_of(from_7, words[#]),"),
     ("flag::CLOSED",           "tk_core/src/task/words.rt", "dropped: moment_of(flags % 2 == #,"),
+    ("flag::POLLED",           "tk_core/src/task/words.rt", "+ # * polling"),
     ("flag::SCHEDULED",        "tk_core/src/task/words.rt", "+ # * scheduled"),
+    ("flag::COUNTED",          "tk_core/src/task/words.rt", "+ # * waits"),
+    ("flag::WAIT_SO_FAR",      "tk_core/src/task/words.rt", "self.bits() + # * so_far(self.waits)"),
     ("limit::ATTRIBUTES",      "tk_ids/src/attrs.rt", "pub const MOST_ATTRIBUTES: usize = #;"),
     ("limit::LAST_NUMBER",     "tk_ids/src/id_block.rt", "const LAST_NUMBER: u64 = #;"),
 ];

@@ -14,7 +14,7 @@ use std::os::unix::fs::PermissionsExt;
 use std::os::unix::net::{UnixListener, UnixStream};
 use std::path::{Path, PathBuf};
 use std::process::Command;
-use std::sync::atomic::{AtomicBool, Ordering};
+use std::sync::atomic::{AtomicBool, AtomicUsize, Ordering};
 use std::sync::{PoisonError, RwLock, RwLockReadGuard};
 use std::thread::{self, sleep};
 use std::time::{Duration, Instant};
@@ -191,11 +191,12 @@ fn a_port_answers_requests() {
     assert_eq!((body.lines().count(), ids(&tables(&body)).len()), (1, 1), "one line that tells all: {body}");
     let (head, body) = ask(&server, "GET / HTTP/1.1\r\nHost: localhost\r\n\r\n");
     assert!(head.starts_with("HTTP/1.1 200 OK\r\n"), "{head}");
-    for words in ["taskscope watch tcp:127.0.0.1:", "curl -sN http://127.0.0.1:"] {
+    for words in ["taskscope watch tcp:127.0.0.1:", "curl -sN http://127.0.0.1:", "/metrics  "] {
         assert!(body.contains(words), "it says what to type: {body}");
     }
     let cases = [
         ("GET /snapshot HTTP/1.1\r\nHost: evil.example\r\n\r\n", "HTTP/1.1 403 Forbidden"),
+        ("GET /metrics HTTP/1.1\r\nHost: evil.example\r\n\r\n", "HTTP/1.1 403 Forbidden"),
         ("GET /other HTTP/1.1\r\nHost: localhost\r\n\r\n", "HTTP/1.1 404 Not Found"),
         ("POST /stream HTTP/1.1\r\nHost: localhost\r\n\r\n", "HTTP/1.1 405 Method Not Allowed"),
         ("xyz\n", "HTTP/1.1 405 Method Not Allowed"),
@@ -219,6 +220,65 @@ fn a_port_answers_requests() {
     server.stop().expect("no fault");
     line.push_str(&rest(reader));
     assert_eq!(ids(&tables(&line)).len(), 2, "lines follow, to the last one: {line}");
+}
+
+const SCRAPE: &str = "GET /metrics HTTP/1.1\r\nHost: localhost\r\n\r\n";
+
+#[test]
+fn a_port_gives_numbers_while_others_read_lines_or_none_do() {
+    let console = Console::open(Settings::default().retention(Duration::ZERO));
+    let server = start_port(&console, OFTEN);
+    let _stays = console.task("stays").open();
+    let mut readers = Vec::new();
+    for round in 1..=6 {
+        (0..10).for_each(|_| drop(console.task("goes").open()));
+        let (head, body) = ask(&server, SCRAPE);
+        assert!(head.starts_with("HTTP/1.1 200 OK\r\n"), "{head}");
+        for line in
+            ["Content-Type: text/plain; version=0.0.4; charset=utf-8", &format!("Content-Length: {}", body.len())]
+        {
+            assert!(head.lines().any(|other| other == line), "{line}: {head}");
+        }
+        assert!(body.starts_with("# TYPE ") && body.ends_with("# EOF\n"), "{body}");
+        let clones = |line: &&str| line.starts_with("taskscope_task_polls_total{");
+        assert_eq!(body.lines().filter(clones).count(), 2, "round {round}: two places: {body}");
+        readers.push(join(&server));
+    }
+    server.stop().expect("no fault");
+    for (reader, line) in readers {
+        assert_eq!(ids(&tables(&(line + &rest(reader)))).len(), 1, "lines are whole, and what left has left");
+    }
+}
+
+#[test]
+fn who_asks_for_numbers_all_the_time_takes_a_part_of_the_time() {
+    let console = console();
+    let server = start_port(&console, LONG);
+    let _stay: Vec<Task> =
+        (0..500u32).map(|task| console.task("abcdefghij".repeat(1 + task as usize % 40)).open()).collect();
+    let cost = (0..10).map(|_| {
+        let started = Instant::now();
+        assert!(console.metrics().is_ok());
+        started.elapsed()
+    });
+    let cost = cost.min().expect("there is one");
+    let (answers, started) = (AtomicUsize::new(0), Instant::now());
+    thread::scope(|scope| {
+        for _ in 0..8 {
+            scope.spawn(|| {
+                while started.elapsed() < Duration::from_secs(1) {
+                    assert!(ask(&server, SCRAPE).1.ends_with("# EOF\n"), "each answer is whole");
+                    answers.fetch_add(1, Ordering::SeqCst);
+                }
+            });
+        }
+    });
+    let (made, answers) = (server.served().numbers as u32, answers.into_inner());
+    let span = started.elapsed();
+    // A quarter, and some more for a call that was quicker than all that were measured.
+    assert!(cost * made < span / 3 + cost, "{made} of {cost:?} within {span:?}");
+    assert!(answers > made as usize, "{answers} answers of {made}: those that wait share one");
+    server.stop().expect("no fault");
 }
 
 #[test]

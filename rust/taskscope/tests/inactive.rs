@@ -67,6 +67,7 @@ fn calls_by_hand_are_made_and_the_stream_is_there_where_they_are_recorded() {
     for line in [console.publish().unwrap(), console.snapshot().unwrap()] {
         assert_eq!(line.ends_with(b"}\n"), is_active, "{line:?}");
     }
+    assert_eq!(console.metrics().map(|text| text.ends_with(b"# EOF\n")), Ok(is_active));
     assert_eq!(console.publish_changes(), Ok(None));
     // The moments of a console go on.
     let before = console.now();

@@ -105,7 +105,8 @@ fn has_changed(console: &Console) -> bool {
 
 #[test]
 fn a_line_in_which_nothing_changed_can_be_left_out() {
-    let console = Console::open(Settings::default().capacity(3).retention(Duration::from_millis(20)));
+    let retention = Duration::from_secs(1);
+    let console = Console::open(Settings::default().capacity(3).retention(retention));
     assert!(!has_changed(&console), "nothing was made");
     let mut task = console.task("task").open();
     let resource = console.resource("Semaphore").kind("Sync").attr(Attr::new("permits", 2u64)).open();
@@ -134,7 +135,8 @@ fn a_line_in_which_nothing_changed_can_be_left_out() {
     drop(kept);
     let late = console.publish_changes().unwrap();
     assert!(late.is_some(), "tasks were closed");
-    // They leave some time after it, with a line of their own.
+    // They leave some time after it, with a line of their own. The last of them was closed before the wait begins.
+    sleep(retention);
     let started = std::time::Instant::now();
     let gone = loop {
         if let Some(lines) = console.publish_changes().unwrap() {

@@ -8,7 +8,7 @@ use common::{list, number};
 use std::alloc::{GlobalAlloc, Layout, System};
 use std::sync::atomic::{AtomicUsize, Ordering};
 use std::time::Duration;
-use taskscope::{Console, Fault, Origin, Settings, Task, Woken};
+use taskscope::{Console, Fault, Location, Origin, Settings, Task, Woken};
 
 /// Refuses blocks of more than so many bytes.
 struct Refusing;
@@ -45,6 +45,7 @@ fn a_line_for_which_there_is_no_memory_is_told_by_the_next() {
     lines_of_what_is_new();
     lines_of_what_changed();
     lines_after_what_leaves();
+    numbers();
 }
 
 fn lines_of_what_is_new() {
@@ -78,6 +79,22 @@ fn lines_of_what_changed() {
         let told = common::publish(&console);
         assert_eq!(list(&told, "task_stats").len(), tasks.len(), "{most}");
     }
+}
+
+/// Numbers that can't be made lose nothing.
+fn numbers() {
+    let console = Console::open(Settings::default().retention(Duration::ZERO));
+    common::publish(&console);
+    let open = |place: u32| console.task("listed").location(Location::new("src/main.rs", place, 1)).open();
+    let mut tasks: Vec<Task> = (0..500).map(open).collect();
+    tasks.truncate(250);
+    common::publish(&console);
+    for most in [100, 2_000, 20_000, 200_000] {
+        with_most(most, || assert_eq!(console.metrics(), Err(Fault::Memory), "{most}"));
+    }
+    let text = String::from_utf8(console.metrics().expect("numbers")).expect("text");
+    let places = text.lines().filter(|line| line.starts_with("taskscope_task_polls_total{")).count();
+    assert_eq!((places, tasks.len()), (500, 250), "{text}");
 }
 
 /// That there is no memory to say what leaves is no fault of a line: all leaves with a later one.

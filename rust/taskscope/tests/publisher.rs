@@ -4,7 +4,7 @@ mod common;
 
 use common::{list, number, Tables};
 use std::io::{self, Write};
-use std::panic::{catch_unwind, AssertUnwindSafe};
+use std::panic::{catch_unwind, resume_unwind, AssertUnwindSafe};
 use std::sync::atomic::{AtomicBool, Ordering};
 use std::sync::mpsc::{channel, Receiver};
 use std::sync::{Arc, Mutex};
@@ -120,10 +120,12 @@ fn an_interval_of_0_is_refused() {
 #[test]
 fn the_longest_interval_waits_for_the_stop() {
     let console = Console::open(Settings::default());
-    let publisher = Publisher::start(&console, Duration::MAX, Vec::new()).unwrap();
-    sleep(Duration::from_millis(50));
+    let shared = Shared::default();
+    let publisher = Publisher::start(&console, Duration::MAX, shared.clone()).unwrap();
+    until(|| shared.text().lines().count() == 1);
     drop(console.task("told at the end").open());
-    let stream = String::from_utf8(publisher.stop().unwrap()).unwrap();
+    publisher.stop().unwrap();
+    let stream = shared.text();
     assert_eq!((stream.lines().count(), stream.matches("told at the end").count()), (2, 1), "{stream}");
 }
 
@@ -167,7 +169,8 @@ fn an_error_of_the_writer_ends_the_thread_and_is_told() {
 fn a_panic_of_the_writer_goes_on_in_the_stop_and_not_in_the_drop() {
     // A console each: a drop leaves a thread to itself after two seconds, and then it still publishes.
     let start = || {
-        let writer = Fails(0, || -> io::Result<usize> { panic!("as the test wants") });
+        // No backtrace is printed, which may take longer than a stop waits.
+        let writer = Fails(0, || -> io::Result<usize> { resume_unwind(Box::new("as the test wants")) });
         Publisher::start(&Console::open(Settings::default()), LONG, writer).unwrap()
     };
     drop(start());

@@ -116,10 +116,11 @@ fn main() {
     };
     let snapshots = lines(|console| console.snapshot().unwrap().len());
     let changes = lines(|console| console.publish().unwrap().len());
+    let numbers = lines(|console| console.metrics().unwrap().len());
     assert!(snapshots.join().unwrap() > 0 && changes.join().unwrap() > 0);
     let publisher = Publisher::start(&console, Duration::from_millis(1), Vec::new()).unwrap();
     threads.into_iter().for_each(|thread| thread.join().unwrap());
-    assert!(!publisher.stop().unwrap().is_empty());
+    assert!(numbers.join().unwrap() > 0 && !publisher.stop().unwrap().is_empty());
     let told = snapshot(&console);
     let row = common::task(&told, id);
     assert_eq!(number(row, "wakes"), THREADS * TURNS * 2 / 3);

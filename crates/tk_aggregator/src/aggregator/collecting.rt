@@ -1,11 +1,12 @@
 //! How events are taken in: a new item goes last, with the row that its handle then reads, and a poll operation is counted.
 ghost use Rattle.std.specs.Prelude.{◌≡◌, ◌<◌, Some, None, false, true, OnOk, OnErr, IfOk, IfErr, IfSome, IfNone, ◌⊎◌};
 ghost use Rattle.tk_events.specs.declared.event.Event.TheVariants as events;
+ghost use Rattle.tk_events.specs.Handles.{dropped_by};
 ghost use Rattle.tk_events.specs.Items.{Agrees};
 ghost use Rattle.tk_aggregator.specs.Absorbing.{infos_of};
 ghost use Rattle.tk_aggregator.specs.Finished.{HoldKept};
 ghost use Rattle.tk_aggregator.specs.Aggregates.{IsLaterOf, IsSameStream, TakesIn, Collects, RunsOut, TookMore, FollowsTaker, GathersUpTo, Comes, TellsTotals, WasEmpty, dropped_in};
-ghost use Rattle.tk_aggregator.specs.Beside.{TookAll, GathersUpToBeside, CollectsBeside};
+ghost use Rattle.tk_aggregator.specs.Beside.{TookAll, GathersUpToBeside, CollectsBeside, StaysRecorder, KnowsAllTaken};
 ghost use Rattle.tk_ledgers.specs.Handles.{sight_with};
 ghost use Rattle.tk_stream.specs.Tables.{task_with};
 ghost use Rattle.tk_stream.specs.Polls.{counted};
@@ -51,8 +52,9 @@ impl Aggregator {
         Ok(count)
     }
 
-    /// Takes events in as [`Aggregator::collect`] does, beside a recorder of the taker's console, which stays as it is. An answer below
-    /// `limit` says that all that this recorder kept by then was taken. The taker isn't finished.
+    /// Takes events in as [`Aggregator::collect`] does, beside a recorder of the taker's console, which then knows how many of its events
+    /// were taken, and otherwise stays as it is. An answer below `limit` says that all that this recorder kept by then was taken, and the
+    /// recorder knows it. Where it is the console's only one, the totals are exactly what it dropped. The taker isn't finished.
     ///
     /// Its one error is that of `collect`.
     pub fn collect_beside<R: Wait>(
@@ -65,7 +67,8 @@ impl Aggregator {
         requires console { recorder.old.console ≡ taker.old.console }
         requires recorders { recorder.old.recorders ≡ taker.old.recorders }
         requires unfinished { taker.old.finished ≡ false }
-        ensures same { recorder.new ≡ recorder.old }
+        ensures same { StaysRecorder recorder.old recorder.new }
+        ensures knows { IfOk result (λ count. count < limit → KnowsAllTaken recorder.new) }
         ensures ok { IfOk result (λ count. CollectsBeside recorder.old self.old taker.old limit count self.new taker.new) }
         ensures err { IfErr result (λ e. (e ≡ Memory) × RunsOut self.old taker.old limit self.new taker.new) }
         ensures took { TookMore taker.old taker.new }
@@ -73,7 +76,7 @@ impl Aggregator {
         ensures stays { IsSameStream self.old self.new }
     {
         let count = self.gather_beside(rt, taker, recorder, limit)?;
-        self.take_totals(taker);
+        self.take_totals_beside(taker, recorder);
         Ok(count)
     }
 
@@ -83,6 +86,20 @@ impl Aggregator {
         ensures now { self.new ≡ record self.old { tables = record self.old.tables { dropped = dropped_in taker.new.last } } }
     {
         let dropped = taker.dropped();
+        self.tables.set_totals(dropped, self.tables.now());
+    }
+
+    // The totals of dropped events become the taker's, beside a recorder.
+    fn take_totals_beside(&mut self, taker: &mut Taker, recorder: &mut Recorder)
+        requires console { recorder.old.console ≡ taker.old.console }
+        requires recorders { recorder.old.recorders ≡ taker.old.recorders }
+        requires unfinished { taker.old.finished ≡ false }
+        ensures same { recorder.new ≡ recorder.old }
+        ensures totals { TellsTotals taker.old taker.new }
+        ensures exact { taker.old.recorders ≡ 1 → taker.new.last ≡ dropped_by recorder.old }
+        ensures now { self.new ≡ record self.old { tables = record self.old.tables { dropped = dropped_in taker.new.last } } }
+    {
+        let dropped = taker.dropped_beside(recorder);
         self.tables.set_totals(dropped, self.tables.now());
     }
 
@@ -127,7 +144,8 @@ impl Aggregator {
         requires console { recorder.old.console ≡ taker.old.console }
         requires recorders { recorder.old.recorders ≡ taker.old.recorders }
         requires unfinished { taker.old.finished ≡ false }
-        ensures same { recorder.new ≡ recorder.old }
+        ensures same { StaysRecorder recorder.old recorder.new }
+        ensures knows { IfOk result (λ count. count < limit → KnowsAllTaken recorder.new) }
         ensures ok { IfOk result (λ count. GathersUpToBeside recorder.old self.old taker.old limit count self.new taker.new) }
         ensures err { IfErr result (λ e. (e ≡ Memory) × RunsOut self.old taker.old limit self.new taker.new) }
     {
@@ -153,10 +171,10 @@ impl Aggregator {
         requires console { recorder.old.console ≡ taker.old.console }
         requires recorders { recorder.old.recorders ≡ taker.old.recorders }
         requires unfinished { taker.old.finished ≡ false }
-        ensures same { recorder.new ≡ recorder.old }
+        ensures same { StaysRecorder recorder.old recorder.new }
         ensures some { IfSome result (λ event. Comes self.old taker.old event self.new taker.new) }
         ensures agrees { IfSome result (λ event. Agrees event) }
-        ensures none { IfNone result ((self.new ≡ self.old) × (self.old.held ≡ None) × (taker.new ≡ taker.old) × TookAll recorder.old taker.new) }
+        ensures none { IfNone result ((self.new ≡ self.old) × (self.old.held ≡ None) × (taker.new ≡ taker.old) × TookAll recorder.old taker.new × KnowsAllTaken recorder.new) }
     {
         if let Some(event) = self.held.take() {
             return Some(event);

@@ -1,7 +1,8 @@
 //! How rows are read from the ledgers of the items, all of them, or one beside the hand that holds its other callers.
 ghost use Rattle.std.specs.Prelude.{◌≡◌, ◌<◌, length, slice_get, Some};
 ghost use Rattle.tk_aggregator.specs.Absorbing.{infos_of};
-ghost use Rattle.tk_aggregator.specs.Aggregates.{ReadsHistograms, IsLaterOf, IsSameStream, Refreshes, ReadsTasks, ReadsResources, ReadsOps};
+ghost use Rattle.tk_aggregator.specs.Aggregates.{ReadsHistograms, ReadsHistogramBeside, IsLaterOf, IsSameStream, Refreshes, ReadsTasks, ReadsResources, ReadsOps};
+ghost use Rattle.tk_aggregator.specs.Timing.{AreOfOwner, StaysOwner};
 ghost use Rattle.tk_aggregator.specs.Beside.{AreOf, StaysHand, ReadsTaskBeside, ReadsResourceBeside, ReadsOpBeside};
 ghost use Rattle.tk_core.specs.OpMeaning.{op_meaning};
 ghost use Rattle.tk_core.specs.ResourceMeaning.{resource_meaning};
@@ -17,7 +18,7 @@ use crate::ledgered::{
     read_op_at, read_ops, read_resource_at, read_resources, read_task_at, read_tasks,
 };
 use std::sync::Wait;
-use tk_ledgers::{OpCallers, ResourceCallers, TaskCallers};
+use tk_ledgers::{OpCallers, ResourceCallers, TaskCallers, TimesOwner};
 
 impl Aggregator {
     /// Reads the ledger of each item once, and the row of the item is what was read; where histograms are read, each of these once
@@ -59,6 +60,17 @@ impl Aggregator {
         ensures { ReadsHistograms self.old self.new }
     {
         self.timing.refresh(rt);
+    }
+
+    /// Reads a task's histogram beside its owner: where there is one of the owner's task, it is that of the times that the owner has added, and
+    /// of no others, and nothing else changes; where there is none, nothing does. It takes no memory. Readers of the owner's task have to be
+    /// of its histogram.
+    pub fn read_times_beside<R: Wait>(&mut self, rt: &R, owner: &mut TimesOwner)
+        requires { AreOfOwner owner.old self.old.timing.readers }
+        ensures reads { ReadsHistogramBeside owner.old self.old self.new }
+        ensures owner { StaysOwner owner.old owner.new }
+    {
+        self.timing.read_beside(rt, owner);
     }
 
     /// Reads a task beside the hand that holds its other callers: where the tables have it, its row is that after just the calls of the

@@ -20,14 +20,15 @@ pub struct Returned {
 
 /// What a pass knows. No value of it is made.
 ///
-/// A recorder has its number and its offers, the taker what it took, how many recorders it made and
-/// what those that it joined had offered. Both know how many recorders there may be.
+/// A recorder has its number, its offers, and how many of those that were kept it knows to be taken; the taker what it took, how many
+/// recorders it made and what those that it joined had offered. Both know how many recorders there may be.
 pub struct View {
     pub role: Role,
     pub recorders: u64,
     pub number: u64,
     pub kept: LinkedList<Offer>,
     pub refused: LinkedList<Offer>,
+    pub gone: u64,
     pub made: u64,
     pub taken: LinkedList<Offer>,
     pub known: LinkedList<Returned>,

@@ -41,3 +41,25 @@ impl Join<View> for TakeIn {
 
     ghost spent = { spent };
 }
+
+/// The reader gives the one adder back that it took in.
+pub(crate) struct GiveBack;
+
+impl Split<View> for GiveBack {
+    ghost use Rattle.tk_events.specs.Counts.{gives_back, given_back};
+
+    ghost left = { gives_back };
+
+    ghost right = { given_back };
+}
+
+/// An adder lends its seat.
+pub(crate) struct Lend;
+
+impl Split<View> for Lend {
+    ghost use Rattle.tk_events.specs.Counts.{spent};
+
+    ghost left = { λ v. spent };
+
+    ghost right = { λ v. v };
+}

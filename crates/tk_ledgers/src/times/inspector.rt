@@ -4,10 +4,11 @@ ghost use Rattle.tk_core.specs.declared.times.call.TimesCall.TheVariants.{Read};
 ghost use Rattle.tk_core.specs.declared.reply.Reply.TheVariants.{Shown};
 ghost use Rattle.tk_core.specs.TimesMeaning.{times_meaning};
 ghost use Rattle.tk_cell.specs.Calls.{Calls, Joins};
+ghost use Rattle.tk_cell.specs.Ours.{CallsBeside};
 ghost use Rattle.tk_ledgers.specs.Handles.{sight};
 
 use crate::handle::Handle;
-use crate::role::Enlisted;
+use crate::role::{Enlisted, Owning};
 use crate::times::TimesReceipt;
 use std::marker::Model;
 use std::sync::Wait;
@@ -52,6 +53,23 @@ impl TimesInspector {
         ensures entry { Calls times_meaning self.old.token.view Read (Shown result) self.new.token.view }
     {
         self.handle.read(rt, TimesCall::Read)
+    }
+
+    // Reads the row beside the owner.
+    #[tactic(auto, using(crate::proofs::TimesLemmas::read_reads))]
+    pub(crate) fn read_beside<R: Wait>(
+        &mut self,
+        rt: &R,
+        owner: &mut Handle<TimesRow, Owning>,
+    ) -> TimesRow
+        requires { owner.old.ledger ≡ self.old.token.ledger }
+        ensures id { self.new.id ≡ self.old.id }
+        ensures ledger { self.new.token.ledger ≡ self.old.token.ledger }
+        ensures own { owner.new.ledger ≡ owner.old.ledger }
+        ensures beside { CallsBeside times_meaning owner.old.view self.old.token.view Read (Shown result) owner.new.view self.new.token.view }
+        ensures caller { owner.old.view.caller ≡ 0 }
+    {
+        owner.read_by(rt, &mut self.handle, TimesCall::Read)
     }
 
     /// Takes in what another handle of the ledger has seen, and its numbers. No entry is made.

@@ -1,12 +1,13 @@
 //! The owner of a histogram of times.
-ghost use Rattle.std.specs.Prelude.{◌≡◌, IfOk, IfErr};
-ghost use Rattle.tk_core.specs.declared.times.call.TimesCall.TheVariants.{Add, Enlist};
-ghost use Rattle.tk_core.specs.declared.reply.Reply.TheVariants.{Done};
+ghost use Rattle.std.specs.Prelude.{◌≡◌, ◌++◌, ◌∷◌, [], IfOk, IfErr};
+ghost use Rattle.tk_core.specs.declared.times.call.TimesCall.TheVariants.{Add, Enlist, Read};
+ghost use Rattle.tk_core.specs.declared.reply.Reply.TheVariants.{Done, Shown};
 ghost use Rattle.tk_core.specs.Times.{opening_row};
 ghost use Rattle.tk_core.specs.TimesMeaning.{times_meaning};
 ghost use Rattle.tk_cell.specs.Views.{opened};
 ghost use Rattle.tk_cell.specs.Calls.{Calls};
 ghost use Rattle.tk_ledgers.specs.Handles.{Drew, NotDrawn};
+ghost use Rattle.tk_ledgers.specs.Times.{added_times, ShowsTimes};
 
 use crate::handle::Handle;
 use crate::role::{Enlisted, Owning};
@@ -47,6 +48,13 @@ impl TimesOwner {
         })
     }
 
+    /// The task whose times it adds.
+    pub fn task(&self) -> TaskId
+        ensures { result ≡ self.now.id }
+    {
+        self.id
+    }
+
     /// Adds a time.
     #[tactic(auto, using(crate::proofs::TimesLemmas::add_done))]
     #[inline(always)]
@@ -55,8 +63,23 @@ impl TimesOwner {
         ensures ledger { self.new.token.ledger ≡ self.old.token.ledger }
         ensures caller { self.old.token.view.caller ≡ 0 }
         ensures entry { Calls times_meaning self.old.token.view (Add time) Done self.new.token.view }
+        ensures added { added_times self.new.token ≡ added_times self.old.token ++ time ∷ [] }
     {
         self.handle.done(rt, TimesCall::Add(time))
+    }
+
+    /// An inspector of the histogram reads the row, beside its owner. It shows the times that the owner has added, and no others, whatever
+    /// other handles there are.
+    pub fn read_beside<R: Wait>(&mut self, rt: &R, inspector: &mut TimesInspector) -> TimesRow
+        requires { inspector.old.token.ledger ≡ self.old.token.ledger }
+        ensures id { self.new.id ≡ self.old.id }
+        ensures ledger { self.new.token.ledger ≡ self.old.token.ledger }
+        ensures added { added_times self.new.token ≡ added_times self.old.token }
+        ensures inspector { (inspector.new.id ≡ inspector.old.id) × (inspector.new.token.ledger ≡ inspector.old.token.ledger) }
+        ensures read { Calls times_meaning inspector.old.token.view Read (Shown result) inspector.new.token.view }
+        ensures shows { ShowsTimes result (added_times self.old.token) }
+    {
+        inspector.read_beside(rt, &mut self.handle)
     }
 
     /// Makes an inspector. Refused with `Memory`, `HandlesSpent`.

@@ -1,5 +1,5 @@
 //! The lines of the stream.
-ghost use Rattle.std.specs.Prelude.{◌≡◌, false, List, length, OnOk, IfErr};
+ghost use Rattle.std.specs.Prelude.{◌≡◌, false, List, length, OnOk, IfErr, IfSome};
 ghost use Rattle.std.specs.List.{AllByRecursion};
 ghost use Rattle.std.specs.Io.KnownBytes.{Appends};
 ghost use Rattle.tk_stream.specs.Spelling.{sent_text};
@@ -7,10 +7,13 @@ ghost use Rattle.tk_stream.specs.Streams.{MaySend};
 ghost use Rattle.tk_ledgers.specs.Ops.{OpSight};
 ghost use Rattle.tk_ledgers.specs.Resources.{ResourceSight};
 ghost use Rattle.tk_ledgers.specs.Tasks.{TaskSight};
+ghost use Rattle.tk_ledgers.specs.Times.{TimesSight};
 ghost use Rattle.tk_live.specs.Items.{EachFrom, IsTask, IsResource, IsOp};
 ghost use Rattle.tk_live.specs.Pasts.{TaskPast, ResourcePast, OpPast};
-ghost use Rattle.tk_live.specs.Read.{CollectsAll, AreTasksRead, AreResourcesRead, AreOpsRead};
-ghost use Rattle.tk_live.specs.Runs.{IsTaskLedger, IsResourceLedger, IsOpLedger};
+ghost use Rattle.tk_live.specs.Read.{CollectsAll, AreTasksRead, AreTimesRead, AreResourcesRead, AreOpsRead, ReadsOwned};
+ghost use Rattle.tk_live.specs.Runs.{IsTaskLedger, IsTimesLedger, IsResourceLedger, IsOpLedger};
+ghost use Rattle.tk_aggregator.specs.Timing.{AreOfOwner};
+ghost use Rattle.tk_aggregator.specs.Beside.{KnowsAllTaken, StaysRecorder};
 ghost use Rattle.tk_aggregator.specs.Aggregates.{IsDue, IsSound, Refuses, TookMore, after_line, line_at, sending_at};
 
 use super::Interpreter;
@@ -19,6 +22,7 @@ use std::io::Write;
 use std::sync::Wait;
 use tk_aggregator::{Aggregator, StreamError};
 use tk_events::{Recorder, Taker};
+use tk_ledgers::TimesOwner;
 use tk_script::Stop;
 
 // Takes in all that was recorded and kept by then, of an aggregator that is sound before it and after it.
@@ -31,7 +35,8 @@ fn collect<R: Wait>(
     requires console { recorder.old.console ≡ taker.old.console }
     requires recorders { recorder.old.recorders ≡ taker.old.recorders }
     requires unfinished { taker.old.finished ≡ false }
-    ensures same { recorder.new ≡ recorder.old }
+    ensures same { StaysRecorder recorder.old recorder.new }
+    ensures knows { OnOk result (KnowsAllTaken recorder.new) }
     ensures ok { OnOk result (CollectsAll recorder.old aggregator.old taker.old aggregator.new taker.new) }
     ensures took { TookMore taker.old taker.new }
     ensures sound { IsSound aggregator.old }
@@ -125,14 +130,37 @@ fn read_ops<R: Wait>(aggregator: &mut Aggregator, rt: &R, ops: &mut Vec<OpItem>)
     }
 }
 
+// Reads a histogram beside its owner, if there is one.
+fn read_owned<R: Wait>(aggregator: &mut Aggregator, rt: &R, times: &mut Option<TimesOwner>)
+    requires { IfSome times.old (λ owner. AreOfOwner owner aggregator.old.timing.readers) }
+    ensures { ReadsOwned times.old aggregator.old aggregator.new times.new }
+{
+    if let Some(owner) = times {
+        aggregator.read_times_beside(rt, owner);
+    }
+}
+
+// Reads the histogram of each task so.
+fn read_times<R: Wait>(aggregator: &mut Aggregator, rt: &R, tasks: &mut Vec<TaskItem>)
+    requires known { (ps : List TaskPast) × EachFrom IsTask 1 ps tasks.old.items }
+    requires linked { AllByRecursion (λ (s : TimesSight). IsTimesLedger tasks.old.items s.id s.token.ledger) aggregator.old.timing.readers }
+    ensures { AreTimesRead (length tasks.old.items) aggregator.old tasks.old.items aggregator.new tasks.new.items }
+{
+    aggregator.tables();
+    for i in 0..tasks.len() {
+        read_owned(aggregator, rt, &mut tasks[i].times);
+    }
+}
+
 impl Interpreter {
     ghost use Rattle.std.specs.Prelude.{ℕ};
     ghost use Rattle.tk_script.specs.Commands as said;
     ghost use Rattle.tk_live.specs.Course.{step};
     ghost use Rattle.tk_live.specs.Read.{MayRead, AreItemsRead};
     ghost use Rattle.tk_live.specs.Runs.{CommandSpec, RepresentsSome};
+    ghost use Rattle.tk_live.specs.Stops.{stop_by_text};
 
-    // Reads each item beside the hand that makes its calls, and then the histograms.
+    // Reads each item beside the hand that makes its calls, and then each histogram beside its owner.
     fn read_items<R: Wait>(&mut self, rt: &R)
         requires { MayRead self.old }
         ensures { AreItemsRead self.old self.new }
@@ -140,8 +168,7 @@ impl Interpreter {
         read_tasks(&mut self.aggregator, rt, &mut self.tasks);
         read_resources(&mut self.aggregator, rt, &mut self.resources);
         read_ops(&mut self.aggregator, rt, &mut self.ops);
-        self.aggregator.tables();
-        self.aggregator.refresh_times(rt);
+        read_times(&mut self.aggregator, rt, &mut self.tasks);
     }
 
     // A line of the stream, as a snapshot or not: of all that was recorded and kept by then, and of rows as they are now.
@@ -153,7 +180,7 @@ impl Interpreter {
         writer: &mut W,
     ) -> Result<(), Stop>
         requires { RepresentsSome self.old }
-        ensures { (line : ℕ) → CommandSpec step line (said.publish moment whole) self.old self.new result
+        ensures { (line : ℕ) → CommandSpec stop_by_text step line (said.publish moment whole) self.old self.new result
             (W.contents writer.old) (W.contents writer.new) }
     {
         if let Err(_) = collect(

@@ -1,5 +1,6 @@
 //! Tasks, and the calls of their owners.
 ghost use Rattle.std.specs.Prelude.{◌≡◌, ◌∷◌, [], IfOk, false};
+ghost use Rattle.tk_ledgers.specs.Times.{IsOfTask, known_times};
 ghost use Rattle.tk_live.specs.Course as course;
 
 use super::Interpreter;
@@ -43,6 +44,8 @@ fn item_of(owner: TaskOwner) -> TaskItem
     ensures id { result.callers.id ≡ owner.id }
     ensures token { result.callers.token ≡ owner.token }
     ensures open { result.closed ≡ false }
+    ensures times { known_times result.times ≡ owner.times }
+    ensures task { IsOfTask owner.id result.times }
 {
     let mut owner = owner;
     let times = owner.take_times();

@@ -5,8 +5,13 @@ use std::io;
 use std::io::Read;
 use tk_client::{Fault, Lints};
 use tk_fault::AppFault;
-use tk_metrics::{By, Place, keep_metrics, metrics_stream};
+use tk_metrics::{Apart, By, Place, keep_metrics, metrics_stream};
 use tk_reading::Pace;
+
+const BY_NAME: Apart = Apart {
+    by: By::Name,
+    most: None,
+};
 
 // Gives a line at a time.
 #[derive(Drop)]
@@ -87,10 +92,27 @@ impl Pace for Steady {
     }
 }
 
-fn keep(
+// Refuses so many texts, as a full disk does, and then takes them.
+#[derive(Drop)]
+struct Full {
+    shelf: Shelf,
+    refusals: usize,
+}
+
+impl Place for Full {
+    fn put(&mut self, path: &str, text: &[u8]) -> io::Result<()> {
+        if self.refusals > 0 {
+            self.refusals -= 1;
+            return Err(io::ErrorKind::PermissionDenied.into());
+        }
+        self.shelf.put(path, text)
+    }
+}
+
+fn keep<P: Place>(
     alloc: Global,
     stream: &[u8],
-    shelf: &mut Shelf,
+    shelf: &mut P,
     path: &str,
     is_due: bool,
 ) -> Result<(), AppFault> {
@@ -101,7 +123,7 @@ fn keep(
         &mut reader,
         shelf,
         path,
-        By::Name,
+        BY_NAME,
         &Lints::default(),
         &mut pace,
     )
@@ -114,7 +136,7 @@ fn first_numbers(alloc: Global, stream: &[u8]) -> Option<Vec<u8>> {
     let n = reader.read(&mut piece).ok()?;
     let mut first = &piece[..n];
     let mut numbers = Vec::new(alloc);
-    metrics_stream(alloc, &mut first, &mut numbers, By::Name, &Lints::default()).ok()?;
+    metrics_stream(alloc, &mut first, &mut numbers, BY_NAME, &Lints::default()).ok()?;
     Some(numbers)
 }
 
@@ -183,4 +205,16 @@ fn a_place_that_takes_no_more_ends_it(rt: HostRuntime) {
     assert!(rt; shelf.texts.len() == 2);
     let elsewhere = keep(rt.alloc(), LOST, &mut shelf, "other.prom", true);
     assert!(rt; matches!(&elsewhere, Err(AppFault::Write)));
+}
+
+#[test]
+fn a_place_that_was_full_gets_the_numbers_of_a_later_line(rt: HostRuntime) {
+    let mut full = Full {
+        shelf: Shelf::new(rt.alloc(), 10),
+        refusals: 1,
+    };
+    assert!(rt; keep(rt.alloc(), LOST, &mut full, "tasks.prom", true).is_ok());
+    // Not those of the first line, but of the second, and of all.
+    assert!(rt; full.shelf.texts.len() == 2);
+    assert!(rt; full.shelf.last_is(LOST_NUMBERS.as_bytes()));
 }

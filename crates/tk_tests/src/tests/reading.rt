@@ -2,7 +2,7 @@
 ghost use Rattle.std.specs.Prelude.{⊤};
 
 use std::alloc::{AllocError, Global};
-use tk_client::{Client, Fault};
+use tk_client::{Change, Client, Fault, Times};
 use tk_fault::AppFault;
 use tk_reading::{Both, MAX_LINE, Observes, Unwatched, read_stream};
 use tk_stream::Tables;
@@ -20,9 +20,14 @@ const FAULTY: &[u8] =
 struct Moments(Vec<u64>);
 
 impl Observes for Moments {
-    ghost saw = { λ from shown it. ⊤ };
+    ghost saw = { λ from seen it. ⊤ };
 
-    fn line(&mut self, tables: &Tables) -> Result<(), AllocError> {
+    fn line(
+        &mut self,
+        tables: &Tables,
+        _times: &Times,
+        _change: &Change,
+    ) -> Result<(), AllocError> {
         self.0.push(tables.now())?;
         Ok(())
     }

@@ -12,6 +12,8 @@ pub(super) enum Follows {
     Lines,
     /// One line that tells all.
     Snapshot,
+    /// The answer itself, with the numbers of now.
+    Numbers,
     /// Nothing.
     Nothing,
 }
@@ -38,6 +40,16 @@ pub(super) enum Request {
 
 fn text(status: &str, more: &str, body: &str) -> Answer {
     Answer { text: head(status, "text/plain; charset=utf-8", more) + body, follows: Follows::Nothing }
+}
+
+/// The head of an answer whose body are numbers of so many bytes. With its length, a part of it is taken for no whole.
+pub(super) fn head_of_numbers(len: usize) -> String {
+    head("200 OK", "text/plain; version=0.0.4; charset=utf-8", &format!("Content-Length: {len}\r\n"))
+}
+
+/// The answer where there is no memory for the numbers, or where they are too long.
+pub(super) fn no_numbers() -> String {
+    text("503 Service Unavailable", "", "There is no room for the numbers.\n").text
 }
 
 /// No header lets a page of another site read an answer, and no browser takes lines for a script.
@@ -77,6 +89,7 @@ impl Port {
         match path {
             "/stream" => lines(Follows::Lines),
             "/snapshot" => lines(Follows::Snapshot),
+            "/metrics" => Answer { text: String::new(), follows: Follows::Numbers },
             "/" => text("200 OK", "", &self.help()),
             _ => text("404 Not Found", "", &self.help()),
         }
@@ -89,7 +102,8 @@ impl Port {
              taskscope watch tcp:{port}             what they do, as it changes\n\
              taskscope view tcp:{port}              what is now\n\
              curl -sN http://{port}/stream          the lines, as they come\n\
-             curl -s http://{port}/snapshot         one line that tells all\n"
+             curl -s http://{port}/snapshot         one line that tells all\n\
+             curl -s http://{port}/metrics          numbers for Prometheus\n"
         )
     }
 }
@@ -154,6 +168,9 @@ mod tests {
             ("GET / HTTP/1.1\r\nHost: localhost\r\n\r\n", "HTTP/1.1 200 OK"),
             ("GET /snapshot HTTP/1.1\r\nHost: localhost\r\n\r\n", "HTTP/1.1 200 OK"),
             ("GET /stream/ HTTP/1.1\r\nHost: localhost\r\n\r\n", "HTTP/1.1 404 Not Found"),
+            ("GET /metrics HTTP/1.1\r\nHost: localhost\r\n\r\n", ""),
+            ("GET /metrics HTTP/1.1\r\nHost: evil.example\r\n\r\n", "HTTP/1.1 403 Forbidden"),
+            ("GET /metrics/ HTTP/1.1\r\nHost: localhost\r\n\r\n", "HTTP/1.1 404 Not Found"),
             ("GET \r\n\r\n", "HTTP/1.1 404 Not Found"),
             ("P", "HTTP/1.1 405 Method Not Allowed"),
             ("GEX", "HTTP/1.1 405 Method Not Allowed"),
@@ -164,17 +181,21 @@ mod tests {
         }
     }
 
+    fn is_for_this_site_alone(answer: &str, path: &str) {
+        assert!(!answer.to_lowercase().contains("access-control"), "{path}: {answer}");
+        assert!(answer.contains("X-Content-Type-Options: nosniff\r\n"), "{path}: {answer}");
+    }
+
     #[test]
     fn no_answer_lets_another_site_read_it() {
         let port = Port(([127, 0, 0, 1], 6669).into());
+        is_for_this_site_alone(&head_of_numbers(7), "/metrics");
+        is_for_this_site_alone(&no_numbers(), "/metrics without room");
         for path in ["/", "/stream", "/snapshot", "/other"] {
             let request = format!("GET {path} HTTP/1.1\r\nHost: localhost\r\nOrigin: http://evil.example\r\n\r\n");
             match port.hear(request.as_bytes()) {
                 Request::Begun => panic!("{path} is not answered"),
-                Request::Answered(answer) => {
-                    assert!(!answer.text.to_lowercase().contains("access-control"), "{path}: {}", answer.text);
-                    assert!(answer.text.contains("X-Content-Type-Options: nosniff\r\n"), "{path}: {}", answer.text);
-                }
+                Request::Answered(answer) => is_for_this_site_alone(&answer.text, path),
             }
         }
     }

@@ -118,6 +118,8 @@ pub struct Served {
     pub readings: u64,
     /// How many lines were made that tell all.
     pub snapshots: u64,
+    /// How many times numbers were made for `GET /metrics`, each time for all that wait for them.
+    pub numbers: u64,
 }
 
 /// The counts of [`Served`], as the thread adds to them.
@@ -131,6 +133,7 @@ pub(super) struct Counts {
     pub(super) behind: AtomicU64,
     pub(super) readings: AtomicU64,
     pub(super) snapshots: AtomicU64,
+    pub(super) numbers: AtomicU64,
 }
 
 pub(super) fn add(count: &AtomicU64) {
@@ -149,6 +152,7 @@ impl Counts {
             behind: of(&self.behind),
             readings: of(&self.readings),
             snapshots: of(&self.snapshots),
+            numbers: of(&self.numbers),
         }
     }
 }

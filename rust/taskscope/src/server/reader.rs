@@ -21,6 +21,8 @@ pub(super) enum Standing {
     Asks,
     /// The next line for it is to tell all, as it is new or was behind. Lines between were not made for it.
     NeedsAll,
+    /// It asked for numbers.
+    NeedsNumbers,
     /// It holds the tables of the last line, once it has taken what waits.
     InStep,
     /// It gets no line more.
@@ -170,6 +172,18 @@ impl Reader {
         true
     }
 
+    /// Adds the answer that it asked for, of which it gets no more.
+    pub(super) fn answer(&mut self, parts: &[Arc<Bytes>], now: Instant) {
+        for bytes in parts.iter().filter(|bytes| !bytes.bytes.is_empty()) {
+            let len = bytes.bytes.len();
+            if !self.waiting.is_empty() {
+                self.behind_first += len;
+            }
+            self.waiting.push_back(Buffer { bytes: Arc::clone(bytes), len, first: None });
+        }
+        self.stands(Standing::Ends, now);
+    }
+
     /// Has it heard and handed on what waits, as far as that goes now.
     ///
     /// # Errors
@@ -237,10 +251,12 @@ impl Reader {
             Request::Answered(answer) => {
                 self.said = Vec::new();
                 self.once = answer.follows == Follows::Snapshot;
-                let ends = answer.follows == Follows::Nothing;
-                self.stands(if ends { Standing::Ends } else { Standing::NeedsAll }, now);
-                let bytes = Bytes::new(answer.text.into_bytes(), held);
-                self.waiting.push_back(Buffer { len: bytes.bytes.len(), bytes, first: None });
+                self.answer(&[Bytes::new(answer.text.into_bytes(), held)], now);
+                match answer.follows {
+                    Follows::Lines | Follows::Snapshot => self.standing = Standing::NeedsAll,
+                    Follows::Numbers => self.standing = Standing::NeedsNumbers,
+                    Follows::Nothing => {}
+                }
                 Ok(())
             }
             Request::Begun if self.said_all || self.said.len() > LONGEST_REQUEST || now - self.came >= ASKING => {

@@ -1,7 +1,7 @@
 //! The thread of a server.
 
 use super::door::Door;
-use super::http::Port;
+use super::http::{self, Port};
 use super::limits::{add, Counts, Limits};
 use super::reader::{Bytes, Reader, Standing};
 use super::system::{self, block_signals, is_to_wait, Polled, Wake};
@@ -19,7 +19,7 @@ const LAST_HAND_ON: Duration = Duration::from_secs(1);
 /// How long nobody is let in after an error, as there are no descriptors.
 const DOOR_RESTS: Duration = Duration::from_millis(200);
 /// For so many times as long as a line that tells all took, and no longer than this, no other one is made: they take a quarter of the
-/// time of the thread, however many readers come and go.
+/// time of the thread, however many readers come and go. So it is with numbers.
 const ALL_RESTS: u32 = 3;
 const LONGEST_REST: Duration = Duration::from_secs(2);
 /// How soon after rows were read a reader that comes has them read again. Those that come within this time share a line.
@@ -51,6 +51,7 @@ pub(super) struct Serving {
     pub(super) told: Option<Instant>,
     pub(super) door_rests_until: Option<Instant>,
     pub(super) all_rests_until: Option<Instant>,
+    pub(super) numbers_rest_until: Option<Instant>,
 }
 
 impl Serving {
@@ -70,6 +71,7 @@ impl Serving {
                     break Err(fault);
                 }
             }
+            self.give_numbers(false);
             self.attend();
             self.wait();
         };
@@ -80,6 +82,7 @@ impl Serving {
     fn end(&mut self) -> Result<(), Fault> {
         let until = Instant::now() + LAST_HAND_ON;
         self.publish(Instant::now(), true)?;
+        self.give_numbers(true);
         loop {
             self.attend();
             let now = Instant::now();
@@ -187,6 +190,34 @@ impl Serving {
         self.next += lines.count;
     }
 
+    /// When numbers are made next, if anybody waits for them.
+    fn next_numbers(&self, now: Instant) -> Option<Instant> {
+        let wants = |reader: &Reader| reader.standing() == Standing::NeedsNumbers;
+        self.readers.iter().any(wants).then(|| self.numbers_rest_until.unwrap_or(now))
+    }
+
+    /// Gives the same numbers to all that wait for them. Of a console that records nothing there are none, and they get the end.
+    fn give_numbers(&mut self, is_last: bool) {
+        let now = Instant::now();
+        if !self.next_numbers(now).map_or(false, |next| is_last || now >= next) {
+            return;
+        }
+        let held = &self.held;
+        let bytes = |bytes| Bytes::new(bytes, held);
+        let answer = match self.claim.console().metrics() {
+            Ok(text) if text.is_empty() => Vec::new(),
+            Ok(text) if text.len() <= LONGEST_LINE => {
+                vec![bytes(http::head_of_numbers(text.len()).into_bytes()), bytes(text)]
+            }
+            Ok(_) | Err(_) => vec![bytes(http::no_numbers().into_bytes())],
+        };
+        add(&self.counts.numbers);
+        self.numbers_rest_until = Some(Instant::now() + LONGEST_REST.min(now.elapsed() * ALL_RESTS));
+        for reader in self.readers.iter_mut().filter(|reader| reader.standing() == Standing::NeedsNumbers) {
+            reader.answer(&answer, now);
+        }
+    }
+
     /// Hears readers and hands on what waits, and lets those go that went, or that cost too much.
     fn attend(&mut self) {
         let (counts, held, patience, now) = (&self.counts, &self.held, self.limits.patience, Instant::now());
@@ -230,7 +261,7 @@ impl Serving {
         let is_open = self.door_rests_until.map_or(true, |rests| now >= rests);
         let opens = self.door_rests_until.filter(|_| !is_open);
         let deadlines = self.readers.iter().filter_map(|reader| reader.deadline(self.limits.patience));
-        let until = deadlines.chain(self.due(now)).chain(opens).min();
+        let until = deadlines.chain(self.due(now)).chain(self.next_numbers(now)).chain(opens).min();
         self.poll(until.map(|until| until.saturating_duration_since(now)), is_open);
         if is_open {
             self.admit();

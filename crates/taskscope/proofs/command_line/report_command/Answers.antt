@@ -5,9 +5,11 @@ use Rattle.taskscope.proofs.command_line.report_command.Goals as goal
 pub returns-clause-ok : goal.returns-clause-ok
 returns-clause-ok c =
     let timed = c.in_ok-arg.ensures.shape c.flag_arg-times.ensures.local ∙ ap₂ with_rule c.in_ok-spans_command.ensures.ok c.flag_arg-times.ensures.rule in
-    c.in_ok-arg-2.ensures.shape c.flag_arg-explain.ensures.local ∙ ap₂ with_rule timed c.flag_arg-explain.ensures.rule
+    let placed = c.in_ok-arg-2.ensures.shape c.span_arg-place.ensures.local ∙ ap₂ with_rule timed c.span_arg-place.ensures.rule in
+    c.in_ok-arg-3.ensures.shape c.flag_arg-explain.ensures.local ∙ ap₂ with_rule placed c.flag_arg-explain.ensures.rule
 
 pub returns-clause-local : goal.returns-clause-local
 returns-clause-local c =
     let timed = c.in_ok-arg.ensures.globals ∙ ap₂ (λ a b. a || b) c.in_ok-spans_command.ensures.local c.flag_arg-times.ensures.local in
-    c.in_ok-arg-2.ensures.globals ∙ ap₂ (λ a b. a || b) timed c.flag_arg-explain.ensures.local
+    let placed = c.in_ok-arg-2.ensures.globals ∙ ap₂ (λ a b. a || b) timed c.span_arg-place.ensures.local in
+    c.in_ok-arg-3.ensures.globals ∙ ap₂ (λ a b. a || b) placed c.flag_arg-explain.ensures.local

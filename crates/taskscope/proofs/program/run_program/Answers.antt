@@ -1,9 +1,9 @@
 use Rattle.std.proofs.Common.{◌≡◌, [], ◌∷◌, List, ℕ, Option, None, is_some, true≢false, sym, refl, ap, subst, ◌∙◌, inl, inr}
-use Rattle.std.specs.Prelude.{IsSome}
+use Rattle.std.specs.Prelude.{IsSome, unwrap_or}
 use Rattle.std.specs.Option.{option_map}
 use Rattle.clap.specs.Values.{kind_of}
 use Rattle.taskscope.specs.Program.{Does, DoesOfFile}
-use Rattle.taskscope.specs.Requests.{AsksForInput, IsPlain, asked, file_of, filter_of, refusals, texts, to_of}
+use Rattle.taskscope.specs.Requests.{AsksForInput, IsPlain, asked, file_of, file_text, filter_of, refusals, texts, to_of}
 use Rattle.taskscope.specs.declared.command_line.Request.{Request}
 use Rattle.taskscope.proofs.Outcomes.{nothing_done}
 use Rattle.taskscope.proofs.ParseLemmas.{taken_words_ask}
@@ -23,7 +23,7 @@ returns-in-Err-clause-does g c = λ request asks.
 pub returns-in-Err-clause-file : goal.returns-in-Err-clause-file
 returns-in-Err-clause-file g c = λ request asks.
     let told = c.answer.ensures.memory (memory_alone (refusals (texts c.args.words.now)) c.in-Err.error asks.0.0 c.in-Err.ensures.fails) in
-    (refl, (None, None, rw told.1 (nothing_done c.args.terminal (filter_of (texts c.args.words.now)) (to_of (texts c.args.words.now)) request None (g.O.Write.contents c.args.output.now) (g.P.Place.texts c.args.place.now) c.answer.result told.0)))
+    (refl, inr (told.0, (ap g.O.Write.contents told.1, refl)))
 
 pub returns-clause-does : goal.returns-clause-does
 returns-clause-does g c = λ request asks.
@@ -49,11 +49,13 @@ returns-in-Some-clause-file g c = λ request asks.
     let same : c.in-Ok.call.request ≡ request = some_is _ _ (sym c.in-Ok.ensures.asked ∙ asks.0.1) in
     let filter = option_map (λ f. f.now) c.in-Ok.call.filter in
     let to = option_map (λ p. p.now) c.in-Ok.call.to in
-    let done = λ (text path : Option (List ℕ)) (r : Request). DoesOfFile c.args.terminal text path r (g.O.Write.contents c.args.output.now) (g.O.Write.contents c.fulfil_of_file.new.output)
+    let named : c.in-Some.path.now ≡ file_text (texts c.args.words.now) =
+    sym (ap (λ (p : Option (List ℕ)). unwrap_or p []) (c.in-Ok.ensures.file ∙ ap (option_map (λ f. f.now)) c.in-Some.is)) in
+    let done = λ (text path : Option (List ℕ)) (r : Request). DoesOfFile g.S.File.Read.remaining (g.S.Sources.is_of c.args.sources.now (file_text (texts c.args.words.now))) c.args.terminal text path r (g.O.Write.contents c.args.output.now) (g.O.Write.contents c.fulfil_of_file.new.output)
     (g.P.Place.texts c.args.place.now) (g.P.Place.texts c.fulfil_of_file.new.place) c.fulfil_of_file.result in (
       refl,
       subst (λ path. done (filter_of (texts c.args.words.now)) path request) (sym c.in-Ok.ensures.to)
-          (subst (λ text. done text to request) (sym c.in-Ok.ensures.filter) (subst (done filter to) same c.fulfil_of_file.ensures.does)),
+          (subst (λ text. done text to request) (sym c.in-Ok.ensures.filter) (subst (done filter to) same (rw named at c.fulfil_of_file.ensures.does))),
     )
 
 pub returns-in-Err-clause-mistake : goal.returns-in-Err-clause-mistake

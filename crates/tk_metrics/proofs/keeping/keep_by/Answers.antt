@@ -6,7 +6,7 @@ use Rattle.tk_metrics.proofs.KeepLemmas.{none_put}
 use Rattle.tk_metrics.proofs.keeping.keep_by.Goals as goal
 
 pub keep_seen-requires-clause-seen : goal.keep_seen-requires-clause-seen
-keep_seen-requires-clause-seen g c = subst (λ b. Sees b (usual c.args.lints.now) [] c.in-Ok.seen) (sym c.in-Ok.ensures.0.notes.told) c.in-Ok.ensures
+keep_seen-requires-clause-seen g c = subst (λ b. Sees b (usual c.args.lints.now) [] [] c.in-Ok.seen) (sym c.in-Ok.ensures.0.notes.told) c.in-Ok.ensures
 
 pub returns-in-Ok : goal.returns-in-Ok
 returns-in-Ok g c =

@@ -11,4 +11,4 @@ use Rattle.tk_metrics.proofs.left.add_resources.Given as goal
 -- those so far that have left are added
 abbrev pub invariant-loop-place : goal.invariant-loop-place
 invariant-loop-place l = (before : List (List ℕ × PollOps)) → l.initial.resources ≡ series_of both_ops before
-    → l.resources ≡ passed_so_far both_ops (resource_entry l.old.counts) (λ (r : Resource). not (is_some (resource_with r.info.id l.new.resources))) before l.old.resources l.place
+    → l.resources ≡ passed_so_far both_ops (resource_entry l.counts) (λ (r : Resource). not (is_some (resource_with r.info.id l.new.resources))) before l.old l.place

@@ -4,7 +4,7 @@ use Rattle.tk_metrics.specs.Streams.{Measures, usual}
 use Rattle.tk_metrics.proofs.stream.write_by.Goals as goal
 
 pub write_seen-requires-clause-seen : goal.write_seen-requires-clause-seen
-write_seen-requires-clause-seen g c = subst (λ b. Sees b (usual c.args.lints.now) [] c.in-Ok.seen) (sym c.in-Ok.ensures.0.notes.told) c.in-Ok.ensures
+write_seen-requires-clause-seen g c = subst (λ b. Sees b (usual c.args.lints.now) [] [] c.in-Ok.seen) (sym c.in-Ok.ensures.0.notes.told) c.in-Ok.ensures
 
 pub returns-in-Ok-clause-measures : goal.returns-in-Ok-clause-measures
 returns-in-Ok-clause-measures g c =

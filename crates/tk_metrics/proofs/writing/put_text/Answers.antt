@@ -7,4 +7,6 @@ returns c =
     (both c.in_ok-put_resources.ensures
     (both c.in_ok-put_warnings.ensures
     (both c.in_ok-put_dropped.ensures
-    c.in_ok-put_lines.ensures))))
+    (both c.in_ok-put_lines.ensures
+    (both c.in_ok-put_moment.ensures
+    c.in_ok-put_build.ensures))))))

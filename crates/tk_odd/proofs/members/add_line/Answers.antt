@@ -1,23 +1,23 @@
-use Rattle.std.proofs.Common.{ap, sym, ◌∙◌, slice_get, arith}
-use Rattle.std.specs.Option.{option_map_or}
+use Rattle.std.proofs.Common.{ℕ, List, ap, ◌∙◌, slice_get, OnOk, subst, ◌≡◌}
 use Rattle.std.specs.Prelude.{fold}
-use Rattle.std.proofs.lemmas.List.{take_all}
+use Rattle.std.specs.Option.{option_map_or}
+use Rattle.tk_client.specs.Candidates.{places_by}
 use Rattle.tk_odd.specs.Inner.{shown}
-use Rattle.tk_odd.specs.Members.{with_task}
-use Rattle.tk_odd.proofs.LoopLemmas.{folded_more}
+use Rattle.tk_odd.specs.Keeping.{may_gain}
+use Rattle.tk_odd.specs.Members.{Member, members_after, with_task}
+use Rattle.tk_odd.proofs.RowLemmas.{others_same, skipped}
 use Rattle.tk_odd.proofs.members.add_line.Goals as goal
 
-pub loop-place-preserved : goal.loop-place-preserved
-loop-place-preserved c =
-    let before = c.args.before.now in
-    let tables = c.args.tables.now in
-    let place = c.loop-place.place in
-    c.in_ok-add_task_at.ensures
-    ∙ ap (λ s. option_map_or (λ t. with_task before tables s t) (slice_get tables.tasks place) s) c.loop-place.invariant
-    ∙ sym (folded_more (with_task before tables) (shown c.args.members.now.entries) tables.tasks place)
-
 pub returns : goal.returns
-returns c =
-    let before = c.args.before.now in
+returns c = λ before leads k.
     let tables = c.args.tables.now in
-    c.loop-place.invariant ∙ ap (fold (with_task before tables) (shown c.args.members.now.entries)) (take_all c.loop-place.place tables.tasks (omega arith))
+    let told : List ℕ = c.args.change.now.told in
+    let rows = c.args.rows.now in
+    let old = shown c.args.members.now.entries in
+    let may = may_gain told rows.lasting.keys in
+    let step = λ (ms : List Member) (place : ℕ). option_map_or (with_task before tables ms) (slice_get tables.tasks place) ms in
+    let is : fold step old c.deref.result.now ≡ members_after before tables old =
+    ap (λ (ps : List ℕ). fold step old ps)
+    (c.deref.ensures.value ∙ c.in_ok-places.ensures ∙ ap (λ (ns : List ℕ). places_by (may_gain ns rows.lasting.keys) 0 tables.tasks) c.told.ensures)
+    ∙ skipped (with_task before tables) may tables.tasks (others_same before tables c.args.change.now leads rows k c.task_count.ensures.distinct.tasks) old in
+    subst (λ (ms : List Member). OnOk c.add_places.result (shown c.add_places.new.members.entries ≡ ms)) is (c.add_places.ensures before k)

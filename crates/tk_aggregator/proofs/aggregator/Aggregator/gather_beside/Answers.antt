@@ -1,7 +1,7 @@
 use Rattle.std.proofs.Common.{◌≡◌, ◌+◌, ◌<◌, [], ◌∷◌, ◌++◌, Some, refl, ap, sym, ◌∙◌, subst, arith}
 use Rattle.std.proofs.lemmas.List.{length-append}
 use Rattle.tk_events.specs.declared.event.Event.{Event}
-use Rattle.tk_events.specs.Handles.{Taking}
+use Rattle.tk_events.specs.Handles.{Recording, Taking}
 use Rattle.tk_aggregator.specs.Aggregates.{Aggregating, Gathers}
 use Rattle.tk_aggregator.proofs.GatherLemmas.{none_came, gathers_more, none_held, gathers_held}
 use Rattle.tk_aggregator.proofs.StandingLemmas.{whole}
@@ -39,15 +39,15 @@ loop-count-preserved g c =
       length-append inv.0 (event ∷ []) ∙ ap (λ n. n + 1) inv.2,
       λ lt. none_held c.args.self.now c.args.taker.now inv.0 c.loop-count.self c.loop-count.taker event c.next_beside.new.self c.next_beside.new.taker inv.1 c.in-Some.ensures.some c.take_in.new.self c.in_default-take_in.ensures.ok,
       λ zero. absurd (omega (arith, zero)),
-      c.next_beside.ensures.same ∙ inv.5,
+      c.next_beside.ensures.same ∙ ap (λ (r : Recording). record r { gone = c.next_beside.new.recorder.gone }) inv.5,
     )
 
 -- the recorder is of the console of the taker so far, which isn't finished
 pub next_beside-requires-clause-console : goal.next_beside-requires-clause-console
-next_beside-requires-clause-console g c = let inv = c.loop-count.invariant in ap (λ r. r.console) inv.5 ∙ c.requires.console ∙ sym (ap (λ (t : Taking). t.console) inv.1.taker)
+next_beside-requires-clause-console g c = let inv = c.loop-count.invariant in ap (λ (r : Recording). r.console) inv.5 ∙ c.requires.console ∙ sym (ap (λ (t : Taking). t.console) inv.1.taker)
 
 pub next_beside-requires-clause-recorders : goal.next_beside-requires-clause-recorders
-next_beside-requires-clause-recorders g c = let inv = c.loop-count.invariant in ap (λ r. r.recorders) inv.5 ∙ c.requires.recorders ∙ sym (ap (λ (t : Taking). t.recorders) inv.1.taker)
+next_beside-requires-clause-recorders g c = let inv = c.loop-count.invariant in ap (λ (r : Recording). r.recorders) inv.5 ∙ c.requires.recorders ∙ sym (ap (λ (t : Taking). t.recorders) inv.1.taker)
 
 pub next_beside-requires-clause-unfinished : goal.next_beside-requires-clause-unfinished
 next_beside-requires-clause-unfinished g c = let inv = c.loop-count.invariant in ap (λ (t : Taking). t.finished) inv.1.taker ∙ c.requires.unfinished

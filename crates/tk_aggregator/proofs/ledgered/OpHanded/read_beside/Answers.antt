@@ -7,9 +7,9 @@ use Rattle.tk_core.specs.OpMeaning.{op_meaning}
 use Rattle.tk_cell.specs.Views.{times}
 use Rattle.tk_ledgers.specs.Called.{HasCalled}
 use Rattle.tk_ledgers.specs.Callers.{HoldsAllBut}
+use Rattle.tk_ledgers.proofs.BesideLemmas.{beside_is_call}
 use Rattle.tk_ledgers.proofs.CalledLemmas.{readings_show_called}
 use Rattle.tk_ledgers.proofs.CallersLemmas.{live_beside}
-use Rattle.tk_aggregator.proofs.BesideLemmas.{beside_is_call}
 use Rattle.tk_aggregator.proofs.ledgered.OpHanded.read_beside.Goals as goal
 
 pub returns : goal.returns

@@ -7,8 +7,8 @@ use Rattle.tk_core.specs.TaskMeaning.{task_meaning}
 use Rattle.tk_cell.specs.Views.{times}
 use Rattle.tk_ledgers.specs.Called.{HasCalled}
 use Rattle.tk_ledgers.specs.Callers.{HoldsAllBut}
+use Rattle.tk_ledgers.proofs.BesideLemmas.{beside_is_call}
 use Rattle.tk_ledgers.proofs.CalledLemmas.{readings_show_called}
-use Rattle.tk_aggregator.proofs.BesideLemmas.{beside_is_call}
 use Rattle.tk_aggregator.proofs.ledgered.TaskHanded.read_beside.Goals as goal
 
 pub returns : goal.returns

@@ -8,7 +8,7 @@ use Rattle.tk_client.proofs.WholeLemmas.{whole-goes, whole-fails}
 use Rattle.tk_client.proofs.client.Client.take_whole.Goals as goal
 
 pub returns-in-Ok-clause-ended : goal.returns-in-Ok-clause-ended
-returns-in-Ok-clause-ended c =
+returns-in-Ok-clause-ended g c =
     let start : Start = record { tables = c.self.inside.shown; last = c.self.inside.last; part = c.self.inside.part.items; times = c.self.inside.times } in
     let empty : start.part ≡ [] = ap (λ (v : ClientView). v.start.part) c.self.view_is ∙ c.requires.empty in
     let short : length c.args.line.now ≤ c.self.inside.limit = omega (arith, c.requires.short, ap (λ (v : ClientView). v.max_line) c.self.view_is) in
@@ -20,7 +20,7 @@ returns-in-Ok-clause-ended c =
     }
 
 pub returns-in_default-clause-ended : goal.returns-in_default-clause-ended
-returns-in_default-clause-ended c =
+returns-in_default-clause-ended g c =
     let same : c.take_line.new.shown ≡ c.self.inside.shown = c.in-Err.ensures.kept in
     let same_times : c.take_line.new.times ≡ c.self.inside.times = c.in-Err.ensures.kept_times in
     whole-fails c.in-Err.fault c.args.self.now _ c.args.line.now c.in_default.not-Memory c.requires.empty c.requires.whole c.requires.short

@@ -17,8 +17,8 @@ returns-clause-alone g c dropped one =
     let low : 0 < v.number = was.low in
     let high : v.number ≤ v.recorders = was.high in
     let few = held_alone v held.0 held.2 (ap (λ (r : Recording). r.recorders) c.self.view_is ∙ one) low high in
-    let capacity : ruled_capacity (arc_value c.self.inside.buffer) ≤ length v.kept = subst (λ b. ruled_capacity b ≤ length v.kept) c.deref.ensures (subst (λ (n : ℕ). n ≤ length v.kept) held.1 few) in
-    subst (λ (r : Recording). r.capacity ≤ length r.kept) c.self.view_is capacity
+    let capacity : ruled_capacity (arc_value c.self.inside.buffer) + v.gone ≤ length v.kept = subst (λ b. ruled_capacity b + v.gone ≤ length v.kept) c.deref.ensures (subst (λ (n : ℕ). n + v.gone ≤ length v.kept) held.1 few) in
+    subst (λ (r : Recording). r.capacity + r.gone ≤ length r.kept) c.self.view_is capacity
 
 pub invariant_of-self : goal.invariant_of-self
 invariant_of-self g c =

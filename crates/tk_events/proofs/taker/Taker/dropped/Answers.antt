@@ -1,7 +1,6 @@
 use Rattle.std.proofs.Common.{◌≡◌, ℕ, List, true, ap, ◌∙◌, subst}
 use Rattle.crossbeam_queue.specs.Passes.{view}
-use Rattle.atomic_table.specs.Table.{Me}
-use Rattle.tk_events.specs.declared.counts.view.View.{View as Count}
+use Rattle.tk_ids.specs.declared.info.Dropped.{Dropped}
 use Rattle.tk_events.specs.declared.buffer.view.Returned.{Returned}
 use Rattle.tk_events.specs.Handles.{Taking, AreExact}
 use Rattle.tk_events.specs.Offers.{offers_of}
@@ -14,15 +13,14 @@ returns-clause-exact c done =
     let v = view c.self.inside.pass in
     let n = c.self.inside.recorders in
     let is = c.self.view_is in
-    let finished : c.self.inside.finished ≡ true = ap (λ (t : Taking). t.finished) is ∙ done in
-    let first = was.reading.known in
-    let second = ap (λ (m : Me ℕ Count). m.0.known) c.total-tasks.ensures.rest ∙ first in
-    let third = ap (λ (m : Me ℕ Count). m.0.known) c.total-resources.ensures.rest ∙ second in
-    let whole = was.whole finished in
+    let known = c.self.inside.seat.me.0.known in
     let left = was.left in
-    let exact : AreExact v.known c.total-tasks.result c.total-resources.result c.total-ops.result = record {
-      tasks_are = c.total-tasks.ensures.exact (counted_whole n v (offers_of left.0) c.self.inside.seat.me.0.known first left.1 was.made_is whole) ∙ counted_zero c.self.inside.seat.me.0.known v.known first;
-      resources_are = c.total-resources.ensures.exact (counted_whole n v (offers_of left.0) c.total-tasks.new.seat.me.0.known second left.1 was.made_is whole) ∙ counted_one c.total-tasks.new.seat.me.0.known v.known second;
-      ops_are = c.total-ops.ensures.exact (counted_whole n v (offers_of left.0) c.total-resources.new.seat.me.0.known third left.1 was.made_is whole) ∙ counted_two c.total-resources.new.seat.me.0.known v.known third;
+    let whole = was.whole (ap (λ (t : Taking). t.finished) is ∙ done) in
+    let found : Dropped = c.totals.result in
+    let counted = c.totals.ensures.exact (counted_whole n v (offers_of left.0) known was.reading.known left.1 was.made_is whole) in
+    let exact : AreExact v.known found.tasks found.resources found.ops = record {
+      tasks_are = ap (λ (d : Dropped). d.tasks) counted ∙ counted_zero known v.known was.reading.known;
+      resources_are = ap (λ (d : Dropped). d.resources) counted ∙ counted_one known v.known was.reading.known;
+      ops_are = ap (λ (d : Dropped). d.ops) counted ∙ counted_two known v.known was.reading.known;
     } in
-    subst (λ (l : List Returned). AreExact l c.total-tasks.result c.total-resources.result c.total-ops.result) (ap (λ (t : Taking). t.known) is) exact
+    subst (λ (l : List Returned). AreExact l found.tasks found.resources found.ops) (ap (λ (t : Taking). t.known) is) exact

@@ -6,7 +6,7 @@ use Rattle.tk_stream.specs.Spelling.{sent_text}
 use Rattle.tk_aggregator.specs.Aggregates.{IsSound, Refuses, after_line, sending_at}
 use Rattle.tk_stream.specs.Sent.{IsCut}
 use Rattle.tk_stream.specs.Streams.{Sending, MaySend, line_sent}
-use Rattle.tk_live.specs.Read.{MayRead, AreItemsRead}
+use Rattle.tk_live.specs.Read.{AreItemsRead}
 use Rattle.tk_live.proofs.Lines.{unmarked}
 use Rattle.tk_live.proofs.Publishing.{one_line, is_due, too_low, none_left}
 use Rattle.tk_live.proofs.Publish.{may_read, now_gathered, published}
@@ -26,8 +26,7 @@ read_items-requires g c =
     let r = c.requires in
     let i = c.args.self.now in
     let e = c.in_default.ensures in
-    subst (λ (x : Recording). MayRead (record i { recorder = x; taker = c.collect.new.taker; aggregator = c.collect.new.aggregator })) (sym e.same)
-    (may_read i r.0 r.1 r.2 r.3 r.4 c.collect.new.aggregator c.collect.new.taker e.took e.ok e.sound e.stays_sound)
+    may_read i r.0 r.1 r.2 r.3 r.4 c.collect.new.aggregator c.collect.new.taker e.took e.ok e.sound e.stays_sound c.collect.new.recorder
 
 pub returns-in-Err : goal.returns-in-Err
 returns-in-Err g c line settings k kept sent stands = (inr tt, [], refl, Appends-nil _)
@@ -41,16 +40,17 @@ returns-in-Ok g c line settings k kept sent stands =
     let m = c.read_items.new.self in
     let now = c.args.moment in
     let whole = c.args.whole in
-    let read : AreItemsRead (record i { taker = u; aggregator = a }) m = subst (λ (x : Recording). AreItemsRead (record i { recorder = x; taker = u; aggregator = a }) m) e.same c.read_items.ensures in
-    let is = now_gathered i settings k kept sent stands a u e.took e.ok m read in
+    let r : Recording = c.collect.new.recorder in
+    let read : AreItemsRead (record i { recorder = r; taker = u; aggregator = a }) m = c.read_items.ensures in
+    let is = now_gathered i settings k kept sent stands a u e.took e.ok r e.same e.knows m read in
     let s : Sending = sending_at whole m.aggregator now in
-    let r = c.in-Ok.ensures in
-    let later : IsSound (after_line whole m.aggregator now) = subst (λ x. IsSound x) r.state r.stays_sound in (
-      is_due k now whole m.aggregator.last m.aggregator.tables.now is.moment is.numbers r.due.moment r.due.number,
+    let w = c.in-Ok.ensures in
+    let later : IsSound (after_line whole m.aggregator now) = subst (λ x. IsSound x) w.state w.stays_sound in (
+      is_due k now whole m.aggregator.last m.aggregator.tables.now is.moment is.numbers w.due.moment w.due.number,
       [],
       s ∷ [],
-      unmarked _ settings _ kept (sent ++ s ∷ []) (published i settings k kept sent stands a u e.took e.ok m read line now whole r.sound (r.may_send r.due) later c.send.new.aggregator r.state),
-      subst (λ text. Appends (g.W.Write.contents c.args.writer.now) (g.W.Write.contents c.send.new.writer) text) (sym (one_line m.aggregator sent now whole is.told)) r.sent,
+      unmarked _ settings _ kept (sent ++ s ∷ []) (published i settings k kept sent stands a u e.took e.ok r e.same e.knows m read line now whole w.sound (w.may_send w.due) later c.send.new.aggregator w.state),
+      subst (λ text. Appends (g.W.Write.contents c.args.writer.now) (g.W.Write.contents c.send.new.writer) text) (sym (one_line m.aggregator sent now whole is.told)) w.sent,
     )
 
 pub returns-in-Err-Clock : goal.returns-in-Err-Clock
@@ -62,12 +62,13 @@ returns-in-Err-Clock g c line settings k kept sent stands =
     let m = c.read_items.new.self in
     let now = c.args.moment in
     let whole = c.args.whole in
-    let read : AreItemsRead (record i { taker = u; aggregator = a }) m = subst (λ (x : Recording). AreItemsRead (record i { recorder = x; taker = u; aggregator = a }) m) e.same c.read_items.ensures in
-    let is = now_gathered i settings k kept sent stands a u e.took e.ok m read in
+    let r : Recording = c.collect.new.recorder in
+    let read : AreItemsRead (record i { recorder = r; taker = u; aggregator = a }) m = c.read_items.ensures in
+    let is = now_gathered i settings k kept sent stands a u e.took e.ok r e.same e.knows m read in
     let before = g.W.Write.contents c.args.writer.now in
     let f = c.in-Err-Clock in
-    let r = subst (λ x. Refuses x whole m.aggregator now c.send.new.aggregator before (g.W.Write.contents c.send.new.writer)) f.field-0-is f.ensures.refused in
-    (inl (too_low k now whole _ is.moment r.3), [], refl, subst (λ b. Appends before b []) (sym r.1) (Appends-nil before))
+    let w = subst (λ x. Refuses x whole m.aggregator now c.send.new.aggregator before (g.W.Write.contents c.send.new.writer)) f.field-0-is f.ensures.refused in
+    (inl (too_low k now whole _ is.moment w.3), [], refl, subst (λ b. Appends before b []) (sym w.1) (Appends-nil before))
 
 pub returns-in-Err-NumbersSpent : goal.returns-in-Err-NumbersSpent
 returns-in-Err-NumbersSpent g c line settings k kept sent stands =
@@ -78,12 +79,13 @@ returns-in-Err-NumbersSpent g c line settings k kept sent stands =
     let m = c.read_items.new.self in
     let now = c.args.moment in
     let whole = c.args.whole in
-    let read : AreItemsRead (record i { taker = u; aggregator = a }) m = subst (λ (x : Recording). AreItemsRead (record i { recorder = x; taker = u; aggregator = a }) m) e.same c.read_items.ensures in
-    let is = now_gathered i settings k kept sent stands a u e.took e.ok m read in
+    let r : Recording = c.collect.new.recorder in
+    let read : AreItemsRead (record i { recorder = r; taker = u; aggregator = a }) m = c.read_items.ensures in
+    let is = now_gathered i settings k kept sent stands a u e.took e.ok r e.same e.knows m read in
     let before = g.W.Write.contents c.args.writer.now in
     let f = c.in-Err-NumbersSpent in
-    let r = subst (λ x. Refuses x whole m.aggregator now c.send.new.aggregator before (g.W.Write.contents c.send.new.writer)) f.field-0-is f.ensures.refused in
-    (inl (none_left k now whole m.aggregator.last m.aggregator.tables.now is.moment is.numbers r.3 r.4), [], refl, subst (λ b. Appends before b []) (sym r.1) (Appends-nil before))
+    let w = subst (λ x. Refuses x whole m.aggregator now c.send.new.aggregator before (g.W.Write.contents c.send.new.writer)) f.field-0-is f.ensures.refused in
+    (inl (none_left k now whole m.aggregator.last m.aggregator.tables.now is.moment is.numbers w.3 w.4), [], refl, subst (λ b. Appends before b []) (sym w.1) (Appends-nil before))
 
 pub returns-in-Err-Memory : goal.returns-in-Err-Memory
 returns-in-Err-Memory g c line settings k kept sent stands =
@@ -94,12 +96,13 @@ returns-in-Err-Memory g c line settings k kept sent stands =
     let m = c.read_items.new.self in
     let now = c.args.moment in
     let whole = c.args.whole in
-    let read : AreItemsRead (record i { taker = u; aggregator = a }) m = subst (λ (x : Recording). AreItemsRead (record i { recorder = x; taker = u; aggregator = a }) m) e.same c.read_items.ensures in
-    let is = now_gathered i settings k kept sent stands a u e.took e.ok m read in
+    let r : Recording = c.collect.new.recorder in
+    let read : AreItemsRead (record i { recorder = r; taker = u; aggregator = a }) m = c.read_items.ensures in
+    let is = now_gathered i settings k kept sent stands a u e.took e.ok r e.same e.knows m read in
     let before = g.W.Write.contents c.args.writer.now in
     let f = c.in-Err-Memory in
-    let r = subst (λ x. Refuses x whole m.aggregator now c.send.new.aggregator before (g.W.Write.contents c.send.new.writer)) f.field-0-is f.ensures.refused in
-    (inr tt, [], refl, subst (λ b. Appends before b []) (sym r.1) (Appends-nil before))
+    let w = subst (λ x. Refuses x whole m.aggregator now c.send.new.aggregator before (g.W.Write.contents c.send.new.writer)) f.field-0-is f.ensures.refused in
+    (inr tt, [], refl, subst (λ b. Appends before b []) (sym w.1) (Appends-nil before))
 
 pub returns-in-Err-WriteFault : goal.returns-in-Err-WriteFault
 returns-in-Err-WriteFault g c line settings k kept sent stands =
@@ -110,17 +113,18 @@ returns-in-Err-WriteFault g c line settings k kept sent stands =
     let m = c.read_items.new.self in
     let now = c.args.moment in
     let whole = c.args.whole in
-    let read : AreItemsRead (record i { taker = u; aggregator = a }) m = subst (λ (x : Recording). AreItemsRead (record i { recorder = x; taker = u; aggregator = a }) m) e.same c.read_items.ensures in
-    let is = now_gathered i settings k kept sent stands a u e.took e.ok m read in
+    let r : Recording = c.collect.new.recorder in
+    let read : AreItemsRead (record i { recorder = r; taker = u; aggregator = a }) m = c.read_items.ensures in
+    let is = now_gathered i settings k kept sent stands a u e.took e.ok r e.same e.knows m read in
     let before = g.W.Write.contents c.args.writer.now in
     let f = c.in-Err-WriteFault in
-    let r = subst (λ x. Refuses x whole m.aggregator now c.send.new.aggregator before (g.W.Write.contents c.send.new.writer)) f.field-0-is f.ensures.refused in
+    let w = subst (λ x. Refuses x whole m.aggregator now c.send.new.aggregator before (g.W.Write.contents c.send.new.writer)) f.field-0-is f.ensures.refused in
     let s : Sending = sending_at whole m.aggregator now in
-    let may = f.ensures.may_send r.1 in (
+    let may = f.ensures.may_send w.1 in (
       inr tt,
-      r.2.0,
-      (s, refl, refl, ap (λ n. n + 1) is.last, subst (λ b. MaySend b s) is.told may, subst (λ b. IsCut (sent_text (line_sent b s)) r.2.0) is.told r.2.1),
-      r.2.2,
+      w.2.0,
+      (s, refl, refl, ap (λ n. n + 1) is.last, subst (λ b. MaySend b s) is.told may, subst (λ b. IsCut (sent_text (line_sent b s)) w.2.0) is.told w.2.1),
+      w.2.2,
     )
 
 pub returns-in-Err-Broken : goal.returns-in-Err-Broken
@@ -132,11 +136,12 @@ returns-in-Err-Broken g c line settings k kept sent stands =
     let m = c.read_items.new.self in
     let now = c.args.moment in
     let whole = c.args.whole in
-    let read : AreItemsRead (record i { taker = u; aggregator = a }) m = subst (λ (x : Recording). AreItemsRead (record i { recorder = x; taker = u; aggregator = a }) m) e.same c.read_items.ensures in
-    let is = now_gathered i settings k kept sent stands a u e.took e.ok m read in
+    let r : Recording = c.collect.new.recorder in
+    let read : AreItemsRead (record i { recorder = r; taker = u; aggregator = a }) m = c.read_items.ensures in
+    let is = now_gathered i settings k kept sent stands a u e.took e.ok r e.same e.knows m read in
     let before = g.W.Write.contents c.args.writer.now in
     let f = c.in-Err-Broken in
-    let r = subst (λ x. Refuses x whole m.aggregator now c.send.new.aggregator before (g.W.Write.contents c.send.new.writer)) f.field-0-is f.ensures.refused in
+    let w = subst (λ x. Refuses x whole m.aggregator now c.send.new.aggregator before (g.W.Write.contents c.send.new.writer)) f.field-0-is f.ensures.refused in
     let goes = is.going in
-    let broken = r.3 in
+    let broken = w.3 in
     absurd cc

@@ -12,12 +12,12 @@ use Rattle.tk_live.proofs.items.TaskItem.draw_waker.Goals as goal
 pub returns-in-Ok-clause-same : goal.returns-in-Ok-clause-same
 returns-in-Ok-clause-same g c =
     let old : TaskItem = c.args.self.now in
-    is_same_task old (record old { callers = c.clone_waker.new.self }) c.args.by CloneWaker (Number c.in-Ok.waker) c.in-Ok.ensures.ok refl c.clone_waker.ensures.id c.clone_waker.ensures.ledger
+    is_same_task old (record old { callers = c.clone_waker.new.self }) c.args.by CloneWaker (Number c.in-Ok.waker) c.in-Ok.ensures.ok refl c.clone_waker.ensures.id c.clone_waker.ensures.ledger refl
 
 pub returns-in-Ok-clause-ok : goal.returns-in-Ok-clause-ok
 returns-in-Ok-clause-ok g c =
     let old : TaskItem = c.args.self.now in
-    draws old (record old { callers = c.clone_waker.new.self }) c.args.by c.in-Ok.waker c.in-Ok.ensures.ok c.clone_waker.ensures.id c.clone_waker.ensures.ledger refl
+    draws old (record old { callers = c.clone_waker.new.self }) c.args.by c.in-Ok.waker c.in-Ok.ensures.ok c.clone_waker.ensures.id c.clone_waker.ensures.ledger refl refl refl
 
 pub returns-in-Err-clause-err : goal.returns-in-Err-clause-err
 returns-in-Err-clause-err g c = (

@@ -6,7 +6,7 @@ use Rattle.tk_live.proofs.items.TaskItem.polls.Goals as goal
 
 pub loop-i-init : goal.loop-i-init
 loop-i-init g c = record {
-  same = record { id = refl; ledger = refl; live = λ k there. there };
+  same = record { id = refl; ledger = refl; times = refl; live = λ k there. there };
   still = c.requires.open;
   so_far = λ n p is. subst (λ (q : TaskPast). IsTask n q c.args.self.now) (begins c.args.moment c.args.run c.args.every p) is;
   idle = λ n p is. inl refl;
@@ -17,6 +17,7 @@ loop-i-preserved g c = let inv = c.loop-i.invariant in record {
   same = record {
     id = c.end.ensures.same.id ∙ (c.start.ensures.same.id ∙ inv.same.id);
     ledger = c.end.ensures.same.ledger ∙ (c.start.ensures.same.ledger ∙ inv.same.ledger);
+    times = c.end.ensures.same.times ∙ (c.start.ensures.same.times ∙ inv.same.times);
     live = λ k there. c.end.ensures.same.live k (c.start.ensures.same.live k (inv.same.live k there));
   };
   still = c.end.ensures.open;

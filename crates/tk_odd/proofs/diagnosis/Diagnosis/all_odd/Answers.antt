@@ -21,7 +21,7 @@ returns c =
     four_put (map placed c.new-list.result.items) (map placed c.add_places.new.list.items) (map placed c.add_stretch.new.list.items) (map placed c.add_stretch-2.new.list.items)
     (map placed c.add_signs.new.list.items) _ _ _ _
     (ap (map placed) c.new-list.ensures.items)
-    (c.in_ok-add_places.ensures ∙ ap₂ by_place c.now-last.ensures there)
-    (c.in_ok-add_stretch.ensures ∙ ap (λ (last : ℕ). map placed c.add_places.new.list.items ++ of_all LeftAlone self.alone last) c.now-last.ensures)
-    (c.in_ok-add_stretch-2.ensures ∙ ap (λ (last : ℕ). map placed c.add_stretch.new.list.items ++ of_all Overloaded self.overloaded last) c.now-last.ensures)
+    (c.in_ok-add_places.ensures ∙ ap₂ by_place c.moment-last.ensures there)
+    (c.in_ok-add_stretch.ensures ∙ ap (λ (last : ℕ). map placed c.add_places.new.list.items ++ of_all LeftAlone self.alone last) c.moment-last.ensures)
+    (c.in_ok-add_stretch-2.ensures ∙ ap (λ (last : ℕ). map placed c.add_stretch.new.list.items ++ of_all Overloaded self.overloaded last) c.moment-last.ensures)
     (c.in_ok-add_signs.ensures ∙ ap (λ xs. map placed c.add_stretch-2.new.list.items ++ map sign_placed xs) signs)

@@ -10,5 +10,5 @@ returns c = λ shown h.
     let tables = c.args.tables.now in
     let limits = c.args.self.now.limits in
     let is : fold put_in [] (map placed c.in_ok-all_odd.field-0.items) ≡ findings_of limits (standing_of limits shown) tables =
-    ap (fold put_in []) (c.in_ok-all_odd.ensures ∙ ap (λ (d : Standing). all_odd limits d tables) h) in
+    ap (fold put_in []) (c.in_ok-all_odd.ensures ∙ ap (λ (d : Standing). all_odd limits d tables) h.standing) in
     subst (λ (xs : List Placed). IfOk c.sorted.result (λ list. map placed list.items ≡ xs)) is c.sorted.ensures

@@ -3,4 +3,4 @@ use Rattle.tk_odd.specs.Diagnosis.{Standing}
 use Rattle.tk_odd.proofs.diagnosis.Diagnosis.held.Goals as goal
 
 pub returns : goal.returns
-returns c = λ shown f. ap (λ (s : Standing). s.places.0) f
+returns c = λ shown f. ap (λ (s : Standing). s.places.0) f.standing

@@ -1,15 +1,16 @@
-use Rattle.std.proofs.Common.{◌≡◌, [], ◌∷◌, ◌++◌, ap, sym, ◌∙◌, OnOk, subst}
+use Rattle.std.proofs.Common.{◌≡◌, [], ◌∷◌, ◌++◌, List, Result, Ok, Err, ap, sym, subst, ◌∙◌}
+use Rattle.std.specs.Prelude.{OnOk}
+use Rattle.tk_stream.specs.Tables.{TablesView, empty_tables}
 use Rattle.tk_odd.specs.Diagnosis.{Standing, after_line, standing_of}
-use Rattle.tk_odd.specs.Inner.{standing_in}
-use Rattle.tk_odd.proofs.DiagnosisLemmas.{stands_more}
+use Rattle.tk_odd.specs.Inner.{Follows, Goes, standing_in}
+use Rattle.tk_odd.specs.Keeping.{Keeps}
+use Rattle.tk_odd.specs.declared.diagnosis.Diagnosis.{Diagnosis}
+use Rattle.tk_odd.specs.declared.limits.Limits.{Limits}
+use Rattle.tk_odd.proofs.DiagnosisLemmas.{follows_more, on_ok}
 use Rattle.tk_odd.proofs.diagnosis.Diagnosis.note.Goals as goal
 
 pub returns-clause-follows : goal.returns-clause-follows
-returns-clause-follows c = λ shown h.
+returns-clause-follows c = λ shown leads h.
     let old = c.args.self.now in
-    let tables = c.args.tables.now in
     let new = c.after_line.new.self in
-    let is : after_line old.limits (standing_in old) tables ≡ standing_of new.limits (shown ++ tables ∷ []) =
-    ap (λ d. after_line old.limits d tables) h ∙ sym (stands_more old.limits shown tables)
-    ∙ ap (λ limits. standing_of limits (shown ++ tables ∷ [])) (sym c.after_line.ensures.limits) in
-    subst (λ (s : Standing). OnOk c.after_line.result (standing_in new ≡ s)) is c.after_line.ensures.line
+    on_ok _ _ c.after_line.result (follows_more shown c.args.tables.now old new c.after_line.ensures.limits h) (c.after_line.ensures.line _ leads h.rows)

@@ -1,12 +1,16 @@
 use Rattle.std.proofs.Common.{◌≡◌, ℕ, ◌+◌, ◌≤◌, ◌^◌, ◌∙◌, length, arith, nat_eq, sym, subst, cond, OnOk}
 use Rattle.indexmap.specs.IndexMap.{get}
 use Rattle.tk_paper.specs.Courses.{IsCourse}
-use Rattle.tk_page.specs.Kept.{FollowsAt, has_task, is_fresh, samples_more, samples_of, totals_of}
+use Rattle.tk_reading.specs.Shown.{tables_of}
+use Rattle.tk_reading.proofs.ShownLemmas.{seen_few, seen_more}
+use Rattle.tk_page.specs.Kept.{FollowsAt, Tells, has_task, is_fresh, samples_more, samples_of, totals_of}
 use Rattle.tk_page.proofs.HistoryLemmas.{Noting, few_samples, fresh_is, length-totals_of, line_ended, some_more}
 use Rattle.tk_page.proofs.history.HistoryObserves.line.Goals as goal
 
 pub returns : goal.returns
-returns c = λ from shown few h.
+returns c = λ from seen many is h.
+    let shown = tables_of seen in
+    let few = seen_few (2 ^ 62) seen many in
     let old = c.args.self.now in
     let mid = c.forget_gone.new.self in
     let new = c.end_line.new.self in
@@ -35,6 +39,6 @@ returns c = λ from shown few h.
       gone = f.gone;
       is = c.in_ok-sum.ensures.sum shown follows;
     } in
-    line_ended c.end_line.result shown tables c.in_ok-sum.sum old mid new h noting (e.lines (omega (arith, f.lines, small)))
+    seen_more (λ xs. Tells xs new) c.end_line.result seen (tables, c.args._times.now) (line_ended c.end_line.result shown tables c.in_ok-sum.sum old mid new h noting (e.lines (omega (arith, f.lines, small)))
     (subst (λ m. OnOk c.end_line.result (new.first ≡ cond (nat_eq mid.lines 0) m mid.first)) c.now.ensures e.first) e.tasks
-    (e.sums (totals_of shown) (omega (arith, length-totals_of shown, few)) (subst (IsCourse (totals_of shown)) (sym f.sums) h.sums)) e.last e.gone
+    (e.sums (totals_of shown) (omega (arith, length-totals_of shown, few)) (subst (IsCourse (totals_of shown)) (sym f.sums) h.sums)) e.last e.gone)

@@ -1,0 +1,16 @@
+use Rattle.std.proofs.Common.{◌≡◌, None, ap, ◌∙◌, sym}
+use Rattle.std.specs.Map.{lookup}
+use Rattle.std.specs.Str.{bytes_eq}
+use Rattle.tk_series.proofs.LimitedLemmas.{added, lookup-shown, of_values}
+use Rattle.tk_series.proofs.SeriesLemmas.{inserted_new, shown}
+use Rattle.tk_series.proofs.limited.Limited.add_new.Goals as goal
+
+pub returns : goal.returns
+returns g c =
+    let plus = g.V.Added.plus in
+    let k = c.args.labels in
+    let es = c.self.inside.values.entries in
+    let none : None ≡ lookup (λ q. bytes_eq k.items q.items) es =
+    sym (sym (lookup-shown k.items es) ∙ ap (λ s. lookup (bytes_eq k.items) s.first) c.self.view_is ∙ c.requires) in
+    ap (of_values c.self.inside.room c.self.inside.rest) (ap shown c.in_ok-insert.ensures.entries ∙ inserted_new plus k c.args.value es none)
+    ∙ ap (added plus k.items c.args.value) c.self.view_is

@@ -1,0 +1,9 @@
+use Rattle.tk_sites.specs.Lines.{warned_lines}
+use Rattle.tk_sites.proofs.LineLemmas.{all_put, next_put}
+use Rattle.tk_sites.proofs.lines.put_own_warnings.Goals as goal
+
+pub loop-at-preserved : goal.loop-at-preserved
+loop-at-preserved c = next_put warned_lines c.args.sites.now.first c.loop-at.at c.loop-at.invariant c.in_ok-put_warnings_at.ensures
+
+pub returns : goal.returns
+returns c = all_put warned_lines c.args.sites.now.first c.loop-at.at _ c.len-at-end.ensures.len c.loop-at-test.false c.loop-at.invariant

@@ -1,0 +1,8 @@
+use Rattle.std.proofs.Common.{take}
+use Rattle.tk_report.specs.Pieces.{Puts}
+use Rattle.tk_sites.specs.Lines.{numbered, warned_lines}
+use Rattle.tk_sites.proofs.lines.put_own_warnings.Given as goal
+
+-- those so far were put
+abbrev pub invariant-loop-at : goal.invariant-loop-at
+invariant-loop-at l = Puts l.initial.out.items l.out.items (numbered warned_lines 1 (take l.at l.sites.first))

@@ -1,0 +1,25 @@
+//! The places where a stream's tasks are made, and what the tasks of each came to. In the sources a place is a site, since "place" is an index there.
+//!
+//! - [`view_sites`], [`SitesView`]: reads a stream to its end, and writes a line for each place, or the warnings by place, or one place with its tasks.
+//! - [`Sites`]: what watches a stream's lines for it. [`Sums`], [`Warnings`], [`Warned`]: what is added up of a place.
+//! - [`laws`]: what places add up to, and that their numbers stay.
+//! - [`site_of`]: the place of a task, as it is written.
+#![tactic(auto)]
+
+mod adding;
+pub mod laws;
+mod lines;
+mod one;
+mod site;
+mod sites;
+mod sites_view;
+mod sums;
+mod view;
+mod warned;
+
+pub use site::site_of;
+pub use sites::Sites;
+pub use sites_view::SitesView;
+pub use sums::Sums;
+pub use view::view_sites;
+pub use warned::{Warned, Warnings};
