@@ -2,17 +2,18 @@
 """Compares screens of `taskscope watch` with the stream that they are of, which is read and reckoned here alone.
 
     check_frames.py sorted STREAM FRAMES COLUMN       the last screen shows the open tasks, those of most in the column first
-    check_frames.py some STREAM FRAMES TEXT ROWS      it shows so many of those in whose name the text stands
+    check_frames.py some STREAM FRAMES TEXT ROWS      it shows so many of those in whose name, or file's name, the text stands
     check_frames.py rising STREAM FRAMES              each screen is of a line after that of the one before, and the last of all lines
     check_frames.py last STREAM FRAMES LINES          the last screen is of so many lines
     check_frames.py terminal STREAM SCREEN COLUMNS LINES   a terminal of this size shows the screen of all lines, cut to it
-    check_frames.py keyed STREAM SCREEN COLUMN COLUMNS LINES   it shows all lines, its tasks sorted by a key
+    check_frames.py keyed STREAM SCREEN COLUMN COLUMNS LINES [PAGES]   it shows all lines, its tasks sorted by a key: as many as fit, after so many pages
     check_frames.py odd STREAM FRAMES                 the last screen tells what is odd about all lines
 
 Each but `some` looks at what a screen tells of findings, too: tests/odd/plain_findings.py reckons these.
 """
 
 import os
+import re
 import sys
 import tempfile
 
@@ -148,23 +149,34 @@ def head(tables, odd):
 
 def told(lines):
     """What a screen tells between its first line and its tasks."""
-    end = next((place for place, line in enumerate(lines) if line.startswith("   TASK STATE")), len(lines))
+    end = next((place for place, line in enumerate(lines) if line.startswith("  TASK STATE")), len(lines))
     return lines[1:end]
 
 
 def tasks_of(tables, column="busy", text=""):
     """The ids of the open tasks, those of most first, and of equal ones the earlier."""
-    shown = [task for task in tables.tasks.values() if task["row"]["dropped"] is None and text in task["info"]["name"]]
+    shown = [task for task in tables.tasks.values() if task["row"]["dropped"] is None and (text in task["info"]["name"] or text in task["info"]["loc"][0])]
     shown.sort(key=lambda task: -COLUMNS[column](task["row"], tables.now))
     return [id_text(task["info"]["id"]) for task in shown]
 
 
 def shown_tasks(lines):
-    """The ids in the lines of tasks."""
-    start = next(place for place, line in enumerate(lines) if line.startswith("   TASK STATE")) + 1
+    """The ids in the lines of tasks, and the line that counts them, if it stands there."""
+    start = next(place for place, line in enumerate(lines) if line.startswith("  TASK STATE")) + 1
     rest = lines[start:]
-    end = next((place for place, line in enumerate(rest) if not line.strip() or line.lstrip().startswith(("RESOURCE", "OPERATION"))), len(rest))
-    return [line.split()[0] for line in rest[:end]]
+    end = next((place for place, line in enumerate(rest) if not re.match(r" *\d+\.\d+ ", line)), len(rest))
+    return [line.split()[0] for line in rest[:end]], rest[end] if end < len(rest) else ""
+
+
+def counted(shown, ids, after=0):
+    """The line that counts the tasks on a page."""
+    return f"{len(shown)} of {len(ids)} tasks" + (f", after the first {after}" if after else "")
+
+
+def check_shown(lines, ids, rows, after=0):
+    """So many of these tasks stand there, after so many, and are counted."""
+    page = ids[after : after + rows]
+    same(shown_tasks(lines), (page, counted(page, ids, after)))
 
 
 def part_of(stream, count):
@@ -190,7 +202,7 @@ def check_sorted(stream, path, column):
     tables = Tables(stream)
     last = frames(path)[-1]
     check_top(last, tables, odd_about(stream))
-    same(shown_tasks(last), tasks_of(tables, column)[:50])
+    check_shown(last, tasks_of(tables, column), 50)
 
 
 def check_odd(stream, path):
@@ -198,7 +210,7 @@ def check_odd(stream, path):
 
 
 def check_some(stream, path, text, rows):
-    same(shown_tasks(frames(path)[-1]), tasks_of(Tables(stream), text=text)[: int(rows)])
+    check_shown(frames(path)[-1], tasks_of(Tables(stream), text=text), int(rows))
 
 
 def check_rising(stream, path):
@@ -216,7 +228,7 @@ def check_last(stream, path, count):
     tables = part_of(stream, int(count))
     last = frames(path)[-1]
     check_top(last, tables, odd_about(stream, int(count)))
-    same(shown_tasks(last), tasks_of(tables)[:20])
+    check_shown(last, tasks_of(tables), 20)
 
 
 def cut(lines, columns):
@@ -234,17 +246,18 @@ def check_terminal(stream, path, columns, lines):
         sys.exit("a line is longer than the terminal")
     top = cut([head(tables, odd), *odd.lines(int(lines))], int(columns))[:end]
     same(screen[: len(top)], top)
-    shown = shown_tasks(screen[:end]) if any(line.startswith("   TASK") for line in screen) else []
-    same(shown, tasks_of(tables)[: len(shown)])
+    if len(top) + 2 < int(lines) - 1:
+        check_shown(screen[:end], tasks_of(tables), int(lines) - 1 - len(top) - 2)
 
 
-def check_keyed(stream, path, column, columns, lines):
+def check_keyed(stream, path, column, columns, lines, pages=0):
     tables, odd = Tables(stream), odd_about(stream)
     with open(path, encoding="ascii") as file:
         screen = [line.removeprefix(">") for line in file.read().split("\n")]
     top = cut([f"sorted by {column}  ? shows the keys", head(tables, odd), *odd.lines(int(lines))], int(columns))
     same(screen[: len(top)], top)
-    same(shown_tasks(screen), tasks_of(tables, column)[:20])
+    rows = int(lines) - 1 - len(top) - 2
+    check_shown(screen, tasks_of(tables, column), rows, int(pages) * rows)
 
 
 CHECKS = {"keyed": check_keyed, "odd": check_odd, "sorted": check_sorted, "some": check_some, "rising": check_rising, "last": check_last, "terminal": check_terminal}

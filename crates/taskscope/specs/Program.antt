@@ -19,6 +19,7 @@ use Rattle.tk_report.specs.TimedViews.{ViewsTimed, count_of}
 use Rattle.tk_report.specs.Views.{IsOfWriter, Views}
 use Rattle.tk_report.specs.declared.options.TimesOptions.{TimesOptions}
 use Rattle.tk_fault.specs.declared.fault.AppFault.{AppFault}
+use Rattle.tk_frame.specs.Typed.{nothing}
 use Rattle.tk_screen.specs.declared.canvas.Canvas.{Canvas}
 use Rattle.tk_screen.specs.declared.canvas.Canvas.TheVariants.{Plain}
 use Rattle.tk_watch.specs.Keyed.{Coming, WatchesKeys}
@@ -114,13 +115,19 @@ pub record PagesStream (lints : LintsView) (given left old new : Option (List �
   -- only a writer's fault comes once something was written
   pub unwritten : IfErr outcome (λ fault. (IsOfWriter fault → ⊥) → new ≡ old)
 
--- what a watch's screens show, of the tasks in whose name a text stands. They are drawn on the terminal, unless text is asked for
+-- so many rows at most: 0 asks for as many as fit
+abbrev pub rows_by : ℕ → Option ℕ
+rows_by n = if n == 0 then None else Some n
+
+-- what a watch's screens show, of the tasks that a text names. They are drawn on the terminal, unless text is asked for
 abbrev pub screen_by : WatchOptions → Bor (List ℕ) → Canvas → Screen
 screen_by options part terminal = record {
   query = record {
     sort = options.sort;
-    rows = options.rows;
+    rising = false;
+    rows = rows_by options.rows;
     filter = part;
+    typed = nothing;
     resources = options.resources;
   };
   lints = options.lints;

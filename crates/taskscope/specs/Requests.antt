@@ -103,7 +103,7 @@ lint_command = explaining (spans_command (codes "lint"))
 abbrev pub shows_command : App
 shows_command =
     let sorted = with_rule (view_command (codes "watch")) (text_option (codes "sort")) in
-    let few = with_rule sorted (number_option (codes "rows") (codes "20") 1000000) in
+    let few = with_rule sorted (number_option (codes "rows") (codes "0") 1000000) in
     let filtered = with_rule few (text_option (codes "filter")) in
     with_rule filtered (flag_option (codes "resources"))
 
@@ -262,7 +262,7 @@ column_at options = option_map_or column_named (text_at (codes "sort") options) 
 abbrev pub watch_by : Column → List Row → WatchOptions
 watch_by sort options = record {
   sort = sort;
-  rows = number_or 20 (codes "rows") options;
+  rows = number_or 0 (codes "rows") options;
   resources = flag_at (codes "resources") options;
   plain = flag_at (codes "plain") options;
   keys = flag_at (codes "keys") options;
@@ -401,7 +401,7 @@ IsPlain command words = (name : List ℕ) × (words ≡ name ∷ command ∷ [])
 abbrev pub plain_watch : WatchOptions
 plain_watch = record {
   sort = Busy;
-  rows = 20;
+  rows = 0;
   resources = false;
   plain = false;
   keys = false;

@@ -84,7 +84,7 @@ pub(crate) enum Request {
 pub(crate) struct WatchOptions {
     /// By which column tasks are sorted.
     pub sort: Column,
-    /// How many tasks are shown at most, and of resources and async operations as many.
+    /// How many tasks are shown at most, and of resources and async operations as many. 0 is as many as fit, and as text 20.
     pub rows: u64,
     /// Whether resources and async operations are shown too.
     pub resources: bool,
@@ -322,7 +322,7 @@ fn shows_command<'a>(alloc: Global) -> Result<Command<'a>, Error>
     ensures err { IfErr result (λ e. kind_of e ≡ ErrorKind.OutOfMemory) }
 {
     let sort = text_arg(alloc, SORT, "COLUMN", SORT_HELP);
-    let rows = number_arg(alloc, ROWS, ROWS_HELP, "20", 1_000_000);
+    let rows = number_arg(alloc, ROWS, ROWS_HELP, "0", 1_000_000);
     let filter = text_arg(alloc, FILTER, "TEXT", FILTER_HELP);
     let resources = flag_arg(alloc, RESOURCES, RESOURCES_HELP);
     Ok(
@@ -612,7 +612,7 @@ fn watch_by(sort: Column, options: &ArgMatches) -> WatchOptions
 {
     WatchOptions {
         sort,
-        rows: number_or(options, ROWS, 20),
+        rows: number_or(options, ROWS, 0),
         resources: flag_at(options, RESOURCES),
         plain: flag_at(options, PLAIN),
         keys: flag_at(options, KEYS),

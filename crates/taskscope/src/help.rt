@@ -154,9 +154,9 @@ A screen tells how many tasks are in each state and what is odd about them, wors
 explains the findings), and shows the open tasks of most in a column, with where each was spawned.
 docs/FORMATS.md explains the lines.
 
-On a terminal a screen is drawn over the one before, and cut to the terminal's size, or to COLUMNS by LINES if they
-are set. It has colors unless NO_COLOR is set. Elsewhere, or if TERM is `dumb`, screens are text, one after the
-other.
+On a terminal a screen is drawn over the one before. It is cut to the terminal's size, or to COLUMNS by LINES if they
+are set, and shows as many tasks as fit. It has colors unless NO_COLOR is set. Elsewhere, or if TERM is `dumb`, screens
+are text, one after the other.
 
 Tasks can be sorted by these columns:
   busy        how long their polls ran
@@ -168,8 +168,9 @@ Tasks can be sorted by these columns:
 Both times count what still lasts. A wait is counted from its begin if the stream counts waits, as that of a Rust
 program does, and otherwise from the task's last wake.
 
-With `--keys` you sort by another column, pause, look at one task, and quit: `?` shows the keys. At the end of the
-stream the last screen then stays until `q`. The terminal has its mode back once the watch has ended or was stopped.
+With `--keys` you go through all tasks, find some, sort by another column, pause, look at one task or at a finding's,
+and quit: `?` shows the keys. The screen follows the terminal's size. At the end of the stream it stays until `q`.
+What the terminal showed before is back once the watch has ended or was stopped.
 
 A last line of the stream without its line end is ignored. At a fault the screen of what stood before it is drawn.";
 
@@ -235,9 +236,11 @@ pub(crate) const TIMES_HELP: &str =
 
 pub(crate) const SORT_HELP: &str = "Shows the tasks of most in this column first, else in `busy`";
 
-pub(crate) const ROWS_HELP: &str = "Shows so many tasks at most";
+pub(crate) const ROWS_HELP: &str =
+    "Shows so many tasks at most; 0 shows as many as fit, and 20 as text";
 
-pub(crate) const FILTER_HELP: &str = "Shows only tasks in whose name this stands";
+pub(crate) const FILTER_HELP: &str =
+    "Shows only tasks in whose name this stands, or in that of the file where they were made";
 
 pub(crate) const RESOURCES_HELP: &str = "Shows resources and async operations too";
 

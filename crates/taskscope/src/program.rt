@@ -7,7 +7,7 @@ ghost use Rattle.tk_report.specs.TimedViews.{count_of};
 ghost use Rattle.tk_client.specs.Warnings.{default_lints};
 ghost use Rattle.taskscope.specs.Requests as spec;
 ghost use Rattle.taskscope.specs.Requests.{AsksForFile, AsksForHelp, AsksForInput, AsksForVersion, IsMistake, IsPlain, asked, file_text, filter_of, is_mistake, plain_metrics, plain_watch, refusals, texts, to_of};
-ghost use Rattle.taskscope.specs.Program.{AddsUpStream, Does, DoesOfFile, FindsInStream, KeepsStream, RunsScript, ViewsStream, WatchesAtKeys, WatchesStream, filter_text, found_status, is_noted, page_status, screen_by, status_at, status_of, view_in, view_status};
+ghost use Rattle.taskscope.specs.Program.{AddsUpStream, Does, DoesOfFile, FindsInStream, KeepsStream, RunsScript, ViewsStream, WatchesAtKeys, WatchesStream, filter_text, found_status, is_noted, page_status, rows_by, screen_by, status_at, status_of, view_in, view_status};
 
 use crate::command_line::{Call, MetricsOptions, Request, WatchOptions, call_of};
 use crate::help::lint_long_about;
@@ -27,7 +27,7 @@ use tk_app::{AppFault, Open, TimesOptions, View, demo, run_script, view_stream_w
 use tk_client::Lints;
 use tk_explain::{Kept, explain_script, explain_stream};
 use tk_found::view_findings;
-use tk_frame::Query;
+use tk_frame::{Query, Typed};
 use tk_keys::watch_terminal;
 use tk_metrics::{Place, keep_metrics, metrics_stream};
 use tk_odd::Limits;
@@ -282,6 +282,13 @@ fn filter_text<'a>(filter: Option<&'a str>) -> &'a str
     }
 }
 
+// 0 asks for as many rows as fit.
+fn rows_by(rows: u64) -> Option<usize>
+    ensures { result ≡ rows_by rows }
+{
+    if rows == 0 { None } else { Some(rows as usize) }
+}
+
 // What a watch's screens show, and on what they are drawn.
 fn screen_of<'a>(options: &WatchOptions, filter: &'a str, terminal: Canvas) -> Screen<'a>
     ensures shows { result ≡ screen_by options.now result.query.filter terminal }
@@ -290,8 +297,10 @@ fn screen_of<'a>(options: &WatchOptions, filter: &'a str, terminal: Canvas) -> S
     Screen {
         query: Query {
             sort: options.sort,
-            rows: options.rows as usize,
+            rising: false,
+            rows: rows_by(options.rows),
             filter: filter.as_bytes(),
+            typed: Typed::none(),
             resources: options.resources,
         },
         lints: options.lints,

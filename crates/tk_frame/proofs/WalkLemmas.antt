@@ -8,9 +8,10 @@ use Rattle.tk_stream.specs.declared.tables.task.Task.{Task}
 use Rattle.tk_screen.specs.Rankings.{ranked_in, kept}
 use Rattle.tk_screen.specs.declared.top.Ranked.{Ranked}
 use Rattle.tk_screen.proofs.RankLemmas.{kept_is_front}
-use Rattle.tk_frame.specs.Queries.{begins, stands_in, rank_at, ranked_from, top_of}
+use Rattle.tk_frame.specs.Queries.{begins, is_shown, stands_in, rank_at, ranked_from, top_of}
 use Rattle.tk_frame.specs.States.{count, is_closed, is_idle, is_polling, is_scheduled, states_of}
-use Rattle.tk_frame.specs.Walks.{and_task, kept_with, no_states, states_with, tally, total}
+use Rattle.tk_frame.specs.Walks.{and_task, counted_with, kept_with, no_states, states_with, tally, total}
+use Rattle.tk_frame.specs.declared.query.Query.{Query}
 use Rattle.tk_frame.specs.declared.ranks.States.{States}
 
 -- ---- names
@@ -93,6 +94,60 @@ tally-counts a (t ∷ ts) = by (is_some t.row.dropped) t.row.polling t.row.sched
 pub states-all : (ts : List Task) (i : ℕ) (states : States) → length ts ≤ i → states ≡ tally (take i ts) → states ≡ states_of ts
 states-all ts i states h e =
     e ∙ ap tally (take_all i ts h) ∙ tally-counts no_states ts ∙ same_states _ _ _ _ _ _ _ _ (omega arith) (omega arith) (omega arith) (omega arith)
+
+-- ---- how many are shown
+
+abbrev counted : Query → List Task → ℕ
+counted q ts = length (filter (is_shown q) ts)
+
+counted-next : (q : Query) (ts : List Task) (i : ℕ) → counted q (take (suc i) ts) ≡ option_map_or (counted_with q (counted q (take i ts))) (slice_get ts i) (counted q (take i ts))
+counted-next q [] zero = refl
+counted-next q [] (suc i) = refl
+counted-next q (t ∷ ts) zero = by (is_shown q t)
+  where
+    by : (b : Bool) → length (cond b (t ∷ []) []) ≡ cond b 1 0
+    by true = refl
+    by false = refl
+counted-next q (t ∷ ts) (suc i) = by (is_shown q t) (slice_get ts i) (counted-next q ts i)
+  where
+    with_one : (n : ℕ) (u : Option Task) → suc (option_map_or (counted_with q n) u n) ≡ option_map_or (counted_with q (suc n)) u (suc n)
+    with_one n None = refl
+    with_one n (Some u) = inner (is_shown q u)
+      where
+        inner : (b : Bool) → suc (cond b (n + 1) n) ≡ cond b (suc n + 1) (suc n)
+        inner true = omega arith
+        inner false = refl
+
+    by : (b : Bool) (u : Option Task) → counted q (take (suc i) ts) ≡ option_map_or (counted_with q (counted q (take i ts))) u (counted q (take i ts))
+        → length (cond b (t ∷ filter (is_shown q) (take (suc i) ts)) (filter (is_shown q) (take (suc i) ts)))
+        ≡ option_map_or (counted_with q (length (cond b (t ∷ filter (is_shown q) (take i ts)) (filter (is_shown q) (take i ts))))) u
+        (length (cond b (t ∷ filter (is_shown q) (take i ts)) (filter (is_shown q) (take i ts))))
+    by true u e = ap suc e ∙ with_one (counted q (take i ts)) u
+    by false u e = e
+
+-- one task more
+pub count-more : (q : Query) (ts : List Task) (i old new : ℕ) → old ≡ counted q (take i ts) → new ≡ option_map_or (counted_with q old) (slice_get ts i) old
+    → new ≡ counted q (take (i + 1) ts)
+count-more q ts i old new e f = rw add-one (f ∙ ap (λ n. option_map_or (counted_with q n) (slice_get ts i) n) e ∙ sym (counted-next q ts i))
+
+counted-few : (q : Query) (ts : List Task) → counted q ts ≤ length ts
+counted-few q [] = omega arith
+counted-few q (t ∷ ts) = by (is_shown q t) (counted-few q ts)
+  where
+    by : (b : Bool) → counted q ts ≤ length ts → length (cond b (t ∷ filter (is_shown q) ts) (filter (is_shown q) ts)) ≤ length (t ∷ ts)
+    by true h = omega arith
+    by false h = omega arith
+
+-- no more are shown than there were
+pub count-few : (q : Query) (ts : List Task) (i n : ℕ) → n ≡ counted q (take i ts) → n ≤ i
+count-few q ts i n e =
+    let h = counted-few q (take i ts) in
+    let g = short i ts in
+    subst (λ m. m ≤ i) (sym e) (omega arith)
+
+-- at the end
+pub count-all : (q : Query) (ts : List Task) (i n : ℕ) → length ts ≤ i → n ≡ counted q (take i ts) → n ≡ counted q ts
+count-all q ts i n h e = e ∙ ap (counted q) (take_all i ts h)
 
 -- ---- ranks
 

@@ -2,7 +2,7 @@
 use Rattle.std.specs.Prelude.{ℕ, ◌+◌, ◌-◌, ◌/◌, ◌==◌, nat_lt, Bool, if◌then◌else◌, Option, Some, None, List, [], ◌∷◌, ◌++◌, length, take, codes, decimal}
 use Rattle.std.specs.List.{list_any}
 use Rattle.std.specs.Option.{option_and_then}
-use Rattle.std.specs.Str.{bytes_eq, is_utf8}
+use Rattle.std.specs.Str.{bytes_eq}
 use Rattle.tk_ids.specs.Ids.{id_text}
 use Rattle.tk_odd.specs.Findings.{Placed}
 use Rattle.tk_odd.specs.Places.{place_of}
@@ -19,7 +19,7 @@ use Rattle.tk_screen.specs.declared.canvas.Canvas.{Canvas}
 use Rattle.tk_screen.specs.declared.canvas.Canvas.TheVariants.{Plain, Terminal}
 use Rattle.tk_stream.specs.Tables.{TablesView, task_with}
 use Rattle.tk_stream.specs.declared.tables.task.Task.{Task}
-use Rattle.tk_frame.specs.Lines.{cell, location_text, plain, word}
+use Rattle.tk_frame.specs.Lines.{as_text, cell, location_text, plain, word}
 use Rattle.tk_frame.specs.Waiting.{waiting_text}
 use Rattle.tk_odd.specs.Waiting.{waiting_of}
 use Rattle.tk_odd.specs.declared.waiting.Waiting.{Waiting}
@@ -47,7 +47,7 @@ named_words name id = name ++ (codes " " ++ id_text id)
 
 -- who a finding is about that names a task which has left: its place
 abbrev pub place_words : List ℕ → List ℕ
-place_words place = if is_utf8 place then place else []
+place_words place = as_text place
 
 -- the same, or that names none: all tasks
 abbrev pub no_task : Option ℕ → List ℕ → List ℕ

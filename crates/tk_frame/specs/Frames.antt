@@ -1,5 +1,5 @@
 -- The lines of a screen.
-use Rattle.std.specs.Prelude.{ℕ, List, [], ◌∷◌, ◌++◌, length, slice_get, flat_map, if◌then◌else◌}
+use Rattle.std.specs.Prelude.{ℕ, List, [], ◌∷◌, ◌++◌, drop, length, slice_get, flat_map, if◌then◌else◌}
 use Rattle.std.specs.Option.{option_map_or}
 use Rattle.tk_stream.specs.declared.tables.task.Task.{Task}
 use Rattle.tk_stream.specs.declared.tables.resource.Resource.{Resource}
@@ -10,17 +10,23 @@ use Rattle.tk_screen.specs.declared.canvas.Canvas.{Canvas}
 use Rattle.tk_screen.specs.declared.top.Ranked.{Ranked}
 use Rattle.tk_frame.specs.Findings.{OddView, findings_part}
 use Rattle.tk_frame.specs.Lines.{head_text, heading, op_heading, op_text, plain, resource_heading, resource_text, task_heading, task_text}
-use Rattle.tk_frame.specs.Queries.{top_ops, top_resources, top_tasks}
+use Rattle.tk_frame.specs.Pages.{page_of, page_text, table_rows}
+use Rattle.tk_frame.specs.Queries.{shown_count, top_ops, top_resources, top_tasks}
 use Rattle.tk_frame.specs.States.{states_of}
+use Rattle.tk_frame.specs.declared.pages.Page.{Page}
 use Rattle.tk_frame.specs.declared.query.Query.{Query}
 
 -- the line of the task at a place
 abbrev pub task_at : TablesView → Ranked → List LineView
 task_at tables r = option_map_or (λ (t : Task). plain (task_text tables.now t) ∷ []) (slice_get tables.tasks r.place) []
 
--- the tasks that are shown
-abbrev pub tasks_part : Query → TablesView → List LineView
-tasks_part query tables = heading task_heading ∷ flat_map (task_at tables) (top_tasks query tables)
+-- the tasks of these ranks that stand on a page, and how many there are
+abbrev pub table_part : TablesView → List Ranked → Page → List LineView
+table_part tables top page = heading task_heading ∷ (flat_map (task_at tables) (drop page.from top) ++ (plain (page_text page) ∷ []))
+
+-- the tasks on a page
+abbrev pub tasks_part : Query → TablesView → Page → List LineView
+tasks_part query tables page = table_part tables (top_tasks query page.to tables) page
 
 abbrev pub resource_at : TablesView → Ranked → List LineView
 resource_at tables r = option_map_or (λ (x : Resource). plain (resource_text (counts_of x.info.id tables.counts) x) ∷ []) (slice_get tables.resources r.place) []
@@ -37,13 +43,17 @@ abbrev pub ops_part : ℕ → TablesView → List LineView
 ops_part rows tables = heading op_heading ∷ flat_map (op_at tables) (top_ops rows tables)
 
 -- resources and async operations, where they were asked for
-abbrev pub items_part : Query → TablesView → List LineView
-items_part query tables = if query.resources then resources_part query.rows tables ++ ops_part query.rows tables else []
+abbrev pub items_part : ℕ → Query → TablesView → List LineView
+items_part rows query tables = if query.resources then resources_part rows tables ++ ops_part rows tables else []
 
--- the lines of a screen of tables of which this is odd: the first line; findings; tasks; resources and async operations
+-- the lines of a screen of tables of which this is odd: the first line; findings; the first tasks, as many rows as fit; resources and async operations
+abbrev pub frame_by : ℕ → Canvas → Query → TablesView → OddView → List LineView
+frame_by rows canvas query tables odd =
+    plain (head_text tables (states_of tables.tasks) (length odd.findings)) ∷ (findings_part canvas tables odd
+    ++ (tasks_part query tables (page_of rows 0 (shown_count query tables)) ++ items_part rows query tables))
+
 abbrev pub frame_of : Canvas → Query → TablesView → OddView → List LineView
-frame_of canvas query tables odd =
-    plain (head_text tables (states_of tables.tasks) (length odd.findings)) ∷ (findings_part canvas tables odd ++ (tasks_part query tables ++ items_part query tables))
+frame_of canvas query tables odd = frame_by (table_rows canvas query odd 0) canvas query tables odd
 
 -- the screen of tables, as it is written
 abbrev pub frame_text : Canvas → Query → OddView → TablesView → List ℕ

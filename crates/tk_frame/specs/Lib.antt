@@ -1,5 +1,7 @@
 -- Which items are shown, and in which order
 pub mod Queries
+-- A text that is typed at keys
+pub mod Typed
 -- How many tasks there are in each state
 pub mod States
 -- Which tasks wait
@@ -8,6 +10,8 @@ pub mod Waiting
 pub mod Lines
 -- The lines that tell what is odd
 pub mod Findings
+-- Which tasks stand on a screen
+pub mod Pages
 -- The lines of a screen
 pub mod Frames
 -- Inner: no public clause cites these

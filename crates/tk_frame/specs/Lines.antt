@@ -1,5 +1,6 @@
 -- The lines that tell of tasks, and of resources and async operations.
-use Rattle.std.specs.Prelude.{◌==◌, ◌&&◌, ℕ, List, [], ◌∷◌, ◌++◌, length, codes, decimal, if◌then◌else◌}
+use Rattle.std.specs.Prelude.{◌==◌, ◌&&◌, ◌-◌, ℕ, List, [], ◌∷◌, ◌++◌, drop, length, codes, decimal, if◌then◌else◌}
+use Rattle.std.specs.Str.{is_utf8}
 use Rattle.tk_ids.specs.Ids.{id_text}
 use Rattle.tk_ids.specs.declared.info.Dropped.{Dropped}
 use Rattle.tk_ids.specs.declared.location.Location.{Location}
@@ -29,6 +30,18 @@ word width text = left width text ++ codes " "
 -- a place in a source file
 abbrev pub location_text : Location → List ℕ
 location_text l = l.file ++ (codes ":" ++ (decimal l.line ++ (codes ":" ++ decimal l.column)))
+
+-- the end of a text, of at most so many bytes
+abbrev pub end_of : ℕ → List ℕ → List ℕ
+end_of width text = drop (length text - width) text
+
+-- bytes that are text, or nothing
+abbrev pub as_text : List ℕ → List ℕ
+as_text bytes = if is_utf8 bytes then bytes else []
+
+-- a place in a column, of which the end is shown where it is longer
+abbrev pub place_cell : ℕ → Location → List ℕ
+place_cell width l = word width (as_text (end_of width (location_text l)))
 
 abbrev pub plain : List ℕ → LineView
 plain text = record { style = styles.Plain; text = text }
@@ -63,19 +76,19 @@ head_text tables states findings =
 
 -- the columns of tasks
 abbrev pub task_heading : List ℕ
-task_heading = cell 7 (codes "TASK") ++ (word 9 (codes "STATE") ++ (cell 9 (codes "BUSY") ++ (cell 9 (codes "SCHED") ++ (cell 7 (codes "POLLS")
-    ++ (cell 7 (codes "WAKES") ++ (cell 4 (codes "SELF") ++ (word 20 (codes "NAME") ++ (word 8 (codes "KIND") ++ codes "LOCATION"))))))))
+task_heading = cell 6 (codes "TASK") ++ (word 9 (codes "STATE") ++ (cell 8 (codes "BUSY") ++ (cell 8 (codes "SCHED") ++ (cell 6 (codes "POLLS")
+    ++ (cell 6 (codes "WAKES") ++ (cell 4 (codes "SELF") ++ (word 15 (codes "LOCATION") ++ (word 20 (codes "NAME") ++ codes "KIND"))))))))
 
 -- how long a task ran, and how long it waited
 abbrev pub times_text : ℕ → TaskRow → List ℕ
-times_text now x = cell 9 (duration_text (busy_until x now)) ++ cell 9 (duration_text (sched_until x now))
+times_text now x = cell 8 (duration_text (busy_until x now)) ++ cell 8 (duration_text (sched_until x now))
 
--- a task at a moment: its id and state, how long it ran and waited, its polls and wakes, which share of these is its own, its
--- name and kind, and where it was spawned
+-- a task at a moment: its id and state, how long it ran and waited, its polls and wakes, which share of these is its own, where it
+-- was spawned, and its name and kind
 abbrev pub task_text : ℕ → Task → List ℕ
-task_text now t = cell 7 (id_text t.info.id) ++ (word 9 (task_state t.row)
-    ++ (times_text now t.row ++ (cell 7 (decimal t.row.polls) ++ (cell 7 (decimal t.row.wakes) ++ (cell 4 (share_text t.row.self_wakes t.row.wakes)
-    ++ (word 20 t.info.name ++ (word 8 (kind_text t.info.kind) ++ location_text t.info.location)))))))
+task_text now t = cell 6 (id_text t.info.id) ++ (word 9 (task_state t.row)
+    ++ (times_text now t.row ++ (cell 6 (decimal t.row.polls) ++ (cell 6 (decimal t.row.wakes) ++ (cell 4 (share_text t.row.self_wakes t.row.wakes)
+    ++ (place_cell 15 t.info.location ++ (word 20 t.info.name ++ kind_text t.info.kind)))))))
 
 -- ---- resources and async operations
 

@@ -1,5 +1,5 @@
 -- Which items a screen shows, and in which order.
-use Rattle.std.specs.Prelude.{◌==◌, ◌&&◌, ◌||◌, ℕ, suc, List, [], ◌∷◌, ◌++◌, take, Bool, true, false, is_none, Option, Some, None, if◌then◌else◌}
+use Rattle.std.specs.Prelude.{◌==◌, ◌&&◌, ◌||◌, ◌-◌, ℕ, suc, List, [], ◌∷◌, ◌++◌, take, filter, length, Bool, true, false, is_none, Option, Some, None, if◌then◌else◌}
 use Rattle.tk_core.specs.declared.task.row.TaskRow.{TaskRow}
 use Rattle.tk_stream.specs.declared.tables.task.Task.{Task}
 use Rattle.tk_stream.specs.declared.tables.resource.Resource.{Resource}
@@ -8,6 +8,7 @@ use Rattle.tk_stream.specs.Tables.{TablesView, PollCounts, counts_of}
 use Rattle.tk_screen.specs.Rankings.{ranking}
 use Rattle.tk_screen.specs.declared.top.Ranked.{Ranked}
 use Rattle.tk_core.specs.Lasting.{busy_until, sched_until}
+use Rattle.tk_frame.specs.Typed.{typed_text}
 use Rattle.tk_frame.specs.declared.query.Column.{Column}
 use Rattle.tk_frame.specs.declared.query.Column.TheVariants.{Busy, Sched, Polls, Wakes, SelfWakes}
 use Rattle.tk_frame.specs.declared.query.Query.{Query}
@@ -31,13 +32,25 @@ abbrev pub stands_in : List ℕ → List ℕ → Bool
 stands_in part [] = begins part []
 stands_in part (y ∷ text) = begins part (y ∷ text) || stands_in part text
 
--- an open task is shown in whose name the text stands that was asked for
-abbrev pub is_shown : Query → Task → Bool
-is_shown query t = is_none t.row.dropped && stands_in query.filter.now t.info.name
+-- a text stands in the name of a task, or in that of the file where it was made
+abbrev pub names : List ℕ → Task → Bool
+names text t = stands_in text t.info.name || stands_in text t.info.location.file
 
--- the key of a task that is shown, at a moment: its number in the column
+-- an open task is shown which two texts name: the one that was asked for, and the one that was typed
+abbrev pub is_shown : Query → Task → Bool
+is_shown query t = is_none t.row.dropped && (names query.filter.now t && names (typed_text query.typed) t)
+
+-- how many tasks are shown, on one screen or on several
+abbrev pub shown_count : Query → TablesView → ℕ
+shown_count query tables = length (filter (is_shown query) tables.tasks)
+
+-- the rank of a number: the greatest is first, or the least
+abbrev pub rank_of : Bool → ℕ → ℕ
+rank_of rising n = if rising then 18446744073709551615 - n else n
+
+-- the key of a task that is shown, at a moment: the rank of its number in the column
 abbrev pub task_key : Query → ℕ → Task → Option ℕ
-task_key query now t = if is_shown query t then Some (number_in query.sort t.row now) else None
+task_key query now t = if is_shown query t then Some (rank_of query.rising (number_in query.sort t.row now)) else None
 
 -- the key of a resource that is shown, which is open: how many of its poll operations were pending
 abbrev pub resource_key_by : ℕ → Resource → Option ℕ
@@ -64,9 +77,9 @@ ranked_from key place (x ∷ xs) = rank_at (key x) place ++ ranked_from key (suc
 abbrev pub top_of : {X : Type 0} → (X → Option ℕ) → ℕ → List X → List Ranked
 top_of key rows xs = take rows (ranking (ranked_from key 0 xs))
 
--- what a screen shows of tables
-abbrev pub top_tasks : Query → TablesView → List Ranked
-top_tasks query tables = top_of (task_key query tables.now) query.rows tables.tasks
+-- what is shown of tables: the first so many
+abbrev pub top_tasks : Query → ℕ → TablesView → List Ranked
+top_tasks query rows tables = top_of (task_key query tables.now) rows tables.tasks
 
 abbrev pub top_resources : ℕ → TablesView → List Ranked
 top_resources rows tables = top_of (resource_key tables.counts) rows tables.resources

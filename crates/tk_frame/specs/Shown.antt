@@ -1,5 +1,5 @@
 -- The lines of a screen that keys ask for.
-use Rattle.std.specs.Prelude.{◌+◌, ℕ, List, [], ◌∷◌, ◌++◌, length, take, drop, slice_get, flat_map, codes, Bool, true, false, if◌then◌else◌}
+use Rattle.std.specs.Prelude.{◌+◌, ◌-◌, ℕ, List, [], ◌∷◌, ◌++◌, length, take, drop, slice_get, flat_map, codes, Bool, true, false, if◌then◌else◌}
 use Rattle.std.specs.Option.{option_map_or}
 use Rattle.tk_stream.specs.declared.tables.task.Task.{Task}
 use Rattle.tk_stream.specs.Tables.{TablesView}
@@ -9,16 +9,20 @@ use Rattle.tk_screen.specs.declared.top.Ranked.{Ranked}
 use Rattle.tk_frame.specs.Details.{details_at}
 use Rattle.tk_frame.specs.Findings.{OddView, findings_part}
 use Rattle.tk_frame.specs.Frames.{items_part, task_at}
-use Rattle.tk_frame.specs.Keys.{query_by}
-use Rattle.tk_frame.specs.Lines.{head_text, heading, plain, task_heading, task_text}
-use Rattle.tk_frame.specs.Queries.{top_tasks}
+use Rattle.tk_frame.specs.Keys.{canvas_by, query_by}
+use Rattle.tk_frame.specs.Lines.{as_text, head_text, heading, plain, task_heading, task_text}
+use Rattle.tk_frame.specs.Pages.{chosen_of, page_of, page_text, table_rows}
+use Rattle.tk_frame.specs.Queries.{shown_count, top_tasks}
 use Rattle.tk_frame.specs.States.{states_of}
 use Rattle.tk_frame.specs.declared.keys.Asked.{Asked}
 use Rattle.tk_frame.specs.declared.keys.Shown.{Shown}
 use Rattle.tk_frame.specs.declared.keys.Shown.TheVariants as shown
+use Rattle.tk_frame.specs.declared.pages.Page.{Page}
 use Rattle.tk_frame.specs.declared.query.Column.{Column}
 use Rattle.tk_frame.specs.declared.query.Column.TheVariants.{Busy, Sched, Polls, Wakes, SelfWakes}
+use Rattle.tk_frame.specs.Typed.{is_empty, typed_text}
 use Rattle.tk_frame.specs.declared.query.Query.{Query}
+use Rattle.tk_frame.specs.declared.typed.Typed.{Typed}
 
 -- the name of a column
 abbrev pub column_word : Column → List ℕ
@@ -28,13 +32,25 @@ column_word Polls = codes "polls"
 column_word Wakes = codes "wakes"
 column_word SelfWakes = codes "self-wakes"
 
+-- whether the least is first
+abbrev pub order_word : Bool → List ℕ
+order_word rising = if rising then codes ", least first" else []
+
+-- a text that names tasks, and what follows it
+abbrev pub named_by : Typed → List ℕ → List ℕ
+named_by t end = codes "  /" ++ (as_text (typed_text t) ++ end)
+
+-- the text that names tasks, where there is one or it is typed
+abbrev pub filter_word : Bool → Typed → List ℕ
+filter_word types t = if types then named_by t (codes "_") else (if is_empty t then [] else named_by t [])
+
 -- whether screens stay as they are
 abbrev pub paused_word : Bool → List ℕ
 paused_word paused = if paused then codes "  paused" else []
 
 -- the line that stands above a screen: how tasks are sorted, whether it is paused, and which key shows the others
 abbrev pub asked_text : Asked → List ℕ
-asked_text asked = codes "sorted by " ++ (column_word asked.sort ++ (paused_word asked.paused ++ codes "  ? shows the keys"))
+asked_text asked = codes "sorted by " ++ (column_word asked.sort ++ (order_word asked.rising ++ (filter_word asked.types asked.typed ++ (paused_word asked.paused ++ codes "  ? shows the keys"))))
 
 -- what each key does
 abbrev pub keys_part : List LineView
@@ -44,9 +60,14 @@ keys_part = heading (codes "KEY    WHAT IT DOES")
     ∷ plain (codes "p      sorts them by how many polls of them started")
     ∷ plain (codes "w      sorts them by how often they were woken")
     ∷ plain (codes "o      sorts them by how often they woke themselves")
-    ∷ plain (codes "r      shows resources and async operations, or not any more")
+    ∷ plain (codes "v      sorts them the other way round")
     ∷ plain (codes "j, k   chooses the task below, or above, as arrows do")
+    ∷ plain (codes "d, u   goes a page down, or up, as Page Down and Page Up do")
+    ∷ plain (codes "<, >   chooses the first task, or the last, as Home and End do")
     ∷ plain (codes "Enter  shows all of the chosen task, or not any more")
+    ∷ plain (codes "1..9   shows the task of the finding that has this number")
+    ∷ plain (codes "/      shows only tasks that a text names, by their name or their file; Enter ends it")
+    ∷ plain (codes "r      shows resources and async operations, or not any more")
     ∷ plain (codes "space  pauses, or goes on")
     ∷ plain (codes "?      shows this, or not any more")
     ∷ plain (codes "q      quits") ∷ []
@@ -60,11 +81,23 @@ abbrev pub rows_part : TablesView → List Ranked → ℕ → List LineView
 rows_part tables top chosen = flat_map (task_at tables) (take chosen top)
     ++ (option_map_or (chosen_at tables) (slice_get top chosen) [] ++ flat_map (task_at tables) (drop (chosen + 1) top))
 
--- the lines of tables as `frame_of` has them, with a task chosen
-abbrev pub choice_of : ℕ → Canvas → Query → TablesView → OddView → List LineView
-choice_of chosen canvas query tables odd =
+-- the tasks of these ranks that stand on a page, of which one is chosen, and how many there are
+abbrev pub page_part : TablesView → List Ranked → Page → ℕ → List LineView
+page_part tables top page chosen =
+    heading task_heading ∷ (rows_part tables (drop page.from top) (chosen_of chosen page.all - page.from) ++ (plain (page_text page) ∷ []))
+
+abbrev pub page_at : ℕ → Query → TablesView → Page → List LineView
+page_at chosen query tables page = page_part tables (top_tasks query page.to tables) page chosen
+
+-- the lines of tables as `frame_by` has them, with the page of the chosen task
+abbrev pub choice_by : ℕ → ℕ → Canvas → Query → TablesView → OddView → List LineView
+choice_by rows chosen canvas query tables odd =
     plain (head_text tables (states_of tables.tasks) (length odd.findings)) ∷ (findings_part canvas tables odd
-    ++ ((heading task_heading ∷ rows_part tables (top_tasks query tables) chosen) ++ items_part query tables))
+    ++ (page_at chosen query tables (page_of rows chosen (shown_count query tables)) ++ items_part rows query tables))
+
+-- the same, with as many rows as fit below one line
+abbrev pub choice_of : ℕ → Canvas → Query → TablesView → OddView → List LineView
+choice_of chosen canvas query tables odd = choice_by (table_rows canvas query odd 1) chosen canvas query tables odd
 
 -- what is shown, below the first line
 abbrev pub shown_part : Shown → Asked → Canvas → Query → TablesView → OddView → List LineView
@@ -76,6 +109,6 @@ shown_part (shown.Task id) asked canvas query tables odd = details_at id tables 
 abbrev pub lines_of : Asked → Canvas → Query → TablesView → OddView → List LineView
 lines_of asked canvas query tables odd = plain (asked_text asked) ∷ shown_part asked.shown asked canvas query tables odd
 
--- the screen of tables that keys ask for, as it is written
+-- the screen of tables that keys ask for, as it is written: of the size that the terminal has
 abbrev pub asked_screen : Canvas → Query → OddView → Asked → TablesView → List ℕ
-asked_screen canvas query odd asked tables = screen_text canvas (lines_of asked canvas query tables odd)
+asked_screen canvas query odd asked tables = screen_text (canvas_by canvas asked) (lines_of asked (canvas_by canvas asked) query tables odd)

@@ -4,6 +4,8 @@ use Rattle.tk_core.specs.declared.task.row.TaskRow.{TaskRow}
 use Rattle.tk_stream.specs.declared.tables.task.Task.{Task}
 use Rattle.tk_screen.specs.Rankings.{ranked_in}
 use Rattle.tk_screen.specs.declared.top.Ranked.{Ranked}
+use Rattle.tk_frame.specs.Queries.{is_shown}
+use Rattle.tk_frame.specs.declared.query.Query.{Query}
 use Rattle.tk_frame.specs.declared.ranks.States.{States}
 
 -- what is kept with one item more, where it has a key
@@ -17,6 +19,10 @@ and_task states x =
     if is_some x.dropped then record states { closed = states.closed + 1 } else
     (if x.polling then record states { polling = states.polling + 1 } else
     (if x.scheduled then record states { scheduled = states.scheduled + 1 } else record states { idle = states.idle + 1 }))
+
+-- how many were shown, with one task more
+abbrev pub counted_with : Query → ℕ → Task → ℕ
+counted_with query count t = if is_shown query t then count + 1 else count
 
 abbrev pub states_with : States → Task → States
 states_with states t = and_task states t.row

@@ -1,5 +1,5 @@
 //! Parts of lines.
-ghost use Rattle.std.specs.Prelude.{OnOk, IfSome, string_bytes};
+ghost use Rattle.std.specs.Prelude.{◌≡◌, OnOk, IfSome, string_bytes};
 ghost use Rattle.tk_screen.specs.Texts.{Puts, duration_text, share_text};
 ghost use Rattle.tk_frame.specs.Lines as spec;
 
@@ -73,6 +73,38 @@ pub(crate) fn put_part(
     room.clear();
     put_share(room, part, whole)?;
     put_cell(out, room.as_str(), width)
+}
+
+// Puts bytes at the left of a column, where they are text.
+fn put_bytes(out: &mut String, bytes: &[u8], width: usize) -> Result<(), AllocError>
+    ensures { OnOk result (Puts (string_bytes out.old) (string_bytes out.new) (spec.word width (spec.as_text bytes.now))) }
+{
+    match str::from_utf8(bytes) {
+        Ok(text) => put_word(out, text, width),
+        Err(_) => put_word(out, "", width),
+    }
+}
+
+// The end of a text, of at most so many bytes.
+fn end_of(width: usize, text: &[u8]) -> &[u8]
+    ensures { result.now ≡ spec.end_of width text.now }
+{
+    let skipped = text.len().saturating_sub(width);
+    &text[skipped..]
+}
+
+/// Puts a place in a source file in a column. Where it is longer its end is shown.
+pub(crate) fn put_end(
+    out: &mut String,
+    room: &mut String,
+    location: &Location,
+    width: usize,
+) -> Result<(), AllocError>
+    ensures { OnOk result (Puts (string_bytes out.old) (string_bytes out.new) (spec.place_cell width location.now)) }
+{
+    room.clear();
+    put_location(room, location)?;
+    put_bytes(out, end_of(width, room.as_bytes()), width)
 }
 
 /// Puts a place in a source file.

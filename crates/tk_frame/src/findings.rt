@@ -31,7 +31,8 @@ fn put_task_words(out: &mut String, name: &Name, id: TaskId) -> Result<(), Alloc
     write!(out, "{name} {id}")
 }
 
-fn put_place(out: &mut String, place: &[u8]) -> Result<(), AllocError>
+/// Puts bytes, where they are text.
+pub(crate) fn put_place(out: &mut String, place: &[u8]) -> Result<(), AllocError>
     ensures { OnOk result (Puts (string_bytes out.old) (string_bytes out.new) (spec.place_words place.now)) }
 {
     match str::from_utf8(place) {

@@ -3,10 +3,15 @@ ghost use Rattle.std.specs.Prelude.{◌≡◌, ◌+◌, ◌-◌, min, IfOk, slic
 ghost use Rattle.std.specs.Option.{option_map};
 ghost use Rattle.tk_frame.specs.Keys as spec;
 
+use crate::heard::{Action, Begun, Step, hear};
+use crate::odd::Odd;
+use crate::pages::{chosen_of, table_rows};
 use crate::query::{Column, Query};
-use crate::ranks::walk;
+use crate::ranks::{shown_count, walk};
+use crate::typed::{Typed, with_byte, without_last};
 use std::alloc::{AllocError, Global};
 use tk_ids::TaskId;
+use tk_screen::{Canvas, Size};
 use tk_stream::Tables;
 
 /// What a screen shows.
@@ -26,14 +31,24 @@ pub struct Asked {
     pub shown: Shown,
     /// By which column tasks are sorted.
     pub sort: Column,
+    /// Whether the least is first, and not the greatest.
+    pub rising: bool,
     /// Whether resources and async operations are shown too.
     pub resources: bool,
-    /// Which row of the tasks that are shown is chosen, from 0 on.
+    /// Which of the tasks that are shown is chosen, from 0 on. Where fewer are left it is the last.
     pub chosen: usize,
     /// Whether screens stay as they are while lines come.
     pub paused: bool,
     /// Whether the watch ends.
     pub quits: bool,
+    /// How large the terminal is, if it has said so since the start.
+    pub size: Option<Size>,
+    /// What has come of a key that is more than one byte.
+    pub begun: Begun,
+    /// A text that names each task that is shown.
+    pub typed: Typed,
+    /// Whether this text is typed.
+    pub types: bool,
 }
 
 impl Asked {
@@ -44,11 +59,41 @@ impl Asked {
         Asked {
             shown: Shown::Tables,
             sort: query.sort,
+            rising: query.rising,
             resources: query.resources,
             chosen: 0,
             paused: false,
             quits: false,
+            size: None,
+            begun: Begun::Nothing,
+            typed: query.typed,
+            types: false,
         }
+    }
+
+    /// What is drawn on, of the size that the terminal has now.
+    pub fn canvas(&self, canvas: Canvas) -> Canvas
+        ensures { result ≡ spec.canvas_by canvas self.now }
+    {
+        of_size(canvas, self.size)
+    }
+}
+
+fn of_size(canvas: Canvas, size: Option<Size>) -> Canvas
+    ensures { result ≡ spec.of_size canvas size }
+{
+    match canvas {
+        Canvas::Plain => Canvas::Plain,
+        Canvas::Terminal {
+            size: before,
+            colors,
+        } => match size {
+            Some(size) => Canvas::Terminal { size, colors },
+            None => Canvas::Terminal {
+                size: before,
+                colors,
+            },
+        },
     }
 }
 
@@ -58,24 +103,15 @@ pub(crate) fn query_by<'a>(query: &Query<'a>, asked: &Asked) -> Query<'a>
 {
     Query {
         sort: asked.sort,
+        rising: asked.rising,
         rows: query.rows,
         filter: query.filter,
+        typed: asked.typed,
         resources: asked.resources,
     }
 }
 
-fn column_of(key: u8) -> Option<Column>
-    ensures { result ≡ spec.column_of key }
-{
-    match key {
-        b'b' => Some(Column::Busy),
-        b's' => Some(Column::Sched),
-        b'p' => Some(Column::Polls),
-        b'w' => Some(Column::Wakes),
-        b'o' => Some(Column::SelfWakes),
-        _ => None,
-    }
-}
+// ---- what looks at no table
 
 fn sorted(column: Column, asked: Asked) -> Asked
     ensures { result ≡ spec.sorted column asked }
@@ -87,28 +123,11 @@ fn sorted(column: Column, asked: Asked) -> Asked
     }
 }
 
-fn next_row(rows: usize, chosen: usize) -> usize
-    ensures { result ≡ min (chosen + 1) (rows - 1) }
-{
-    let last = rows.saturating_sub(1);
-    if chosen < last { chosen + 1 } else { last }
-}
-
-fn below(rows: usize, asked: Asked) -> Asked
-    ensures { result ≡ spec.below rows asked }
+fn reversed(asked: Asked) -> Asked
+    ensures { result ≡ spec.reversed asked }
 {
     Asked {
-        chosen: next_row(rows, asked.chosen),
-        shown: Shown::Tables,
-        ..asked
-    }
-}
-
-fn above(asked: Asked) -> Asked
-    ensures { result ≡ spec.above asked }
-{
-    Asked {
-        chosen: asked.chosen.saturating_sub(1),
+        rising: !asked.rising,
         shown: Shown::Tables,
         ..asked
     }
@@ -143,34 +162,75 @@ fn explained(asked: Asked) -> Asked
     }
 }
 
-fn moved(asked: Asked, key: u8) -> Asked
-    ensures { result ≡ spec.moved asked key }
+fn turned(asked: Asked) -> Asked
+    ensures { result ≡ spec.turned asked }
 {
-    match key {
-        b'q' => Asked {
-            quits: true,
-            ..asked
-        },
-        b' ' => Asked {
-            paused: !asked.paused,
-            ..asked
-        },
-        b'?' => explained(asked),
-        b'r' => with_resources(asked),
-        b'k' => above(asked),
-        b'A' => above(asked),
+    Asked {
+        paused: !asked.paused,
+        ..asked
+    }
+}
+
+fn ended(asked: Asked) -> Asked
+    ensures { result ≡ spec.ended asked }
+{
+    Asked {
+        quits: true,
+        ..asked
+    }
+}
+
+fn resized(size: Size, asked: Asked) -> Asked
+    ensures { result ≡ spec.resized size asked }
+{
+    Asked {
+        size: Some(size),
+        ..asked
+    }
+}
+
+// Another text is typed.
+fn filtered(typed: Typed, types: bool, asked: Asked) -> Asked
+    ensures { result ≡ spec.filtered typed types asked }
+{
+    Asked {
+        typed,
+        types,
+        chosen: 0,
+        shown: Shown::Tables,
+        ..asked
+    }
+}
+
+fn typed_out(asked: Asked) -> Asked
+    ensures { result ≡ spec.typed_out asked }
+{
+    Asked {
+        types: false,
+        ..asked
+    }
+}
+
+fn acted_alone(asked: Asked, action: Action) -> Asked
+    ensures { result ≡ spec.acted_alone asked action }
+{
+    match action {
+        Action::Sort(column) => sorted(column, asked),
+        Action::Reverse => reversed(asked),
+        Action::Resources => with_resources(asked),
+        Action::Pause => turned(asked),
+        Action::Explain => explained(asked),
+        Action::Quit => ended(asked),
+        Action::Resize(size) => resized(size, asked),
+        Action::Filter => filtered(Typed::none(), true, asked),
+        Action::Put(byte) => filtered(with_byte(byte, asked.typed), true, asked),
+        Action::Erase => filtered(without_last(asked.typed), true, asked),
+        Action::Done => typed_out(asked),
         _ => asked,
     }
 }
 
-fn pressed_by(asked: Asked, key: u8) -> Asked
-    ensures { result ≡ spec.pressed_by asked key }
-{
-    match column_of(key) {
-        Some(column) => sorted(column, asked),
-        None => moved(asked, key),
-    }
-}
+// ---- choosing and opening
 
 fn or_task(shown: Shown, task: Option<TaskId>) -> Shown
     ensures { result ≡ spec.or_task shown task }
@@ -185,45 +245,6 @@ fn or_task(shown: Shown, task: Option<TaskId>) -> Shown
     }
 }
 
-fn task_at(tables: &Tables, place: usize) -> Option<TaskId>
-    ensures { result ≡ option_map (λ t. t.info.id) (slice_get tables.now.tasks place) }
-{
-    match tables.task_at(place) {
-        Some(task) => Some(task.info.id),
-        None => None,
-    }
-}
-
-// The task of the chosen row.
-fn chosen_task(
-    alloc: Global,
-    tables: &Tables,
-    query: &Query<'_>,
-    asked: &Asked,
-) -> Result<Option<TaskId>, AllocError>
-    ensures { IfOk result (λ task. task ≡ spec.chosen_task query.now tables.now asked.now) }
-{
-    let chosen = asked.chosen;
-    let (_, top) = walk(alloc, tables, &query_by(query, asked))?;
-    match top.items().get(chosen) {
-        Some(ranked) => Ok(task_at(tables, ranked.place)),
-        None => Ok(None),
-    }
-}
-
-// How many tasks are shown.
-fn shown_rows(
-    alloc: Global,
-    tables: &Tables,
-    query: &Query<'_>,
-    asked: &Asked,
-) -> Result<usize, AllocError>
-    ensures { IfOk result (λ rows. rows ≡ spec.shown_rows query.now tables.now asked.now) }
-{
-    let (_, top) = walk(alloc, tables, &query_by(query, asked))?;
-    Ok(top.items().len())
-}
-
 fn opened(task: Option<TaskId>, asked: Asked) -> Asked
     ensures { result ≡ spec.opened task asked }
 {
@@ -233,40 +254,179 @@ fn opened(task: Option<TaskId>, asked: Asked) -> Asked
     }
 }
 
-fn is_enter(key: u8) -> bool
-    ensures { result ≡ spec.is_enter key }
+fn or_shown(before: Shown, task: Option<TaskId>) -> Shown
+    ensures { result ≡ spec.or_shown before task }
 {
-    key == b'\n' || key == b'\r'
+    match task {
+        Some(id) => Shown::Task(id),
+        None => before,
+    }
 }
 
-// An arrow's key is three bytes, of which the last one tells which it is.
-fn is_below(key: u8) -> bool
-    ensures { result ≡ spec.is_below key }
+fn opened_at(task: Option<TaskId>, asked: Asked) -> Asked
+    ensures { result ≡ spec.opened_at task asked }
 {
-    key == b'j' || key == b'B'
+    Asked {
+        shown: or_shown(asked.shown, task),
+        ..asked
+    }
 }
 
-/// What is asked for once a key was pressed, while a screen shows these tables. `b`, `s`, `p`, `w` and `o` sort tasks by a column, `r`
-/// shows resources or doesn't, a space pauses or goes on, `j` and `k` choose a row, and so does the last byte of an arrow's key, Enter shows all of its task or not any more, `?`
-/// shows what keys do or not any more, and `q` ends the watch. Any other asks for nothing.
-///
-/// It fails where there is no memory to find which tasks are shown.
-pub fn press(
+fn task_at(tables: &Tables, place: usize) -> Option<TaskId>
+    ensures { result ≡ option_map (λ t. t.info.id) (slice_get tables.now.tasks place) }
+{
+    match tables.task_at(place) {
+        Some(task) => Some(task.info.id),
+        None => None,
+    }
+}
+
+// The task at a place of those that are shown.
+fn task_in(
+    alloc: Global,
+    tables: &Tables,
+    query: &Query<'_>,
+    chosen: usize,
+) -> Result<Option<TaskId>, AllocError>
+    ensures { IfOk result (λ task. task ≡ spec.task_in query.now tables.now chosen) }
+{
+    let Some(rows) = chosen.checked_add(1) else {
+        return Err(AllocError);
+    };
+    let (_, top) = walk(alloc, tables, query, rows)?;
+    match top.items().get(chosen) {
+        Some(ranked) => Ok(task_at(tables, ranked.place)),
+        None => Ok(None),
+    }
+}
+
+// The chosen task.
+fn chosen_task(
     alloc: Global,
     tables: &Tables,
     query: &Query<'_>,
     asked: &Asked,
+) -> Result<Option<TaskId>, AllocError>
+    ensures { IfOk result (λ task. task ≡ spec.chosen_task query.now tables.now asked.now) }
+{
+    let query = query_by(query, asked);
+    let chosen = chosen_of(asked.chosen, shown_count(tables, &query));
+    task_in(alloc, tables, &query, chosen)
+}
+
+// So many rows below a place, or the last.
+fn rows_below(place: usize, rows: usize, all: usize) -> usize
+    ensures { result ≡ min (place + rows) (all - 1) }
+{
+    let last = all.saturating_sub(1);
+    if rows < last.saturating_sub(place) {
+        place + rows
+    } else {
+        last
+    }
+}
+
+fn after_step(step: Step, rows: usize, all: usize, place: usize) -> usize
+    ensures { result ≡ spec.after_step step rows all place }
+{
+    match step {
+        Step::Below => rows_below(place, 1, all),
+        Step::Above => place.saturating_sub(1),
+        Step::PageBelow => rows_below(place, rows, all),
+        Step::PageAbove => place.saturating_sub(rows),
+        Step::First => 0,
+        Step::Last => all.saturating_sub(1),
+    }
+}
+
+fn choosing(place: usize, asked: Asked) -> Asked
+    ensures { result ≡ spec.choosing place asked }
+{
+    Asked {
+        chosen: place,
+        shown: Shown::Tables,
+        ..asked
+    }
+}
+
+fn moved(step: Step, rows: usize, all: usize, asked: Asked) -> Asked
+    ensures { result ≡ spec.moved step rows all asked }
+{
+    let place = after_step(step, rows, all, chosen_of(asked.chosen, all));
+    choosing(place, asked)
+}
+
+// Chooses another row of the tables that a screen shows.
+fn moved_on(
+    canvas: Canvas,
+    tables: &Tables,
+    odd: &Odd,
+    query: &Query<'_>,
+    asked: Asked,
+    step: Step,
+) -> Asked
+    ensures { result ≡ spec.acted canvas query.now odd.now tables.now asked (spec.moving step) }
+{
+    let query = query_by(query, &asked);
+    let rows = table_rows(asked.canvas(canvas), &query, odd, 1);
+    let all = shown_count(tables, &query);
+    moved(step, rows, all, asked)
+}
+
+// What an action makes of what was asked for.
+fn acted(
+    alloc: Global,
+    canvas: Canvas,
+    tables: &Tables,
+    odd: &Odd,
+    query: &Query<'_>,
+    asked: Asked,
+    action: Action,
+) -> Result<Asked, AllocError>
+    ensures { IfOk result (λ next. next ≡ spec.acted canvas query.now odd.now tables.now asked action) }
+{
+    match action {
+        Action::Open => {
+            let task = chosen_task(alloc, tables, query, &asked)?;
+            Ok(opened(task, asked))
+        }
+        Action::Finding(number) => Ok(opened_at(odd.task_at(number), asked)),
+        Action::Move(step) => Ok(moved_on(canvas, tables, odd, query, asked, step)),
+        other => Ok(acted_alone(asked, other)),
+    }
+}
+
+fn with_begun(begun: Begun, asked: Asked) -> Asked
+    ensures { result ≡ spec.with_begun begun asked }
+{
+    Asked { begun, ..asked }
+}
+
+/// What is asked for once a byte came from the terminal, while a screen of these tables and findings is drawn on this canvas.
+///
+/// - `b`, `s`, `p`, `w` and `o` sort tasks by a column, and `v` sorts them the other way round.
+/// - `j` and `k`, or arrows, choose a row; `n` does as `j`. `d` and `u`, or Page Down and Page Up, go a page further; `<` and `>`, or Home and End, go to the
+///   first and to the last task.
+/// - Enter shows all of the chosen task, or no more; a digit shows the task of the finding that has this number.
+/// - `/` begins a text, and shows the tasks alone that it names. A backspace takes its last byte back, and Enter ends it.
+/// - `r` shows resources and async operations, or no more; a space pauses, or goes on; `?` shows what keys do, or no more; `q` ends the watch.
+/// - `ESC [ 8 ; LINES ; COLUMNS t` is no key: by it a terminal says how large it is.
+///
+/// Any other asks for nothing. A key of several bytes counts with its last one.
+///
+/// It fails where there is no memory to find the chosen task.
+pub fn press(
+    alloc: Global,
+    canvas: Canvas,
+    tables: &Tables,
+    odd: &Odd,
+    query: &Query<'_>,
+    asked: &Asked,
     key: u8,
 ) -> Result<Asked, AllocError>
-    ensures { IfOk result (λ next. next ≡ spec.pressed query.now tables.now asked.now key) }
+    ensures { IfOk result (λ next. next ≡ spec.pressed canvas query.now odd.now tables.now asked.now key) }
 {
-    if is_enter(key) {
-        let task = chosen_task(alloc, tables, query, asked)?;
-        return Ok(opened(task, *asked));
-    }
-    if is_below(key) {
-        let rows = shown_rows(alloc, tables, query, asked)?;
-        return Ok(below(rows, *asked));
-    }
-    Ok(pressed_by(*asked, key))
+    let heard = hear(asked.types, asked.begun, key);
+    let before = with_begun(heard.begun, *asked);
+    acted(alloc, canvas, tables, odd, query, before, heard.action)
 }

@@ -1,29 +1,34 @@
 //! What a screen shows of tables: its lines, as a function of the tables, of what is odd about them and of what was asked for.
 //!
-//! - [`Query`], [`Column`]: what was asked for: which tasks, in which order, and whether resources.
+//! - [`Query`], [`Column`], [`Typed`]: what was asked for: which tasks, in which order, and whether resources.
 //! - [`Odd`]: what is told of what is odd.
 //! - [`frame`]: the lines of a screen.
 //! - [`Asked`], [`press`], [`asked_frame`]: what keys ask for, and the lines of the screen that they ask for.
-//! - [`walk`], [`States`]: how many tasks there are in each state, and those that are shown.
+//! - [`walk`], [`States`]: how many tasks there are in each state, and the first of those that are shown.
 #![tactic(auto)]
 
 mod cells;
 mod details;
 mod findings;
+mod heard;
 mod items;
 mod keys;
 mod lines;
 mod odd;
 mod odd_lines;
+mod pages;
 mod query;
 mod ranks;
 mod shown;
 mod tasks;
+mod typed;
 mod waiting;
 
+pub use heard::{Begun, Numbers};
 pub use keys::{Asked, Shown, press};
 pub use lines::frame;
 pub use odd::Odd;
 pub use query::{Column, Query};
 pub use ranks::{States, walk};
 pub use shown::asked_frame;
+pub use typed::Typed;

@@ -1,15 +1,17 @@
 //! The lines of a screen.
-ghost use Rattle.std.specs.Prelude.{◌≡◌, IfOk, OnOk, flat_map, ◌∷◌, []};
+ghost use Rattle.std.specs.Prelude.{◌≡◌, ◌<◌, IfOk, OnOk, drop, flat_map, ◌∷◌, []};
 ghost use Rattle.tk_screen.specs.Texts.{Puts};
 ghost use Rattle.tk_frame.specs.Frames as spec;
 ghost use Rattle.tk_frame.specs.Lines as texts;
+ghost use Rattle.tk_frame.specs.Pages.{page_text};
 
 use crate::items::{op_heading, op_line, resource_heading, resource_line};
 use crate::odd::Odd;
 use crate::odd_lines::push_findings;
+use crate::pages::{Page, page_of, table_rows};
 use crate::query::Query;
-use crate::ranks::{States, top_ops, top_resources, walk};
-use crate::tasks::{head_line, heading, task_heading, task_line};
+use crate::ranks::{States, shown_count, top_ops, top_resources, walk};
+use crate::tasks::{head_line, heading, page_line, task_heading, task_line};
 use std::alloc::{AllocError, Global};
 use tk_screen::{Canvas, Line, Ranked};
 use tk_stream::Tables;
@@ -129,18 +131,52 @@ pub(crate) fn push_items(
     alloc: Global,
     tables: &Tables,
     query: &Query<'_>,
+    rows: usize,
 ) -> Result<(), AllocError>
-    ensures { OnOk result (Puts lines.old.items lines.new.items (spec.items_part query.now tables.now)) }
+    ensures { OnOk result (Puts lines.old.items lines.new.items (spec.items_part rows query.now tables.now)) }
 {
     if !query.resources {
         return Ok(());
     }
-    let resources = top_resources(alloc, tables, query.rows)?;
+    let resources = top_resources(alloc, tables, rows)?;
     push_heading(lines, alloc, resource_heading())?;
     push_resources(lines, alloc, tables, resources.items())?;
-    let ops = top_ops(alloc, tables, query.rows)?;
+    let ops = top_ops(alloc, tables, rows)?;
     push_heading(lines, alloc, op_heading())?;
     push_ops(lines, alloc, tables, ops.items())?;
+    Ok(())
+}
+
+// The ranks that stand on a page, of those up to its end.
+pub(crate) fn ranks_on(top: &[Ranked], page: Page) -> &[Ranked]
+    ensures { result.now ≡ drop page.from top.now }
+{
+    match top.get(page.from..) {
+        Some(rest) => rest,
+        None => &top[..0],
+    }
+}
+
+pub(crate) fn push_page(lines: &mut Vec<Line>, alloc: Global, page: Page) -> Result<(), AllocError>
+    ensures { OnOk result (Puts lines.old.items lines.new.items (texts.plain (page_text page) ∷ [])) }
+{
+    lines.push(page_line(alloc, page)?)?;
+    Ok(())
+}
+
+// The tasks on a page, of these ranks up to its end.
+fn push_table(
+    lines: &mut Vec<Line>,
+    alloc: Global,
+    tables: &Tables,
+    top: &[Ranked],
+    page: Page,
+) -> Result<(), AllocError>
+    ensures { OnOk result (Puts lines.old.items lines.new.items (spec.table_part tables.now top.now page)) }
+{
+    push_heading(lines, alloc, task_heading())?;
+    push_tasks(lines, alloc, tables, ranks_on(top, page))?;
+    push_page(lines, alloc, page)?;
     Ok(())
 }
 
@@ -151,21 +187,24 @@ fn push_all(
     tables: &Tables,
     odd: &Odd,
     query: &Query<'_>,
+    rows: usize,
 ) -> Result<(), AllocError>
-    ensures { OnOk result (Puts lines.old.items lines.new.items (spec.frame_of canvas query.now tables.now odd.now)) }
+    requires { 0 < rows }
+    ensures { OnOk result (Puts lines.old.items lines.new.items (spec.frame_by rows canvas query.now tables.now odd.now)) }
 {
-    let (states, top) = walk(alloc, tables, query)?;
+    let page = page_of(rows, 0, shown_count(tables, query));
+    let (states, top) = walk(alloc, tables, query, page.to)?;
     push_head(lines, alloc, tables, states, odd.count())?;
     push_findings(lines, alloc, canvas, tables, odd)?;
-    push_heading(lines, alloc, task_heading())?;
-    push_tasks(lines, alloc, tables, top.items())?;
-    push_items(lines, alloc, tables, query)?;
+    push_table(lines, alloc, tables, top.items(), page)?;
+    push_items(lines, alloc, tables, query, rows)?;
     Ok(())
 }
 
 /// The lines of a screen of tables of which this is odd: the first line, with the moment, the tasks by their states, how many findings
 /// there are and what was lost; that no finding holds now, where it is so; the worst findings, as many as a third of the screen's rows,
-/// and how many more there are; the open tasks of most; and where they were asked for, open resources and async operations.
+/// and how many more there are; the open tasks of most, as many as have room, and how many there are; and where they were asked for, open
+/// resources and async operations.
 /// `docs/FORMATS.md` has their words.
 ///
 /// It fails where there is no memory.
@@ -178,7 +217,8 @@ pub fn frame(
 ) -> Result<Vec<Line>, AllocError>
     ensures { IfOk result (λ lines. lines.items ≡ spec.frame_of canvas query.now tables.now odd.now) }
 {
+    let rows = table_rows(canvas, query, odd, 0);
     let mut lines = Vec::new(alloc);
-    push_all(&mut lines, alloc, canvas, tables, odd, query)?;
+    push_all(&mut lines, alloc, canvas, tables, odd, query, rows)?;
     Ok(lines)
 }

@@ -1,8 +1,10 @@
 //! What is told of what is odd.
 ghost use Rattle.std.specs.Prelude.{◌≡◌, length, map};
 ghost use Rattle.tk_odd.specs.Findings.{placed};
+ghost use Rattle.tk_frame.specs.Keys.{finding_task};
 
 use std::marker::Model;
+use tk_ids::TaskId;
 use tk_odd::Found;
 
 /// What is told of what is odd about a stream's tasks. Times are nanoseconds.
@@ -40,6 +42,16 @@ impl Odd {
         ensures { map placed result.now ≡ self.now.findings }
     {
         self.findings.as_slice()
+    }
+
+    /// The task that the finding at a number names, from 1 on.
+    pub(crate) fn task_at(&self, number: usize) -> Option<TaskId>
+        ensures { result ≡ finding_task self.now number }
+    {
+        match self.findings.as_slice().get(number.saturating_sub(1)) {
+            Some(found) => found.finding.task,
+            None => None,
+        }
     }
 
     /// How many findings there are.

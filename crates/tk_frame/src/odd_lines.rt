@@ -15,8 +15,8 @@ use tk_stream::{Tables, Task};
 
 // ---- the first findings
 
-// How many findings a screen shows: a third of its rows.
-fn most_of(canvas: Canvas) -> usize
+/// How many findings a screen shows: a third of its rows.
+pub(crate) fn most_of(canvas: Canvas) -> usize
     ensures { result ≡ spec.most_of canvas }
 {
     let rows = match canvas {
@@ -96,7 +96,8 @@ fn push_list(
 
 // ---- nothing holds now
 
-fn any_now(list: &[Found]) -> bool
+/// Whether one of them holds now.
+pub(crate) fn any_now(list: &[Found]) -> bool
     ensures { result ≡ spec.any_now (map placed list.now) }
 {
     for found in list {

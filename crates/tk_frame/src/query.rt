@@ -2,6 +2,7 @@
 ghost use Rattle.std.specs.Prelude.{◌≡◌};
 ghost use Rattle.tk_frame.specs.Queries as spec;
 
+use crate::typed::Typed;
 use tk_core::TaskRow;
 use tk_stream::{Op, Resource, Task};
 
@@ -25,10 +26,15 @@ pub enum Column {
 pub struct Query<'a> {
     /// By which column tasks are sorted.
     pub sort: Column,
-    /// How many tasks are shown at most, and where they are asked for as many resources, and as many async operations.
-    pub rows: usize,
-    /// A text that stands in the name of each task that is shown.
+    /// Whether the least is first, and not the greatest.
+    pub rising: bool,
+    /// How many tasks stand on a screen at most, and where they are asked for as many resources, and as many async operations. `None` asks for as many as
+    /// have room on a terminal, and as text for 20.
+    pub rows: Option<usize>,
+    /// A text that stands in the name of each task that is shown, or in that of the file where it was made.
     pub filter: &'a [u8],
+    /// A further text of this kind, which was typed at keys.
+    pub typed: Typed,
     /// Whether resources and async operations are shown too.
     pub resources: bool,
 }
@@ -72,10 +78,24 @@ fn stands_in(part: &[u8], text: &[u8]) -> bool
     }
 }
 
-fn is_shown(query: &Query<'_>, task: &Task) -> bool
+fn names(text: &[u8], task: &Task) -> bool
+    ensures { result ≡ spec.names text.now task.now }
+{
+    stands_in(text, task.info.name.as_bytes())
+        || stands_in(text, task.info.location.file.as_bytes())
+}
+
+/// Whether a task is shown, on this screen or on another.
+pub(crate) fn is_shown(query: &Query<'_>, task: &Task) -> bool
     ensures { result ≡ spec.is_shown query.now task.now }
 {
-    task.row.dropped.is_none() && stands_in(query.filter, task.info.name.as_bytes())
+    task.row.dropped.is_none() && names(query.filter, task) && names(query.typed.text(), task)
+}
+
+fn rank_of(rising: bool, number: u64) -> u64
+    ensures { result ≡ spec.rank_of rising number }
+{
+    if rising { u64::MAX - number } else { number }
 }
 
 /// The key of a task that is shown.
@@ -83,7 +103,8 @@ pub(crate) fn task_key(query: &Query<'_>, task: &Task, now: u64) -> Option<u64>
     ensures { result ≡ spec.task_key query.now now task.now }
 {
     if is_shown(query, task) {
-        Some(number_in(query.sort, &task.row, now))
+        let number = number_in(query.sort, &task.row, now);
+        Some(rank_of(query.rising, number))
     } else {
         None
     }

@@ -5,7 +5,7 @@ ghost use Rattle.tk_frame.specs.Queries as spec;
 ghost use Rattle.tk_frame.specs.States as states;
 ghost use Rattle.tk_frame.specs.Walks as inner;
 
-use crate::query::{Query, op_key, resource_key, task_key};
+use crate::query::{Query, is_shown, op_key, resource_key, task_key};
 use std::alloc::{AllocError, Global};
 use tk_core::TaskRow;
 use tk_screen::{Ranked, Top};
@@ -69,13 +69,18 @@ fn take_task(
     and_task(states, &task.row)
 }
 
-/// How many tasks there are in each state, and the places of those that are shown, in order: the greatest in the column first,
-/// and of equal ones the earlier. It looks at each task once.
+/// How many tasks there are in each state, and the places of the first of those that are shown: the greatest in the column first, or
+/// the least, and of equal ones the earlier. It looks at each task once.
 ///
-/// It fails where there is no memory for one place more than the query has rows.
-pub fn walk(alloc: Global, tables: &Tables, query: &Query<'_>) -> Result<(States, Top), AllocError>
+/// It fails where there is no memory for one place more than so many rows.
+pub fn walk(
+    alloc: Global,
+    tables: &Tables,
+    query: &Query<'_>,
+    rows: usize,
+) -> Result<(States, Top), AllocError>
     ensures states { IfOk result (λ p. p.0 ≡ states.states_of tables.now.tasks) }
-    ensures top { IfOk result (λ p. p.1.items ≡ spec.top_tasks query.now tables.now) }
+    ensures top { IfOk result (λ p. p.1.items ≡ spec.top_tasks query.now rows tables.now) }
 {
     let mut states = States {
         polling: 0,
@@ -83,11 +88,37 @@ pub fn walk(alloc: Global, tables: &Tables, query: &Query<'_>) -> Result<(States
         idle: 0,
         closed: 0,
     };
-    let mut top = Top::new(alloc, query.rows)?;
+    let mut top = Top::new(alloc, rows)?;
     for place in 0..tables.task_count() {
         states = take_task(states, &mut top, query, tables, place);
     }
     Ok((states, top))
+}
+
+// Counts the task at a place, if it is shown.
+fn count_task(count: usize, query: &Query<'_>, tables: &Tables, place: usize) -> usize
+    requires { count + 1 < 2 ^ 64 }
+    ensures { result ≡ option_map_or (inner.counted_with query.now count) (slice_get tables.now.tasks place) count }
+{
+    match tables.task_at(place) {
+        Some(task) => if is_shown(query, task) {
+            count + 1
+        } else {
+            count
+        },
+        None => count,
+    }
+}
+
+/// How many tasks are shown, on one screen or on several.
+pub(crate) fn shown_count(tables: &Tables, query: &Query<'_>) -> usize
+    ensures { result ≡ spec.shown_count query.now tables.now }
+{
+    let mut count = 0;
+    for place in 0..tables.task_count() {
+        count = count_task(count, query, tables, place);
+    }
+    count
 }
 
 fn offer_resource(top: &mut Top, tables: &Tables, place: usize)

@@ -1,5 +1,5 @@
 //! The lines of a screen that keys ask for.
-ghost use Rattle.std.specs.Prelude.{◌≡◌, ◌+◌, ◌∷◌, [], drop, slice_get, take, IfOk, OnOk, string_bytes};
+ghost use Rattle.std.specs.Prelude.{◌≡◌, ◌<◌, ◌+◌, ◌∷◌, [], drop, slice_get, take, IfOk, OnOk, string_bytes};
 ghost use Rattle.std.specs.Option.{option_map_or};
 ghost use Rattle.tk_screen.specs.Texts.{Puts};
 ghost use Rattle.tk_frame.specs.Lines as texts;
@@ -7,13 +7,16 @@ ghost use Rattle.tk_frame.specs.Shown as spec;
 
 use crate::cells::put_text;
 use crate::details::{push_details, push_plain};
+use crate::findings::put_place;
 use crate::keys::{Asked, Shown, query_by};
-use crate::lines::{push_head, push_heading, push_items, push_tasks};
+use crate::lines::{push_head, push_heading, push_items, push_page, push_tasks, ranks_on};
 use crate::odd::Odd;
 use crate::odd_lines::push_findings;
+use crate::pages::{Page, chosen_of, page_of, table_rows};
 use crate::query::{Column, Query};
-use crate::ranks::walk;
+use crate::ranks::{shown_count, walk};
 use crate::tasks::{chosen_line, task_heading};
+use crate::typed::Typed;
 use std::alloc::{AllocError, Global};
 use tk_screen::{Canvas, Line, Ranked, Style};
 use tk_stream::Tables;
@@ -30,10 +33,38 @@ fn column_word(column: Column) -> &'static str
     }
 }
 
+fn order_word(rising: bool) -> &'static str
+    ensures { result.now ≡ spec.order_word rising }
+{
+    if rising { ", least first" } else { "" }
+}
+
 fn paused_word(paused: bool) -> &'static str
     ensures { result.now ≡ spec.paused_word paused }
 {
     if paused { "  paused" } else { "" }
+}
+
+fn put_text_of(out: &mut String, typed: &Typed, end: &str) -> Result<(), AllocError>
+    ensures { OnOk result (Puts (string_bytes out.old) (string_bytes out.new) (spec.named_by typed.now end.now)) }
+{
+    put_text(out, "  /")?;
+    put_place(out, typed.text())?;
+    put_text(out, end)?;
+    Ok(())
+}
+
+// Puts the text that names tasks, where there is one or it is typed.
+fn put_filter(out: &mut String, types: bool, typed: &Typed) -> Result<(), AllocError>
+    ensures { OnOk result (Puts (string_bytes out.old) (string_bytes out.new) (spec.filter_word types typed.now)) }
+{
+    if types {
+        return put_text_of(out, typed, "_");
+    }
+    if typed.is_empty() {
+        return Ok(());
+    }
+    put_text_of(out, typed, "")
 }
 
 fn put_asked(out: &mut String, asked: &Asked) -> Result<(), AllocError>
@@ -41,6 +72,8 @@ fn put_asked(out: &mut String, asked: &Asked) -> Result<(), AllocError>
 {
     put_text(out, "sorted by ")?;
     put_text(out, column_word(asked.sort))?;
+    put_text(out, order_word(asked.rising))?;
+    put_filter(out, asked.types, &asked.typed)?;
     put_text(out, paused_word(asked.paused))?;
     put_text(out, "  ? shows the keys")?;
     Ok(())
@@ -56,7 +89,7 @@ fn push_asked(lines: &mut Vec<Line>, alloc: Global, asked: &Asked) -> Result<(),
 }
 
 fn push_columns(lines: &mut Vec<Line>, alloc: Global) -> Result<(), AllocError>
-    ensures { OnOk result (Puts lines.old.items lines.new.items (take 6 spec.keys_part)) }
+    ensures { OnOk result (Puts lines.old.items lines.new.items (take 7 spec.keys_part)) }
 {
     push_heading(lines, alloc, "KEY    WHAT IT DOES")?;
     push_plain(
@@ -84,17 +117,13 @@ fn push_columns(lines: &mut Vec<Line>, alloc: Global) -> Result<(), AllocError>
         alloc,
         "o      sorts them by how often they woke themselves",
     )?;
+    push_plain(lines, alloc, "v      sorts them the other way round")?;
     Ok(())
 }
 
-fn push_others(lines: &mut Vec<Line>, alloc: Global) -> Result<(), AllocError>
-    ensures { OnOk result (Puts lines.old.items lines.new.items (drop 6 spec.keys_part)) }
+fn push_steps(lines: &mut Vec<Line>, alloc: Global) -> Result<(), AllocError>
+    ensures { OnOk result (Puts lines.old.items lines.new.items (take 5 (drop 7 spec.keys_part))) }
 {
-    push_plain(
-        lines,
-        alloc,
-        "r      shows resources and async operations, or not any more",
-    )?;
     push_plain(
         lines,
         alloc,
@@ -103,7 +132,38 @@ fn push_others(lines: &mut Vec<Line>, alloc: Global) -> Result<(), AllocError>
     push_plain(
         lines,
         alloc,
+        "d, u   goes a page down, or up, as Page Down and Page Up do",
+    )?;
+    push_plain(
+        lines,
+        alloc,
+        "<, >   chooses the first task, or the last, as Home and End do",
+    )?;
+    push_plain(
+        lines,
+        alloc,
         "Enter  shows all of the chosen task, or not any more",
+    )?;
+    push_plain(
+        lines,
+        alloc,
+        "1..9   shows the task of the finding that has this number",
+    )?;
+    Ok(())
+}
+
+fn push_others(lines: &mut Vec<Line>, alloc: Global) -> Result<(), AllocError>
+    ensures { OnOk result (Puts lines.old.items lines.new.items (drop 12 spec.keys_part)) }
+{
+    push_plain(
+        lines,
+        alloc,
+        "/      shows only tasks that a text names, by their name or their file; Enter ends it",
+    )?;
+    push_plain(
+        lines,
+        alloc,
+        "r      shows resources and async operations, or not any more",
     )?;
     push_plain(lines, alloc, "space  pauses, or goes on")?;
     push_plain(lines, alloc, "?      shows this, or not any more")?;
@@ -115,6 +175,7 @@ fn push_keys(lines: &mut Vec<Line>, alloc: Global) -> Result<(), AllocError>
     ensures { OnOk result (Puts lines.old.items lines.new.items spec.keys_part) }
 {
     push_columns(lines, alloc)?;
+    push_steps(lines, alloc)?;
     push_others(lines, alloc)?;
     Ok(())
 }
@@ -190,6 +251,24 @@ fn push_rows(
     Ok(())
 }
 
+// The tasks on a page, of these ranks up to its end, of which one is chosen.
+fn push_choices(
+    lines: &mut Vec<Line>,
+    alloc: Global,
+    tables: &Tables,
+    top: &[Ranked],
+    page: Page,
+    chosen: usize,
+) -> Result<(), AllocError>
+    ensures { OnOk result (Puts lines.old.items lines.new.items (spec.page_part tables.now top.now page chosen)) }
+{
+    let row = chosen_of(chosen, page.all).saturating_sub(page.from);
+    push_heading(lines, alloc, task_heading())?;
+    push_rows(lines, alloc, tables, ranks_on(top, page), row)?;
+    push_page(lines, alloc, page)?;
+    Ok(())
+}
+
 fn push_tables(
     lines: &mut Vec<Line>,
     alloc: Global,
@@ -198,15 +277,17 @@ fn push_tables(
     odd: &Odd,
     query: &Query<'_>,
     chosen: usize,
+    rows: usize,
 ) -> Result<(), AllocError>
-    ensures { OnOk result (Puts lines.old.items lines.new.items (spec.choice_of chosen canvas query.now tables.now odd.now)) }
+    requires { 0 < rows }
+    ensures { OnOk result (Puts lines.old.items lines.new.items (spec.choice_by rows chosen canvas query.now tables.now odd.now)) }
 {
-    let (states, top) = walk(alloc, tables, query)?;
+    let page = page_of(rows, chosen, shown_count(tables, query));
+    let (states, top) = walk(alloc, tables, query, page.to)?;
     push_head(lines, alloc, tables, states, odd.count())?;
     push_findings(lines, alloc, canvas, tables, odd)?;
-    push_heading(lines, alloc, task_heading())?;
-    push_rows(lines, alloc, tables, top.items(), chosen)?;
-    push_items(lines, alloc, tables, query)?;
+    push_choices(lines, alloc, tables, top.items(), page, chosen)?;
+    push_items(lines, alloc, tables, query, rows)?;
     Ok(())
 }
 
@@ -226,7 +307,8 @@ fn push_shown(
         Shown::Tables => {
             let query = query_by(query, asked);
             let chosen = asked.chosen;
-            push_tables(lines, alloc, canvas, tables, odd, &query, chosen)
+            let rows = table_rows(canvas, &query, odd, 1);
+            push_tables(lines, alloc, canvas, tables, odd, &query, chosen, rows)
         }
         Shown::Keys => push_keys(lines, alloc),
         Shown::Task(id) => push_details(lines, alloc, tables, odd, id),
@@ -234,7 +316,7 @@ fn push_shown(
 }
 
 /// The lines of a screen that keys ask for, of tables of which this is odd: how tasks are sorted and whether it is paused, and then the
-/// tables as `frame` shows them, with a task chosen; or what each key does; or all that is told of a task. `docs/FORMATS.md` has
+/// tables as `frame` shows them, with the page of the chosen task; or what each key does; or all that is told of a task. `docs/FORMATS.md` has
 /// their words.
 ///
 /// It fails where there is no memory.

@@ -2,8 +2,10 @@
 ghost use Rattle.std.specs.Prelude.{◌≡◌, ◌++◌, codes, decimal, IfOk, OnOk, string_bytes};
 ghost use Rattle.tk_screen.specs.Texts.{Puts};
 ghost use Rattle.tk_frame.specs.Lines as spec;
+ghost use Rattle.tk_frame.specs.Pages.{page_text};
 
-use crate::cells::{put_location, put_part, put_text, put_time, put_value, put_word};
+use crate::cells::{put_end, put_part, put_text, put_time, put_value, put_word};
+use crate::pages::{Page, put_page};
 use crate::ranks::States;
 use std::alloc::{AllocError, Global};
 use std::fmt::Write;
@@ -81,6 +83,15 @@ pub(crate) fn head_line(
     Ok(Line::new(Style::Plain, text))
 }
 
+/// The line that says how many tasks stand on a page, and of how many.
+pub(crate) fn page_line(alloc: Global, page: Page) -> Result<Line, AllocError>
+    ensures { IfOk result (λ line. line ≡ spec.plain (page_text page)) }
+{
+    let mut text = String::new(alloc);
+    put_page(&mut text, page)?;
+    Ok(Line::new(Style::Plain, text))
+}
+
 /// A heading.
 pub(crate) fn heading(alloc: Global, text: &str) -> Result<Line, AllocError>
     ensures { IfOk result (λ line. line ≡ spec.heading text.now) }
@@ -93,7 +104,7 @@ pub(crate) fn heading(alloc: Global, text: &str) -> Result<Line, AllocError>
 pub(crate) fn task_heading() -> &'static str
     ensures { result.now ≡ spec.task_heading }
 {
-    "   TASK STATE          BUSY     SCHED   POLLS   WAKES SELF NAME                 KIND     LOCATION"
+    "  TASK STATE         BUSY    SCHED  POLLS  WAKES SELF LOCATION        NAME                 KIND"
 }
 
 // How long a task has run and waited.
@@ -101,8 +112,8 @@ fn put_times(out: &mut String, room: &mut String, row: &TaskRow, now: u64) -> Re
     ensures { OnOk result (Puts (string_bytes out.old) (string_bytes out.new) (spec.times_text now row.now)) }
 {
     let busy = row.busy_until(now);
-    put_time(out, room, busy, 9)?;
-    put_time(out, room, row.sched_until(now), 9)?;
+    put_time(out, room, busy, 8)?;
+    put_time(out, room, row.sched_until(now), 8)?;
     Ok(())
 }
 
@@ -110,15 +121,15 @@ fn put_task(out: &mut String, room: &mut String, task: &Task, now: u64) -> Resul
     ensures { OnOk result (Puts (string_bytes out.old) (string_bytes out.new) (spec.task_text now task.now)) }
 {
     let Task { info, row } = task;
-    put_value(out, room, &info.id, 7)?;
+    put_value(out, room, &info.id, 6)?;
     put_word(out, task_state(row), 9)?;
     put_times(out, room, row, now)?;
-    put_value(out, room, &row.polls, 7)?;
-    put_value(out, room, &row.wakes, 7)?;
+    put_value(out, room, &row.polls, 6)?;
+    put_value(out, room, &row.wakes, 6)?;
     put_part(out, room, row.self_wakes, row.wakes, 4)?;
+    put_end(out, room, &info.location, 15)?;
     put_word(out, info.name.as_str(), 20)?;
-    put_word(out, kind_word(info.kind), 8)?;
-    put_location(out, &info.location)?;
+    put_text(out, kind_word(info.kind))?;
     Ok(())
 }
 

@@ -1,9 +1,10 @@
 pub mod PageLemmas
 pub mod HistoryLemmas
+pub mod TrackLemmas
+pub mod GainLemmas
 pub mod LoopLemmas
 pub mod RankLemmas
 pub mod DrawLemmas
-pub mod Counting
 pub mod Leading
 pub mod CardLemmas
 pub mod PlaceLemmas

@@ -1,5 +1,5 @@
 -- What a page is drawn of besides tables: the courses of their tasks, and what is told of the lines.
-use Rattle.std.specs.Prelude.{◌≡◌, ℕ, List, length}
+use Rattle.std.specs.Prelude.{◌≡◌, ℕ, List, length, slice_get, unwrap_or}
 use Rattle.tk_core.specs.Lists.{capped}
 use Rattle.tk_paper.specs.Courses.{CourseView, IsCourse}
 use Rattle.tk_stream.specs.Tables.{TablesView}
@@ -19,7 +19,14 @@ pub record Courses : Type 0 where
 
 -- the courses of a history
 abbrev pub courses_of : History → Courses
-courses_of h = record { kept = kept_of h; sums = h.sums.kept; last = h.last; lines = h.lines; first = h.first; gone = h.gone }
+courses_of h = record {
+  kept = kept_of h;
+  sums = h.sums.kept;
+  last = h.last;
+  lines = length h.moments.items;
+  first = unwrap_or (slice_get h.moments.items 0) 0;
+  gone = h.gone;
+}
 
 -- the samples that are kept of a task are a course of these
 pub record AreKept (xs kept : List Sample) : Type 0 where

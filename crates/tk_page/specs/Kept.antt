@@ -1,15 +1,18 @@
 -- What is kept of the lines of a stream: of each task the course of just its lines, what all tasks gained, and how many left.
-use Rattle.std.specs.Prelude.{◌≡◌, ℕ, ◌+◌, ◌^◌, ◌≤◌, ◌<◌, ◌==◌, nat_eq, Bool, false, not, List, [], ◌∷◌, ◌++◌, length, Option, Some, None, is_some, unwrap_or, if◌then◌else◌, map, fold, flat_map, reverse, take_while, slice_get, count_by}
-use Rattle.std.specs.List.{IsDistinct, last_or}
+use Rattle.std.specs.Prelude.{◌≡◌, ℕ, ◌+◌, ◌≤◌, nat_eq, Bool, not, List, [], ◌∷◌, ◌++◌, length, Option, Some, None, is_some, unwrap_or, if◌then◌else◌, map, fold, flat_map, reverse, take_while, slice_get, count_by, drop}
+use Rattle.std.specs.List.{last_or}
 use Rattle.std.specs.Map.{lookup}
 use Rattle.std.specs.Option.{option_map_or}
 use Rattle.indexmap.specs.IndexMap.{get}
 use Rattle.tk_core.specs.Lists.{capped}
+use Rattle.tk_core.specs.declared.task.row.TaskRow.{TaskRow}
 use Rattle.tk_stream.specs.declared.tables.task.Task.{Task}
-use Rattle.tk_stream.specs.Tables.{TablesView, empty_tables, task_id, task_with}
-use Rattle.tk_paper.specs.Courses.{IsCourse}
+use Rattle.tk_stream.specs.Tables.{TablesView, empty_tables, is_among, task_id, task_with}
+use Rattle.tk_odd.specs.Keeping.{lasts_in, row_in}
+use Rattle.tk_paper.specs.Courses.{CourseView, IsCourse, no_items, with_item, with_items}
 use Rattle.tk_page.specs.declared.history.History.{History}
-use Rattle.tk_page.specs.declared.history.Track.{Track}
+use Rattle.tk_page.specs.declared.track.Track.{Track}
+use Rattle.tk_page.specs.declared.tracks.Tracks.{Tracks}
 use Rattle.tk_page.specs.declared.sample.Sample.{Sample}
 use Rattle.tk_page.specs.Samples.{gained, nothing, plus, sample_of}
 
@@ -85,54 +88,75 @@ gone_of shown = gone_from empty_tables shown
 
 -- ---- what is kept
 
--- a track tells of these samples of a task after so many lines: it is the course of them, of which it knows the last, or is of lines
--- before the last one, where the task has none
-pub record Follows (lines : ℕ) (xs : List Sample) (track : Track) : Type 0 where
-  pub within : track.lines ≤ lines
-  pub fresh : track.lines ≡ lines → IsCourse xs track.course
-  pub last : track.lines ≡ lines → last_or None xs ≡ Some track.last
-  pub stale : track.lines < lines → xs ≡ []
+-- the moments of lines
+abbrev pub moments_of : List TablesView → List ℕ
+moments_of shown = map (λ (t : TablesView). t.now) shown
 
--- the same where there may be no track
-abbrev pub FollowsAt : ℕ → List Sample → Option Track → Type 0
-FollowsAt lines xs None = xs ≡ []
-FollowsAt lines xs (Some track) = Follows lines xs track
+-- what a task had come to at moments, whose row was the same at all of them
+abbrev pub samples_at : TaskRow → List ℕ → List Sample
+samples_at row moments = map (sample_of row) moments
+
+-- the course of a track after the lines at these moments: the task was as it was last told at those that the track doesn't have yet
+abbrev pub caught_up : List ℕ → Track → CourseView Sample
+caught_up moments track = with_items track.course (samples_at track.row (drop track.lines moments))
+
+-- the track of a task that comes after the lines at these moments
+abbrev pub begun : List ℕ → TaskRow → Track
+begun moments row = record { course = no_items; row = row; lines = length moments }
+
+-- a track after one line more, which tells of its task
+abbrev pub told_again : List ℕ → ℕ → TaskRow → Track → Track
+told_again moments now row track = record { course = with_item (caught_up moments track) (sample_of row now); row = row; lines = length moments + 1 }
+
+-- the track of a task after one line more, which tells of it: none where the task isn't there
+abbrev pub told_track : List ℕ → ℕ → Option TaskRow → Option Track → Option Track
+told_track moments now None track = None
+told_track moments now (Some row) None = Some (told_again moments now row (begun moments row))
+told_track moments now (Some row) (Some track) = Some (told_again moments now row track)
+
+-- what a task had come to at a moment, by its track; nothing where it has none
+abbrev pub come_by : ℕ → Option Track → Sample
+come_by moment track = option_map_or (λ (t : Track). sample_of t.row moment) track (nothing 0)
+
+-- a sum with what a task of tables gained since a moment, by its track
+abbrev pub with_gain_by : ℕ → TablesView → Tracks → Sample → Task → Sample
+with_gain_by moment tables tracks sum t = plus sum (gained (sample_of t.row tables.now) (come_by moment (get nat_eq tracks.tasks (task_id t))))
+
+-- a track tells of a task after the lines at these moments: with the lines since those that it has it is the course of the task's
+-- samples, and it has the row that the task has now
+pub record Follows (moments : List ℕ) (xs : List Sample) (now : Option TaskRow) (track : Track) : Type 0 where
+  pub within : track.lines ≤ length moments
+  pub row : now ≡ Some track.row
+  pub course : IsCourse xs (caught_up moments track)
+
+-- the same where there may be no track: then there is no task
+abbrev pub FollowsAt : List ℕ → List Sample → Option TaskRow → Option Track → Type 0
+FollowsAt moments xs now None = (now ≡ None) × (xs ≡ [])
+FollowsAt moments xs now (Some track) = Follows moments xs now track
 
 -- the track of a task stands there
 abbrev pub StandsAt : List (ℕ × Track) → ℕ → ℕ → Type 0
 StandsAt entries i id = (track : Track) × (slice_get entries i ≡ Some (id, track)) × (lookup (nat_eq id) entries ≡ Some track)
 
--- a track stays where it is of the last of so many lines
-abbrev pub kept_at : ℕ → Option Track → Option Track
-kept_at lines None = None
-kept_at lines (Some track) = if track.lines == lines then Some track else None
-
--- a track is of the last of so many lines
-abbrev pub is_fresh : ℕ → Option Track → Bool
-is_fresh lines track = option_map_or (λ t. t.lines == lines) track false
-
--- a track is as it was, or stays where it is of the last of so many lines
-abbrev pub StaysOr : ℕ → Option Track → Option Track → Type 0
-StaysOr lines old new = (xs : List Sample) → lines ≤ 2 ^ 62 + 1 → FollowsAt lines xs old → FollowsAt lines xs new
+-- tracks tell of the tasks of the last of tables, and which of these run or wait
+pub record AreTracks (shown : List TablesView) (tracks : Tracks) : Type 0 where
+  pub tasks : (id : ℕ) → FollowsAt (moments_of shown) (samples_of id shown) (row_in (last_of shown) id) (get nat_eq tracks.tasks id)
+  pub lasting : (id : ℕ) → is_among tracks.lasting.keys id ≡ lasts_in (last_of shown) id
 
 -- the samples that are kept of a task
 abbrev pub kept_of : History → ℕ → List Sample
-kept_of history id = option_map_or (λ track. if track.lines == history.lines then track.course.kept else []) (get nat_eq history.tasks id) []
+kept_of history id = option_map_or (λ (track : Track). (caught_up history.moments.items track).kept) (get nat_eq history.tracks.tasks id) []
 
 -- the moment of the first of tables
 abbrev pub first_of : List TablesView → ℕ
 first_of [] = 0
 first_of (tables ∷ more) = tables.now
 
--- a history tells of the tables after each line: how many there are, when the first was, of each task the course of just its lines,
--- what all tasks gained, and how many left. It has a track of each task of the last tables, and no other
+-- a history tells of the tables after each line: the moment of each, of each task the course of just its lines, what all tasks
+-- gained, and how many left
 pub record Tells (shown : List TablesView) (history : History) : Type 0 where
-  pub lines : history.lines ≡ length shown
-  pub first : history.first ≡ first_of shown
-  pub tracks : (id : ℕ) → FollowsAt (length shown) (samples_of id shown) (get nat_eq history.tasks id)
-  pub there : (id : ℕ) → is_some (get nat_eq history.tasks id) ≡ has_task id (last_of shown)
-  pub count : length history.tasks.entries ≡ length (last_of shown).tasks
-  pub distinct : IsDistinct nat_eq (map task_id (last_of shown).tasks)
+  pub moments : history.moments.items ≡ moments_of shown
+  pub tracks : AreTracks shown history.tracks
   pub gone : history.gone ≡ capped (gone_of shown)
   pub sums : IsCourse (totals_of shown) history.sums
   pub last : history.last ≡ total_of shown

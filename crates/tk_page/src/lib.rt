@@ -18,6 +18,8 @@ mod resources;
 mod sample;
 mod strips;
 mod tasks;
+mod track;
+mod tracks;
 mod view;
 mod waiting;
 

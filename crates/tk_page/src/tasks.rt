@@ -420,14 +420,10 @@ fn put_row(
         (option_map_or (spec.row scale signs.now (courses_of history.now)) (slice_get tables.now.tasks place) [])) }
 {
     match tables.task_at(place) {
-        Some(task) => put_task(
-            paper,
-            alloc,
-            scale,
-            signs,
-            task,
-            history.of(task.info.id.value()),
-        ),
+        Some(task) => {
+            let course = history.of(task.info.id.value())?;
+            put_task(paper, alloc, scale, signs, task, course.kept())
+        }
         None => paper.put(&[]),
     }
 }

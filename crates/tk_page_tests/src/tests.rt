@@ -236,3 +236,36 @@ fn a_course_keeps_each_kth_number(rt: HostRuntime) {
     assert!(rt; keeps(rt.alloc(), 65, 2, 33));
     assert!(rt; keeps(rt.alloc(), 1000, 16, 63));
 }
+
+// The same, where numbers that aren't kept are passed over.
+fn hurried_course_of(alloc: Global, count: usize) -> Result<Course<u64>, AllocError> {
+    let mut course = Course::new(alloc);
+    let mut next = 0usize;
+    for k in 0..count {
+        if k == next {
+            course.push(k as u64)?;
+            next = k
+                .saturating_add(1)
+                .saturating_add(course.pass(count - k - 1));
+        }
+    }
+    course.copied(alloc)
+}
+
+// Whether the same is kept either way.
+fn keeps_the_same(alloc: Global, count: usize) -> bool {
+    let Ok(each) = course_of(alloc, count as u64) else {
+        return false;
+    };
+    let Ok(hurried) = hurried_course_of(alloc, count) else {
+        return false;
+    };
+    each.kept() == hurried.kept()
+}
+
+#[test]
+fn numbers_that_are_not_kept_can_be_passed_over(rt: HostRuntime) {
+    for count in [0usize, 64, 65, 129, 1000] {
+        assert!(rt; keeps_the_same(rt.alloc(), count), "{count}");
+    }
+}

@@ -1,10 +1,12 @@
 -- Items of a list, a multiple of a number apart.
-use Rattle.std.proofs.Common.{◌≡◌, ℕ, suc, ◌+◌, ◌*◌, ◌-◌, ◌^◌, ◌≤◌, ◌<◌, ◌⊎◌, inl, inr, ⊎_elim, List, [], ◌∷◌, ◌++◌, length, get_or, ap, sym, ◌∙◌, arith, subst, length-append}
-use Rattle.std.proofs.lemmas.List.{get_or_append_left}
+use Rattle.std.proofs.Common.{◌≡◌, ℕ, zero, suc, ◌+◌, ◌*◌, ◌-◌, ◌^◌, ◌≤◌, ◌<◌, ◌⊎◌, inl, inr, ⊎_elim, List, [], ◌∷◌, ◌++◌, length, get_or, min, Bool, true, false, cond, nat_eq, refl, ap, sym, ◌∙◌, arith, subst, length-append}
+use Rattle.std.specs.Prelude.{fold}
+use Rattle.std.proofs.lemmas.Bool.{eqb-false, eqb-true}
+use Rattle.std.proofs.lemmas.List.{ext_get_or, get_or_append_left, get_or_past}
 use Rattle.std.proofs.Math.Seq.{get_or-append_seam}
 use Rattle.std.proofs.Math.Nat.{eq-or-lt_of_le}
 use Rattle.std.proofs.lemmas.Nat.{mul-le}
-use Rattle.tk_paper.specs.Courses.{KeepsEach}
+use Rattle.tk_paper.specs.Courses.{CourseView, IsCourse, KeepsEach, every_second, with_item, with_kept, with_room}
 
 -- a number's next multiple
 next : (i k : ℕ) → suc i * k ≡ i * k + k
@@ -85,3 +87,93 @@ module _ {A : Type 0} (xs kept : List A) (every : ℕ) (x : A) where
         rw b (let e = next-add (length kept) every in omega (arith, a, e, is, some, c.come));
     short = omega (arith, is, some);
   }
+
+-- ---- one item after the other
+
+module _ {A : Type 0} where
+  length_seconds : (n : ℕ) (xs : List A) → length xs ≡ 2 * n → length (every_second xs) ≡ n
+  length_seconds n [] e = omega (arith, e)
+  length_seconds n (x ∷ []) e = absurd (omega (arith, e))
+  length_seconds n (x ∷ y ∷ xs) e = let r = length_seconds (n - 1) xs (omega (arith, e)) in omega (arith, r, e)
+
+  get_seconds : (xs : List A) (i : ℕ) (d : A) → get_or (every_second xs) i d ≡ get_or xs (2 * i) d
+  get_seconds [] i d = get_or_past [] i d (omega arith) ∙ sym (get_or_past [] (2 * i) d (omega arith))
+  get_seconds (x ∷ []) zero d = refl
+  get_seconds (x ∷ []) (suc i) d = get_or_past (x ∷ []) (suc i) d (omega arith) ∙ sym (get_or_past (x ∷ []) (2 * suc i) d (omega arith))
+  get_seconds (x ∷ y ∷ xs) zero d = refl
+  get_seconds (x ∷ y ∷ xs) (suc i) d =
+      let e : suc (suc (2 * i)) ≡ 2 * suc i = omega arith in
+      get_seconds xs i d ∙ ap (λ n. get_or (x ∷ y ∷ xs) n d) e
+
+  -- the items that stay where every second one is let go
+  pub seconds : (kept now : List A) → length kept ≡ 64 → length now ≡ 32 → ((d : A) (i : ℕ) → i < 32 → get_or now i d ≡ get_or kept (2 * i) d) → now ≡ every_second kept
+  seconds [] now full half moved = absurd (omega (arith, full))
+  seconds (x ∷ xs) now full half moved =
+      ext_get_or x now (every_second (x ∷ xs)) (half ∙ sym (length_seconds 32 (x ∷ xs) (omega (arith, full))))
+      (λ i lt. moved x i (omega (arith, lt, half)) ∙ sym (get_seconds (x ∷ xs) i x))
+
+  -- room is made
+  pub roomed : (kept now : List A) (every skip twice : ℕ) → length kept ≡ 64 → now ≡ every_second kept → twice ≡ min (every * 2) (2 ^ 64 - 1)
+      → record { kept = now; every = twice; skip = skip } ≡ with_room (record { kept = kept; every = every; skip = skip })
+  roomed kept now every skip twice full is e = rw (full, is, e) refl
+
+  abbrev before_next : CourseView A → ℕ → CourseView A
+  before_next c n = record { kept = c.kept; every = c.every; skip = n }
+
+  unkept : (c : CourseView A) (x : A) → 0 < c.skip → with_item c x ≡ before_next c (c.skip - 1)
+  unkept c x some = by (nat_eq c.skip 0) refl
+    where
+      by : (b : Bool) → nat_eq c.skip 0 ≡ b → cond b (with_kept (with_room c) x) (before_next c (c.skip - 1)) ≡ before_next c (c.skip - 1)
+      by true e = absurd (omega (arith, some, eqb-true c.skip 0 e))
+      by false e = refl
+
+  -- items that aren't kept
+  pub passes : (xs : List A) (c : CourseView A) → length xs ≤ c.skip → before_next c (c.skip - length xs) ≡ fold with_item c xs
+  passes [] c h = let e : c.skip - 0 ≡ c.skip = omega arith in ap (before_next c) e
+  passes (x ∷ xs) c h =
+      let less : c.skip - suc (length xs) ≡ c.skip - 1 - length xs = omega arith in
+      ap (before_next c) less
+      ∙ passes xs (before_next c (c.skip - 1)) (omega (arith, h))
+      ∙ ap (λ (d : CourseView A). fold with_item d xs) (sym (unkept c x (omega (arith, h))))
+
+  -- a course with room is one of the same items
+  record HasRoom (xs : List A) (c : CourseView A) : Type 0 where
+    room : length c.kept ≤ 63
+    some : 1 ≤ c.every
+    same : KeepsEach xs c.kept c.every 0
+
+  room_is : (xs : List A) (c : CourseView A) → length xs ≤ 2 ^ 62 → c.skip ≡ 0 → IsCourse xs c → HasRoom xs (with_room c)
+  room_is xs c few none h = by (nat_eq (length c.kept) 64) refl
+    where
+      all : KeepsEach xs c.kept c.every 0
+      all = subst (λ s. KeepsEach xs c.kept c.every s) none h
+
+      some : 1 ≤ c.every
+      some = omega (arith, h.short)
+
+      thinned : CourseView A
+      thinned = record { kept = every_second c.kept; every = min (c.every * 2) (2 ^ 64 - 1); skip = c.skip }
+
+      by : (b : Bool) → nat_eq (length c.kept) 64 ≡ b → HasRoom xs (cond b thinned c)
+      by true e =
+          let full = eqb-true (length c.kept) 64 e in
+          let half = length_seconds 32 c.kept (omega (arith, full)) in
+          let few_between = bounded xs c.kept (every_second c.kept) c.every few full all in
+          let is : 2 * c.every ≡ min (c.every * 2) (2 ^ 64 - 1) = omega (arith, few_between) in
+          record {
+            room = omega (arith, half);
+            some = omega (arith, is, some);
+            same = subst (λ k. KeepsEach xs (every_second c.kept) k 0) is (thins xs c.kept (every_second c.kept) c.every full half (λ d i lt. get_seconds c.kept i d) some all);
+          }
+      by false e = record { room = omega (arith, h.few, eqb-false (length c.kept) 64 e); some = some; same = all }
+
+  -- a course with one item more is that of the list with it
+  pub with_item_is : (xs : List A) (c : CourseView A) (x : A) → length xs ≤ 2 ^ 62 → IsCourse xs c → IsCourse (xs ++ x ∷ []) (with_item c x)
+  with_item_is xs c x few h = by (nat_eq c.skip 0) refl
+    where
+      by : (b : Bool) → nat_eq c.skip 0 ≡ b → IsCourse (xs ++ x ∷ []) (cond b (with_kept (with_room c) x) (before_next c (c.skip - 1)))
+      by true e =
+          let r = with_room c in
+          let f = room_is xs c few (eqb-true c.skip 0 e) h in
+          keeps xs r.kept r.every x f.room f.some f.same (r.every - 1) refl
+      by false e = skips xs c.kept c.every c.skip x (c.skip - 1) (omega (arith, eqb-false c.skip 0 e)) h

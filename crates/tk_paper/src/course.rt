@@ -1,7 +1,8 @@
 //! What is kept of a list that is given item by item: every k-th item, and at most 64.
 //!
 //! `specs/Courses.antt` says which items these are.
-ghost use Rattle.std.specs.Prelude.{◌≡◌, ◌≤◌, ◌<◌, ◌*◌, ◌^◌, ◌∷◌, ◌++◌, [], ℕ, List, length, get_or, OnOk, OnErr};
+ghost use Rattle.std.specs.Prelude.{◌≡◌, ◌≤◌, ◌<◌, ◌*◌, ◌^◌, ◌∷◌, ◌++◌, [], ℕ, List, length, get_or, OnOk, OnErr, IfOk};
+ghost use Rattle.tk_paper.specs.Courses as spec;
 ghost use Rattle.tk_paper.specs.Courses.{IsCourse};
 
 use std::alloc::{AllocError, Global};
@@ -47,7 +48,8 @@ fn thin<T: Copy>(kept: &mut Vec<T>)
 impl<T: Copy> Course<T> {
     /// The course of no items. It takes no memory.
     pub fn new(alloc: Global) -> Course<T>
-        ensures { IsCourse [] result }
+        ensures course { IsCourse [] result }
+        ensures none { result ≡ spec.no_items }
     {
         Course {
             kept: Vec::new(alloc),
@@ -68,6 +70,7 @@ impl<T: Copy> Course<T> {
         requires { self.old.skip ≡ 0 }
         ensures skip { self.new.skip ≡ 0 }
         ensures less { length self.old.kept ≤ 64 → length self.new.kept ≤ 63 }
+        ensures is { self.new ≡ spec.with_room self.old }
         ensures same { (xs : List T) → length xs ≤ 2 ^ 62 → IsCourse xs self.old → IsCourse xs self.new }
     {
         if self.kept.len() != SAMPLES {
@@ -83,6 +86,7 @@ impl<T: Copy> Course<T> {
     pub fn push(&mut self, item: T) -> Result<(), AllocError>
         ensures ok { (xs : List T) → length xs ≤ 2 ^ 62 → IsCourse xs self.old → OnOk result (IsCourse (xs ++ item ∷ []) self.new) }
         ensures err { (xs : List T) → length xs ≤ 2 ^ 62 → IsCourse xs self.old → OnErr result (IsCourse xs self.new) }
+        ensures item { OnOk result (self.new ≡ spec.with_item self.old item) }
     {
         if self.skip > 0 {
             self.skip -= 1;
@@ -92,5 +96,27 @@ impl<T: Copy> Course<T> {
         self.kept.push(item)?;
         self.skip = self.every - 1;
         Ok(())
+    }
+
+    /// Passes over as many of the next items as are not kept, at most so many, and answers how many. What they are doesn't matter, and it costs the
+    /// same however many there are.
+    pub fn pass(&mut self, most: usize) -> usize
+        ensures few { result ≤ most }
+        ensures items { (xs : List T) → length xs ≡ result → self.new ≡ spec.with_items self.old xs }
+    {
+        let passed = self.skip.min(most as u64);
+        self.skip -= passed;
+        passed as usize
+    }
+
+    /// The same course once more.
+    pub fn copied(&self, alloc: Global) -> Result<Course<T>, AllocError>
+        ensures { IfOk result (λ course. course ≡ self.now) }
+    {
+        Ok(Course {
+            kept: Vec::from_slice(alloc, self.kept.as_slice())?,
+            every: self.every,
+            skip: self.skip,
+        })
     }
 }

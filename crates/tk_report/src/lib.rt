@@ -5,7 +5,7 @@
 //!   [`view_stream_with`], [`TimesOptions`], [`Viewed`]: with what is known of how long polls ran.
 //! - [`Ended`]: how long a poll is known to have run, by two rows of its task.
 //! - [`laws`]: what warning lines tell of.
-//! - [`put_task`]: the line of a task.
+//! - [`put_task`]: the line of a task. [`put_task_lines`]: with its histograms below it. [`put_histogram`]: what a histogram says.
 //! - [`kind_word`], [`task_state`], [`op_state`], [`run_time`]: what a report says of a task and of an async operation.
 //! - [`VERSION`]: that of the program.
 //! - [`AppFault`]: what a run of the program stops at.
@@ -27,7 +27,8 @@ pub use lines::put_task;
 pub use options::TimesOptions;
 pub use reporting::report;
 pub use runs::Ended;
-pub use timed::timed_report_with;
+pub use timed::{put_task_lines, timed_report_with};
+pub use times::put_histogram;
 pub use tk_fault::AppFault;
 pub use version::VERSION;
 pub use view::{View, Viewed, view_stream, view_stream_with};

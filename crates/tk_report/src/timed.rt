@@ -28,7 +28,9 @@ fn put_below_if(
     }
 }
 
-fn put_task_lines(
+/// Puts the line of a task, and below it, if they are shown, how long its polls ran and how long it waited, as far as these histograms say it.
+/// `AllocError`: there was no memory, and a front of it was put.
+pub fn put_task_lines(
     out: &mut String,
     times: &Table<(TaskId, PollTimes)>,
     shown: bool,

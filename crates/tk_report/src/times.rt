@@ -130,8 +130,9 @@ fn put_total(out: &mut String, word: &str, counts: &[u64; 14]) -> Result<(), All
     put(out, word, &total_of(counts))
 }
 
-// Puts what a histogram says, after a word that says of what.
-fn put_histogram(
+/// Puts what a histogram says, after a word that says of what: how many times it counts, the longest, and where it counts any three percentiles.
+/// `AllocError`: there was no memory, and a front of it was put.
+pub fn put_histogram(
     out: &mut String,
     word: &str,
     longest: u64,

@@ -2,7 +2,6 @@
 use Rattle.std.proofs.Common.{◌≡◌, ℕ, List, [], ◌∷◌, ◌++◌, Bool, true, false, not, Option, Some, None, Ok, Err, refl, ap, sym, ◌∙◌, subst, ⊎_elim, inl, inr, append_assoc, append-nil, true≢false}
 use Rattle.std.specs.Io.KnownBytes.{Appends}
 use Rattle.std.specs.List.{fold, list_all}
-use Rattle.std.specs.Option.{option_map_or}
 use Rattle.std.specs.Prelude.{is_some}
 use Rattle.std.proofs.lemmas.List.Sums.{fold-append}
 use Rattle.std.proofs.KnownBytes.{Appends-nil, Appends-trans}
@@ -20,10 +19,10 @@ use Rattle.tk_reading.specs.Taken.{HasTaken}
 use Rattle.tk_reading.proofs.ReadLemmas.{begins}
 use Rattle.tk_stream.specs.Sent.{IsCut}
 use Rattle.tk_stream.specs.Tables.{TablesView}
-use Rattle.tk_watch.specs.Keyed.{Coming, IsOver, Loses, Standing, WatchesKeys, after, at_first, broken, drawn, drawn_at, drawn_from, due, key, piece, shown_of, standing, is_no_key, text_of}
+use Rattle.tk_watch.specs.Keyed.{Coming, IsOver, Loses, Standing, WatchesKeys, after, asked_after, at_first, broken, drawn, drawn_at, drawn_from, due, key, piece, shown_of, standing, is_no_key, text_of}
 use Rattle.tk_watch.specs.Course.{Sees}
 use Rattle.tk_watch.specs.Drawing.{Sends, SendsBefore}
-use Rattle.tk_watch.specs.Keying.{Goes, Holds, IsFirst, Keying, SendsAt, Shows, Stands, held_then, holding, screen_after, tables_of}
+use Rattle.tk_watch.specs.Keying.{Goes, Holds, IsFirst, Keying, SendsAt, Shows, Stands, held_then, holding, pressed_after, screen_after}
 use Rattle.tk_watch.specs.Odd.{odd_in, seen_in}
 use Rattle.tk_watch.specs.Watching.{TakesTo}
 use Rattle.tk_watch.specs.declared.drawing.Screen.{Screen}
@@ -83,12 +82,6 @@ paused_stays screen events more paused none =
 -- ---- what is held
 
 module _ (lints : LintsView) where
-  -- the tables that are shown are those of the bytes that are
-  tables_shown : (tables : TablesView) (paused : Bool) (shown all : List ℕ) (held : Option Held) → tables_in (outcome_of all) ≡ tables
-      → Holds lints paused shown all held → option_map_or (λ (h : Held). h.tables) held tables ≡ tables_in (outcome_of shown)
-  tables_shown tables paused shown all None are h = sym are ∙ ap (λ b. tables_in (outcome_of b)) (sym h.1)
-  tables_shown tables paused shown all (Some x) are h = h.1
-
   -- a piece more came
   holds_on : (paused : Bool) (shown all more : List ℕ) (held : Option Held) → Holds lints paused shown all held → Holds lints paused (shown_of paused shown more) more held
   holds_on paused shown all more None h = (h.0, subst (λ p. shown_of p shown more ≡ more) (sym h.0) refl)
@@ -129,6 +122,24 @@ none_is screen st s shows is =
     ∙ ap (λ b. asked_screen screen.canvas screen.query (odd_in screen.lints b) s.asked (tables_in (outcome_of b))) (sym holds.1)
     ∙ ap (λ a. asked_screen screen.canvas screen.query (odd_in screen.lints st.shown) a (tables_in (outcome_of st.shown))) shows.asked
 
+-- what keys ask for, while what is held is shown
+pub held_pressed : (screen : Screen) (st : Standing) (s : Session) (h : Held) (k : ℕ) → Shows screen.lints st s → s.held ≡ Some h
+    → pressed screen.canvas screen.query h.odd h.tables s.asked k ≡ asked_after screen st k
+held_pressed screen st s h k shows is =
+    let holds : Holds screen.lints st.asked.paused st.shown st.bytes (Some h) = subst (Holds screen.lints st.asked.paused st.shown st.bytes) is shows.holds in
+    ap (λ o. pressed screen.canvas screen.query o h.tables s.asked k) holds.2
+    ∙ ap (λ t. pressed screen.canvas screen.query (odd_in screen.lints st.shown) t s.asked k) holds.1
+    ∙ ap (λ a. pressed screen.canvas screen.query (odd_in screen.lints st.shown) (tables_in (outcome_of st.shown)) a k) shows.asked
+
+-- or what a client has come to
+pub none_pressed : (screen : Screen) (st : Standing) (s : Session) (k : ℕ) → Shows screen.lints st s → s.held ≡ None
+    → pressed_after screen (seen_in st.bytes) s.asked s.course.client.start.tables k ≡ asked_after screen st k
+none_pressed screen st s k shows is =
+    let holds : Holds screen.lints st.asked.paused st.shown st.bytes None = subst (Holds screen.lints st.asked.paused st.shown st.bytes) is shows.holds in
+    ap (λ t. pressed_after screen (seen_in st.bytes) s.asked t k) (sym shows.tables)
+    ∙ ap (λ b. pressed screen.canvas screen.query (odd_in screen.lints b) (tables_in (outcome_of b)) s.asked k) (sym holds.1)
+    ∙ ap (λ a. pressed screen.canvas screen.query (odd_in screen.lints st.shown) (tables_in (outcome_of st.shown)) a k) shows.asked
+
 -- ---- steps
 
 -- nothing came
@@ -157,9 +168,6 @@ module _ (screen : Screen) (given left : Option (List Coming)) (s : Session) (ol
   -- what stands
   abbrev st : Standing
   st = standing screen w.events
-
-  tables_are : tables_of s ≡ tables_in (outcome_of st.shown)
-  tables_are = tables_shown screen.lints s.course.client.start.tables st.asked.paused st.shown st.bytes s.held w.stands.shows.tables w.stands.shows.holds
 
   -- it stops, and nothing of what came last is drawn
   pub stops_keys : (new : Option (List Coming)) (e : Coming) → Loses left new (e ∷ []) → WatchesKeys screen given new (Err faults.Memory) old wrote
@@ -227,14 +235,11 @@ module _ (screen : Screen) (given left : Option (List Coming)) (s : Session) (ol
   draws_no_due new then (faults.Script line name) lost sent = absurd sent
 
   -- a key was pressed
-  module _ (new : Option (List Coming)) (k : ℕ) (lost : Loses left new (key k ∷ [])) (then : Session) (asked : then.asked ≡ pressed screen.query (tables_of s) s.asked k)
+  module _ (new : Option (List Coming)) (k : ℕ) (lost : Loses left new (key k ∷ [])) (then : Session) (asked : then.asked ≡ asked_after screen st k)
       (same : then.course ≡ s.course) (lines : then.lines ≡ s.lines)
       (turns : then.held ≡ held_then then.asked.paused s.held (holding screen.lints (seen_in st.bytes) s.course.client.start.tables)) where
     asked_is : then.asked ≡ (standing screen (w.events ++ key k ∷ [])).asked
-    asked_is =
-        asked ∙ ap (λ a. pressed screen.query (tables_of s) a k) w.stands.shows.asked
-        ∙ ap (λ t. pressed screen.query t (standing screen w.events).asked k) tables_are
-        ∙ ap (λ (t : Standing). t.asked) (sym (standing_more screen w.events (key k)))
+    asked_is = asked ∙ ap (λ (t : Standing). t.asked) (sym (standing_more screen w.events (key k)))
 
     stands_then : Stands screen.lints (after screen st (key k)) then
     stands_then =

@@ -74,9 +74,9 @@ at_first screen = record { asked = first_asked screen.query; bytes = []; shown =
 abbrev pub shown_of : Bool → List ℕ → List ℕ → List ℕ
 shown_of paused before all = if paused then before else all
 
--- what keys ask for once a key was pressed, of the tables that are shown
+-- what keys ask for once a key was pressed, of the tables and findings that are shown
 abbrev pub asked_after : Screen → Standing → ℕ → Asked
-asked_after screen s k = pressed screen.query (tables_in (outcome_of s.shown)) s.asked k
+asked_after screen s k = pressed screen.canvas screen.query (odd_in screen.lints s.shown) (tables_in (outcome_of s.shown)) s.asked k
 
 -- what stands once this came
 abbrev pub after : Screen → Standing → Coming → Standing

@@ -1,11 +1,10 @@
 -- How far a watch at keys has come. Inner: no public clause cites this.
 use Rattle.std.specs.Prelude.{◌≡◌, ℕ, List, Bool, true, false, Option, Some, None, is_some, if◌then◌else◌, Result, Ok, Err}
 use Rattle.std.specs.Io.KnownBytes.{Appends}
-use Rattle.std.specs.Option.{option_map_or}
 use Rattle.tk_client.specs.Warnings.{LintsView}
 use Rattle.tk_fault.specs.declared.fault.AppFault.{AppFault}
 use Rattle.tk_fault.specs.declared.fault.AppFault.TheVariants as faults
-use Rattle.tk_frame.specs.Keys.{first_asked}
+use Rattle.tk_frame.specs.Keys.{first_asked, pressed}
 use Rattle.tk_frame.specs.Shown.{asked_screen}
 use Rattle.tk_frame.specs.declared.keys.Asked.{Asked}
 use Rattle.tk_reading.specs.Fronts.{tables_in}
@@ -20,13 +19,13 @@ use Rattle.tk_watch.specs.declared.drawing.Screen.{Screen}
 use Rattle.tk_watch.specs.declared.session.Held.{Held}
 use Rattle.tk_watch.specs.declared.session.Session.{Session}
 
--- the tables that are shown: those that are held, or else the client's
-abbrev pub tables_of : Session → TablesView
-tables_of s = option_map_or (λ (h : Held). h.tables) s.held s.course.client.start.tables
-
 -- the screen that keys ask for of tables to which these lines came
 abbrev pub screen_after : Screen → List TablesView → Asked → TablesView → List ℕ
 screen_after screen shown asked tables = asked_screen screen.canvas screen.query (odd_after screen.lints shown tables) asked tables
+
+-- what keys ask for once a key was pressed, while tables are shown to which these lines came
+abbrev pub pressed_after : Screen → List TablesView → Asked → TablesView → ℕ → Asked
+pressed_after screen shown asked tables k = pressed screen.canvas screen.query (odd_after screen.lints shown tables) tables asked k
 
 -- tables to which these lines came, and what is odd about them
 abbrev pub holding : LintsView → List TablesView → TablesView → Held

@@ -1,18 +1,17 @@
 //! A stream that is watched by a person at keys.
 ghost use Rattle.std.specs.Prelude.{◌≡◌, ◌≤◌, ◌+◌, ◌^◌, ◌∷◌, [], ℕ, List, Option, length};
-ghost use Rattle.tk_frame.specs.Keys.{pressed};
-ghost use Rattle.tk_watch.specs.Keyed.{Coming, IsWithin, Loses, WatchesKeys, coming, piece, key, due};
+ghost use Rattle.tk_watch.specs.Keyed.{Coming, IsWithin, Loses, Standing, WatchesKeys, asked_after, coming, piece, key, due};
 ghost use Rattle.tk_watch.specs.Keying as spec;
 
 use crate::drawing::Screen;
 use crate::seen::Course;
-use crate::session::{Session, draw, tables_of, turn};
+use crate::session::{Session, draw, press_on, turn};
 use crate::source::{Event, Source};
 use crate::watching::feed_more;
 use std::alloc::Global;
 use std::io::Write;
 use tk_fault::AppFault;
-use tk_frame::{Asked, press};
+use tk_frame::Asked;
 use tk_reading::PIECE;
 
 // Draws what stands at a fault of the stream, and answers that fault, or the one by which it could not be drawn.
@@ -66,7 +65,7 @@ fn turn_to(
     asked: Asked,
 ) -> Result<bool, AppFault>
     ensures goes { (given left new : Option (List Coming)) (old wrote : Option (List ℕ)) (byte : ℕ)
-        → asked ≡ pressed screen.now.query (spec.tables_of session.old) session.old.asked byte
+        → ((st : Standing) → spec.Shows screen.now.lints st session.old → asked ≡ asked_after screen.now st byte)
         → Loses left new (key byte ∷ [])
         → spec.Keying screen.now given left session.old old wrote
         → spec.Goes screen.now given new result session.new old wrote }
@@ -95,13 +94,7 @@ fn take_key(
         → spec.Goes screen.now given new result session.new old wrote }
     ensures few { session.new.lines ≡ session.old.lines }
 {
-    match press(
-        alloc,
-        tables_of(session),
-        &screen.query,
-        &session.asked,
-        byte,
-    ) {
+    match press_on(session, alloc, screen, byte) {
         Ok(asked) => turn_to(session, alloc, screen, asked),
         Err(_) => Err(AppFault::Memory),
     }

@@ -1,11 +1,12 @@
 //! A watch at keys: what it has taken of a stream, and what keys have asked for.
 ghost use Rattle.std.specs.Prelude.{◌≡◌, IfOk, List, OnOk};
 ghost use Rattle.tk_client.specs.Warnings.{LintsView};
+ghost use Rattle.tk_frame.specs.Keys.{pressed};
 ghost use Rattle.tk_frame.specs.Shown.{asked_screen};
 ghost use Rattle.tk_stream.specs.Tables.{TablesView};
 ghost use Rattle.tk_watch.specs.Course.{Sees};
 ghost use Rattle.tk_watch.specs.Drawing.{Sends};
-ghost use Rattle.tk_watch.specs.Keyed.{Standing, text_of as screen_of};
+ghost use Rattle.tk_watch.specs.Keyed.{Standing, asked_after, text_of as screen_of};
 ghost use Rattle.tk_watch.specs.Keying as spec;
 
 use crate::drawing::Screen;
@@ -13,7 +14,7 @@ use crate::seen::Course;
 use std::alloc::{AllocError, Global};
 use std::io::Write;
 use tk_fault::AppFault;
-use tk_frame::{Asked, Odd, asked_frame};
+use tk_frame::{Asked, Odd, asked_frame, press};
 use tk_screen::put_screen;
 use tk_stream::{Tables, send};
 
@@ -33,16 +34,6 @@ pub(crate) struct Session {
     pub held: Option<Held>,
 }
 
-/// The tables that are shown.
-pub(crate) fn tables_of(session: &Session) -> &Tables
-    ensures { result.now ≡ spec.tables_of session.now }
-{
-    match &session.held {
-        Some(held) => &held.tables,
-        None => session.course.tables(),
-    }
-}
-
 fn text_by(
     alloc: Global,
     tables: &Tables,
@@ -52,9 +43,10 @@ fn text_by(
 ) -> Result<Vec<u8>, AllocError>
     ensures { IfOk result (λ text. text.items ≡ asked_screen screen.now.canvas screen.now.query odd.now asked.now tables.now) }
 {
-    let lines = asked_frame(alloc, screen.canvas, tables, odd, &screen.query, asked)?;
+    let canvas = asked.canvas(screen.canvas);
+    let lines = asked_frame(alloc, canvas, tables, odd, &screen.query, asked)?;
     let mut text = Vec::new(alloc);
-    put_screen(&mut text, screen.canvas, lines.as_slice())?;
+    put_screen(&mut text, canvas, lines.as_slice())?;
     Ok(text)
 }
 
@@ -100,6 +92,53 @@ pub(crate) fn draw<W: Write>(
     match send(writer, text.as_slice()) {
         Ok(()) => Ok(()),
         Err(_) => Err(AppFault::Write),
+    }
+}
+
+// What keys ask for once a key was pressed, while these tables and findings are shown.
+fn press_by(
+    alloc: Global,
+    tables: &Tables,
+    odd: &Odd,
+    screen: &Screen<'_>,
+    asked: &Asked,
+    key: u8,
+) -> Result<Asked, AllocError>
+    ensures { IfOk result (λ next. next ≡ pressed screen.now.canvas screen.now.query odd.now tables.now asked.now key) }
+{
+    press(alloc, screen.canvas, tables, odd, &screen.query, asked, key)
+}
+
+// The same, while it is shown what a client has come to.
+fn press_at_course(
+    course: &Course,
+    alloc: Global,
+    screen: &Screen<'_>,
+    asked: &Asked,
+    key: u8,
+) -> Result<Asked, AllocError>
+    ensures { (shown : List TablesView) → Sees screen.now.lints shown course.now.seen
+        → IfOk result (λ next. next ≡ spec.pressed_after screen.now shown asked.now course.now.client.start.tables key) }
+{
+    match course.odd(alloc) {
+        Ok(odd) => press_by(alloc, course.tables(), &odd, screen, asked, key),
+        Err(error) => Err(error),
+    }
+}
+
+/// What keys ask for once a key was pressed, while a session is shown.
+pub(crate) fn press_on(
+    session: &Session,
+    alloc: Global,
+    screen: &Screen<'_>,
+    key: u8,
+) -> Result<Asked, AllocError>
+    ensures { (st : Standing) → spec.Shows screen.now.lints st session.now
+        → IfOk result (λ next. next ≡ asked_after screen.now st key) }
+{
+    match &session.held {
+        Some(held) => press_by(alloc, &held.tables, &held.odd, screen, &session.asked, key),
+        None => press_at_course(&session.course, alloc, screen, &session.asked, key),
     }
 }
 

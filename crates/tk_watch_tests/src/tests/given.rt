@@ -4,7 +4,7 @@ use std::alloc::Global;
 use std::io::{Read, Write};
 use tk_client::Lints;
 use tk_fault::AppFault;
-use tk_frame::{Column, Query};
+use tk_frame::{Column, Query, Typed};
 use tk_screen::Canvas;
 use tk_watch::{Pace, Screen, watch_stream};
 
@@ -34,29 +34,33 @@ pub(super) const LATER: &[u8] =
 pub(super) const FIRST_SCREEN: &str =
     "now 6 ns  tasks 1: 0 polling, 0 scheduled, 0 idle, 1 closed  findings 0
 no finding now; who holds up others can't be seen: the lines span 0 ns, and it takes at least 100.0 ms
-   TASK STATE          BUSY     SCHED   POLLS   WAKES SELF NAME                 KIND     LOCATION
+  TASK STATE         BUSY    SCHED  POLLS  WAKES SELF LOCATION        NAME                 KIND
+0 of 0 tasks
 
 ";
 
 pub(super) const SECOND_SCREEN: &str =
     "now 14 ns  tasks 1: 0 polling, 0 scheduled, 0 idle, 1 closed  findings 0
 no finding now; who holds up others can't be seen: the lines span 8 ns, and it takes at least 100.0 ms
-   TASK STATE          BUSY     SCHED   POLLS   WAKES SELF NAME                 KIND     LOCATION
+  TASK STATE         BUSY    SCHED  POLLS  WAKES SELF LOCATION        NAME                 KIND
+0 of 0 tasks
 
 ";
 
 pub(super) const THIRD_SCREEN: &str =
     "now 15 ns  tasks 0: 0 polling, 0 scheduled, 0 idle, 0 closed  findings 0
 no finding now; who holds up others can't be seen: the lines span 9 ns, and it takes at least 100.0 ms
-   TASK STATE          BUSY     SCHED   POLLS   WAKES SELF NAME                 KIND     LOCATION
+  TASK STATE         BUSY    SCHED  POLLS  WAKES SELF LOCATION        NAME                 KIND
+0 of 0 tasks
 
 ";
 
 pub(super) const LATER_SCREEN: &str =
     "now 200.0 ms  tasks 2: 0 polling, 1 scheduled, 0 idle, 1 closed  findings 0
 no finding now or earlier: 1 task waits, the longest for 1.0 ms
-   TASK STATE          BUSY     SCHED   POLLS   WAKES SELF NAME                 KIND     LOCATION
-    1.2 scheduled      0 ns    1.0 ms       0       0    - b                    spawn    script:3:1
+  TASK STATE         BUSY    SCHED  POLLS  WAKES SELF LOCATION        NAME                 KIND
+   1.2 scheduled     0 ns   1.0 ms      0      0    - script:3:1      b                    spawn
+1 of 1 tasks
 
 ";
 
@@ -125,8 +129,10 @@ pub(super) fn comes_to<R: Read, W: Write>(
     let screen = Screen {
         query: Query {
             sort: asked.sort,
-            rows: 10,
+            rising: false,
+            rows: Some(10),
             filter: asked.filter,
+            typed: Typed::none(),
             resources: asked.resources,
         },
         lints: Lints::default(),

@@ -9,9 +9,9 @@ use std::sync::Wait;
 use std::thread::Threads;
 use std::time::Clock;
 use tk_client::Lints;
-use tk_frame::{Column, Query};
+use tk_frame::{Column, Query, Typed};
 use tk_keys::watch_terminal;
-use tk_screen::Canvas;
+use tk_screen::{Canvas, Size};
 use tk_watch::{Event, Screen, Source, watch_keys};
 
 // What comes: bytes of the stream, or another event.
@@ -66,18 +66,33 @@ impl Source for Given<'_> {
     }
 }
 
-// Whether these events are watched to a fault of this text, or to the end where that is empty, by this output, and so many of them taken.
-fn draws(alloc: Global, events: &[Comes], fault: &str, output: &str, taken: usize) -> bool {
-    let screen = Screen {
+// A screen of this many rows at most.
+fn screen_of(rows: usize, canvas: Canvas) -> Screen<'static> {
+    Screen {
         query: Query {
             sort: Column::Busy,
-            rows: 10,
+            rising: false,
+            rows: Some(rows),
             filter: b"",
+            typed: Typed::none(),
             resources: false,
         },
         lints: Lints::default(),
-        canvas: Canvas::Plain,
-    };
+        canvas,
+    }
+}
+
+// Whether these events are watched to the end by this output.
+fn draws_on(alloc: Global, screen: &Screen<'_>, events: &[Comes], output: &str) -> bool {
+    let mut source = Given { events, next: 0 };
+    let mut writer = Vec::new(alloc);
+    let ends = watch_keys(alloc, &mut source, &mut writer, screen).is_ok();
+    ends && writer.as_slice() == output.as_bytes()
+}
+
+// Whether these events are watched to a fault of this text, or to the end where that is empty, by this output, and so many of them taken.
+fn draws(alloc: Global, events: &[Comes], fault: &str, output: &str, taken: usize) -> bool {
+    let screen = screen_of(10, Canvas::Plain);
     let mut source = Given { events, next: 0 };
     let mut writer = Vec::new(alloc);
     let ends = match watch_keys(alloc, &mut source, &mut writer, &screen) {
@@ -92,9 +107,10 @@ now 1.0 s  tasks 2: 1 polling, 0 scheduled, 1 idle, 0 closed  findings 3
  1 NOW     resize 1.2 has never yielded, for 1.0 s (never-yielded, script:2:1)
  2 NOW     main 1.1 can be woken by nobody, for 999.9 ms (lost-waker, script:1:1)
  3 NOW     main 1.1 wakes itself, 66% of its wakes (self-wakes, script:1:1)
-   TASK STATE          BUSY     SCHED   POLLS   WAKES SELF NAME                 KIND     LOCATION
->    1.2 polling       1.0 s     50 ns       1       0    - resize               spawn    script:2:1
-    1.1 idle          20 ns    100 ns       2       3  66% main                 spawn    script:1:1
+  TASK STATE         BUSY    SCHED  POLLS  WAKES SELF LOCATION        NAME                 KIND
+>   1.2 polling      1.0 s    50 ns      1      0    - script:2:1      resize               spawn
+   1.1 idle         20 ns   100 ns      2      3  66% script:1:1      main                 spawn
+2 of 2 tasks
 
 ";
 
@@ -103,9 +119,10 @@ now 1.0 s  tasks 2: 1 polling, 0 scheduled, 1 idle, 0 closed  findings 3
  1 NOW     resize 1.2 has never yielded, for 1.0 s (never-yielded, script:2:1)
  2 NOW     main 1.1 can be woken by nobody, for 999.9 ms (lost-waker, script:1:1)
  3 NOW     main 1.1 wakes itself, 66% of its wakes (self-wakes, script:1:1)
-   TASK STATE          BUSY     SCHED   POLLS   WAKES SELF NAME                 KIND     LOCATION
-    1.1 idle          20 ns    100 ns       2       3  66% main                 spawn    script:1:1
->    1.2 polling       1.0 s     50 ns       1       0    - resize               spawn    script:2:1
+  TASK STATE         BUSY    SCHED  POLLS  WAKES SELF LOCATION        NAME                 KIND
+   1.1 idle         20 ns   100 ns      2      3  66% script:1:1      main                 spawn
+>   1.2 polling      1.0 s    50 ns      1      0    - script:2:1      resize               spawn
+2 of 2 tasks
 
 ";
 
@@ -120,6 +137,117 @@ fn a_key_sorts_and_one_chooses_a_task_below(rt: HostRuntime) {
 fn a_task_above_is_chosen_again_and_other_keys_change_nothing(rt: HostRuntime) {
     let events = [Bytes(ODD), key(b'j'), key(b'k'), key(b'k'), key(b'x'), DUE];
     assert!(rt; draws(rt.alloc(), &events, "", ODD_BY_BUSY, 6));
+    let capitals = [Bytes(ODD), key(b'B'), DUE];
+    assert!(rt; draws(rt.alloc(), &capitals, "", ODD_BY_BUSY, 3));
+}
+
+const LEAST_FIRST: &str = "sorted by busy, least first  ? shows the keys
+now 1.0 s  tasks 2: 1 polling, 0 scheduled, 1 idle, 0 closed  findings 3
+ 1 NOW     resize 1.2 has never yielded, for 1.0 s (never-yielded, script:2:1)
+ 2 NOW     main 1.1 can be woken by nobody, for 999.9 ms (lost-waker, script:1:1)
+ 3 NOW     main 1.1 wakes itself, 66% of its wakes (self-wakes, script:1:1)
+  TASK STATE         BUSY    SCHED  POLLS  WAKES SELF LOCATION        NAME                 KIND
+>   1.1 idle         20 ns   100 ns      2      3  66% script:1:1      main                 spawn
+   1.2 polling      1.0 s    50 ns      1      0    - script:2:1      resize               spawn
+2 of 2 tasks
+
+";
+
+#[test]
+fn a_key_sorts_the_other_way_round_and_back(rt: HostRuntime) {
+    let events = [Bytes(ODD), key(b'v'), DUE, key(b'v'), DUE];
+    let both = format!(in rt.alloc(); "{LEAST_FIRST}{ODD_BY_BUSY}").expect(&rt, "memory");
+    assert!(rt; draws(rt.alloc(), &events, "", both.as_str(), 5));
+}
+
+const SECOND_PAGE: &str = "sorted by busy  ? shows the keys
+now 1.0 s  tasks 2: 1 polling, 0 scheduled, 1 idle, 0 closed  findings 3
+ 1 NOW     resize 1.2 has never yielded, for 1.0 s (never-yielded, script:2:1)
+ 2 NOW     main 1.1 can be woken by nobody, for 999.9 ms (lost-waker, script:1:1)
+ 3 NOW     main 1.1 wakes itself, 66% of its wakes (self-wakes, script:1:1)
+  TASK STATE         BUSY    SCHED  POLLS  WAKES SELF LOCATION        NAME                 KIND
+>   1.1 idle         20 ns   100 ns      2      3  66% script:1:1      main                 spawn
+1 of 2 tasks, after the first 1
+
+";
+
+#[test]
+fn keys_show_the_next_page_and_the_last(rt: HostRuntime) {
+    let screen = screen_of(1, Canvas::Plain);
+    for last in [b'd', b'>', b'j', b'n'] {
+        let events = [Bytes(ODD), key(last), DUE];
+        assert!(rt;
+            draws_on(rt.alloc(), &screen, &events, SECOND_PAGE),
+            "key {last}"
+        );
+    }
+    let page_down = [key(b'\x1b'), key(b'['), key(b'6'), key(b'~')];
+    let events = [
+        Bytes(ODD),
+        page_down[0],
+        page_down[1],
+        page_down[2],
+        page_down[3],
+        DUE,
+    ];
+    assert!(rt; draws_on(rt.alloc(), &screen, &events, SECOND_PAGE));
+}
+
+const FILTERED: &str = "sorted by busy  /ain_  ? shows the keys
+now 1.0 s  tasks 2: 1 polling, 0 scheduled, 1 idle, 0 closed  findings 3
+ 1 NOW     resize 1.2 has never yielded, for 1.0 s (never-yielded, script:2:1)
+ 2 NOW     main 1.1 can be woken by nobody, for 999.9 ms (lost-waker, script:1:1)
+ 3 NOW     main 1.1 wakes itself, 66% of its wakes (self-wakes, script:1:1)
+  TASK STATE         BUSY    SCHED  POLLS  WAKES SELF LOCATION        NAME                 KIND
+>   1.1 idle         20 ns   100 ns      2      3  66% script:1:1      main                 spawn
+1 of 1 tasks
+
+";
+
+#[test]
+fn a_text_is_typed_and_names_what_is_shown(rt: HostRuntime) {
+    let typed = [
+        Bytes(ODD),
+        key(b'/'),
+        key(b'a'),
+        key(b'i'),
+        key(b'x'),
+        key(127),
+        key(b'n'),
+        DUE,
+    ];
+    assert!(rt; draws(rt.alloc(), &typed, "", FILTERED, 8));
+    let ended = [key(b'/'), key(b'q'), key(b'\n'), key(b'q'), DUE];
+    assert!(rt; draws(rt.alloc(), &ended, "", "", 4));
+}
+
+// On a terminal of 20 columns and 6 lines, without colors.
+const RESIZED: &str =
+    "\x1b[H\x1b[Ksorted by busy  ? sh\n\x1b[Know 1.0 s  tasks 2: \n\x1b[K 1 NOW     resize 1.\n\x1b[K 2 NOW     main 1.1 c\n\x1b[K.. and 1 more\n\x1b[J";
+
+#[test]
+fn a_terminal_tells_its_size(rt: HostRuntime) {
+    let canvas = Canvas::Terminal {
+        size: Size {
+            columns: 80,
+            lines: 24,
+        },
+        colors: false,
+    };
+    let answer = [
+        Bytes(ODD),
+        key(b'\x1b'),
+        key(b'['),
+        key(b'8'),
+        key(b';'),
+        key(b'6'),
+        key(b';'),
+        key(b'2'),
+        key(b'0'),
+        key(b't'),
+        DUE,
+    ];
+    assert!(rt; draws_on(rt.alloc(), &screen_of(10, canvas), &answer, RESIZED));
 }
 
 const ODD_DETAILS: &str = "sorted by busy  ? shows the keys
@@ -154,6 +282,8 @@ closed       -
 fn enter_shows_all_of_the_chosen_task(rt: HostRuntime) {
     let events = [Bytes(ODD), key(b'j'), key(b'\n'), DUE];
     assert!(rt; draws(rt.alloc(), &events, "", ODD_DETAILS, 4));
+    let events = [Bytes(ODD), key(b'2'), DUE];
+    assert!(rt; draws(rt.alloc(), &events, "", ODD_DETAILS, 3));
     let arrow = [key(b'\x1b'), key(b'['), key(b'B')];
     let events = [Bytes(ODD), arrow[0], arrow[1], arrow[2], key(b'\n'), DUE];
     assert!(rt; draws(rt.alloc(), &events, "", ODD_DETAILS, 6));
@@ -168,8 +298,9 @@ fn enter_shows_tables_again(rt: HostRuntime) {
 const SEMAPHORE_SCREEN: &str = "sorted by busy  ? shows the keys
 now 50 ns  tasks 1: 0 polling, 1 scheduled, 0 idle, 0 closed  findings 0
 no finding now; who holds up others can't be seen: the lines span 0 ns, and it takes at least 100.0 ms
-   TASK STATE          BUSY     SCHED   POLLS   WAKES SELF NAME                 KIND     LOCATION
->    1.1 scheduled      0 ns     40 ns       0       0    - worker               spawn    script:1:1
+  TASK STATE         BUSY    SCHED  POLLS  WAKES SELF LOCATION        NAME                 KIND
+>   1.1 scheduled     0 ns    40 ns      0      0    - script:1:1      worker               spawn
+1 of 1 tasks
 RESOURCE    READY  PENDING TYPE (KIND) LOCATION
      1.1        1        0 Semaphore (Sync) script:2:1
 OPERATION STATE      POLLS      BUSY     TASK RESOURCE SOURCE
@@ -190,9 +321,14 @@ s      sorts them by how long they waited, scheduled
 p      sorts them by how many polls of them started
 w      sorts them by how often they were woken
 o      sorts them by how often they woke themselves
-r      shows resources and async operations, or not any more
+v      sorts them the other way round
 j, k   chooses the task below, or above, as arrows do
+d, u   goes a page down, or up, as Page Down and Page Up do
+<, >   chooses the first task, or the last, as Home and End do
 Enter  shows all of the chosen task, or not any more
+1..9   shows the task of the finding that has this number
+/      shows only tasks that a text names, by their name or their file; Enter ends it
+r      shows resources and async operations, or not any more
 space  pauses, or goes on
 ?      shows this, or not any more
 q      quits
@@ -209,17 +345,20 @@ fn a_key_shows_the_keys(rt: HostRuntime) {
 const PAUSED: &str = "sorted by busy  ? shows the keys
 now 6 ns  tasks 1: 0 polling, 0 scheduled, 0 idle, 1 closed  findings 0
 no finding now; who holds up others can't be seen: the lines span 0 ns, and it takes at least 100.0 ms
-   TASK STATE          BUSY     SCHED   POLLS   WAKES SELF NAME                 KIND     LOCATION
+  TASK STATE         BUSY    SCHED  POLLS  WAKES SELF LOCATION        NAME                 KIND
+0 of 0 tasks
 
 sorted by busy  paused  ? shows the keys
 now 6 ns  tasks 1: 0 polling, 0 scheduled, 0 idle, 1 closed  findings 0
 no finding now; who holds up others can't be seen: the lines span 0 ns, and it takes at least 100.0 ms
-   TASK STATE          BUSY     SCHED   POLLS   WAKES SELF NAME                 KIND     LOCATION
+  TASK STATE         BUSY    SCHED  POLLS  WAKES SELF LOCATION        NAME                 KIND
+0 of 0 tasks
 
 sorted by busy  ? shows the keys
 now 14 ns  tasks 1: 0 polling, 0 scheduled, 0 idle, 1 closed  findings 0
 no finding now; who holds up others can't be seen: the lines span 8 ns, and it takes at least 100.0 ms
-   TASK STATE          BUSY     SCHED   POLLS   WAKES SELF NAME                 KIND     LOCATION
+  TASK STATE         BUSY    SCHED  POLLS  WAKES SELF LOCATION        NAME                 KIND
+0 of 0 tasks
 
 ";
 
@@ -246,7 +385,8 @@ fn nothing_is_taken_after_a_key_that_quits(rt: HostRuntime) {
 const FIRST_SCREEN: &str = "sorted by busy  ? shows the keys
 now 6 ns  tasks 1: 0 polling, 0 scheduled, 0 idle, 1 closed  findings 0
 no finding now; who holds up others can't be seen: the lines span 0 ns, and it takes at least 100.0 ms
-   TASK STATE          BUSY     SCHED   POLLS   WAKES SELF NAME                 KIND     LOCATION
+  TASK STATE         BUSY    SCHED  POLLS  WAKES SELF LOCATION        NAME                 KIND
+0 of 0 tasks
 
 ";
 
@@ -265,16 +405,7 @@ fn ends<R: Threads + Wait + Clock + Copy + Send + Sync + Drop + 'static>(
     alloc: Global,
     keys: &'static [u8],
 ) -> bool {
-    let screen = Screen {
-        query: Query {
-            sort: Column::Busy,
-            rows: 10,
-            filter: b"",
-            resources: false,
-        },
-        lints: Lints::default(),
-        canvas: Canvas::Plain,
-    };
+    let screen = screen_of(10, Canvas::Plain);
     let mut writer = Vec::new(alloc);
     watch_terminal(rt, alloc, ODD, false, keys, &mut writer, &screen, 0).is_ok()
 }

@@ -9,30 +9,34 @@ const ODD_SCREEN: &str = "now 1.0 s  tasks 2: 1 polling, 0 scheduled, 1 idle, 0 
  1 NOW     resize 1.2 has never yielded, for 1.0 s (never-yielded, script:2:1)
  2 NOW     main 1.1 can be woken by nobody, for 999.9 ms (lost-waker, script:1:1)
  3 NOW     main 1.1 wakes itself, 66% of its wakes (self-wakes, script:1:1)
-   TASK STATE          BUSY     SCHED   POLLS   WAKES SELF NAME                 KIND     LOCATION
-    1.2 polling       1.0 s     50 ns       1       0    - resize               spawn    script:2:1
-    1.1 idle          20 ns    100 ns       2       3  66% main                 spawn    script:1:1
+  TASK STATE         BUSY    SCHED  POLLS  WAKES SELF LOCATION        NAME                 KIND
+   1.2 polling      1.0 s    50 ns      1      0    - script:2:1      resize               spawn
+   1.1 idle         20 ns   100 ns      2      3  66% script:1:1      main                 spawn
+2 of 2 tasks
 
 ";
 
-// The end of that screen, sorted by polls, and where `ain` stands in the names.
+// The end of that screen, sorted by polls, and where `ain` stands in the names; all have `crip` in the name of their file.
 const BY_POLLS: &str =
-    "    1.1 idle          20 ns    100 ns       2       3  66% main                 spawn    script:1:1
-    1.2 polling       1.0 s     50 ns       1       0    - resize               spawn    script:2:1
+    "   1.1 idle         20 ns   100 ns      2      3  66% script:1:1      main                 spawn
+   1.2 polling      1.0 s    50 ns      1      0    - script:2:1      resize               spawn
+2 of 2 tasks
 
 ";
 
 const WITH_AIN: &str =
-    "   TASK STATE          BUSY     SCHED   POLLS   WAKES SELF NAME                 KIND     LOCATION
-    1.1 idle          20 ns    100 ns       2       3  66% main                 spawn    script:1:1
+    "  TASK STATE         BUSY    SCHED  POLLS  WAKES SELF LOCATION        NAME                 KIND
+   1.1 idle         20 ns   100 ns      2      3  66% script:1:1      main                 spawn
+1 of 1 tasks
 
 ";
 
 const SEMAPHORE_SCREEN: &str =
     "now 50 ns  tasks 1: 0 polling, 1 scheduled, 0 idle, 0 closed  findings 0
 no finding now; who holds up others can't be seen: the lines span 0 ns, and it takes at least 100.0 ms
-   TASK STATE          BUSY     SCHED   POLLS   WAKES SELF NAME                 KIND     LOCATION
-    1.1 scheduled      0 ns     40 ns       0       0    - worker               spawn    script:1:1
+  TASK STATE         BUSY    SCHED  POLLS  WAKES SELF LOCATION        NAME                 KIND
+   1.1 scheduled     0 ns    40 ns      0      0    - script:1:1      worker               spawn
+1 of 1 tasks
 RESOURCE    READY  PENDING TYPE (KIND) LOCATION
      1.1        1        0 Semaphore (Sync) script:2:1
 OPERATION STATE      POLLS      BUSY     TASK RESOURCE SOURCE
@@ -89,6 +93,7 @@ fn tasks_are_sorted_and_filtered(rt: HostRuntime) {
         (Column::Polls, b"".as_slice(), BY_POLLS),
         (Column::SelfWakes, b"main".as_slice(), WITH_AIN),
         (Column::Busy, b"ain".as_slice(), WITH_AIN),
+        (Column::Polls, b"crip".as_slice(), BY_POLLS),
     ] {
         let asked = Asked {
             sort,

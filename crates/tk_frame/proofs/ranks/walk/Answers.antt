@@ -12,7 +12,7 @@ take_task-states-requires c =
 pub loop-place-preserved : goal.loop-place-preserved
 loop-place-preserved c = record {
   states = tally-more c.args.tables.now.tasks c.loop-place.place c.loop-place.states c.take_task-states.result c.loop-place.invariant.states c.take_task-states.ensures.states;
-  items = ranks-more (task_key c.args.query.now c.args.tables.now.now) c.args.query.now.rows c.loop-place.top.room c.args.tables.now.tasks c.loop-place.place c.loop-place.top.items c.take_task-states.new.top.items
+  items = ranks-more (task_key c.args.query.now c.args.tables.now.now) c.args.rows c.loop-place.top.room c.args.tables.now.tasks c.loop-place.place c.loop-place.top.items c.take_task-states.new.top.items
       c.loop-place.invariant.room c.loop-place.invariant.items c.take_task-states.ensures.items;
   room = c.take_task-states.ensures.room ∙ c.loop-place.invariant.room;
 }
@@ -29,4 +29,4 @@ returns-clause-top c =
     let count = c.task_count-place-end.ensures.count in
     let past = c.loop-place-test.false in
     let all : length c.args.tables.now.tasks ≤ c.loop-place.place = omega arith in
-    top-all (task_key c.args.query.now c.args.tables.now.now) c.args.query.now.rows c.args.tables.now.tasks c.loop-place.place c.loop-place.top.items all c.loop-place.invariant.items
+    top-all (task_key c.args.query.now c.args.tables.now.now) c.args.rows c.args.tables.now.tasks c.loop-place.place c.loop-place.top.items all c.loop-place.invariant.items

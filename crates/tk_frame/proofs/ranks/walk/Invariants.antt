@@ -8,6 +8,6 @@ use Rattle.tk_frame.proofs.ranks.walk.Given as goal
 abbrev pub invariant-loop-place : goal.invariant-loop-place
 invariant-loop-place l = record {
   states : l.states ≡ tally (take l.place l.tables.tasks);
-  items : l.top.items ≡ kept l.query.rows (ranked_from (task_key l.query l.tables.now) 0 (take l.place l.tables.tasks));
-  room : l.top.room ≡ l.query.rows;
+  items : l.top.items ≡ kept l.rows (ranked_from (task_key l.query l.tables.now) 0 (take l.place l.tables.tasks));
+  room : l.top.room ≡ l.rows;
 }

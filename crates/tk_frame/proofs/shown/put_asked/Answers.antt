@@ -2,8 +2,10 @@ use Rattle.tk_screen.proofs.PutLemmas.{both}
 use Rattle.tk_frame.proofs.shown.put_asked.Goals as goal
 
 pub returns : goal.returns
-returns c = rw (← c.column_word.ensures, ← c.paused_word.ensures)
+returns c = rw (← c.column_word.ensures, ← c.order_word.ensures, ← c.paused_word.ensures)
     (both c.in_ok-put_text.ensures
     (both c.in_ok-put_text-2.ensures
     (both c.in_ok-put_text-3.ensures
-    c.in_ok-put_text-4.ensures)))
+    (both c.in_ok-put_filter.ensures
+    (both c.in_ok-put_text-4.ensures
+    c.in_ok-put_text-5.ensures)))))

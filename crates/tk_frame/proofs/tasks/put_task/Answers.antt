@@ -9,6 +9,6 @@ returns c = rw (← c.task_state.ensures, ← c.as_str.ensures.text, ← c.kind_
     (both c.in_ok-put_value-2.ensures
     (both c.in_ok-put_value-3.ensures
     (both c.in_ok-put_part.ensures
+    (both c.in_ok-put_end.ensures
     (both c.in_ok-put_word-2.ensures
-    (both c.in_ok-put_word-3.ensures
-    c.in_ok-put_location.ensures))))))))
+    c.in_ok-put_text.ensures))))))))

@@ -6,11 +6,11 @@ use Rattle.tk_page.specs.Kept.{kept_of}
 use Rattle.tk_page.specs.Rows.{row, row_of}
 use Rattle.tk_page.proofs.tasks.put_row.Goals as goal
 
-pub returns-in-Some : goal.returns-in-Some
-returns-in-Some c =
+pub returns-in_ok-course-in-Some : goal.returns-in_ok-course-in-Some
+returns-in_ok-course-in-Some c =
     let history = c.args.history.now in
     let old = c.args.paper.now in
     let new = c.put_task.new.paper in
     let h = subst (λ xs. OnOk c.put_task.result (Writes old new (row_of c.args.scale c.args.signs.now xs c.in-Some.task.now)))
-    (c.of.ensures ∙ ap (kept_of history) c.value.ensures.value) c.put_task.ensures in
+    (c.kept.ensures ∙ c.in_ok-course-in-Some.ensures ∙ ap (kept_of history) c.value.ensures.value) c.put_task.ensures in
     subst (λ o. OnOk c.put_task.result (Writes old new (option_map_or (row c.args.scale c.args.signs.now (courses_of history)) o []))) c.in-Some.ensures h

@@ -1,0 +1,10 @@
+use Rattle.tk_screen.proofs.PutLemmas.{both}
+use Rattle.tk_frame.proofs.shown.push_steps.Goals as goal
+
+pub returns : goal.returns
+returns c =
+    both c.in_ok-push_plain.ensures
+    (both c.in_ok-push_plain-2.ensures
+    (both c.in_ok-push_plain-3.ensures
+    (both c.in_ok-push_plain-4.ensures
+    c.in_ok-push_plain-5.ensures)))
