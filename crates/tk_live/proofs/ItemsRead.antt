@@ -1,9 +1,7 @@
 -- What stands after all items were read.
-use Rattle.std.proofs.Common.{◌≡◌, ℕ, List, [], ◌∷◌, length, Option, Some, sym, ap, ◌∙◌, subst}
+use Rattle.std.proofs.Common.{◌≡◌, List, length, Option, Some, sym, ap, ◌∙◌, subst}
 use Rattle.std.specs.Prelude.{map}
 use Rattle.std.specs.List.{AllByRecursion}
-use Rattle.atomic_table.specs.Seated.{TableId}
-use Rattle.tk_ids.specs.Ids.{id_of}
 use Rattle.tk_events.specs.declared.event.Shown.{Shown}
 use Rattle.tk_events.specs.declared.event.Shown.TheVariants.{MadeTask, MadeResource, MadeOp, Polled}
 use Rattle.tk_events.specs.declared.item.Offer.{Offer}
@@ -17,9 +15,8 @@ use Rattle.tk_stream.specs.declared.tables.op.Op.{Op}
 use Rattle.tk_stream.specs.declared.tables.resource.Resource.{Resource}
 use Rattle.tk_stream.specs.declared.tables.task.Task.{Task}
 use Rattle.tk_aggregator.specs.Absorbing.{infos_of}
-use Rattle.tk_aggregator.specs.Aggregates.{Aggregating, IsSound, IsSameStream, Pairs, ReadTask, ReadResource, ReadOp}
+use Rattle.tk_aggregator.specs.Aggregates.{Aggregating, IsSound, IsSameStream, ReadTask, ReadResource, ReadOp}
 use Rattle.tk_live.specs.Items.{EachFrom, Holds, AreWakers, IsTask, IsResource, IsOp, IsSameTask, IsSameResource, IsSameOp, times_ledger_of}
-use Rattle.tk_live.specs.Named.{made_item}
 use Rattle.tk_live.specs.Pasts.{TaskPast, Pasts, IsTaskRow, IsResourceRow, IsOpRow}
 use Rattle.tk_live.specs.Ran.{IsCalledTask, IsCalledResource, IsCalledOp, AreCalled, IsPolledTask}
 use Rattle.tk_live.specs.Read.{AreSame, AreReadTo, AreItemsRead}
@@ -30,17 +27,8 @@ use Rattle.tk_live.specs.declared.items.ResourceItem.{ResourceItem}
 use Rattle.tk_live.specs.declared.items.TaskItem.{TaskItem}
 use Rattle.tk_live.specs.declared.items.WakerItem.{WakerItem}
 use Rattle.tk_live.proofs.Reading.{same_task_ids, task_then}
-use Rattle.tk_live.proofs.Rows.{all_read, all_so, still_of}
+use Rattle.tk_live.proofs.Rows.{all_read, all_so, of_items, same_length, still_of}
 use Rattle.tk_live.proofs.TimesRead.{all_polled}
-
--- what is shown of an item that a reader is of, is of an item of the script
-module _ {T S X : Type 0} (id : T → ℕ) (reader_id : S → ℕ) (ledger : S → TableId) (ledger_of : X → TableId) (Read : T → S → Type 0) (reads_id : (t : T) (s : S) → Read t s → reader_id s ≡ id t) (xs : List X) where
-  of_items : (ts : List T) (ss : List S) → Pairs Read ts ss → AllByRecursion (λ (s : S). (n : ℕ) × (x : X) × (reader_id s ≡ id_of 1 n) × (made_item n xs ≡ Some x) × (ledger_of x ≡ ledger s)) ss
-      → AllByRecursion (λ (t : T). (n : ℕ) × (x : X) × (id t ≡ id_of 1 n) × (made_item n xs ≡ Some x)) ts
-  of_items [] [] pairs all = tt
-  of_items [] (s ∷ ss) pairs all = absurd pairs
-  of_items (t ∷ ts) [] pairs all = absurd pairs
-  of_items (t ∷ ts) (s ∷ ss) pairs all = ((all.0.0, all.0.1, sym (reads_id t s pairs.0) ∙ all.0.2, all.0.3), of_items ts ss pairs.1 all.1)
 
 module _ (i m : Interpreter) (read : AreItemsRead i m) where
   abbrev a : Aggregating
@@ -131,31 +119,32 @@ module _ (i m : Interpreter) (read : AreItemsRead i m) where
   tasks_are_called : (ps : Pasts) → Holds i.tasks.items i.wakers.items i.resources.items i.ops.items ps → IsSound b → AllByRecursion (IsCalledTask ps) b.tables.tasks
   tasks_are_called ps holds sound =
       let each = holds.tasks_are.tasks_are in
-      let rows = subst (λ (ts : List Task). AreReadTo task_id (λ p t. IsTaskRow p t.row) (length m.tasks.items) ps.tasks ts) (sym tasks_shown)
-      (subst (λ (n : ℕ). AreReadTo task_id (λ p t. IsTaskRow p t.row) n ps.tasks read.tasks_then.tables.tasks) (sym (read.times.many ∙ read.tasks.many)) (read.tasks.rows ps.tasks each)) in
+      let rows = subst (λ (ts : List Task). AreReadTo task_id (λ p t. IsTaskRow p t.row) (length a.tables.tasks) ps.tasks ts) (sym tasks_shown) (read.tasks.rows ps.tasks each) in
+      let many = same_length task_info b.tables.tasks a.tables.tasks task_infos_stay in
       let of = of_items task_id (λ (s : TaskSight). s.id) (λ (s : TaskSight). s.token.ledger) (λ (x : TaskItem). x.callers.token.ledger) ReadTask (λ t s p. p.0) m.tasks.items b.tables.tasks b.tasks sound.tasks tasks_are_of in
-      all_read task_id (λ p t. IsTaskRow p t.row) (IsCalledTask ps) ps.tasks m.tasks.items IsTask (tasks_kept ps.tasks each) (λ t n p id past row. record { number = n; id = id; past = p; is_past = past; row = row }) b.tables.tasks of rows
+      all_read task_id (λ p t. IsTaskRow p t.row) (IsCalledTask ps) ps.tasks m.tasks.items IsTask (tasks_kept ps.tasks each) (λ t n p id past row. record { number = n; id = id; past = p; is_past = past; row = row }) b.tables.tasks (length a.tables.tasks) many of rows
 
   resources_are_called : (ps : Pasts) → Holds i.tasks.items i.wakers.items i.resources.items i.ops.items ps → IsSound b → AllByRecursion (IsCalledResource ps) b.tables.resources
   resources_are_called ps holds sound =
       let each = holds.resources_are in
-      let rows = subst (λ (ts : List Resource). AreReadTo resource_id (λ p t. IsResourceRow p t.row) (length m.resources.items) ps.resources ts) (sym resources_shown)
-      (subst (λ (n : ℕ). AreReadTo resource_id (λ p t. IsResourceRow p t.row) n ps.resources read.resources_then.tables.resources) (sym read.resources.many) (read.resources.rows ps.resources each)) in
+      let rows = subst (λ (ts : List Resource). AreReadTo resource_id (λ p t. IsResourceRow p t.row) (length read.tasks_then.tables.resources) ps.resources ts) (sym resources_shown) (read.resources.rows ps.resources each) in
+      let many = same_length resource_info b.tables.resources read.tasks_then.tables.resources (ap (map resource_info) resources_shown ∙ read.resources.infos) in
       let of = of_items resource_id (λ (s : ResourceSight). s.id) (λ (s : ResourceSight). s.token.ledger) (λ (x : ResourceItem). x.callers.token.ledger) ReadResource (λ t s p. p.0) m.resources.items b.tables.resources b.resources sound.resources resources_are_of in
-      all_read resource_id (λ p t. IsResourceRow p t.row) (IsCalledResource ps) ps.resources m.resources.items IsResource (read.resources.hands ps.resources each) (λ t n p id past row. record { number = n; id = id; past = p; is_past = past; row = row }) b.tables.resources of rows
+      all_read resource_id (λ p t. IsResourceRow p t.row) (IsCalledResource ps) ps.resources m.resources.items IsResource (read.resources.hands ps.resources each) (λ t n p id past row. record { number = n; id = id; past = p; is_past = past; row = row }) b.tables.resources (length read.tasks_then.tables.resources) many of rows
 
   ops_are_called : (ps : Pasts) → Holds i.tasks.items i.wakers.items i.resources.items i.ops.items ps → IsSound b → AllByRecursion (IsCalledOp ps) b.tables.ops
   ops_are_called ps holds sound =
       let each = holds.ops_are in
-      let rows = subst (λ (ts : List Op). AreReadTo op_id (λ p t. IsOpRow p t.row) (length m.ops.items) ps.ops ts) (sym ops_shown)
-      (subst (λ (n : ℕ). AreReadTo op_id (λ p t. IsOpRow p t.row) n ps.ops read.ops_then.tables.ops) (sym read.ops.many) (read.ops.rows ps.ops each)) in
+      let rows = subst (λ (ts : List Op). AreReadTo op_id (λ p t. IsOpRow p t.row) (length read.resources_then.tables.ops) ps.ops ts) (sym ops_shown) (read.ops.rows ps.ops each) in
+      let many = same_length op_info b.tables.ops read.resources_then.tables.ops (ap (map op_info) ops_shown ∙ read.ops.infos) in
       let of = of_items op_id (λ (s : OpSight). s.id) (λ (s : OpSight). s.token.ledger) (λ (x : OpItem). x.callers.token.ledger) ReadOp (λ t s p. p.0) m.ops.items b.tables.ops b.ops sound.ops ops_are_of in
-      all_read op_id (λ p t. IsOpRow p t.row) (IsCalledOp ps) ps.ops m.ops.items IsOp (read.ops.hands ps.ops each) (λ t n p id past row. record { number = n; id = id; past = p; is_past = past; row = row }) b.tables.ops of rows
+      all_read op_id (λ p t. IsOpRow p t.row) (IsCalledOp ps) ps.ops m.ops.items IsOp (read.ops.hands ps.ops each) (λ t n p id past row. record { number = n; id = id; past = p; is_past = past; row = row }) b.tables.ops (length read.resources_then.tables.ops) many of rows
 
   -- and each histogram that of its task's polls
   pub are_polled : (ps : Pasts) → Holds i.tasks.items i.wakers.items i.resources.items i.ops.items ps → IsSound b → AllByRecursion (IsPolledTask ps) b.timing.shown
   are_polled ps holds sound =
-      all_polled ps read.items_then m.tasks.items read.times.same read.times.many (read.tasks.hands ps.tasks holds.tasks_are.tasks_are) b.timing.shown b.timing.readers sound.times read.times.readers read.times.rows
+      let many = same_length times_id b.timing.shown read.ops_then.timing.shown read.times.ids in
+      all_polled ps read.items_then m.tasks.items read.times.same read.times.many (read.tasks.hands ps.tasks holds.tasks_are.tasks_are) b.timing.shown b.timing.readers (length read.ops_then.timing.shown) many sound.times read.times.readers read.times.rows
 
   pub are_called : (ps : Pasts) → Holds i.tasks.items i.wakers.items i.resources.items i.ops.items ps → IsSound b → AreCalled ps b.tables
   are_called ps holds sound = record { tasks = tasks_are_called ps holds sound; resources = resources_are_called ps holds sound; ops = ops_are_called ps holds sound }

@@ -1,5 +1,5 @@
 -- Readings of items beside their hands: what they leave of the items and of the aggregator.
-use Rattle.std.proofs.Common.{◌≡◌, ℕ, ◌+◌, List, [], ◌∷◌, Option, Some, None, refl, sym, ap, ◌∙◌, subst}
+use Rattle.std.proofs.Common.{◌≡◌, ℕ, ◌+◌, ◌<◌, List, [], ◌∷◌, length, Option, Some, refl, sym, ap, ◌∙◌, subst, arith}
 use Rattle.std.specs.Prelude.{map, nat_eq, slice_get, slice_set}
 use Rattle.std.specs.List.{AllByRecursion, IsDistinct}
 use Rattle.atomic_table.specs.Seated.{TableId}
@@ -21,18 +21,18 @@ use Rattle.tk_stream.specs.Tables.{changed_at, task_id, resource_id, op_id}
 use Rattle.tk_stream.specs.declared.tables.op.Op.{Op}
 use Rattle.tk_stream.specs.declared.tables.resource.Resource.{Resource}
 use Rattle.tk_stream.specs.declared.tables.task.Task.{Task}
-use Rattle.tk_aggregator.specs.Aggregates.{Aggregating}
+use Rattle.tk_aggregator.specs.Aggregates.{Aggregating, IsSound, ReadTask, ReadResource, ReadOp}
 use Rattle.tk_aggregator.specs.Beside.{AreOf, StaysHand, ReadsTaskBeside, ReadsResourceBeside, ReadsOpBeside}
 use Rattle.tk_live.specs.Items.{EachFrom, IsTask, IsResource, IsOp, KeepsValues, IsSameTask, IsSameResource, IsSameOp, times_ledger_of}
 use Rattle.tk_live.specs.Named.{made_item}
 use Rattle.tk_live.specs.Pasts.{TaskPast, ResourcePast, OpPast, IsTaskRow, IsResourceRow, IsOpRow}
-use Rattle.tk_live.specs.Read.{AreReadTo, AreTasksRead, AreResourcesRead, AreOpsRead}
+use Rattle.tk_live.specs.Read.{AreReadTo, AreTasksRead, AreResourcesRead, AreOpsRead, HasNumber, IsRead}
 use Rattle.tk_live.specs.Runs.{IsTaskLedger, IsResourceLedger, IsOpLedger}
 use Rattle.tk_live.specs.declared.items.OpItem.{OpItem}
 use Rattle.tk_live.specs.declared.items.ResourceItem.{ResourceItem}
 use Rattle.tk_live.specs.declared.items.TaskItem.{TaskItem}
 use Rattle.tk_live.proofs.Places.{at_place, each_made, length-set}
-use Rattle.tk_live.proofs.Rows.{all_so, all_put, all_themselves, each_goes_on, its_ledger, map_changed, none_more, none_read, none_there, read_more, same_more, stands_there, still_of}
+use Rattle.tk_live.proofs.Rows.{all_so, all_put, all_themselves, changed_too, each_goes_on, has_number, its_item, its_ledger, its_place, map_changed, of_items, row_read, same_length, same_more, still_of}
 
 -- ---- tasks
 
@@ -56,28 +56,39 @@ no_task_read a xs readers = record {
   same = all_themselves IsSameTask task_itself xs;
   many = refl;
   hands = λ ps each. each;
-  rows = λ ps each. none_read task_id (λ p t. IsTaskRow p t.row) ps a.tables.tasks;
+  rows = λ ps each. tt;
   infos = refl;
   readers = readers;
   rest = refl;
 }
 
--- the next one is of the number after its place, and its readers are of its ledger
-module _ (i : ℕ) (first a : Aggregating) (xs ys : List TaskItem) (read : AreTasksRead i first xs a ys) (x : TaskItem) (at : slice_get ys i ≡ Some x) where
-  task_past : (ps : List TaskPast) → EachFrom IsTask 1 ps xs → (p : TaskPast) × (made_item (i + 1) ps ≡ Some p) × IsTask (i + 1) p x
-  task_past ps each = each_made IsTask ps ys (i + 1) x (read.hands ps each) (at_place (i + 1) i ys refl ∙ at)
+-- the aggregator's next one has a number, and there is an item of it
+module _ (i : ℕ) (first a : Aggregating) (xs ys : List TaskItem) (read : AreTasksRead i first xs a ys) (sound : IsSound a) where
+  tasks_numbered : AllByRecursion (λ (t : Task). (n : ℕ) × (x : TaskItem) × (task_id t ≡ id_of 1 n) × (made_item n ys ≡ Some x)) a.tables.tasks
+  tasks_numbered = of_items task_id (λ (s : TaskSight). s.id) (λ (s : TaskSight). s.token.ledger) (λ (x : TaskItem). x.callers.token.ledger) ReadTask (λ t s p. p.0) ys a.tables.tasks a.tasks sound.tasks read.readers
 
-  task_number : (ps : List TaskPast) → EachFrom IsTask 1 ps xs → x.callers.id ≡ id_of 1 (i + 1)
+  pub next_task : i < length first.tables.tasks → (place : ℕ) × HasNumber task_id a.tables.tasks i (place + 1)
+  next_task lt = has_number task_id ys a.tables.tasks tasks_numbered i (omega (arith, lt, same_length task_info a.tables.tasks first.tables.tasks read.infos))
+
+  pub task_there : (k : ℕ) → HasNumber task_id a.tables.tasks i (k + 1) → (x : TaskItem) × (slice_get ys k ≡ Some x)
+  task_there k next = its_item task_id ys a.tables.tasks tasks_numbered i k next
+
+-- the item at a place is of the number after it, and its readers are of its ledger
+module _ (i : ℕ) (first a : Aggregating) (xs ys : List TaskItem) (read : AreTasksRead i first xs a ys) (k : ℕ) (x : TaskItem) (at : slice_get ys k ≡ Some x) where
+  task_past : (ps : List TaskPast) → EachFrom IsTask 1 ps xs → (p : TaskPast) × (made_item (k + 1) ps ≡ Some p) × IsTask (k + 1) p x
+  task_past ps each = each_made IsTask ps ys (k + 1) x (read.hands ps each) (at_place (k + 1) k ys refl ∙ at)
+
+  task_number : (ps : List TaskPast) → EachFrom IsTask 1 ps xs → x.callers.id ≡ id_of 1 (k + 1)
   task_number ps each = let it = task_past ps each in it.2.id
 
   pub task_may_read : (ps : List TaskPast) → EachFrom IsTask 1 ps xs → AreOf task_meaning x.callers a.tasks
   task_may_read ps each =
       all_so (λ (s : TaskSight). IsTaskLedger ys s.id s.token.ledger) (λ (s : TaskSight). s.id ≡ x.callers.id → s.token.ledger ≡ x.callers.token.ledger) (λ s is same.
-      its_ledger (λ (y : TaskItem). y.callers.token.ledger) ys i x s.id s.token.ledger at (same ∙ task_number ps each) is) a.tasks read.readers
+      its_ledger (λ (y : TaskItem). y.callers.token.ledger) ys k x s.id s.token.ledger at (same ∙ task_number ps each) is) a.tasks read.readers
 
-  -- it was read
+  -- it was read, since the aggregator's next one is of its number
   module _ (b : Aggregating) (y : TaskItem) (is : y ≡ record x { callers = y.callers }) (hand : StaysHand task_meaning x.callers y.callers) (reads : ReadsTaskBeside x.callers a b (place_with task_id x.callers.id a.tables.tasks))
-      (past : List TaskPast) (each_is : EachFrom IsTask 1 past xs) (distinct : IsDistinct nat_eq (map task_id first.tables.tasks)) where
+      (past : List TaskPast) (each_is : EachFrom IsTask 1 past xs) (next : HasNumber task_id a.tables.tasks i (k + 1)) (distinct : IsDistinct nat_eq (map task_id a.tables.tasks)) where
     task_goes_on : (n : ℕ) (p : TaskPast) → IsTask n p x → IsTask n p y
     task_goes_on n p it = record {
       id = hand.id ∙ it.id;
@@ -94,59 +105,43 @@ module _ (i : ℕ) (first a : Aggregating) (xs ys : List TaskItem) (read : AreTa
     is_same_task : IsSameTask x y
     is_same_task = record { id = hand.id; ledger = hand.ledger; times = ap times_ledger_of is; live = hand.live }
 
-    now_distinct_tasks : IsDistinct nat_eq (map task_id a.tables.tasks)
-    now_distinct_tasks = subst (λ (ids : List ℕ). IsDistinct nat_eq ids) (sym (same_task_ids first.tables.tasks a.tables.tasks read.infos)) distinct
+    read_task : ReadsTaskBeside x.callers a b (Some i)
+    read_task = subst (λ (o : Option ℕ). ReadsTaskBeside x.callers a b o) (its_place task_id x.callers.id a.tables.tasks i next.0 next.1 (next.2 ∙ sym (task_number past each_is)) distinct) reads
 
     task_rows : (ps : List TaskPast) → EachFrom IsTask 1 ps xs → AreReadTo task_id (λ p t. IsTaskRow p t.row) (i + 1) ps b.tables.tasks
-    task_rows ps each = by (place_with task_id x.callers.id a.tables.tasks) refl reads
-      where
-        by : (o : Option ℕ) → place_with task_id x.callers.id a.tables.tasks ≡ o → ReadsTaskBeside x.callers a b o → AreReadTo task_id (λ p t. IsTaskRow p t.row) (i + 1) ps b.tables.tasks
-        by None none same =
-            subst (λ (c : Aggregating). AreReadTo task_id (λ p t. IsTaskRow p t.row) (i + 1) ps c.tables.tasks) (sym same)
-            (none_more task_id (λ p t. IsTaskRow p t.row) i x.callers.id ps (task_number ps each) a.tables.tasks (none_there task_id x.callers.id a.tables.tasks none) (read.rows ps each))
-        by (Some place) found r =
-            let it = task_past ps each in
-            let there = stands_there task_id x.callers.id a.tables.tasks place found in
-            subst (λ (c : Aggregating). AreReadTo task_id (λ p t. IsTaskRow p t.row) (i + 1) ps c.tables.tasks) (sym r.3)
-            (read_more task_id (λ p t. IsTaskRow p t.row) i x.callers.id ps (task_number ps each) (λ t. task_at t r.0) it.0 it.1 (λ t. refl) (λ t e. (it.2.calls, it.2.order, r.2 it.0.opening it.2.calls it.2.called)) a.tables.tasks place there.0 there.1 there.2 now_distinct_tasks (read.rows ps each))
+    task_rows ps each =
+        let it = task_past ps each in
+        let r = read_task in
+        let row : IsRead task_id (λ p t. IsTaskRow p t.row) ps (task_at next.0 r.0) = row_read task_id (λ p t. IsTaskRow p t.row) (k + 1) ps it.0 (task_at next.0 r.0) next.2 it.1 (it.2.calls, it.2.order, r.2 it.0.opening it.2.calls it.2.called) in
+        subst (λ (c : Aggregating). AreReadTo task_id (λ p t. IsTaskRow p t.row) (i + 1) ps c.tables.tasks) (sym r.3)
+        (changed_too (IsRead task_id (λ p t. IsTaskRow p t.row) ps) (λ t. task_at t r.0) a.tables.tasks i next.0 next.1 row (read.rows ps each))
 
     task_infos : map task_info b.tables.tasks ≡ map task_info a.tables.tasks
-    task_infos = by (place_with task_id x.callers.id a.tables.tasks) reads
-      where
-        by : (o : Option ℕ) → ReadsTaskBeside x.callers a b o → map task_info b.tables.tasks ≡ map task_info a.tables.tasks
-        by None same = ap (λ (c : Aggregating). map task_info c.tables.tasks) same
-        by (Some place) r = ap (λ (c : Aggregating). map task_info c.tables.tasks) r.3 ∙ map_changed task_info (λ t. task_at t r.0) (λ t. refl) a.tables.tasks place
+    task_infos = let r = read_task in ap (λ (c : Aggregating). map task_info c.tables.tasks) r.3 ∙ map_changed task_info (λ t. task_at t r.0) (λ t. refl) a.tables.tasks i
 
     task_readers : (P : ℕ → TableId → Type 0) → AllByRecursion (λ (s : TaskSight). P s.id s.token.ledger) a.tasks → AllByRecursion (λ (s : TaskSight). P s.id s.token.ledger) b.tasks
-    task_readers P all = by (place_with task_id x.callers.id a.tables.tasks) reads
-      where
-        by : (o : Option ℕ) → ReadsTaskBeside x.callers a b o → AllByRecursion (λ (s : TaskSight). P s.id s.token.ledger) b.tasks
-        by None same = subst (λ (c : Aggregating). AllByRecursion (λ (s : TaskSight). P s.id s.token.ledger) c.tasks) (sym same) all
-        by (Some place) r =
-            let at = r.1 in
-            subst (λ (ss : List TaskSight). AllByRecursion (λ (s : TaskSight). P s.id s.token.ledger) ss) (sym at.4)
-            (all_put (λ (s : TaskSight). P s.id s.token.ledger) a.tasks place at.0 at.1 at.2 (λ p. subst (λ (ledger : TableId). P at.1.id ledger) (sym at.3.ledger) (subst (λ (id : ℕ). P id at.0.token.ledger) (sym at.3.id) p)) all)
+    task_readers P all =
+        let at = read_task.1 in
+        subst (λ (ss : List TaskSight). AllByRecursion (λ (s : TaskSight). P s.id s.token.ledger) ss) (sym at.4)
+        (all_put (λ (s : TaskSight). P s.id s.token.ledger) a.tasks i at.0 at.1 at.2 (λ p. subst (λ (ledger : TableId). P at.1.id ledger) (sym at.3.ledger) (subst (λ (id : ℕ). P id at.0.token.ledger) (sym at.3.id) p)) all)
 
     task_rest : b ≡ record first { tables = record first.tables { tasks = b.tables.tasks }; tasks = b.tasks }
-    task_rest = by (place_with task_id x.callers.id a.tables.tasks) reads
-      where
-        by : (o : Option ℕ) → ReadsTaskBeside x.callers a b o → b ≡ record first { tables = record first.tables { tasks = b.tables.tasks }; tasks = b.tasks }
-        by None same = subst (λ (c : Aggregating). c ≡ record first { tables = record first.tables { tasks = c.tables.tasks }; tasks = c.tasks }) (sym same) read.rest
-        by (Some place) r =
-            let now : List Task = changed_at (λ t. task_at t r.0) a.tables.tasks place in
-            let is_now : b.tables.tasks ≡ now = ap (λ (c : Aggregating). c.tables.tasks) r.3 in
-            r.3 ∙ (ap (λ (c : Aggregating). record c { tables = record c.tables { tasks = now }; tasks = b.tasks }) read.rest
-            ∙ ap (λ (ts : List Task). record first { tables = record first.tables { tasks = ts }; tasks = b.tasks }) (sym is_now))
+    task_rest =
+        let r = read_task in
+        let now : List Task = changed_at (λ t. task_at t r.0) a.tables.tasks i in
+        let is_now : b.tables.tasks ≡ now = ap (λ (c : Aggregating). c.tables.tasks) r.3 in
+        r.3 ∙ (ap (λ (c : Aggregating). record c { tables = record c.tables { tasks = now }; tasks = b.tasks }) read.rest
+        ∙ ap (λ (ts : List Task). record first { tables = record first.tables { tasks = ts }; tasks = b.tasks }) (sym is_now))
 
-    pub one_task_more : (zs : List TaskItem) → zs ≡ slice_set ys i y → AreTasksRead (i + 1) first xs b zs
+    pub one_task_more : (zs : List TaskItem) → zs ≡ slice_set ys k y → AreTasksRead (i + 1) first xs b zs
     one_task_more zs set = subst (λ (zs : List TaskItem). AreTasksRead (i + 1) first xs b zs) (sym set) (record {
-      same = same_more IsSameTask task_itself task_then xs ys i x y read.same at is_same_task;
-      many = length-set ys i y ∙ read.many;
-      hands = λ ps each. each_goes_on IsTask 1 ps ys i x y at (λ p it. task_goes_on (1 + i) p it) (read.hands ps each);
+      same = same_more IsSameTask task_itself task_then xs ys k x y read.same at is_same_task;
+      many = length-set ys k y ∙ read.many;
+      hands = λ ps each. each_goes_on IsTask 1 ps ys k x y at (λ p it. task_goes_on (1 + k) p it) (read.hands ps each);
       rows = task_rows;
       infos = task_infos ∙ read.infos;
-      readers = task_readers (IsTaskLedger (slice_set ys i y)) (all_so (λ (s : TaskSight). IsTaskLedger ys s.id s.token.ledger) (λ (s : TaskSight). IsTaskLedger (slice_set ys i y) s.id s.token.ledger) (λ s is.
-          still_of (λ (z : TaskItem). z.callers.token.ledger) IsSameTask (λ z w same. same.ledger) ys (slice_set ys i y) (same_more IsSameTask task_itself task_then ys ys i x y (all_themselves IsSameTask task_itself ys) at is_same_task) s.id s.token.ledger is) a.tasks read.readers);
+      readers = task_readers (IsTaskLedger (slice_set ys k y)) (all_so (λ (s : TaskSight). IsTaskLedger ys s.id s.token.ledger) (λ (s : TaskSight). IsTaskLedger (slice_set ys k y) s.id s.token.ledger) (λ s is.
+          still_of (λ (z : TaskItem). z.callers.token.ledger) IsSameTask (λ z w same. same.ledger) ys (slice_set ys k y) (same_more IsSameTask task_itself task_then ys ys k x y (all_themselves IsSameTask task_itself ys) at is_same_task) s.id s.token.ledger is) a.tasks read.readers);
       rest = task_rest;
     })
 
@@ -172,28 +167,39 @@ no_resource_read a xs readers = record {
   same = all_themselves IsSameResource resource_itself xs;
   many = refl;
   hands = λ ps each. each;
-  rows = λ ps each. none_read resource_id (λ p t. IsResourceRow p t.row) ps a.tables.resources;
+  rows = λ ps each. tt;
   infos = refl;
   readers = readers;
   rest = refl;
 }
 
--- the next one is of the number after its place, and its readers are of its ledger
-module _ (i : ℕ) (first a : Aggregating) (xs ys : List ResourceItem) (read : AreResourcesRead i first xs a ys) (x : ResourceItem) (at : slice_get ys i ≡ Some x) where
-  resource_past : (ps : List ResourcePast) → EachFrom IsResource 1 ps xs → (p : ResourcePast) × (made_item (i + 1) ps ≡ Some p) × IsResource (i + 1) p x
-  resource_past ps each = each_made IsResource ps ys (i + 1) x (read.hands ps each) (at_place (i + 1) i ys refl ∙ at)
+-- the aggregator's next one has a number, and there is an item of it
+module _ (i : ℕ) (first a : Aggregating) (xs ys : List ResourceItem) (read : AreResourcesRead i first xs a ys) (sound : IsSound a) where
+  resources_numbered : AllByRecursion (λ (t : Resource). (n : ℕ) × (x : ResourceItem) × (resource_id t ≡ id_of 1 n) × (made_item n ys ≡ Some x)) a.tables.resources
+  resources_numbered = of_items resource_id (λ (s : ResourceSight). s.id) (λ (s : ResourceSight). s.token.ledger) (λ (x : ResourceItem). x.callers.token.ledger) ReadResource (λ t s p. p.0) ys a.tables.resources a.resources sound.resources read.readers
 
-  resource_number : (ps : List ResourcePast) → EachFrom IsResource 1 ps xs → x.callers.id ≡ id_of 1 (i + 1)
+  pub next_resource : i < length first.tables.resources → (place : ℕ) × HasNumber resource_id a.tables.resources i (place + 1)
+  next_resource lt = has_number resource_id ys a.tables.resources resources_numbered i (omega (arith, lt, same_length resource_info a.tables.resources first.tables.resources read.infos))
+
+  pub resource_there : (k : ℕ) → HasNumber resource_id a.tables.resources i (k + 1) → (x : ResourceItem) × (slice_get ys k ≡ Some x)
+  resource_there k next = its_item resource_id ys a.tables.resources resources_numbered i k next
+
+-- the item at a place is of the number after it, and its readers are of its ledger
+module _ (i : ℕ) (first a : Aggregating) (xs ys : List ResourceItem) (read : AreResourcesRead i first xs a ys) (k : ℕ) (x : ResourceItem) (at : slice_get ys k ≡ Some x) where
+  resource_past : (ps : List ResourcePast) → EachFrom IsResource 1 ps xs → (p : ResourcePast) × (made_item (k + 1) ps ≡ Some p) × IsResource (k + 1) p x
+  resource_past ps each = each_made IsResource ps ys (k + 1) x (read.hands ps each) (at_place (k + 1) k ys refl ∙ at)
+
+  resource_number : (ps : List ResourcePast) → EachFrom IsResource 1 ps xs → x.callers.id ≡ id_of 1 (k + 1)
   resource_number ps each = let it = resource_past ps each in it.2.id
 
   pub resource_may_read : (ps : List ResourcePast) → EachFrom IsResource 1 ps xs → AreOf resource_meaning x.callers a.resources
   resource_may_read ps each =
       all_so (λ (s : ResourceSight). IsResourceLedger ys s.id s.token.ledger) (λ (s : ResourceSight). s.id ≡ x.callers.id → s.token.ledger ≡ x.callers.token.ledger) (λ s is same.
-      its_ledger (λ (y : ResourceItem). y.callers.token.ledger) ys i x s.id s.token.ledger at (same ∙ resource_number ps each) is) a.resources read.readers
+      its_ledger (λ (y : ResourceItem). y.callers.token.ledger) ys k x s.id s.token.ledger at (same ∙ resource_number ps each) is) a.resources read.readers
 
-  -- it was read
+  -- it was read, since the aggregator's next one is of its number
   module _ (b : Aggregating) (y : ResourceItem) (is : y ≡ record x { callers = y.callers }) (hand : StaysHand resource_meaning x.callers y.callers) (reads : ReadsResourceBeside x.callers a b (place_with resource_id x.callers.id a.tables.resources))
-      (past : List ResourcePast) (each_is : EachFrom IsResource 1 past xs) (distinct : IsDistinct nat_eq (map resource_id first.tables.resources)) where
+      (past : List ResourcePast) (each_is : EachFrom IsResource 1 past xs) (next : HasNumber resource_id a.tables.resources i (k + 1)) (distinct : IsDistinct nat_eq (map resource_id a.tables.resources)) where
     resource_goes_on : (n : ℕ) (p : ResourcePast) → IsResource n p x → IsResource n p y
     resource_goes_on n p it = record {
       id = hand.id ∙ it.id;
@@ -206,59 +212,43 @@ module _ (i : ℕ) (first a : Aggregating) (xs ys : List ResourceItem) (read : A
     is_same_resource : IsSameResource x y
     is_same_resource = record { id = hand.id; ledger = hand.ledger }
 
-    now_distinct_resources : IsDistinct nat_eq (map resource_id a.tables.resources)
-    now_distinct_resources = subst (λ (ids : List ℕ). IsDistinct nat_eq ids) (sym (same_resource_ids first.tables.resources a.tables.resources read.infos)) distinct
+    read_resource : ReadsResourceBeside x.callers a b (Some i)
+    read_resource = subst (λ (o : Option ℕ). ReadsResourceBeside x.callers a b o) (its_place resource_id x.callers.id a.tables.resources i next.0 next.1 (next.2 ∙ sym (resource_number past each_is)) distinct) reads
 
     resource_rows : (ps : List ResourcePast) → EachFrom IsResource 1 ps xs → AreReadTo resource_id (λ p t. IsResourceRow p t.row) (i + 1) ps b.tables.resources
-    resource_rows ps each = by (place_with resource_id x.callers.id a.tables.resources) refl reads
-      where
-        by : (o : Option ℕ) → place_with resource_id x.callers.id a.tables.resources ≡ o → ReadsResourceBeside x.callers a b o → AreReadTo resource_id (λ p t. IsResourceRow p t.row) (i + 1) ps b.tables.resources
-        by None none same =
-            subst (λ (c : Aggregating). AreReadTo resource_id (λ p t. IsResourceRow p t.row) (i + 1) ps c.tables.resources) (sym same)
-            (none_more resource_id (λ p t. IsResourceRow p t.row) i x.callers.id ps (resource_number ps each) a.tables.resources (none_there resource_id x.callers.id a.tables.resources none) (read.rows ps each))
-        by (Some place) found r =
-            let it = resource_past ps each in
-            let there = stands_there resource_id x.callers.id a.tables.resources place found in
-            subst (λ (c : Aggregating). AreReadTo resource_id (λ p t. IsResourceRow p t.row) (i + 1) ps c.tables.resources) (sym r.3)
-            (read_more resource_id (λ p t. IsResourceRow p t.row) i x.callers.id ps (resource_number ps each) (λ t. resource_at t r.0) it.0 it.1 (λ t. refl) (λ t e. r.2 it.0.opening it.0.called it.2.called) a.tables.resources place there.0 there.1 there.2 now_distinct_resources (read.rows ps each))
+    resource_rows ps each =
+        let it = resource_past ps each in
+        let r = read_resource in
+        let row : IsRead resource_id (λ p t. IsResourceRow p t.row) ps (resource_at next.0 r.0) = row_read resource_id (λ p t. IsResourceRow p t.row) (k + 1) ps it.0 (resource_at next.0 r.0) next.2 it.1 (r.2 it.0.opening it.0.called it.2.called) in
+        subst (λ (c : Aggregating). AreReadTo resource_id (λ p t. IsResourceRow p t.row) (i + 1) ps c.tables.resources) (sym r.3)
+        (changed_too (IsRead resource_id (λ p t. IsResourceRow p t.row) ps) (λ t. resource_at t r.0) a.tables.resources i next.0 next.1 row (read.rows ps each))
 
     resource_infos : map resource_info b.tables.resources ≡ map resource_info a.tables.resources
-    resource_infos = by (place_with resource_id x.callers.id a.tables.resources) reads
-      where
-        by : (o : Option ℕ) → ReadsResourceBeside x.callers a b o → map resource_info b.tables.resources ≡ map resource_info a.tables.resources
-        by None same = ap (λ (c : Aggregating). map resource_info c.tables.resources) same
-        by (Some place) r = ap (λ (c : Aggregating). map resource_info c.tables.resources) r.3 ∙ map_changed resource_info (λ t. resource_at t r.0) (λ t. refl) a.tables.resources place
+    resource_infos = let r = read_resource in ap (λ (c : Aggregating). map resource_info c.tables.resources) r.3 ∙ map_changed resource_info (λ t. resource_at t r.0) (λ t. refl) a.tables.resources i
 
     resource_readers : (P : ℕ → TableId → Type 0) → AllByRecursion (λ (s : ResourceSight). P s.id s.token.ledger) a.resources → AllByRecursion (λ (s : ResourceSight). P s.id s.token.ledger) b.resources
-    resource_readers P all = by (place_with resource_id x.callers.id a.tables.resources) reads
-      where
-        by : (o : Option ℕ) → ReadsResourceBeside x.callers a b o → AllByRecursion (λ (s : ResourceSight). P s.id s.token.ledger) b.resources
-        by None same = subst (λ (c : Aggregating). AllByRecursion (λ (s : ResourceSight). P s.id s.token.ledger) c.resources) (sym same) all
-        by (Some place) r =
-            let at = r.1 in
-            subst (λ (ss : List ResourceSight). AllByRecursion (λ (s : ResourceSight). P s.id s.token.ledger) ss) (sym at.4)
-            (all_put (λ (s : ResourceSight). P s.id s.token.ledger) a.resources place at.0 at.1 at.2 (λ p. subst (λ (ledger : TableId). P at.1.id ledger) (sym at.3.ledger) (subst (λ (id : ℕ). P id at.0.token.ledger) (sym at.3.id) p)) all)
+    resource_readers P all =
+        let at = read_resource.1 in
+        subst (λ (ss : List ResourceSight). AllByRecursion (λ (s : ResourceSight). P s.id s.token.ledger) ss) (sym at.4)
+        (all_put (λ (s : ResourceSight). P s.id s.token.ledger) a.resources i at.0 at.1 at.2 (λ p. subst (λ (ledger : TableId). P at.1.id ledger) (sym at.3.ledger) (subst (λ (id : ℕ). P id at.0.token.ledger) (sym at.3.id) p)) all)
 
     resource_rest : b ≡ record first { tables = record first.tables { resources = b.tables.resources }; resources = b.resources }
-    resource_rest = by (place_with resource_id x.callers.id a.tables.resources) reads
-      where
-        by : (o : Option ℕ) → ReadsResourceBeside x.callers a b o → b ≡ record first { tables = record first.tables { resources = b.tables.resources }; resources = b.resources }
-        by None same = subst (λ (c : Aggregating). c ≡ record first { tables = record first.tables { resources = c.tables.resources }; resources = c.resources }) (sym same) read.rest
-        by (Some place) r =
-            let now : List Resource = changed_at (λ t. resource_at t r.0) a.tables.resources place in
-            let is_now : b.tables.resources ≡ now = ap (λ (c : Aggregating). c.tables.resources) r.3 in
-            r.3 ∙ (ap (λ (c : Aggregating). record c { tables = record c.tables { resources = now }; resources = b.resources }) read.rest
-            ∙ ap (λ (ts : List Resource). record first { tables = record first.tables { resources = ts }; resources = b.resources }) (sym is_now))
+    resource_rest =
+        let r = read_resource in
+        let now : List Resource = changed_at (λ t. resource_at t r.0) a.tables.resources i in
+        let is_now : b.tables.resources ≡ now = ap (λ (c : Aggregating). c.tables.resources) r.3 in
+        r.3 ∙ (ap (λ (c : Aggregating). record c { tables = record c.tables { resources = now }; resources = b.resources }) read.rest
+        ∙ ap (λ (ts : List Resource). record first { tables = record first.tables { resources = ts }; resources = b.resources }) (sym is_now))
 
-    pub one_resource_more : (zs : List ResourceItem) → zs ≡ slice_set ys i y → AreResourcesRead (i + 1) first xs b zs
+    pub one_resource_more : (zs : List ResourceItem) → zs ≡ slice_set ys k y → AreResourcesRead (i + 1) first xs b zs
     one_resource_more zs set = subst (λ (zs : List ResourceItem). AreResourcesRead (i + 1) first xs b zs) (sym set) (record {
-      same = same_more IsSameResource resource_itself resource_then xs ys i x y read.same at is_same_resource;
-      many = length-set ys i y ∙ read.many;
-      hands = λ ps each. each_goes_on IsResource 1 ps ys i x y at (λ p it. resource_goes_on (1 + i) p it) (read.hands ps each);
+      same = same_more IsSameResource resource_itself resource_then xs ys k x y read.same at is_same_resource;
+      many = length-set ys k y ∙ read.many;
+      hands = λ ps each. each_goes_on IsResource 1 ps ys k x y at (λ p it. resource_goes_on (1 + k) p it) (read.hands ps each);
       rows = resource_rows;
       infos = resource_infos ∙ read.infos;
-      readers = resource_readers (IsResourceLedger (slice_set ys i y)) (all_so (λ (s : ResourceSight). IsResourceLedger ys s.id s.token.ledger) (λ (s : ResourceSight). IsResourceLedger (slice_set ys i y) s.id s.token.ledger) (λ s is.
-          still_of (λ (z : ResourceItem). z.callers.token.ledger) IsSameResource (λ z w same. same.ledger) ys (slice_set ys i y) (same_more IsSameResource resource_itself resource_then ys ys i x y (all_themselves IsSameResource resource_itself ys) at is_same_resource) s.id s.token.ledger is) a.resources read.readers);
+      readers = resource_readers (IsResourceLedger (slice_set ys k y)) (all_so (λ (s : ResourceSight). IsResourceLedger ys s.id s.token.ledger) (λ (s : ResourceSight). IsResourceLedger (slice_set ys k y) s.id s.token.ledger) (λ s is.
+          still_of (λ (z : ResourceItem). z.callers.token.ledger) IsSameResource (λ z w same. same.ledger) ys (slice_set ys k y) (same_more IsSameResource resource_itself resource_then ys ys k x y (all_themselves IsSameResource resource_itself ys) at is_same_resource) s.id s.token.ledger is) a.resources read.readers);
       rest = resource_rest;
     })
 
@@ -284,28 +274,39 @@ no_op_read a xs readers = record {
   same = all_themselves IsSameOp op_itself xs;
   many = refl;
   hands = λ ps each. each;
-  rows = λ ps each. none_read op_id (λ p t. IsOpRow p t.row) ps a.tables.ops;
+  rows = λ ps each. tt;
   infos = refl;
   readers = readers;
   rest = refl;
 }
 
--- the next one is of the number after its place, and its readers are of its ledger
-module _ (i : ℕ) (first a : Aggregating) (xs ys : List OpItem) (read : AreOpsRead i first xs a ys) (x : OpItem) (at : slice_get ys i ≡ Some x) where
-  op_past : (ps : List OpPast) → EachFrom IsOp 1 ps xs → (p : OpPast) × (made_item (i + 1) ps ≡ Some p) × IsOp (i + 1) p x
-  op_past ps each = each_made IsOp ps ys (i + 1) x (read.hands ps each) (at_place (i + 1) i ys refl ∙ at)
+-- the aggregator's next one has a number, and there is an item of it
+module _ (i : ℕ) (first a : Aggregating) (xs ys : List OpItem) (read : AreOpsRead i first xs a ys) (sound : IsSound a) where
+  ops_numbered : AllByRecursion (λ (t : Op). (n : ℕ) × (x : OpItem) × (op_id t ≡ id_of 1 n) × (made_item n ys ≡ Some x)) a.tables.ops
+  ops_numbered = of_items op_id (λ (s : OpSight). s.id) (λ (s : OpSight). s.token.ledger) (λ (x : OpItem). x.callers.token.ledger) ReadOp (λ t s p. p.0) ys a.tables.ops a.ops sound.ops read.readers
 
-  op_number : (ps : List OpPast) → EachFrom IsOp 1 ps xs → x.callers.id ≡ id_of 1 (i + 1)
+  pub next_op : i < length first.tables.ops → (place : ℕ) × HasNumber op_id a.tables.ops i (place + 1)
+  next_op lt = has_number op_id ys a.tables.ops ops_numbered i (omega (arith, lt, same_length op_info a.tables.ops first.tables.ops read.infos))
+
+  pub op_there : (k : ℕ) → HasNumber op_id a.tables.ops i (k + 1) → (x : OpItem) × (slice_get ys k ≡ Some x)
+  op_there k next = its_item op_id ys a.tables.ops ops_numbered i k next
+
+-- the item at a place is of the number after it, and its readers are of its ledger
+module _ (i : ℕ) (first a : Aggregating) (xs ys : List OpItem) (read : AreOpsRead i first xs a ys) (k : ℕ) (x : OpItem) (at : slice_get ys k ≡ Some x) where
+  op_past : (ps : List OpPast) → EachFrom IsOp 1 ps xs → (p : OpPast) × (made_item (k + 1) ps ≡ Some p) × IsOp (k + 1) p x
+  op_past ps each = each_made IsOp ps ys (k + 1) x (read.hands ps each) (at_place (k + 1) k ys refl ∙ at)
+
+  op_number : (ps : List OpPast) → EachFrom IsOp 1 ps xs → x.callers.id ≡ id_of 1 (k + 1)
   op_number ps each = let it = op_past ps each in it.2.id
 
   pub op_may_read : (ps : List OpPast) → EachFrom IsOp 1 ps xs → AreOf op_meaning x.callers a.ops
   op_may_read ps each =
       all_so (λ (s : OpSight). IsOpLedger ys s.id s.token.ledger) (λ (s : OpSight). s.id ≡ x.callers.id → s.token.ledger ≡ x.callers.token.ledger) (λ s is same.
-      its_ledger (λ (y : OpItem). y.callers.token.ledger) ys i x s.id s.token.ledger at (same ∙ op_number ps each) is) a.ops read.readers
+      its_ledger (λ (y : OpItem). y.callers.token.ledger) ys k x s.id s.token.ledger at (same ∙ op_number ps each) is) a.ops read.readers
 
-  -- it was read
+  -- it was read, since the aggregator's next one is of its number
   module _ (b : Aggregating) (y : OpItem) (is : y ≡ record x { callers = y.callers }) (hand : StaysHand op_meaning x.callers y.callers) (reads : ReadsOpBeside x.callers a b (place_with op_id x.callers.id a.tables.ops))
-      (past : List OpPast) (each_is : EachFrom IsOp 1 past xs) (distinct : IsDistinct nat_eq (map op_id first.tables.ops)) where
+      (past : List OpPast) (each_is : EachFrom IsOp 1 past xs) (next : HasNumber op_id a.tables.ops i (k + 1)) (distinct : IsDistinct nat_eq (map op_id a.tables.ops)) where
     op_goes_on : (n : ℕ) (p : OpPast) → IsOp n p x → IsOp n p y
     op_goes_on n p it = record {
       id = hand.id ∙ it.id;
@@ -316,58 +317,42 @@ module _ (i : ℕ) (first a : Aggregating) (xs ys : List OpItem) (read : AreOpsR
     is_same_op : IsSameOp x y
     is_same_op = record { id = hand.id; ledger = hand.ledger }
 
-    now_distinct_ops : IsDistinct nat_eq (map op_id a.tables.ops)
-    now_distinct_ops = subst (λ (ids : List ℕ). IsDistinct nat_eq ids) (sym (same_op_ids first.tables.ops a.tables.ops read.infos)) distinct
+    read_op : ReadsOpBeside x.callers a b (Some i)
+    read_op = subst (λ (o : Option ℕ). ReadsOpBeside x.callers a b o) (its_place op_id x.callers.id a.tables.ops i next.0 next.1 (next.2 ∙ sym (op_number past each_is)) distinct) reads
 
     op_rows : (ps : List OpPast) → EachFrom IsOp 1 ps xs → AreReadTo op_id (λ p t. IsOpRow p t.row) (i + 1) ps b.tables.ops
-    op_rows ps each = by (place_with op_id x.callers.id a.tables.ops) refl reads
-      where
-        by : (o : Option ℕ) → place_with op_id x.callers.id a.tables.ops ≡ o → ReadsOpBeside x.callers a b o → AreReadTo op_id (λ p t. IsOpRow p t.row) (i + 1) ps b.tables.ops
-        by None none same =
-            subst (λ (c : Aggregating). AreReadTo op_id (λ p t. IsOpRow p t.row) (i + 1) ps c.tables.ops) (sym same)
-            (none_more op_id (λ p t. IsOpRow p t.row) i x.callers.id ps (op_number ps each) a.tables.ops (none_there op_id x.callers.id a.tables.ops none) (read.rows ps each))
-        by (Some place) found r =
-            let it = op_past ps each in
-            let there = stands_there op_id x.callers.id a.tables.ops place found in
-            subst (λ (c : Aggregating). AreReadTo op_id (λ p t. IsOpRow p t.row) (i + 1) ps c.tables.ops) (sym r.3)
-            (read_more op_id (λ p t. IsOpRow p t.row) i x.callers.id ps (op_number ps each) (λ t. op_at t r.0) it.0 it.1 (λ t. refl) (λ t e. r.2 it.0.opening it.0.called it.2.called) a.tables.ops place there.0 there.1 there.2 now_distinct_ops (read.rows ps each))
+    op_rows ps each =
+        let it = op_past ps each in
+        let r = read_op in
+        let row : IsRead op_id (λ p t. IsOpRow p t.row) ps (op_at next.0 r.0) = row_read op_id (λ p t. IsOpRow p t.row) (k + 1) ps it.0 (op_at next.0 r.0) next.2 it.1 (r.2 it.0.opening it.0.called it.2.called) in
+        subst (λ (c : Aggregating). AreReadTo op_id (λ p t. IsOpRow p t.row) (i + 1) ps c.tables.ops) (sym r.3)
+        (changed_too (IsRead op_id (λ p t. IsOpRow p t.row) ps) (λ t. op_at t r.0) a.tables.ops i next.0 next.1 row (read.rows ps each))
 
     op_infos : map op_info b.tables.ops ≡ map op_info a.tables.ops
-    op_infos = by (place_with op_id x.callers.id a.tables.ops) reads
-      where
-        by : (o : Option ℕ) → ReadsOpBeside x.callers a b o → map op_info b.tables.ops ≡ map op_info a.tables.ops
-        by None same = ap (λ (c : Aggregating). map op_info c.tables.ops) same
-        by (Some place) r = ap (λ (c : Aggregating). map op_info c.tables.ops) r.3 ∙ map_changed op_info (λ t. op_at t r.0) (λ t. refl) a.tables.ops place
+    op_infos = let r = read_op in ap (λ (c : Aggregating). map op_info c.tables.ops) r.3 ∙ map_changed op_info (λ t. op_at t r.0) (λ t. refl) a.tables.ops i
 
     op_readers : (P : ℕ → TableId → Type 0) → AllByRecursion (λ (s : OpSight). P s.id s.token.ledger) a.ops → AllByRecursion (λ (s : OpSight). P s.id s.token.ledger) b.ops
-    op_readers P all = by (place_with op_id x.callers.id a.tables.ops) reads
-      where
-        by : (o : Option ℕ) → ReadsOpBeside x.callers a b o → AllByRecursion (λ (s : OpSight). P s.id s.token.ledger) b.ops
-        by None same = subst (λ (c : Aggregating). AllByRecursion (λ (s : OpSight). P s.id s.token.ledger) c.ops) (sym same) all
-        by (Some place) r =
-            let at = r.1 in
-            subst (λ (ss : List OpSight). AllByRecursion (λ (s : OpSight). P s.id s.token.ledger) ss) (sym at.4)
-            (all_put (λ (s : OpSight). P s.id s.token.ledger) a.ops place at.0 at.1 at.2 (λ p. subst (λ (ledger : TableId). P at.1.id ledger) (sym at.3.ledger) (subst (λ (id : ℕ). P id at.0.token.ledger) (sym at.3.id) p)) all)
+    op_readers P all =
+        let at = read_op.1 in
+        subst (λ (ss : List OpSight). AllByRecursion (λ (s : OpSight). P s.id s.token.ledger) ss) (sym at.4)
+        (all_put (λ (s : OpSight). P s.id s.token.ledger) a.ops i at.0 at.1 at.2 (λ p. subst (λ (ledger : TableId). P at.1.id ledger) (sym at.3.ledger) (subst (λ (id : ℕ). P id at.0.token.ledger) (sym at.3.id) p)) all)
 
     op_rest : b ≡ record first { tables = record first.tables { ops = b.tables.ops }; ops = b.ops }
-    op_rest = by (place_with op_id x.callers.id a.tables.ops) reads
-      where
-        by : (o : Option ℕ) → ReadsOpBeside x.callers a b o → b ≡ record first { tables = record first.tables { ops = b.tables.ops }; ops = b.ops }
-        by None same = subst (λ (c : Aggregating). c ≡ record first { tables = record first.tables { ops = c.tables.ops }; ops = c.ops }) (sym same) read.rest
-        by (Some place) r =
-            let now : List Op = changed_at (λ t. op_at t r.0) a.tables.ops place in
-            let is_now : b.tables.ops ≡ now = ap (λ (c : Aggregating). c.tables.ops) r.3 in
-            r.3 ∙ (ap (λ (c : Aggregating). record c { tables = record c.tables { ops = now }; ops = b.ops }) read.rest
-            ∙ ap (λ (ts : List Op). record first { tables = record first.tables { ops = ts }; ops = b.ops }) (sym is_now))
+    op_rest =
+        let r = read_op in
+        let now : List Op = changed_at (λ t. op_at t r.0) a.tables.ops i in
+        let is_now : b.tables.ops ≡ now = ap (λ (c : Aggregating). c.tables.ops) r.3 in
+        r.3 ∙ (ap (λ (c : Aggregating). record c { tables = record c.tables { ops = now }; ops = b.ops }) read.rest
+        ∙ ap (λ (ts : List Op). record first { tables = record first.tables { ops = ts }; ops = b.ops }) (sym is_now))
 
-    pub one_op_more : (zs : List OpItem) → zs ≡ slice_set ys i y → AreOpsRead (i + 1) first xs b zs
+    pub one_op_more : (zs : List OpItem) → zs ≡ slice_set ys k y → AreOpsRead (i + 1) first xs b zs
     one_op_more zs set = subst (λ (zs : List OpItem). AreOpsRead (i + 1) first xs b zs) (sym set) (record {
-      same = same_more IsSameOp op_itself op_then xs ys i x y read.same at is_same_op;
-      many = length-set ys i y ∙ read.many;
-      hands = λ ps each. each_goes_on IsOp 1 ps ys i x y at (λ p it. op_goes_on (1 + i) p it) (read.hands ps each);
+      same = same_more IsSameOp op_itself op_then xs ys k x y read.same at is_same_op;
+      many = length-set ys k y ∙ read.many;
+      hands = λ ps each. each_goes_on IsOp 1 ps ys k x y at (λ p it. op_goes_on (1 + k) p it) (read.hands ps each);
       rows = op_rows;
       infos = op_infos ∙ read.infos;
-      readers = op_readers (IsOpLedger (slice_set ys i y)) (all_so (λ (s : OpSight). IsOpLedger ys s.id s.token.ledger) (λ (s : OpSight). IsOpLedger (slice_set ys i y) s.id s.token.ledger) (λ s is.
-          still_of (λ (z : OpItem). z.callers.token.ledger) IsSameOp (λ z w same. same.ledger) ys (slice_set ys i y) (same_more IsSameOp op_itself op_then ys ys i x y (all_themselves IsSameOp op_itself ys) at is_same_op) s.id s.token.ledger is) a.ops read.readers);
+      readers = op_readers (IsOpLedger (slice_set ys k y)) (all_so (λ (s : OpSight). IsOpLedger ys s.id s.token.ledger) (λ (s : OpSight). IsOpLedger (slice_set ys k y) s.id s.token.ledger) (λ s is.
+          still_of (λ (z : OpItem). z.callers.token.ledger) IsSameOp (λ z w same. same.ledger) ys (slice_set ys k y) (same_more IsSameOp op_itself op_then ys ys k x y (all_themselves IsSameOp op_itself ys) at is_same_op) s.id s.token.ledger is) a.ops read.readers);
       rest = op_rest;
     })

@@ -1,17 +1,18 @@
 -- What readings leave, one after the other: of the items, of who reads them, and of the rows of a table.
-use Rattle.std.proofs.Common.{◌≡◌, ◌≢◌, ℕ, zero, suc, ◌+◌, ◌≤◌, Bool, true, false, cond, List, [], ◌∷◌, length, get_or, Some, None, refl, sym, ap, ◌∙◌, subst, arith}
+use Rattle.std.proofs.Common.{◌≡◌, ◌≢◌, ℕ, zero, suc, ◌+◌, ◌<◌, ◌≤◌, Bool, true, false, cond, List, [], ◌∷◌, length, take, get_or, Option, Some, None, refl, sym, ap, ◌∙◌, subst, arith}
 use Rattle.std.specs.Prelude.{map, filter, nat_eq, not, position, slice_get, slice_set}
 use Rattle.std.specs.List.{AllByRecursion, IsDistinct, position_or_len}
-use Rattle.std.proofs.lemmas.List.{length-map}
+use Rattle.std.proofs.lemmas.List.{length-map, take_all}
 use Rattle.std.proofs.lemmas.List.Quantifiers.{position-Some}
 use borrow.Author.Tests.{eqb-true, eqb-false}
 use Rattle.tk_ids.specs.Ids.{id_of}
 use Rattle.tk_stream.specs.Places.{place_with}
 use Rattle.tk_stream.specs.Tables.{changed_at}
+use Rattle.tk_aggregator.specs.Aggregates.{Pairs}
 use Rattle.tk_live.specs.Items.{EachFrom}
 use Rattle.tk_live.specs.Named.{made_item}
-use Rattle.tk_live.specs.Read.{AreSame, IsReadTo, AreReadTo}
-use Rattle.tk_live.proofs.Places.{at_place, each_made, get_some, made_place, made_put, within}
+use Rattle.tk_live.specs.Read.{AreSame, HasNumber, IsRead, AreReadTo}
+use Rattle.tk_live.proofs.Places.{at_place, each_made, get_some, made_place, made_put}
 
 -- two numbers of one id are one
 pub one_number : (n m : ℕ) → id_of 1 n ≡ id_of 1 m → n ≡ m
@@ -26,6 +27,12 @@ module _ {X : Type 0} (P Q : X → Type 0) (f : (x : X) → P x → Q x) where
   pub all_so : (xs : List X) → AllByRecursion P xs → AllByRecursion Q xs
   all_so [] all = tt
   all_so (x ∷ xs) all = (f x all.0, all_so xs all.1)
+
+-- what holds of all holds of each
+pub all_at : {X : Type 0} (P : X → Type 0) (xs : List X) (i : ℕ) (x : X) → slice_get xs i ≡ Some x → AllByRecursion P xs → P x
+all_at P [] i x at all = absurd cc
+all_at P (y ∷ xs) zero x at all = subst P (some_same at) all.0
+all_at P (y ∷ xs) (suc i) x at all = all_at P xs i x at all.1
 
 -- those that stay are among those that were there
 pub all_stay : {X : Type 0} (P : X → Type 0) (p : X → Bool) (xs : List X) → AllByRecursion P xs → AllByRecursion P (filter p xs)
@@ -111,6 +118,56 @@ module _ {T : Type 0} (id : T → ℕ) (hand : ℕ) where
   pub none_there : (ts : List T) → place_with id hand ts ≡ None → AllByRecursion (λ (t : T). id t ≢ hand) ts
   none_there ts none = none_of ts (nowhere (map id ts) none)
 
+  apart_from : (t : T) (ts : List T) (k : ℕ) (x : T) → slice_get ts k ≡ Some x → AllByRecursion (λ (n : ℕ). nat_eq (id t) n ≡ false) (map id ts) → id t ≢ id x
+  apart_from t [] k x at apart = absurd cc
+  apart_from t (y ∷ ts) zero x at apart = λ e. eqb-false (id t) (id y) apart.0 (e ∙ ap id (sym (some_same at)))
+  apart_from t (y ∷ ts) (suc k) x at apart = apart_from t ts k x at apart.1
+
+  -- an id stands at one place, where no two are the same
+  one_place : (ts : List T) (i k : ℕ) (x y : T) → slice_get ts i ≡ Some x → slice_get ts k ≡ Some y → id x ≡ id y → IsDistinct nat_eq (map id ts) → k ≡ i
+  unfolding IsDistinct
+  one_place [] i k x y at there same distinct = absurd cc
+  one_place (t ∷ ts) zero zero x y at there same distinct = refl
+  one_place (t ∷ ts) zero (suc k) x y at there same distinct = absurd (apart_from t ts k y there distinct.0 (ap id (some_same at) ∙ same))
+  one_place (t ∷ ts) (suc i) zero x y at there same distinct = absurd (apart_from t ts i x at distinct.0 (ap id (some_same there) ∙ sym same))
+  one_place (t ∷ ts) (suc i) (suc k) x y at there same distinct = ap suc (one_place ts i k x y at there same distinct.1)
+
+  -- so that is the place of what has it
+  pub its_place : (ts : List T) (i : ℕ) (t : T) → slice_get ts i ≡ Some t → id t ≡ hand → IsDistinct nat_eq (map id ts) → place_with id hand ts ≡ Some i
+  its_place ts i t at is distinct = by (place_with id hand ts) refl
+    where
+      by : (o : Option ℕ) → place_with id hand ts ≡ o → o ≡ Some i
+      by None none = absurd (all_at (λ (t : T). id t ≢ hand) ts i t at (none_there ts none) is)
+      by (Some place) found =
+          let there = stands_there ts place found in
+          ap (λ (k : ℕ). Some k) (one_place ts i place t there.0 at there.1 (is ∙ sym there.2) distinct)
+
+-- ---- items of a table, of which each has a reader
+
+module _ {T S X L : Type 0} (id : T → ℕ) (reader_id : S → ℕ) (ledger : S → L) (ledger_of : X → L) (Read : T → S → Type 0) (reads_id : (t : T) (s : S) → Read t s → reader_id s ≡ id t) (xs : List X) where
+  -- each is of an item of the script, where each reader is of the ledger of one
+  pub of_items : (ts : List T) (ss : List S) → Pairs Read ts ss → AllByRecursion (λ (s : S). IsOf ledger_of xs (reader_id s) (ledger s)) ss
+      → AllByRecursion (λ (t : T). (n : ℕ) × (x : X) × (id t ≡ id_of 1 n) × (made_item n xs ≡ Some x)) ts
+  of_items [] [] pairs all = tt
+  of_items [] (s ∷ ss) pairs all = absurd pairs
+  of_items (t ∷ ts) [] pairs all = absurd pairs
+  of_items (t ∷ ts) (s ∷ ss) pairs all = ((all.0.0, all.0.1, sym (reads_id t s pairs.0) ∙ all.0.2, all.0.3), of_items ts ss pairs.1 all.1)
+
+module _ {T X : Type 0} (id : T → ℕ) (xs : List X) (ts : List T) (of : AllByRecursion (λ (t : T). (n : ℕ) × (x : X) × (id t ≡ id_of 1 n) × (made_item n xs ≡ Some x)) ts) where
+  -- at each place of the table stands one
+  pub has_number : (i : ℕ) → i < length ts → (place : ℕ) × HasNumber id ts i (place + 1)
+  has_number i lt =
+      let there = get_some ts i lt in
+      let it = all_at (λ (t : T). (n : ℕ) × (x : X) × (id t ≡ id_of 1 n) × (made_item n xs ≡ Some x)) ts i there.0 there.1 of in
+      let at = made_place it.0 xs it.1 it.3 in
+      (at.0, (there.0, there.1, it.2 ∙ ap (id_of 1) at.1))
+
+  -- and its item stands at the place before its number
+  pub its_item : (i k : ℕ) → HasNumber id ts i (k + 1) → (x : X) × (slice_get xs k ≡ Some x)
+  its_item i k is =
+      let it = all_at (λ (t : T). (n : ℕ) × (x : X) × (id t ≡ id_of 1 n) × (made_item n xs ≡ Some x)) ts i is.0 is.1 of in
+      (it.1, sym (at_place it.0 k xs (one_number it.0 (k + 1) (sym it.2 ∙ is.2))) ∙ it.3)
+
 -- a change of one leaves what it doesn't touch of each
 pub map_changed : {T I : Type 0} (f : T → I) (put : T → T) → ((t : T) → f (put t) ≡ f t) → (ts : List T) (place : ℕ) → map f (changed_at put ts place) ≡ map f ts
 map_changed f put same [] place = refl
@@ -123,60 +180,47 @@ all_put P [] place x y at on all = all
 all_put {X} P (z ∷ xs) zero x y at on all = (on (subst P (some_same at) all.0), all.1)
 all_put P (z ∷ xs) (suc k) x y at on all = (all.0, all_put P xs k x y at on all.1)
 
+-- what is the same of each is of as many
+pub same_length : {T I : Type 0} (f : T → I) (ts us : List T) → map f ts ≡ map f us → length ts ≡ length us
+same_length f ts us same = sym (length-map ts f) ∙ (ap (λ is. length is) same ∙ length-map us f)
+
 -- ---- the rows of a table
 
+module _ {X : Type 0} (P : X → Type 0) where
+  -- what holds of the first so many and of the next one
+  next_suc : (xs : List X) (i : ℕ) (x : X) → slice_get xs i ≡ Some x → P x → AllByRecursion P (take i xs) → AllByRecursion P (take (suc i) xs)
+  next_suc [] i x at holds all = absurd cc
+  next_suc (y ∷ xs) zero x at holds all = (subst P (sym (some_same at)) holds, tt)
+  next_suc (y ∷ xs) (suc i) x at holds all = (all.0, next_suc xs i x at holds all.1)
+
+  pub next_too : (xs : List X) (i : ℕ) (x : X) → slice_get xs i ≡ Some x → P x → AllByRecursion P (take i xs) → AllByRecursion P (take (i + 1) xs)
+  next_too xs i x at holds all = subst (λ (n : ℕ). AllByRecursion P (take n xs)) (let e : suc i ≡ i + 1 = omega arith in e) (next_suc xs i x at holds all)
+
+  -- so where the next one was changed
+  changed_suc : (put : X → X) (xs : List X) (i : ℕ) (x : X) → slice_get xs i ≡ Some x → P (put x) → AllByRecursion P (take i xs) → AllByRecursion P (take (suc i) (changed_at put xs i))
+  changed_suc put [] i x at holds all = absurd cc
+  changed_suc put (y ∷ xs) zero x at holds all = (subst (λ (z : X). P (put z)) (sym (some_same at)) holds, tt)
+  changed_suc put (y ∷ xs) (suc i) x at holds all = (all.0, changed_suc put xs i x at holds all.1)
+
+  pub changed_too : (put : X → X) (xs : List X) (i : ℕ) (x : X) → slice_get xs i ≡ Some x → P (put x) → AllByRecursion P (take i xs) → AllByRecursion P (take (i + 1) (changed_at put xs i))
+  changed_too put xs i x at holds all = subst (λ (n : ℕ). AllByRecursion P (take n (changed_at put xs i))) (let e : suc i ≡ i + 1 = omega arith in e) (changed_suc put xs i x at holds all)
+
 module _ {T P : Type 0} (id : T → ℕ) (HasRow : P → T → Type 0) where
-  -- none is read yet
-  pub none_read : (ps : List P) (ts : List T) → AreReadTo id HasRow 0 ps ts
-  none_read ps [] = tt
-  none_read ps (t ∷ ts) = (λ n p is low named. let at = made_place n ps p named in absurd (omega (arith, at.1, low)), none_read ps ts)
-
-  -- one more was read
-  module _ (i hand : ℕ) (ps : List P) (is_hand : hand ≡ id_of 1 (i + 1)) where
-    leave_one : (t : T) → id t ≢ hand → IsReadTo id HasRow i ps t → IsReadTo id HasRow (i + 1) ps t
-    leave_one t other read n q of low named =
-        let apart : n ≢ i + 1 = λ e. other (of ∙ (ap (id_of 1) e ∙ sym is_hand)) in
-        read n q of (omega (arith, low, apart)) named
-
-    -- there is none of it
-    pub none_more : (ts : List T) → AllByRecursion (λ (t : T). id t ≢ hand) ts → AreReadTo id HasRow i ps ts → AreReadTo id HasRow (i + 1) ps ts
-    none_more [] none all = tt
-    none_more (t ∷ ts) none all = (leave_one t none.0 all.0, none_more ts none.1 all.1)
-
-    others : (t : T) (ts : List T) → id t ≡ hand → AllByRecursion (λ (n : ℕ). nat_eq (id t) n ≡ false) (map id ts) → AllByRecursion (λ (t : T). id t ≢ hand) ts
-    others t [] is apart = tt
-    others t (x ∷ ts) is apart = (λ e. eqb-false (id t) (id x) apart.0 (is ∙ sym e), others t ts is apart.1)
-
-    another : (t x : T) (ts : List T) (k : ℕ) → slice_get ts k ≡ Some x → AllByRecursion (λ (n : ℕ). nat_eq (id t) n ≡ false) (map id ts) → id t ≢ id x
-    another t x [] k at apart = absurd cc
-    another t x (y ∷ ts) zero at apart = λ e. eqb-false (id t) (id y) apart.0 (e ∙ ap id (sym (some_same at)))
-    another t x (y ∷ ts) (suc k) at apart = another t x ts k at apart.1
-
-    -- or its row was put in its place
-    module _ (put : T → T) (p : P) (is_past : made_item (i + 1) ps ≡ Some p) (same_id : (t : T) → id (put t) ≡ id t) (its_row : (t : T) → id t ≡ hand → HasRow p (put t)) where
-      put_one : (t : T) → id t ≡ hand → IsReadTo id HasRow (i + 1) ps (put t)
-      put_one t is n q of low named =
-          let number : n ≡ i + 1 = one_number n (i + 1) (sym of ∙ (same_id t ∙ (is ∙ is_hand))) in
-          let same : p ≡ q = some_same (sym is_past ∙ (ap (λ (k : ℕ). made_item k ps) (sym number) ∙ named)) in
-          subst (λ (q : P). HasRow q (put t)) same (its_row t is)
-
-      pub read_more : (ts : List T) (place : ℕ) (x : T) → slice_get ts place ≡ Some x → id x ≡ hand → IsDistinct nat_eq (map id ts) → AreReadTo id HasRow i ps ts → AreReadTo id HasRow (i + 1) ps (changed_at put ts place)
-      unfolding IsDistinct
-      read_more [] place x at is distinct all = absurd cc
-      read_more (t ∷ ts) zero x at is distinct all =
-          let here : id t ≡ hand = ap id (some_same at) ∙ is in
-          (put_one t here, none_more ts (others t ts here distinct.0) all.1)
-      read_more (t ∷ ts) (suc k) x at is distinct all = (leave_one t (λ e. another t x ts k at distinct.0 (e ∙ sym is)) all.0, read_more ts k x at is distinct.1 all.1)
+  -- what has the id of a number, and the row of what was called on the item of it, is read
+  pub row_read : (n : ℕ) (ps : List P) (p : P) (t : T) → id t ≡ id_of 1 n → made_item n ps ≡ Some p → HasRow p t → IsRead id HasRow ps t
+  row_read n ps p t is past row m q of named =
+      let same : p ≡ q = some_same (sym past ∙ (ap (λ (k : ℕ). made_item k ps) (one_number n m (sym is ∙ of)) ∙ named)) in
+      subst (λ (q : P). HasRow q t) same row
 
   -- all were read
   module _ {X : Type 0} (Called : T → Type 0) (ps : List P) (xs : List X) (R : ℕ → P → X → Type 0) (each : EachFrom R 1 ps xs)
       (is_called : (t : T) (n : ℕ) (p : P) → id t ≡ id_of 1 n → made_item n ps ≡ Some p → HasRow p t → Called t) where
-    pub all_read : (ts : List T) → AllByRecursion (λ (t : T). (n : ℕ) × (x : X) × (id t ≡ id_of 1 n) × (made_item n xs ≡ Some x)) ts → AreReadTo id HasRow (length xs) ps ts → AllByRecursion Called ts
-    all_read [] of all = tt
-    all_read (t ∷ ts) of all =
+    all_called : (ts : List T) → AllByRecursion (λ (t : T). (n : ℕ) × (x : X) × (id t ≡ id_of 1 n) × (made_item n xs ≡ Some x)) ts → AllByRecursion (IsRead id HasRow ps) ts → AllByRecursion Called ts
+    all_called [] of all = tt
+    all_called (t ∷ ts) of all =
         let it = of.0 in
-        let place = made_place it.0 xs it.1 it.3 in
         let there = each_made R ps xs it.0 it.1 each it.3 in
-        let past = there.1 in
-        let low : it.0 ≤ length xs = (let lt = within xs place.0 it.1 place.2 in omega (arith, lt, place.1)) in
-        (is_called t it.0 there.0 it.2 past (all.0 it.0 there.0 it.2 low past), all_read ts of.1 all.1)
+        (is_called t it.0 there.0 it.2 there.1 (all.0 it.0 there.0 it.2 there.1), all_called ts of.1 all.1)
+
+    pub all_read : (ts : List T) (count : ℕ) → length ts ≡ count → AllByRecursion (λ (t : T). (n : ℕ) × (x : X) × (id t ≡ id_of 1 n) × (made_item n xs ≡ Some x)) ts → AreReadTo id HasRow count ps ts → AllByRecursion Called ts
+    all_read ts count many of all = all_called ts of (subst (λ (us : List T). AllByRecursion (IsRead id HasRow ps) us) (take_all count ts (omega (arith, many))) all)

@@ -1,5 +1,5 @@
 -- What readings before a line leave. Inner: no public clause cites it.
-use Rattle.std.specs.Prelude.{◌≡◌, ℕ, ◌≤◌, List, map, length, Option, Some, None, All}
+use Rattle.std.specs.Prelude.{◌≡◌, ℕ, List, map, length, take, slice_get, Option, Some, None, All}
 use Rattle.std.specs.List.{AllByRecursion}
 use Rattle.tk_ids.specs.Ids.{id_of}
 use Rattle.tk_events.specs.Buffer.{IsNamed}
@@ -41,17 +41,21 @@ pub record CollectsAll (r : Recording) (old : Aggregating) (before : Taking) (ne
 abbrev pub AreSame : {X : Type 0} → (X → X → Type 0) → List X → List X → Type 0
 AreSame {X} R old new = (n : ℕ) (x : X) → made_item n old ≡ Some x → (y : X) × (made_item n new ≡ Some y) × R x y
 
+-- at a place of a table stands the item of this number
+abbrev pub HasNumber : {T : Type 0} → (T → ℕ) → List T → ℕ → ℕ → Type 0
+HasNumber {T} id ts i n = (t : T) × (slice_get ts i ≡ Some t) × (id t ≡ id_of 1 n)
+
 module _ {T P : Type 0} (id : T → ℕ) (HasRow : P → T → Type 0) where
-  -- an item of a table has the row of what was called on the one of its number, if this is among the first
-  abbrev pub IsReadTo : ℕ → List P → T → Type 0
-  IsReadTo count ps t = (n : ℕ) (p : P) → id t ≡ id_of 1 n → n ≤ count → made_item n ps ≡ Some p → HasRow p t
+  -- an item of a table has the row of what was called on the one of its number
+  abbrev pub IsRead : List P → T → Type 0
+  IsRead ps t = (n : ℕ) (p : P) → id t ≡ id_of 1 n → made_item n ps ≡ Some p → HasRow p t
 
-  -- so have all items of a table
+  -- so have the first so many items of a table
   abbrev pub AreReadTo : ℕ → List P → List T → Type 0
-  AreReadTo count ps ts = AllByRecursion (IsReadTo count ps) ts
+  AreReadTo count ps ts = AllByRecursion (IsRead ps) (take count ts)
 
--- the first so many tasks were read, each beside its hand: they are the same tasks, of which the hands made the same calls, and so are the
--- tasks of the aggregator and who reads them
+-- the first so many tasks of the aggregator were read, each beside its hand: it has the same tasks, and who reads them, and the script's tasks
+-- are the same, of which the hands made the same calls
 pub record AreTasksRead (count : ℕ) (a : Aggregating) (tasks : List TaskItem) (b : Aggregating) (new : List TaskItem) : Type 0 where
   pub same : AreSame IsSameTask tasks new
   pub many : length new ≡ length tasks
@@ -61,8 +65,8 @@ pub record AreTasksRead (count : ℕ) (a : Aggregating) (tasks : List TaskItem) 
   pub readers : AllByRecursion (λ (s : TaskSight). IsTaskLedger new s.id s.token.ledger) b.tasks
   pub rest : b ≡ record a { tables = record a.tables { tasks = b.tables.tasks }; tasks = b.tasks }
 
--- the first so many resources were read, each beside its hand: they are the same resources, of which the hands made the same calls, and so
--- are the resources of the aggregator and who reads them
+-- the first so many resources of the aggregator were read, each beside its hand: it has the same resources, and who reads them, and the script's
+-- resources are the same, of which the hands made the same calls
 pub record AreResourcesRead (count : ℕ) (a : Aggregating) (resources : List ResourceItem) (b : Aggregating) (new : List ResourceItem) : Type 0 where
   pub same : AreSame IsSameResource resources new
   pub many : length new ≡ length resources
@@ -72,8 +76,8 @@ pub record AreResourcesRead (count : ℕ) (a : Aggregating) (resources : List Re
   pub readers : AllByRecursion (λ (s : ResourceSight). IsResourceLedger new s.id s.token.ledger) b.resources
   pub rest : b ≡ record a { tables = record a.tables { resources = b.tables.resources }; resources = b.resources }
 
--- the first so many async operations were read, each beside its hand: they are the same operations, of which the hands made the same calls,
--- and so are the operations of the aggregator and who reads them
+-- the first so many async operations of the aggregator were read, each beside its hand: it has the same operations, and who reads them, and the
+-- script's operations are the same, of which the hands made the same calls
 pub record AreOpsRead (count : ℕ) (a : Aggregating) (ops : List OpItem) (b : Aggregating) (new : List OpItem) : Type 0 where
   pub same : AreSame IsSameOp ops new
   pub many : length new ≡ length ops
@@ -92,8 +96,8 @@ ReadsOwned (Some owner) a b new = (owner_then : TimesSight) × ReadsHistogramBes
 abbrev pub ShowsAdded : TaskItem → TaskTimes → Type 0
 ShowsAdded x t = (o : TimesSight) → x.times ≡ Some o → t.1 ≡ times_of (added_times o.token)
 
--- the histograms of the first so many tasks were read, each beside its owner: they are the same tasks, of which the hands made the same calls,
--- and so are the histograms of the aggregator and who reads them
+-- the first so many histograms of the aggregator were read, each beside its owner: it has those of the same tasks, and who reads them, and the
+-- script's tasks are the same, of which the hands made the same calls
 pub record AreTimesRead (count : ℕ) (a : Aggregating) (tasks : List TaskItem) (b : Aggregating) (new : List TaskItem) : Type 0 where
   pub same : AreSame IsSameTask tasks new
   pub many : length new ≡ length tasks
@@ -112,14 +116,14 @@ pub record MayRead (i : Interpreter) : Type 0 where
   pub ops : AllByRecursion (λ (s : OpSight). IsOpLedger i.ops.items s.id s.token.ledger) i.aggregator.ops
   pub times : AllByRecursion (λ (s : TimesSight). IsTimesLedger i.tasks.items s.id s.token.ledger) i.aggregator.timing.readers
 
--- all items were read, one kind after the other, and then the histograms
+-- all items of the aggregator were read, one kind after the other, and then its histograms
 pub record AreItemsRead (old new : Interpreter) : Type 0 where
   pub tasks_then : Aggregating
   pub resources_then : Aggregating
   pub ops_then : Aggregating
   pub items_then : List TaskItem
-  pub tasks : AreTasksRead (length old.tasks.items) old.aggregator old.tasks.items tasks_then items_then
-  pub resources : AreResourcesRead (length old.resources.items) tasks_then old.resources.items resources_then new.resources.items
-  pub ops : AreOpsRead (length old.ops.items) resources_then old.ops.items ops_then new.ops.items
-  pub times : AreTimesRead (length items_then) ops_then items_then new.aggregator new.tasks.items
+  pub tasks : AreTasksRead (length old.aggregator.tables.tasks) old.aggregator old.tasks.items tasks_then items_then
+  pub resources : AreResourcesRead (length tasks_then.tables.resources) tasks_then old.resources.items resources_then new.resources.items
+  pub ops : AreOpsRead (length resources_then.tables.ops) resources_then old.ops.items ops_then new.ops.items
+  pub times : AreTimesRead (length ops_then.timing.shown) ops_then items_then new.aggregator new.tasks.items
   pub rest : new ≡ record old { aggregator = new.aggregator; tasks = new.tasks; resources = new.resources; ops = new.ops }

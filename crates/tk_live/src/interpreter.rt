@@ -18,7 +18,7 @@ use tk_aggregator::{Aggregator, StreamError};
 use tk_events::{Console, Limits, Recorder, Taker};
 use tk_script::{Command, Settings, Stop};
 
-// So many polls `polls` commands make together at most. They take some seconds.
+// So many polls `polls` commands make together at most. They take about half a minute.
 const MOST_POLLS: u64 = 100_000_000;
 
 /// The recorder, the taker and the aggregator of a script, and what is kept of its items, each at its number.

@@ -1,5 +1,5 @@
 //! The lines of the stream.
-ghost use Rattle.std.specs.Prelude.{◌≡◌, false, List, length, OnOk, IfErr, IfSome};
+ghost use Rattle.std.specs.Prelude.{◌≡◌, ◌+◌, ℕ, false, List, length, OnOk, IfErr, IfSome};
 ghost use Rattle.std.specs.List.{AllByRecursion};
 ghost use Rattle.std.specs.Io.KnownBytes.{Appends};
 ghost use Rattle.tk_stream.specs.Spelling.{sent_text};
@@ -10,7 +10,7 @@ ghost use Rattle.tk_ledgers.specs.Tasks.{TaskSight};
 ghost use Rattle.tk_ledgers.specs.Times.{TimesSight};
 ghost use Rattle.tk_live.specs.Items.{EachFrom, IsTask, IsResource, IsOp};
 ghost use Rattle.tk_live.specs.Pasts.{TaskPast, ResourcePast, OpPast};
-ghost use Rattle.tk_live.specs.Read.{CollectsAll, AreTasksRead, AreTimesRead, AreResourcesRead, AreOpsRead, ReadsOwned};
+ghost use Rattle.tk_live.specs.Read.{CollectsAll, HasNumber, AreTasksRead, AreTimesRead, AreResourcesRead, AreOpsRead, ReadsOwned};
 ghost use Rattle.tk_live.specs.Runs.{IsTaskLedger, IsTimesLedger, IsResourceLedger, IsOpLedger};
 ghost use Rattle.tk_aggregator.specs.Timing.{AreOfOwner};
 ghost use Rattle.tk_aggregator.specs.Beside.{KnowsAllTaken, StaysRecorder};
@@ -24,6 +24,10 @@ use tk_aggregator::{Aggregator, StreamError};
 use tk_events::{Recorder, Taker};
 use tk_ledgers::TimesOwner;
 use tk_script::Stop;
+use tk_stream::{Item, Table};
+
+// The id of the first item of each kind. A script has one recorder, which counts on from it.
+const FIRST_ID: u64 = (1 << 40) + 1;
 
 // Takes in all that was recorded and kept by then, of an aggregator that is sound before it and after it.
 fn collect<R: Wait>(
@@ -94,15 +98,24 @@ fn send<W: Write>(
     sent
 }
 
-// Reads each task beside the hand that makes its calls.
+// The place of an item among the script's items of its kind, by its place in a table.
+fn place_of<T: Item>(table: &Table<T>, i: usize) -> usize
+    requires { (place : ℕ) × HasNumber T.id_of table.now i (place + 1) }
+    ensures { HasNumber T.id_of table.now i (result + 1) }
+{
+    let item = table.at(i).unwrap();
+    (item.id() - FIRST_ID) as usize
+}
+
+// Reads each task that the aggregator has, beside the hand that makes its calls.
 fn read_tasks<R: Wait>(aggregator: &mut Aggregator, rt: &R, tasks: &mut Vec<TaskItem>)
     requires known { (ps : List TaskPast) × EachFrom IsTask 1 ps tasks.old.items }
     requires linked { AllByRecursion (λ (s : TaskSight). IsTaskLedger tasks.old.items s.id s.token.ledger) aggregator.old.tasks }
-    ensures { AreTasksRead (length tasks.old.items) aggregator.old tasks.old.items aggregator.new tasks.new.items }
+    ensures { AreTasksRead (length aggregator.old.tables.tasks) aggregator.old tasks.old.items aggregator.new tasks.new.items }
 {
-    aggregator.tables();
-    for i in 0..tasks.len() {
-        aggregator.read_task_beside(rt, &mut tasks[i].callers);
+    for i in 0..aggregator.tables().tasks.len() {
+        let place = place_of(&aggregator.tables().tasks, i);
+        aggregator.read_task_beside(rt, &mut tasks[place].callers);
     }
 }
 
@@ -110,11 +123,11 @@ fn read_tasks<R: Wait>(aggregator: &mut Aggregator, rt: &R, tasks: &mut Vec<Task
 fn read_resources<R: Wait>(aggregator: &mut Aggregator, rt: &R, resources: &mut Vec<ResourceItem>)
     requires known { (ps : List ResourcePast) × EachFrom IsResource 1 ps resources.old.items }
     requires linked { AllByRecursion (λ (s : ResourceSight). IsResourceLedger resources.old.items s.id s.token.ledger) aggregator.old.resources }
-    ensures { AreResourcesRead (length resources.old.items) aggregator.old resources.old.items aggregator.new resources.new.items }
+    ensures { AreResourcesRead (length aggregator.old.tables.resources) aggregator.old resources.old.items aggregator.new resources.new.items }
 {
-    aggregator.tables();
-    for i in 0..resources.len() {
-        aggregator.read_resource_beside(rt, &mut resources[i].callers);
+    for i in 0..aggregator.tables().resources.len() {
+        let place = place_of(&aggregator.tables().resources, i);
+        aggregator.read_resource_beside(rt, &mut resources[place].callers);
     }
 }
 
@@ -122,11 +135,11 @@ fn read_resources<R: Wait>(aggregator: &mut Aggregator, rt: &R, resources: &mut 
 fn read_ops<R: Wait>(aggregator: &mut Aggregator, rt: &R, ops: &mut Vec<OpItem>)
     requires known { (ps : List OpPast) × EachFrom IsOp 1 ps ops.old.items }
     requires linked { AllByRecursion (λ (s : OpSight). IsOpLedger ops.old.items s.id s.token.ledger) aggregator.old.ops }
-    ensures { AreOpsRead (length ops.old.items) aggregator.old ops.old.items aggregator.new ops.new.items }
+    ensures { AreOpsRead (length aggregator.old.tables.ops) aggregator.old ops.old.items aggregator.new ops.new.items }
 {
-    aggregator.tables();
-    for i in 0..ops.len() {
-        aggregator.read_op_beside(rt, &mut ops[i].callers);
+    for i in 0..aggregator.tables().ops.len() {
+        let place = place_of(&aggregator.tables().ops, i);
+        aggregator.read_op_beside(rt, &mut ops[place].callers);
     }
 }
 
@@ -140,15 +153,16 @@ fn read_owned<R: Wait>(aggregator: &mut Aggregator, rt: &R, times: &mut Option<T
     }
 }
 
-// Reads the histogram of each task so.
+// Reads each histogram that the aggregator has so.
 fn read_times<R: Wait>(aggregator: &mut Aggregator, rt: &R, tasks: &mut Vec<TaskItem>)
     requires known { (ps : List TaskPast) × EachFrom IsTask 1 ps tasks.old.items }
     requires linked { AllByRecursion (λ (s : TimesSight). IsTimesLedger tasks.old.items s.id s.token.ledger) aggregator.old.timing.readers }
-    ensures { AreTimesRead (length tasks.old.items) aggregator.old tasks.old.items aggregator.new tasks.new.items }
+    ensures { AreTimesRead (length aggregator.old.timing.shown) aggregator.old tasks.old.items aggregator.new tasks.new.items }
 {
-    aggregator.tables();
-    for i in 0..tasks.len() {
-        read_owned(aggregator, rt, &mut tasks[i].times);
+    for i in 0..aggregator.times().len() {
+        aggregator.tables();
+        let place = place_of(aggregator.times(), i);
+        read_owned(aggregator, rt, &mut tasks[place].times);
     }
 }
 
@@ -160,7 +174,8 @@ impl Interpreter {
     ghost use Rattle.tk_live.specs.Runs.{CommandSpec, RepresentsSome};
     ghost use Rattle.tk_live.specs.Stops.{stop_by_text};
 
-    // Reads each item beside the hand that makes its calls, and then each histogram beside its owner.
+    // Reads each item that the aggregator has beside the hand that makes its calls, and then each histogram beside its owner. What has left
+    // costs nothing.
     fn read_items<R: Wait>(&mut self, rt: &R)
         requires { MayRead self.old }
         ensures { AreItemsRead self.old self.new }

@@ -1,32 +1,73 @@
-use Rattle.std.proofs.Common.{◌≡◌, ℕ, length, Some, refl, subst, arith}
+use Rattle.std.proofs.Common.{◌≡◌, ℕ, ◌+◌, List, length, Some, refl, sym, ap, ◌∙◌, subst, arith}
 use Rattle.std.specs.Prelude.{slice_get}
-use Rattle.tk_live.specs.Read.{AreTasksRead}
-use Rattle.tk_live.proofs.Places.{get_read}
-use Rattle.tk_live.proofs.Reading.{no_task_read, task_may_read, one_task_more}
+use Rattle.tk_stream.specs.Tables.{TablesView, task_id}
+use Rattle.tk_stream.specs.declared.tables.task.Task.{Task}
+use Rattle.tk_live.specs.Read.{HasNumber, AreTasksRead}
+use Rattle.tk_live.proofs.Places.{get_read, within}
+use Rattle.tk_live.proofs.Reading.{no_task_read, next_task, task_there, task_may_read, one_task_more}
 use Rattle.tk_live.proofs.interpreter.lines.read_tasks.Goals as goal
 
 pub loop-i-init : goal.loop-i-init
 loop-i-init g c = (no_task_read c.args.aggregator.now c.args.tasks.now.items c.requires.linked, omega arith)
 
+pub place_of-place-requires : goal.place_of-place-requires
+place_of-place-requires g c =
+    let i = c.loop-i.i in
+    let first = c.args.aggregator.now in
+    let a = c.loop-i.aggregator in
+    let xs = c.args.tasks.now.items in
+    let ys = c.loop-i.tasks.items in
+    let read = c.loop-i.invariant.0 in
+    subst (λ (ts : List Task). (place : ℕ) × HasNumber task_id ts i (place + 1)) (sym (ap (λ (t : TablesView). t.tasks) (c.behind-aggregator-in-loop-i.view_is ∙ c.tables-in-loop-i.ensures.is)))
+    (next_task i first a xs ys read c.tables-in-loop-i.ensures.sound (omega (arith, c.loop-i-test.true, c.len-i-end.ensures.count, ap (λ (t : TablesView). length t.tasks) (c.behind-aggregator.view_is ∙ c.tables.ensures.is))))
+
+pub index_mut-requires : goal.index_mut-requires
+index_mut-requires g c =
+    let i = c.loop-i.i in
+    let first = c.args.aggregator.now in
+    let a = c.loop-i.aggregator in
+    let xs = c.args.tasks.now.items in
+    let ys = c.loop-i.tasks.items in
+    let read = c.loop-i.invariant.0 in
+    let k = c.place_of-place.result in
+    let next : HasNumber task_id a.tables.tasks i (k + 1) = subst (λ (ts : List Task). HasNumber task_id ts i (k + 1)) (ap (λ (t : TablesView). t.tasks) (c.behind-aggregator-in-loop-i.view_is ∙ c.tables-in-loop-i.ensures.is)) c.place_of-place.ensures in
+    let there = task_there i first a xs ys read c.tables-in-loop-i.ensures.sound k next in
+    omega (arith, within ys k there.0 there.1)
+
 pub read_task_beside-requires : goal.read_task_beside-requires
 read_task_beside-requires g c =
+    let i = c.loop-i.i in
+    let first = c.args.aggregator.now in
+    let a = c.loop-i.aggregator in
+    let xs = c.args.tasks.now.items in
+    let ys = c.loop-i.tasks.items in
     let read = c.loop-i.invariant.0 in
+    let k = c.place_of-place.result in
+    let next : HasNumber task_id a.tables.tasks i (k + 1) = subst (λ (ts : List Task). HasNumber task_id ts i (k + 1)) (ap (λ (t : TablesView). t.tasks) (c.behind-aggregator-in-loop-i.view_is ∙ c.tables-in-loop-i.ensures.is)) c.place_of-place.ensures in
+    let there = task_there i first a xs ys read c.tables-in-loop-i.ensures.sound k next in
     let x = c.index_mut.result.now in
-    let at : slice_get c.loop-i.tasks.items c.loop-i.i ≡ Some x = get_read c.loop-i.tasks.items c.loop-i.i x x (omega (arith, c.loop-i-test.true, c.len-i-end.ensures, read.many)) c.index_mut.ensures.value in
-    task_may_read c.loop-i.i c.args.aggregator.now c.loop-i.aggregator c.args.tasks.now.items c.loop-i.tasks.items read x at c.requires.known.0 c.requires.known.1
+    let at : slice_get ys k ≡ Some x = get_read ys k x x (within ys k there.0 there.1) c.index_mut.ensures.value in
+    task_may_read i first a xs ys read k x at c.requires.known.0 c.requires.known.1
 
 pub loop-i-preserved : goal.loop-i-preserved
 loop-i-preserved g c =
+    let i = c.loop-i.i in
+    let first = c.args.aggregator.now in
+    let a = c.loop-i.aggregator in
+    let xs = c.args.tasks.now.items in
+    let ys = c.loop-i.tasks.items in
     let read = c.loop-i.invariant.0 in
+    let k = c.place_of-place.result in
+    let next : HasNumber task_id a.tables.tasks i (k + 1) = subst (λ (ts : List Task). HasNumber task_id ts i (k + 1)) (ap (λ (t : TablesView). t.tasks) (c.behind-aggregator-in-loop-i.view_is ∙ c.tables-in-loop-i.ensures.is)) c.place_of-place.ensures in
+    let there = task_there i first a xs ys read c.tables-in-loop-i.ensures.sound k next in
     let x = c.index_mut.result.now in
-    let at : slice_get c.loop-i.tasks.items c.loop-i.i ≡ Some x = get_read c.loop-i.tasks.items c.loop-i.i x x (omega (arith, c.loop-i-test.true, c.len-i-end.ensures, read.many)) c.index_mut.ensures.value in
+    let at : slice_get ys k ≡ Some x = get_read ys k x x (within ys k there.0 there.1) c.index_mut.ensures.value in
     let done = c.read_task_beside in (
-      one_task_more c.loop-i.i c.args.aggregator.now c.loop-i.aggregator c.args.tasks.now.items c.loop-i.tasks.items read x at done.new.self (record x { callers = done.new.callers }) refl done.ensures.hand done.ensures.reads
-          c.requires.known.0 c.requires.known.1 c.tables.ensures.sound.fit.distinct.tasks _ refl,
-      omega (arith, c.loop-i-test.true, c.len-i-end.ensures),
+      one_task_more i first a xs ys read k x at done.new.self (record x { callers = done.new.callers }) refl done.ensures.hand done.ensures.reads c.requires.known.0 c.requires.known.1 next c.tables-in-loop-i.ensures.sound.fit.distinct.tasks _ refl,
+      omega (arith, c.loop-i-test.true, c.len-i-end.ensures.count, ap (λ (t : TablesView). length t.tasks) (c.behind-aggregator.view_is ∙ c.tables.ensures.is)),
     )
 
 pub returns : goal.returns
 returns g c =
-    let all : c.loop-i.i ≡ length c.args.tasks.now.items = omega (arith, c.loop-i-test.false, c.len-i-end.ensures, c.loop-i.invariant.1) in
+    let all : c.loop-i.i ≡ length c.args.aggregator.now.tables.tasks = omega (arith, c.loop-i-test.false, c.len-i-end.ensures.count, ap (λ (t : TablesView). length t.tasks) (c.behind-aggregator.view_is ∙ c.tables.ensures.is), c.loop-i.invariant.1) in
     subst (λ (n : ℕ). AreTasksRead n c.args.aggregator.now c.args.tasks.now.items c.loop-i.aggregator c.loop-i.tasks.items) all c.loop-i.invariant.0

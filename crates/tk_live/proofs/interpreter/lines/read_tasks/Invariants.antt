@@ -3,4 +3,4 @@ use Rattle.tk_live.specs.Read.{AreTasksRead}
 use Rattle.tk_live.proofs.interpreter.lines.read_tasks.Given as goal
 
 abbrev pub invariant-loop-i : goal.invariant-loop-i
-invariant-loop-i g l = AreTasksRead l.i l.fn.aggregator l.fn.tasks.items l.aggregator l.tasks.items × (l.i ≤ length l.fn.tasks.items)
+invariant-loop-i g l = AreTasksRead l.i l.fn.aggregator l.fn.tasks.items l.aggregator l.tasks.items × (l.i ≤ length l.fn.aggregator.tables.tasks)
