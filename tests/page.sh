@@ -7,8 +7,8 @@
 # The frame is what frame/make.py writes, and the scripts of the service and of the long tail are what examples/service.py and
 # examples/long-tail.py do. Of the page of each example, which
 # tests/examples.sh compares byte for byte with what the program writes, tests/page/check_page.py reads the text as HTML and compares
-# its numbers with the example's stream; so it does with pages of services at random, whose closed tasks leave. In a browser
-# tests/page/try_script.py sorts and filters the service's page.
+# its numbers with the example's stream; so it does with pages of services at random, whose closed tasks leave, and with that of a crowd, which
+# has more places than a page shows. In a browser tests/page/try_script.py sorts and filters the service's page and the crowd's.
 #
 # The parser is Debian's python3-html5lib, the browser its chromium. Where one is missing it is installed by apt-get; where it can't be, that is said
 # and its steps are skipped, or with CI=true it is a failure. TASKSCOPE may name another program than `./taskscope`.
@@ -53,6 +53,11 @@ is_page_of_service() {
     make_service "$1" && /usr/bin/python3 "$root/tests/page/check_page.py" "$work/page" "$work/stream"
 }
 
+# A stream of thousands of places, and its page.
+make_crowd() {
+    python3 "$root/tests/places/check_places.py" --crowd > "$1" && "$program" page "$1" > "$2"
+}
+
 # Debian's python has Debian's packages.
 if package /usr/lib/python3/dist-packages/html5lib python3-html5lib; then
     for script in "$examples"/*.script; do
@@ -62,10 +67,14 @@ if package /usr/lib/python3/dist-packages/html5lib python3-html5lib; then
     for seed in 1 2 3 4 5 6 7 8; do
         step "a service at random, by seed $seed, as a parser reads its page" is_page_of_service "$seed"
     done
+    step "the crowd's page is made" make_crowd "$work/crowd" "$work/crowd.html"
+    step "the crowd's page, as a parser reads it" /usr/bin/python3 "$root/tests/page/check_page.py" "$work/crowd.html" "$work/crowd"
 fi
 
 if package chromium chromium; then
     step "the service's page, sorted and filtered in a browser" "$root/tests/page/try_script.py" "$examples/service.script.html"
+    make_crowd "$work/crowd" "$work/crowd.html"
+    step "the crowd's page, sorted and filtered in a browser" "$root/tests/page/try_script.py" "$work/crowd.html"
     step "the service's page, drawn by a browser" shoot "$examples/service.script.html" "$work/page.png" 1280,900
 fi
 

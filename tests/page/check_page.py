@@ -5,8 +5,9 @@ Usage: check_page.py PAGE STREAM [PAGE STREAM ..]
 
 Of each page: the parser reports no error and every element is closed; only known elements are there, one script and one style; no
 attribute runs or loads anything; ids are distinct and each link leads to one; the policy names the sums of just this style and this
-script; the head counts what there is and what has left; each number of each row is that of its task; there is a card for each
-of the first twenty findings of tests/odd/plain_findings.py, in their order, and a banner for those that are urgent.
+script; the head counts what there is and what has left; each number of each row is that of its task; if more than 50 tasks came, each number
+of each place is that of tests/places/plain_places.py; there is a card for each of the first twenty findings of tests/odd/plain_findings.py,
+in their order, and a banner for those that are urgent.
 
 It wants the package python3-html5lib.
 """
@@ -18,9 +19,11 @@ import sys
 
 import html5lib
 
-sys.path.append(os.path.join(os.path.dirname(os.path.abspath(__file__)), "..", "odd"))
+for folder in ("odd", "places"):
+    sys.path.append(os.path.join(os.path.dirname(os.path.abspath(__file__)), "..", folder))
 
 import plain_findings
+import plain_places
 from stream import Tables, busy_until, waited_until
 
 ELEMENTS = set(
@@ -44,6 +47,7 @@ URGENT = 3
 ROWS = 200
 CARDS = 20
 RESOURCES = 50
+FEW = 50
 
 
 def name_of(element):
@@ -118,6 +122,26 @@ def check_rows(elements, tables):
     assert len(set(numbers)) == len(numbers)
 
 
+def cells_of(place):
+    """The numbers of a place, in the order of the columns."""
+    sums = place.sums
+    is_open = min(plain_places.TOP, sum(sums[state] for state in ("idle", "scheduled", "polling")))
+    mean = {key: sums[time] // max(1, sums[key]) for time, key in (("busy", "polls"), ("sched", "tasks"))}
+    return [is_open, sums["scheduled"], sums["tasks"], sums["busy"], sums["polls"], mean["polls"], sums["sched"], mean["tasks"], sums["self"]]
+
+
+def check_sites(elements, tables, stream):
+    with open(stream, encoding="ascii") as file:
+        places, _ = plain_places.places_of([line for line in file if line.endswith("\n")], plain_places.Lints)
+    rows = [row for e in elements if e.get("id") == "sites" for part in e if name_of(part) == "tbody" for row in part]
+    said = [(int(row[0].get("data-v")), text_of(row[0]), [int(cell.get("data-v")) for cell in row[1:]]) for row in rows]
+    others = places.pop(plain_places.MORE, None)
+    wanted = [(at, name, cells_of(place)) for at, (name, place) in enumerate(places.items())]
+    wanted.sort(key=lambda row: -min(plain_places.TOP, row[2][3] + row[2][6]))
+    wanted = wanted[:ROWS] + ([(len(places), "(others)", cells_of(others))] if others else [])
+    assert said == (wanted if tables.gone + len(tables.tasks) > FEW else []), (said, wanted)
+
+
 class Limits:
     long, wait, percent = 10**8, 10**9, 50
 
@@ -189,6 +213,7 @@ def check(page, stream):
     check_policy(elements)
     check_closed(text)
     check_rows(elements, tables)
+    check_sites(elements, tables, stream)
     findings = findings_of(stream)
     check_cards(elements, tables, findings)
     check_banners(elements, tables, findings)

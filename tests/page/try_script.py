@@ -1,6 +1,7 @@
 #!/usr/bin/python3
 """Opens pages in a browser without a window: the page's own script runs under its policy and a stranger's doesn't; each column of
-numbers sorts both ways; the filter hides and shows; what is asked for stands in the address, and a link to a hidden row shows it.
+numbers sorts both ways; the filter hides and shows; what is asked for stands in the address, and a link to a hidden row shows it. If the page
+has places, their columns sort, too, and a click on a place shows its tasks.
 
 Usage: try_script.py PAGE [PAGE ..]
 
@@ -59,6 +60,25 @@ location.hash = rows().find(hides).id;
 }</script></body>"""
 
 
+# Places as an address has them: by how long they waited, longest first. Then a click on one.
+PLACES = "?places=-7"
+SITES = """<script>{
+const rows = () => [...document.querySelectorAll("#sites tbody tr")], column = (i) => rows().map((row) => BigInt(row.cells[i].dataset.v));
+const heads = [...document.querySelectorAll("#sites thead th")], all = rows().length;
+const falls = (xs) => xs.every((x, i) => i === 0 || xs[i - 1] >= x), seen = [falls(column(7))];
+for (let i = 0; i < heads.length; i++) {
+  heads[i].querySelector("button").click();
+  seen.push(falls(column(i)) && rows().length === all && new URLSearchParams(location.search).get("places") === "-" + i);
+}
+const place = rows().find((row) => row.querySelector("a")), at = / at (.*:[0-9]+:[0-9]+)/.exec(place.cells[0].textContent)[1];
+place.querySelector("a").click();
+const tasks = [...document.querySelectorAll("#table tbody tr")];
+seen.push(new URLSearchParams(location.search).get("name") === at, location.hash === "#tasks");
+seen.push(tasks.every((row) => row.hidden !== row.querySelector("th").textContent.includes(at)));
+document.title = seen.every((x) => x) + " " + seen;
+}</script></body>"""
+
+
 def opened(html, asked=""):
     """The document as the browser has it once its scripts ran."""
     with tempfile.TemporaryDirectory() as folder:
@@ -81,6 +101,10 @@ def try_page(path):
     linked = opened(re.sub(POLICY, "", text).replace("</body>", LINKS), ASKED)
     seen = re.search("<title>(.*?)</title>", linked).group(1)
     assert seen.startswith("true "), f"the address {ASKED}, and a link: {seen}"
+    if 'id="sites"' in text:
+        placed = opened(re.sub(POLICY, "", text).replace("</body>", SITES), PLACES)
+        seen = re.search("<title>(.*?)</title>", placed).group(1)
+        assert seen.startswith("true "), f"the address {PLACES}, and a click on a place: {seen}"
 
 
 for page in sys.argv[1:]:

@@ -1,5 +1,5 @@
 -- What a page is made of, and what lines of a stream come to.
-use Rattle.std.proofs.Common.{◌≡◌, ℕ, List, length, Option, Some, Ok, Err, ap, sym, ◌∙◌, subst}
+use Rattle.std.proofs.Common.{◌≡◌, ℕ, List, [], length, Option, Some, Ok, Err, ap, sym, ◌∙◌, subst}
 use Rattle.std.specs.Io.KnownBytes.{Appends}
 use Rattle.tk_client.specs.Changes.{Timed}
 use Rattle.tk_client.specs.Feeding.{ClientView}
@@ -28,59 +28,67 @@ use Rattle.tk_reading.specs.Reads.{Reads, SawAll}
 use Rattle.tk_reading.specs.Shown.{shown_of, tables_of}
 use Rattle.tk_reading.specs.declared.observes.Both.{Both}
 use Rattle.tk_reading.proofs.ReadLemmas.{lead_of}
+use Rattle.tk_series.specs.Limited.{LimitedView}
+use Rattle.tk_sites.specs.Inner.{Follows as AddsUp}
+use Rattle.tk_sites.specs.Sites.{sites_of}
+use Rattle.tk_sites.specs.declared.sites.Sites.{Sites}
+use Rattle.tk_sites.specs.declared.sums.Sums.{Sums}
 use Rattle.tk_stream.specs.Sent.{IsCut}
 
 -- ---- where a page ends
 
-module _ (scale : Scale) (signs : Signs) (courses : Courses) (tables : TablesView) (old new : PaperView) (is : old ≡ no_paper) (d : DrawsSections scale signs courses tables old new) where
+module _ (title : List ℕ) (scale : Scale) (signs : Signs) (courses : Courses) (sites : LimitedView Sums) (tables : TablesView) (old new : PaperView) (is : old ≡ no_paper)
+    (d : DrawsSections title scale signs courses sites tables old new) where
   -- a page that began with no text ends between tags
   pub ends_between : new.place ≡ Some places.Text
   ends_between =
-      d.wrote.place ∙ ap (λ (p : PaperView). after_all (sections scale signs courses tables d.ranks d.height) p.place) is
-      ∙ sections_to scale signs courses tables d.ranks d.height
+      d.wrote.place ∙ ap (λ (p : PaperView). after_all (sections title scale signs courses sites tables d.site_ranks d.ranks d.height) p.place) is
+      ∙ sections_to title scale signs courses sites tables d.site_ranks d.ranks d.height
 
   -- the same, of a page whose text is known
-  pub drawn_from : (inner : List ℕ) → inner ≡ new.text → DrawsSections scale signs courses tables no_paper (record { text = inner; place = Some places.Text })
+  pub drawn_from : (inner : List ℕ) → inner ≡ new.text → DrawsSections title scale signs courses sites tables no_paper (record { text = inner; place = Some places.Text })
   drawn_from inner text =
       let same : new ≡ record { text = inner; place = Some places.Text } = λ i. record { text = sym text i; place = ends_between i } in
-      subst (λ p. DrawsSections scale signs courses tables p (record { text = inner; place = Some places.Text })) is (subst (DrawsSections scale signs courses tables old) same d)
+      subst (λ p. DrawsSections title scale signs courses sites tables p (record { text = inner; place = Some places.Text })) is (subst (DrawsSections title scale signs courses sites tables old) same d)
 
 -- ---- what is written
 
 -- a stream that isn't taken has no page
-pub pages_none : (O : Type 0) (saw : List Timed → O → Type 0) (limits : Limits) (given left old new : Option (List ℕ)) (now : ClientView) (observer : O) (answer : AppFault)
-    → Reads saw given left (Err answer) now observer → PagesWith limits given left (Err answer) old new
-pages_none O saw limits given left old new now observer faults.Memory h = tt
-pages_none O saw limits given left old new now observer faults.Read h = tt
-pages_none O saw limits given left old new now observer faults.Write h = absurd h
-pages_none O saw limits given left old new now observer (faults.Script line name) h = absurd h
-pages_none O saw limits given left old new now observer (faults.Stream lines fault) h = h
+pub pages_none : (O : Type 0) (saw : List Timed → O → Type 0) (title : List ℕ) (limits : Limits) (given left old new : Option (List ℕ)) (now : ClientView) (observer : O) (answer : AppFault)
+    → Reads saw given left (Err answer) now observer → PagesWith title limits given left (Err answer) old new
+pages_none O saw title limits given left old new now observer faults.Memory h = tt
+pages_none O saw title limits given left old new now observer faults.Read h = tt
+pages_none O saw title limits given left old new now observer faults.Write h = absurd h
+pages_none O saw title limits given left old new now observer (faults.Script line name) h = absurd h
+pages_none O saw title limits given left old new now observer (faults.Stream lines fault) h = h
 
--- what a history and a diagnosis have seen
-abbrev pub Watched : Limits → List Timed → Both History Diagnosis → Type 0
-Watched limits seen both = Tells (tables_of seen) both.first × (Follows (tables_of seen) both.second × (both.second.limits ≡ limits))
+-- what a history, places and a diagnosis have seen
+abbrev pub Watched : Limits → List Timed → Both (Both History Sites) Diagnosis → Type 0
+Watched limits seen both =
+    (Tells (tables_of seen) both.first.first × AddsUp (tables_of seen) both.first.second) × (Follows (tables_of seen) both.second × (both.second.limits ≡ limits))
 
-module _ (limits : Limits) (given left old new : Option (List ℕ)) (client : ClientView) (seen : Both History Diagnosis) (text : List ℕ)
+module _ (title : List ℕ) (limits : Limits) (given left old new : Option (List ℕ)) (client : ClientView) (seen : Both (Both History Sites) Diagnosis) (text : List ℕ)
     (told : SawAll (Watched limits) given client seen)
-    (drawn : IsDrawn limits (told_of limits (standing_of limits (shown_of told.bytes)) client.start.tables) (courses_of seen.first) client.start.tables text) where
+    (drawn : IsDrawn title limits (told_of limits (standing_of limits (shown_of told.bytes)) client.start.tables) (courses_of seen.first.first)
+    (sites_of (shown_of told.bytes) client.start.tables []) client.start.tables text) where
   -- the page went out
-  pub pages_all : (warnings : ℕ) → Appends old new text → warnings ≡ length (warnings_in limits.lints client.start.tables) → PagesWith limits given left (Ok warnings) old new
+  pub pages_all : (warnings : ℕ) → Appends old new text → warnings ≡ length (warnings_in limits.lints client.start.tables) → PagesWith title limits given left (Ok warnings) old new
   pages_all warnings wrote counted = record {
     tables = client.start.tables;
     lead = lead_of (Watched limits) given client seen told;
     text = text;
-    page = record { courses = courses_of seen.first; told = tell_of (shown_of told.bytes) seen.first told.seen.0; drawn = drawn };
+    page = record { courses = courses_of seen.first.first; told = tell_of (shown_of told.bytes) seen.first.first told.seen.0.0; drawn = drawn };
     wrote = wrote;
     counted = counted;
   }
 
   -- a front of it went out
-  pub pages_front : (front : List ℕ) → IsCut text front → Appends old new front → PagesWith limits given left (Err faults.Write) old new
+  pub pages_front : (front : List ℕ) → IsCut text front → Appends old new front → PagesWith title limits given left (Err faults.Write) old new
   pages_front front cut wrote = record {
     tables = client.start.tables;
     lead = lead_of (Watched limits) given client seen told;
     text = text;
-    page = record { courses = courses_of seen.first; told = tell_of (shown_of told.bytes) seen.first told.seen.0; drawn = drawn };
+    page = record { courses = courses_of seen.first.first; told = tell_of (shown_of told.bytes) seen.first.first told.seen.0.0; drawn = drawn };
     front = front;
     cut = cut;
     wrote = wrote;

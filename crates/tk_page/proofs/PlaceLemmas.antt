@@ -37,13 +37,16 @@ use Rattle.tk_page.specs.Badges as badges
 use Rattle.tk_page.specs.Banner as banners
 use Rattle.tk_page.specs.Cards as cards
 use Rattle.tk_page.specs.Courses.{Courses}
-use Rattle.tk_page.specs.Drawn.{sections}
+use Rattle.tk_page.specs.Drawn.{came, sections}
 use Rattle.tk_page.specs.Figures.{each_of, watched, wide_of}
 use Rattle.tk_page.specs.Heads as heads
 use Rattle.tk_page.specs.Items as items
 use Rattle.tk_page.specs.Odd.{carded, has_sign, is_lost, is_odd_at_all, row_kinds, says}
 use Rattle.tk_page.specs.Places.{id, more}
 use Rattle.tk_page.specs.Rows as rows
+use Rattle.tk_page.specs.Sites as sites
+use Rattle.tk_series.specs.Limited.{LimitedView}
+use Rattle.tk_sites.specs.declared.sums.Sums.{Sums}
 use Rattle.tk_core.specs.Lasting.{busy_until, sched_until}
 use Rattle.tk_page.specs.Samples.{sample_of}
 use Rattle.tk_page.specs.Strips as strips
@@ -287,6 +290,57 @@ tasks_to scale signs courses tasks ranks height =
     then_to (bits_to rows.tasks_head refl) (then_to (table_to scale signs courses tasks ranks height)
     (then_to (more_to (length tasks) 200 (codes " tasks more, which ran and waited less")) (record { is = refl })))
 
+-- ---- places
+
+site_text_to : (site : List ℕ) → Between (sites.site_text site)
+unfolding after_all
+site_text_to site = either (is_utf8 site) (record { is = refl }) none_between
+
+site_name_to : (place : ℕ) (site : List ℕ) → Between (sites.site_name place site)
+unfolding after_all
+site_name_to place site = cut_to 5 refl (then_to (site_text_to site) (record { is = refl }))
+
+site_work_to : (sums : Sums) → Between (sites.site_work sums)
+unfolding after_all
+site_work_to sums =
+    then_to (bits_to (rows.number_cell (sites.open_of sums)) refl) (then_to (bits_to (rows.number_cell sums.scheduled) refl) (then_to (bits_to (rows.number_cell sums.tasks) refl)
+    (then_to (bits_to (sites.time_cell sums.busy) refl) (then_to (bits_to (rows.number_cell sums.polls) refl) (mean_cell_to sums.busy sums.polls)))))
+
+site_waits_to : (sums : Sums) → Between (sites.site_waits sums)
+unfolding after_all
+site_waits_to sums =
+    then_to (bits_to (sites.time_cell sums.sched) refl) (then_to (mean_cell_to sums.sched sums.tasks) (bits_to (rows.number_cell sums.own) refl))
+
+site_row_to : (place : ℕ) (x : List ℕ × Sums) → Between (sites.site_row place x)
+unfolding after_all
+site_row_to place (site, sums) =
+    then_to (site_name_to place site) (then_to (site_work_to sums) (then_to (site_waits_to sums) (record { is = refl })))
+
+site_row_at_to : (xs : List (List ℕ × Sums)) (rank : Rank) → Between (sites.site_row_at xs rank)
+site_row_at_to xs rank = by (slice_get xs rank.place)
+  where
+    by : (o : Option (List ℕ × Sums)) → Between (option_map_or (sites.site_row rank.place) o [])
+    by None = none_between
+    by (Some x) = site_row_to rank.place x
+
+others_row_to : (place : ℕ) (rest : Option Sums) → Between (sites.others_row place rest)
+others_row_to place None = none_between
+others_row_to place (Some sums) = site_row_to place (codes "(others)", sums)
+
+sites_table_to : (listed : LimitedView Sums) (ranks : List Rank) → Between (sites.sites_table listed ranks)
+unfolding after_all
+sites_table_to listed ranks =
+    then_to (bits_to sites.sites_caption refl) (then_to (bits_to sites.sites_columns refl)
+    (then_to (each_to (sites.site_row_at listed.first) (site_row_at_to listed.first) (take 200 ranks))
+    (then_to (others_row_to (length listed.first) listed.rest) (record { is = refl }))))
+
+sites_to : (tasks : ℕ) (listed : LimitedView Sums) (ranks : List Rank) → Between (sites.sites_section tasks listed ranks)
+unfolding after_all
+sites_to tasks listed ranks =
+    either (nat_le tasks 50) none_between
+    (then_to (bits_to sites.sites_head refl) (then_to (sites_table_to listed ranks)
+    (then_to (more_to (length listed.first) 200 (codes " places more, which ran and waited less")) (record { is = refl }))))
+
 -- ---- resources
 
 part_of_to : (words : List ℕ) (parent : Option ℕ) → Between (items.part_of words parent)
@@ -367,17 +421,17 @@ late_to : (tasks : List Task) → Between (heads.late tasks)
 unfolding after_all
 late_to tasks = either (list_any waits_from_last_wake tasks) (bits_to heads.late_note refl) none_between
 
-header_to : (watched lines gone : ℕ) (tables : TablesView) → Between (heads.header watched lines gone tables)
+header_to : (title : List ℕ) (watched lines gone : ℕ) (tables : TablesView) → Between (heads.header title watched lines gone tables)
 unfolding after_all
-header_to watched lines gone tables =
+header_to title watched lines gone tables =
     cut_to 5 refl (then_to (bits_to (heads.facts watched lines tables) refl) (then_to (gone_to gone) (cut_to 1 refl (then_to (missing_to tables.dropped) (then_to (late_to tables.tasks) (record { is = refl }))))))
 
 -- a page that begins between tags ends between tags
-pub sections_to : (scale : Scale) (signs : Signs) (courses : Courses) (tables : TablesView) (ranks : List Rank) (height : Height)
-    → after_all (sections scale signs courses tables ranks height) (Some places.Text) ≡ Some places.Text
+pub sections_to : (title : List ℕ) (scale : Scale) (signs : Signs) (courses : Courses) (listed : LimitedView Sums) (tables : TablesView) (site_ranks ranks : List Rank)
+    (height : Height) → after_all (sections title scale signs courses listed tables site_ranks ranks height) (Some places.Text) ≡ Some places.Text
 unfolding after_all
-sections_to scale signs courses tables ranks height = page.is where
-  page : Between (sections scale signs courses tables ranks height)
+sections_to title scale signs courses listed tables site_ranks ranks height = page.is where
+  page : Between (sections title scale signs courses listed tables site_ranks ranks height)
   page =
-      then_to (banner_to signs courses.lines tables) (then_to (header_to (watched scale) courses.lines courses.gone tables) (cut_to 1 refl (then_to (odd_to scale signs courses tables)
-      (then_to (tasks_to scale signs courses tables.tasks ranks height) (then_to (resources_to tables) (record { is = refl }))))))
+      then_to (banner_to signs courses.lines tables) (then_to (header_to title (watched scale) courses.lines courses.gone tables) (cut_to 1 refl (then_to (odd_to scale signs courses tables)
+      (then_to (sites_to (came courses tables) listed site_ranks) (then_to (tasks_to scale signs courses tables.tasks ranks height) (then_to (resources_to tables) (record { is = refl })))))))

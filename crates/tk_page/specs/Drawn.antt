@@ -1,7 +1,10 @@
 -- The page between its frame, as one list of parts.
-use Rattle.std.specs.Prelude.{◌≡◌, List, [], ◌∷◌, ◌++◌}
+use Rattle.std.specs.Prelude.{◌≡◌, ℕ, ◌+◌, List, [], ◌∷◌, ◌++◌, length}
+use Rattle.tk_core.specs.Lists.{capped}
 use Rattle.tk_odd.specs.Findings.{Told}
 use Rattle.tk_odd.specs.declared.limits.Limits.{Limits}
+use Rattle.tk_series.specs.Limited.{LimitedView}
+use Rattle.tk_sites.specs.declared.sums.Sums.{Sums}
 use Rattle.tk_stream.specs.Tables.{TablesView}
 use Rattle.tk_paper.specs.Pieces.{Writes}
 use Rattle.tk_paper.specs.Escaping.{PaperView}
@@ -18,31 +21,40 @@ use Rattle.tk_page.specs.Figures.{watched}
 use Rattle.tk_page.specs.Heads.{header, start_of}
 use Rattle.tk_page.specs.Items.{resources_section}
 use Rattle.tk_page.specs.Odd.{AreSigns}
+use Rattle.tk_page.specs.Ranks.{AreSiteRanks}
 use Rattle.tk_page.specs.Rows.{AreRanks, tasks_section}
+use Rattle.tk_page.specs.Sites.{sites_section}
 use Rattle.tk_page.specs.Strips.{most_waited, steps_of}
 
+-- how many tasks came: those that are there, and those that left
+abbrev pub came : Courses → TablesView → ℕ
+came courses tables = capped (length tables.tasks + courses.gone)
+
 -- the sections of a page, from what holds now on
-abbrev pub sections : Scale → Signs → Courses → TablesView → List Rank → Height → List Bit
-sections scale signs courses tables ranks height =
+abbrev pub sections : List ℕ → Scale → Signs → Courses → LimitedView Sums → TablesView → List Rank → List Rank → Height → List Bit
+sections title scale signs courses sites tables site_ranks ranks height =
     banner signs courses.lines tables
-    ++ (header (watched scale) courses.lines courses.gone tables
+    ++ (header title (watched scale) courses.lines courses.gone tables
     ++ (start tags.Main ∷ [] ++ (odd_section scale signs courses tables
-    ++ (tasks_section scale signs courses tables.tasks ranks height ++ (resources_section tables ++ close tags.Main ∷ [])))))
+    ++ (sites_section (came courses tables) sites site_ranks
+    ++ (tasks_section scale signs courses tables.tasks ranks height ++ (resources_section tables ++ close tags.Main ∷ []))))))
 
 -- the sections were put
-pub record DrawsSections (scale : Scale) (signs : Signs) (courses : Courses) (tables : TablesView) (old new : PaperView) : Type 0 where
+pub record DrawsSections (title : List ℕ) (scale : Scale) (signs : Signs) (courses : Courses) (sites : LimitedView Sums) (tables : TablesView) (old new : PaperView) : Type 0 where
+  pub site_ranks : List Rank
+  pub sites_ranked : AreSiteRanks sites.first site_ranks
   pub ranks : List Rank
   pub ranked : AreRanks scale signs tables.tasks ranks
   pub height : Height
   pub most : height.most ≡ most_waited (steps_of scale.start courses.sums courses.last)
-  pub wrote : Writes old new (sections scale signs courses tables ranks height)
+  pub wrote : Writes old new (sections title scale signs courses sites tables site_ranks ranks height)
 
 -- the time that a page shows
 abbrev pub scale_of : Courses → TablesView → Scale
 scale_of courses tables = record { start = start_of courses.first tables.tasks; now = tables.now }
 
--- the page of tables, their courses and what is odd was put
-pub record DrawsPage (limits : Limits) (findings : List Told) (courses : Courses) (tables : TablesView) (old new : PaperView) : Type 0 where
+-- the page of tables, their courses, their places and what is odd was put
+pub record DrawsPage (title : List ℕ) (limits : Limits) (findings : List Told) (courses : Courses) (sites : LimitedView Sums) (tables : TablesView) (old new : PaperView) : Type 0 where
   pub signs : Signs
   pub looked : AreSigns limits findings tables signs
-  pub sections : DrawsSections (scale_of courses tables) signs courses tables old new
+  pub sections : DrawsSections title (scale_of courses tables) signs courses sites tables old new

@@ -58,8 +58,8 @@ late_note =
 abbrev pub late : List Task → List Bit
 late tasks = if list_any waits_from_last_wake tasks then late_note else []
 
--- the head of a page
-abbrev pub header : ℕ → ℕ → ℕ → TablesView → List Bit
-header watched lines gone tables =
-    start tags.Header ∷ start tags.H1 ∷ text (codes "taskscope") ∷ close tags.H1 ∷ class tags.P (codes "facts") ∷ []
+-- the head of a page of this title
+abbrev pub header : List ℕ → ℕ → ℕ → ℕ → TablesView → List Bit
+header title watched lines gone tables =
+    start tags.Header ∷ start tags.H1 ∷ text title ∷ close tags.H1 ∷ class tags.P (codes "facts") ∷ []
     ++ (facts watched lines tables ++ (gone_fact gone ++ (close tags.P ∷ [] ++ (missing tables.dropped ++ (late tables.tasks ++ close tags.Header ∷ [])))))

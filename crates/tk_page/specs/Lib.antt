@@ -26,6 +26,8 @@ pub mod Within
 pub mod Ranks
 -- The table of tasks
 pub mod Rows
+-- The table of places
+pub mod Sites
 -- Resources and operations
 pub mod Items
 -- The head of a page

@@ -1,5 +1,5 @@
 -- What the page of a stream is, and what writing it came to.
-use Rattle.std.specs.Prelude.{◌≡◌, ℕ, List, ◌++◌, length, Option, Some, Result, Ok, Err}
+use Rattle.std.specs.Prelude.{◌≡◌, ℕ, List, [], ◌++◌, codes, length, Option, Some, Result, Ok, Err}
 use Rattle.std.specs.Io.KnownBytes.{Appends}
 use Rattle.tk_client.specs.Warnings.{LintsView, warnings_in}
 use Rattle.tk_fault.specs.declared.fault.AppFault.{AppFault}
@@ -14,6 +14,9 @@ use Rattle.tk_paper.specs.Escaping.{Woven, no_paper}
 use Rattle.tk_paper.specs.declared.marks.Place.TheVariants as places
 use Rattle.tk_reading.specs.Outcomes.{HaveFault, LeadTo}
 use Rattle.tk_reading.specs.Shown.{shown_of}
+use Rattle.tk_series.specs.Limited.{LimitedView}
+use Rattle.tk_sites.specs.Sites.{sites_of}
+use Rattle.tk_sites.specs.declared.sums.Sums.{Sums}
 use Rattle.tk_stream.specs.Sent.{IsCut}
 use Rattle.tk_stream.specs.Tables.{TablesView}
 
@@ -21,53 +24,58 @@ use Rattle.tk_stream.specs.Tables.{TablesView}
 abbrev pub odd_in : Limits → List ℕ → TablesView → List Told
 odd_in limits bytes tables = told_of limits (standing_of limits (shown_of bytes)) tables
 
--- the page of tables, courses and what is odd: between the page's own head and end stand its parts, and every byte is the page's own markup or an
+-- the places after the lines of these bytes, which lead to these tables
+abbrev pub sites_in : List ℕ → TablesView → LimitedView Sums
+sites_in bytes tables = sites_of (shown_of bytes) tables []
+
+-- the page of tables, courses, places and what is odd: between the page's own head and end stand its parts, and every byte is the page's own markup or an
 -- escaped byte of a text, each where it may stand
-pub record IsDrawn (limits : Limits) (findings : List Told) (courses : Courses) (tables : TablesView) (text : List ℕ) : Type 0 where
+pub record IsDrawn (title : List ℕ) (limits : Limits) (findings : List Told) (courses : Courses) (sites : LimitedView Sums) (tables : TablesView) (text : List ℕ) : Type 0 where
   pub inner : List ℕ
-  pub drawn : DrawsPage limits findings courses tables no_paper (record { text = inner; place = Some places.Text })
+  pub drawn : DrawsPage title limits findings courses sites tables no_paper (record { text = inner; place = Some places.Text })
   pub woven : ∥ Woven inner places.Text ∥₁
   pub framed : text ≡ (HEAD.now ++ inner) ++ TAIL.now
 
--- the page of tables to which these bytes lead: it is drawn of them, of what is odd, and of the course of each task over just its lines
-pub record IsPage (limits : Limits) (bytes : List ℕ) (tables : TablesView) (text : List ℕ) : Type 0 where
+-- the page of this title, of tables to which these bytes lead: it is drawn of them, of what is odd, of the course of each task over just its
+-- lines, and of the places
+pub record IsPage (title : List ℕ) (limits : Limits) (bytes : List ℕ) (tables : TablesView) (text : List ℕ) : Type 0 where
   pub courses : Courses
   pub told : TellOf (shown_of bytes) courses
-  pub drawn : IsDrawn limits (odd_in limits bytes tables) courses tables text
+  pub drawn : IsDrawn title limits (odd_in limits bytes tables) courses (sites_in bytes tables) tables text
 
 -- a page was written of the tables to which all bytes lead, and their warnings were counted
-pub record WritesPage (limits : Limits) (given : Option (List ℕ)) (warnings : ℕ) (old new : Option (List ℕ)) : Type 0 where
+pub record WritesPage (title : List ℕ) (limits : Limits) (given : Option (List ℕ)) (warnings : ℕ) (old new : Option (List ℕ)) : Type 0 where
   pub tables : TablesView
   pub lead : LeadTo given tables
   pub text : List ℕ
-  pub page : IsPage limits lead.bytes tables text
+  pub page : IsPage title limits lead.bytes tables text
   pub wrote : Appends old new text
   pub counted : warnings ≡ length (warnings_in limits.lints tables)
 
 -- a proper front of such a page was written
-pub record WritesFront (limits : Limits) (given : Option (List ℕ)) (old new : Option (List ℕ)) : Type 0 where
+pub record WritesFront (title : List ℕ) (limits : Limits) (given : Option (List ℕ)) (old new : Option (List ℕ)) : Type 0 where
   pub tables : TablesView
   pub lead : LeadTo given tables
   pub text : List ℕ
-  pub page : IsPage limits lead.bytes tables text
+  pub page : IsPage title limits lead.bytes tables text
   pub front : List ℕ
   pub cut : IsCut text front
   pub wrote : Appends old new front
 
 -- what the page of a stream came to, by its answer: of the reader's bytes that were given and those that are left, and of the
 -- writer's before and after
-abbrev pub PagesWith : Limits → Option (List ℕ) → Option (List ℕ) → Result ℕ AppFault → Option (List ℕ) → Option (List ℕ) → Type 0
-PagesWith limits given left (Ok warnings) old new = WritesPage limits given warnings old new
-PagesWith limits given left (Err faults.Write) old new = WritesFront limits given old new
-PagesWith limits given left (Err (faults.Stream lines fault)) old new = HaveFault given left lines fault
-PagesWith limits given left (Err faults.Memory) old new = Unit {0}
-PagesWith limits given left (Err faults.Read) old new = Unit {0}
-PagesWith limits given left (Err (faults.Script line name)) old new = ⊥
+abbrev pub PagesWith : List ℕ → Limits → Option (List ℕ) → Option (List ℕ) → Result ℕ AppFault → Option (List ℕ) → Option (List ℕ) → Type 0
+PagesWith title limits given left (Ok warnings) old new = WritesPage title limits given warnings old new
+PagesWith title limits given left (Err faults.Write) old new = WritesFront title limits given old new
+PagesWith title limits given left (Err (faults.Stream lines fault)) old new = HaveFault given left lines fault
+PagesWith title limits given left (Err faults.Memory) old new = Unit {0}
+PagesWith title limits given left (Err faults.Read) old new = Unit {0}
+PagesWith title limits given left (Err (faults.Script line name)) old new = ⊥
 
 -- the limits where nothing is said of long polls: one takes 100 ms or longer
 abbrev pub usual_limits : LintsView → Limits
 usual_limits lints = record { long = 100000000; lints = lints }
 
--- the same by those limits
+-- the same by those limits, and with the program's name as its title
 abbrev pub Pages : LintsView → Option (List ℕ) → Option (List ℕ) → Result ℕ AppFault → Option (List ℕ) → Option (List ℕ) → Type 0
-Pages lints = PagesWith (usual_limits lints)
+Pages lints = PagesWith (codes "taskscope") (usual_limits lints)

@@ -1,9 +1,10 @@
--- Which tasks a page shows, and in which order.
-use Rattle.std.specs.Prelude.{ℕ, ◌+◌, ◌-◌, ◌^◌, not, List, [], ◌∷◌}
-use Rattle.std.specs.List.Sorted.{IsSorted}
+-- Which tasks and places a page shows, and in which order.
+use Rattle.std.specs.Prelude.{ℕ, ◌+◌, ◌-◌, ◌^◌, not, true, List, [], ◌∷◌}
+use Rattle.std.specs.List.Sorted.{IsPermutation, IsSorted}
 use Rattle.std.specs.Ordering.{bool_cmp, nat_cmp, ordering_then}
 use Rattle.std.specs.declared.cmp.Ordering.{Ordering}
 use Rattle.tk_core.specs.Lists.{capped}
+use Rattle.tk_sites.specs.declared.sums.Sums.{Sums}
 use Rattle.tk_stream.specs.declared.tables.task.Task.{Task}
 use Rattle.tk_page.specs.declared.figures.Scale.{Scale}
 use Rattle.tk_page.specs.declared.oddities.Signs.{Signs}
@@ -19,14 +20,22 @@ rank_of scale signs place t = record {
   place = place;
 }
 
--- the ranks of tasks, the first of which stands at a place
-abbrev pub ranks_from : Scale → Signs → ℕ → List Task → List Rank
-ranks_from scale signs place [] = []
-ranks_from scale signs place (t ∷ ts) = rank_of scale signs place t ∷ ranks_from scale signs (place + 1) ts
+-- the ranks of items, the first of which stands at a place
+abbrev pub ranks_from : {A : Type 0} → (ℕ → A → Rank) → ℕ → List A → List Rank
+ranks_from rank place [] = []
+ranks_from rank place (x ∷ xs) = rank place x ∷ ranks_from rank (place + 1) xs
 
 -- the ranks of the tasks of tables, in table order
 abbrev pub ranks_of : Scale → Signs → List Task → List Rank
-ranks_of scale signs tasks = ranks_from scale signs 0 tasks
+ranks_of scale signs tasks = ranks_from (rank_of scale signs) 0 tasks
+
+-- the rank of a place: those whose tasks ran and waited longer come first, then those that came before
+abbrev pub site_rank : ℕ → Sums → Rank
+site_rank place sums = record { calm = true; below = 2 ^ 64 - 1 - capped (sums.busy + sums.sched); place = place }
+
+-- the ranks of places, in the order in which a first task of each came
+abbrev pub site_ranks_of : List (List ℕ × Sums) → List Rank
+site_ranks_of sites = ranks_from (λ place x. site_rank place x.1) 0 sites
 
 -- by whether something is odd, then by how long it ran and waited, then by place
 abbrev pub rank_cmp : Rank → Rank → Ordering
@@ -35,3 +44,8 @@ rank_cmp a b = ordering_then (bool_cmp a.calm b.calm) (ordering_then (nat_cmp a.
 -- none comes before one of a lesser rank
 abbrev pub AreInOrder : List Rank → Type 0
 AreInOrder ranks = IsSorted rank_cmp ranks
+
+-- these ranks are those of all places, in order
+pub record AreSiteRanks (sites : List (List ℕ × Sums)) (ranks : List Rank) : Type 0 where
+  pub all : IsPermutation (site_ranks_of sites) ranks
+  pub sorted : AreInOrder ranks

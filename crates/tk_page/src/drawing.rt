@@ -11,12 +11,15 @@ use crate::figures::{Scale, count};
 use crate::history::History;
 use crate::oddities::Signs;
 use crate::resources::put_resources;
+use crate::sites::put_sites;
 use crate::tasks::put_tasks;
 use crate::waiting::any_waits_from_last_wake;
 use std::alloc::{AllocError, Global};
 use tk_ids::Dropped;
 use tk_paper::Part::{Class, Close, Number, Span, Start, Text};
 use tk_paper::{Paper, Tag};
+use tk_series::Limited;
+use tk_sites::Sums;
 use tk_stream::Tables;
 
 // The moment at the page's left: the first line's, or that of the earliest creation of a task.
@@ -136,17 +139,18 @@ fn put_late(paper: &mut Paper, tables: &Tables) -> Result<(), AllocError>
 
 fn put_header(
     paper: &mut Paper,
+    title: &str,
     watched: u64,
     lines: u64,
     gone: u64,
     tables: &Tables,
 ) -> Result<(), AllocError>
-    ensures { OnOk result (Writes paper.old paper.new (spec.header watched lines gone tables.now)) }
+    ensures { OnOk result (Writes paper.old paper.new (spec.header title.now watched lines gone tables.now)) }
 {
     paper.put(&[
         Start(Tag::Header),
         Start(Tag::H1),
-        Text("taskscope"),
+        Text(title),
         Close(Tag::H1),
         Class(Tag::P, "facts"),
     ])?;
@@ -169,22 +173,32 @@ pub(crate) fn scale_of(history: &History, tables: &Tables) -> Scale
     }
 }
 
+// How many tasks came.
+fn came(history: &History, tables: &Tables) -> u64
+    ensures { result ≡ drawn.came (courses_of history.now) tables.now }
+{
+    count(tables.task_count()).saturating_add(history.gone())
+}
+
 /// Puts the page's text between its frame.
 pub(crate) fn put_page(
     paper: &mut Paper,
     alloc: Global,
+    title: &str,
     scale: Scale,
     signs: &Signs,
     history: &History,
+    sites: &Limited<Sums>,
     tables: &Tables,
 ) -> Result<(), AllocError>
-    ensures { OnOk result (drawn.DrawsSections scale signs.now (courses_of history.now) tables.now paper.old paper.new) }
+    ensures { OnOk result (drawn.DrawsSections title.now scale signs.now (courses_of history.now) sites.now tables.now paper.old paper.new) }
 {
     let lines = history.lines();
     put_banner(paper, signs, lines, tables)?;
-    put_header(paper, scale.watched(), lines, history.gone(), tables)?;
+    put_header(paper, title, scale.watched(), lines, history.gone(), tables)?;
     paper.put(&[Start(Tag::Main)])?;
     put_odd(paper, scale, signs, history, tables)?;
+    put_sites(paper, alloc, came(history, tables), sites)?;
     put_tasks(paper, alloc, scale, signs, history, tables)?;
     put_resources(paper, alloc, tables)?;
     paper.put(&[Close(Tag::Main)])?;

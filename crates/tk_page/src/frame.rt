@@ -2,7 +2,7 @@
 
 /// What stands before the page's text.
 pub const HEAD: &str = "<!DOCTYPE html>
-<html lang=\"en\"><head><meta charset=\"utf-8\"><meta http-equiv=\"Content-Security-Policy\" content=\"default-src 'none'; style-src 'sha256-gLZyRw5MYZhxcXMiJDNqLG56pW8paqs5DLGiQ/lsNY4='; script-src 'sha256-GSu538MSVnerL3EsvS3jav20ePqr+6pZR9LsF3yOM94='\"><meta name=\"viewport\" content=\"width=device-width, initial-scale=1\"><meta name=\"color-scheme\" content=\"light dark\"><title>taskscope</title><style>:root{--bg:#fff;--ink:#1a2027;--dim:#5a6672;--rule:#d5dce3;--card:#f6f8fa;--idle:#e6ebf0;--busy:#1f6fb8;--wait:#a85a00;--wake:#7b8794;--own:#b5179e;--bad:#c62828;--link:#0b5cad}
+<html lang=\"en\"><head><meta charset=\"utf-8\"><meta http-equiv=\"Content-Security-Policy\" content=\"default-src 'none'; style-src 'sha256-7atmh8VTk2PJoyEU9B0Bt8xPeoiEY8YmwVQ3X2+4vlw='; script-src 'sha256-HZS74/1q0eCEr5DaaArE+dPQ9wGcX7Me9yjAskZ2z3Y='\"><meta name=\"viewport\" content=\"width=device-width, initial-scale=1\"><meta name=\"color-scheme\" content=\"light dark\"><title>taskscope</title><style>:root{--bg:#fff;--ink:#1a2027;--dim:#5a6672;--rule:#d5dce3;--card:#f6f8fa;--idle:#e6ebf0;--busy:#1f6fb8;--wait:#a85a00;--wake:#7b8794;--own:#b5179e;--bad:#c62828;--link:#0b5cad}
 @media (prefers-color-scheme:dark){:root{--bg:#11161c;--ink:#e4e9ee;--dim:#9aa7b4;--rule:#2b353f;--card:#19212a;--idle:#25303b;--busy:#4fa3e8;--wait:#ffa53d;--wake:#8796a5;--own:#f06fd8;--bad:#ff6b61;--link:#7fc0ff}}
 *{box-sizing:border-box}
 body{margin:0;background:var(--bg);color:var(--ink);font:15px/1.45 system-ui,'Segoe UI','DejaVu Sans',sans-serif}
@@ -40,6 +40,7 @@ thead button:focus-visible,a:focus-visible,input:focus-visible{outline:2px solid
 [aria-sort=descending] button::after{content:' ▾'}[aria-sort=ascending] button::after{content:' ▴'}
 .num{text-align:right;white-space:nowrap;font-variant-numeric:tabular-nums}
 tbody th{font-weight:600;min-width:150px;max-width:280px;overflow-wrap:anywhere}
+#sites tbody th{font-weight:400;max-width:560px}#sites a{text-decoration:none}#sites a:hover,#sites a:focus-visible{text-decoration:underline}
 tr:target{background:var(--card);outline:2px solid var(--link);outline-offset:-2px}
 .course{width:48%;min-width:340px;padding:4px 0}
 svg{display:block}
@@ -67,7 +68,7 @@ ul.odd h3 small{font-weight:400;margin-left:4px}
 .badges{line-height:1.5}
 .controls{visibility:hidden}.live .controls{visibility:visible}
 td dl{margin:0}
-@media(max-width:700px){header,main{padding:0 12px}.scroll{overflow:visible}#table,#table caption,#table thead,#table tbody,#table th,#table td{display:block}#table thead tr{display:none}#table thead tr.sum{display:block}tr.sum td:last-child{display:none}.lead{text-align:left}
+@media(max-width:700px){header,main{padding:0 12px}.scroll{overflow:visible}.scroll.wide{overflow-x:auto}#table,#table caption,#table thead,#table tbody,#table th,#table td{display:block}#table thead tr{display:none}#table thead tr.sum{display:block}tr.sum td:last-child{display:none}.lead{text-align:left}
 #table tbody tr{display:grid;grid-template-columns:repeat(3,1fr);padding:6px 0;border-bottom:1px solid var(--rule)}#table tbody tr[hidden]{display:none}#table tbody th,#table tbody td{border:0;padding:2px 4px;min-width:0;max-width:none}
 #table tbody th{grid-column:1/3}#table tbody td:nth-child(2){text-align:right}#table tbody .course{grid-column:1/-1;width:auto}#table tbody td:nth-child(n+7){display:none}#table tbody .num{text-align:left}svg.bar{display:none}
 #table tbody td:nth-child(4)::before{content:'busy '}#table tbody td:nth-child(5)::before{content:'waiting '}#table tbody td:nth-child(6)::before{content:'a poll '}}
@@ -78,7 +79,9 @@ td dl{margin:0}
 pub const TAIL: &str = "
 <script>'use strict';
 document.body.className = 'live';
-const table = document.getElementById('table'), body = table.tBodies[0], all = [...body.rows];
+const title = document.querySelector('h1').textContent;
+if (title !== 'taskscope') document.title = title + ': taskscope';
+const table = document.getElementById('table'), sites = document.getElementById('sites'), all = [...table.tBodies[0].rows];
 const filter = document.getElementById('filter'), only = document.getElementById('only'), shown = document.getElementById('shown');
 const show = () => {
   const word = filter.value.toLowerCase();
@@ -92,10 +95,12 @@ const show = () => {
 };
 const keep = () => {
   const asked = new URLSearchParams();
-  const head = table.tHead.querySelector('[aria-sort]');
   if (filter.value) asked.set('name', filter.value);
   if (only.checked) asked.set('odd', '1');
-  if (head) asked.set('sort', (head.ariaSort === 'descending' ? '-' : '') + head.cellIndex);
+  for (const [word, sortable] of [['sort', table], ['places', sites]]) {
+    const head = sortable && sortable.tHead.querySelector('[aria-sort]');
+    if (head) asked.set(word, (head.ariaSort === 'descending' ? '-' : '') + head.cellIndex);
+  }
   const words = asked.toString();
   history.replaceState(null, '', (words ? '?' + words : location.pathname) + location.hash);
 };
@@ -111,27 +116,45 @@ addEventListener('hashchange', () => {
   }
 });
 const of = (cell) => cell.dataset.v === undefined ? cell.textContent : BigInt(cell.dataset.v);
-for (const button of table.tHead.querySelectorAll('button')) {
-  const head = button.parentNode;
-  button.addEventListener('click', () => {
-    const i = head.cellIndex, down = head.getAttribute('aria-sort') !== 'descending';
-    for (const other of table.tHead.querySelectorAll('[aria-sort]')) other.removeAttribute('aria-sort');
-    head.setAttribute('aria-sort', down ? 'descending' : 'ascending');
-    all.sort((a, b) => {
-      const x = of(a.cells[i]), y = of(b.cells[i]);
-      return (x < y ? -1 : x > y ? 1 : 0) * (down ? -1 : 1);
+const sorts = (table, rows) => {
+  for (const button of table.tHead.querySelectorAll('button')) {
+    const head = button.parentNode;
+    button.addEventListener('click', () => {
+      const i = head.cellIndex, down = head.getAttribute('aria-sort') !== 'descending';
+      for (const other of table.tHead.querySelectorAll('[aria-sort]')) other.removeAttribute('aria-sort');
+      head.setAttribute('aria-sort', down ? 'descending' : 'ascending');
+      rows.sort((a, b) => {
+        const x = of(a.cells[i]), y = of(b.cells[i]);
+        return (x < y ? -1 : x > y ? 1 : 0) * (down ? -1 : 1);
+      });
+      table.tBodies[0].append(...rows);
+      keep();
     });
-    body.append(...all);
-    keep();
-  });
+  }
+};
+const sorted = (table, sort) => {
+  const button = sort && table && table.tHead.rows[table.tHead.rows.length - 1].cells[Math.abs(sort)]?.querySelector('button');
+  if (button) for (let times = sort[0] === '-' ? 1 : 2; times > 0; times--) button.click();
+};
+sorts(table, all);
+if (sites) {
+  sorts(sites, [...sites.tBodies[0].rows]);
+  for (const head of sites.tBodies[0].querySelectorAll('th')) {
+    const at = / at (.*?:[0-9]+:[0-9]+)/.exec(head.textContent);
+    if (!at) continue;
+    const link = document.createElement('a');
+    link.href = '#tasks';
+    link.title = 'its tasks';
+    link.append(...head.childNodes);
+    head.append(link);
+    link.addEventListener('click', () => { filter.value = at[1]; only.checked = false; show(); keep(); });
+  }
 }
-const asked = new URLSearchParams(location.search), sort = asked.get('sort');
+const asked = new URLSearchParams(location.search);
 filter.value = asked.get('name') || '';
 only.checked = asked.has('odd');
-if (sort) {
-  const button = table.tHead.rows[1].cells[Math.abs(sort)]?.querySelector('button');
-  if (button) for (let times = sort[0] === '-' ? 1 : 2; times > 0; times--) button.click();
-}
+sorted(table, asked.get('sort'));
+sorted(sites, asked.get('places'));
 show();
 </script></body></html>
 ";

@@ -16,6 +16,7 @@ mod oddities;
 mod ranks;
 mod resources;
 mod sample;
+mod sites;
 mod strips;
 mod tasks;
 mod track;

@@ -1,4 +1,4 @@
-//! Which tasks a page shows, and in which order: odd ones first, then by how long they ran and waited.
+//! Which tasks and places a page shows, and in which order: odd ones first, then by how long they ran and waited.
 ghost use Rattle.std.specs.Prelude.{◌≡◌, IfOk};
 ghost use Rattle.std.specs.List.Sorted.{IsPermutation};
 ghost use Rattle.tk_page.specs.Ranks as spec;
@@ -6,15 +6,17 @@ ghost use Rattle.tk_page.specs.Ranks as spec;
 use crate::figures::Scale;
 use crate::oddities::Signs;
 use std::alloc::{AllocError, Global};
+use tk_series::Limited;
+use tk_sites::Sums;
 use tk_stream::{Tables, Task};
 
-/// Where a task stands: the least comes first.
+/// Where a task or a place stands: the least comes first.
 #[derive(Clone, Copy, Debug, PartialEq, Eq, PartialOrd, Ord)]
 pub(crate) struct Rank {
     calm: bool,
     // How far what it ran and waited is below the greatest number.
     below: u64,
-    /// Its place in the tables.
+    /// Where it stands among all.
     pub place: usize,
 }
 
@@ -45,6 +47,39 @@ fn list_ranks(
             ranks.push(rank_of(scale, signs, task, place))?;
         }
     }
+    Ok(ranks)
+}
+
+// The same of a place, by how long its tasks ran and waited.
+fn rank_of_site(sums: &Sums, place: usize) -> Rank
+    ensures { result ≡ spec.site_rank place sums.now }
+{
+    Rank {
+        calm: true,
+        below: u64::MAX - sums.busy.saturating_add(sums.sched),
+        place,
+    }
+}
+
+// The ranks of places, in their order.
+fn list_site_ranks(alloc: Global, sites: &Limited<Sums>) -> Result<Vec<Rank>, AllocError>
+    ensures { IfOk result (λ ranks. ranks.items ≡ spec.site_ranks_of sites.now.first) }
+{
+    let mut ranks = Vec::new(alloc);
+    for place in 0..sites.len() {
+        if let Some((_, sums)) = sites.at(place) {
+            ranks.push(rank_of_site(&sums, place))?;
+        }
+    }
+    Ok(ranks)
+}
+
+/// The ranks of places in order.
+pub(crate) fn site_ranks_of(alloc: Global, sites: &Limited<Sums>) -> Result<Vec<Rank>, AllocError>
+    ensures { IfOk result (λ ranks. spec.AreSiteRanks sites.now.first ranks.items) }
+{
+    let mut ranks = list_site_ranks(alloc, sites)?;
+    ranks.as_mut_slice().sort_unstable();
     Ok(ranks)
 }
 

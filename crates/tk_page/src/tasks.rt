@@ -80,7 +80,8 @@ fn put_controls(paper: &mut Paper) -> Result<(), AllocError>
     ])
 }
 
-fn put_column(
+/// Puts the head of a column, with a hint.
+pub(crate) fn put_column(
     paper: &mut Paper,
     class: &'static str,
     hint: &'static str,
@@ -268,22 +269,23 @@ fn put_share_cell(
     ])
 }
 
-// Puts how long a poll takes in the mean, or a dash where there was none.
-fn put_mean_poll(paper: &mut Paper, busy: u64, polls: u64) -> Result<(), AllocError>
-    ensures { OnOk result (Writes paper.old paper.new (spec.mean_cell busy polls)) }
+/// Puts how long one takes in the mean, as a poll, or a dash where there was none.
+pub(crate) fn put_mean(paper: &mut Paper, time: u64, count: u64) -> Result<(), AllocError>
+    ensures { OnOk result (Writes paper.old paper.new (spec.mean_cell time count)) }
 {
-    let span = each(busy, polls);
+    let span = each(time, count);
     paper.put(&[
         Open(Tag::Td),
         WithNumber(Attr::DataV, span),
         With(Attr::Class, "num"),
         End,
-        if polls == 0 { Text("–") } else { Span(span) },
+        if count == 0 { Text("–") } else { Span(span) },
         Close(Tag::Td),
     ])
 }
 
-fn put_number(paper: &mut Paper, number: u64) -> Result<(), AllocError>
+/// Puts a cell with a number.
+pub(crate) fn put_number(paper: &mut Paper, number: u64) -> Result<(), AllocError>
     ensures { OnOk result (Writes paper.old paper.new (spec.number_cell number)) }
 {
     paper.put(&[
@@ -314,7 +316,7 @@ fn put_numbers(paper: &mut Paper, scale: Scale, row: &TaskRow) -> Result<(), All
     let sched = row.sched_until(scale.now);
     put_share_cell(paper, "busy", busy, watched)?;
     put_share_cell(paper, "wait", sched, watched)?;
-    put_mean_poll(paper, busy, row.polls)?;
+    put_mean(paper, busy, row.polls)?;
     put_counts(paper, row)?;
     Ok(())
 }

@@ -8,6 +8,8 @@ ghost use Rattle.tk_report.specs.Views.{IsOfWriter};
 ghost use Rattle.tk_page.specs.Courses.{courses_of};
 ghost use Rattle.tk_page.specs.Kept.{Tells};
 ghost use Rattle.tk_page.specs.Pages.{IsDrawn, Pages, PagesWith};
+ghost use Rattle.tk_sites.specs.Inner.{Follows as AddsUp};
+ghost use Rattle.tk_sites.specs.Sites.{sites_of};
 ghost use Rattle.tk_stream.specs.Tables.{TablesView};
 
 use crate::drawing::{put_page, scale_of};
@@ -21,6 +23,8 @@ use tk_fault::AppFault;
 use tk_odd::{Diagnosis, Found, Limits};
 use tk_paper::Paper;
 use tk_reading::{Both, MAX_LINE, read_stream};
+use tk_series::Limited;
+use tk_sites::{Sites, Sums};
 use tk_stream::{Tables, send};
 
 // How long a poll is that is a long one, where nothing is said: 100 ms.
@@ -36,48 +40,67 @@ fn joined(alloc: Global, front: &str, inner: &[u8], end: &str) -> Result<Vec<u8>
     Ok(text)
 }
 
-// The page of tables, their history and what is odd.
+// The page of tables, their history, their places and what is odd.
 fn page_of(
     alloc: Global,
+    title: &str,
     history: &History,
+    sites: &Limited<Sums>,
     tables: &Tables,
     limits: Limits,
     findings: Vec<Found>,
 ) -> Result<Vec<u8>, AllocError>
-    ensures { IfOk result (λ text. IsDrawn limits (map told findings.items) (courses_of history.now) tables.now text.items) }
+    ensures { IfOk result (λ text. IsDrawn title.now limits (map told findings.items) (courses_of history.now) sites.now tables.now text.items) }
 {
     let signs = Signs::of(tables, limits, findings);
     let scale = scale_of(history, tables);
     let mut paper = Paper::new(alloc);
-    put_page(&mut paper, alloc, scale, &signs, history, tables)?;
+    put_page(
+        &mut paper, alloc, title, scale, &signs, history, sites, tables,
+    )?;
     let inner = paper.into_bytes();
     let text = joined(alloc, HEAD, inner.as_slice(), TAIL)?;
     Ok(text)
 }
 
-// The page of tables, after lines that their history and their diagnosis have seen.
+// The page of tables, after lines that their history, their places and their diagnosis have seen.
 fn page_after(
     alloc: Global,
-    seen: &Both<History, Diagnosis>,
+    title: &str,
+    seen: &Both<Both<History, Sites>, Diagnosis>,
     tables: &Tables,
     limits: Limits,
 ) -> Result<Vec<u8>, AllocError>
-    ensures { (shown : List TablesView) → Follows shown seen.now.second → seen.now.second.limits ≡ limits
-        → IfOk result (λ text. IsDrawn limits (told_of limits (standing_of limits shown) tables.now) (courses_of seen.now.first) tables.now text.items) }
+    ensures { (shown : List TablesView) → Follows shown seen.now.second → seen.now.second.limits ≡ limits → AddsUp shown seen.now.first.second
+        → IfOk result (λ text. IsDrawn title.now limits (told_of limits (standing_of limits shown) tables.now) (courses_of seen.now.first.first)
+        (sites_of shown tables.now []) tables.now text.items) }
 {
     let findings = seen.second.findings_with_victims(alloc, tables)?;
-    page_of(alloc, &seen.first, tables, limits, findings)
+    let sites = seen.first.second.sums(tables, &[])?;
+    page_of(
+        alloc,
+        title,
+        &seen.first.first,
+        &sites,
+        tables,
+        limits,
+        findings,
+    )
 }
 
 // What watches lines, before the first. A box, as it is dropped wherever the reading ends.
-fn nothing_seen(alloc: Global, limits: Limits) -> Option<Box<Both<History, Diagnosis>>>
-    ensures { IfSome result (λ seen. (Tells [] seen.value.first × Follows [] seen.value.second) × (seen.value.second.limits ≡ limits)) }
+fn nothing_seen(alloc: Global, limits: Limits) -> Option<Box<Both<Both<History, Sites>, Diagnosis>>>
+    ensures { IfSome result (λ seen. ((Tells [] seen.value.first.first × AddsUp [] seen.value.first.second) × Follows [] seen.value.second)
+        × (seen.value.second.limits ≡ limits)) }
 {
     let Ok(diagnosis) = Diagnosis::new(alloc, limits) else {
         return None;
     };
     let seen = Both {
-        first: History::new(alloc),
+        first: Both {
+            first: History::new(alloc),
+            second: Sites::new(alloc),
+        },
         second: diagnosis,
     };
     match Box::new(alloc, seen) {
@@ -93,9 +116,10 @@ fn view_by<R: Read, W: Write>(
     reader: &mut R,
     writer: &mut W,
     limits: Limits,
+    title: &str,
 ) -> Result<u64, AppFault>
     requires { client.old ≡ first }
-    ensures pages { PagesWith limits (R.remaining reader.old) (R.remaining reader.new) result
+    ensures pages { PagesWith title.now limits (R.remaining reader.old) (R.remaining reader.new) result
         (W.contents writer.old) (W.contents writer.new) }
     ensures unwritten { IfErr result (λ fault. (IsOfWriter fault → ⊥) → writer.new ≡ writer.old) }
 {
@@ -107,7 +131,7 @@ fn view_by<R: Read, W: Write>(
         return Err(AppFault::Memory);
     };
     let warnings = list.as_slice();
-    let Ok(text) = page_after(alloc, &seen, client.tables(), limits) else {
+    let Ok(text) = page_after(alloc, title, &seen, client.tables(), limits) else {
         return Err(AppFault::Memory);
     };
     match send(writer, text.as_slice()) {
@@ -116,8 +140,8 @@ fn view_by<R: Read, W: Write>(
     }
 }
 
-/// Reads a stream to its end, writes a page of HTML of what its tables then show, of their course of time and of what is odd by these
-/// limits, and answers how many warnings the tables have.
+/// Reads a stream to its end, writes a page of HTML of what its tables then show, of their course of time, of their places and of what is odd by
+/// these limits, and answers how many warnings the tables have. The title stands at the top of the page, and names it in the browser.
 ///
 /// A last line without its line end is ignored. The page is made whole before its first byte is written. The faults are those of
 /// `view_stream`.
@@ -126,19 +150,20 @@ pub fn view_page_with<R: Read, W: Write>(
     reader: &mut R,
     writer: &mut W,
     limits: Limits,
+    title: &str,
 ) -> Result<u64, AppFault>
-    ensures pages { PagesWith limits (R.remaining reader.old) (R.remaining reader.new) result
+    ensures pages { PagesWith title.now limits (R.remaining reader.old) (R.remaining reader.new) result
         (W.contents writer.old) (W.contents writer.new) }
     // Only a writer's fault comes once something was written.
     ensures unwritten { IfErr result (λ fault. (IsOfWriter fault → ⊥) → writer.new ≡ writer.old) }
 {
     match Client::new(alloc, MAX_LINE) {
-        Ok(mut client) => view_by(&mut client, alloc, reader, writer, limits),
+        Ok(mut client) => view_by(&mut client, alloc, reader, writer, limits, title),
         Err(_) => Err(AppFault::Memory),
     }
 }
 
-/// What [`view_page_with`] does, with a long poll as one of 100 ms or longer.
+/// What [`view_page_with`] does, with a long poll as one of 100 ms or longer, and the program's name as the title.
 pub fn view_page<R: Read, W: Write>(
     alloc: Global,
     reader: &mut R,
@@ -153,5 +178,5 @@ pub fn view_page<R: Read, W: Write>(
         long: LONG_POLL,
         lints: *lints,
     };
-    view_page_with(alloc, reader, writer, limits)
+    view_page_with(alloc, reader, writer, limits, "taskscope")
 }

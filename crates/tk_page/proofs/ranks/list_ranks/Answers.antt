@@ -13,6 +13,6 @@ loop-place-preserved c =
       | in-Some+in_ok-push w ↦
           ap (λ v. v.items) w.ranks-is ∙ w.in_ok-push.ensures.items ∙ ap (λ r. c.loop-place.ranks.items ++ r ∷ []) w.rank_of.ensures
           ∙ ap (λ rs. rs ++ rank_of c.args.scale c.args.signs.now i w.in-Some.task.now ∷ []) c.loop-place.invariant
-          ∙ sym (ranks_next c.args.scale c.args.signs.now tasks i w.in-Some.task.now w.in-Some.ensures)
+          ∙ sym (ranks_next (rank_of c.args.scale c.args.signs.now) tasks i w.in-Some.task.now w.in-Some.ensures)
       | in_default w ↦ absurd (omega (arith, past_end tasks i w.in_default.ensures))
     ]

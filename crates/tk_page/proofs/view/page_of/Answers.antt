@@ -9,7 +9,7 @@ use Rattle.tk_page.proofs.view.page_of.Goals as goal
 
 pub into_bytes-inner-requires : goal.into_bytes-inner-requires
 into_bytes-inner-requires c =
-    ends_between c.scale_of-scale.result c.of-signs.result (courses_of c.args.history.now) c.args.tables.now c.new-paper.result c.put_page.new.paper c.new-paper.ensures
+    ends_between c.args.title.now c.scale_of-scale.result c.of-signs.result (courses_of c.args.history.now) c.args.sites.now c.args.tables.now c.new-paper.result c.put_page.new.paper c.new-paper.ensures
     c.in_ok-put_page.ensures
 
 pub returns : goal.returns
@@ -17,14 +17,16 @@ returns c =
     let signs = c.of-signs.result in
     let courses = courses_of c.args.history.now in
     let tables = c.args.tables.now in
+    let title = c.args.title.now in
+    let sites = c.args.sites.now in
     let inner = c.into_bytes-inner.result.items in
     record {
       inner = inner;
       drawn = record {
         signs = signs;
         looked = c.of-signs.ensures;
-        sections = subst (λ scale. DrawsSections scale signs courses tables no_paper (record { text = inner; place = Some places.Text })) c.scale_of-scale.ensures
-            (drawn_from c.scale_of-scale.result signs courses tables c.new-paper.result c.put_page.new.paper c.new-paper.ensures c.in_ok-put_page.ensures inner
+        sections = subst (λ scale. DrawsSections title scale signs courses sites tables no_paper (record { text = inner; place = Some places.Text })) c.scale_of-scale.ensures
+            (drawn_from title c.scale_of-scale.result signs courses sites tables c.new-paper.result c.put_page.new.paper c.new-paper.ensures c.in_ok-put_page.ensures inner
             c.into_bytes-inner.ensures.text);
       };
       woven = c.into_bytes-inner.ensures.woven;

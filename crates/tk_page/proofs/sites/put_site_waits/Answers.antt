@@ -1,0 +1,5 @@
+use Rattle.tk_paper.proofs.PutLemmas.{then}
+use Rattle.tk_page.proofs.sites.put_site_waits.Goals as goal
+
+pub returns : goal.returns
+returns c = then c.in_ok-put_time.ensures (then c.in_ok-put_mean.ensures c.in_ok-put_number.ensures)
