@@ -11,6 +11,7 @@ use Rattle.tk_page.specs.declared.sample.Sample.{Sample}
 use Rattle.tk_page.specs.Banner.{doing_of, doing_so}
 use Rattle.tk_page.specs.Cards.{mean_wait, place_of, whom}
 use Rattle.tk_page.specs.Figures.{each_of}
+use Rattle.tk_page.specs.Sites.{site_text}
 
 -- the place of a task that has left is text
 pub placed : (place : List ℕ) → nat_eq (length place) 0 ≡ false → IsUtf8 place
@@ -49,3 +50,15 @@ waited_in_the_mean all some = ap (λ b. cond b (text (codes " No task was polled
 pub holds_its_thread : (now : ℕ) (is_now : Bool) (kind : OddKind) (t : Task) → t.row.polling ≡ true
     → doing_of now is_now kind t ≡ text (codes " has held its thread for ") ∷ span (runs_for t.row now) ∷ []
 holds_its_thread now is_now kind t runs = ap (λ b. cond b (text (codes " has held its thread for ") ∷ span (runs_for t.row now) ∷ []) (doing_so is_now kind)) runs
+
+-- a place is text
+pub site_is_text : (site : List ℕ) → IsUtf8 site → site_text site ≡ text site ∷ []
+site_is_text site is = rw (is_utf8-from_IsUtf8 site is) refl
+
+-- or it is none
+pub site_is_no_text : (site : List ℕ) → (IsUtf8 site → ⊥) → site_text site ≡ []
+site_is_no_text site isnt = by (is_utf8 site) refl
+  where
+    by : (b : Bool) → is_utf8 site ≡ b → cond b (text site ∷ []) [] ≡ []
+    by true e = absurd (isnt (IsUtf8-from_is_utf8 site e))
+    by false e = refl
