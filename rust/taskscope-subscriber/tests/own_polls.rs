@@ -99,12 +99,13 @@ fn a_task_does_not_poll_what_block_on_runs() {
     }
 }
 
-/// A blocking call is within the span of a task that waits for it.
+/// A blocking call is within the span of a task that waits for it. It enters the span once the task waits.
 async fn within_a_blocking_call() {
+    let (task_waits, until_it_waits) = std::sync::mpsc::channel();
     let task = spawn("task", async {
         let span = tracing::Span::current();
         tokio::task::spawn_blocking(move || {
-            let span = span;
+            until_it_waits.recv().expect("it is said");
             for _ in 0..4 {
                 span.in_scope(|| ());
             }
@@ -112,6 +113,9 @@ async fn within_a_blocking_call() {
         .await
         .expect("no panic");
     });
+    // What `block_on` runs is polled again once the task was.
+    yields(1).await;
+    task_waits.send(()).expect("the call listens");
     task.await.expect("no panic");
 }
 
