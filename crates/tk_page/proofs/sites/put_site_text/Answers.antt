@@ -5,4 +5,4 @@ pub returns-in-Ok : goal.returns-in-Ok
 returns-in-Ok c = rw (site_is_text c.args.site.now c.in-Ok.ensures.cases.1) (rw c.in-Ok.ensures.cases.0 at c.put.ensures)
 
 pub returns-in-Err : goal.returns-in-Err
-returns-in-Err c = rw (site_is_no_text c.args.site.now c.in-Err.ensures.cases.0) c.put.ensures
+returns-in-Err c = rw (site_is_no_text c.args.site.now c.in-Err.ensures.cases.0) c.put-in-Err.ensures
