@@ -66,9 +66,18 @@ impl Source for Given<'_> {
     }
 }
 
-// A screen of this many rows at most.
-fn screen_of(rows: usize, canvas: Canvas) -> Screen<'static> {
-    Screen {
+// Whether these events are watched to a fault of this text, or to the end where that is empty, by this output, and so many of them taken. A screen has so
+// many rows at most.
+fn draws_on(
+    alloc: Global,
+    rows: usize,
+    canvas: Canvas,
+    events: &[Comes],
+    fault: &str,
+    output: &str,
+    taken: usize,
+) -> bool {
+    let screen = Screen {
         query: Query {
             sort: Column::Busy,
             rising: false,
@@ -79,20 +88,7 @@ fn screen_of(rows: usize, canvas: Canvas) -> Screen<'static> {
         },
         lints: Lints::default(),
         canvas,
-    }
-}
-
-// Whether these events are watched to the end by this output.
-fn draws_on(alloc: Global, screen: &Screen<'_>, events: &[Comes], output: &str) -> bool {
-    let mut source = Given { events, next: 0 };
-    let mut writer = Vec::new(alloc);
-    let ends = watch_keys(alloc, &mut source, &mut writer, screen).is_ok();
-    ends && writer.as_slice() == output.as_bytes()
-}
-
-// Whether these events are watched to a fault of this text, or to the end where that is empty, by this output, and so many of them taken.
-fn draws(alloc: Global, events: &[Comes], fault: &str, output: &str, taken: usize) -> bool {
-    let screen = screen_of(10, Canvas::Plain);
+    };
     let mut source = Given { events, next: 0 };
     let mut writer = Vec::new(alloc);
     let ends = match watch_keys(alloc, &mut source, &mut writer, &screen) {
@@ -100,6 +96,16 @@ fn draws(alloc: Global, events: &[Comes], fault: &str, output: &str, taken: usiz
         Err(stop) => is_text_of(alloc, stop, fault),
     };
     ends && writer.as_slice() == output.as_bytes() && source.next == taken
+}
+
+// The same as text, of ten rows at most.
+fn draws(alloc: Global, events: &[Comes], fault: &str, output: &str, taken: usize) -> bool {
+    draws_on(alloc, 10, Canvas::Plain, events, fault, output, taken)
+}
+
+// The same of one row, up to the end.
+fn shows_one_row(alloc: Global, events: &[Comes], output: &str) -> bool {
+    draws_on(alloc, 1, Canvas::Plain, events, "", output, events.len())
 }
 
 const ODD_BY_BUSY: &str = "sorted by busy  ? shows the keys
@@ -173,11 +179,10 @@ now 1.0 s  tasks 2: 1 polling, 0 scheduled, 1 idle, 0 closed  findings 3
 
 #[test]
 fn keys_show_the_next_page_and_the_last(rt: HostRuntime) {
-    let screen = screen_of(1, Canvas::Plain);
     for last in [b'd', b'>', b'j', b'n'] {
         let events = [Bytes(ODD), key(last), DUE];
         assert!(rt;
-            draws_on(rt.alloc(), &screen, &events, SECOND_PAGE),
+            shows_one_row(rt.alloc(), &events, SECOND_PAGE),
             "key {last}"
         );
     }
@@ -190,7 +195,7 @@ fn keys_show_the_next_page_and_the_last(rt: HostRuntime) {
         page_down[3],
         DUE,
     ];
-    assert!(rt; draws_on(rt.alloc(), &screen, &events, SECOND_PAGE));
+    assert!(rt; shows_one_row(rt.alloc(), &events, SECOND_PAGE));
 }
 
 const FILTERED: &str = "sorted by busy  /ain_  ? shows the keys
@@ -247,7 +252,7 @@ fn a_terminal_tells_its_size(rt: HostRuntime) {
         key(b't'),
         DUE,
     ];
-    assert!(rt; draws_on(rt.alloc(), &screen_of(10, canvas), &answer, RESIZED));
+    assert!(rt; draws_on(rt.alloc(), 10, canvas, &answer, "", RESIZED, 11));
 }
 
 const ODD_DETAILS: &str = "sorted by busy  ? shows the keys
@@ -405,7 +410,18 @@ fn ends<R: Threads + Wait + Clock + Copy + Send + Sync + Drop + 'static>(
     alloc: Global,
     keys: &'static [u8],
 ) -> bool {
-    let screen = screen_of(10, Canvas::Plain);
+    let screen = Screen {
+        query: Query {
+            sort: Column::Busy,
+            rising: false,
+            rows: Some(10),
+            filter: b"",
+            typed: Typed::none(),
+            resources: false,
+        },
+        lints: Lints::default(),
+        canvas: Canvas::Plain,
+    };
     let mut writer = Vec::new(alloc);
     watch_terminal(rt, alloc, ODD, false, keys, &mut writer, &screen, 0).is_ok()
 }
