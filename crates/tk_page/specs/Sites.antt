@@ -1,5 +1,5 @@
 -- The table of places: what the tasks of each came to, those that left among them.
-use Rattle.std.specs.Prelude.{◌≡◌, ℕ, ◌+◌, nat_le, if◌then◌else◌, Option, List, [], ◌∷◌, ◌++◌, codes, length, take, slice_get, flat_map}
+use Rattle.std.specs.Prelude.{ℕ, ◌+◌, nat_le, if◌then◌else◌, Option, List, [], ◌∷◌, ◌++◌, codes, length, take, slice_get, flat_map}
 use Rattle.std.specs.Option.{option_map_or}
 use Rattle.std.specs.Str.{is_utf8}
 use Rattle.tk_core.specs.Lists.{capped}

@@ -246,5 +246,6 @@ pub(crate) fn put_sites(
     ensures { OnOk result (spec.WritesSites tasks sites.now paper.old paper.new) }
 {
     let ranks = site_ranks_of(alloc, sites)?;
-    put_ranked(paper, tasks, sites, ranks.as_slice())
+    put_ranked(paper, tasks, sites, ranks.as_slice())?;
+    Ok(())
 }
