@@ -1,7 +1,6 @@
 //! The table of places: what the tasks of each came to, those that left among them.
-ghost use Rattle.std.specs.Prelude.{◌≡◌, [], OnOk, flat_map, length, slice_get};
+ghost use Rattle.std.specs.Prelude.{◌≡◌, [], OnOk, flat_map, slice_get};
 ghost use Rattle.std.specs.Option.{option_map_or};
-ghost use Rattle.tk_page.specs.Ranks.{AreSiteRanks};
 ghost use Rattle.tk_page.specs.Sites as spec;
 ghost use Rattle.tk_paper.specs.Pieces.{Writes};
 
