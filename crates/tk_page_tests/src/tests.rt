@@ -123,7 +123,7 @@ fn a_page_shows_the_number_that_clears(rt: HostRuntime) {
     assert!(rt; later_shows(rt.alloc(), POLLED, calm, "class=\"now\""));
 }
 
-// The page of a stream where a long poll is one of so many nanoseconds.
+// The page of a stream where a long poll is one of so many nanoseconds, with a strange title.
 fn page_by(alloc: Global, stream: &[u8], long: u64) -> Option<Vec<u8>> {
     let mut reader = stream;
     let mut page = Vec::new(alloc);
@@ -131,7 +131,7 @@ fn page_by(alloc: Global, stream: &[u8], long: u64) -> Option<Vec<u8>> {
         long,
         lints: Lints::default(),
     };
-    match view_page_with(alloc, &mut reader, &mut page, limits) {
+    match view_page_with(alloc, &mut reader, &mut page, limits, "h<b>&\"'") {
         Ok(_) => Some(page),
         Err(_) => None,
     }
@@ -146,6 +146,20 @@ fn accuses(alloc: Global, long: u64) -> Option<bool> {
         },
         Err(_) => None,
     }
+}
+
+// Whether a page by a title has this text.
+fn titled_shows(alloc: Global, text: &str) -> Option<bool> {
+    match page_by(alloc, POLLED, 1) {
+        Some(page) => Some(has(page.as_slice(), text)),
+        None => None,
+    }
+}
+
+#[test]
+fn a_page_has_its_title_escaped(rt: HostRuntime) {
+    assert!(rt; titled_shows(rt.alloc(), "<h1>h&lt;b&gt;&amp;&quot;&#39;</h1>") == Some(true));
+    assert!(rt; shows(rt.alloc(), POLLED, "<h1>taskscope</h1>", "id=\"sites\""));
 }
 
 #[test]
