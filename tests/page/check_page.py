@@ -209,7 +209,9 @@ def check(page, stream):
     assert not parser.errors, parser.errors[:5]
     elements, tables = list(tree.iter()), Tables(stream)
     check_elements(elements)
-    check_links(elements)
+    # A task that a card names may have no row where there are more tasks than rows.
+    if len(tables.tasks) <= ROWS:
+        check_links(elements)
     check_policy(elements)
     check_closed(text)
     check_rows(elements, tables)

@@ -228,7 +228,7 @@ fn a_text_is_typed_and_names_what_is_shown(rt: HostRuntime) {
 
 // On a terminal of 20 columns and 6 lines, without colors.
 const RESIZED: &str =
-    "\x1b[H\x1b[Ksorted by busy  ? sh\n\x1b[Know 1.0 s  tasks 2: \n\x1b[K 1 NOW     resize 1.\n\x1b[K 2 NOW     main 1.1 c\n\x1b[K.. and 1 more\n\x1b[J";
+    "\x1b[H\x1b[Ksorted by busy  ? sh\n\x1b[Know 1.0 s  tasks 2: \n\x1b[K 1 NOW     resize 1.\n\x1b[K 2 NOW     main 1.1 \n\x1b[K.. and 1 more\n\x1b[J";
 
 #[test]
 fn a_terminal_tells_its_size(rt: HostRuntime) {

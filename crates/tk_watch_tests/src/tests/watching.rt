@@ -113,7 +113,8 @@ fn an_end_before_the_first_line_is_drawn(rt: HostRuntime) {
     let screens = [
         "now 0 ns  tasks 0: 0 polling, 0 scheduled, 0 idle, 0 closed  findings 0
 no line came: nothing is known of any task
-   TASK STATE          BUSY     SCHED   POLLS   WAKES SELF NAME                 KIND     LOCATION
+  TASK STATE         BUSY    SCHED  POLLS  WAKES SELF LOCATION        NAME                 KIND
+0 of 0 tasks
 
 ",
     ];
