@@ -53,9 +53,10 @@ is_page_of_service() {
     make_service "$1" && /usr/bin/python3 "$root/tests/page/check_page.py" "$work/page" "$work/stream"
 }
 
-# A stream of thousands of places, and its page.
+# A stream of a thousand places, and its page.
 make_crowd() {
-    python3 "$root/tests/places/check_places.py" --crowd > "$1" && "$program" page "$1" > "$2"
+    PYTHONPATH=$root/bench PYTHONDONTWRITEBYTECODE=1 python3 -c 'import sys, commands; commands.write_stream(sys.stdout, 1000, 3, 100)' > "$1" &&
+        "$program" page "$1" > "$2"
 }
 
 # Debian's python has Debian's packages.

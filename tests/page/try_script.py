@@ -98,13 +98,10 @@ def try_page(path):
     clicked = opened(re.sub(POLICY, "", text).replace("</body>", CLICKS))
     seen = re.search("<title>(.*?)</title>", clicked).group(1)
     assert seen.startswith("true "), seen
-    linked = opened(re.sub(POLICY, "", text).replace("</body>", LINKS), ASKED)
-    seen = re.search("<title>(.*?)</title>", linked).group(1)
-    assert seen.startswith("true "), f"the address {ASKED}, and a link: {seen}"
-    if 'id="sites"' in text:
-        placed = opened(re.sub(POLICY, "", text).replace("</body>", SITES), PLACES)
-        seen = re.search("<title>(.*?)</title>", placed).group(1)
-        assert seen.startswith("true "), f"the address {PLACES}, and a click on a place: {seen}"
+    words, script = (PLACES, SITES) if 'id="sites"' in text else (ASKED, LINKS)
+    asked = opened(re.sub(POLICY, "", text).replace("</body>", script), words)
+    seen = re.search("<title>(.*?)</title>", asked).group(1)
+    assert seen.startswith("true "), f"the address {words}, and a click: {seen}"
 
 
 for page in sys.argv[1:]:

@@ -1,8 +1,6 @@
 #!/usr/bin/env python3
 """What the program writes of random streams by place, with what plain_places.py reckons: tests/places/check_places.py PROGRAM [SEED [COUNT]]
 
-With --crowd alone it writes the stream that has more places than stand by themselves.
-
 Half of the streams are of services, as tests/odd/random_streams.py makes them. The others have what these don't: names of digits and of spaces, names
 that are locations, ids that are used again or with another place, snapshots that leave tasks out, and sums that are full. One has more places
 than stand by themselves. Each is damaged, too. Of each stream
@@ -176,9 +174,6 @@ def mistake_in_damaged(program, text, options):
 
 
 def main():
-    if sys.argv[1:] == ["--crowd"]:
-        print("\n".join(crowded_stream(random.Random(1))))
-        return
     program, seed, count = sys.argv[1], *(int(word) for word in (sys.argv[2:] + ["1", "200"][len(sys.argv) - 2 :]))
     places = 0
     for number in range(count):
