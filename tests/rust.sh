@@ -459,11 +459,21 @@ times_agree() {
     grep "^warn $id long-poll " "$work/warnings"
 }
 
-# The findings name who holds up whom, and accuse no other. In a program that is fine there are none: polls are long from a second on, since
-# the system may take the processor away for as long as a tenth of it.
+# The findings name who holds up whom first. They accuse another only if the program itself measured a long poll of it, since the system may
+# take the processor away from a client, too. In a program that is fine there are none: polls are long from a second on, since the system may
+# take the processor away for as long as a tenth of it.
 findings_name_who() {
     "$program" lint --findings --long-poll 20 < "$work/starving.stream" > "$work/findings"
-    [ $? -eq 3 ] && grep -q '^finding 1 holds-up .* name json-index$' "$work/findings" && ! grep '^finding .* name client-' "$work/findings" &&
+    [ $? -eq 3 ] && grep -q '^finding 1 holds-up .* name json-index$' "$work/findings" && awk '
+        $1 == "mine" { longest[$2] = $6 }
+        $1 == "task" { name[$2] = $NF }
+        $1 == "finding" {
+            for (i = 1; i < NF && $i != "task"; i++);
+            task = name[$(i + 1)]
+            if (longest[task] + 0 < 20000000) { print "accused: " task ", whose longest poll took " longest[task]; bad = 1 }
+        }
+        END { exit bad }
+    ' "$work/measured" "$work/report" "$work/findings" &&
         "$program" lint --findings --long-poll 1000 < "$work/requests.stream" > "$work/findings" && [ ! -s "$work/findings" ] || {
         cat "$work/findings"
         return 1
