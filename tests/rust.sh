@@ -463,6 +463,7 @@ times_agree() {
 # take the processor away from a client, too. In a program that is fine there are none: polls are long from a second on, since the system may
 # take the processor away for as long as a tenth of it.
 findings_name_who() {
+    view "$work/starving.stream" "$work/report" || return 1
     "$program" lint --findings --long-poll 20 < "$work/starving.stream" > "$work/findings"
     [ $? -eq 3 ] && grep -q '^finding 1 holds-up .* name json-index$' "$work/findings" && awk '
         $1 == "mine" { longest[$2] = $6 }
