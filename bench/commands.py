@@ -16,7 +16,8 @@ import tempfile
 SECOND = 10**9
 RECORDER = 1 << 40
 ROUNDS = 2
-COMMANDS = ["view", "lint --findings", "view --by place", "metrics --by place", "metrics", "watch", "page"]
+# STREAM is the stream itself: what is compared with it reads it twice.
+COMMANDS = ["view", "lint --findings", "view --by place", "view --by place --times", "compare STREAM", "metrics --by place", "metrics", "watch", "watch --by place", "page"]
 STREAMS = [(1000, 1000, 100), (10000, 100, 20), (100000, 1000, 10)]
 
 
@@ -62,7 +63,7 @@ def run(program, command, stream, output):
     if child == 0:
         os.dup2(os.open(stream, os.O_RDONLY), 0)
         os.dup2(os.open(output, os.O_WRONLY | os.O_CREAT | os.O_TRUNC), 1)
-        os.execv(program, [program, *command.split()])
+        os.execv(program, [program, *(stream if word == "STREAM" else word for word in command.split())])
     _, status, used = os.wait4(child, 0)
     if os.waitstatus_to_exitcode(status) not in (0, 3):
         sys.exit(f"taskscope {command} ended with status {status}")

@@ -5,14 +5,15 @@ The executor is simulated, so that one task waits because another runs. Four tas
 second 12 to 30, `cache-sweep` wakes itself, `mailbox` loses its waker, and the first poll of `report-builder` never ends.
 
 Usage: examples/service.py > examples/service.script. With --check it writes nothing, and its status is 1 where the file differs.
-With --seed N chance falls otherwise, and five lines come a second, which tests use.
+With --seed N chance falls otherwise, and five lines come a second, which tests use. With --after it is the same service after a deploy, which
+`taskscope compare` is shown with: `json-index` and `mailbox` are mended, and `metrics-flush` runs polls of 150 milliseconds.
 """
 import heapq
 import itertools
 import os
 import random
 import sys
-from dataclasses import dataclass
+from dataclasses import dataclass, replace
 from typing import Callable, Optional
 
 MS = 1_000_000
@@ -61,6 +62,12 @@ def index_poll(chance, moment):
     return chance.uniform(250, 900) if busy else chance.uniform(3, 9)
 
 
+def deployed(task):
+    """A task as it is after the deploy."""
+    polls = {"json-index": between(3, 9), "metrics-flush": steady(150)}
+    return replace(task, poll=polls.get(task.name, task.poll), loses_waker=None)
+
+
 def tasks():
     return [
         Task("main", 1900, steady(0.2)),
@@ -89,7 +96,7 @@ def tasks():
 class Service:
     """A run of the executor, whose events are said in order of time."""
 
-    def __init__(self, seed, lines_a_second):
+    def __init__(self, seed, lines_a_second, after=False):
         self.chance = random.Random(seed)
         self.said = []
         self.events = []
@@ -99,7 +106,7 @@ class Service:
         self.wakers = 0
         self.operations = 0
         self.permits = 8
-        self.tasks = sorted(tasks(), key=lambda task: task.born)
+        self.tasks = sorted((deployed(task) if after else task for task in tasks()), key=lambda task: task.born)
         for number, task in enumerate(self.tasks, 1):
             task.number = number
             self.at(task.born * SECOND + number * 1000, self.spawn, task)
@@ -228,7 +235,8 @@ class Service:
 
 def main():
     seed = int(sys.argv[2]) if sys.argv[1:2] == ["--seed"] else None
-    text = (Service(7, 1) if seed is None else Service(seed, 5)).run()
+    after = "--after" in sys.argv
+    text = (Service(7, 1, after) if seed is None else Service(seed, 5, after)).run()
     if "--check" in sys.argv:
         with open(TARGET, encoding="ascii") as file:
             if file.read() != text:

@@ -10,7 +10,8 @@ written from the top, from crates/, or from a crate or a folder that the same ro
 stand for several. "`word` in `path`" says that the word stands there, also of several words before one "in".
 
 Of all documents the file of each relative link has to be there, and the heading that it leads to. So has each path in backticks that begins with
-a folder of the repository. If a document says how many lines of Rust there are, it may be off by a tenth.
+a folder of the repository. If a document says how many lines of Rust there are, it may be off by a tenth. A line of text that people write is at
+most 140 characters long. Tables may be wider, and code, and what a script writes.
 """
 import glob
 import os
@@ -24,6 +25,9 @@ NAMED = re.compile(r"`([^`]+)`")
 FILE = re.compile(r"\.(antt|rt|in|md|py|sh|edit|txt|css|js|rs|script|yml|json)$")
 WORD = re.compile(r"^[A-Za-z_][\w:]*$")
 LINK = re.compile(r"\]\(([^)\s]+)\)")
+WIDEST = 140
+# What a script writes, and work that isn't landed.
+NOT_WRITTEN = re.compile(r"docs/DEFINITIONS\.md$|parked/")
 FROM_TOP = re.compile(r"(?:\./)?((?:\.ci|bench|crates|docs|examples|rust|tests)/[\w.*{},/-]+)(?: |$)")
 
 
@@ -116,7 +120,7 @@ def of_map():
     with open(MAP, encoding="utf-8") as lines:
         text = lines.read()
     blocks = re.split(r"\n\n|```.*?```", text, flags=re.S)
-    pieces = [piece for block in blocks for piece in (block.split("\n") if block.startswith(("|", "- ")) else [block])]
+    pieces = [piece for block in blocks for piece in (re.split(r"\n(?=\||- )", block) if block.startswith(("|", "- ")) else [block])]
     known = crates()
     return [f"docs/MAP.md: {mistake}, in: {' '.join(piece.split())[:90]}" for piece in pieces for mistake in mistakes(piece, known)]
 
@@ -172,6 +176,15 @@ def of_documents():
             path = FROM_TOP.match(named)
             if path and not re.search(r"/target/|(?<![A-Za-z])(?:NAME|PLACE|PATH|CRATE)(?![A-Za-z])", path[1]):
                 yield from (f"{name}: there is no {one}" for one in several(path[1]) if not is_there(name, one))
+
+
+def too_wide():
+    """The lines of documents that are too long to be read in an editor."""
+    for name in files():
+        if name.endswith(".md") and not NOT_WRITTEN.match(name):
+            for line in without_code(read(name)).split("\n"):
+                if len(line) > WIDEST and not line.startswith(("|", "[![")):
+                    yield f"{name}: a line of {len(line)} characters, {line[:50]}"
 
 
 # How many lines of Rust without proof documents say there are, in the order in which they say it, and where these are.
@@ -250,7 +263,7 @@ def main(words):
     if words:
         print(__doc__.strip(), file=sys.stderr)
         return 2
-    found = of_map() + list(of_documents()) + list(of_counts())
+    found = of_map() + list(of_documents()) + list(too_wide()) + list(of_counts())
     print("\n".join(found + [f"documents: {len(found)} mistakes"]))
     return 1 if found else 0
 

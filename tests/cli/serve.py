@@ -14,7 +14,8 @@ import tempfile
 import time
 
 SECONDS = 20
-COMMANDS = {"/": "page", "/report": "view", "/lint": "lint", "/metrics": "metrics"}
+# A page has the address for a title.
+COMMANDS = {"/": ["page", "--title", "ADDRESS"], "/report": ["view"], "/lint": ["lint"], "/metrics": ["metrics"]}
 
 
 class Service:
@@ -42,6 +43,7 @@ class Gateway:
     """The program, as it serves a service."""
 
     def __init__(self, program, address):
+        self.address = address
         self.run = subprocess.Popen([program, "serve", address, "--at", "127.0.0.1:0"], stdout=subprocess.PIPE, text=True)
 
     def read_place(self):
@@ -58,8 +60,8 @@ class Gateway:
         self.run.wait(SECONDS)
 
 
-def written_by(program, command, stream):
-    return subprocess.run([program, command, stream], capture_output=True, check=False).stdout
+def written_by(program, words, stream):
+    return subprocess.run([program, *words, stream], capture_output=True, check=False).stdout
 
 
 def await_stream(gateway, stream):
@@ -73,10 +75,11 @@ def await_stream(gateway, stream):
 
 
 def answers_as_commands(gateway, program, stream):
-    for path, command in COMMANDS.items():
+    for path, words in COMMANDS.items():
+        words = [gateway.address if word == "ADDRESS" else word for word in words]
         status, body = gateway.ask(path)
         assert status == 200, f"{path} has status {status}"
-        assert body == written_by(program, command, stream), f"{path} isn't what {command} writes"
+        assert body == written_by(program, words, stream), f"{path} isn't what {words} writes"
 
 
 def refuses_others(gateway):

@@ -5,7 +5,8 @@ Usage: check_page.py PAGE STREAM [PAGE STREAM ..]
 
 Of each page: the parser reports no error and every element is closed; only known elements are there, one script and one style; no
 attribute runs or loads anything; ids are distinct and each link leads to one; the policy names the sums of just this style and this
-script; the head counts what there is and what has left; each number of each row is that of its task; if more than 50 tasks came, each number
+script; the head counts what there is and what has left; each number of each row is that of its task; an idle task says what it waits for,
+and a resource who waits for it; if more than 50 tasks came, each number
 of each place is that of tests/places/plain_places.py; there is a card for each of the first twenty findings of tests/odd/plain_findings.py,
 in their order, and a banner for those that are urgent.
 
@@ -47,6 +48,8 @@ URGENT = 3
 ROWS = 200
 CARDS = 20
 RESOURCES = 50
+WAITS = 5
+GAP = "\u202f"
 FEW = 50
 
 
@@ -99,26 +102,98 @@ def check_closed(text):
     assert open_tags == ["body"], open_tags
 
 
-def check_row(row, tables):
+def grouped(number):
+    return str(number) if number < 10000 else f"{number:,}".replace(",", GAP)
+
+
+# A time, rounded down.
+def time_of(ns):
+    for unit, size in (("s", 10**9), ("ms", 10**6), ("µs", 10**3)):
+        if ns >= size:
+            tenths = ns * 10 // size
+            return f"{tenths // 10}.{tenths % 10} {unit}" if tenths < 1000 else f"{grouped(tenths // 10)} {unit}"
+    return f"{ns} ns"
+
+
+def value_of(value):
+    number = value[0] if isinstance(value, list) else value
+    return str(value).lower() if isinstance(value, bool) else ("-" if number < 0 else "") + grouped(abs(number))
+
+
+def attributes_of(item):
+    return "".join(f", {name} {value_of(value)}" + (f" {unit}" if unit else "") for (name, unit, _), value in zip(item["info"]["attrs"], item["row"]["attrs"]))
+
+
+def is_idle(row):
+    return row["dropped"] is None and not row["polling"] and not row["scheduled"]
+
+
+# The operations in which idle tasks wait.
+def pending(tables):
+    idle = {number for number, task in tables.tasks.items() if is_idle(task["row"])}
+    for op in tables.ops.values():
+        row = op["row"]
+        if row["dropped"] is None and not row["polling"] and row["first_poll"] is not None and row["task"] in idle:
+            yield row["task"], op
+
+
+def in_op(op, start, used=""):
+    return f"in {op['info']['source']}{attributes_of(op)}{used} · since {time_of(max(0, op['row']['first_poll'] - start))}"
+
+
+def used_of(op, tables):
+    resource = tables.resources.get(op["info"]["resource"])
+    return f" · {resource['info']['type']} {id_of(resource['info']['id'])}{attributes_of(resource)}" if resource else ""
+
+
+def id_of(number):
+    return f"{number >> 40}.{number & ((1 << 40) - 1)}"
+
+
+def awaited(number, tables, start):
+    return [in_op(op, start, used_of(op, tables)) for task, op in pending(tables) if task == number]
+
+
+# Steps begin one after the other, and have no more wakes than the task.
+def check_steps(strip, stats):
+    steps = [tuple(map(int, step.split(","))) for step in strip.get("data-steps").split(";")[:-1]]
+    starts = [step[0] for step in steps]
+    assert starts == sorted(starts) and all(len(step) == 5 and max(step[1:3]) <= 1000 for step in steps), steps
+    assert sum(step[3] for step in steps) <= stats["wakes"] and sum(step[4] for step in steps) <= stats["self_wakes"], (steps, stats)
+
+
+def check_waits(elements, tables, start):
+    articles = [e for e in elements if name_of(e) == "article"]
+    for article, number in zip(articles, tables.resources):
+        said = [text_of(e) for e in article if e.get("class") == "in"]
+        there = [(task, op) for task, op in pending(tables) if op["info"]["resource"] == number]
+        wanted = [f"{tables.tasks[task]['info']['name']} waits {in_op(op, start)}" for task, op in there]
+        assert said == wanted[:WAITS], (said, wanted)
+
+
+def check_row(row, tables, start):
     number = int(row.get("id")[1:])
     task, now = tables.tasks[number], tables.now
     stats, cells = task["row"], list(row)
     named = [text_of(element) for element in cells[0].iter() if element.get("class") == "name"]
     assert named == [task["info"]["name"]], named
-    assert f"{number >> 40}.{number & ((1 << 40) - 1)}" in text_of(cells[0])
+    assert id_of(number) in text_of(cells[0])
     busy = busy_until(stats, now)
     wanted = [busy, waited_until(stats, now), busy // max(1, stats["polls"])]
     wanted += [stats["polls"], stats["wakes"], stats["self_wakes"], stats["clones"] - stats["drops"]]
     assert [int(cell.get("data-v")) for cell in cells[3:]] == wanted, (number, wanted)
-    assert [text_of(cell) for cell in cells[6:]] == [str(count) for count in wanted[3:]], number
+    assert [text_of(cell) for cell in cells[6:]] == [grouped(count) for count in wanted[3:]], number
+    said = [text_of(element) for element in cells[0] if element.get("class") == "in"]
+    assert said == awaited(number, tables, start)[:WAITS], (number, said)
+    check_steps([element for element in cells[2] if element.get("class") == "strip"][0], stats)
     return number
 
 
-def check_rows(elements, tables):
+def check_rows(elements, tables, start):
     table = [element for element in elements if element.get("id") == "table"]
     rows = [row for part in table[0] if name_of(part) == "tbody" for row in part] if table else []
     assert len(rows) == min(ROWS, len(tables.tasks)), len(rows)
-    numbers = [check_row(row, tables) for row in rows]
+    numbers = [check_row(row, tables, start) for row in rows]
     assert len(set(numbers)) == len(numbers)
 
 
@@ -165,7 +240,7 @@ def link_to(task, tables):
 
 def check_cards(elements, tables, findings):
     counts = [text_of(e) for e in elements if e.get("class") == "count"]
-    assert counts == ([str(len(findings))] if findings else []), (counts, findings)
+    assert counts == ([grouped(len(findings))] if findings else []), (counts, findings)
     cards = [e for e in elements if name_of(e) == "li"]
     said = [(e.get("class"), [text_of(small) for small in e.iter() if name_of(small) == "small"], links_of(e)) for e in cards]
     wanted = [(CLASSES[kind], ["now" if now else "earlier"], link_to(task, tables)) for kind, now, task, _ in findings[:CARDS]]
@@ -182,7 +257,7 @@ def check_banners(elements, tables, findings):
 
 
 def count_of(number, one):
-    return f"{number} {one}" if number == 1 else f"{number} {one}s"
+    return f"{number} {one}" if number == 1 else f"{grouped(number)} {one}s"
 
 
 def check_head(elements, tables):
@@ -191,14 +266,14 @@ def check_head(elements, tables):
     counted = [count_of(len(tables.tasks), "task"), count_of(len(tables.resources), "resource"), count_of(len(tables.ops), "operation")]
     assert len(facts) == 1 and said[:3] == counted, said
     assert said[3].startswith(count_of(tables.lines, "line") + " over "), said
-    gone = [f"{tables.gone} {'task' if tables.gone == 1 else 'tasks'} closed and gone"] if tables.gone else []
+    gone = [f"{grouped(tables.gone)} {'task' if tables.gone == 1 else 'tasks'} closed and gone"] if tables.gone else []
     assert said[4:] == gone, said
 
 
 def check_polls(elements, tables):
     said = [text_of(e) for e in elements if name_of(e) == "p" and text_of(e).startswith("poll operations: ")]
     counts = [tables.counts.get(number, (0, 0)) for number in tables.resources]
-    assert said == [f"poll operations: {ready} ready, {pending} pending" for ready, pending in counts[:RESOURCES]], said
+    assert said == [f"poll operations: {grouped(ready)} ready, {grouped(waiting)} pending" for ready, waiting in counts[:RESOURCES]], said
 
 
 def check(page, stream):
@@ -214,7 +289,9 @@ def check(page, stream):
         check_links(elements)
     check_policy(elements)
     check_closed(text)
-    check_rows(elements, tables)
+    start = min([tables.first] + [task["row"]["created"] for task in tables.tasks.values()])
+    check_rows(elements, tables, start)
+    check_waits(elements, tables, start)
     check_sites(elements, tables, stream)
     findings = findings_of(stream)
     check_cards(elements, tables, findings)

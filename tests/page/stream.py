@@ -26,7 +26,7 @@ class Tables:
 
     def __init__(self, path):
         self.tasks, self.resources, self.ops, self.counts = {}, {}, {}, {}
-        self.now, self.lines, self.dropped, self.gone = 0, 0, [0, 0, 0], 0
+        self.now, self.lines, self.dropped, self.gone, self.first = 0, 0, [0, 0, 0], 0, 0
         with open(path, encoding="ascii") as file:
             for text in file:
                 if text.endswith("\n"):
@@ -51,6 +51,7 @@ class Tables:
             self.counts[resource] = (ready, pending)
         self.gone += len(before - set(self.tasks))
         self.now, self.dropped = line["now"], line["dropped"]
+        self.first = self.first if self.lines else self.now
         self.lines += 1
 
     def warnings(self, percent=50, limit=10**9):

@@ -1,7 +1,7 @@
 #!/usr/bin/python3
 """Opens pages in a browser without a window: the page's own script runs under its policy and a stranger's doesn't; each column of
-numbers sorts both ways; the filter hides and shows; what is asked for stands in the address, and a link to a hidden row shows it. If the page
-has places, their columns sort, too, and a click on a place shows its tasks.
+numbers sorts both ways; the filter hides and shows; a pointer and keys tell the steps of a strip; what is asked for stands in the
+address, and a link to a hidden row shows it. If the page has places, their columns sort, too, and a click on a place shows its tasks.
 
 Usage: try_script.py PAGE [PAGE ..]
 
@@ -38,6 +38,17 @@ type("no such name");
 seen.push(rows().every((row) => row.hidden));
 type("");
 seen.push(rows().every((row) => !row.hidden));
+const row = rows()[0], strip = row.querySelector("svg.strip"), step = document.getElementById("step"), box = strip.getBoundingClientRect();
+const press = (key) => document.activeElement.dispatchEvent(new KeyboardEvent("keydown", { key, bubbles: true }));
+strip.dispatchEvent(new PointerEvent("pointermove", { clientX: box.right - 1, clientY: box.top + 1 }));
+seen.push(!step.hidden && step.textContent.includes(": " + row.querySelector(".name").textContent + ": busy "));
+document.querySelector('svg[tabindex="0"]').focus();
+press("End");
+seen.push(!step.hidden && step.textContent.endsWith(" tasks waited"));
+press("ArrowDown");
+seen.push(document.activeElement === strip && / wakes?(, .* of its own)?$/.test(step.textContent));
+press("Escape");
+seen.push(step.hidden && document.querySelectorAll(".at").length === 0);
 document.title = seen.every((x) => x) + " " + seen.length;
 }</script></body>"""
 

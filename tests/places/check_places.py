@@ -2,9 +2,9 @@
 """What the program writes of random streams by place, with what plain_places.py reckons: tests/places/check_places.py PROGRAM [SEED [COUNT]]
 
 Half of the streams are of services, as tests/odd/random_streams.py makes them. The others have what these don't: names of digits and of spaces, names
-that are locations, ids that are used again or with another place, snapshots that leave tasks out, and sums that are full. One has more places
-than stand by themselves. Each is damaged, too. Of each stream
-`view --by place`, `lint --by place` and `view --place N` of some places must write what is reckoned, and the status of `lint` is 3 where plain `lint` has it.
+that are locations, ids that are used again or with another place, snapshots that leave tasks out, histograms of some tasks, and sums that are full. One has
+more places than stand by themselves. Each is damaged, too. Of each stream `view --by place`, `lint --by place` and `view --place N` of some places must
+write what is reckoned, with `--times` and without, and the status of `lint` is 3 where plain `lint` has it.
 """
 
 import json
@@ -27,11 +27,15 @@ NAMES = ("a", "conn-%d", "%d", "x%dy%d", "src/a.rs:1:2", "a b.rs:2:2", "two word
 class Options:
     def __init__(self, rng):
         self.percent, self.limit = rng.choice((50, 50, 0, 90)), rng.choice((10**9, 0, 200 * 10**6))
-        self.wait_ms = rng.choice((None, 1, 50, 1000))
+        self.wait_ms, self.times = rng.choice((None, 1, 50, 1000)), rng.random() < 0.7
 
     def words(self):
         words = [f"--never-yielded-ns={self.limit}", f"--self-wake-percent={self.percent}"]
         return words if self.wait_ms is None else [*words, f"--long-wait={self.wait_ms}"]
+
+    def shown(self):
+        """The words of a view, which alone shows histograms."""
+        return [*self.words(), "--times"] if self.times else self.words()
 
 
 def row_of(rng, ident, big):
@@ -43,6 +47,15 @@ def row_of(rng, ident, big):
     row.update(scheduled=rng.random() < 0.3, self_wakes=number(), wakes=number())
     row["sched"] = number()
     return row
+
+
+def times_of(rng, ident, big, waits):
+    def buckets():
+        counts = [rng.choice((0, 0, 0, 1, rng.randrange(1, 1000), TOP if big else 5)) for _ in range(14)]
+        return [[bucket, count] for bucket, count in enumerate(counts) if count and rng.random() < 0.7]
+
+    times = dict(counts=buckets(), id=ident, longest=rng.choice((0, 7, rng.randrange(10**9), TOP)))
+    return {**times, "longest_wait": rng.choice((0, rng.randrange(10**9))), "waits": buckets()} if waits else times
 
 
 def info_of(rng, ident):
@@ -85,7 +98,15 @@ class Writer:
         line = dict(dropped=[rng.randrange(3), 0, 0], gone_ops=[], gone_resources=[], gone_tasks=leaving, new_ops=[], new_resources=[], new_tasks=new)
         line.update(now=self.now, op_stats=[], poll_counts=[], resource_stats=[], seq=number, snapshot=whole, v=2)
         line["task_stats"] = [row_of(rng, ident, self.big) for ident in told]
+        self.tell_times(line)
         return json.dumps(line, separators=(",", ":"))
+
+    def tell_times(self, line):
+        """Of some lines, histograms of some tasks, whether their rows are told or not: version 3, or 4 where one has that of its waits."""
+        if self.rng.random() < 0.4:
+            return
+        line["task_times"] = [times_of(self.rng, ident, self.big, self.rng.random() < 0.4) for ident in self.live if self.rng.random() < 0.5]
+        line["v"] = 4 if any("waits" in times for times in line["task_times"]) else 3
 
     def told_again(self, info):
         return info_of(self.rng, info["id"]) if self.rng.random() < 0.1 else info
@@ -120,24 +141,38 @@ def written(program, words, text):
     return run.returncode, run.stdout, run.stderr
 
 
+def task_lines(report):
+    """The lines of each task, by its id: its own, and those of its histograms."""
+    tasks, last = {}, None
+    for line in report.splitlines():
+        if line.startswith("task "):
+            last = line.split()[1]
+            tasks[last] = line
+        elif line.startswith("  ") and last is not None:
+            tasks[last] += "\n" + line
+        else:
+            last = None
+    return tasks
+
+
 def mistake_in_one(program, lines, options, text, report):
-    """Of some places, and of a number that none has: the place's line, the lines that the plain report has of its tasks, and its warnings."""
+    """Of some places, and of a number that none has: the place's lines, those that the plain report has of its tasks, and its warnings."""
     count = report.count("\nplace ")
-    tasks = {line.split()[1]: line for line in written(program, ["view"], text)[1].splitlines() if line.startswith("task ")}
+    tasks = task_lines(written(program, ["view", "--times"] if options.times else ["view"], text)[1])
     for number in {1, 2, (count + 1) // 2, count, count + 1} - {0}:
         head, own, warned = one_of(lines, options, number)
         wanted = "".join(line + "\n" for line in (*head, *(tasks[id_text(ident)] for ident in own), *warned))
-        answer = written(program, ["view", "--place", str(number), *options.words()], text)
+        answer = written(program, ["view", "--place", str(number), *options.shown()], text)
         if answer != (0, wanted, ""):
-            return f"view --place {number} {' '.join(options.words())}: {answer}\nwanted:\n{wanted}"
+            return f"view --place {number} {' '.join(options.shown())}: {answer}\nwanted:\n{wanted}"
     return None
 
 
 def mistake_in(program, lines, options):
     text = "".join(line + "\n" for line in lines)
     report, warned = texts_of(lines, options)
-    for word, status, wanted in (("view", 0, report), ("lint", WARNED if warned else 0, warned)):
-        words = [word, "--by", "place", *options.words()]
+    for word, more, status, wanted in (("view", options.shown(), 0, report), ("lint", options.words(), WARNED if warned else 0, warned)):
+        words = [word, "--by", "place", *more]
         answer = written(program, words, text)
         if answer != (status, wanted, ""):
             return f"{' '.join(words)}: {answer}\nwanted:\n{wanted}"
@@ -164,7 +199,7 @@ def damaged(rng, lines):
 
 def mistake_in_damaged(program, text, options):
     """A fault is that of the plain view, and nothing is written; what has none is what its whole lines lead to."""
-    words = ["view", "--by", "place", *options.words()]
+    words = ["view", "--by", "place", *options.shown()]
     status, output, faults = written(program, words, text)
     plain = written(program, ["view", *options.words()], text)
     if (status, faults) != (plain[0], plain[2]):

@@ -1,5 +1,5 @@
 #!/usr/bin/env python3
-"""A stream by place, computed plainly: tests/places/plain_places.py [--lint] [--percent N] [--limit NS] [--long-wait MS] < STREAM
+"""A stream by place, computed plainly: tests/places/plain_places.py [--lint] [--times] [--percent N] [--limit NS] [--long-wait MS] < STREAM
 
 This is a second reading of crates/tk_sites/specs, in another language and with no regard to cost: tests compare with it what the program's
 `view --by place` and `lint --by place` write.
@@ -17,14 +17,15 @@ import plain_findings
 
 TOP = 2**64 - 1
 ROOM = 4096
-MORE = "- at - name (more)"
+MORE = "- at - name (others)"
 STATES = ("tasks", "idle", "scheduled", "polling", "closed", "left")
 COUNTS = {"polls": "polls", "wakes": "wakes", "self": "self_wakes", "clones": "clones", "drops": "drops", "busy": "busy", "sched": "sched"}
 WARNINGS = ("self-wakes", "lost-waker", "never-yielded", "long-poll", "long-wait")
+BOUNDS = [2**exponent for exponent in range(14, 27)]
 
 
 class Lints:
-    percent, limit, wait_ms = 50, 10**9, None
+    percent, limit, wait_ms, times = 50, 10**9, None, False
 
 
 def place_of(info):
@@ -40,14 +41,40 @@ def state_of(row):
 
 
 def count_in(row, key):
-    """Of version 4 `sched` is three sums, of which the first is that of the versions before."""
+    """Of version 4 `sched` is three sums, of which the first is that of the versions before, and the second is how long the task waited in all."""
     return row[key][0] if isinstance(row[key], list) else row[key]
+
+
+class Histogram:
+    """Of some tasks' polls, or of their waits: their histograms, added up."""
+
+    def __init__(self):
+        self.is_told, self.longest, self.counts = False, 0, [0] * 14
+
+    def add(self, longest, filled):
+        self.is_told, self.longest = True, max(self.longest, longest)
+        for bucket, count in filled:
+            self.counts[bucket] = min(self.counts[bucket] + count, TOP)
+
+    def words_of(self, percent):
+        """A percentile after its name: between which times it lies."""
+        bucket = next(k for k in range(14) if percent * sum(self.counts) <= 100 * sum(self.counts[: k + 1]))
+        low = BOUNDS[bucket - 1] if bucket else 0
+        high = BOUNDS[bucket] if bucket < 13 else self.longest if low <= self.longest else "-"
+        return f" p{percent} {low} {high}"
+
+    def lines(self, word):
+        total = sum(self.counts)
+        percentiles = "".join(self.words_of(percent) for percent in (50, 90, 99)) if total else ""
+        return [f"  {word} {min(total, TOP)} longest {self.longest}{percentiles}"] if self.is_told else []
 
 
 class Place:
     def __init__(self):
         self.sums = dict.fromkeys((*STATES, *COUNTS), 0)
+        self.waited = 0
         self.warned = {kind: [] for kind in WARNINGS}
+        self.polls, self.waits = Histogram(), Histogram()
 
     def add(self, word, number=1):
         self.sums[word] = min(self.sums[word] + number, TOP)
@@ -56,26 +83,36 @@ class Place:
         self.add(state)
         for word, key in COUNTS.items():
             self.add(word, count_in(row, key))
+        self.waited = min(self.waited + (row["sched"][1] if isinstance(row["sched"], list) else row["sched"]), TOP)
+
+    def add_times(self, times):
+        if times is not None:
+            self.polls.add(times["longest"], times["counts"])
+        if times is not None and "waits" in times:
+            self.waits.add(times["longest_wait"], times["waits"])
+
+    def lines(self):
+        return self.polls.lines("polls") + self.waits.lines("waits")
 
 
 class Tables:
-    """The tasks after a line, in table order, each as its info and its row; and their histograms' longest waits."""
+    """The tasks after a line, in table order, each as its info and its row; and their histograms, each as it was told."""
 
     def __init__(self):
-        self.tasks, self.longest, self.now, self.dropped = {}, {}, 0, [0, 0, 0]
+        self.tasks, self.times, self.now, self.dropped = {}, {}, 0, [0, 0, 0]
 
     def take(self, line):
         if line["snapshot"]:
-            self.tasks, self.longest = {}, {}
+            self.tasks, self.times = {}, {}
         for info in line["new_tasks"]:
             self.tasks[info["id"]] = (info, None)
         for row in line["task_stats"]:
             self.tasks[row["id"]] = (self.tasks[row["id"]][0], row)
         for times in line.get("task_times", []):
-            self.longest[times["id"]] = times.get("longest_wait", 0)
+            self.times[times["id"]] = times
         for gone in line.get("gone_tasks", []):
             del self.tasks[gone]
-            self.longest.pop(gone, None)
+            self.times.pop(gone, None)
         self.now, self.dropped = line["now"], line["dropped"]
 
 
@@ -89,7 +126,8 @@ def warnings_of(info, row, tables, lints):
     if row["polling"] and row["polls"] == 1 and row["last_started"] is not None and max(0, tables.now - row["last_started"]) >= lints.limit:
         yield "never-yielded"
     if lints.wait_ms is not None:
-        if max(tables.longest.get(info["id"], 0), plain_findings.waits_for(row, tables.now)) >= lints.wait_ms * 10**6:
+        longest = tables.times.get(info["id"], {}).get("longest_wait", 0)
+        if max(longest, plain_findings.waits_for(row, tables.now)) >= lints.wait_ms * 10**6:
             yield "long-wait"
 
 
@@ -103,7 +141,7 @@ def places_of(lines, lints):
         return places[text] if text in places else places.setdefault(text if len(places) < ROOM else MORE, Place())
 
     for text in lines:
-        before = dict(tables.tasks)
+        before, times = dict(tables.tasks), dict(tables.times)
         tables.take(json.loads(text))
         for ident, (info, _) in tables.tasks.items():
             if ident not in before:
@@ -111,8 +149,10 @@ def places_of(lines, lints):
         for ident, (info, row) in before.items():
             if ident not in tables.tasks:
                 at(info).add_row("left", row)
+                at(info).add_times(times.get(ident))
     for info, row in tables.tasks.values():
         at(info).add_row(state_of(row), row)
+        at(info).add_times(tables.times.get(info["id"]))
     for info, row in tables.tasks.values():
         for kind in warnings_of(info, row, tables, lints):
             at(info).warned[kind].append(info["id"])
@@ -130,23 +170,26 @@ def texts_of(lines, lints):
     report, warned = ["now %d dropped %d %d %d" % (tables.now, *tables.dropped) + more], []
     for number, (text, place) in enumerate(places.items(), 1):
         report.append(f"place {number} " + " ".join(f"{word} {count}" for word, count in place.sums.items()) + f" kind {text}")
+        report += place.lines() if lints.times else []
         warned += [f"warn-place {number} {kind} {len(ids)} first {id_text(ids[0])} kind {text}" for kind, ids in place.warned.items() if ids]
     return ["".join(line + "\n" for line in some) for some in (report + warned, warned)]
 
 
 def one_of(lines, lints, number):
-    """What `view --place NUMBER` writes, of which a task's line may be of any name: here it is (id, place)."""
+    """What `view --place NUMBER` writes before and after the lines of its tasks, and which tasks these are."""
     places, tables = places_of(lines, lints)
     report = texts_of(lines, lints)[0].splitlines()
     name = dict(enumerate(places, 1)).get(number)
     own = [info["id"] for info, _ in tables.tasks.values() if (place_of(info) if place_of(info) in places else MORE) == name]
-    head = [line for line in report[1:] if line.split()[1] == str(number)]
-    return report[:1] + [line for line in head if line.startswith("place ")], own, [line for line in head if line.startswith("warn-place ")]
+    head = [line for line in report if line.startswith(f"place {number} ")]
+    below = places[name].lines() if name is not None and lints.times else []
+    return report[:1] + head + below, own, [line for line in report if line.startswith(f"warn-place {number} ")]
 
 
 def main():
     words = argparse.ArgumentParser()
     words.add_argument("--lint", action="store_true")
+    words.add_argument("--times", action="store_true")
     words.add_argument("--percent", type=int, default=50)
     words.add_argument("--limit", type=int, default=10**9)
     words.add_argument("--long-wait", type=int, dest="wait_ms")

@@ -8,20 +8,23 @@
     check_frames.py terminal STREAM SCREEN COLUMNS LINES   a terminal of this size shows the screen of all lines, cut to it
     check_frames.py keyed STREAM SCREEN COLUMN COLUMNS LINES [PAGES]   it shows all lines, its tasks sorted by a key: as many as fit, after so many pages
     check_frames.py odd STREAM FRAMES                 the last screen tells what is odd about all lines
+    check_frames.py places STREAM FRAMES COLUMN       it shows the places, with what their tasks came to, those of most in the column first
 
 Each but `some` looks at what a screen tells of findings, too: tests/odd/plain_findings.py reckons these.
 """
 
+import json
 import os
 import re
 import sys
 import tempfile
 
-for folder in ("page", "odd"):
+for folder in ("page", "odd", "places"):
     sys.path.insert(0, os.path.join(os.path.dirname(os.path.abspath(__file__)), "..", folder))
 sys.dont_write_bytecode = True
-from plain_findings import Diagnosis, tables_of, waits, waits_for
-from stream import Tables, busy_until, waited_until
+import plain_places
+from plain_findings import Diagnosis, place_of as held_place_of, tables_of, waits, waits_for
+from stream import Tables, busy_until, waited, waited_until
 
 COLUMNS = {
     "busy": busy_until,
@@ -231,6 +234,72 @@ def check_last(stream, path, count):
     check_shown(last, tasks_of(tables), 20)
 
 
+# ---- places
+
+NUMBERS = ("held-up", "sched", "busy", "longest", "polls", "wakes", "self-wakes")
+
+
+def held_in(lines):
+    """What is known of places that held up others, by the text that they have there; and for each place that text."""
+    diagnosis = Diagnosis(Limits)
+    for tables in tables_of(lines):
+        diagnosis.after_line(tables)
+    infos = [info for line in lines for info in json.loads(line)["new_tasks"]]
+    return diagnosis.places, {plain_places.place_of(info): held_place_of(info) for info in infos}
+
+
+def last_rows(lines):
+    """The place and the row of each task that left, as it was last shown, and of each that is there."""
+    tables = plain_places.Tables()
+    for text in lines:
+        before = dict(tables.tasks)
+        tables.take(json.loads(text))
+        yield from (pair for ident, pair in before.items() if ident not in tables.tasks)
+    yield from tables.tasks.values()
+
+
+def places_of(stream):
+    """The numbers of each place, by its text, in the order in which a first task of each came."""
+    with open(stream, encoding="ascii") as file:
+        lines = file.readlines()
+    held, text_there = held_in(lines)
+    places, now = plain_places.places_of(lines, plain_places.Lints)[0], Tables(stream)
+    last = {text: {**place.sums, "sched": 0} for text, place in places.items()}
+
+    def sums_of(info):
+        text = plain_places.place_of(info)
+        return last[text if text in last else plain_places.MORE]
+
+    for info, row in last_rows(lines):
+        sums_of(info)["sched"] += waited(row)
+    for task in now.tasks.values():
+        sums = sums_of(task["info"])
+        sums["busy"] += busy_until(task["row"], now.now) - plain_places.count_in(task["row"], "busy")
+        sums["sched"] += waited_until(task["row"], now.now) - waited(task["row"])
+    for text, sums in last.items():
+        known = held.get(text_there.get(text), {})
+        sums.update({"self-wakes": sums["self"], "held-up": known.get("charged", 0), "longest": known.get("longest", 0)})
+    return last
+
+
+def known(nanos):
+    return duration(nanos) if nanos else "-"
+
+
+def place_line(text, sums):
+    place, name = re.fullmatch(r"\S+ at (.*[0-9])(?: name (.*))?", text).groups() if text != plain_places.MORE else ("", " (more)")
+    counts = f"{sums['idle'] + sums['scheduled'] + sums['polling']:>4} {sums['scheduled']:>4} {duration(sums['busy']):>8} {known(sums['longest']):>8}"
+    return f" {place[-15:]:<15} {(name or '')[:10]:<10} {counts} {sums['polls']:>6} {duration(sums['sched']):>8} {known(sums['held-up']):>8}"
+
+
+def check_places(stream, path, column):
+    places = list(places_of(stream).items())
+    places.sort(key=lambda place: [-place[1][key] for key in (column, *NUMBERS)])
+    frame = frames(path)[-1]
+    start = next(at for at, line in enumerate(frame) if line.startswith(" PLACE"))
+    same(frame[start + 1 :], [*(place_line(*place) for place in places), f"{len(places)} of {len(places)} places"])
+
+
 def cut(lines, columns):
     return [line[:columns].rstrip() for line in lines]
 
@@ -260,7 +329,7 @@ def check_keyed(stream, path, column, columns, lines, pages=0):
     check_shown(screen, tasks_of(tables, column), rows, int(pages) * rows)
 
 
-CHECKS = {"keyed": check_keyed, "odd": check_odd, "sorted": check_sorted, "some": check_some, "rising": check_rising, "last": check_last, "terminal": check_terminal}
+CHECKS = {"keyed": check_keyed, "odd": check_odd, "sorted": check_sorted, "some": check_some, "places": check_places, "rising": check_rising, "last": check_last, "terminal": check_terminal}
 
 if len(sys.argv) < 4 or sys.argv[1] not in CHECKS:
     sys.exit(__doc__)

@@ -1,5 +1,5 @@
 -- What was done where nothing could be.
-use Rattle.std.proofs.Common.{◌≡◌, [], List, ℕ, Bool, true, false, Option, Some, None, Err, sym, refl}
+use Rattle.std.proofs.Common.{◌≡◌, [], List, ℕ, Bool, true, false, Option, Some, None, Err, sym, refl, inr}
 use Rattle.std.specs.Borrow.{Bor}
 use Rattle.std.specs.Io.KnownBytes.{Appends}
 use Rattle.std.proofs.lemmas.List.{append-nil}
@@ -13,7 +13,7 @@ use Rattle.taskscope.specs.Program.{Does, MeasuresTo, WatchesAtKeys, WatchesBy, 
 use Rattle.taskscope.specs.declared.command_line.MetricsOptions.{MetricsOptions}
 use Rattle.taskscope.specs.declared.command_line.Request.{Request}
 use Rattle.taskscope.specs.declared.command_line.WatchOptions.{WatchOptions}
-use Rattle.taskscope.specs.declared.command_line.Request.TheVariants.{Demo, Find, Metrics, Page, Run, Show, Sites, Watch}
+use Rattle.taskscope.specs.declared.command_line.Request.TheVariants.{Compare, Demo, Find, Metrics, Page, Run, Show, Sites, Watch}
 
 -- nothing was written
 nothing_more : (known : Option (List ℕ)) → Appends known known []
@@ -65,43 +65,44 @@ none_watched false options text terminal given known status told = record {
 }
 
 -- without memory nothing is read or written, whatever is asked for
-pub nothing_done : (terminal : Canvas) (filter to : Option (List ℕ)) (request : Request) (given known : Option (List ℕ)) (texts : Option Texts) (status : ℕ) → status ≡ 1
-    → Does terminal filter to request given given known known texts texts status
-nothing_done terminal filter to Run given known texts status told = record {
+pub nothing_done : {F : Type 0} (remaining : F → Option (List ℕ)) (is_before : F → Type 0) (terminal : Canvas) (filter to : Option (List ℕ)) (title : List ℕ) (request : Request) (given known : Option (List ℕ)) (texts : Option Texts) (status : ℕ) → status ≡ 1
+    → Does remaining is_before terminal filter to title request given given known known texts texts status
+nothing_done remaining is_before terminal filter to title Run given known texts status told = record {
   outcome = Err faults.Memory;
   told = told;
   written = [];
   runs = refl;
   appends = nothing_more known;
 }
-nothing_done terminal filter to (Show shown lints times) given known texts status told = record {
+nothing_done remaining is_before terminal filter to title (Show shown lints times) given known texts status told = record {
   outcome = Err faults.Memory;
   told = told;
   views = tt;
   plain = λ none. tt;
   unwritten = λ other. refl;
 }
-nothing_done terminal filter to (Find view limits times) given known texts status told = record {
+nothing_done remaining is_before terminal filter to title (Find view limits times) given known texts status told = record {
   outcome = Err faults.Memory;
   told = told;
   views = tt;
   unwritten = λ other. refl;
 }
-nothing_done terminal filter to (Sites view lints wait_ms) given known texts status told = record {
+nothing_done remaining is_before terminal filter to title (Sites view lints wait_ms times) given known texts status told = record {
   outcome = Err faults.Memory;
   told = told;
   views = tt;
   unwritten = λ other. refl;
 }
-nothing_done terminal filter to (Page lints) given known texts status told = record {
+nothing_done remaining is_before terminal filter to title (Page limits) given known texts status told = record {
   outcome = Err faults.Memory;
   told = told;
   pages = tt;
   unwritten = λ other. refl;
 }
-nothing_done terminal filter to (Watch options) given known texts status told = none_watched options.keys options (filter_text filter) terminal given known status told
-nothing_done terminal filter to (Metrics options) given known texts status told = none_measured to options given known texts status told
-nothing_done terminal filter to Demo given known texts status told = record {
+nothing_done remaining is_before terminal filter to title (Watch options) given known texts status told = none_watched options.keys options (filter_text filter) terminal given known status told
+nothing_done remaining is_before terminal filter to title (Metrics options) given known texts status told = none_measured to options given known texts status told
+nothing_done remaining is_before terminal filter to title (Compare options) given known texts status told = inr (told, (refl, refl))
+nothing_done remaining is_before terminal filter to title Demo given known texts status told = record {
   outcome = Err faults.Memory;
   told = told;
   shows = refl;

@@ -28,7 +28,7 @@ use Rattle.tk_report.specs.declared.view.View.TheVariants.{Report, Lint}
 use Rattle.tk_frame.specs.declared.query.Column.{Column}
 use Rattle.taskscope.specs.declared.command_line.Request.TheVariants.{Metrics, Page, Watch}
 use Rattle.tk_metrics.specs.declared.by.By.{By}
-use Rattle.taskscope.specs.Requests.{asked, asked_in, by_at, by_place_at, column_at, file_argument, flag_option, lints_in, span_option, metrics_by, name_fault, names_nothing, number_of, number_option, program, refusals, text_option, view_of, view_by, watch_by}
+use Rattle.taskscope.specs.Requests.{asked, asked_in, by_at, by_place_at, column_at, file_argument, flag_option, limits_in, lints_in, span_option, metrics_by, name_fault, names_nothing, number_of, number_option, program, refusals, text_option, view_of, view_by, watch_by}
 
 -- ---- lists of kinds
 
@@ -248,8 +248,8 @@ sound_rules more sound = (
 )
 
 -- these others, of `page`, `lint` and `view`
-abbrev page_rules : List Rule
-page_rules = with_index 1 (filled help_rule) ∷ []
+abbrev last_rules : List Rule
+last_rules = with_index 1 (filled help_rule) ∷ []
 
 abbrev times_rule : Rule
 times_rule = flag_rule (codes "times") refl refl
@@ -272,11 +272,17 @@ by_rule = text_rule (codes "by") refl refl
 abbrev place_rule : Rule
 place_rule = span_rule (codes "place") refl refl
 
+abbrev title_rule : Rule
+title_rule = text_rule (codes "title") refl refl
+
+abbrev page_rules : List Rule
+page_rules = long_poll_rule ∷ title_rule ∷ last_rules
+
 abbrev lint_rules : List Rule
-lint_rules = long_poll_rule ∷ long_wait_rule ∷ findings_rule ∷ by_rule ∷ explain_rule ∷ page_rules
+lint_rules = long_poll_rule ∷ long_wait_rule ∷ findings_rule ∷ by_rule ∷ explain_rule ∷ last_rules
 
 abbrev view_rules : List Rule
-view_rules = long_poll_rule ∷ long_wait_rule ∷ findings_rule ∷ by_rule ∷ times_rule ∷ place_rule ∷ explain_rule ∷ page_rules
+view_rules = long_poll_rule ∷ long_wait_rule ∷ findings_rule ∷ by_rule ∷ times_rule ∷ place_rule ∷ explain_rule ∷ last_rules
 
 -- ---- the walk keeps rows good
 
@@ -523,14 +529,17 @@ keeps_explain = keeps_flag (codes "explain") refl refl
 keeps_findings : Keeps findings_rule
 keeps_findings = keeps_flag (codes "findings") refl refl
 
+last_keeps : AllKeep last_rules
+last_keeps = (keeps_without (codes "help"), tt)
+
 page_keeps : AllKeep page_rules
-page_keeps = (keeps_without (codes "help"), tt)
+page_keeps = (keeps_without (codes "long-poll"), (keeps_without (codes "title"), last_keeps))
 
 lint_keeps : AllKeep lint_rules
-lint_keeps = (keeps_without (codes "long-poll"), (keeps_without (codes "long-wait"), (keeps_findings, (keeps_without (codes "by"), (keeps_explain, page_keeps)))))
+lint_keeps = (keeps_without (codes "long-poll"), (keeps_without (codes "long-wait"), (keeps_findings, (keeps_without (codes "by"), (keeps_explain, last_keeps)))))
 
 view_keeps : AllKeep view_rules
-view_keeps = (keeps_without (codes "long-poll"), (keeps_without (codes "long-wait"), (keeps_findings, (keeps_without (codes "by"), (keeps_times, (keeps_without (codes "place"), (keeps_explain, page_keeps)))))))
+view_keeps = (keeps_without (codes "long-poll"), (keeps_without (codes "long-wait"), (keeps_findings, (keeps_without (codes "by"), (keeps_times, (keeps_without (codes "place"), (keeps_explain, last_keeps)))))))
 
 both_defaults : (rows : List Row) → AreGood rows → HaveNumbers (defaulted limit_id (codes "1000000000") (defaulted percent_id (codes "50") rows))
 unfolding HaveNumbers
@@ -595,9 +604,9 @@ view_asks_of : (view : View) (options : List Row) (by_place : Option Bool) → n
 view_asks_of view options None wrong some = absurd (true≢false wrong)
 view_asks_of view options (Some by_place) right some = view_asks view options by_place (lints_in options) some
 
-page_asks_of : (lints : Option LintsView) → IsSome lints → IsSome (option_and_then (λ l. Some (Page l)) lints)
-page_asks_of None some = absurd (true≢false (sym some))
-page_asks_of (Some l) some = refl
+page_asks_of : (options : List Row) (lints : Option LintsView) → IsSome lints → IsSome (option_and_then (λ l. Some (Page (limits_in l options))) lints)
+page_asks_of options None some = absurd (true≢false (sym some))
+page_asks_of options (Some l) some = refl
 
 -- a column that is one
 watch_asks_of : (options : List Row) (column : Option Column) → not (is_some column) ≡ false
@@ -616,7 +625,7 @@ there = built program
 
 -- one of the commands
 abbrev IsCommand : Text → Type 0
-IsCommand name = (name ≡ codes "run") ⊎ ((name ≡ codes "view") ⊎ ((name ≡ codes "lint") ⊎ ((name ≡ codes "page") ⊎ ((name ≡ codes "watch") ⊎ ((name ≡ codes "metrics") ⊎ (name ≡ codes "demo"))))))
+IsCommand name = (name ≡ codes "run") ⊎ ((name ≡ codes "view") ⊎ ((name ≡ codes "lint") ⊎ ((name ≡ codes "page") ⊎ ((name ≡ codes "watch") ⊎ ((name ≡ codes "metrics") ⊎ ((name ≡ codes "compare") ⊎ (name ≡ codes "demo")))))))
 
 abbrev MeetsCommand : Option Text → Type 0
 MeetsCommand None = Unit {0}
@@ -632,26 +641,27 @@ EntersCommand (trailing position) = Unit {0}
 EntersCommand (subcommand name) = IsCommand name
 EntersCommand value = Unit {0}
 
-abbrev met : Bool → Bool → Bool → Bool → Bool → Bool → Bool → Bool → Option (Text × List Text)
-met a b c d e f g i = cond a (Some (codes "run", [])) (cond b (Some (codes "view", [])) (cond c (Some (codes "lint", [])) (cond d (Some (codes "page", [])) (cond e (Some (codes "watch", [])) (cond f (Some (codes "metrics", [])) (cond g (Some (codes "demo", [])) (cond i (Some (codes "help", [])) None)))))))
+abbrev met : Bool → Bool → Bool → Bool → Bool → Bool → Bool → Bool → Bool → Option (Text × List Text)
+met a b c d e f k g i = cond a (Some (codes "run", [])) (cond b (Some (codes "view", [])) (cond c (Some (codes "lint", [])) (cond d (Some (codes "page", [])) (cond e (Some (codes "watch", [])) (cond f (Some (codes "metrics", [])) (cond k (Some (codes "compare", [])) (cond g (Some (codes "demo", [])) (cond i (Some (codes "help", [])) None))))))))
 
 -- `help` is answered, so that no parse enters it
 meets_command : (waiting : Waiting) (word : Text) (h : Held) → other_fault there.top (subcommand_met (names_of there) waiting word) word h ≡ []
     → MeetsCommand (subcommand_met (names_of there) waiting word)
 meets_command (option id) word h none = tt
 meets_command positional word h none = tt
-meets_command idle word h none = go (bytes_eq (codes "run") word || false) (bytes_eq (codes "view") word || false) (bytes_eq (codes "lint") word || false) (bytes_eq (codes "page") word || false) (bytes_eq (codes "watch") word || false) (bytes_eq (codes "metrics") word || false) (bytes_eq (codes "demo") word || false) (bytes_eq (codes "help") word || false) none
+meets_command idle word h none = go (bytes_eq (codes "run") word || false) (bytes_eq (codes "view") word || false) (bytes_eq (codes "lint") word || false) (bytes_eq (codes "page") word || false) (bytes_eq (codes "watch") word || false) (bytes_eq (codes "metrics") word || false) (bytes_eq (codes "compare") word || false) (bytes_eq (codes "demo") word || false) (bytes_eq (codes "help") word || false) none
   where
-    go : (a b c d e f g i : Bool) → other_fault there.top (option_map (λ s. s.0) (met a b c d e f g i)) word h ≡ [] → MeetsCommand (option_map (λ s. s.0) (met a b c d e f g i))
-    go true b c d e f g i none = inl refl
-    go false true c d e f g i none = inr (inl refl)
-    go false false true d e f g i none = inr (inr (inl refl))
-    go false false false true e f g i none = inr (inr (inr (inl refl)))
-    go false false false false true f g i none = inr (inr (inr (inr (inl refl))))
-    go false false false false false true g i none = inr (inr (inr (inr (inr (inl refl)))))
-    go false false false false false false true i none = inr (inr (inr (inr (inr (inr refl)))))
-    go false false false false false false false true none = absurd (some_kind _ _ none)
-    go false false false false false false false false none = tt
+    go : (a b c d e f k g i : Bool) → other_fault there.top (option_map (λ s. s.0) (met a b c d e f k g i)) word h ≡ [] → MeetsCommand (option_map (λ s. s.0) (met a b c d e f k g i))
+    go true b c d e f k g i none = inl refl
+    go false true c d e f k g i none = inr (inl refl)
+    go false false true d e f k g i none = inr (inr (inl refl))
+    go false false false true e f k g i none = inr (inr (inr (inl refl)))
+    go false false false false true f k g i none = inr (inr (inr (inr (inl refl))))
+    go false false false false false true k g i none = inr (inr (inr (inr (inr (inl refl)))))
+    go false false false false false false true g i none = inr (inr (inr (inr (inr (inr (inl refl))))))
+    go false false false false false false false true i none = inr (inr (inr (inr (inr (inr (inr refl))))))
+    go false false false false false false false false true none = absurd (some_kind _ _ none)
+    go false false false false false false false false false none = tt
 
 module _ (c : List Rule) where
   plain_enters : (waiting : Waiting) (word : Text) (h : Held) → EntersCommand (plain_word c waiting word h).1
@@ -751,7 +761,7 @@ options_in None = []
 options_in (Some command) = command.1
 
 show_named : (options : List Row) → names_nothing (Some (codes "view", options)) ≡ false → IsSome (lints_in options) → IsSome (asked_in (Some (codes "view", options)))
-show_named options named = view_asks_of Report options (by_place_at options) named
+show_named options named = view_asks_of Report options (by_place_at Report options) named
 
 show_asks : (words : List Text) → TakenAsks (codes "view") words
 show_asks words none named =
@@ -759,15 +769,20 @@ show_asks words none named =
     (lints_there _ (numbers_there view_rules (sound_span (codes "long-poll") refl refl, (sound_span (codes "long-wait") refl refl, (sound_flag (codes "findings") refl refl, (sound_text (codes "by") refl refl, (sound_flag (codes "times") refl refl, (sound_span (codes "place") refl refl, (sound_flag (codes "explain") refl refl, (sound_help, tt)))))))) view_keeps _ words refl none))
 
 warn_named : (options : List Row) → names_nothing (Some (codes "lint", options)) ≡ false → IsSome (lints_in options) → IsSome (asked_in (Some (codes "lint", options)))
-warn_named options named = view_asks_of Lint options (by_place_at options) named
+warn_named options named = view_asks_of Lint options (by_place_at Lint options) named
 
 lint_asks : (words : List Text) → TakenAsks (codes "lint") words
 lint_asks words none named =
     warn_named (options_in (entered there (Some (codes "lint", words)))) named
     (lints_there _ (numbers_there lint_rules (sound_span (codes "long-poll") refl refl, (sound_span (codes "long-wait") refl refl, (sound_flag (codes "findings") refl refl, (sound_text (codes "by") refl refl, (sound_flag (codes "explain") refl refl, (sound_help, tt)))))) lint_keeps _ words refl none))
 
+page_named : (options : List Row) → IsSome (lints_in options) → IsSome (asked_in (Some (codes "page", options)))
+page_named options some = page_asks_of options (lints_in options) some
+
 page_asks : (words : List Text) → TakenAsks (codes "page") words
-page_asks words none named = page_asks_of _ (lints_there _ (numbers_there page_rules (sound_help, tt) page_keeps _ words refl none))
+page_asks words none named =
+    page_named (options_in (entered there (Some (codes "page", words))))
+    (lints_there _ (numbers_there page_rules (sound_span (codes "long-poll") refl refl, (sound_text (codes "title") refl refl, (sound_help, tt))) page_keeps _ words refl none))
 
 watch_named : (options : List Row) → names_nothing (Some (codes "watch", options)) ≡ false → IsSome (asked_in (Some (codes "watch", options)))
 watch_named options named = watch_asks_of options (column_at options) named
@@ -781,6 +796,9 @@ metrics_named options named = metrics_asks_of options (by_at options) named
 metrics_asks : (words : List Text) → TakenAsks (codes "metrics") words
 metrics_asks words none named = metrics_named (options_in (entered there (Some (codes "metrics", words)))) named
 
+compare_asks : (words : List Text) → TakenAsks (codes "compare") words
+compare_asks words none named = refl
+
 demo_asks : (words : List Text) → TakenAsks (codes "demo") words
 demo_asks words none named = refl
 
@@ -793,7 +811,8 @@ stop_asks (Some (name, words)) rows (inr (inr (inl is))) none checked named = su
 stop_asks (Some (name, words)) rows (inr (inr (inr (inl is)))) none checked named = subst (λ n. TakenAsks n words) (sym is) (page_asks words) none named
 stop_asks (Some (name, words)) rows (inr (inr (inr (inr (inl is))))) none checked named = subst (λ n. TakenAsks n words) (sym is) (watch_asks words) none named
 stop_asks (Some (name, words)) rows (inr (inr (inr (inr (inr (inl is)))))) none checked named = subst (λ n. TakenAsks n words) (sym is) (metrics_asks words) none named
-stop_asks (Some (name, words)) rows (inr (inr (inr (inr (inr (inr is)))))) none checked named = subst (λ n. TakenAsks n words) (sym is) (demo_asks words) none named
+stop_asks (Some (name, words)) rows (inr (inr (inr (inr (inr (inr (inl is))))))) none checked named = subst (λ n. TakenAsks n words) (sym is) (compare_asks words) none named
+stop_asks (Some (name, words)) rows (inr (inr (inr (inr (inr (inr (inr is))))))) none checked named = subst (λ n. TakenAsks n words) (sym is) (demo_asks words) none named
 
 -- words that a parse takes, and whose options name what there is, ask for something
 parsed_words_ask : (words : List Text) → fault_of program words ≡ [] → names_nothing (subcommand_of program words) ≡ false → IsSome (asked words)

@@ -1,16 +1,17 @@
 -- What words of a command line ask for, word by word.
 use Rattle.std.proofs.Common.{◌≡◌, refl, ℕ, List, [], ◌∷◌, codes, false, true, true≢false, sym, ap, Some, None}
 use Rattle.clap.specs.Walk.{is_empty}
-use Rattle.clap.specs.declared.error.kind.ErrorKind.TheVariants.{ArgumentConflict, DisplayHelp, InvalidSubcommand, InvalidValue, MissingSubcommand, UnknownArgument, ValueValidation}
+use Rattle.clap.specs.declared.error.kind.ErrorKind.TheVariants.{ArgumentConflict, DisplayHelp, InvalidSubcommand, InvalidValue, MissingRequiredArgument, MissingSubcommand, UnknownArgument, ValueValidation}
 use Rattle.clap.proofs.OnLiterals.{clap_on_literals}
 use Rattle.tk_report.specs.Timed.{no_times}
 use Rattle.tk_report.specs.declared.view.View.TheVariants.{Report, Lint}
 use Rattle.tk_client.specs.Warnings.{default_lints}
-use Rattle.taskscope.specs.declared.command_line.Request.TheVariants.{Demo, Find, Metrics, Page, Run, Show, Sites, Watch}
-use Rattle.tk_frame.specs.declared.query.Column.TheVariants.{Sched}
+use Rattle.taskscope.specs.declared.command_line.Request.TheVariants.{Compare, Demo, Find, Metrics, Page, Run, Show, Sites, Watch}
+use Rattle.tk_frame.specs.declared.query.Column.TheVariants.{HeldUp, Polls, Sched}
 use Rattle.tk_metrics.specs.declared.by.By.TheVariants.{Id, Place}
 use Rattle.tk_sites.specs.declared.sites_view.SitesView.TheVariants.{All, One}
-use Rattle.taskscope.specs.Requests.{AsksFor, AsksForHelp, AsksForInput, AsksForVersion, IsMistake, file_of, filter_of, plain_metrics, plain_watch, refusals, to_of}
+use Rattle.tk_found.specs.Views.{limits_by}
+use Rattle.taskscope.specs.Requests.{AsksFor, AsksForHelp, AsksForInput, AsksForVersion, IsMistake, before_text, file_of, filter_of, plain_metrics, plain_watch, refusals, title_text, to_of}
 
 -- the program is called by some name
 module _ (name : List ℕ) where
@@ -26,7 +27,7 @@ module _ (name : List ℕ) where
   unfolding clap_on_literals
   lint = ((refl, refl), refl)
 
-  pub page : AsksForInput (Page default_lints) (name ∷ codes "page" ∷ [])
+  pub page : AsksForInput (Page (limits_by default_lints None)) (name ∷ codes "page" ∷ [])
   unfolding clap_on_literals
   page = ((refl, refl), refl)
 
@@ -79,11 +80,11 @@ module _ (name : List ℕ) where
   unfolding clap_on_literals
   odd_below_a_report = (refl, refl)
 
-  the_places : AsksFor (Sites (All Report) default_lints None) (name ∷ codes "view" ∷ codes "--by" ∷ codes "place" ∷ [])
+  the_places : AsksFor (Sites (All Report) default_lints None false) (name ∷ codes "view" ∷ codes "--by" ∷ codes "place" ∷ [])
   unfolding clap_on_literals
   the_places = (refl, refl)
 
-  places_that_wait : AsksFor (Sites (All Lint) default_lints (Some 100)) (name ∷ codes "lint" ∷ codes "--by=place" ∷ codes "--long-wait=100" ∷ [])
+  places_that_wait : AsksFor (Sites (All Lint) default_lints (Some 100) false) (name ∷ codes "lint" ∷ codes "--by=place" ∷ codes "--long-wait=100" ∷ [])
   unfolding clap_on_literals
   places_that_wait = (refl, refl)
 
@@ -91,17 +92,31 @@ module _ (name : List ℕ) where
   unfolding clap_on_literals
   no_such_places = refl
 
-  one_place : AsksFor (Sites (One 4) default_lints None) (name ∷ codes "view" ∷ codes "--place" ∷ codes "4" ∷ [])
+  one_place : AsksFor (Sites (One 4) default_lints None false) (name ∷ codes "view" ∷ codes "--place" ∷ codes "4" ∷ [])
   unfolding clap_on_literals
   one_place = (refl, refl)
 
-  no_histograms_of_one_place : refusals (name ∷ codes "view" ∷ codes "--place=4" ∷ codes "--times" ∷ []) ≡ InvalidValue ∷ []
+  histograms_of_places : AsksFor (Sites (All Report) default_lints None true) (name ∷ codes "view" ∷ codes "--by=place" ∷ codes "--times" ∷ [])
   unfolding clap_on_literals
-  no_histograms_of_one_place = refl
+  histograms_of_places = (refl, refl)
 
-  no_findings_by_place : refusals (name ∷ codes "lint" ∷ codes "--by=place" ∷ codes "--findings" ∷ []) ≡ InvalidValue ∷ []
+  histograms_of_one_place : AsksFor (Sites (One 4) default_lints None true) (name ∷ codes "view" ∷ codes "--place=4" ∷ codes "--times" ∷ [])
   unfolding clap_on_literals
-  no_findings_by_place = refl
+  histograms_of_one_place = (refl, refl)
+
+  no_findings_of_one_place : refusals (name ∷ codes "view" ∷ codes "--place=4" ∷ codes "--findings" ∷ []) ≡ InvalidValue ∷ []
+  unfolding clap_on_literals
+  no_findings_of_one_place = refl
+
+  -- findings are by place in any case
+  findings_by_place : AsksFor (Find Lint (record { long = 50000000; lints = default_lints }) false)
+      (name ∷ codes "lint" ∷ codes "--by=place" ∷ codes "--findings" ∷ codes "--long-poll=50" ∷ [])
+  unfolding clap_on_literals
+  findings_by_place = (refl, refl)
+
+  no_findings_below_places : refusals (name ∷ codes "view" ∷ codes "--by=place" ∷ codes "--findings" ∷ []) ≡ InvalidValue ∷ []
+  unfolding clap_on_literals
+  no_findings_below_places = refl
 
   no_long_polls_by_place : refusals (name ∷ codes "lint" ∷ codes "--by=place" ∷ codes "--long-poll=5" ∷ []) ≡ InvalidValue ∷ []
   unfolding clap_on_literals
@@ -111,6 +126,18 @@ module _ (name : List ℕ) where
       (name ∷ codes "watch" ∷ codes "--sort=sched" ∷ codes "--rows=5" ∷ codes "--plain" ∷ codes "--resources" ∷ [])
   unfolding clap_on_literals
   the_longest_waits = (refl, refl)
+
+  places_on_a_screen : AsksFor (Watch (record plain_watch { sort = HeldUp; by_place = true })) (name ∷ codes "watch" ∷ codes "--by=place" ∷ [])
+  unfolding clap_on_literals
+  places_on_a_screen = (refl, refl)
+
+  places_by_polls : AsksFor (Watch (record plain_watch { sort = Polls; by_place = true })) (name ∷ codes "watch" ∷ codes "--by" ∷ codes "place" ∷ codes "--sort=polls" ∷ [])
+  unfolding clap_on_literals
+  places_by_polls = (refl, refl)
+
+  no_screen_by_name : refusals (name ∷ codes "watch" ∷ codes "--by=name" ∷ []) ≡ InvalidValue ∷ []
+  unfolding clap_on_literals
+  no_screen_by_name = refl
 
   some_tasks : filter_of (name ∷ codes "watch" ∷ codes "--filter" ∷ codes "api" ∷ []) ≡ Some (codes "api")
   unfolding clap_on_literals
@@ -144,6 +171,44 @@ module _ (name : List ℕ) where
   no_such_key : refusals (name ∷ codes "metrics" ∷ codes "--by" ∷ codes "kind" ∷ []) ≡ InvalidValue ∷ []
   unfolding clap_on_literals
   no_such_key = refl
+
+  a_page_where_5_ms_are_long : AsksFor (Page (limits_by default_lints (Some 5))) (name ∷ codes "page" ∷ codes "--long-poll=5" ∷ [])
+  unfolding clap_on_literals
+  a_page_where_5_ms_are_long = (refl, refl)
+
+  that_title : title_text (name ∷ codes "page" ∷ codes "--title" ∷ codes "before" ∷ codes "a.stream" ∷ []) ≡ codes "before"
+  unfolding clap_on_literals
+  that_title = refl
+
+  the_file_for_a_title : title_text (name ∷ codes "page" ∷ codes "a.stream" ∷ []) ≡ codes "a.stream"
+  unfolding clap_on_literals
+  the_file_for_a_title = refl
+
+  the_program_for_a_title : title_text (name ∷ codes "page" ∷ []) ≡ codes "taskscope"
+  unfolding clap_on_literals
+  the_program_for_a_title = refl
+
+  two_streams : AsksFor (Compare (record { limits = limits_by default_lints None; margin = record { percent = 50; least = 1000000 } }))
+      (name ∷ codes "compare" ∷ codes "a.stream" ∷ codes "b.stream" ∷ [])
+  unfolding clap_on_literals
+  two_streams = (refl, refl)
+
+  the_earlier_stream : before_text (name ∷ codes "compare" ∷ codes "a.stream" ∷ codes "b.stream" ∷ []) ≡ codes "a.stream"
+  unfolding clap_on_literals
+  the_earlier_stream = refl
+
+  the_later_stream : file_of (name ∷ codes "compare" ∷ codes "a.stream" ∷ codes "b.stream" ∷ []) ≡ Some (codes "b.stream")
+  unfolding clap_on_literals
+  the_later_stream = refl
+
+  much_more : AsksForInput (Compare (record { limits = limits_by default_lints (Some 20); margin = record { percent = 80; least = 5000000 } }))
+      (name ∷ codes "compare" ∷ codes "--more-than=80" ∷ codes "a.stream" ∷ codes "--at-least=5" ∷ codes "--long-poll=20" ∷ [])
+  unfolding clap_on_literals
+  much_more = ((refl, refl), refl)
+
+  no_earlier_stream : refusals (name ∷ codes "compare" ∷ []) ≡ MissingRequiredArgument ∷ []
+  unfolding clap_on_literals
+  no_earlier_stream = refl
 
   a_percentage_too_large : refusals (name ∷ codes "view" ∷ codes "--self-wake-percent=101" ∷ []) ≡ ValueValidation ∷ []
   unfolding clap_on_literals

@@ -13,7 +13,11 @@ use Rattle.tk_found.specs.Views.{ViewsFindings}
 use Rattle.tk_sites.specs.Views.{ViewsSites}
 use Rattle.tk_sites.specs.declared.sites_view.SitesView.{SitesView}
 use Rattle.tk_sites.specs.declared.sites_view.SitesView.TheVariants.{All, One}
-use Rattle.tk_page.specs.Pages.{Pages}
+use Rattle.tk_page.specs.Pages.{PagesWith}
+use Rattle.tk_compare.specs.Recorded.{Records}
+use Rattle.tk_compare.specs.Views.{Compares}
+use Rattle.tk_compare.specs.declared.change.Margin.{Margin}
+use Rattle.tk_compare.specs.declared.recorded.Recorded.{Recorded}
 use Rattle.tk_report.specs.Timed.{no_times}
 use Rattle.tk_report.specs.TimedViews.{ViewsTimed, count_of}
 use Rattle.tk_report.specs.Views.{IsOfWriter, Views}
@@ -29,7 +33,8 @@ use Rattle.tk_report.specs.declared.view.View.{View}
 use Rattle.tk_report.specs.declared.view.View.TheVariants.{Report, Lint}
 use Rattle.tk_report.specs.declared.view.Viewed.{Viewed}
 use Rattle.taskscope.specs.declared.command_line.Request.{Request}
-use Rattle.taskscope.specs.declared.command_line.Request.TheVariants.{Demo, Find, Metrics, Page, Run, Show, Sites, Watch}
+use Rattle.taskscope.specs.declared.command_line.Request.TheVariants.{Compare, Demo, Find, Metrics, Page, Run, Show, Sites, Watch}
+use Rattle.taskscope.specs.declared.command_line.CompareOptions.{CompareOptions}
 use Rattle.taskscope.specs.declared.command_line.MetricsOptions.{MetricsOptions}
 use Rattle.taskscope.specs.declared.command_line.WatchOptions.{WatchOptions}
 
@@ -94,11 +99,12 @@ abbrev pub view_in : SitesView → View
 view_in (All view) = view
 view_in (One number) = Report
 
--- a stream is read and its tasks are added up by place, with long waits among the warnings where they are asked for, and the status tells the outcome
-pub record AddsUpStream (view : SitesView) (lints : LintsView) (wait_ms : Option ℕ) (given left old new : Option (List ℕ)) (status : ℕ) : Type 0 where
+-- a stream is read and its tasks are added up by place, with long waits among the warnings where they are asked for, and with histograms where these are.
+-- The status tells the outcome
+pub record AddsUpStream (view : SitesView) (lints : LintsView) (wait_ms : Option ℕ) (times : Bool) (given left old new : Option (List ℕ)) (status : ℕ) : Type 0 where
   pub outcome : Result ℕ AppFault
   pub told : status ≡ found_status (view_in view) outcome
-  pub views : ViewsSites view lints wait_ms given left outcome old new
+  pub views : ViewsSites view lints wait_ms times given left outcome old new
   -- only a writer's fault comes once something was written
   pub unwritten : IfErr outcome (λ fault. (IsOfWriter fault → ⊥) → new ≡ old)
 
@@ -107,11 +113,11 @@ abbrev pub page_status : Result ℕ AppFault → ℕ
 page_status (Ok warnings) = 0
 page_status (Err fault) = 1
 
--- a stream is read and drawn as one page, and the status tells the outcome
-pub record PagesStream (lints : LintsView) (given left old new : Option (List ℕ)) (status : ℕ) : Type 0 where
+-- a stream is read and drawn as one page of this title, with what is odd by these limits, and the status tells the outcome
+pub record PagesStream (title : List ℕ) (limits : Limits) (given left old new : Option (List ℕ)) (status : ℕ) : Type 0 where
   pub outcome : Result ℕ AppFault
   pub told : status ≡ page_status outcome
-  pub pages : Pages lints given left outcome old new
+  pub pages : PagesWith title limits given left outcome old new
   -- only a writer's fault comes once something was written
   pub unwritten : IfErr outcome (λ fault. (IsOfWriter fault → ⊥) → new ≡ old)
 
@@ -129,6 +135,7 @@ screen_by options part terminal = record {
     filter = part;
     typed = nothing;
     resources = options.resources;
+    by_place = options.by_place;
   };
   lints = options.lints;
   canvas = if options.plain then Plain else terminal;
@@ -177,6 +184,44 @@ abbrev pub MeasuresTo : Option (List ℕ) → MetricsOptions → Option (List �
 MeasuresTo None options given left old new before after status = MeasuresStream options given left old new status
 MeasuresTo (Some path) options given left old new before after status = KeepsStream options path given left before after status × (new ≡ old)
 
+-- what changed between two streams is written, and the status tells the outcome: 3 where something got worse
+pub record ComparesRecorded (margin : Margin) (before after : Recorded) (old new : Option (List ℕ)) (status : ℕ) : Type 0 where
+  pub outcome : Result ℕ AppFault
+  pub told : status ≡ found_status Lint outcome
+  pub compares : Compares margin before after outcome old new
+  -- only a writer's fault comes once something was written
+  pub unwritten : IfErr outcome (λ fault. (IsOfWriter fault → ⊥) → new ≡ old)
+
+-- the same of what the later stream came to, which may be a fault
+abbrev pub ComparesAfter : Margin → Recorded → Result Recorded AppFault → Option (List ℕ) → Option (List ℕ) → ℕ → Type 0
+ComparesAfter margin before (Ok after) old new status = ComparesRecorded margin before after old new status
+ComparesAfter margin before (Err fault) old new status = (status ≡ 1) × (new ≡ old)
+
+-- the later stream is read to its end and compared with an earlier one
+pub record ReadsAfter (options : CompareOptions) (before : Recorded) (given left old new : Option (List ℕ)) (status : ℕ) : Type 0 where
+  pub after : Result Recorded AppFault
+  pub reads : Records options.limits given left after
+  pub compares : ComparesAfter options.margin before after old new status
+
+-- the same of what the earlier stream came to. After a fault of it the later one is not read
+abbrev pub ComparesBefore : CompareOptions → Result Recorded AppFault → Option (List ℕ) → Option (List ℕ) → Option (List ℕ) → Option (List ℕ) → ℕ → Type 0
+ComparesBefore options (Ok before) given left old new status = ReadsAfter options before given left old new status
+ComparesBefore options (Err fault) given left old new status = (status ≡ 1) × ((left ≡ given) × (new ≡ old))
+
+-- the earlier stream of these bytes is read to its end, and then the later one, and what changed is written
+pub record ComparesStreams (options : CompareOptions) (earlier given left old new : Option (List ℕ)) (status : ℕ) : Type 0 where
+  pub before : Result Recorded AppFault
+  pub rest : Option (List ℕ)
+  pub reads : Records options.limits earlier rest before
+  pub compares : ComparesBefore options before given left old new status
+
+-- the earlier stream is that of a file, of which this says which readers have its bytes, and what a reader has left; or it could not be opened, and
+-- nothing was done
+abbrev pub ComparesWith : {F : Type 0} → (F → Option (List ℕ)) → (F → Type 0) → CompareOptions → Option (List ℕ) → Option (List ℕ) → Option (List ℕ) → Option (List ℕ) → ℕ → Type 0
+ComparesWith {F} remaining is_before options given left old new status =
+    ((file : F) × (is_before file × ComparesStreams options (remaining file) given left old new status))
+    ⊎ ((status ≡ 1) × ((left ≡ given) × (new ≡ old)))
+
 -- the demo is shown, nothing is read, and the status tells the outcome
 pub record ShowsDemo (given left old new : Option (List ℕ)) (status : ℕ) : Type 0 where
   pub outcome : Result (Unit {0}) AppFault
@@ -188,21 +233,23 @@ pub record ShowsDemo (given left old new : Option (List ℕ)) (status : ℕ) : T
 abbrev pub filter_text : Option (List ℕ) → List ℕ
 filter_text filter = unwrap_or filter []
 
--- what is asked for is done, with this filter and terminal for a watch, and this path for numbers: of the reader's bytes before and
--- after, of the output's, of a place's texts, and the status
-abbrev pub Does : Canvas → Option (List ℕ) → Option (List ℕ) → Request → Option (List ℕ) → Option (List ℕ) → Option (List ℕ) → Option (List ℕ) → Option Texts → Option Texts → ℕ → Type 0
-Does terminal filter to Run given left old new before after status = RunsScript given old new status
-Does terminal filter to (Show view lints times) given left old new before after status = ViewsStream view lints times given left old new status
-Does terminal filter to (Find view limits times) given left old new before after status = FindsInStream view limits times given left old new status
-Does terminal filter to (Sites view lints wait_ms) given left old new before after status = AddsUpStream view lints wait_ms given left old new status
-Does terminal filter to (Page lints) given left old new before after status = PagesStream lints given left old new status
-Does terminal filter to (Watch options) given left old new before after status = WatchesBy options.keys options (filter_text filter) terminal given left old new status
-Does terminal filter to (Metrics options) given left old new before after status = MeasuresTo to options given left old new before after status
-Does terminal filter to Demo given left old new before after status = ShowsDemo given left old new status
+-- what is asked for is done, with this filter and terminal for a watch, this path for numbers, this title for a page, and an earlier stream for a
+-- comparison: of the reader's
+-- bytes before and after, of the output's, of a place's texts, and the status
+abbrev pub Does : {F : Type 0} → (F → Option (List ℕ)) → (F → Type 0) → Canvas → Option (List ℕ) → Option (List ℕ) → List ℕ → Request → Option (List ℕ) → Option (List ℕ) → Option (List ℕ) → Option (List ℕ) → Option Texts → Option Texts → ℕ → Type 0
+Does remaining is_before terminal filter to title Run given left old new before after status = RunsScript given old new status
+Does remaining is_before terminal filter to title (Show view lints times) given left old new before after status = ViewsStream view lints times given left old new status
+Does remaining is_before terminal filter to title (Find view limits times) given left old new before after status = FindsInStream view limits times given left old new status
+Does remaining is_before terminal filter to title (Sites view lints wait_ms times) given left old new before after status = AddsUpStream view lints wait_ms times given left old new status
+Does remaining is_before terminal filter to title (Page limits) given left old new before after status = PagesStream title limits given left old new status
+Does remaining is_before terminal filter to title (Watch options) given left old new before after status = WatchesBy options.keys options (filter_text filter) terminal given left old new status
+Does remaining is_before terminal filter to title (Metrics options) given left old new before after status = MeasuresTo to options given left old new before after status
+Does remaining is_before terminal filter to title (Compare options) given left old new before after status = ComparesWith remaining is_before options given left old new status
+Does remaining is_before terminal filter to title Demo given left old new before after status = ShowsDemo given left old new status
 
 -- what is asked for is done with the bytes of a file, of which this says which readers have them, and what a reader has left; or it could not be opened,
 -- and nothing was done
-abbrev pub DoesOfFile : {F : Type 0} → (F → Option (List ℕ)) → (F → Type 0) → Canvas → Option (List ℕ) → Option (List ℕ) → Request → Option (List ℕ) → Option (List ℕ) → Option Texts → Option Texts → ℕ → Type 0
-DoesOfFile {F} remaining is_of terminal filter to request old new before after status =
-    ((file : F) × (is_of file × ((left : Option (List ℕ)) × Does terminal filter to request (remaining file) left old new before after status)))
+abbrev pub DoesOfFile : {F : Type 0} → (F → Option (List ℕ)) → (F → Type 0) → (F → Type 0) → Canvas → Option (List ℕ) → Option (List ℕ) → List ℕ → Request → Option (List ℕ) → Option (List ℕ) → Option Texts → Option Texts → ℕ → Type 0
+DoesOfFile {F} remaining is_of is_before terminal filter to title request old new before after status =
+    ((file : F) × (is_of file × ((left : Option (List ℕ)) × Does remaining is_before terminal filter to title request (remaining file) left old new before after status)))
     ⊎ ((status ≡ 1) × ((new ≡ old) × (after ≡ before)))

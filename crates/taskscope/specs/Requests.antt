@@ -1,5 +1,5 @@
 -- What words of a command line ask for.
-use Rattle.std.specs.Prelude.{◌≡◌, ◌≢◌, ◌&&◌, ◌||◌, ℕ, Bool, true, false, not, List, [], ◌∷◌, Option, Some, None, if◌then◌else◌, codes, map, nat_le, option_and_then, is_some, unwrap_or, String, IsSome}
+use Rattle.std.specs.Prelude.{◌≡◌, ◌≢◌, ◌&&◌, ◌||◌, ◌*◌, min, ℕ, Bool, true, false, not, List, [], ◌∷◌, Option, Some, None, if◌then◌else◌, codes, map, nat_le, option_and_then, is_some, unwrap_or, String, IsSome}
 use Rattle.std.specs.List.{list_all}
 use Rattle.std.specs.Option.{option_map_or}
 use Rattle.std.specs.Str.{bytes_eq}
@@ -17,8 +17,9 @@ use Rattle.tk_client.specs.Warnings.{LintsView, default_lints}
 use Rattle.tk_report.specs.declared.options.TimesOptions.{TimesOptions}
 use Rattle.tk_report.specs.declared.view.View.{View}
 use Rattle.tk_report.specs.declared.view.View.TheVariants.{Report, Lint}
+use Rattle.tk_frame.specs.Keys.{first_column}
 use Rattle.tk_frame.specs.declared.query.Column.{Column}
-use Rattle.tk_frame.specs.declared.query.Column.TheVariants.{Busy, Sched, Polls, Wakes, SelfWakes}
+use Rattle.tk_frame.specs.declared.query.Column.TheVariants.{Busy, Sched, Polls, Wakes, SelfWakes, HeldUp}
 use Rattle.tk_odd.specs.declared.limits.Limits.{Limits}
 use Rattle.tk_found.specs.Views.{limits_by}
 use Rattle.tk_sites.specs.declared.sites_view.SitesView.{SitesView}
@@ -26,7 +27,8 @@ use Rattle.tk_sites.specs.declared.sites_view.SitesView.TheVariants.{All, One}
 use Rattle.tk_metrics.specs.declared.by.By.{By}
 use Rattle.tk_metrics.specs.declared.by.By.TheVariants.{Name, Id, Place}
 use Rattle.taskscope.specs.declared.command_line.Request.{Request}
-use Rattle.taskscope.specs.declared.command_line.Request.TheVariants.{Demo, Find, Metrics, Page, Run, Show, Sites, Watch}
+use Rattle.taskscope.specs.declared.command_line.Request.TheVariants.{Compare, Demo, Find, Metrics, Page, Run, Show, Sites, Watch}
+use Rattle.taskscope.specs.declared.command_line.CompareOptions.{CompareOptions}
 use Rattle.taskscope.specs.declared.command_line.MetricsOptions.{MetricsOptions}
 use Rattle.taskscope.specs.declared.command_line.WatchOptions.{WatchOptions}
 
@@ -63,9 +65,13 @@ file_argument = new_rule (codes "FILE")
 abbrev pub reading_command : Text → App
 reading_command name = with_rule (new_app name) file_argument
 
--- such a command with the two options of lints
+-- a command with the two options of lints
+abbrev pub with_lints : App → App
+with_lints command = with_rule (with_rule command percent_option) limit_option
+
+-- a command that reads a stream, with these
 abbrev pub view_command : Text → App
-view_command name = with_rule (with_rule (reading_command name) percent_option) limit_option
+view_command name = with_lints (reading_command name)
 
 -- an option of a number from 1 on, as so many milliseconds, which is there or not
 abbrev pub span_option : Text → Rule
@@ -99,13 +105,18 @@ report_command = explaining (with_rule (with_rule (spans_command (codes "view"))
 abbrev pub lint_command : App
 lint_command = explaining (spans_command (codes "lint"))
 
+-- the command that draws a page, with the option of what a long poll is, and that of a title
+abbrev pub page_command : App
+page_command = with_rule (with_rule (view_command (codes "page")) (span_option (codes "long-poll"))) (text_option (codes "title"))
+
 -- the command that watches a stream, with the options of what its screens show
 abbrev pub shows_command : App
 shows_command =
     let sorted = with_rule (view_command (codes "watch")) (text_option (codes "sort")) in
     let few = with_rule sorted (number_option (codes "rows") (codes "0") 1000000) in
     let filtered = with_rule few (text_option (codes "filter")) in
-    with_rule filtered (flag_option (codes "resources"))
+    let whole = with_rule filtered (flag_option (codes "resources")) in
+    with_rule whole (text_option (codes "by"))
 
 -- and with those of when they are drawn
 abbrev pub watch_command : App
@@ -123,6 +134,25 @@ metrics_command =
     let slow = with_rule kept (number_option (codes "every") (codes "10") 86400) in
     let followed = with_rule slow (flag_option (codes "follow")) in
     with_rule followed (span_option (codes "series"))
+
+-- the earlier one of two streams, which must be named
+abbrev pub before_argument : Rule
+before_argument = record (new_rule (codes "BEFORE")) { required = true }
+
+-- the later one: a file that is read in place of standard input
+abbrev pub after_argument : Rule
+after_argument = record file_argument { value_names = 1 }
+
+-- the command that compares both
+abbrev pub streams_command : App
+streams_command = with_rule (with_rule (new_app (codes "compare")) before_argument) after_argument
+
+-- and with the options of findings, and those that say what a change is
+abbrev pub compare_command : App
+compare_command =
+    let spans = with_rule (with_lints streams_command) (span_option (codes "long-poll")) in
+    let shares = with_rule spans (number_option (codes "more-than") (codes "50") 4294967295) in
+    with_rule shares (number_option (codes "at-least") (codes "1") 18446744073709551615)
 
 -- a command is required
 abbrev pub requiring : App → App
@@ -142,13 +172,18 @@ first_words =
     let views = with_subcommand runs report_command.top in
     with_subcommand views lint_command.top
 
--- the program as a parse of its words reads it: these, `page`, `watch`, `metrics` and `demo`
+-- these, `page`, `watch` and `metrics`
+abbrev pub more_words : App
+more_words =
+    let pages = with_subcommand first_words page_command.top in
+    let watches = with_subcommand pages watch_command.top in
+    with_subcommand watches metrics_command.top
+
+-- the program as a parse of its words reads it: these, `compare` and `demo`
 abbrev pub program : App
 program =
-    let pages = with_subcommand first_words (view_command (codes "page")).top in
-    let watches = with_subcommand pages watch_command.top in
-    let metrics = with_subcommand watches metrics_command.top in
-    with_subcommand metrics (new_shape (codes "demo"))
+    let compares = with_subcommand more_words compare_command.top in
+    with_subcommand compares (new_shape (codes "demo"))
 
 -- ---- what they ask for
 
@@ -196,19 +231,29 @@ limits_in lints options = limits_by lints (number_at (codes "long-poll") options
 -- an option is there that places have no part in
 abbrev pub tells_no_places : List Row → Bool
 tells_no_places options =
-    flag_at (codes "findings") options || (flag_at (codes "times") options || is_some (number_at (codes "long-poll") options))
+    flag_at (codes "findings") options || is_some (number_at (codes "long-poll") options)
 
--- whether a view adds tasks up by place, where this is what `--by` says: there is no other key, and none beside such an option
-abbrev pub by_place_named : List Row → Text → Option Bool
-by_place_named options name = if bytes_eq name (codes "place") && not (tells_no_places options) then Some true else None
+-- a lint of findings is by place in any case, since each finding is of one place at most
+abbrev pub lists_findings : View → List Row → Bool
+lists_findings Report options = false
+lists_findings Lint options = flag_at (codes "findings") options
+
+-- whether tasks are added up where a view is asked for by place: not in a lint of findings, which stays as it is. There is no such view beside an option
+-- that places have no part in
+abbrev pub adds_up : View → List Row → Option Bool
+adds_up view options = if lists_findings view options then Some false else if tells_no_places options then None else Some true
+
+-- the same where this is what `--by` says: there is no other key
+abbrev pub by_place_named : View → List Row → Text → Option Bool
+by_place_named view options name = if bytes_eq name (codes "place") then adds_up view options else None
 
 -- where `--by` is not there a view adds no tasks up by place, unless `--place` names one, which is not beside such an option either
 abbrev pub by_none : List Row → Option Bool
 by_none options = if is_some (number_at (codes "place") options) && tells_no_places options then None else Some false
 
 -- whether `--by` says that a view adds tasks up by place
-abbrev pub by_place_at : List Row → Option Bool
-by_place_at options = option_map_or (by_place_named options) (text_at (codes "by") options) (by_none options)
+abbrev pub by_place_at : View → List Row → Option Bool
+by_place_at view options = option_map_or (by_place_named view options) (text_at (codes "by") options) (by_none options)
 
 -- what is shown of places: the one that `--place` names, or all where it is said so, or nothing
 abbrev pub places_by : View → List Row → Bool → Option SitesView
@@ -220,21 +265,22 @@ tasks_by view options lints =
     if flag_at (codes "findings") options then Find view (limits_in lints options) (flag_at (codes "times") options) else
     Show view lints (times_in options)
 
--- a view of places where that is asked for, and else of tasks
+-- a view of places where that is asked for, with their histograms by `--times`, and else of tasks
 abbrev pub view_by : View → List Row → Bool → LintsView → Request
 view_by view options by_place lints =
-    option_map_or (λ places. Sites places lints (number_at (codes "long-wait") options)) (places_by view options by_place) (tasks_by view options lints)
+    option_map_or (λ places. Sites places lints (number_at (codes "long-wait") options) (flag_at (codes "times") options)) (places_by view options by_place)
+    (tasks_by view options lints)
 
 abbrev pub view_of : View → List Row → Bool → Option Request
 view_of view options by_place = option_and_then (λ lints. Some (view_by view options by_place lints)) (lints_in options)
 
 -- a view with these options
 abbrev pub view_with : View → List Row → Option Request
-view_with view options = option_and_then (view_of view options) (by_place_at options)
+view_with view options = option_and_then (view_of view options) (by_place_at view options)
 
 -- a page with these options
 abbrev pub page_with : List Row → Option Request
-page_with options = option_and_then (λ lints. Some (Page lints)) (lints_in options)
+page_with options = option_and_then (λ lints. Some (Page (limits_in lints options))) (lints_in options)
 
 -- the number of an option, or another where it has none
 abbrev pub number_or : ℕ → Text → List Row → ℕ
@@ -252,16 +298,30 @@ column_named name =
     else if bytes_eq name (codes "polls") then Some Polls
     else if bytes_eq name (codes "wakes") then Some Wakes
     else if bytes_eq name (codes "self-wakes") then Some SelfWakes
+    else if bytes_eq name (codes "held-up") then Some HeldUp
     else None
 
--- by which column tasks are sorted: by busy time where none is named
+-- whether screens show places in the place of tasks, by the name of what they are told apart by
+abbrev pub places_named : Text → Option Bool
+places_named name = if bytes_eq name (codes "place") then Some true else None
+
+-- whether screens show places: where nothing is said they don't
+abbrev pub shows_places : List Row → Option Bool
+shows_places options = option_map_or places_named (text_at (codes "by") options) (Some false)
+
+-- the column of screens that show places, or tasks: where none is named it is for how long others waited for places, or how long tasks ran
+abbrev pub column_for : List Row → Bool → Option Column
+column_for options by_place = option_map_or column_named (text_at (codes "sort") options) (Some (first_column by_place))
+
+-- by which column tasks or places are sorted. There is none where an option names nothing that there is
 abbrev pub column_at : List Row → Option Column
-column_at options = option_map_or column_named (text_at (codes "sort") options) (Some Busy)
+column_at options = option_and_then (column_for options) (shows_places options)
 
 -- what screens show and when they are drawn, by their column and these options
 abbrev pub watch_by : Column → List Row → WatchOptions
 watch_by sort options = record {
   sort = sort;
+  by_place = unwrap_or (shows_places options) false;
   rows = number_or 0 (codes "rows") options;
   resources = flag_at (codes "resources") options;
   plain = flag_at (codes "plain") options;
@@ -301,6 +361,16 @@ metrics_by by options = record {
 abbrev pub metrics_with : List Row → Option Request
 metrics_with options = option_and_then (λ by. Some (Metrics (metrics_by by options))) (by_at options)
 
+-- by which limits something is odd about streams that are compared, and how much more or less is a change: `--at-least` counts milliseconds
+abbrev pub compare_by : List Row → CompareOptions
+compare_by options = record {
+  limits = limits_in (lints_or_plain options) options;
+  margin = record {
+    percent = min (number_or 50 (codes "more-than") options) 4294967295;
+    least = min (number_or 1 (codes "at-least") options * 1000000) 18446744073709551615;
+  };
+}
+
 -- what a command asks for, by its name and its options
 abbrev pub asked_by : Text → List Row → Option Request
 asked_by name options =
@@ -310,6 +380,7 @@ asked_by name options =
     else if bytes_eq name (codes "page") then page_with options
     else if bytes_eq name (codes "watch") then watch_with options
     else if bytes_eq name (codes "metrics") then metrics_with options
+    else if bytes_eq name (codes "compare") then Some (Compare (compare_by options))
     else if bytes_eq name (codes "demo") then Some Demo
     else None
 
@@ -342,6 +413,28 @@ filter_of words = filter_in (subcommand_of program words)
 abbrev pub file_text : List Text → Text
 file_text words = unwrap_or (file_of words) []
 
+-- the title of a page, if the words say one
+abbrev pub title_in : Option (Text × List Row) → Option Text
+title_in = option_and_then (λ command. text_at (codes "title") command.1)
+
+abbrev pub title_of : List Text → Option Text
+title_of words = title_in (subcommand_of program words)
+
+-- the title that a page has: else it is the path of the file that is read, or the name of the program
+abbrev pub title_text : List Text → Text
+title_text words = unwrap_or (title_of words) (unwrap_or (file_of words) (codes "taskscope"))
+
+-- the earlier stream that is compared, if the words name one
+abbrev pub before_in : Option (Text × List Row) → Option Text
+before_in = option_and_then (λ command. text_at (codes "BEFORE") command.1)
+
+abbrev pub before_of : List Text → Option Text
+before_of words = before_in (subcommand_of program words)
+
+-- the path of that stream
+abbrev pub before_text : List Text → Text
+before_text words = unwrap_or (before_of words) []
+
 -- the file that numbers are kept in, where the words name one
 abbrev pub to_in : Option (Text × List Row) → Option Text
 to_in = option_and_then (λ command. text_at (codes "to") command.1)
@@ -365,8 +458,8 @@ abbrev pub option_names_nothing : Text → List Row → Bool
 option_names_nothing name options =
     if bytes_eq name (codes "watch") then not (is_some (column_at options))
     else if bytes_eq name (codes "metrics") then not (is_some (by_at options))
-    else if bytes_eq name (codes "view") then not (is_some (by_place_at options))
-    else if bytes_eq name (codes "lint") then not (is_some (by_place_at options))
+    else if bytes_eq name (codes "view") then not (is_some (by_place_at Report options))
+    else if bytes_eq name (codes "lint") then not (is_some (by_place_at Lint options))
     else false
 
 -- so does an option of the command that the words name
@@ -401,6 +494,7 @@ IsPlain command words = (name : List ℕ) × (words ≡ name ∷ command ∷ [])
 abbrev pub plain_watch : WatchOptions
 plain_watch = record {
   sort = Busy;
+  by_place = false;
   rows = 0;
   resources = false;
   plain = false;

@@ -1,5 +1,5 @@
 //! What the words of a command line ask for.
-ghost use Rattle.std.specs.Prelude.{◌≡◌, ◌⊎◌, IfOk, IfErr, Some, false};
+ghost use Rattle.std.specs.Prelude.{◌≡◌, ◌⊎◌, IfOk, IfErr, Some, false, unwrap_or};
 ghost use Rattle.std.specs.Option.{option_map};
 ghost use Rattle.clap.specs.Kinds.{FailsBy};
 ghost use Rattle.clap.specs.Matches.{found_of};
@@ -11,12 +11,14 @@ ghost use Rattle.taskscope.specs.Requests as spec;
 ghost use Rattle.taskscope.specs.Requests.{program, refusals, texts};
 
 use crate::help::{
-    ABOUT, AFTER_HELP, BY_HELP, BY_PLACE_HELP, DEMO_ABOUT, DEMO_LONG_ABOUT, EVERY_HELP,
-    EVERY_SECONDS_HELP, EXPLAIN_HELP, FILE_HELP, FILTER_HELP, FINDINGS_HELP, FOLLOW_HELP,
-    FOLLOW_INTO_HELP, KEYS_HELP, LIMIT_HELP, LINT_ABOUT, LONG_ABOUT, LONG_POLL_HELP,
-    LONG_WAIT_HELP, METRICS_ABOUT, METRICS_LONG_ABOUT, PAGE_ABOUT, PAGE_LONG_ABOUT, PERCENT_HELP,
-    PLACE_HELP, PLAIN_HELP, RESOURCES_HELP, ROWS_HELP, RUN_ABOUT, RUN_LONG_ABOUT, SERIES_HELP,
-    SORT_HELP, TIMES_HELP, TO_HELP, VIEW_ABOUT, VIEW_LONG_ABOUT, WATCH_ABOUT, WATCH_LONG_ABOUT,
+    ABOUT, AFTER_ARGUMENT_HELP, AFTER_HELP, AT_LEAST_HELP, BEFORE_HELP, BY_HELP, BY_PLACE_HELP,
+    COMPARE_ABOUT, COMPARE_LONG_ABOUT, DEMO_ABOUT, DEMO_LONG_ABOUT, EVERY_HELP, EVERY_SECONDS_HELP,
+    EXPLAIN_HELP, FILE_HELP, FILTER_HELP, FINDINGS_HELP, FOLLOW_HELP, FOLLOW_INTO_HELP, KEYS_HELP,
+    LIMIT_HELP, LINT_ABOUT, LONG_ABOUT, LONG_POLL_HELP, LONG_WAIT_HELP, METRICS_ABOUT,
+    METRICS_LONG_ABOUT, MORE_THAN_HELP, PAGE_ABOUT, PAGE_LONG_ABOUT, PERCENT_HELP, PLACE_HELP,
+    PLAIN_HELP, RESOURCES_HELP, ROWS_HELP, RUN_ABOUT, RUN_LONG_ABOUT, SERIES_HELP, SORT_HELP,
+    TIMES_HELP, TITLE_HELP, TO_HELP, VIEW_ABOUT, VIEW_LONG_ABOUT, WATCH_ABOUT, WATCH_BY_HELP,
+    WATCH_LONG_ABOUT,
 };
 use clap::builder::ValueParser;
 use clap::error::ErrorKind;
@@ -24,8 +26,9 @@ use clap::{Arg, ArgAction, ArgMatches, Command, Error};
 use std::alloc::{AllocError, Global};
 use tk_app::{TimesOptions, View};
 use tk_client::{Lints, TimeLimits};
+use tk_compare::Margin;
 use tk_found::limits_by;
-use tk_frame::Column;
+use tk_frame::{Column, first_column};
 use tk_metrics::{Apart, By};
 use tk_odd::Limits;
 use tk_report::VERSION;
@@ -40,6 +43,10 @@ pub(crate) struct Call<'a> {
     pub filter: Option<&'a str>,
     /// The file that numbers are kept in, where they aren't written to standard output.
     pub to: Option<&'a str>,
+    /// The title of a page.
+    pub title: &'a str,
+    /// The file of the earlier one of two streams that are compared. Else nothing.
+    pub before: &'a str,
     /// Whether a fault is explained.
     pub explains: bool,
 }
@@ -61,20 +68,23 @@ pub(crate) enum Request {
         limits: Limits,
         times: bool,
     },
-    /// To add a stream's tasks up by place, with warnings by these lints, and of waits of so many milliseconds.
+    /// To add a stream's tasks up by place, with warnings by these lints, and of waits of so many milliseconds, and with histograms or without.
     Sites {
         view: SitesView,
         lints: Lints,
         wait_ms: Option<u64>,
+        times: bool,
     },
-    /// To draw a stream as one page, with warnings by these lints.
+    /// To draw a stream as one page, with what is odd by these limits.
     Page {
-        lints: Lints,
+        limits: Limits,
     },
     /// To draw a stream's tables as a screen while it comes.
     Watch(WatchOptions),
     /// To write a stream's numbers, or to keep them in a file.
     Metrics(MetricsOptions),
+    /// To write what changed from a stream to a later one.
+    Compare(CompareOptions),
     /// To show three tasks of this project's own works.
     Demo,
 }
@@ -82,8 +92,10 @@ pub(crate) enum Request {
 /// What the screens of a watch show, and when they are drawn.
 #[derive(Clone, Copy)]
 pub(crate) struct WatchOptions {
-    /// By which column tasks are sorted.
+    /// By which column tasks or places are sorted.
     pub sort: Column,
+    /// Whether places are shown in the place of tasks.
+    pub by_place: bool,
     /// How many tasks are shown at most, and of resources and async operations as many. 0 is as many as fit, and as text 20.
     pub rows: u64,
     /// Whether resources and async operations are shown too.
@@ -111,6 +123,15 @@ pub(crate) struct MetricsOptions {
     pub follow: bool,
     /// From when on a task is warned of.
     pub lints: Lints,
+}
+
+/// What counts if two streams are compared.
+#[derive(Clone, Copy)]
+pub(crate) struct CompareOptions {
+    /// By which limits something is odd.
+    pub limits: Limits,
+    /// How much more or less is a change.
+    pub margin: Margin,
 }
 
 const PERCENT: &str = "self-wake-percent";
@@ -152,6 +173,14 @@ const TO: &str = "to";
 const EXPLAIN: &str = "explain";
 
 const FILE: &str = "FILE";
+
+const TITLE: &str = "title";
+
+const BEFORE: &str = "BEFORE";
+
+const MORE_THAN: &str = "more-than";
+
+const AT_LEAST: &str = "at-least";
 
 // A command that reads a file or standard input.
 fn reading_command<'a>(
@@ -226,6 +255,23 @@ fn flag_arg<'a>(alloc: Global, name: &'a str, told: &'a str) -> Arg<'a>
         .action(ArgAction::SetTrue)
 }
 
+// A command with the options of lints.
+fn with_lints<'a>(alloc: Global, command: Command<'a>) -> Result<Command<'a>, Error>
+    ensures ok { IfOk result (λ c. app_of c ≡ spec.with_lints (app_of command.entry)) }
+    ensures local { (fields_of command.entry).has_globals ≡ false → IfOk result (λ c. (fields_of c).has_globals ≡ false) }
+    ensures err { IfErr result (λ e. kind_of e ≡ ErrorKind.OutOfMemory) }
+{
+    let percent = number_arg(alloc, PERCENT, PERCENT_HELP, "50", 100);
+    let limit = number_arg(
+        alloc,
+        LIMIT,
+        LIMIT_HELP,
+        "1000000000",
+        18_446_744_073_709_551_615,
+    );
+    Ok(command.arg(percent)?.arg(limit)?)
+}
+
 // A command that views a stream, with the options of lints.
 fn view_command<'a>(
     alloc: Global,
@@ -237,19 +283,8 @@ fn view_command<'a>(
     ensures local { IfOk result (λ c. (fields_of c).has_globals ≡ false) }
     ensures err { IfErr result (λ e. kind_of e ≡ ErrorKind.OutOfMemory) }
 {
-    let percent = number_arg(alloc, PERCENT, PERCENT_HELP, "50", 100);
-    let limit = number_arg(
-        alloc,
-        LIMIT,
-        LIMIT_HELP,
-        "1000000000",
-        18_446_744_073_709_551_615,
-    );
-    Ok(
-        reading_command(alloc, name, about, long_about)?
-            .arg(percent)?
-            .arg(limit)?,
-    )
+    let reading = reading_command(alloc, name, about, long_about)?;
+    Ok(with_lints(alloc, reading)?)
 }
 
 // A command that views a stream, and warns of long polls and long waits where they are asked for, or tells what is odd, or adds tasks up.
@@ -315,6 +350,21 @@ fn lint_command<'a>(alloc: Global, long_about: &'a str) -> Result<Command<'a>, E
     Ok(lint.arg(explain)?)
 }
 
+// The page, with what a long poll is, and its title.
+fn page_command<'a>(alloc: Global) -> Result<Command<'a>, Error>
+    ensures ok { IfOk result (λ c. app_of c ≡ spec.page_command) }
+    ensures local { IfOk result (λ c. (fields_of c).has_globals ≡ false) }
+    ensures err { IfErr result (λ e. kind_of e ≡ ErrorKind.OutOfMemory) }
+{
+    let long_poll = span_arg(alloc, LONG_POLL, "MS", LONG_POLL_HELP);
+    let title = text_arg(alloc, TITLE, "TEXT", TITLE_HELP);
+    Ok(
+        view_command(alloc, "page", PAGE_ABOUT, PAGE_LONG_ABOUT)?
+            .arg(long_poll)?
+            .arg(title)?,
+    )
+}
+
 // What a screen shows.
 fn shows_command<'a>(alloc: Global) -> Result<Command<'a>, Error>
     ensures ok { IfOk result (λ c. app_of c ≡ spec.shows_command) }
@@ -325,12 +375,14 @@ fn shows_command<'a>(alloc: Global) -> Result<Command<'a>, Error>
     let rows = number_arg(alloc, ROWS, ROWS_HELP, "0", 1_000_000);
     let filter = text_arg(alloc, FILTER, "TEXT", FILTER_HELP);
     let resources = flag_arg(alloc, RESOURCES, RESOURCES_HELP);
+    let by = text_arg(alloc, BY, "KEY", WATCH_BY_HELP);
     Ok(
         view_command(alloc, "watch", WATCH_ABOUT, WATCH_LONG_ABOUT)?
             .arg(sort)?
             .arg(rows)?
             .arg(filter)?
-            .arg(resources)?,
+            .arg(resources)?
+            .arg(by)?,
     )
 }
 
@@ -374,6 +426,65 @@ fn metrics_command<'a>(alloc: Global) -> Result<Command<'a>, Error>
     )
 }
 
+// The earlier one of two streams.
+fn before_arg<'a>(alloc: Global) -> Arg<'a>
+    ensures rule { rule_of result ≡ spec.before_argument }
+    ensures local { result.global ≡ false }
+{
+    Arg::new(alloc, BEFORE).help(BEFORE_HELP).required(true)
+}
+
+// The later one.
+fn after_arg<'a>(alloc: Global) -> Arg<'a>
+    ensures rule { rule_of result ≡ spec.after_argument }
+    ensures local { result.global ≡ false }
+{
+    Arg::new(alloc, FILE)
+        .value_name("AFTER")
+        .help(AFTER_ARGUMENT_HELP)
+}
+
+// Both streams.
+fn streams_command<'a>(alloc: Global) -> Result<Command<'a>, Error>
+    ensures ok { IfOk result (λ c. app_of c ≡ spec.streams_command) }
+    ensures local { IfOk result (λ c. (fields_of c).has_globals ≡ false) }
+    ensures err { IfErr result (λ e. kind_of e ≡ ErrorKind.OutOfMemory) }
+{
+    let before = before_arg(alloc);
+    let after = after_arg(alloc);
+    Ok(
+        Command::new(alloc, "compare")
+            .about(COMPARE_ABOUT)
+            .long_about(COMPARE_LONG_ABOUT)
+            .arg(before)?
+            .arg(after)?,
+    )
+}
+
+// Both streams, what is odd about them, and what a change is.
+fn compare_command<'a>(alloc: Global) -> Result<Command<'a>, Error>
+    ensures ok { IfOk result (λ c. app_of c ≡ spec.compare_command) }
+    ensures local { IfOk result (λ c. (fields_of c).has_globals ≡ false) }
+    ensures err { IfErr result (λ e. kind_of e ≡ ErrorKind.OutOfMemory) }
+{
+    let long_poll = span_arg(alloc, LONG_POLL, "MS", LONG_POLL_HELP);
+    let more_than = number_arg(alloc, MORE_THAN, MORE_THAN_HELP, "50", 4_294_967_295);
+    let at_least = number_arg(
+        alloc,
+        AT_LEAST,
+        AT_LEAST_HELP,
+        "1",
+        18_446_744_073_709_551_615,
+    );
+    let streams = streams_command(alloc)?;
+    Ok(
+        with_lints(alloc, streams)?
+            .arg(long_poll)?
+            .arg(more_than)?
+            .arg(at_least)?,
+    )
+}
+
 // The program without its words.
 fn top_command<'a>(alloc: Global) -> Result<Command<'a>, Error>
     ensures ok { IfOk result (λ c. app_of c ≡ spec.bare) }
@@ -407,21 +518,33 @@ fn first_words<'a>(alloc: Global, long_about: &'a str) -> Result<Command<'a>, Er
     )
 }
 
-fn command_line<'a>(alloc: Global, long_about: &'a str) -> Result<Command<'a>, Error>
-    ensures ok { IfOk result (λ c. app_of c ≡ program) }
+// And with those that stand next.
+fn more_words<'a>(alloc: Global, long_about: &'a str) -> Result<Command<'a>, Error>
+    ensures ok { IfOk result (λ c. app_of c ≡ spec.more_words) }
     ensures err { IfErr result (λ e. kind_of e ≡ ErrorKind.OutOfMemory) }
 {
-    let page = view_command(alloc, "page", PAGE_ABOUT, PAGE_LONG_ABOUT)?;
+    let page = page_command(alloc)?;
     let watch = watch_command(alloc)?;
     let metrics = metrics_command(alloc)?;
-    let demo = Command::new(alloc, "demo")
-        .about(DEMO_ABOUT)
-        .long_about(DEMO_LONG_ABOUT);
     Ok(
         first_words(alloc, long_about)?
             .subcommand(page)?
             .subcommand(watch)?
-            .subcommand(metrics)?
+            .subcommand(metrics)?,
+    )
+}
+
+fn command_line<'a>(alloc: Global, long_about: &'a str) -> Result<Command<'a>, Error>
+    ensures ok { IfOk result (λ c. app_of c ≡ program) }
+    ensures err { IfErr result (λ e. kind_of e ≡ ErrorKind.OutOfMemory) }
+{
+    let compare = compare_command(alloc)?;
+    let demo = Command::new(alloc, "demo")
+        .about(DEMO_ABOUT)
+        .long_about(DEMO_LONG_ABOUT);
+    Ok(
+        more_words(alloc, long_about)?
+            .subcommand(compare)?
             .subcommand(demo)?,
     )
 }
@@ -472,14 +595,37 @@ fn times_in(options: &ArgMatches) -> TimesOptions
 fn tells_no_places(options: &ArgMatches) -> bool
     ensures { result ≡ spec.tells_no_places (rows_of (found_of options.now)) }
 {
-    flag_at(options, FINDINGS) || flag_at(options, TIMES) || number_at(options, LONG_POLL).is_some()
+    flag_at(options, FINDINGS) || number_at(options, LONG_POLL).is_some()
 }
 
-fn by_place_named(options: &ArgMatches, word: &str) -> Option<bool>
-    ensures { result ≡ spec.by_place_named (rows_of (found_of options.now)) word.now }
+// Whether a view lists findings alone, each of which is of one place at most.
+fn lists_findings(view: View, options: &ArgMatches) -> bool
+    ensures { result ≡ spec.lists_findings view (rows_of (found_of options.now)) }
 {
-    if word == "place" && !tells_no_places(options) {
+    match view {
+        View::Report => false,
+        View::Lint => flag_at(options, FINDINGS),
+    }
+}
+
+// Whether tasks are added up if a view is asked for by place. `None`: it can't be beside another option.
+fn adds_up(view: View, options: &ArgMatches) -> Option<bool>
+    ensures { result ≡ spec.adds_up view (rows_of (found_of options.now)) }
+{
+    if lists_findings(view, options) {
+        Some(false)
+    } else if tells_no_places(options) {
+        None
+    } else {
         Some(true)
+    }
+}
+
+fn by_place_named(view: View, options: &ArgMatches, word: &str) -> Option<bool>
+    ensures { result ≡ spec.by_place_named view (rows_of (found_of options.now)) word.now }
+{
+    if word == "place" {
+        adds_up(view, options)
     } else {
         None
     }
@@ -497,11 +643,11 @@ fn by_none(options: &ArgMatches) -> Option<bool>
 }
 
 // Whether the key says that tasks are added up by place. `None`: there is no such key, or it can't be beside another option.
-fn by_place_at(options: &ArgMatches) -> Option<bool>
-    ensures { result ≡ spec.by_place_at (rows_of (found_of options.now)) }
+fn by_place_at(view: View, options: &ArgMatches) -> Option<bool>
+    ensures { result ≡ spec.by_place_at view (rows_of (found_of options.now)) }
 {
     match text_at(options, BY) {
-        Some(word) => by_place_named(options, word),
+        Some(word) => by_place_named(view, options, word),
         None => by_none(options),
     }
 }
@@ -541,11 +687,13 @@ fn tasks_by(view: View, lints: Lints, options: &ArgMatches) -> Request
 fn view_by(view: View, by_place: bool, lints: Lints, options: &ArgMatches) -> Request
     ensures { result ≡ spec.view_by view (rows_of (found_of options.now)) by_place lints }
 {
+    let times = times_in(options);
     match places_by(view, by_place, options) {
         Some(view) => Request::Sites {
             view,
             lints,
-            wait_ms: times_in(options).limits.wait_ms,
+            wait_ms: times.limits.wait_ms,
+            times: times.times,
         },
         None => tasks_by(view, lints, options),
     }
@@ -554,7 +702,7 @@ fn view_by(view: View, by_place: bool, lints: Lints, options: &ArgMatches) -> Re
 fn view_with(view: View, options: &ArgMatches) -> Option<Request>
     ensures { result ≡ spec.view_with view (rows_of (found_of options.now)) }
 {
-    let by_place = by_place_at(options)?;
+    let by_place = by_place_at(view, options)?;
     let lints = lints_in(options)?;
     Some(view_by(view, by_place, lints, options))
 }
@@ -563,7 +711,9 @@ fn page_with(options: &ArgMatches) -> Option<Request>
     ensures { result ≡ spec.page_with (rows_of (found_of options.now)) }
 {
     let lints = lints_in(options)?;
-    Some(Request::Page { lints })
+    Some(Request::Page {
+        limits: limits_by(lints, number_at(options, LONG_POLL)),
+    })
 }
 
 fn number_or(options: &ArgMatches, name: &str, other: u64) -> u64
@@ -593,18 +743,46 @@ fn column_named(word: &str) -> Option<Column>
         "polls" => Some(Column::Polls),
         "wakes" => Some(Column::Wakes),
         "self-wakes" => Some(Column::SelfWakes),
+        "held-up" => Some(Column::HeldUp),
         _ => None,
     }
 }
 
-// By which column tasks are sorted: by busy time where none is named, and by none where there is no such column.
-fn column_at(options: &ArgMatches) -> Option<Column>
-    ensures { result ≡ spec.column_at (rows_of (found_of options.now)) }
+fn places_named(word: &str) -> Option<bool>
+    ensures { result ≡ spec.places_named word.now }
+{
+    match word {
+        "place" => Some(true),
+        _ => None,
+    }
+}
+
+// Whether screens show places.
+fn shows_places(options: &ArgMatches) -> Option<bool>
+    ensures { result ≡ spec.shows_places (rows_of (found_of options.now)) }
+{
+    match text_at(options, BY) {
+        Some(word) => places_named(word),
+        None => Some(false),
+    }
+}
+
+// The column of screens that show places, or tasks.
+fn column_for(options: &ArgMatches, by_place: bool) -> Option<Column>
+    ensures { result ≡ spec.column_for (rows_of (found_of options.now)) by_place }
 {
     match text_at(options, SORT) {
         Some(word) => column_named(word),
-        None => Some(Column::Busy),
+        None => Some(first_column(by_place)),
     }
+}
+
+// By which column tasks or places are sorted: by none where an option names nothing that there is.
+fn column_at(options: &ArgMatches) -> Option<Column>
+    ensures { result ≡ spec.column_at (rows_of (found_of options.now)) }
+{
+    let by_place = shows_places(options)?;
+    column_for(options, by_place)
 }
 
 fn watch_by(sort: Column, options: &ArgMatches) -> WatchOptions
@@ -612,6 +790,7 @@ fn watch_by(sort: Column, options: &ArgMatches) -> WatchOptions
 {
     WatchOptions {
         sort,
+        by_place: shows_places(options).unwrap_or(false),
         rows: number_or(options, ROWS, 0),
         resources: flag_at(options, RESOURCES),
         plain: flag_at(options, PLAIN),
@@ -671,6 +850,19 @@ fn metrics_with(options: &ArgMatches) -> Option<Request>
     Some(Request::Metrics(metrics_by(by, options)))
 }
 
+// Milliseconds are nanoseconds from here on.
+fn compare_by(options: &ArgMatches) -> CompareOptions
+    ensures { result ≡ spec.compare_by (rows_of (found_of options.now)) }
+{
+    CompareOptions {
+        limits: limits_by(lints_or_plain(options), number_at(options, LONG_POLL)),
+        margin: Margin {
+            percent: number_or(options, MORE_THAN, 50).min(4_294_967_295) as u32,
+            least: number_or(options, AT_LEAST, 1).saturating_mul(1_000_000),
+        },
+    }
+}
+
 // What a command asks for, by its name and its options.
 fn asked_by(name: &str, options: &ArgMatches) -> Option<Request>
     ensures { result ≡ spec.asked_by name.now (rows_of (found_of options.now)) }
@@ -682,6 +874,7 @@ fn asked_by(name: &str, options: &ArgMatches) -> Option<Request>
         "page" => page_with(options),
         "watch" => watch_with(options),
         "metrics" => metrics_with(options),
+        "compare" => Some(Request::Compare(compare_by(options))),
         "demo" => Some(Request::Demo),
         _ => None,
     }
@@ -729,6 +922,34 @@ fn to_in<'a>(matches: &ArgMatches<'a>) -> Option<&'a str>
     }
 }
 
+fn title_in<'a>(matches: &ArgMatches<'a>) -> Option<&'a str>
+    ensures { option_map (λ title. title.now) result ≡ spec.title_in (subcommand_rows_of matches.now) }
+{
+    match matches.subcommand() {
+        Some((_, options)) => text_at(options, TITLE),
+        None => None,
+    }
+}
+
+fn before_in<'a>(matches: &ArgMatches<'a>) -> Option<&'a str>
+    ensures { option_map (λ before. before.now) result ≡ spec.before_in (subcommand_rows_of matches.now) }
+{
+    match matches.subcommand() {
+        Some((_, options)) => text_at(options, BEFORE),
+        None => None,
+    }
+}
+
+// The first of these texts that is there, or else the last one.
+fn text_or<'a>(text: Option<&'a str>, other: &'a str) -> &'a str
+    ensures { result.now ≡ unwrap_or (option_map (λ t. t.now) text.entry) other.entry.now }
+{
+    match text {
+        Some(text) => text,
+        None => other,
+    }
+}
+
 fn explains_in(matches: &ArgMatches) -> bool
     ensures { result ≡ spec.explains_in (subcommand_rows_of matches.now) }
 {
@@ -745,8 +966,8 @@ fn option_names_nothing(name: &str, options: &ArgMatches) -> bool
     match name {
         "watch" => column_at(options).is_none(),
         "metrics" => by_at(options).is_none(),
-        "view" => by_place_at(options).is_none(),
-        "lint" => by_place_at(options).is_none(),
+        "view" => by_place_at(View::Report, options).is_none(),
+        "lint" => by_place_at(View::Lint, options).is_none(),
         _ => false,
     }
 }
@@ -761,8 +982,8 @@ fn names_nothing(matches: &ArgMatches) -> bool
     }
 }
 
-// What a view adds tasks up by in place of what it was asked for, or what can't stand beside that.
-fn keys_there(alloc: Global, options: &ArgMatches) -> Result<String, AllocError> {
+// What a view adds tasks up by in place of what it was asked for, or what can't stand beside that: these options.
+fn keys_there(alloc: Global, options: &ArgMatches, others: &str) -> Result<String, AllocError> {
     let argument = match options.get_str(BY) {
         Some("place") => "--by <KEY>",
         None => "--place <N>",
@@ -772,8 +993,20 @@ fn keys_there(alloc: Global, options: &ArgMatches) -> Result<String, AllocError>
             );
         }
     };
+    format!(in alloc; "the argument '{argument}' cannot be used with {others}")
+}
+
+// The same of a watch.
+fn watch_names_there(alloc: Global, options: &ArgMatches) -> Result<String, AllocError> {
+    if shows_places(options).is_none() {
+        let word = options.get_str(BY).unwrap_or("");
+        return format!(in alloc;
+            "invalid value '{word}' for '--by <KEY>'\n  [possible values: place]"
+        );
+    }
+    let word = options.get_str(SORT).unwrap_or("");
     format!(in alloc;
-        "the argument '{argument}' cannot be used with '--findings', '--times' or '--long-poll <MS>'"
+        "invalid value '{word}' for '--sort <COLUMN>'\n  [possible values: busy, sched, polls, wakes, self-wakes, held-up]"
     )
 }
 
@@ -786,13 +1019,17 @@ fn names_there(alloc: Global, matches: &ArgMatches) -> Result<String, AllocError
                 "invalid value '{word}' for '--by <KEY>'\n  [possible values: name, id, place]"
             )
         }
-        Some(("view" | "lint", options)) => keys_there(alloc, options),
-        Some((_, options)) => {
-            let word = options.get_str(SORT).unwrap_or("");
-            format!(in alloc;
-                "invalid value '{word}' for '--sort <COLUMN>'\n  [possible values: busy, sched, polls, wakes, self-wakes]"
+        Some(("view", options)) => {
+            keys_there(alloc, options, "'--findings' or '--long-poll <MS>'")
+        }
+        Some(("lint", options)) => {
+            keys_there(
+                alloc,
+                options,
+                "'--long-poll <MS>' unless '--findings' is there",
             )
         }
+        Some((_, options)) => watch_names_there(alloc, options),
         None => format!(in alloc; "invalid value"),
     }
 }
@@ -848,16 +1085,22 @@ pub(crate) fn call_of<'a>(
     ensures file { IfOk result (λ call. spec.file_of (texts words.now) ≡ option_map (λ file. file.now) call.file) }
     ensures filter { IfOk result (λ call. spec.filter_of (texts words.now) ≡ option_map (λ filter. filter.now) call.filter) }
     ensures to { IfOk result (λ call. spec.to_of (texts words.now) ≡ option_map (λ to. to.now) call.to) }
+    ensures title { IfOk result (λ call. spec.title_text (texts words.now) ≡ call.title.now) }
+    ensures before { IfOk result (λ call. spec.before_text (texts words.now) ≡ call.before.now) }
     ensures explains { IfOk result (λ call. spec.explains (texts words.now) ≡ call.explains) }
 {
     let matches = matches_of(alloc, words, long_about)?;
     // A command is required, and the parse has checked its numbers.
     let request = asked_in(&matches).unwrap();
+    let file = file_in(&matches);
+    let name = text_or(file, "taskscope");
     Ok(Call {
         request,
-        file: file_in(&matches),
+        file,
         filter: filter_in(&matches),
         to: to_in(&matches),
+        title: text_or(title_in(&matches), name),
+        before: text_or(before_in(&matches), ""),
         explains: explains_in(&matches),
     })
 }

@@ -3,19 +3,23 @@
 use std::alloc::{AllocError, Global};
 use tk_found::kinds_text;
 
-pub(crate) const ABOUT: &str =
-    "Shows what the tasks of an async program did, as tokio-console would";
+pub(crate) const ABOUT: &str = "Shows what the async tasks of a service do";
 
 pub(crate) const LONG_ABOUT: &str =
-    "Shows what the tasks of an async program did, as tokio-console would.
+    "Shows what the async tasks of a service do: which one holds up the others, which one wakes itself, and which one
+nobody will ever wake.
 
-A script says which tasks, resources and async operations there were and what was done to each. The
-program works out their statistics and writes them as a stream, one JSON object a line.
-docs/FORMATS.md explains both.";
+Your service writes a stream of what its tasks do. On tokio that takes one line in `main`: see rust/README.md. Give a
+command that stream on standard input, as a file, or as the address of a service that runs:
+
+  taskscope view service.stream
+  taskscope watch --keys tcp:127.0.0.1:6669
+
+To try a case by hand, write a script: `taskscope run --help` says how.";
 
 pub(crate) const AFTER_HELP: &str =
-    "The status is 0 if all was done, 1 after a fault (one line on standard error), 2 after words that ask for
-nothing that the program does, and 3 where `lint` found warnings.";
+    "The status is 0 if all was done, 1 after a fault (one line on standard error), 2 if the words ask for nothing that
+the program does, and 3 if `lint` found something or `compare` found that something got worse.";
 
 pub(crate) const RUN_ABOUT: &str = "Runs a script and writes its stream to standard output";
 
@@ -80,7 +84,8 @@ With `--findings` the report ends with what is odd in place of the warnings, as 
 With `--by place` the report adds tasks up by place: where they were spawned, as what, and by which name but for
 numbers. Each place has a line, which counts the tasks that have left, too, and one for each kind of warning there.
 Resources and async operations are left out. `--place N` shows the place of that number, and the tasks of it that are
-there. Neither can stand beside `--findings`, `--times` and `--long-poll`.
+there. With `--times` two lines below a place say how long the polls of all its tasks ran, and how long they waited.
+Neither can stand beside `--findings` and `--long-poll`.
 
 If a stream has no histograms, `--long-poll` tells of the polls that its lines show, which ran at least as long. A
 line on standard error says so.
@@ -107,7 +112,7 @@ A wall clock can't tell a long poll from one whose thread the system had put asi
 so. Of waits only the one that lasts is known then.
 
 With `--by place` a line tells how many tasks of a place have one kind of warning, and which of them comes first. It
-can't stand beside `--findings` and `--long-poll`.
+can't stand beside `--long-poll`. Each finding is of one place already, so `--findings` writes the same with it.
 
 A waker, a task or a poll that a program lets go without its last call makes no entry, and counts as live: such a
 waker hides a lost-waker, and such a task never closes.
@@ -140,6 +145,8 @@ the warnings, which `taskscope lint --help` explains, and a task that holds up t
 a row with its course of time: when it was polled, when it waited, and its wakes. Resources with their
 operations come last. At most 200 tasks are drawn, the odd ones first.
 
+The title of the page is the path of the file, or what `--title` says: so two pages in two tabs can be told apart.
+
 A last line of the stream without its line end is ignored. After a fault nothing is written.";
 
 pub(crate) const WATCH_ABOUT: &str =
@@ -152,24 +159,27 @@ pub(crate) const WATCH_LONG_ABOUT: &str =
 
 A screen tells how many tasks are in each state and what is odd about them, worst first (`taskscope lint --help`
 explains the findings), and shows the open tasks of most in a column, with where each was spawned.
-docs/FORMATS.md explains the lines.
+With `--by place` it shows what the tasks of each place came to, those that left among them: those that one line of
+the source spawns under one name, but for numbers. docs/FORMATS.md explains the lines.
 
 On a terminal a screen is drawn over the one before. It is cut to the terminal's size, or to COLUMNS by LINES if they
 are set, and shows as many tasks as fit. It has colors unless NO_COLOR is set. Elsewhere, or if TERM is `dumb`, screens
 are text, one after the other.
 
-Tasks can be sorted by these columns:
+Tasks and places can be sorted by these columns:
   busy        how long their polls ran
   sched       how long they waited, scheduled
   polls       how many polls of them started
   wakes       how often they were woken
   self-wakes  how often they woke themselves
+  held-up     of places alone: for how long others waited while their tasks ran long, at least
 
 Both times count what still lasts. A wait is counted from its begin if the stream counts waits, as that of a Rust
 program does, and otherwise from the task's last wake.
 
 With `--keys` you go through all tasks, find some, sort by another column, pause, look at one task or at a finding's,
-and quit: `?` shows the keys. The screen follows the terminal's size. At the end of the stream it stays until `q`.
+and quit: `?` shows the keys. The screen follows the terminal's size, but not within tmux. At the end of the stream it
+stays until `q`.
 What the terminal showed before is back once the watch has ended or was stopped.
 
 A last line of the stream without its line end is ignored. At a fault the screen of what stood before it is drawn.";
@@ -204,6 +214,39 @@ on a full disk, the old one stays, that is said once, and it is tried again when
 A last line of the stream without its line end is ignored. After a fault nothing is written to standard output, and
 a file has the numbers of the lines before it.";
 
+pub(crate) const COMPARE_ABOUT: &str =
+    "Reads two streams and writes what changed from one to the other to standard output";
+
+pub(crate) const COMPARE_LONG_ABOUT: &str =
+    "Reads two streams and writes what changed from one to the other to standard output.
+
+  taskscope compare main.stream new.stream
+
+Both streams are read to their ends. Tasks are added up by place: where they were spawned, as what, and by which name
+but for numbers. The first line says how many places and findings changed. Then a line tells of each finding that is
+new, gone or still there, and of each place that is worse, new, better or gone: how many polls of its tasks started in
+a second, how long they ran and how long they waited, before and after, and as a ratio. Below a place stand the
+histograms of its polls and waits, if a stream has them. docs/formats/comparison.md explains the lines.
+
+A place is worse if its tasks ran or waited longer, in a second and for each poll, by more than 50 percent, and by a
+millisecond of each second at least. `--more-than` and `--at-least` say other numbers. If two runs of the same program
+differ by up to 80 percent, say `--more-than 80`: then less is taken for noise.
+
+The status is 3 if a place is worse or a finding is new, so that a job of yours can fail. It is 1 if a stream has a
+fault, and then nothing is written.";
+
+pub(crate) const BEFORE_HELP: &str = "The stream of the earlier run";
+
+pub(crate) const AFTER_ARGUMENT_HELP: &str =
+    "The stream of the later run, in place of standard input";
+
+pub(crate) const MORE_THAN_HELP: &str =
+    "Take for a change what is more or less by more than so many percent";
+
+pub(crate) const AT_LEAST_HELP: &str = "And by so many milliseconds of each second, at least";
+
+pub(crate) const TITLE_HELP: &str = "Give the page this title, in place of the path of its file";
+
 pub(crate) const DEMO_ABOUT: &str =
     "Runs three small tasks and writes their report to standard output";
 
@@ -215,66 +258,67 @@ own, which nobody calls. They run on an executor over live ledgers, by a clock t
 until none is scheduled. An aggregator then reads them, and the report shows what it found.
 crates/tk_app/src/demonstration.rt has the code. Nothing is read from standard input.";
 
-pub(crate) const PERCENT_HELP: &str = "Warns where more of a hundred wakes are a task's own";
+pub(crate) const PERCENT_HELP: &str = "Warn if more of a hundred wakes are a task's own";
 
-pub(crate) const LIMIT_HELP: &str = "Warns where a first poll has run for so many nanoseconds";
+pub(crate) const LIMIT_HELP: &str = "Warn if a first poll has run for so many nanoseconds";
 
 pub(crate) const LONG_POLL_HELP: &str =
-    "Warns where a poll ran for so many milliseconds, from 1 on";
+    "Warn of a poll that ran for so many milliseconds, from 1 on";
 
 pub(crate) const FINDINGS_HELP: &str =
-    "Tells who holds up whom and what else is odd, in place of warnings";
+    "Tell who holds up whom and what else is odd, in place of warnings";
 
 pub(crate) const BY_PLACE_HELP: &str =
-    "Adds tasks up by `place`: where they were spawned, as what, and by which name but for numbers";
+    "Add tasks up by `place`: where they were spawned, as what, and by which name but for numbers";
 
 pub(crate) const LONG_WAIT_HELP: &str =
-    "Warns where a wait for a poll took so many milliseconds, from 1 on";
+    "Warn of a wait for a poll that took so many milliseconds, from 1 on";
 
 pub(crate) const TIMES_HELP: &str =
-    "Shows below a task how long its polls ran and it waited, where the stream tells of it";
+    "Show below a task or a place how long its polls ran and it waited, if the stream has histograms";
 
-pub(crate) const SORT_HELP: &str = "Shows the tasks of most in this column first, else in `busy`";
+pub(crate) const SORT_HELP: &str =
+    "Sort by this column, the largest first: `busy` if you say nothing, and `held-up` by place";
+
+pub(crate) const WATCH_BY_HELP: &str =
+    "Show by `place` what tasks came to, also those that have left";
 
 pub(crate) const ROWS_HELP: &str =
-    "Shows so many tasks at most; 0 shows as many as fit, and 20 as text";
+    "Show so many tasks at most; 0 shows as many as fit, and 20 as text";
 
 pub(crate) const FILTER_HELP: &str =
-    "Shows only tasks in whose name this stands, or in that of the file where they were made";
+    "Show only tasks with this text in their name, or in that of the file where they were made";
 
-pub(crate) const RESOURCES_HELP: &str = "Shows resources and async operations too";
+pub(crate) const RESOURCES_HELP: &str = "Show resources and async operations too";
 
-pub(crate) const EVERY_HELP: &str =
-    "Draws no two screens within so many milliseconds, 0 to 3600000";
+pub(crate) const EVERY_HELP: &str = "Draw at most one screen in so many milliseconds, 0 to 3600000";
 
-pub(crate) const FOLLOW_HELP: &str =
-    "Goes on at the end of a file as it grows, and with the file that takes its place";
+pub(crate) const FOLLOW_HELP: &str = "Keep reading as the file grows, like `tail -F`";
 
-pub(crate) const KEYS_HELP: &str = "Hears the terminal's keys: `?` tells which there are";
+pub(crate) const KEYS_HELP: &str = "React to keys: `?` lists them";
 
 pub(crate) const PLACE_HELP: &str =
-    "Shows the place of this number alone, with its tasks that are there";
+    "Show the place of this number alone, with its tasks that are there";
 
 pub(crate) const PLAIN_HELP: &str =
-    "Writes screens as text, one after the other, also on a terminal";
+    "Write screens as text, one after the other, also on a terminal";
 
 pub(crate) const BY_HELP: &str =
-    "Adds up tasks by `name`, as where nothing is said, or by `place`, or shows each by `id`";
+    "Add up tasks by `name`, as if you say nothing, or by `place`, or show each by its `id`";
 
 pub(crate) const SERIES_HELP: &str =
-    "Gives so many names or places numbers of their own, from 1 on, and adds up all others";
+    "Give so many names or places numbers of their own, from 1 on, and add up all others";
 
-pub(crate) const TO_HELP: &str =
-    "Keeps the numbers in this file, and writes none to standard output";
+pub(crate) const TO_HELP: &str = "Keep the numbers in this file, and write none to standard output";
 
 pub(crate) const EVERY_SECONDS_HELP: &str =
-    "Writes that file anew at most once in so many seconds, 0 to 86400";
+    "Write that file anew at most once in so many seconds, 0 to 86400";
 
 pub(crate) const FOLLOW_INTO_HELP: &str =
-    "Goes on at the end of a file as it grows, and with the file that takes its place, where numbers are kept in a file";
+    "Keep reading as the file grows, like `tail -F`, if numbers are kept in a file";
 
 pub(crate) const EXPLAIN_HELP: &str =
-    "Tells below a fault its line and the rule that this breaks, and else what was left out";
+    "Print below a fault its line and the rule that it breaks, or else what was left out";
 
 pub(crate) const FILE_HELP: &str =
-    "Reads this file, or the socket unix:PATH or tcp:HOST:PORT, in place of standard input";
+    "Read this file, or the socket unix:PATH or tcp:HOST:PORT, in place of standard input";

@@ -1,15 +1,16 @@
 //! A run of the program, from its words to its status.
-ghost use Rattle.std.specs.Prelude.{◌≡◌, ◌≢◌, ◌≤◌, ◌⊎◌, true, false, [], codes, IsOk, IsSome, None};
+ghost use Rattle.std.specs.Prelude.{◌≡◌, ◌≢◌, ◌≤◌, ◌⊎◌, true, false, [], codes, IsOk, IsSome, None, Ok};
 ghost use Rattle.std.specs.Option.{option_map};
 ghost use Rattle.clap.specs.Values.{kind_of};
+ghost use Rattle.tk_found.specs.Views as found;
 ghost use Rattle.tk_report.specs.Timed.{no_times};
 ghost use Rattle.tk_report.specs.TimedViews.{count_of};
 ghost use Rattle.tk_client.specs.Warnings.{default_lints};
 ghost use Rattle.taskscope.specs.Requests as spec;
-ghost use Rattle.taskscope.specs.Requests.{AsksForFile, AsksForHelp, AsksForInput, AsksForVersion, IsMistake, IsPlain, asked, file_text, filter_of, is_mistake, plain_metrics, plain_watch, refusals, texts, to_of};
-ghost use Rattle.taskscope.specs.Program.{AddsUpStream, Does, DoesOfFile, FindsInStream, KeepsStream, RunsScript, ViewsStream, WatchesAtKeys, WatchesStream, filter_text, found_status, is_noted, page_status, rows_by, screen_by, status_at, status_of, view_in, view_status};
+ghost use Rattle.taskscope.specs.Requests.{AsksForFile, AsksForHelp, AsksForInput, AsksForVersion, IsMistake, IsPlain, asked, before_text, file_text, filter_of, is_mistake, plain_metrics, plain_watch, refusals, texts, title_text, to_of};
+ghost use Rattle.taskscope.specs.Program.{AddsUpStream, ComparesBefore, ComparesStreams, ComparesWith, Does, DoesOfFile, FindsInStream, KeepsStream, RunsScript, ViewsStream, WatchesAtKeys, WatchesStream, filter_text, found_status, is_noted, page_status, rows_by, screen_by, status_at, status_of, view_in, view_status};
 
-use crate::command_line::{Call, MetricsOptions, Request, WatchOptions, call_of};
+use crate::command_line::{Call, CompareOptions, MetricsOptions, Request, WatchOptions, call_of};
 use crate::help::lint_long_about;
 use crate::notes::note_untimed;
 use crate::sources::Sources;
@@ -25,13 +26,14 @@ use std::time::Clock;
 use std::{fs, io};
 use tk_app::{AppFault, Open, TimesOptions, View, demo, run_script, view_stream_with};
 use tk_client::Lints;
+use tk_compare::{Recorded, compare_recorded, read_recorded};
 use tk_explain::{Kept, explain_script, explain_stream};
 use tk_found::view_findings;
 use tk_frame::{Query, Typed};
 use tk_keys::watch_terminal;
 use tk_metrics::{Place, keep_metrics, metrics_stream};
 use tk_odd::Limits;
-use tk_page::view_page;
+use tk_page::view_page_with;
 use tk_reading::Every;
 use tk_report::Viewed;
 use tk_screen::Canvas;
@@ -232,14 +234,15 @@ fn add_up<I: Read, O: Write, E: Write>(
     view: SitesView,
     lints: &Lints,
     wait_ms: Option<u64>,
+    times: bool,
     input: &mut I,
     output: &mut O,
     faults: &mut E,
 ) -> (Result<u64, AppFault>, u8)
-    ensures does { AddsUpStream view lints.now wait_ms (I.remaining input.old) (I.remaining input.new) (O.contents output.old) (O.contents output.new) result.1 }
+    ensures does { AddsUpStream view lints.now wait_ms times (I.remaining input.old) (I.remaining input.new) (O.contents output.old) (O.contents output.new) result.1 }
     ensures status { (result.1 ≤ FAULT) ⊎ (result.1 ≡ WARNED) }
 {
-    let warned = view_sites(alloc, input, output, view, lints, wait_ms);
+    let warned = view_sites(alloc, input, output, view, lints, wait_ms, times);
     (warned, tell_found(view_in(view), warned, faults))
 }
 
@@ -249,15 +252,25 @@ fn add_up_explained<I: Read, O: Write, E: Write>(
     view: SitesView,
     lints: &Lints,
     wait_ms: Option<u64>,
+    times: bool,
     input: I,
     output: &mut O,
     faults: &mut E,
 ) -> (I, u8)
-    ensures does { AddsUpStream view lints.now wait_ms (I.remaining input) (I.remaining result.0) (O.contents output.old) (O.contents output.new) result.1 }
+    ensures does { AddsUpStream view lints.now wait_ms times (I.remaining input) (I.remaining result.0) (O.contents output.old) (O.contents output.new) result.1 }
     ensures status { (result.1 ≤ FAULT) ⊎ (result.1 ≡ WARNED) }
 {
     let mut stream = Kept::last_lines(alloc, input);
-    let (outcome, status) = add_up(alloc, view, lints, wait_ms, &mut stream, output, faults);
+    let (outcome, status) = add_up(
+        alloc,
+        view,
+        lints,
+        wait_ms,
+        times,
+        &mut stream,
+        output,
+        faults,
+    );
     let _ = explain_stream(&stream, outcome, faults);
     (stream.into_reader(), status)
 }
@@ -302,6 +315,7 @@ fn screen_of<'a>(options: &WatchOptions, filter: &'a str, terminal: Canvas) -> S
             filter: filter.as_bytes(),
             typed: Typed::none(),
             resources: options.resources,
+            by_place: options.by_place,
         },
         lints: options.lints,
         canvas: if options.plain {
@@ -423,9 +437,86 @@ fn keep<R: Clock, I: Read, P: Place, E: Write>(
     )
 }
 
-// Does what is asked for without keys, with this filter and terminal for a watch, and this path for numbers, and answers the status.
+// A fault of the earlier one of two streams is told with its path.
+fn tell_fault_of<E: Write>(path: &str, fault: AppFault, faults: &mut E) -> u8
+    ensures { result ≡ FAULT }
+{
+    let _ = writeln!(faults, "fault: {path}: {fault}");
+    FAULT
+}
+
+// Reads the later one of two streams, writes what changed, and answers the status: that of warnings, if something got worse.
+fn compare_after<I: Read, O: Write, E: Write>(
+    alloc: Global,
+    options: CompareOptions,
+    before: &Recorded,
+    input: &mut I,
+    output: &mut O,
+    faults: &mut E,
+) -> u8
+    ensures does { ComparesBefore options (Ok before.now) (I.remaining input.old) (I.remaining input.new) (O.contents output.old) (O.contents output.new) result }
+    ensures status { (result ≤ FAULT) ⊎ (result ≡ WARNED) }
+{
+    match read_recorded(alloc, input, options.limits) {
+        Ok(after) => {
+            let worse = compare_recorded(alloc, before, &after, options.margin, output);
+            tell_found(View::Lint, worse, faults)
+        }
+        Err(stop) => tell_fault(stop, faults),
+    }
+}
+
+// Reads the earlier stream and then the later one, writes what changed, and answers the status.
+fn compare_streams<F: Read, I: Read, O: Write, E: Write>(
+    alloc: Global,
+    options: CompareOptions,
+    path: &str,
+    earlier: &mut F,
+    input: &mut I,
+    output: &mut O,
+    faults: &mut E,
+) -> u8
+    ensures does { ComparesStreams options (F.remaining earlier.old) (I.remaining input.old) (I.remaining input.new) (O.contents output.old) (O.contents output.new) result }
+    ensures status { (result ≤ FAULT) ⊎ (result ≡ WARNED) }
+{
+    match read_recorded(alloc, earlier, options.limits) {
+        Ok(before) => compare_after(alloc, options, &before, input, output, faults),
+        Err(fault) => tell_fault_of(path, fault, faults),
+    }
+}
+
+// Writes what changed from the stream that a path names to that of the input, and answers the status.
+fn compare<S: Sources, I: Read, O: Write, E: Write>(
+    alloc: Global,
+    sources: &S,
+    options: CompareOptions,
+    path: &str,
+    input: &mut I,
+    output: &mut O,
+    faults: &mut E,
+) -> u8
+    ensures does { ComparesWith S.File.remaining (S.is_of sources.now path.now) options (I.remaining input.old) (I.remaining input.new) (O.contents output.old) (O.contents output.new) result }
+    ensures status { (result ≤ FAULT) ⊎ (result ≡ WARNED) }
+{
+    match sources.open(path) {
+        Ok(mut earlier) => compare_streams(
+            alloc,
+            options,
+            path,
+            &mut earlier,
+            input,
+            output,
+            faults,
+        ),
+        Err(error) => tell_unopened(path, error, faults),
+    }
+}
+
+// Does what is asked for without keys, with this filter and terminal for a watch, this path for numbers, this title for a page, and this
+// path of an earlier stream, and answers the status.
 fn fulfil<
     R: Threads + Wait + Sync + RandomSource + AllocGlobal + Clock,
+    S: Sources,
     I: Read,
     O: Write,
     P: Place,
@@ -433,9 +524,12 @@ fn fulfil<
 >(
     rt: &R,
     alloc: Global,
+    sources: &S,
     request: Request,
     filter: Option<&str>,
     to: Option<&str>,
+    title: &str,
+    before: &str,
     terminal: Canvas,
     explains: bool,
     input: &mut I,
@@ -444,7 +538,7 @@ fn fulfil<
     faults: &mut E,
 ) -> u8
     requires { spec.at_keys request ≡ None }
-    ensures does { Does terminal (option_map (λ f. f.now) filter.entry) (option_map (λ p. p.now) to.entry) request
+    ensures does { Does S.File.remaining (S.is_of sources.now before.now) terminal (option_map (λ f. f.now) filter.entry) (option_map (λ p. p.now) to.entry) title.now request
         (I.remaining input.old) (I.remaining input.new) (O.contents output.old) (O.contents output.new) (P.texts place.old) (P.texts place.new) result }
     ensures kept { option_map (λ p. p.now) to.entry ≡ None → place.new ≡ place.old }
     ensures status { (result ≤ FAULT) ⊎ (result ≡ WARNED) }
@@ -471,11 +565,15 @@ fn fulfil<
             view,
             lints,
             wait_ms,
+            times,
         } => {
-            let (_, status) = add_up(alloc, view, &lints, wait_ms, input, output, faults);
+            let (_, status) = add_up(alloc, view, &lints, wait_ms, times, input, output, faults);
             status
         }
-        Request::Page { lints } => tell_page(view_page(alloc, input, output, &lints), faults),
+        Request::Page { limits } => tell_page(
+            view_page_with(alloc, input, output, limits, title),
+            faults,
+        ),
         Request::Watch(options) => {
             let text = filter_text(filter);
             watch(rt, alloc, &options, text, terminal, input, output, faults)
@@ -487,6 +585,9 @@ fn fulfil<
                 faults,
             ),
         },
+        Request::Compare(options) => {
+            compare(alloc, sources, options, before, input, output, faults)
+        }
         Request::Demo => tell_outcome(demo(rt, alloc, output), faults),
     }
 }
@@ -504,6 +605,7 @@ fn fulfil_of_input<
         + Sync
         + Drop
         + 'static,
+    S: Sources,
     I: Read + Copy + Send + Drop + 'static,
     O: Write,
     P: Place,
@@ -511,9 +613,12 @@ fn fulfil_of_input<
 >(
     rt: &R,
     alloc: Global,
+    sources: &S,
     request: Request,
     filter: Option<&str>,
     to: Option<&str>,
+    title: &str,
+    before: &str,
     terminal: Canvas,
     explains: bool,
     input: &mut I,
@@ -523,7 +628,7 @@ fn fulfil_of_input<
 ) -> u8
 where
     R::File: Send + 'static,
-    ensures does { Does terminal (option_map (λ f. f.now) filter.entry) (option_map (λ p. p.now) to.entry) request
+    ensures does { Does S.File.remaining (S.is_of sources.now before.now) terminal (option_map (λ f. f.now) filter.entry) (option_map (λ p. p.now) to.entry) title.now request
         (I.remaining input.old) (I.remaining input.new) (O.contents output.old) (O.contents output.new) (P.texts place.old) (P.texts place.new) result }
     ensures kept { option_map (λ p. p.now) to.entry ≡ None → place.new ≡ place.old }
     ensures status { (result ≤ FAULT) ⊎ (result ≡ WARNED) }
@@ -555,10 +660,11 @@ where
             view,
             lints,
             wait_ms,
+            times,
         } = request
         {
             let (left, status) = add_up_explained(
-                alloc, view, &lints, wait_ms, *input, output, faults,
+                alloc, view, &lints, wait_ms, times, *input, output, faults,
             );
             *input = left;
             return status;
@@ -570,7 +676,8 @@ where
             watch_at_keys(rt, alloc, &options, text, terminal, *input, output, faults)
         }
         None => fulfil(
-            rt, alloc, request, filter, to, terminal, explains, input, output, place, faults,
+            rt, alloc, sources, request, filter, to, title, before, terminal, explains, input,
+            output, place, faults,
         ),
     }
 }
@@ -599,6 +706,8 @@ fn fulfil_of_file<
     request: Request,
     filter: Option<&str>,
     to: Option<&str>,
+    title: &str,
+    before: &str,
     terminal: Canvas,
     explains: bool,
     path: &str,
@@ -608,7 +717,8 @@ fn fulfil_of_file<
 ) -> u8
 where
     R::File: Send + 'static,
-    ensures does { DoesOfFile S.File.remaining (S.is_of sources.now path.now) terminal (option_map (λ f. f.now) filter.entry) (option_map (λ p. p.now) to.entry) request
+    ensures does { DoesOfFile S.File.remaining (S.is_of sources.now path.now) (S.is_of sources.now before.now) terminal
+        (option_map (λ f. f.now) filter.entry) (option_map (λ p. p.now) to.entry) title.now request
         (O.contents output.old) (O.contents output.new) (P.texts place.old) (P.texts place.new) result }
     ensures kept { option_map (λ p. p.now) to.entry ≡ None → place.new ≡ place.old }
     ensures status { (result ≤ FAULT) ⊎ (result ≡ WARNED) }
@@ -640,9 +750,12 @@ where
             view,
             lints,
             wait_ms,
+            times,
         } = request
         {
-            let (_, status) = add_up_explained(alloc, view, &lints, wait_ms, file, output, faults);
+            let (_, status) = add_up_explained(
+                alloc, view, &lints, wait_ms, times, file, output, faults,
+            );
             return status;
         }
     }
@@ -652,7 +765,8 @@ where
             watch_at_keys(rt, alloc, &options, text, terminal, file, output, faults)
         }
         None => fulfil(
-            rt, alloc, request, filter, to, terminal, explains, &mut file, output, place, faults,
+            rt, alloc, sources, request, filter, to, title, before, terminal, explains, &mut file,
+            output, place, faults,
         ),
     }
 }
@@ -726,15 +840,16 @@ pub(crate) fn run_program<
 where
     R::File: Send + 'static,
     // What is asked for is done: a run reads and writes as `run_script` does, a view as `view_stream_with` does, as `view_sites` does by place, or as `view_findings` does where
-    // what is odd is asked for, a page as `view_page` does, a watch as `watch_stream` does, or as `watch_terminal` does of some stream where keys are heard, numbers as
-    // `metrics_stream` does, or as `keep_metrics` does where a path is given, and the demo writes as `demo` does. The status is 1 exactly where there was a fault, and 3 exactly where `lint` found warnings, or findings where they are asked for.
+    // what is odd is asked for, a page as `view_page_with` does, a watch as `watch_stream` does, or as `watch_terminal` does of some stream where keys are heard, numbers as
+    // `metrics_stream` does, or as `keep_metrics` does where a path is given, a comparison as `read_recorded` and `compare_recorded` do, and the demo writes as `demo` does. The status is 1 exactly where there was a fault, and 3 exactly where `lint` found warnings, or findings where they are asked for, or where a comparison found that something got worse.
     ensures does { (request : Request) → AsksForInput request (texts words.now)
-        → Does terminal (filter_of (texts words.now)) (to_of (texts words.now)) request
+        → Does S.File.remaining (S.is_of sources.now (before_text (texts words.now))) terminal (filter_of (texts words.now)) (to_of (texts words.now)) (title_text (texts words.now)) request
         (I.remaining input.old) (I.remaining input.new) (O.contents output.old) (O.contents output.new) (P.texts place.old) (P.texts place.new) result }
     // With a file the same is done of the bytes that stand under the path that the words name, or it could not be opened. The input is as it was.
     ensures file { (request : Request) → AsksForFile request (texts words.now)
         → (input.new ≡ input.old)
-        × DoesOfFile S.File.remaining (S.is_of sources.now (file_text (texts words.now))) terminal (filter_of (texts words.now)) (to_of (texts words.now)) request
+        × DoesOfFile S.File.remaining (S.is_of sources.now (file_text (texts words.now))) (S.is_of sources.now (before_text (texts words.now))) terminal
+        (filter_of (texts words.now)) (to_of (texts words.now)) (title_text (texts words.now)) request
         (O.contents output.old) (O.contents output.new) (P.texts place.old) (P.texts place.new) result }
     // Numbers alone are put in a place, and only where the words are taken and name a path.
     ensures kept { refusals (texts words.now) ≡ [] → to_of (texts words.now) ≡ None → place.new ≡ place.old }
@@ -742,11 +857,11 @@ where
     ensures run { IsPlain (codes "run") (texts words.now) → AsksForInput Request.Run (texts words.now) }
     ensures view { IsPlain (codes "view") (texts words.now) → AsksForInput (Request.Show View.Report default_lints no_times) (texts words.now) }
     ensures lint { IsPlain (codes "lint") (texts words.now) → AsksForInput (Request.Show View.Lint default_lints no_times) (texts words.now) }
-    ensures page { IsPlain (codes "page") (texts words.now) → AsksForInput (Request.Page default_lints) (texts words.now) }
+    ensures page { IsPlain (codes "page") (texts words.now) → AsksForInput (Request.Page (found.limits_by default_lints None)) (texts words.now) }
     ensures watch { IsPlain (codes "watch") (texts words.now) → AsksForInput (Request.Watch plain_watch) (texts words.now) }
     ensures metrics { IsPlain (codes "metrics") (texts words.now) → AsksForInput (Request.Metrics plain_metrics) (texts words.now) }
     ensures demo { IsPlain (codes "demo") (texts words.now) → AsksForInput Request.Demo (texts words.now) }
-    // All words that are taken ask for a run, a view, a page, a watch, numbers or the demo.
+    // All words that are taken ask for a run, a view, a page, a watch, numbers, a comparison or the demo.
     ensures asks { refusals (texts words.now) ≡ [] → IsSome (asked (texts words.now)) }
     // Other words leave the input and the place as they are.
     ensures unread { refusals (texts words.now) ≢ [] → input.new ≡ input.old }
@@ -767,6 +882,8 @@ where
         file,
         filter,
         to,
+        title,
+        before,
         explains,
     } = match call_of(alloc, words, long_about.as_str()) {
         Ok(call) => call,
@@ -774,11 +891,12 @@ where
     };
     match file {
         Some(path) => fulfil_of_file(
-            rt, alloc, sources, request, filter, to, terminal, explains, path, output, place,
-            faults,
+            rt, alloc, sources, request, filter, to, title, before, terminal, explains, path,
+            output, place, faults,
         ),
         None => fulfil_of_input(
-            rt, alloc, request, filter, to, terminal, explains, input, output, place, faults,
+            rt, alloc, sources, request, filter, to, title, before, terminal, explains, input,
+            output, place, faults,
         ),
     }
 }

@@ -1,6 +1,5 @@
 -- Findings, one more.
 use Rattle.std.proofs.Common.{◌≡◌, ℕ, zero, suc, ◌+◌, ◌<◌, List, [], ◌∷◌, ◌++◌, length, map, take, get_or, Bool, true, false, ◌||◌, cond, refl, ap, ap₂, sym, ◌∙◌, append-nil, append_assoc, add-one, arith}
-use Rattle.std.specs.List.{list_any}
 use Rattle.std.specs.Str.{IsUtf8, is_utf8}
 use Rattle.std.proofs.lemmas.Str.{IsUtf8-from_is_utf8, is_utf8-from_IsUtf8}
 use Rattle.tk_odd.specs.declared.finding.Found.{Found}
@@ -20,6 +19,19 @@ numbered_more lines n xs i x m h at is = rw add-one (by n xs i m h at is)
     by k (y ∷ ys) (suc j) m g e same =
         ap (λ (zs : List LineView). lines k (placed y) ++ zs) (by (k + 1) ys j m (omega (arith, g)) e (omega (arith, same)))
         ∙ sym (append_assoc (lines k (placed y)) (numbered lines (k + 1) (map placed (take j ys))) (lines m (placed x)))
+
+-- the lines of the first items, and of the one after them
+pub numbered_next : {X : Type 0} (lines : ℕ → X → List LineView) (n : ℕ) (xs : List X) (i : ℕ) (none : X) (m : ℕ) → i < length xs → m ≡ n + i
+    → numbered lines n (take (i + 1) xs) ≡ numbered lines n (take i xs) ++ lines m (get_or xs i none)
+numbered_next {X} lines n xs i none m h is = rw add-one (by n xs i m h is)
+  where
+    by : (k : ℕ) (ys : List X) (j m : ℕ) → j < length ys → m ≡ k + j
+        → numbered lines k (take (suc j) ys) ≡ numbered lines k (take j ys) ++ lines m (get_or ys j none)
+    by k [] j m g same = absurd (omega (arith, g))
+    by k (y ∷ ys) zero m g same = append-nil (lines k y) ∙ ap (λ (l : ℕ). lines l y) (omega (arith, same))
+    by k (y ∷ ys) (suc j) m g same =
+        ap (λ (zs : List LineView). lines k y ++ zs) (by (k + 1) ys j m (omega (arith, g)) (omega (arith, same)))
+        ∙ sym (append_assoc (lines k y) (numbered lines (k + 1) (take j ys)) (lines m (get_or ys j none)))
 
 -- the first of those that are made
 pub map_take : (n : ℕ) (xs : List Found) → map placed (take n xs) ≡ take n (map placed xs)

@@ -8,10 +8,9 @@ use Rattle.tk_stream.specs.declared.tables.task.Task.{Task}
 use Rattle.tk_screen.specs.Rankings.{ranked_in, kept}
 use Rattle.tk_screen.specs.declared.top.Ranked.{Ranked}
 use Rattle.tk_screen.proofs.RankLemmas.{kept_is_front}
-use Rattle.tk_frame.specs.Queries.{begins, is_shown, stands_in, rank_at, ranked_from, top_of}
+use Rattle.tk_frame.specs.Queries.{begins, stands_in, rank_at, ranked_from, top_of}
 use Rattle.tk_frame.specs.States.{count, is_closed, is_idle, is_polling, is_scheduled, states_of}
 use Rattle.tk_frame.specs.Walks.{and_task, counted_with, kept_with, no_states, states_with, tally, total}
-use Rattle.tk_frame.specs.declared.query.Query.{Query}
 use Rattle.tk_frame.specs.declared.ranks.States.{States}
 
 -- ---- names
@@ -45,7 +44,7 @@ total-from : (a : States) (ts : List Task) → total (fold states_with a ts) ≡
 total-from a [] = omega arith
 total-from a (t ∷ ts) = let h = total-from (states_with a t) ts in let g = one-more a t.row in omega arith
 
-short : (i : ℕ) (ts : List Task) → length (take i ts) ≤ i
+short : {X : Type 0} (i : ℕ) (ts : List X) → length (take i ts) ≤ i
 short zero ts = omega arith
 short (suc i) [] = omega arith
 short (suc i) (t ∷ ts) = let h = short i ts in omega arith
@@ -97,57 +96,58 @@ states-all ts i states h e =
 
 -- ---- how many are shown
 
-abbrev counted : Query → List Task → ℕ
-counted q ts = length (filter (is_shown q) ts)
+module _ {X : Type 0} (p : X → Bool) where
+  abbrev counted : List X → ℕ
+  counted ts = length (filter p ts)
 
-counted-next : (q : Query) (ts : List Task) (i : ℕ) → counted q (take (suc i) ts) ≡ option_map_or (counted_with q (counted q (take i ts))) (slice_get ts i) (counted q (take i ts))
-counted-next q [] zero = refl
-counted-next q [] (suc i) = refl
-counted-next q (t ∷ ts) zero = by (is_shown q t)
-  where
-    by : (b : Bool) → length (cond b (t ∷ []) []) ≡ cond b 1 0
-    by true = refl
-    by false = refl
-counted-next q (t ∷ ts) (suc i) = by (is_shown q t) (slice_get ts i) (counted-next q ts i)
-  where
-    with_one : (n : ℕ) (u : Option Task) → suc (option_map_or (counted_with q n) u n) ≡ option_map_or (counted_with q (suc n)) u (suc n)
-    with_one n None = refl
-    with_one n (Some u) = inner (is_shown q u)
-      where
-        inner : (b : Bool) → suc (cond b (n + 1) n) ≡ cond b (suc n + 1) (suc n)
-        inner true = omega arith
-        inner false = refl
+  counted-next : (ts : List X) (i : ℕ) → counted (take (suc i) ts) ≡ option_map_or (counted_with p (counted (take i ts))) (slice_get ts i) (counted (take i ts))
+  counted-next [] zero = refl
+  counted-next [] (suc i) = refl
+  counted-next (t ∷ ts) zero = by (p t)
+    where
+      by : (b : Bool) → length (cond b (t ∷ []) []) ≡ cond b 1 0
+      by true = refl
+      by false = refl
+  counted-next (t ∷ ts) (suc i) = by (p t) (slice_get ts i) (counted-next ts i)
+    where
+      with_one : (n : ℕ) (u : Option X) → suc (option_map_or (counted_with p n) u n) ≡ option_map_or (counted_with p (suc n)) u (suc n)
+      with_one n None = refl
+      with_one n (Some u) = inner (p u)
+        where
+          inner : (b : Bool) → suc (cond b (n + 1) n) ≡ cond b (suc n + 1) (suc n)
+          inner true = omega arith
+          inner false = refl
 
-    by : (b : Bool) (u : Option Task) → counted q (take (suc i) ts) ≡ option_map_or (counted_with q (counted q (take i ts))) u (counted q (take i ts))
-        → length (cond b (t ∷ filter (is_shown q) (take (suc i) ts)) (filter (is_shown q) (take (suc i) ts)))
-        ≡ option_map_or (counted_with q (length (cond b (t ∷ filter (is_shown q) (take i ts)) (filter (is_shown q) (take i ts))))) u
-        (length (cond b (t ∷ filter (is_shown q) (take i ts)) (filter (is_shown q) (take i ts))))
-    by true u e = ap suc e ∙ with_one (counted q (take i ts)) u
-    by false u e = e
+      by : (b : Bool) (u : Option X) → counted (take (suc i) ts) ≡ option_map_or (counted_with p (counted (take i ts))) u (counted (take i ts))
+          → length (cond b (t ∷ filter p (take (suc i) ts)) (filter p (take (suc i) ts)))
+          ≡ option_map_or (counted_with p (length (cond b (t ∷ filter p (take i ts)) (filter p (take i ts))))) u
+          (length (cond b (t ∷ filter p (take i ts)) (filter p (take i ts))))
+      by true u e = ap suc e ∙ with_one (counted (take i ts)) u
+      by false u e = e
 
--- one task more
-pub count-more : (q : Query) (ts : List Task) (i old new : ℕ) → old ≡ counted q (take i ts) → new ≡ option_map_or (counted_with q old) (slice_get ts i) old
-    → new ≡ counted q (take (i + 1) ts)
-count-more q ts i old new e f = rw add-one (f ∙ ap (λ n. option_map_or (counted_with q n) (slice_get ts i) n) e ∙ sym (counted-next q ts i))
+  -- one item more
+  pub count-more : (ts : List X) (i old new : ℕ) → old ≡ counted (take i ts) → new ≡ option_map_or (counted_with p old) (slice_get ts i) old
+      → new ≡ counted (take (i + 1) ts)
+  count-more ts i old new e f = rw add-one (f ∙ ap (λ n. option_map_or (counted_with p n) (slice_get ts i) n) e ∙ sym (counted-next ts i))
 
-counted-few : (q : Query) (ts : List Task) → counted q ts ≤ length ts
-counted-few q [] = omega arith
-counted-few q (t ∷ ts) = by (is_shown q t) (counted-few q ts)
-  where
-    by : (b : Bool) → counted q ts ≤ length ts → length (cond b (t ∷ filter (is_shown q) ts) (filter (is_shown q) ts)) ≤ length (t ∷ ts)
-    by true h = omega arith
-    by false h = omega arith
+  counted-few : (ts : List X) → counted ts ≤ length ts
+  counted-few [] = omega arith
+  counted-few (t ∷ ts) = by (p t) (counted-few ts)
+    where
+      by : (b : Bool) → counted ts ≤ length ts → length (cond b (t ∷ filter p ts) (filter p ts)) ≤ length (t ∷ ts)
+      by true h = omega arith
+      by false h = omega arith
 
--- no more are shown than there were
-pub count-few : (q : Query) (ts : List Task) (i n : ℕ) → n ≡ counted q (take i ts) → n ≤ i
-count-few q ts i n e =
-    let h = counted-few q (take i ts) in
-    let g = short i ts in
-    subst (λ m. m ≤ i) (sym e) (omega arith)
+  -- no more are shown than there were
+  pub count-few : (ts : List X) (i n : ℕ) → n ≡ counted (take i ts) → n ≤ i
+  count-few ts i n e =
+      let h = counted-few (take i ts) in
+      let g = short i ts in
+      subst (λ m. m ≤ i) (sym e) (omega arith)
 
--- at the end
-pub count-all : (q : Query) (ts : List Task) (i n : ℕ) → length ts ≤ i → n ≡ counted q (take i ts) → n ≡ counted q ts
-count-all q ts i n h e = e ∙ ap (counted q) (take_all i ts h)
+  -- at the end
+  pub count-all : (ts : List X) (i n : ℕ) → length ts ≤ i → n ≡ counted (take i ts) → n ≡ counted ts
+  count-all ts i n h e = e ∙ ap counted (take_all i ts h)
 
 -- ---- ranks
 

@@ -9,9 +9,10 @@ use Rattle.tk_stream.specs.Spelling.{kind_text}
 use Rattle.tk_report.specs.Report.{task_state}
 use Rattle.tk_screen.specs.Screens.{LineView}
 use Rattle.tk_screen.specs.Texts.{duration_text, share_text}
-use Rattle.tk_core.specs.Lasting.{busy_until, sched_until}
+use Rattle.tk_core.specs.Lasting.{busy_until, sched_until, waits_for}
 use Rattle.tk_frame.specs.Findings.{OddView, owns_part}
 use Rattle.tk_frame.specs.Lines.{heading, location_text, plain, word}
+use Rattle.tk_frame.specs.PlaceLines.{known_text}
 
 -- a line: what it tells, and its value
 abbrev pub field : List ℕ → List ℕ → LineView
@@ -38,13 +39,14 @@ polls_part now x = field (codes "polls") (decimal x.polls)
     ∷ field (codes "last poll") (ago_text now x.last_started)
     ∷ field (codes "last end") (ago_text now x.last_ended) ∷ []
 
--- its wakes, and how long it waited for a poll
+-- its wakes, how long it waited for a poll in all, and how long it has waited for the next one, where it waits
 abbrev pub wakes_part : ℕ → TaskRow → List LineView
 wakes_part now x = field (codes "wakes") (decimal x.wakes)
     ∷ field (codes "self-wakes") (decimal x.self_wakes)
     ∷ field (codes "self share") (share_text x.self_wakes x.wakes)
     ∷ field (codes "last wake") (ago_text now x.last_wake)
-    ∷ field (codes "sched") (duration_text (sched_until x now)) ∷ []
+    ∷ field (codes "sched") (duration_text (sched_until x now))
+    ∷ field (codes "waiting") (known_text (waits_for x now)) ∷ []
 
 -- its wakers and handles, and since when it is there
 abbrev pub life_part : ℕ → TaskRow → List LineView

@@ -20,14 +20,16 @@ use Rattle.tk_screen.specs.declared.canvas.Canvas.TheVariants.{Plain, Terminal}
 use Rattle.tk_stream.specs.Tables.{TablesView, task_with}
 use Rattle.tk_stream.specs.declared.tables.task.Task.{Task}
 use Rattle.tk_frame.specs.Lines.{as_text, cell, location_text, plain, word}
+use Rattle.tk_frame.specs.Places.{PlaceRow}
 use Rattle.tk_frame.specs.Waiting.{waiting_text}
 use Rattle.tk_odd.specs.Waiting.{waiting_of}
 use Rattle.tk_odd.specs.declared.waiting.Waiting.{Waiting}
 
--- what is told of what is odd: the findings, worst first; how long the time is from the first line to the last, where one came; and from when on a poll
--- is a long one
+-- what is told of what is odd: the findings, worst first; the places, in their order; how long the time is from the first line to the last, where one
+-- came; and from when on a poll is a long one
 pub record OddView : Type 0 where
   pub findings : List Placed
+  pub places : List PlaceRow
   pub span : Option ℕ
   pub long : ℕ
 
@@ -112,8 +114,8 @@ style_of is_now = if is_now then styles.Warning else styles.Plain
 abbrev pub finding_line : List Task → ℕ → Placed → LineView
 finding_line tasks n (place, x) = record { style = style_of x.is_now; text = finding_text n (task_of tasks x) place x }
 
--- lines that are made of findings which are numbered from this number on
-abbrev pub numbered : (ℕ → Placed → List LineView) → ℕ → List Placed → List LineView
+-- lines that are made of items which are numbered from this number on
+abbrev pub numbered : {X : Type 0} → (ℕ → X → List LineView) → ℕ → List X → List LineView
 numbered lines n [] = []
 numbered lines n (x ∷ xs) = lines n x ++ numbered lines (n + 1) xs
 

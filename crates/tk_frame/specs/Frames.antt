@@ -1,5 +1,5 @@
 -- The lines of a screen.
-use Rattle.std.specs.Prelude.{ℕ, List, [], ◌∷◌, ◌++◌, drop, length, slice_get, flat_map, if◌then◌else◌}
+use Rattle.std.specs.Prelude.{ℕ, List, [], ◌∷◌, ◌++◌, drop, length, slice_get, flat_map, None, if◌then◌else◌}
 use Rattle.std.specs.Option.{option_map_or}
 use Rattle.tk_stream.specs.declared.tables.task.Task.{Task}
 use Rattle.tk_stream.specs.declared.tables.resource.Resource.{Resource}
@@ -11,7 +11,8 @@ use Rattle.tk_screen.specs.declared.top.Ranked.{Ranked}
 use Rattle.tk_frame.specs.Findings.{OddView, findings_part}
 use Rattle.tk_frame.specs.Lines.{head_text, heading, op_heading, op_text, plain, resource_heading, resource_text, task_heading, task_text}
 use Rattle.tk_frame.specs.Pages.{page_of, page_text, table_rows}
-use Rattle.tk_frame.specs.Queries.{shown_count, top_ops, top_resources, top_tasks}
+use Rattle.tk_frame.specs.PlaceLines.{places_part}
+use Rattle.tk_frame.specs.Queries.{rows_count, top_ops, top_resources, top_tasks}
 use Rattle.tk_frame.specs.States.{states_of}
 use Rattle.tk_frame.specs.declared.pages.Page.{Page}
 use Rattle.tk_frame.specs.declared.query.Query.{Query}
@@ -46,11 +47,18 @@ ops_part rows tables = heading op_heading ∷ flat_map (op_at tables) (top_ops r
 abbrev pub items_part : ℕ → Query → TablesView → List LineView
 items_part rows query tables = if query.resources then resources_part rows tables ++ ops_part rows tables else []
 
--- the lines of a screen of tables of which this is odd: the first line; findings; the first tasks, as many rows as fit; resources and async operations
+-- the lines of a screen with this table: the first line, findings, the table, and resources and async operations
+abbrev pub frame_with : List LineView → ℕ → Canvas → Query → TablesView → OddView → List LineView
+frame_with table rows canvas query tables odd =
+    plain (head_text tables (states_of tables.tasks) (length odd.findings)) ∷ (findings_part canvas tables odd ++ (table ++ items_part rows query tables))
+
+-- the table: of places, or of tasks
+abbrev pub main_part : Query → TablesView → OddView → Page → List LineView
+main_part query tables odd page = if query.by_place then places_part None query odd page else tasks_part query tables page
+
+-- the lines of a screen of tables of which this is odd: its table has the first rows, as many as fit
 abbrev pub frame_by : ℕ → Canvas → Query → TablesView → OddView → List LineView
-frame_by rows canvas query tables odd =
-    plain (head_text tables (states_of tables.tasks) (length odd.findings)) ∷ (findings_part canvas tables odd
-    ++ (tasks_part query tables (page_of rows 0 (shown_count query tables)) ++ items_part rows query tables))
+frame_by rows canvas query tables odd = frame_with (main_part query tables odd (page_of rows 0 (rows_count query tables odd))) rows canvas query tables odd
 
 abbrev pub frame_of : Canvas → Query → TablesView → OddView → List LineView
 frame_of canvas query tables odd = frame_by (table_rows canvas query odd 0) canvas query tables odd

@@ -1,17 +1,18 @@
 -- What keys ask a screen for.
-use Rattle.std.specs.Prelude.{◌==◌, ◌||◌, ◌&&◌, ◌+◌, ◌-◌, ◌*◌, min, nat_le, nat_lt, ℕ, List, length, slice_get, Bool, true, false, not, Option, Some, None, if◌then◌else◌}
+use Rattle.std.specs.Prelude.{◌==◌, ◌&&◌, ◌+◌, ◌-◌, ◌*◌, min, nat_le, nat_lt, ℕ, slice_get, Bool, true, false, not, Option, Some, None, if◌then◌else◌}
 use Rattle.std.specs.Option.{option_map, option_map_or, option_and_then}
 use Rattle.tk_odd.specs.Findings.{Placed}
 use Rattle.tk_stream.specs.declared.tables.task.Task.{Task}
 use Rattle.tk_stream.specs.Tables.{TablesView}
 use Rattle.tk_screen.specs.Screens.{is_printable}
 use Rattle.tk_screen.specs.declared.canvas.Canvas.{Canvas}
-use Rattle.tk_screen.specs.declared.canvas.Canvas.TheVariants.{Plain, Terminal}
+use Rattle.tk_screen.specs.declared.canvas.Canvas.TheVariants.{Terminal}
 use Rattle.tk_screen.specs.declared.canvas.Size.{Size}
 use Rattle.tk_screen.specs.declared.top.Ranked.{Ranked}
 use Rattle.tk_frame.specs.Findings.{OddView}
 use Rattle.tk_frame.specs.Pages.{chosen_of, table_rows}
-use Rattle.tk_frame.specs.Queries.{shown_count, top_tasks}
+use Rattle.tk_frame.specs.Places.{PlaceRow}
+use Rattle.tk_frame.specs.Queries.{places_count, rows_count, shown_count, top_places, top_tasks}
 use Rattle.tk_frame.specs.Typed.{nothing, with_byte, without_last}
 use Rattle.tk_frame.specs.declared.typed.Typed.{Typed}
 use Rattle.tk_frame.specs.declared.heard.Begun.{Begun}
@@ -26,19 +27,20 @@ use Rattle.tk_frame.specs.declared.keys.Asked.{Asked}
 use Rattle.tk_frame.specs.declared.keys.Shown.{Shown}
 use Rattle.tk_frame.specs.declared.keys.Shown.TheVariants as shown
 use Rattle.tk_frame.specs.declared.query.Column.{Column}
-use Rattle.tk_frame.specs.declared.query.Column.TheVariants.{Busy, Sched, Polls, Wakes, SelfWakes}
+use Rattle.tk_frame.specs.declared.query.Column.TheVariants.{Busy, Sched, Polls, Wakes, SelfWakes, HeldUp}
 use Rattle.tk_frame.specs.declared.query.Query.{Query}
 
 -- ---- what a key is
 
--- the column of a key: b, s, p, w and o
+-- the column of a key: b, s, p, w, o and h
 abbrev pub column_of : ℕ → Option Column
 column_of key =
     if key == 98 then Some Busy else
     (if key == 115 then Some Sched else
     (if key == 112 then Some Polls else
     (if key == 119 then Some Wakes else
-    (if key == 111 then Some SelfWakes else None))))
+    (if key == 111 then Some SelfWakes else
+    (if key == 104 then Some HeldUp else None)))))
 
 -- a row is chosen by j or n, k, d, u, < and >
 abbrev pub step_of : ℕ → Option Step
@@ -59,7 +61,7 @@ is_digit key = nat_le 48 key && nat_le key 57
 abbrev pub number_act : ℕ → Action
 number_act key = if is_digit key then acts.Finding (key - 48) else acts.Nothing
 
--- what a key asks for that sorts by no column and chooses no row: Enter, a digit, q, a space, ?, r, v and /. Any but these asks for nothing
+-- what a key asks for that sorts by no column and chooses no row: Enter, a digit, q, a space, ?, r, g, v and /. Any but these asks for nothing
 abbrev pub other_act : ℕ → Action
 other_act key =
     if key == 10 then acts.Open else
@@ -68,8 +70,9 @@ other_act key =
     (if key == 32 then acts.Pause else
     (if key == 63 then acts.Explain else
     (if key == 114 then acts.Resources else
+    (if key == 103 then acts.Group else
     (if key == 118 then acts.Reverse else
-    (if key == 47 then acts.Filter else number_act key)))))))
+    (if key == 47 then acts.Filter else number_act key))))))))
 
 abbrev pub step_act : ℕ → Action
 step_act key = option_map_or acts.Move (step_of key) (other_act key)
@@ -181,7 +184,7 @@ heard types (begun.Code n) key = heard_then n key
 
 -- the query of a screen, sorted and with resources as keys asked for
 abbrev pub query_by : Query → Asked → Query
-query_by query asked = record query { sort = asked.sort; rising = asked.rising; typed = asked.typed; resources = asked.resources }
+query_by query asked = record query { sort = asked.sort; rising = asked.rising; typed = asked.typed; resources = asked.resources; by_place = asked.by_place }
 
 -- what is drawn on, of the size that the terminal has said it has
 abbrev pub of_size : Canvas → Option Size → Canvas
@@ -198,6 +201,7 @@ first_asked query = record {
   sort = query.sort;
   rising = query.rising;
   resources = query.resources;
+  by_place = query.by_place;
   chosen = 0;
   paused = false;
   quits = false;
@@ -219,6 +223,14 @@ reversed asked = record asked { rising = not asked.rising; shown = shown.Tables 
 abbrev pub with_resources : Asked → Asked
 with_resources asked = record asked { resources = not asked.resources; shown = shown.Tables }
 
+-- the column by which places are sorted first, or tasks
+abbrev pub first_column : Bool → Column
+first_column by_place = if by_place then HeldUp else Busy
+
+-- g: places are shown, or tasks again, sorted as they are first, and the first is chosen
+abbrev pub grouped : Asked → Asked
+grouped asked = record asked { by_place = not asked.by_place; sort = first_column (not asked.by_place); rising = false; chosen = 0; shown = shown.Tables }
+
 -- a space: screens stay as they are, or go on
 abbrev pub turned : Asked → Asked
 turned asked = record asked { paused = not asked.paused }
@@ -228,6 +240,7 @@ abbrev pub or_keys : Shown → Shown
 or_keys shown.Tables = shown.Keys
 or_keys shown.Keys = shown.Tables
 or_keys (shown.Task id) = shown.Keys
+or_keys (shown.Place n) = shown.Keys
 
 -- ?: what each key does is shown, or not any more
 abbrev pub explained : Asked → Asked
@@ -254,6 +267,7 @@ abbrev pub acted_alone : Asked → Action → Asked
 acted_alone asked (acts.Sort column) = sorted column asked
 acted_alone asked acts.Reverse = reversed asked
 acted_alone asked acts.Resources = with_resources asked
+acted_alone asked acts.Group = grouped asked
 acted_alone asked acts.Pause = turned asked
 acted_alone asked acts.Explain = explained asked
 acted_alone asked acts.Quit = ended asked
@@ -270,24 +284,47 @@ acted_alone asked other = asked
 abbrev pub chosen_place : Query → TablesView → Asked → ℕ
 chosen_place query tables asked = chosen_of asked.chosen (shown_count (query_by query asked) tables)
 
--- the chosen task
+-- the task at a place of those that are shown
 abbrev pub task_in : Query → TablesView → ℕ → Option ℕ
 task_in query tables chosen =
     option_and_then (λ (r : Ranked). option_map (λ (t : Task). t.info.id) (slice_get tables.tasks r.place)) (slice_get (top_tasks query (chosen + 1) tables) chosen)
 
+-- the chosen task
 abbrev pub chosen_task : Query → TablesView → Asked → Option ℕ
 chosen_task query tables asked = task_in (query_by query asked) tables (chosen_place query tables asked)
 
--- what is shown once a task was asked for: it, or where there is none or another thing is shown, tables
-abbrev pub or_task : Shown → Option ℕ → Shown
-or_task shown.Tables (Some id) = shown.Task id
-or_task shown.Tables None = shown.Tables
-or_task shown.Keys task = shown.Tables
-or_task (shown.Task id) task = shown.Tables
+-- the number of the place at a row of those that are shown
+abbrev pub place_in : Query → OddView → ℕ → Option ℕ
+place_in query odd chosen =
+    option_and_then (λ (r : Ranked). option_map (λ (p : PlaceRow). p.1.number) (slice_get odd.places r.place)) (slice_get (top_places query (chosen + 1) odd) chosen)
 
--- Enter: all that is told of the chosen task is shown, or not any more
-abbrev pub opened : Option ℕ → Asked → Asked
-opened task asked = record asked { shown = or_task asked.shown task }
+-- the chosen place
+abbrev pub chosen_site : Query → OddView → Asked → Option ℕ
+chosen_site query odd asked = place_in (query_by query asked) odd (chosen_of asked.chosen (places_count (query_by query asked) odd))
+
+-- what is shown once a task was asked for, or a place: it, or where there is none, tables
+abbrev pub task_shown : Option ℕ → Shown
+task_shown None = shown.Tables
+task_shown (Some id) = shown.Task id
+
+abbrev pub site_shown : Option ℕ → Shown
+site_shown None = shown.Tables
+site_shown (Some n) = shown.Place n
+
+-- all that is told of the chosen one: of a place where places are shown, and else of a task
+abbrev pub chosen_shown : Query → OddView → TablesView → Asked → Shown
+chosen_shown query odd tables asked = if asked.by_place then site_shown (chosen_site query odd asked) else task_shown (chosen_task query tables asked)
+
+-- what is shown once the chosen one was asked for: it, where tables are shown, and else these
+abbrev pub or_chosen : Shown → Shown → Shown
+or_chosen shown.Tables it = it
+or_chosen shown.Keys it = shown.Tables
+or_chosen (shown.Task id) it = shown.Tables
+or_chosen (shown.Place n) it = shown.Tables
+
+-- Enter: all that is told of the chosen one is shown, or not any more
+abbrev pub opened : Shown → Asked → Asked
+opened it asked = record asked { shown = or_chosen asked.shown it }
 
 -- the task that the finding at a number names
 abbrev pub finding_task : OddView → ℕ → Option ℕ
@@ -320,10 +357,10 @@ moved step rows all asked = choosing (after_step step rows all (chosen_of asked.
 
 -- what an action makes of what was asked for, while a screen shows these tables and findings
 abbrev pub acted : Canvas → Query → OddView → TablesView → Asked → Action → Asked
-acted canvas query odd tables asked acts.Open = opened (chosen_task query tables asked) asked
+acted canvas query odd tables asked acts.Open = opened (chosen_shown query odd tables asked) asked
 acted canvas query odd tables asked (acts.Finding n) = opened_at (finding_task odd n) asked
 acted canvas query odd tables asked (acts.Move step) =
-    moved step (table_rows (canvas_by canvas asked) (query_by query asked) odd 1) (shown_count (query_by query asked) tables) asked
+    moved step (table_rows (canvas_by canvas asked) (query_by query asked) odd 1) (rows_count (query_by query asked) tables odd) asked
 acted canvas query odd tables asked other = acted_alone asked other
 
 -- a step

@@ -1,3 +1,5 @@
+-- The places of a stream's tasks
+pub mod Places
 -- Which items are shown, and in which order
 pub mod Queries
 -- A text that is typed at keys
@@ -12,6 +14,10 @@ pub mod Lines
 pub mod Findings
 -- Which tasks stand on a screen
 pub mod Pages
+-- The lines that tell of places
+pub mod PlaceLines
+-- All that is told of one place
+pub mod PlaceView
 -- The lines of a screen
 pub mod Frames
 -- Inner: no public clause cites these

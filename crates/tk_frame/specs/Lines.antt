@@ -1,5 +1,5 @@
 -- The lines that tell of tasks, and of resources and async operations.
-use Rattle.std.specs.Prelude.{◌==◌, ◌&&◌, ◌-◌, ℕ, List, [], ◌∷◌, ◌++◌, drop, length, codes, decimal, if◌then◌else◌}
+use Rattle.std.specs.Prelude.{◌==◌, ◌&&◌, ◌-◌, ℕ, List, [], ◌++◌, drop, length, codes, decimal, if◌then◌else◌}
 use Rattle.std.specs.Str.{is_utf8}
 use Rattle.tk_ids.specs.Ids.{id_text}
 use Rattle.tk_ids.specs.declared.info.Dropped.{Dropped}

@@ -76,3 +76,10 @@ from_text from = if from == 0 then [] else codes ", after the first " ++ decimal
 
 abbrev pub page_text : Page → List ℕ
 page_text page = counts_text page ++ from_text page.from
+
+-- how many places a page has, and of how many
+abbrev pub place_counts_text : Page → List ℕ
+place_counts_text page = decimal (page.to - page.from) ++ (codes " of " ++ (decimal page.all ++ codes " places"))
+
+abbrev pub places_text : Page → List ℕ
+places_text page = place_counts_text page ++ from_text page.from

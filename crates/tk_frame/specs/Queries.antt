@@ -8,9 +8,12 @@ use Rattle.tk_stream.specs.Tables.{TablesView, PollCounts, counts_of}
 use Rattle.tk_screen.specs.Rankings.{ranking}
 use Rattle.tk_screen.specs.declared.top.Ranked.{Ranked}
 use Rattle.tk_core.specs.Lasting.{busy_until, sched_until}
+use Rattle.tk_frame.specs.Findings.{OddView}
+use Rattle.tk_frame.specs.Places.{PlaceRow, location_in, name_in}
 use Rattle.tk_frame.specs.Typed.{typed_text}
+use Rattle.tk_frame.specs.declared.places.Figures.{Figures}
 use Rattle.tk_frame.specs.declared.query.Column.{Column}
-use Rattle.tk_frame.specs.declared.query.Column.TheVariants.{Busy, Sched, Polls, Wakes, SelfWakes}
+use Rattle.tk_frame.specs.declared.query.Column.TheVariants.{Busy, Sched, Polls, Wakes, SelfWakes, HeldUp}
 use Rattle.tk_frame.specs.declared.query.Query.{Query}
 
 -- the number of a task in a column, at a moment
@@ -20,6 +23,16 @@ number_in Sched x now = sched_until x now
 number_in Polls x now = x.polls
 number_in Wakes x now = x.wakes
 number_in SelfWakes x now = x.self_wakes
+number_in HeldUp x now = busy_until x now
+
+-- the number of a place in a column
+abbrev pub place_number : Column → Figures → ℕ
+place_number Busy f = f.sums.busy
+place_number Sched f = f.sums.waited
+place_number Polls f = f.sums.polls
+place_number Wakes f = f.sums.wakes
+place_number SelfWakes f = f.sums.own
+place_number HeldUp f = f.held_up
 
 -- a text begins with another
 abbrev pub begins : List ℕ → List ℕ → Bool
@@ -51,6 +64,26 @@ rank_of rising n = if rising then 18446744073709551615 - n else n
 -- the key of a task that is shown, at a moment: the rank of its number in the column
 abbrev pub task_key : Query → ℕ → Task → Option ℕ
 task_key query now t = if is_shown query t then Some (rank_of query.rising (number_in query.sort t.row now)) else None
+
+-- a text stands in where the tasks of a place were spawned, or in their name
+abbrev pub names_place : List ℕ → List ℕ → Bool
+names_place text site = stands_in text (location_in site) || stands_in text (name_in site)
+
+-- a place is shown which two texts name
+abbrev pub is_place_shown : Query → PlaceRow → Bool
+is_place_shown query p = names_place query.filter.now p.0 && names_place (typed_text query.typed) p.0
+
+-- how many places are shown, on one screen or on several
+abbrev pub places_count : Query → OddView → ℕ
+places_count query odd = length (filter (is_place_shown query) odd.places)
+
+-- how many rows there are of what is shown: of places, or of tasks
+abbrev pub rows_count : Query → TablesView → OddView → ℕ
+rows_count query tables odd = if query.by_place then places_count query odd else shown_count query tables
+
+-- the key of a place that is shown: the rank of its number in the column
+abbrev pub place_key : Query → PlaceRow → Option ℕ
+place_key query p = if is_place_shown query p then Some (rank_of query.rising (place_number query.sort p.1)) else None
 
 -- the key of a resource that is shown, which is open: how many of its poll operations were pending
 abbrev pub resource_key_by : ℕ → Resource → Option ℕ
@@ -86,3 +119,7 @@ top_resources rows tables = top_of (resource_key tables.counts) rows tables.reso
 
 abbrev pub top_ops : ℕ → TablesView → List Ranked
 top_ops rows tables = top_of op_key rows tables.ops
+
+-- the first places, where those of equal numbers stay in their order
+abbrev pub top_places : Query → ℕ → OddView → List Ranked
+top_places query rows odd = top_of (place_key query) rows odd.places

@@ -1,25 +1,27 @@
 -- The lines of a screen that keys ask for.
-use Rattle.std.specs.Prelude.{◌+◌, ◌-◌, ℕ, List, [], ◌∷◌, ◌++◌, length, take, drop, slice_get, flat_map, codes, Bool, true, false, if◌then◌else◌}
+use Rattle.std.specs.Prelude.{◌+◌, ◌-◌, ◌==◌, ℕ, List, [], ◌∷◌, ◌++◌, take, drop, slice_get, flat_map, codes, Bool, true, false, Some, if◌then◌else◌}
 use Rattle.std.specs.Option.{option_map_or}
 use Rattle.tk_stream.specs.declared.tables.task.Task.{Task}
 use Rattle.tk_stream.specs.Tables.{TablesView}
 use Rattle.tk_screen.specs.Screens.{LineView, screen_text}
+use Rattle.tk_screen.specs.Texts.{duration_text}
 use Rattle.tk_screen.specs.declared.canvas.Canvas.{Canvas}
 use Rattle.tk_screen.specs.declared.top.Ranked.{Ranked}
 use Rattle.tk_frame.specs.Details.{details_at}
-use Rattle.tk_frame.specs.Findings.{OddView, findings_part}
-use Rattle.tk_frame.specs.Frames.{items_part, task_at}
+use Rattle.tk_frame.specs.Findings.{OddView}
+use Rattle.tk_frame.specs.Frames.{frame_with, task_at}
 use Rattle.tk_frame.specs.Keys.{canvas_by, query_by}
-use Rattle.tk_frame.specs.Lines.{as_text, head_text, heading, plain, task_heading, task_text}
+use Rattle.tk_frame.specs.Lines.{as_text, heading, plain, task_heading, task_text}
 use Rattle.tk_frame.specs.Pages.{chosen_of, page_of, page_text, table_rows}
-use Rattle.tk_frame.specs.Queries.{shown_count, top_tasks}
-use Rattle.tk_frame.specs.States.{states_of}
+use Rattle.tk_frame.specs.PlaceLines.{places_part}
+use Rattle.tk_frame.specs.PlaceView.{place_view}
+use Rattle.tk_frame.specs.Queries.{rows_count, top_tasks}
 use Rattle.tk_frame.specs.declared.keys.Asked.{Asked}
 use Rattle.tk_frame.specs.declared.keys.Shown.{Shown}
 use Rattle.tk_frame.specs.declared.keys.Shown.TheVariants as shown
 use Rattle.tk_frame.specs.declared.pages.Page.{Page}
 use Rattle.tk_frame.specs.declared.query.Column.{Column}
-use Rattle.tk_frame.specs.declared.query.Column.TheVariants.{Busy, Sched, Polls, Wakes, SelfWakes}
+use Rattle.tk_frame.specs.declared.query.Column.TheVariants.{Busy, Sched, Polls, Wakes, SelfWakes, HeldUp}
 use Rattle.tk_frame.specs.Typed.{is_empty, typed_text}
 use Rattle.tk_frame.specs.declared.query.Query.{Query}
 use Rattle.tk_frame.specs.declared.typed.Typed.{Typed}
@@ -31,6 +33,13 @@ column_word Sched = codes "sched"
 column_word Polls = codes "polls"
 column_word Wakes = codes "wakes"
 column_word SelfWakes = codes "self-wakes"
+column_word HeldUp = codes "held-up"
+
+-- by which column rows are sorted: tasks as by how long they ran, where the column is of places alone
+abbrev pub sorted_by : Bool → Column → Column
+sorted_by true column = column
+sorted_by false HeldUp = Busy
+sorted_by false column = column
 
 -- whether the least is first
 abbrev pub order_word : Bool → List ℕ
@@ -44,13 +53,28 @@ named_by t end = codes "  /" ++ (as_text (typed_text t) ++ end)
 abbrev pub filter_word : Bool → Typed → List ℕ
 filter_word types t = if types then named_by t (codes "_") else (if is_empty t then [] else named_by t [])
 
--- whether screens stay as they are
-abbrev pub paused_word : Bool → List ℕ
-paused_word paused = if paused then codes "  paused" else []
+-- whether places are shown
+abbrev pub by_word : Bool → List ℕ
+by_word by_place = if by_place then codes "by place, " else []
 
--- the line that stands above a screen: how tasks are sorted, whether it is paused, and which key shows the others
-abbrev pub asked_text : Asked → List ℕ
-asked_text asked = codes "sorted by " ++ (column_word asked.sort ++ (order_word asked.rising ++ (filter_word asked.types asked.typed ++ (paused_word asked.paused ++ codes "  ? shows the keys"))))
+-- how far what is shown lies behind what came, where it does
+abbrev pub lag_text : ℕ → List ℕ
+lag_text behind = codes ", " ++ (duration_text behind ++ codes " behind")
+
+abbrev pub behind_word : ℕ → List ℕ
+behind_word behind = if behind == 0 then [] else lag_text behind
+
+-- whether screens stay as they are, and how far behind
+abbrev pub pause_text : ℕ → List ℕ
+pause_text behind = codes "  paused" ++ behind_word behind
+
+abbrev pub paused_word : Bool → ℕ → List ℕ
+paused_word paused behind = if paused then pause_text behind else []
+
+-- the line that stands above a screen: whether places are shown, how they or tasks are sorted, whether it is paused and how far it then lies behind, and
+-- which key shows the others
+abbrev pub asked_text : Asked → ℕ → List ℕ
+asked_text asked behind = by_word asked.by_place ++ (codes "sorted by " ++ (column_word (sorted_by asked.by_place asked.sort) ++ (order_word asked.rising ++ (filter_word asked.types asked.typed ++ (paused_word asked.paused behind ++ codes "  ? shows the keys")))))
 
 -- what each key does
 abbrev pub keys_part : List LineView
@@ -60,13 +84,15 @@ keys_part = heading (codes "KEY    WHAT IT DOES")
     ∷ plain (codes "p      sorts them by how many polls of them started")
     ∷ plain (codes "w      sorts them by how often they were woken")
     ∷ plain (codes "o      sorts them by how often they woke themselves")
+    ∷ plain (codes "h      sorts places by how long others waited while their tasks ran")
     ∷ plain (codes "v      sorts them the other way round")
     ∷ plain (codes "j, k   chooses the task below, or above, as arrows do")
     ∷ plain (codes "d, u   goes a page down, or up, as Page Down and Page Up do")
     ∷ plain (codes "<, >   chooses the first task, or the last, as Home and End do")
-    ∷ plain (codes "Enter  shows all of the chosen task, or not any more")
+    ∷ plain (codes "Enter  shows all of the chosen task or place, or not any more")
     ∷ plain (codes "1..9   shows the task of the finding that has this number")
     ∷ plain (codes "/      shows only tasks that a text names, by their name or their file; Enter ends it")
+    ∷ plain (codes "g      shows places, or tasks again")
     ∷ plain (codes "r      shows resources and async operations, or not any more")
     ∷ plain (codes "space  pauses, or goes on")
     ∷ plain (codes "?      shows this, or not any more")
@@ -89,11 +115,15 @@ page_part tables top page chosen =
 abbrev pub page_at : ℕ → Query → TablesView → Page → List LineView
 page_at chosen query tables page = page_part tables (top_tasks query page.to tables) page chosen
 
--- the lines of tables as `frame_by` has them, with the page of the chosen task
+-- the table: of places, or of tasks, one of which is chosen
+abbrev pub choice_part : ℕ → Query → TablesView → OddView → Page → List LineView
+choice_part chosen query tables odd page =
+    if query.by_place then places_part (Some (chosen_of chosen page.all - page.from)) query odd page else page_at chosen query tables page
+
+-- the lines of tables as `frame_by` has them, with the page of the chosen row
 abbrev pub choice_by : ℕ → ℕ → Canvas → Query → TablesView → OddView → List LineView
 choice_by rows chosen canvas query tables odd =
-    plain (head_text tables (states_of tables.tasks) (length odd.findings)) ∷ (findings_part canvas tables odd
-    ++ (page_at chosen query tables (page_of rows chosen (shown_count query tables)) ++ items_part rows query tables))
+    frame_with (choice_part chosen query tables odd (page_of rows chosen (rows_count query tables odd))) rows canvas query tables odd
 
 -- the same, with as many rows as fit below one line
 abbrev pub choice_of : ℕ → Canvas → Query → TablesView → OddView → List LineView
@@ -104,11 +134,12 @@ abbrev pub shown_part : Shown → Asked → Canvas → Query → TablesView → 
 shown_part shown.Tables asked canvas query tables odd = choice_of asked.chosen canvas (query_by query asked) tables odd
 shown_part shown.Keys asked canvas query tables odd = keys_part
 shown_part (shown.Task id) asked canvas query tables odd = details_at id tables odd
+shown_part (shown.Place n) asked canvas query tables odd = place_view n tables odd
 
--- the lines of a screen that keys ask for
-abbrev pub lines_of : Asked → Canvas → Query → TablesView → OddView → List LineView
-lines_of asked canvas query tables odd = plain (asked_text asked) ∷ shown_part asked.shown asked canvas query tables odd
+-- the lines of a screen that keys ask for, of tables that lie so far behind what came
+abbrev pub lines_of : Asked → ℕ → Canvas → Query → TablesView → OddView → List LineView
+lines_of asked behind canvas query tables odd = plain (asked_text asked behind) ∷ shown_part asked.shown asked canvas query tables odd
 
--- the screen of tables that keys ask for, as it is written: of the size that the terminal has
-abbrev pub asked_screen : Canvas → Query → OddView → Asked → TablesView → List ℕ
-asked_screen canvas query odd asked tables = screen_text (canvas_by canvas asked) (lines_of asked (canvas_by canvas asked) query tables odd)
+-- the screen of such tables that keys ask for, as it is written: of the size that the terminal has
+abbrev pub asked_screen : Canvas → Query → OddView → Asked → ℕ → TablesView → List ℕ
+asked_screen canvas query odd asked behind tables = screen_text (canvas_by canvas asked) (lines_of asked behind (canvas_by canvas asked) query tables odd)

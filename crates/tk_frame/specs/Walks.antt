@@ -1,11 +1,9 @@
 -- One item more of a walk. Inner: no public clause cites these.
-use Rattle.std.specs.Prelude.{◌+◌, ℕ, List, take, fold, is_some, Option, Some, None, if◌then◌else◌}
+use Rattle.std.specs.Prelude.{◌+◌, ℕ, List, take, fold, is_some, Bool, Option, Some, None, if◌then◌else◌}
 use Rattle.tk_core.specs.declared.task.row.TaskRow.{TaskRow}
 use Rattle.tk_stream.specs.declared.tables.task.Task.{Task}
 use Rattle.tk_screen.specs.Rankings.{ranked_in}
 use Rattle.tk_screen.specs.declared.top.Ranked.{Ranked}
-use Rattle.tk_frame.specs.Queries.{is_shown}
-use Rattle.tk_frame.specs.declared.query.Query.{Query}
 use Rattle.tk_frame.specs.declared.ranks.States.{States}
 
 -- what is kept with one item more, where it has a key
@@ -20,9 +18,9 @@ and_task states x =
     (if x.polling then record states { polling = states.polling + 1 } else
     (if x.scheduled then record states { scheduled = states.scheduled + 1 } else record states { idle = states.idle + 1 }))
 
--- how many were shown, with one task more
-abbrev pub counted_with : Query → ℕ → Task → ℕ
-counted_with query count t = if is_shown query t then count + 1 else count
+-- of how many it held, with one item more
+abbrev pub counted_with : {X : Type 0} → (X → Bool) → ℕ → X → ℕ
+counted_with p count x = if p x then count + 1 else count
 
 abbrev pub states_with : States → Task → States
 states_with states t = and_task states t.row

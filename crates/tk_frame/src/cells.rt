@@ -75,8 +75,8 @@ pub(crate) fn put_part(
     put_cell(out, room.as_str(), width)
 }
 
-// Puts bytes at the left of a column, where they are text.
-fn put_bytes(out: &mut String, bytes: &[u8], width: usize) -> Result<(), AllocError>
+/// Puts bytes at the left of a column, where they are text.
+pub(crate) fn put_bytes(out: &mut String, bytes: &[u8], width: usize) -> Result<(), AllocError>
     ensures { OnOk result (Puts (string_bytes out.old) (string_bytes out.new) (spec.word width (spec.as_text bytes.now))) }
 {
     match str::from_utf8(bytes) {
@@ -85,8 +85,8 @@ fn put_bytes(out: &mut String, bytes: &[u8], width: usize) -> Result<(), AllocEr
     }
 }
 
-// The end of a text, of at most so many bytes.
-fn end_of(width: usize, text: &[u8]) -> &[u8]
+/// The end of a text, of at most so many bytes.
+pub(crate) fn end_of(width: usize, text: &[u8]) -> &[u8]
     ensures { result.now ≡ spec.end_of width text.now }
 {
     let skipped = text.len().saturating_sub(width);

@@ -4,10 +4,12 @@ ghost use Rattle.tk_ids.specs.Ids.{id_text};
 ghost use Rattle.tk_screen.specs.Texts.{Puts, duration_text, share_text};
 ghost use Rattle.tk_frame.specs.Details as spec;
 ghost use Rattle.tk_frame.specs.Lines as texts;
+ghost use Rattle.tk_frame.specs.PlaceLines.{known_text};
 
 use crate::cells::{put_location, put_word};
 use crate::odd::Odd;
 use crate::odd_lines::push_owns;
+use crate::place_lines::put_known;
 use std::alloc::{AllocError, Global};
 use std::fmt::Write;
 use tk_core::TaskRow;
@@ -66,6 +68,20 @@ fn push_time(
 {
     let mut text = label_text(alloc, label)?;
     put_duration(&mut text, nanos)?;
+    lines.push(Line::new(Style::Plain, text))?;
+    Ok(())
+}
+
+fn push_known(
+    lines: &mut Vec<Line>,
+    alloc: Global,
+    label: &str,
+    nanos: u64,
+) -> Result<(), AllocError>
+    ensures { OnOk result (Puts lines.old.items lines.new.items (spec.field label.now (known_text nanos) ∷ [])) }
+{
+    let mut text = label_text(alloc, label)?;
+    put_known(&mut text, nanos)?;
     lines.push(Line::new(Style::Plain, text))?;
     Ok(())
 }
@@ -181,6 +197,7 @@ fn push_wakes(
     push_share(lines, alloc, "self share", row.self_wakes, row.wakes)?;
     push_ago(lines, alloc, "last wake", now, row.last_wake)?;
     push_time(lines, alloc, "sched", sched)?;
+    push_known(lines, alloc, "waiting", row.waits_for(now))?;
     Ok(())
 }
 

@@ -48,6 +48,8 @@ pub enum Action {
     Open,
     /// The task of the finding that has this number.
     Finding(usize),
+    /// Places in the place of tasks, or tasks again.
+    Group,
     /// Resources and async operations, or no more of them.
     Resources,
     /// A pause, or its end.
@@ -85,6 +87,7 @@ fn column_of(key: u8) -> Option<Column>
         b'p' => Some(Column::Polls),
         b'w' => Some(Column::Wakes),
         b'o' => Some(Column::SelfWakes),
+        b'h' => Some(Column::HeldUp),
         _ => None,
     }
 }
@@ -130,6 +133,7 @@ fn other_act(key: u8) -> Action
         b' ' => Action::Pause,
         b'?' => Action::Explain,
         b'r' => Action::Resources,
+        b'g' => Action::Group,
         b'v' => Action::Reverse,
         b'/' => Action::Filter,
         _ => number_act(key),

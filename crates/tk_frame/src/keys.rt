@@ -6,6 +6,7 @@ ghost use Rattle.tk_frame.specs.Keys as spec;
 use crate::heard::{Action, Begun, Step, hear};
 use crate::odd::Odd;
 use crate::pages::{chosen_of, table_rows};
+use crate::place_ranks::{places_count, rows_count, top_places};
 use crate::query::{Column, Query};
 use crate::ranks::{shown_count, walk};
 use crate::typed::{Typed, with_byte, without_last};
@@ -23,6 +24,8 @@ pub enum Shown {
     Keys,
     /// All that is told of a task.
     Task(TaskId),
+    /// All that is told of the place of a number.
+    Place(usize),
 }
 
 /// What keys have asked for.
@@ -35,7 +38,9 @@ pub struct Asked {
     pub rising: bool,
     /// Whether resources and async operations are shown too.
     pub resources: bool,
-    /// Which of the tasks that are shown is chosen, from 0 on. Where fewer are left it is the last.
+    /// Whether places are shown in the place of tasks.
+    pub by_place: bool,
+    /// Which of the tasks or places that are shown is chosen, from 0 on. Where fewer are left it is the last.
     pub chosen: usize,
     /// Whether screens stay as they are while lines come.
     pub paused: bool,
@@ -61,6 +66,7 @@ impl Asked {
             sort: query.sort,
             rising: query.rising,
             resources: query.resources,
+            by_place: query.by_place,
             chosen: 0,
             paused: false,
             quits: false,
@@ -108,6 +114,7 @@ pub(crate) fn query_by<'a>(query: &Query<'a>, asked: &Asked) -> Query<'a>
         filter: query.filter,
         typed: asked.typed,
         resources: asked.resources,
+        by_place: asked.by_place,
     }
 }
 
@@ -143,6 +150,31 @@ fn with_resources(asked: Asked) -> Asked
     }
 }
 
+/// The column by which places are sorted first, or tasks.
+pub fn first_column(by_place: bool) -> Column
+    ensures { result ≡ spec.first_column by_place }
+{
+    if by_place {
+        Column::HeldUp
+    } else {
+        Column::Busy
+    }
+}
+
+fn grouped(asked: Asked) -> Asked
+    ensures { result ≡ spec.grouped asked }
+{
+    let by_place = !asked.by_place;
+    Asked {
+        by_place,
+        sort: first_column(by_place),
+        rising: false,
+        chosen: 0,
+        shown: Shown::Tables,
+        ..asked
+    }
+}
+
 fn or_keys(shown: Shown) -> Shown
     ensures { result ≡ spec.or_keys shown }
 {
@@ -150,6 +182,7 @@ fn or_keys(shown: Shown) -> Shown
         Shown::Tables => Shown::Keys,
         Shown::Keys => Shown::Tables,
         Shown::Task(_) => Shown::Keys,
+        Shown::Place(_) => Shown::Keys,
     }
 }
 
@@ -218,6 +251,7 @@ fn acted_alone(asked: Asked, action: Action) -> Asked
         Action::Sort(column) => sorted(column, asked),
         Action::Reverse => reversed(asked),
         Action::Resources => with_resources(asked),
+        Action::Group => grouped(asked),
         Action::Pause => turned(asked),
         Action::Explain => explained(asked),
         Action::Quit => ended(asked),
@@ -232,24 +266,22 @@ fn acted_alone(asked: Asked, action: Action) -> Asked
 
 // ---- choosing and opening
 
-fn or_task(shown: Shown, task: Option<TaskId>) -> Shown
-    ensures { result ≡ spec.or_task shown task }
+fn or_chosen(shown: Shown, it: Shown) -> Shown
+    ensures { result ≡ spec.or_chosen shown it }
 {
     match shown {
-        Shown::Tables => match task {
-            Some(id) => Shown::Task(id),
-            None => Shown::Tables,
-        },
+        Shown::Tables => it,
         Shown::Keys => Shown::Tables,
         Shown::Task(_) => Shown::Tables,
+        Shown::Place(_) => Shown::Tables,
     }
 }
 
-fn opened(task: Option<TaskId>, asked: Asked) -> Asked
-    ensures { result ≡ spec.opened task asked }
+fn opened(it: Shown, asked: Asked) -> Asked
+    ensures { result ≡ spec.opened it asked }
 {
     Asked {
-        shown: or_task(asked.shown, task),
+        shown: or_chosen(asked.shown, it),
         ..asked
     }
 }
@@ -314,6 +346,85 @@ fn chosen_task(
     task_in(alloc, tables, &query, chosen)
 }
 
+fn number_at(odd: &Odd, place: usize) -> Option<usize>
+    ensures { result ≡ option_map (λ p. p.1.number) (slice_get odd.now.places place) }
+{
+    match odd.place_at(place) {
+        Some((_, figures)) => Some(figures.number),
+        None => None,
+    }
+}
+
+// The number of the place at a row of those that are shown.
+fn place_in(
+    alloc: Global,
+    odd: &Odd,
+    query: &Query<'_>,
+    chosen: usize,
+) -> Result<Option<usize>, AllocError>
+    ensures { IfOk result (λ number. number ≡ spec.place_in query.now odd.now chosen) }
+{
+    let Some(rows) = chosen.checked_add(1) else {
+        return Err(AllocError);
+    };
+    let top = top_places(alloc, odd, query, rows)?;
+    match top.items().get(chosen) {
+        Some(ranked) => Ok(number_at(odd, ranked.place)),
+        None => Ok(None),
+    }
+}
+
+// The chosen place.
+fn chosen_site(
+    alloc: Global,
+    odd: &Odd,
+    query: &Query<'_>,
+    asked: &Asked,
+) -> Result<Option<usize>, AllocError>
+    ensures { IfOk result (λ number. number ≡ spec.chosen_site query.now odd.now asked.now) }
+{
+    let query = query_by(query, asked);
+    let chosen = chosen_of(asked.chosen, places_count(odd, &query));
+    place_in(alloc, odd, &query, chosen)
+}
+
+fn task_shown(task: Option<TaskId>) -> Shown
+    ensures { result ≡ spec.task_shown task }
+{
+    match task {
+        Some(id) => Shown::Task(id),
+        None => Shown::Tables,
+    }
+}
+
+fn site_shown(number: Option<usize>) -> Shown
+    ensures { result ≡ spec.site_shown number }
+{
+    match number {
+        Some(number) => Shown::Place(number),
+        None => Shown::Tables,
+    }
+}
+
+// All that is told of the chosen one: of a place where places are shown, and else of a task.
+fn chosen_shown(
+    alloc: Global,
+    tables: &Tables,
+    odd: &Odd,
+    query: &Query<'_>,
+    asked: &Asked,
+) -> Result<Shown, AllocError>
+    ensures { IfOk result (λ it. it ≡ spec.chosen_shown query.now odd.now tables.now asked.now) }
+{
+    if asked.by_place {
+        let number = chosen_site(alloc, odd, query, asked)?;
+        Ok(site_shown(number))
+    } else {
+        let task = chosen_task(alloc, tables, query, asked)?;
+        Ok(task_shown(task))
+    }
+}
+
 // So many rows below a place, or the last.
 fn rows_below(place: usize, rows: usize, all: usize) -> usize
     ensures { result ≡ min (place + rows) (all - 1) }
@@ -369,7 +480,7 @@ fn moved_on(
 {
     let query = query_by(query, &asked);
     let rows = table_rows(asked.canvas(canvas), &query, odd, 1);
-    let all = shown_count(tables, &query);
+    let all = rows_count(tables, odd, &query);
     moved(step, rows, all, asked)
 }
 
@@ -387,8 +498,8 @@ fn acted(
 {
     match action {
         Action::Open => {
-            let task = chosen_task(alloc, tables, query, &asked)?;
-            Ok(opened(task, asked))
+            let it = chosen_shown(alloc, tables, odd, query, &asked)?;
+            Ok(opened(it, asked))
         }
         Action::Finding(number) => Ok(opened_at(odd.task_at(number), asked)),
         Action::Move(step) => Ok(moved_on(canvas, tables, odd, query, asked, step)),
@@ -404,17 +515,17 @@ fn with_begun(begun: Begun, asked: Asked) -> Asked
 
 /// What is asked for once a byte came from the terminal, while a screen of these tables and findings is drawn on this canvas.
 ///
-/// - `b`, `s`, `p`, `w` and `o` sort tasks by a column, and `v` sorts them the other way round.
+/// - `b`, `s`, `p`, `w`, `o` and `h` sort tasks or places by a column, and `v` sorts them the other way round. `g` shows places, or tasks again.
 /// - `j` and `k`, or arrows, choose a row; `n` does as `j`. `d` and `u`, or Page Down and Page Up, go a page further; `<` and `>`, or Home and End, go to the
-///   first and to the last task.
-/// - Enter shows all of the chosen task, or no more; a digit shows the task of the finding that has this number.
+///   first and to the last row.
+/// - Enter shows all of the chosen task or place, or no more; a digit shows the task of the finding that has this number.
 /// - `/` begins a text, and shows the tasks alone that it names. A backspace takes its last byte back, and Enter ends it.
 /// - `r` shows resources and async operations, or no more; a space pauses, or goes on; `?` shows what keys do, or no more; `q` ends the watch.
 /// - `ESC [ 8 ; LINES ; COLUMNS t` is no key: by it a terminal says how large it is.
 ///
 /// Any other asks for nothing. A key of several bytes counts with its last one.
 ///
-/// It fails where there is no memory to find the chosen task.
+/// It fails where there is no memory to find the chosen one.
 pub fn press(
     alloc: Global,
     canvas: Canvas,

@@ -1,7 +1,8 @@
 //! What a screen shows of tables: its lines, as a function of the tables, of what is odd about them and of what was asked for.
 //!
 //! - [`Query`], [`Column`], [`Typed`]: what was asked for: which tasks, in which order, and whether resources.
-//! - [`Odd`]: what is told of what is odd.
+//! - [`Odd`]: what is told of what is odd, and of places.
+//! - [`places_of`], [`Place`], [`Figures`]: the places of a stream's tasks, and what these came to.
 //! - [`frame`]: the lines of a screen.
 //! - [`Asked`], [`press`], [`asked_frame`]: what keys ask for, and the lines of the screen that they ask for.
 //! - [`walk`], [`States`]: how many tasks there are in each state, and the first of those that are shown.
@@ -17,17 +18,23 @@ mod lines;
 mod odd;
 mod odd_lines;
 mod pages;
+mod place_lines;
+mod place_ranks;
+mod place_view;
+mod places;
 mod query;
 mod ranks;
 mod shown;
+mod site_parts;
 mod tasks;
 mod typed;
 mod waiting;
 
 pub use heard::{Begun, Numbers};
-pub use keys::{Asked, Shown, press};
+pub use keys::{Asked, Shown, first_column, press};
 pub use lines::frame;
 pub use odd::Odd;
+pub use places::{Figures, Place, places_of};
 pub use query::{Column, Query};
 pub use ranks::{States, walk};
 pub use shown::asked_frame;

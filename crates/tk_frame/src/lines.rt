@@ -9,8 +9,10 @@ use crate::items::{op_heading, op_line, resource_heading, resource_line};
 use crate::odd::Odd;
 use crate::odd_lines::push_findings;
 use crate::pages::{Page, page_of, table_rows};
+use crate::place_lines::push_places;
+use crate::place_ranks::rows_count;
 use crate::query::Query;
-use crate::ranks::{States, shown_count, top_ops, top_resources, walk};
+use crate::ranks::{States, states_in, top_ops, top_resources, walk};
 use crate::tasks::{head_line, heading, page_line, task_heading, task_line};
 use std::alloc::{AllocError, Global};
 use tk_screen::{Canvas, Line, Ranked};
@@ -180,6 +182,38 @@ fn push_table(
     Ok(())
 }
 
+// The tasks on a page.
+fn push_tasks_on(
+    lines: &mut Vec<Line>,
+    alloc: Global,
+    tables: &Tables,
+    query: &Query<'_>,
+    page: Page,
+) -> Result<(), AllocError>
+    ensures { OnOk result (Puts lines.old.items lines.new.items (spec.tasks_part query.now tables.now page)) }
+{
+    let (_, top) = walk(alloc, tables, query, page.to)?;
+    push_table(lines, alloc, tables, top.items(), page)
+}
+
+// The table: of places, or of tasks.
+fn push_main(
+    lines: &mut Vec<Line>,
+    alloc: Global,
+    tables: &Tables,
+    odd: &Odd,
+    query: &Query<'_>,
+    page: Page,
+) -> Result<(), AllocError>
+    ensures { OnOk result (Puts lines.old.items lines.new.items (spec.main_part query.now tables.now odd.now page)) }
+{
+    if query.by_place {
+        push_places(lines, alloc, odd, query, page, None)
+    } else {
+        push_tasks_on(lines, alloc, tables, query, page)
+    }
+}
+
 fn push_all(
     lines: &mut Vec<Line>,
     alloc: Global,
@@ -192,18 +226,17 @@ fn push_all(
     requires { 0 < rows }
     ensures { OnOk result (Puts lines.old.items lines.new.items (spec.frame_by rows canvas query.now tables.now odd.now)) }
 {
-    let page = page_of(rows, 0, shown_count(tables, query));
-    let (states, top) = walk(alloc, tables, query, page.to)?;
-    push_head(lines, alloc, tables, states, odd.count())?;
+    let page = page_of(rows, 0, rows_count(tables, odd, query));
+    push_head(lines, alloc, tables, states_in(tables), odd.count())?;
     push_findings(lines, alloc, canvas, tables, odd)?;
-    push_table(lines, alloc, tables, top.items(), page)?;
+    push_main(lines, alloc, tables, odd, query, page)?;
     push_items(lines, alloc, tables, query, rows)?;
     Ok(())
 }
 
 /// The lines of a screen of tables of which this is odd: the first line, with the moment, the tasks by their states, how many findings
 /// there are and what was lost; that no finding holds now, where it is so; the worst findings, as many as a third of the screen's rows,
-/// and how many more there are; the open tasks of most, as many as have room, and how many there are; and where they were asked for, open
+/// and how many more there are; the first places, or open tasks, as many as have room, and how many there are; and where they were asked for, open
 /// resources and async operations.
 /// `docs/FORMATS.md` has their words.
 ///

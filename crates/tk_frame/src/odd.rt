@@ -1,8 +1,10 @@
 //! What is told of what is odd.
-ghost use Rattle.std.specs.Prelude.{◌≡◌, length, map};
+ghost use Rattle.std.specs.Prelude.{◌≡◌, length, map, option_map, slice_get};
 ghost use Rattle.tk_odd.specs.Findings.{placed};
 ghost use Rattle.tk_frame.specs.Keys.{finding_task};
+ghost use Rattle.tk_frame.specs.Places.{row_of};
 
+use crate::places::{Figures, Place};
 use std::marker::Model;
 use tk_ids::TaskId;
 use tk_odd::Found;
@@ -11,6 +13,7 @@ use tk_odd::Found;
 #[derive(Drop)]
 pub struct Odd {
     findings: Vec<Found>,
+    places: Vec<Place>,
     span: Option<u64>,
     long: u64,
 }
@@ -19,19 +22,27 @@ impl Model for Odd {
     ghost use Rattle.std.specs.Prelude.{map};
     ghost use Rattle.tk_odd.specs.Findings.{placed};
     ghost use Rattle.tk_frame.specs.Findings.{OddView};
+    ghost use Rattle.tk_frame.specs.Places.{row_of};
 
     ghost Value = { OddView };
 
-    ghost view = { λ odd. record { findings = map placed odd.findings.items; span = odd.span; long = odd.long } };
+    ghost view = { λ odd. record {
+      findings = map placed odd.findings.items;
+      places = map row_of odd.places.items;
+      span = odd.span;
+      long = odd.long;
+    } };
 }
 
 impl Odd {
-    /// Findings, worst first; how long the time is from the first line to the last, where one came; and from when on a poll is a long one.
-    pub fn new(findings: Vec<Found>, span: Option<u64>, long: u64) -> Odd
-        ensures { result ≡ record { findings = map placed findings.items; span = span; long = long } }
+    /// Findings, worst first; the places, as `places_of` orders them; how long the time is from the first line to the last, where one came; and from when
+    /// on a poll is a long one.
+    pub fn new(findings: Vec<Found>, places: Vec<Place>, span: Option<u64>, long: u64) -> Odd
+        ensures { result ≡ record { findings = map placed findings.items; places = map row_of places.items; span = span; long = long } }
     {
         Odd {
             findings,
+            places,
             span,
             long,
         }
@@ -59,6 +70,21 @@ impl Odd {
         ensures { result ≡ length self.now.findings }
     {
         self.findings.len()
+    }
+
+    /// How many places there are.
+    pub fn place_count(&self) -> usize
+        ensures { result ≡ length self.now.places }
+    {
+        self.places.len()
+    }
+
+    /// The text and the figures of the place that stands at an index, from 0 on.
+    pub fn place_at(&self, i: usize) -> Option<(&[u8], Figures)>
+        ensures { option_map (λ p. (p.0.now, p.1)) result ≡ slice_get self.now.places i }
+    {
+        let Place { site, figures } = self.places.as_slice().get(i)?;
+        Some((site.as_slice(), *figures))
     }
 
     /// How long the time is from the first line to the last; `None` where no line came.

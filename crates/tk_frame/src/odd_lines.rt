@@ -235,7 +235,8 @@ fn push_own(
     }
 }
 
-fn push_own_each(
+/// Pushes those of these findings that are about this place, each with its number and with what to do.
+pub(crate) fn push_own_each(
     lines: &mut Vec<Line>,
     alloc: Global,
     tables: &Tables,

@@ -166,3 +166,20 @@ pub(crate) fn put_page(out: &mut String, page: Page) -> Result<(), AllocError>
     put_from(out, page.from)?;
     Ok(())
 }
+
+fn put_place_counts(out: &mut String, page: Page) -> Result<(), AllocError>
+    ensures { OnOk result (Puts (string_bytes out.old) (string_bytes out.new) (spec.place_counts_text page)) }
+{
+    let some = page.to.saturating_sub(page.from);
+    let all = page.all;
+    write!(out, "{some} of {all} places")
+}
+
+/// Puts how many places a page has, and of how many.
+pub(crate) fn put_places(out: &mut String, page: Page) -> Result<(), AllocError>
+    ensures { OnOk result (Puts (string_bytes out.old) (string_bytes out.new) (spec.places_text page)) }
+{
+    put_place_counts(out, page)?;
+    put_from(out, page.from)?;
+    Ok(())
+}

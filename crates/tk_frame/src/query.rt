@@ -2,6 +2,8 @@
 ghost use Rattle.std.specs.Prelude.{◌≡◌};
 ghost use Rattle.tk_frame.specs.Queries as spec;
 
+use crate::places::Figures;
+use crate::site_parts::{location_in, name_in};
 use crate::typed::Typed;
 use tk_core::TaskRow;
 use tk_stream::{Op, Resource, Task};
@@ -19,6 +21,8 @@ pub enum Column {
     Wakes,
     /// How many of its wakes came from within it.
     SelfWakes,
+    /// For how long others waited while the tasks of a place ran. Tasks that are shown by themselves are sorted as by `Busy`.
+    HeldUp,
 }
 
 /// What a screen is asked for. Only open items are shown.
@@ -37,6 +41,8 @@ pub struct Query<'a> {
     pub typed: Typed,
     /// Whether resources and async operations are shown too.
     pub resources: bool,
+    /// Whether places are shown in the place of tasks. Both texts then stand in where the tasks of a place were spawned, or in their name.
+    pub by_place: bool,
 }
 
 // The number of a task in a column, at a moment.
@@ -49,6 +55,27 @@ fn number_in(column: Column, row: &TaskRow, now: u64) -> u64
         Column::Polls => row.polls,
         Column::Wakes => row.wakes,
         Column::SelfWakes => row.self_wakes,
+        Column::HeldUp => row.busy_until(now),
+    }
+}
+
+// The number of a place in a column.
+fn place_number(column: Column, figures: &Figures) -> u64
+    ensures { result ≡ spec.place_number column figures.now }
+{
+    let Figures {
+        number: _,
+        sums,
+        held_up,
+        longest: _,
+    } = *figures;
+    match column {
+        Column::Busy => sums.busy,
+        Column::Sched => sums.waited,
+        Column::Polls => sums.polls,
+        Column::Wakes => sums.wakes,
+        Column::SelfWakes => sums.own,
+        Column::HeldUp => held_up,
     }
 }
 
@@ -104,6 +131,31 @@ pub(crate) fn task_key(query: &Query<'_>, task: &Task, now: u64) -> Option<u64>
 {
     if is_shown(query, task) {
         let number = number_in(query.sort, &task.row, now);
+        Some(rank_of(query.rising, number))
+    } else {
+        None
+    }
+}
+
+fn names_place(text: &[u8], site: &[u8]) -> bool
+    ensures { result ≡ spec.names_place text.now site.now }
+{
+    stands_in(text, location_in(site)) || stands_in(text, name_in(site))
+}
+
+/// Whether a place is shown, on this screen or on another.
+pub(crate) fn is_place_shown(query: &Query<'_>, site: &[u8], figures: &Figures) -> bool
+    ensures { result ≡ spec.is_place_shown query.now (site.now, figures.now) }
+{
+    names_place(query.filter, site) && names_place(query.typed.text(), site)
+}
+
+/// The key of a place that is shown.
+pub(crate) fn place_key(query: &Query<'_>, site: &[u8], figures: &Figures) -> Option<u64>
+    ensures { result ≡ spec.place_key query.now (site.now, figures.now) }
+{
+    if is_place_shown(query, site, figures) {
+        let number = place_number(query.sort, figures);
         Some(rank_of(query.rising, number))
     } else {
         None

@@ -39,8 +39,8 @@ fn and_task(states: States, row: &TaskRow) -> States
     states
 }
 
-// Offers an item at a place, where it has a key.
-fn offer(top: &mut Top, key: Option<u64>, place: usize)
+/// Offers an item at a place, where it has a key.
+pub(crate) fn offer(top: &mut Top, key: Option<u64>, place: usize)
     ensures items { top.new.items ≡ inner.kept_with key place top.old.room top.old.items }
     ensures room { top.new.room ≡ top.old.room }
 {
@@ -95,10 +95,36 @@ pub fn walk(
     Ok((states, top))
 }
 
+fn with_task(states: States, tables: &Tables, place: usize) -> States
+    requires { inner.total states + 1 < 2 ^ 64 }
+    ensures { result ≡ option_map_or (inner.states_with states) (slice_get tables.now.tasks place) states }
+{
+    match tables.task_at(place) {
+        Some(task) => and_task(states, &task.row),
+        None => states,
+    }
+}
+
+/// How many tasks there are in each state.
+pub(crate) fn states_in(tables: &Tables) -> States
+    ensures { result ≡ states.states_of tables.now.tasks }
+{
+    let mut states = States {
+        polling: 0,
+        scheduled: 0,
+        idle: 0,
+        closed: 0,
+    };
+    for place in 0..tables.task_count() {
+        states = with_task(states, tables, place);
+    }
+    states
+}
+
 // Counts the task at a place, if it is shown.
 fn count_task(count: usize, query: &Query<'_>, tables: &Tables, place: usize) -> usize
     requires { count + 1 < 2 ^ 64 }
-    ensures { result ≡ option_map_or (inner.counted_with query.now count) (slice_get tables.now.tasks place) count }
+    ensures { result ≡ option_map_or (inner.counted_with (spec.is_shown query.now) count) (slice_get tables.now.tasks place) count }
 {
     match tables.task_at(place) {
         Some(task) => if is_shown(query, task) {

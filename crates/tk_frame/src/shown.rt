@@ -13,12 +13,15 @@ use crate::lines::{push_head, push_heading, push_items, push_page, push_tasks, r
 use crate::odd::Odd;
 use crate::odd_lines::push_findings;
 use crate::pages::{Page, chosen_of, page_of, table_rows};
+use crate::place_lines::push_places;
+use crate::place_ranks::rows_count;
+use crate::place_view::push_place_view;
 use crate::query::{Column, Query};
-use crate::ranks::{shown_count, walk};
+use crate::ranks::{states_in, walk};
 use crate::tasks::{chosen_line, task_heading};
 use crate::typed::Typed;
 use std::alloc::{AllocError, Global};
-use tk_screen::{Canvas, Line, Ranked, Style};
+use tk_screen::{Canvas, Line, Ranked, Style, put_duration};
 use tk_stream::Tables;
 
 fn column_word(column: Column) -> &'static str
@@ -30,6 +33,20 @@ fn column_word(column: Column) -> &'static str
         Column::Polls => "polls",
         Column::Wakes => "wakes",
         Column::SelfWakes => "self-wakes",
+        Column::HeldUp => "held-up",
+    }
+}
+
+// By which column rows are sorted.
+fn sorted_by(by_place: bool, column: Column) -> Column
+    ensures { result ≡ spec.sorted_by by_place column }
+{
+    if by_place {
+        return column;
+    }
+    match column {
+        Column::HeldUp => Column::Busy,
+        other => other,
     }
 }
 
@@ -39,10 +56,47 @@ fn order_word(rising: bool) -> &'static str
     if rising { ", least first" } else { "" }
 }
 
-fn paused_word(paused: bool) -> &'static str
-    ensures { result.now ≡ spec.paused_word paused }
+fn by_word(by_place: bool) -> &'static str
+    ensures { result.now ≡ spec.by_word by_place }
 {
-    if paused { "  paused" } else { "" }
+    if by_place { "by place, " } else { "" }
+}
+
+fn put_lag(out: &mut String, behind: u64) -> Result<(), AllocError>
+    ensures { OnOk result (Puts (string_bytes out.old) (string_bytes out.new) (spec.lag_text behind)) }
+{
+    put_text(out, ", ")?;
+    put_duration(out, behind)?;
+    put_text(out, " behind")?;
+    Ok(())
+}
+
+// Puts how far what is shown lies behind what came, where it does.
+fn put_behind(out: &mut String, behind: u64) -> Result<(), AllocError>
+    ensures { OnOk result (Puts (string_bytes out.old) (string_bytes out.new) (spec.behind_word behind)) }
+{
+    if behind == 0 {
+        return Ok(());
+    }
+    put_lag(out, behind)
+}
+
+fn put_pause(out: &mut String, behind: u64) -> Result<(), AllocError>
+    ensures { OnOk result (Puts (string_bytes out.old) (string_bytes out.new) (spec.pause_text behind)) }
+{
+    put_text(out, "  paused")?;
+    put_behind(out, behind)?;
+    Ok(())
+}
+
+// Puts that screens stay as they are, where they do.
+fn put_paused(out: &mut String, paused: bool, behind: u64) -> Result<(), AllocError>
+    ensures { OnOk result (Puts (string_bytes out.old) (string_bytes out.new) (spec.paused_word paused behind)) }
+{
+    if paused {
+        return put_pause(out, behind);
+    }
+    Ok(())
 }
 
 fn put_text_of(out: &mut String, typed: &Typed, end: &str) -> Result<(), AllocError>
@@ -67,29 +121,35 @@ fn put_filter(out: &mut String, types: bool, typed: &Typed) -> Result<(), AllocE
     put_text_of(out, typed, "")
 }
 
-fn put_asked(out: &mut String, asked: &Asked) -> Result<(), AllocError>
-    ensures { OnOk result (Puts (string_bytes out.old) (string_bytes out.new) (spec.asked_text asked.now)) }
+fn put_asked(out: &mut String, asked: &Asked, behind: u64) -> Result<(), AllocError>
+    ensures { OnOk result (Puts (string_bytes out.old) (string_bytes out.new) (spec.asked_text asked.now behind)) }
 {
+    put_text(out, by_word(asked.by_place))?;
     put_text(out, "sorted by ")?;
-    put_text(out, column_word(asked.sort))?;
+    put_text(out, column_word(sorted_by(asked.by_place, asked.sort)))?;
     put_text(out, order_word(asked.rising))?;
     put_filter(out, asked.types, &asked.typed)?;
-    put_text(out, paused_word(asked.paused))?;
+    put_paused(out, asked.paused, behind)?;
     put_text(out, "  ? shows the keys")?;
     Ok(())
 }
 
-fn push_asked(lines: &mut Vec<Line>, alloc: Global, asked: &Asked) -> Result<(), AllocError>
-    ensures { OnOk result (Puts lines.old.items lines.new.items (texts.plain (spec.asked_text asked.now) ∷ [])) }
+fn push_asked(
+    lines: &mut Vec<Line>,
+    alloc: Global,
+    asked: &Asked,
+    behind: u64,
+) -> Result<(), AllocError>
+    ensures { OnOk result (Puts lines.old.items lines.new.items (texts.plain (spec.asked_text asked.now behind) ∷ [])) }
 {
     let mut text = String::new(alloc);
-    put_asked(&mut text, asked)?;
+    put_asked(&mut text, asked, behind)?;
     lines.push(Line::new(Style::Plain, text))?;
     Ok(())
 }
 
 fn push_columns(lines: &mut Vec<Line>, alloc: Global) -> Result<(), AllocError>
-    ensures { OnOk result (Puts lines.old.items lines.new.items (take 7 spec.keys_part)) }
+    ensures { OnOk result (Puts lines.old.items lines.new.items (take 8 spec.keys_part)) }
 {
     push_heading(lines, alloc, "KEY    WHAT IT DOES")?;
     push_plain(
@@ -117,12 +177,17 @@ fn push_columns(lines: &mut Vec<Line>, alloc: Global) -> Result<(), AllocError>
         alloc,
         "o      sorts them by how often they woke themselves",
     )?;
+    push_plain(
+        lines,
+        alloc,
+        "h      sorts places by how long others waited while their tasks ran",
+    )?;
     push_plain(lines, alloc, "v      sorts them the other way round")?;
     Ok(())
 }
 
 fn push_steps(lines: &mut Vec<Line>, alloc: Global) -> Result<(), AllocError>
-    ensures { OnOk result (Puts lines.old.items lines.new.items (take 5 (drop 7 spec.keys_part))) }
+    ensures { OnOk result (Puts lines.old.items lines.new.items (take 5 (drop 8 spec.keys_part))) }
 {
     push_plain(
         lines,
@@ -142,7 +207,7 @@ fn push_steps(lines: &mut Vec<Line>, alloc: Global) -> Result<(), AllocError>
     push_plain(
         lines,
         alloc,
-        "Enter  shows all of the chosen task, or not any more",
+        "Enter  shows all of the chosen task or place, or not any more",
     )?;
     push_plain(
         lines,
@@ -153,13 +218,14 @@ fn push_steps(lines: &mut Vec<Line>, alloc: Global) -> Result<(), AllocError>
 }
 
 fn push_others(lines: &mut Vec<Line>, alloc: Global) -> Result<(), AllocError>
-    ensures { OnOk result (Puts lines.old.items lines.new.items (drop 12 spec.keys_part)) }
+    ensures { OnOk result (Puts lines.old.items lines.new.items (drop 13 spec.keys_part)) }
 {
     push_plain(
         lines,
         alloc,
         "/      shows only tasks that a text names, by their name or their file; Enter ends it",
     )?;
+    push_plain(lines, alloc, "g      shows places, or tasks again")?;
     push_plain(
         lines,
         alloc,
@@ -269,6 +335,40 @@ fn push_choices(
     Ok(())
 }
 
+fn push_tasks_on(
+    lines: &mut Vec<Line>,
+    alloc: Global,
+    tables: &Tables,
+    query: &Query<'_>,
+    page: Page,
+    chosen: usize,
+) -> Result<(), AllocError>
+    ensures { OnOk result (Puts lines.old.items lines.new.items (spec.page_at chosen query.now tables.now page)) }
+{
+    let (_, top) = walk(alloc, tables, query, page.to)?;
+    push_choices(lines, alloc, tables, top.items(), page, chosen)
+}
+
+// The table: of places, or of tasks, one of which is chosen.
+fn push_main(
+    lines: &mut Vec<Line>,
+    alloc: Global,
+    tables: &Tables,
+    odd: &Odd,
+    query: &Query<'_>,
+    page: Page,
+    chosen: usize,
+) -> Result<(), AllocError>
+    ensures { OnOk result (Puts lines.old.items lines.new.items (spec.choice_part chosen query.now tables.now odd.now page)) }
+{
+    let row = chosen_of(chosen, page.all).saturating_sub(page.from);
+    if query.by_place {
+        push_places(lines, alloc, odd, query, page, Some(row))
+    } else {
+        push_tasks_on(lines, alloc, tables, query, page, chosen)
+    }
+}
+
 fn push_tables(
     lines: &mut Vec<Line>,
     alloc: Global,
@@ -282,11 +382,10 @@ fn push_tables(
     requires { 0 < rows }
     ensures { OnOk result (Puts lines.old.items lines.new.items (spec.choice_by rows chosen canvas query.now tables.now odd.now)) }
 {
-    let page = page_of(rows, chosen, shown_count(tables, query));
-    let (states, top) = walk(alloc, tables, query, page.to)?;
-    push_head(lines, alloc, tables, states, odd.count())?;
+    let page = page_of(rows, chosen, rows_count(tables, odd, query));
+    push_head(lines, alloc, tables, states_in(tables), odd.count())?;
     push_findings(lines, alloc, canvas, tables, odd)?;
-    push_choices(lines, alloc, tables, top.items(), page, chosen)?;
+    push_main(lines, alloc, tables, odd, query, page, chosen)?;
     push_items(lines, alloc, tables, query, rows)?;
     Ok(())
 }
@@ -312,11 +411,12 @@ fn push_shown(
         }
         Shown::Keys => push_keys(lines, alloc),
         Shown::Task(id) => push_details(lines, alloc, tables, odd, id),
+        Shown::Place(number) => push_place_view(lines, alloc, tables, odd, number),
     }
 }
 
-/// The lines of a screen that keys ask for, of tables of which this is odd: how tasks are sorted and whether it is paused, and then the
-/// tables as `frame` shows them, with the page of the chosen task; or what each key does; or all that is told of a task. `docs/FORMATS.md` has
+/// The lines of a screen that keys ask for, of tables of which this is odd: how tasks are sorted, whether it is paused and by how many nanoseconds these
+/// tables then lie behind what came, and then the tables as `frame` shows them, with the page of the chosen task; or what each key does; or all that is told of a task, or of a place. `docs/FORMATS.md` has
 /// their words.
 ///
 /// It fails where there is no memory.
@@ -327,11 +427,12 @@ pub fn asked_frame(
     odd: &Odd,
     query: &Query<'_>,
     asked: &Asked,
+    behind: u64,
 ) -> Result<Vec<Line>, AllocError>
-    ensures { IfOk result (λ lines. lines.items ≡ spec.lines_of asked.now canvas query.now tables.now odd.now) }
+    ensures { IfOk result (λ lines. lines.items ≡ spec.lines_of asked.now behind canvas query.now tables.now odd.now) }
 {
     let mut lines = Vec::new(alloc);
-    push_asked(&mut lines, alloc, asked)?;
+    push_asked(&mut lines, alloc, asked, behind)?;
     push_shown(&mut lines, alloc, canvas, tables, odd, query, asked)?;
     Ok(lines)
 }

@@ -105,10 +105,10 @@ impl<R: Wait + Clock> Inputs<'_, R> {
 }
 
 impl<R: Wait + Clock> Source for Inputs<'_, R> {
-    fn next(&mut self, room: &mut [u8], is_paused: bool) -> Option<Event> {
+    fn next(&mut self, room: &mut [u8]) -> Option<Event> {
         match self.hear() {
             Some(Message::Piece(bytes)) => {
-                self.is_new = self.is_new || !is_paused;
+                self.is_new = true;
                 Some(put_piece(bytes.as_slice(), room))
             }
             Some(Message::Broken) => Some(Event::Broken),

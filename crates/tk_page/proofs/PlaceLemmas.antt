@@ -5,6 +5,7 @@ use Rattle.std.specs.List.{list_any, zip}
 use Rattle.std.specs.Option.{option_map_or}
 use Rattle.std.specs.Str.{is_utf8}
 use Rattle.tk_core.specs.Lists.{capped}
+use Rattle.tk_core.specs.declared.op.row.OpRow.{OpRow}
 use Rattle.tk_core.specs.declared.task.row.TaskRow.{TaskRow}
 use Rattle.tk_ids.specs.declared.attr.AttrInfo.{AttrInfo}
 use Rattle.tk_ids.specs.declared.attr.AttrValue.{AttrValue}
@@ -13,7 +14,7 @@ use Rattle.tk_ids.specs.declared.info.Dropped.{Dropped}
 use Rattle.tk_stream.specs.declared.tables.op.Op.{Op}
 use Rattle.tk_stream.specs.declared.tables.resource.Resource.{Resource}
 use Rattle.tk_stream.specs.declared.tables.task.Task.{Task}
-use Rattle.tk_stream.specs.Tables.{TablesView, counts_of, task_with}
+use Rattle.tk_stream.specs.Tables.{TablesView, counts_of, resource_with, task_with}
 use Rattle.tk_paper.specs.Parts.{Bit, after_all, text, span}
 use Rattle.tk_paper.specs.declared.marks.Place.TheVariants as places
 use Rattle.tk_page.specs.declared.figures.Scale.{Scale}
@@ -40,6 +41,7 @@ use Rattle.tk_page.specs.Courses.{Courses}
 use Rattle.tk_page.specs.Drawn.{came, sections}
 use Rattle.tk_page.specs.Figures.{each_of, watched, wide_of}
 use Rattle.tk_page.specs.Heads as heads
+use Rattle.tk_page.specs.Idle as idle
 use Rattle.tk_page.specs.Items as items
 use Rattle.tk_page.specs.Odd.{carded, has_sign, is_lost, is_odd_at_all, row_kinds, says}
 use Rattle.tk_page.specs.Places.{id, more}
@@ -51,6 +53,7 @@ use Rattle.tk_core.specs.Lasting.{busy_until, sched_until}
 use Rattle.tk_page.specs.Samples.{sample_of}
 use Rattle.tk_page.specs.Strips as strips
 use Rattle.tk_odd.specs.Waiting.{waiting_of}
+use Rattle.tk_page.specs.Values as values
 use Rattle.tk_page.specs.Waiting.{waits_from_last_wake}
 use Rattle.tk_page.proofs.Leading.{Leads, bits_to, cut_to, each_to, none_to, then_to}
 
@@ -217,17 +220,99 @@ lost_if_to : (scale : Scale) (x : TaskRow) (lost : Bool) → Between (strips.los
 unfolding after_all
 lost_if_to scale x lost = either lost (record { is = refl }) none_between
 
+-- what a script reads of the steps stands in a value of the first tag
+reading_to : (scale : Scale) (step : Step) → Within (strips.reading scale step)
+unfolding after_all
+reading_to scale step = record { is = refl }
+
+readings_to : (scale : Scale) (steps : List Step) → Leads (Some places.Tag) (strips.readings scale steps) (Some places.Tag)
+unfolding after_all
+readings_to scale steps = cut_to 1 refl (then_to (each_to (strips.reading scale) (reading_to scale) steps) (record { is = refl }))
+
+sum_reading_to : (scale : Scale) (step : Step) → Within (strips.sum_reading scale step)
+unfolding after_all
+sum_reading_to scale step = record { is = refl }
+
+sum_readings_to : (scale : Scale) (steps : List Step) → Leads (Some places.Tag) (strips.sum_readings scale steps) (Some places.Tag)
+unfolding after_all
+sum_readings_to scale steps = cut_to 1 refl (then_to (each_to (strips.sum_reading scale) (sum_reading_to scale) steps) (record { is = refl }))
+
 strip_to : (scale : Scale) (t : Task) (last : Sample) (steps : List Step) (lost : Bool) → Between (strips.strip_of scale t last steps lost)
 unfolding after_all
 strip_to scale t last steps lost =
-    then_to (bits_to (strips.drawing (codes "strip") (wide_of scale) 22) refl) (then_to (bits_to (strips.words scale t last) refl) (then_to (bits_to (strips.alive scale t.row) refl)
-    (then_to (lost_if_to scale t.row lost) (then_to (paths_to scale (strips.most_wakes steps) steps) (record { is = refl })))))
+    then_to (bits_to (strips.drawing (codes "strip") (wide_of scale) 22) refl) (then_to (readings_to scale steps) (then_to (bits_to (strips.words scale t last) refl)
+    (then_to (bits_to (strips.alive scale t.row) refl) (then_to (lost_if_to scale t.row lost) (then_to (paths_to scale (strips.most_wakes steps) steps) (record { is = refl }))))))
 
 sum_to : (scale : Scale) (height : Height) (steps : List Step) → Between (strips.sum_drawing scale height steps)
 unfolding after_all
 sum_to scale height steps =
-    then_to (bits_to (strips.drawing (codes "total") (wide_of scale) 30) refl) (then_to (bits_to (strips.sum_words height) refl)
-    (then_to (each_to (λ step. strips.box (strips.sum_box scale height.top step)) (λ step. box_to (strips.sum_box scale height.top step)) steps) (record { is = refl })))
+    then_to (bits_to (strips.drawing (codes "total") (wide_of scale) 30) refl) (then_to (sum_readings_to scale steps) (then_to (bits_to (strips.sum_words height) refl)
+    (then_to (each_to (λ step. strips.box (strips.sum_box scale height.top step)) (λ step. box_to (strips.sum_box scale height.top step)) steps) (record { is = refl }))))
+
+-- ---- what idle tasks wait for
+
+value_to : (v : AttrValue) → Between (values.value_of v)
+unfolding after_all
+value_to (U64 n) = record { is = refl }
+value_to (Flag true) = record { is = refl }
+value_to (Flag false) = record { is = refl }
+value_to (I64 n) = record { is = refl }
+
+unit_to : (name : Option (List ℕ)) → Between (values.unit name)
+unfolding after_all
+unit_to None = none_between
+unit_to (Some name) = record { is = refl }
+
+short_attr_to : (a : AttrInfo × AttrValue) → Between (idle.short_attr a)
+unfolding after_all
+short_attr_to (info, v) = cut_to 3 refl (then_to (value_to v) (unit_to info.unit))
+
+short_attrs_to : (infos : List AttrInfo) (values : List AttrValue) → Between (idle.short_attrs infos values)
+short_attrs_to infos values = each_to idle.short_attr short_attr_to (zip infos values)
+
+in_op_to : (o : Op) → Between (idle.in_op o)
+unfolding after_all
+in_op_to o = cut_to 2 refl (short_attrs_to o.info.attrs o.row.attrs)
+
+used_to : (r : Resource) → Between (idle.used r)
+unfolding after_all
+used_to r = cut_to 3 refl (then_to (bits_to (id r.info.id) refl) (short_attrs_to r.info.attrs r.row.attrs))
+
+used_if_to : (r : Option Resource) → Between (option_map_or idle.used r [])
+used_if_to None = none_between
+used_if_to (Some r) = used_to r
+
+-- a line within a box ends it
+since_to : (scale : Scale) (x : OpRow) → Between (idle.since scale x)
+unfolding after_all
+since_to scale x = record { is = refl }
+
+awaited_op_to : (scale : Scale) (tables : TablesView) (o : Op) → Between (idle.awaited_op scale tables o)
+unfolding after_all
+awaited_op_to scale tables o =
+    cut_to 1 refl (then_to (in_op_to o) (then_to (used_if_to (resource_with o.info.resource tables.resources)) (since_to scale o.row)))
+
+some_of_to : (line : Op → List Bit) → ((o : Op) → Between (line o)) → (ops : List Op) → Between (idle.some_of line ops)
+some_of_to line h ops = then_to (each_to line h (take 5 ops)) (more_to (length ops) 5 (codes " more"))
+
+awaited_to : (scale : Scale) (tables : TablesView) (t : Task) → Between (idle.awaited scale tables t)
+awaited_to scale tables t =
+    either (idle.is_idle t.row) (some_of_to (idle.awaited_op scale tables) (awaited_op_to scale tables) (filter (idle.is_awaited_by t) tables.ops)) none_between
+
+waiter_line_to : (scale : Scale) (o : Op) (t : Task) → Between (idle.waiter_line scale o t)
+unfolding after_all
+waiter_line_to scale o t =
+    cut_to 1 refl (then_to (bits_to (cards.link t) refl) (cut_to 1 refl (then_to (in_op_to o) (since_to scale o.row))))
+
+waiter_to : (scale : Scale) (tasks : List Task) (o : Op) → Between (idle.waiter scale tasks o)
+waiter_to scale tasks o = by (idle.waiter_of tasks o)
+  where
+    by : (w : Option Task) → Between (option_map_or (idle.waiter_line scale o) w [])
+    by None = none_between
+    by (Some t) = waiter_line_to scale o t
+
+waiters_to : (scale : Scale) (tables : TablesView) (r : Resource) → Between (idle.waiters scale tables r)
+waiters_to scale tables r = some_of_to (idle.waiter scale tables.tasks) (waiter_to scale tables.tasks) (filter (idle.waits_at tables.tasks r) tables.ops)
 
 -- ---- rows
 
@@ -265,30 +350,30 @@ numbers_to scale x =
     then_to (bits_to (rows.share_cell (codes "busy") (busy_until x scale.now) (watched scale)) refl) (then_to (bits_to (rows.share_cell (codes "wait") (sched_until x scale.now) (watched scale)) refl)
     (then_to (mean_cell_to (busy_until x scale.now) x.polls) (bits_to (rows.counts x) refl)))
 
-row_to : (scale : Scale) (signs : Signs) (samples : List Sample) (t : Task) → Between (rows.row_of scale signs samples t)
+row_to : (scale : Scale) (signs : Signs) (tables : TablesView) (samples : List Sample) (t : Task) → Between (rows.row_of scale signs tables samples t)
 unfolding after_all
-row_to scale signs samples t =
-    then_to (bits_to (rows.name t (is_odd_at_all signs t)) refl) (then_to (badges_to signs t) (then_to (bits_to (rows.state t.row) refl)
-    (then_to (strip_to scale t (sample_of t.row scale.now) (strips.steps_of t.row.created samples (sample_of t.row scale.now)) (is_lost t)) (cut_to 1 refl (then_to (numbers_to scale t.row) (record { is = refl }))))))
+row_to scale signs tables samples t =
+    then_to (bits_to (rows.name t (is_odd_at_all signs t)) refl) (then_to (badges_to signs t) (then_to (awaited_to scale tables t) (then_to (bits_to (rows.state t.row) refl)
+    (then_to (strip_to scale t (sample_of t.row scale.now) (strips.steps_of t.row.created samples (sample_of t.row scale.now)) (is_lost t)) (cut_to 1 refl (then_to (numbers_to scale t.row) (record { is = refl })))))))
 
-row_at_to : (scale : Scale) (signs : Signs) (courses : Courses) (tasks : List Task) (rank : Rank) → Between (rows.row_at scale signs courses tasks rank)
-row_at_to scale signs courses tasks rank = by (slice_get tasks rank.place)
+row_at_to : (scale : Scale) (signs : Signs) (courses : Courses) (tables : TablesView) (rank : Rank) → Between (rows.row_at scale signs courses tables rank)
+row_at_to scale signs courses tables rank = by (slice_get tables.tasks rank.place)
   where
-    by : (o : Option Task) → Between (option_map_or (rows.row scale signs courses) o [])
+    by : (o : Option Task) → Between (option_map_or (rows.row scale signs courses tables) o [])
     by None = none_between
-    by (Some t) = row_to scale signs (courses.kept t.info.id) t
+    by (Some t) = row_to scale signs tables (courses.kept t.info.id) t
 
-table_to : (scale : Scale) (signs : Signs) (courses : Courses) (tasks : List Task) (ranks : List Rank) (height : Height) → Between (rows.table scale signs courses tasks ranks height)
+table_to : (scale : Scale) (signs : Signs) (courses : Courses) (tables : TablesView) (ranks : List Rank) (height : Height) → Between (rows.table scale signs courses tables ranks height)
 unfolding after_all
-table_to scale signs courses tasks ranks height =
-    then_to (table_head_to scale height (strips.steps_of scale.start courses.sums courses.last)) (then_to (each_to (rows.row_at scale signs courses tasks) (row_at_to scale signs courses tasks) (take 200 ranks)) (record { is = refl }))
+table_to scale signs courses tables ranks height =
+    then_to (table_head_to scale height (strips.steps_of scale.start courses.sums courses.last)) (then_to (each_to (rows.row_at scale signs courses tables) (row_at_to scale signs courses tables) (take 200 ranks)) (record { is = refl }))
 
-tasks_to : (scale : Scale) (signs : Signs) (courses : Courses) (tasks : List Task) (ranks : List Rank) (height : Height)
-    → Between (rows.tasks_section scale signs courses tasks ranks height)
+tasks_to : (scale : Scale) (signs : Signs) (courses : Courses) (tables : TablesView) (ranks : List Rank) (height : Height)
+    → Between (rows.tasks_section scale signs courses tables ranks height)
 unfolding after_all
-tasks_to scale signs courses tasks ranks height =
-    then_to (bits_to rows.tasks_head refl) (then_to (table_to scale signs courses tasks ranks height)
-    (then_to (more_to (length tasks) 200 (codes " tasks more, which ran and waited less")) (record { is = refl })))
+tasks_to scale signs courses tables ranks height =
+    then_to (bits_to rows.tasks_head refl) (then_to (table_to scale signs courses tables ranks height)
+    (then_to (more_to (length tables.tasks) 200 (codes " tasks more, which ran and waited less")) (record { is = refl })))
 
 -- ---- places
 
@@ -348,18 +433,6 @@ unfolding after_all
 part_of_to words None = none_between
 part_of_to words (Some parent) = record { is = refl }
 
-value_to : (v : AttrValue) → Between (items.value_of v)
-unfolding after_all
-value_to (U64 n) = record { is = refl }
-value_to (Flag true) = record { is = refl }
-value_to (Flag false) = record { is = refl }
-value_to (I64 n) = record { is = refl }
-
-unit_to : (name : Option (List ℕ)) → Between (items.unit name)
-unfolding after_all
-unit_to None = none_between
-unit_to (Some name) = record { is = refl }
-
 attr_to : (a : AttrInfo × AttrValue) → Between (items.attr a)
 unfolding after_all
 attr_to (info, v) = cut_to 5 refl (then_to (value_to v) (then_to (unit_to info.unit) (record { is = refl })))
@@ -395,17 +468,17 @@ ops_of_to tasks live closed = either (nat_eq (length live) 0 && nat_eq (length c
 ops_to : (tables : TablesView) (r : Resource) → Between (items.ops tables r)
 ops_to tables r = ops_of_to tables.tasks (filter (items.is_of r true) tables.ops) (filter (items.is_of r false) tables.ops)
 
-resource_to : (tables : TablesView) (r : Resource) → Between (items.resource tables r)
+resource_to : (scale : Scale) (tables : TablesView) (r : Resource) → Between (items.resource scale tables r)
 unfolding after_all
-resource_to tables r =
+resource_to scale tables r =
     then_to (bits_to (items.resource_name r) refl) (then_to (part_of_to items.part_words r.info.parent) (cut_to 2 refl (then_to (attrs_to r.info.attrs r.row.attrs)
-    (then_to (bits_to (items.polls (counts_of r.info.id tables.counts)) refl) (then_to (ops_to tables r) (record { is = refl }))))))
+    (then_to (waiters_to scale tables r) (then_to (bits_to (items.polls (counts_of r.info.id tables.counts)) refl) (then_to (ops_to tables r) (record { is = refl })))))))
 
-resources_to : (tables : TablesView) → Between (items.resources_section tables)
+resources_to : (scale : Scale) (tables : TablesView) → Between (items.resources_section scale tables)
 unfolding after_all
-resources_to tables =
+resources_to scale tables =
     either (nat_eq (length tables.resources) 0) none_between
-    (cut_to 8 refl (then_to (each_to (items.resource tables) (resource_to tables) (take 50 tables.resources)) (then_to (more_to (length tables.resources) 50 (codes " more")) (record { is = refl }))))
+    (cut_to 8 refl (then_to (each_to (items.resource scale tables) (resource_to scale tables) (take 50 tables.resources)) (then_to (more_to (length tables.resources) 50 (codes " more")) (record { is = refl }))))
 
 -- ---- the head, and the page
 
@@ -434,4 +507,4 @@ sections_to title scale signs courses listed tables site_ranks ranks height = pa
   page : Between (sections title scale signs courses listed tables site_ranks ranks height)
   page =
       then_to (banner_to signs courses.lines tables) (then_to (header_to title (watched scale) courses.lines courses.gone tables) (cut_to 1 refl (then_to (odd_to scale signs courses tables)
-      (then_to (sites_to (came courses tables) listed site_ranks) (then_to (tasks_to scale signs courses tables.tasks ranks height) (then_to (resources_to tables) (record { is = refl })))))))
+      (then_to (sites_to (came courses tables) listed site_ranks) (then_to (tasks_to scale signs courses tables ranks height) (then_to (resources_to scale tables) (record { is = refl })))))))

@@ -8,7 +8,7 @@ use Rattle.tk_odd.specs.declared.finding.Found.{Found}
 use Rattle.tk_odd.specs.declared.finding.OddKind.{OddKind}
 use Rattle.tk_stream.specs.Tables.{TablesView}
 use Rattle.tk_stream.specs.declared.tables.task.Task.{Task}
-use Rattle.tk_paper.specs.Parts.{Bit, text, number, span, close, class}
+use Rattle.tk_paper.specs.Parts.{Bit, text, count, span, close, class}
 use Rattle.tk_paper.specs.declared.marks.Tag.TheVariants as tags
 use Rattle.tk_page.specs.declared.oddities.Signs.{Signs}
 use Rattle.tk_odd.specs.declared.waiting.Waiting.{Waiting}
@@ -34,7 +34,7 @@ doing now is_now kind (Some t) = doing_of now is_now kind t
 abbrev pub waiting : Waiting → List Bit
 waiting w =
     if w.count == 0 then [] else
-    text (codes "; ") ∷ number w.count ∷ text (if w.count == 1 then codes " task waits" else codes " tasks wait") ∷ text (codes ", the longest for ") ∷ span w.longest ∷ []
+    text (codes "; ") ∷ count w.count ∷ text (if w.count == 1 then codes " task waits" else codes " tasks wait") ∷ text (codes ", the longest for ") ∷ span w.longest ∷ []
 
 -- the begin of a banner
 abbrev pub start_banner : List Bit

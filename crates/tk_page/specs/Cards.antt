@@ -13,7 +13,7 @@ use Rattle.tk_odd.specs.declared.finding.OddKind.{OddKind}
 use Rattle.tk_stream.specs.Spelling.{kind_text}
 use Rattle.tk_stream.specs.Tables.{TablesView, task_with}
 use Rattle.tk_stream.specs.declared.tables.task.Task.{Task}
-use Rattle.tk_paper.specs.Parts.{Bit, text, number, share, span, opens, ends, close, start, class, having, having_number}
+use Rattle.tk_paper.specs.Parts.{Bit, text, number, count, share, span, opens, ends, close, start, class, having, having_number}
 use Rattle.tk_paper.specs.declared.marks.Attr.TheVariants as attrs
 use Rattle.tk_paper.specs.declared.marks.Tag.TheVariants as tags
 use Rattle.tk_page.specs.declared.figures.Scale.{Scale}
@@ -108,7 +108,7 @@ lasting scale f before after =
 -- how many of how many, and their share
 abbrev pub part : Finding → List ℕ → List ℕ → List Bit
 part f before after =
-    number f.figure ∷ text (codes " ") ∷ text before ∷ text (codes " ") ∷ number f.of ∷ text after ∷ text (codes ", ") ∷ share (share_of f.figure f.of) ∷ text (codes ".") ∷ []
+    count f.figure ∷ text (codes " ") ∷ text before ∷ text (codes " ") ∷ count f.of ∷ text after ∷ text (codes ", ") ∷ share (share_of f.figure f.of) ∷ text (codes ".") ∷ []
 
 -- what is told of a finding whose figures are these. Of a stretch, tasks waited for as long as the limit at least
 abbrev pub facts_of : Shape → Scale → ℕ → Finding → List ℕ → List ℕ → List Bit
@@ -125,7 +125,7 @@ facts scale long kind f = facts_of (shape_of kind) scale long f (before_of kind)
 
 -- of how many tasks more of the place the same holds
 abbrev pub others : ℕ → List Bit
-others tasks = if nat_lt 1 tasks then text (codes " The same holds of ") ∷ number (tasks - 1) ∷ text (codes " more of its place.") ∷ [] else []
+others tasks = if nat_lt 1 tasks then text (codes " The same holds of ") ∷ count (tasks - 1) ∷ text (codes " more of its place.") ∷ [] else []
 
 -- who waited longest for it
 abbrev pub whom : Option (List ℕ × ℕ) → List Bit
@@ -150,7 +150,7 @@ card scale long tasks x = card_of scale long tasks x.place.items x.finding (vict
 -- there are so many findings: the first 20 have cards
 abbrev pub all_odd : Scale → Signs → List Task → List Bit
 all_odd scale signs tasks =
-    class tags.Span (codes "count") ∷ number (length signs.findings.items) ∷ close tags.Span ∷ close tags.H2 ∷ class tags.Ul (codes "odd") ∷ []
+    class tags.Span (codes "count") ∷ count (length signs.findings.items) ∷ close tags.Span ∷ close tags.H2 ∷ class tags.Ul (codes "odd") ∷ []
     ++ (flat_map (card scale signs.limits.long tasks) (carded signs) ++ (close tags.Ul ∷ [] ++ (more (length signs.findings.items) 20 (codes " more") ++ close tags.Section ∷ [])))
 
 -- ---- nothing is odd

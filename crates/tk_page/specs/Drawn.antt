@@ -37,7 +37,7 @@ sections title scale signs courses sites tables site_ranks ranks height =
     ++ (header title (watched scale) courses.lines courses.gone tables
     ++ (start tags.Main ∷ [] ++ (odd_section scale signs courses tables
     ++ (sites_section (came courses tables) sites site_ranks
-    ++ (tasks_section scale signs courses tables.tasks ranks height ++ (resources_section tables ++ close tags.Main ∷ []))))))
+    ++ (tasks_section scale signs courses tables ranks height ++ (resources_section scale tables ++ close tags.Main ∷ []))))))
 
 -- the sections were put
 pub record DrawsSections (title : List ℕ) (scale : Scale) (signs : Signs) (courses : Courses) (sites : LimitedView Sums) (tables : TablesView) (old new : PaperView) : Type 0 where

@@ -4,7 +4,7 @@ use Rattle.std.specs.List.{list_any}
 use Rattle.tk_ids.specs.declared.info.Dropped.{Dropped}
 use Rattle.tk_stream.specs.declared.tables.task.Task.{Task}
 use Rattle.tk_stream.specs.Tables.{TablesView}
-use Rattle.tk_paper.specs.Parts.{Bit, text, number, span, close, start, class}
+use Rattle.tk_paper.specs.Parts.{Bit, text, count, span, close, start, class}
 use Rattle.tk_paper.specs.declared.marks.Tag.TheVariants as tags
 use Rattle.tk_page.specs.Waiting.{waits_from_last_wake}
 
@@ -14,7 +14,7 @@ start_of first tasks = fold (λ start t. min start t.row.created) first tasks
 
 -- a number, and what it counts: one of them, or more
 abbrev pub fact : ℕ → List ℕ → List ℕ → List Bit
-fact n one many = start tags.B ∷ number n ∷ close tags.B ∷ text (if n == 1 then one else many) ∷ []
+fact n one many = start tags.B ∷ count n ∷ close tags.B ∷ text (if n == 1 then one else many) ∷ []
 
 -- words, and a dot in the middle after them
 abbrev pub dotted : List ℕ → List ℕ

@@ -1,5 +1,5 @@
 -- Resources with their attributes, and the operations on them.
-use Rattle.std.specs.Prelude.{ℕ, suc, ℤ, pos, negsuc, ◌+◌, ◌-◌, ◌==◌, Bool, true, false, ◌&&◌, is_some, is_none, Option, Some, None, if◌then◌else◌, List, [], ◌∷◌, ◌++◌, codes, length, take, filter, flat_map}
+use Rattle.std.specs.Prelude.{ℕ, ◌+◌, ◌-◌, ◌==◌, Bool, true, false, ◌&&◌, is_some, is_none, Option, Some, None, if◌then◌else◌, List, [], ◌∷◌, ◌++◌, codes, length, take, filter, flat_map}
 use Rattle.std.specs.List.{zip}
 use Rattle.std.specs.Option.{option_map_or}
 use Rattle.tk_core.specs.Lists.{capped}
@@ -8,17 +8,19 @@ use Rattle.tk_core.specs.declared.resource.row.ResourceRow.{ResourceRow}
 use Rattle.tk_ids.specs.Ids.{recorder_of, number_of}
 use Rattle.tk_ids.specs.declared.attr.AttrInfo.{AttrInfo}
 use Rattle.tk_ids.specs.declared.attr.AttrValue.{AttrValue}
-use Rattle.tk_ids.specs.declared.attr.AttrValue.TheVariants.{U64, Bool as Flag, I64}
 use Rattle.tk_report.specs.Report.{op_state}
 use Rattle.tk_stream.specs.declared.tables.op.Op.{Op}
 use Rattle.tk_stream.specs.declared.tables.resource.Resource.{Resource}
 use Rattle.tk_stream.specs.declared.tables.task.Task.{Task}
 use Rattle.tk_stream.specs.Tables.{TablesView, counts_of, task_with}
-use Rattle.tk_paper.specs.Parts.{Bit, text, number, span, opens, ends, close, start, class, having, having_number}
+use Rattle.tk_paper.specs.Parts.{Bit, text, number, count, span, opens, ends, close, start, class, having, having_number}
 use Rattle.tk_paper.specs.declared.marks.Attr.TheVariants as with
 use Rattle.tk_paper.specs.declared.marks.Tag.TheVariants as tags
+use Rattle.tk_page.specs.declared.figures.Scale.{Scale}
 use Rattle.tk_page.specs.Badges.{section}
+use Rattle.tk_page.specs.Idle.{waiters}
 use Rattle.tk_page.specs.Places.{id, location, more}
+use Rattle.tk_page.specs.Values.{unit, value_of}
 
 -- ---- attributes
 
@@ -29,28 +31,6 @@ whole words parts = text words ∷ number parts.0 ∷ text (codes ".") ∷ numbe
 abbrev pub part_of : List ℕ → Option ℕ → List Bit
 part_of words None = []
 part_of words (Some parent) = whole words (recorder_of parent, number_of parent)
-
--- a number's sign
-abbrev pub sign_of : ℤ → List ℕ
-sign_of (pos n) = []
-sign_of (negsuc n) = codes "-"
-
--- a number without its sign
-abbrev pub size_of : ℤ → ℕ
-size_of (pos n) = n
-size_of (negsuc n) = suc n
-
--- an attribute's value
-abbrev pub value_of : AttrValue → List Bit
-value_of (U64 n) = number n ∷ []
-value_of (Flag true) = text (codes "true") ∷ []
-value_of (Flag false) = text (codes "false") ∷ []
-value_of (I64 n) = text (sign_of n) ∷ number (size_of n) ∷ []
-
--- its unit, where it has one
-abbrev pub unit : Option (List ℕ) → List Bit
-unit None = []
-unit (Some name) = text (codes " ") ∷ text name ∷ []
 
 -- an attribute with its value
 abbrev pub attr : AttrInfo × AttrValue → List Bit
@@ -94,7 +74,7 @@ op_state_cell x = close tags.Small ∷ close tags.Td ∷ start tags.Td ∷ text 
 -- how often it was polled, and how long its polls ran
 abbrev pub op_numbers : OpRow → List Bit
 op_numbers x =
-    close tags.Td ∷ opens tags.Td ∷ having_number with.DataV x.polls ∷ having with.Class (codes "num") ∷ ends ∷ number x.polls ∷ close tags.Td
+    close tags.Td ∷ opens tags.Td ∷ having_number with.DataV x.polls ∷ having with.Class (codes "num") ∷ ends ∷ count x.polls ∷ close tags.Td
     ∷ class tags.Td (codes "num") ∷ span x.busy ∷ close tags.Td ∷ start tags.Td ∷ []
 
 -- the row of an operation
@@ -114,8 +94,8 @@ op_words all = if all == 1 then codes " operation, " else codes " operations, "
 -- how many operations there are, and how many are open
 abbrev pub op_counts : ℕ → ℕ → List Bit
 op_counts all live =
-    start tags.Details ∷ start tags.Summary ∷ number all ∷ text (op_words all)
-    ∷ number live ∷ text (codes " open") ∷ close tags.Summary ∷ []
+    start tags.Details ∷ start tags.Summary ∷ count all ∷ text (op_words all)
+    ∷ count live ∷ text (codes " open") ∷ close tags.Summary ∷ []
 
 -- the operations of a resource, open ones first, at most 20
 abbrev pub op_table : List Task → List Op → List Op → List Bit
@@ -147,20 +127,20 @@ part_words = 32 ∷ 194 ∷ 183 ∷ codes " part of "
 -- how many of its poll operations were ready, and how many pending
 abbrev pub polls : ℕ × ℕ → List Bit
 polls (ready, pending) =
-    start tags.P ∷ text (codes "poll operations: ") ∷ number ready ∷ text (codes " ready, ") ∷ number pending ∷ text (codes " pending") ∷ close tags.P ∷ []
+    start tags.P ∷ text (codes "poll operations: ") ∷ count ready ∷ text (codes " ready, ") ∷ count pending ∷ text (codes " pending") ∷ close tags.P ∷ []
 
--- a resource with its attributes, its poll counts and its operations
-abbrev pub resource : TablesView → Resource → List Bit
-resource tables r =
+-- a resource with its attributes, who waits for it, its poll counts and its operations
+abbrev pub resource : Scale → TablesView → Resource → List Bit
+resource scale tables r =
     resource_name r ++ (part_of part_words r.info.parent ++ (close tags.Small ∷ close tags.H3 ∷ [] ++ (attrs r.info.attrs r.row.attrs
-    ++ (polls (counts_of r.info.id tables.counts) ++ (ops tables r ++ close tags.Article ∷ [])))))
+    ++ (waiters scale tables r ++ (polls (counts_of r.info.id tables.counts) ++ (ops tables r ++ close tags.Article ∷ []))))))
 
 -- the first 50 resources, in table order
-abbrev pub all_resources : TablesView → List Bit
-all_resources tables =
-    section (codes "resources") (codes "Resources and their operations") ++ (close tags.H2 ∷ [] ++ (flat_map (resource tables) (take 50 tables.resources)
+abbrev pub all_resources : Scale → TablesView → List Bit
+all_resources scale tables =
+    section (codes "resources") (codes "Resources and their operations") ++ (close tags.H2 ∷ [] ++ (flat_map (resource scale tables) (take 50 tables.resources)
     ++ (more (length tables.resources) 50 (codes " more") ++ close tags.Section ∷ [])))
 
 -- the section of the resources, where there are any
-abbrev pub resources_section : TablesView → List Bit
-resources_section tables = if length tables.resources == 0 then [] else all_resources tables
+abbrev pub resources_section : Scale → TablesView → List Bit
+resources_section scale tables = if length tables.resources == 0 then [] else all_resources scale tables

@@ -18,6 +18,10 @@ pub mod Badges
 pub mod Cards
 -- What holds now, above all else
 pub mod Banner
+-- An attribute's value
+pub mod Values
+-- What idle tasks wait for
+pub mod Idle
 -- Strips
 pub mod Strips
 -- How a strip's boxes and steps stand to the whole

@@ -2,7 +2,7 @@
 use Rattle.std.specs.Prelude.{ℕ, ◌-◌, nat_le, if◌then◌else◌, List, [], ◌∷◌, codes}
 use Rattle.tk_ids.specs.Ids.{recorder_of, number_of}
 use Rattle.tk_ids.specs.declared.location.Location.{Location}
-use Rattle.tk_paper.specs.Parts.{Bit, text, number, close, class}
+use Rattle.tk_paper.specs.Parts.{Bit, text, number, count, close, class}
 use Rattle.tk_paper.specs.declared.marks.Tag.TheVariants as tags
 
 -- an id: its recorder and its number
@@ -16,4 +16,4 @@ location place = text place.file ∷ text (codes ":") ∷ number place.line ∷ 
 -- how many items more there are than are shown
 abbrev pub more : ℕ → ℕ → List ℕ → List Bit
 more all shown words =
-    if nat_le all shown then [] else class tags.P (codes "more") ∷ text (codes "and ") ∷ number (all - shown) ∷ text words ∷ close tags.P ∷ []
+    if nat_le all shown then [] else class tags.P (codes "more") ∷ text (codes "and ") ∷ count (all - shown) ∷ text words ∷ close tags.P ∷ []

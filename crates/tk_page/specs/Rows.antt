@@ -9,7 +9,7 @@ use Rattle.tk_stream.specs.declared.tables.task.Task.{Task}
 use Rattle.tk_stream.specs.Tables.{TablesView}
 use Rattle.tk_paper.specs.Pieces.{Writes}
 use Rattle.tk_paper.specs.Escaping.{PaperView}
-use Rattle.tk_paper.specs.Parts.{Bit, text, number, share, span, mean, opens, ends, close, start, class, having, having_number, value, quote}
+use Rattle.tk_paper.specs.Parts.{Bit, text, number, count, share, span, mean, opens, ends, close, start, class, having, having_number, value, quote}
 use Rattle.tk_paper.specs.declared.marks.Attr.TheVariants as attrs
 use Rattle.tk_paper.specs.declared.marks.Tag.TheVariants as tags
 use Rattle.tk_page.specs.declared.figures.Scale.{Scale}
@@ -21,6 +21,7 @@ use Rattle.tk_page.specs.declared.strips.Height.{Height}
 use Rattle.tk_page.specs.Figures.{each_of, share_of, watched}
 use Rattle.tk_page.specs.Badges.{badges, section}
 use Rattle.tk_page.specs.Courses.{Courses}
+use Rattle.tk_page.specs.Idle.{awaited}
 use Rattle.tk_page.specs.Odd.{is_odd_at_all}
 use Rattle.tk_page.specs.Places.{id, location, more}
 use Rattle.tk_page.specs.Ranks.{AreInOrder, ranks_of}
@@ -43,13 +44,14 @@ legend =
     ++ (key (codes "k-wake") (codes " wakes")
     ++ (key (codes "k-own") (codes " wakes of its own") ++ close tags.P ∷ []))))))
 
--- the filter
+-- the filter, and what a script can do with the table
 abbrev pub controls : List Bit
 controls =
     class tags.P (codes "controls") ∷ start tags.Label ∷ text (codes "Show tasks whose name has ") ∷ opens tags.Input ∷ having attrs.Id (codes "filter")
     ∷ having attrs.Type (codes "search") ∷ ends ∷ close tags.Label ∷ start tags.Label ∷ opens tags.Input ∷ having attrs.Id (codes "only")
     ∷ having attrs.Type (codes "checkbox") ∷ ends ∷ text (codes " only odd ones") ∷ close tags.Label ∷ opens tags.Span ∷ having attrs.Id (codes "shown")
-    ∷ having attrs.Role (codes "status") ∷ ends ∷ close tags.Span ∷ close tags.P ∷ []
+    ∷ having attrs.Role (codes "status") ∷ ends ∷ close tags.Span ∷ start tags.Span
+    ∷ text (codes "The head of a column sorts by it. Point at a strip to read a step, or press Tab and the arrows.") ∷ close tags.Span ∷ close tags.P ∷ []
 
 -- the head of a column, with a hint
 abbrev pub column : List ℕ → List ℕ → List ℕ → List Bit
@@ -96,9 +98,9 @@ sum_row scale height sums =
 
 abbrev pub caption : ℕ → List Bit
 caption time =
-    opens tags.Table ∷ having attrs.Id (codes "table") ∷ ends ∷ start tags.Caption
+    opens tags.Table ∷ having attrs.Id (codes "table") ∷ having_number attrs.DataV time ∷ ends ∷ start tags.Caption
     ∷ text (codes "Each row is a task; its strip is its course of time from 0 to ") ∷ span time
-    ∷ text (codes ". The head of a column sorts by it.") ∷ close tags.Caption ∷ start tags.Thead ∷ []
+    ∷ text (codes ".") ∷ close tags.Caption ∷ start tags.Thead ∷ []
 
 abbrev pub table_head : Scale → Height → List Step → List Bit
 table_head scale height sums =
@@ -125,7 +127,7 @@ cell n bits = opens tags.Td ∷ having_number attrs.DataV n ∷ having attrs.Cla
 
 -- a cell with a number
 abbrev pub number_cell : ℕ → List Bit
-number_cell n = cell n (number n ∷ [])
+number_cell n = cell n (count n ∷ [])
 
 -- how long a bar is
 abbrev pub bar_length : ℕ → ℕ
@@ -180,18 +182,18 @@ state x =
     ∷ class tags.Td (codes "course") ∷ []
 
 -- the row of a task of whose course these samples are kept
-abbrev pub row_of : Scale → Signs → List Sample → Task → List Bit
-row_of scale signs samples t =
-    name t (is_odd_at_all signs t) ++ (badges signs t ++ (state t.row ++ (strip scale samples t
-    ++ (close tags.Td ∷ [] ++ (numbers scale t.row ++ close tags.Tr ∷ [])))))
+abbrev pub row_of : Scale → Signs → TablesView → List Sample → Task → List Bit
+row_of scale signs tables samples t =
+    name t (is_odd_at_all signs t) ++ (badges signs t ++ (awaited scale tables t ++ (state t.row ++ (strip scale samples t
+    ++ (close tags.Td ∷ [] ++ (numbers scale t.row ++ close tags.Tr ∷ []))))))
 
 -- the row of a task
-abbrev pub row : Scale → Signs → Courses → Task → List Bit
-row scale signs courses t = row_of scale signs (courses.kept t.info.id) t
+abbrev pub row : Scale → Signs → Courses → TablesView → Task → List Bit
+row scale signs courses tables t = row_of scale signs tables (courses.kept t.info.id) t
 
 -- the row of the task at the place of a rank
-abbrev pub row_at : Scale → Signs → Courses → List Task → Rank → List Bit
-row_at scale signs courses tasks rank = option_map_or (row scale signs courses) (slice_get tasks rank.place) []
+abbrev pub row_at : Scale → Signs → Courses → TablesView → Rank → List Bit
+row_at scale signs courses tables rank = option_map_or (row scale signs courses tables) (slice_get tables.tasks rank.place) []
 
 -- ---- the table
 
@@ -201,10 +203,10 @@ pub record AreRanks (scale : Scale) (signs : Signs) (tasks : List Task) (ranks :
   pub sorted : AreInOrder ranks
 
 -- the table: its head, and the rows of the first 200 tasks
-abbrev pub table : Scale → Signs → Courses → List Task → List Rank → Height → List Bit
-table scale signs courses tasks ranks height =
+abbrev pub table : Scale → Signs → Courses → TablesView → List Rank → Height → List Bit
+table scale signs courses tables ranks height =
     table_head scale height (steps_of scale.start courses.sums courses.last)
-    ++ (flat_map (row_at scale signs courses tasks) (take 200 ranks) ++ close tags.Tbody ∷ close tags.Table ∷ close tags.Div ∷ [])
+    ++ (flat_map (row_at scale signs courses tables) (take 200 ranks) ++ close tags.Tbody ∷ close tags.Table ∷ close tags.Div ∷ [])
 
 -- the table was put. Up to where the drawing of all tasks goes is left open
 pub record WritesTable (scale : Scale) (signs : Signs) (courses : Courses) (tables : TablesView) (old new : PaperView) : Type 0 where
@@ -212,17 +214,17 @@ pub record WritesTable (scale : Scale) (signs : Signs) (courses : Courses) (tabl
   pub ranked : AreRanks scale signs tables.tasks ranks
   pub height : Height
   pub most : height.most ≡ most_waited (steps_of scale.start courses.sums courses.last)
-  pub wrote : Writes old new (table scale signs courses tables.tasks ranks height)
+  pub wrote : Writes old new (table scale signs courses tables ranks height)
 
 -- what stands above the table
 abbrev pub tasks_head : List Bit
 tasks_head = section (codes "tasks") (codes "Tasks") ++ (close tags.H2 ∷ [] ++ (legend ++ (controls ++ class tags.Div (codes "scroll") ∷ [])))
 
 -- the section of the tasks, with how many aren't shown
-abbrev pub tasks_section : Scale → Signs → Courses → List Task → List Rank → Height → List Bit
-tasks_section scale signs courses tasks ranks height =
-    tasks_head ++ (table scale signs courses tasks ranks height
-    ++ (more (length tasks) 200 (codes " tasks more, which ran and waited less") ++ close tags.Section ∷ []))
+abbrev pub tasks_section : Scale → Signs → Courses → TablesView → List Rank → Height → List Bit
+tasks_section scale signs courses tables ranks height =
+    tasks_head ++ (table scale signs courses tables ranks height
+    ++ (more (length tables.tasks) 200 (codes " tasks more, which ran and waited less") ++ close tags.Section ∷ []))
 
 -- that section was put
 pub record WritesTasks (scale : Scale) (signs : Signs) (courses : Courses) (tables : TablesView) (old new : PaperView) : Type 0 where
@@ -230,4 +232,4 @@ pub record WritesTasks (scale : Scale) (signs : Signs) (courses : Courses) (tabl
   pub ranked : AreRanks scale signs tables.tasks ranks
   pub height : Height
   pub most : height.most ≡ most_waited (steps_of scale.start courses.sums courses.last)
-  pub wrote : Writes old new (tasks_section scale signs courses tables.tasks ranks height)
+  pub wrote : Writes old new (tasks_section scale signs courses tables ranks height)

@@ -103,6 +103,16 @@ drawing class wide high =
     opens tags.Svg ∷ having attrs.Class class ∷ value attrs.ViewBox ∷ text (codes "0 0 ") ∷ number wide ∷ text (codes " ") ∷ number high
     ∷ quote ∷ having attrs.Preserve (codes "none") ∷ []
 
+-- what a script tells of a step: where it begins, the busy and the waiting share of its time in thousandths, its wakes, and those of its own
+abbrev pub reading : Scale → Step → List Bit
+reading scale step =
+    number (x_of scale step.from) ∷ text (codes ",") ∷ number (share_of step.busy (time_of step)) ∷ text (codes ",")
+    ∷ number (share_of step.sched (time_of step)) ∷ text (codes ",") ∷ number step.wakes ∷ text (codes ",") ∷ number step.own ∷ text (codes ";") ∷ []
+
+-- the same of all steps of a strip. Each ends where the next begins, and the last at the page's right
+abbrev pub readings : Scale → List Step → List Bit
+readings scale steps = value attrs.DataSteps ∷ [] ++ (flat_map (reading scale) steps ++ quote ∷ [])
+
 -- what a strip says in words: the busy and the waiting share of the time that is shown
 abbrev pub words : Scale → Task → Sample → List Bit
 words scale t last =
@@ -124,8 +134,8 @@ lost_if scale x lost_waker = if lost_waker then lost scale x else []
 -- the strip of a task with these steps
 abbrev pub strip_of : Scale → Task → Sample → List Step → Bool → List Bit
 strip_of scale t last steps lost_waker =
-    drawing (codes "strip") (wide_of scale) 22 ++ (words scale t last ++ (alive scale t.row ++ (lost_if scale t.row lost_waker
-    ++ (paths scale steps ++ close tags.Svg ∷ []))))
+    drawing (codes "strip") (wide_of scale) 22 ++ (readings scale steps ++ (words scale t last ++ (alive scale t.row ++ (lost_if scale t.row lost_waker
+    ++ (paths scale steps ++ close tags.Svg ∷ [])))))
 
 -- the strip of a task of whose course these samples are kept
 abbrev pub strip : Scale → List Sample → Task → List Bit
@@ -155,6 +165,13 @@ sum_box scale top step = record {
 abbrev pub sum_boxes : Scale → ℕ → List Step → List Bit
 sum_boxes scale top steps = flat_map (λ step. box (sum_box scale top step)) steps
 
+-- what a script tells of a step of all tasks: where it begins, and how many waited in the mean, in thousandths
+abbrev pub sum_reading : Scale → Step → List Bit
+sum_reading scale step = number (x_of scale step.from) ∷ text (codes ",") ∷ number (waited_in step) ∷ text (codes ";") ∷ []
+
+abbrev pub sum_readings : Scale → List Step → List Bit
+sum_readings scale steps = value attrs.DataSteps ∷ [] ++ (flat_map (sum_reading scale) steps ++ quote ∷ [])
+
 -- what that drawing says in words
 abbrev pub sum_words : Height → List Bit
 sum_words height =
@@ -164,8 +181,8 @@ sum_words height =
 -- the drawing of how many tasks waited at a time
 abbrev pub sum_drawing : Scale → Height → List Step → List Bit
 sum_drawing scale height steps =
-    drawing (codes "total") (wide_of scale) 30 ++ (sum_words height ++ (sum_boxes scale height.top steps
-    ++ quote ∷ ends ∷ close tags.Path ∷ close tags.Svg ∷ []))
+    drawing (codes "total") (wide_of scale) 30 ++ (sum_readings scale steps ++ (sum_words height ++ (sum_boxes scale height.top steps
+    ++ quote ∷ ends ∷ close tags.Path ∷ close tags.Svg ∷ [])))
 
 -- so many sixths of a time, rounded down
 abbrev pub sixths : ℕ → ℕ → ℕ

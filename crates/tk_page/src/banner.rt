@@ -8,7 +8,7 @@ use crate::cards::{put_made, put_who, task_of};
 use crate::oddities::Signs;
 use std::alloc::AllocError;
 use tk_odd::{Finding, Found, OddKind, Waiting};
-use tk_paper::Part::{Class, Close, Number, Span, Text};
+use tk_paper::Part::{Class, Close, Count, Span, Text};
 use tk_paper::{Paper, Tag};
 use tk_stream::{Tables, Task};
 
@@ -63,7 +63,7 @@ fn put_waiting(paper: &mut Paper, waiting: Waiting) -> Result<(), AllocError>
     }
     paper.put(&[
         Text("; "),
-        Number(count),
+        Count(count),
         Text(if count == 1 {
             " task waits"
         } else {

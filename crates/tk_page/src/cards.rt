@@ -18,15 +18,17 @@ use crate::waiting::any_waits_from_last_wake;
 use std::alloc::AllocError;
 use tk_ids::TaskId;
 use tk_odd::{Finding, Found, OddKind, Shape, Victim};
-use tk_paper::Part::{Class, Close, End, Number, Open, Share, Span, Start, Text, With, WithNumber};
+use tk_paper::Part::{
+    Class, Close, Count, End, Number, Open, Share, Span, Start, Text, With, WithNumber,
+};
 use tk_paper::{Attr, Paper, Tag};
 use tk_report::kind_word;
 use tk_stream::{Tables, Task};
 
 // ---- who
 
-// Puts a task's name, as a link to its row.
-fn put_link(paper: &mut Paper, task: &Task) -> Result<(), AllocError>
+/// Puts a task's name, as a link to its row.
+pub(crate) fn put_link(paper: &mut Paper, task: &Task) -> Result<(), AllocError>
     ensures { OnOk result (Writes paper.old paper.new (spec.link task.now)) }
 {
     paper.put(&[
@@ -288,11 +290,11 @@ fn put_part(paper: &mut Paper, kind: OddKind, finding: &Finding) -> Result<(), A
 {
     let own = share(finding.figure, finding.of);
     paper.put(&[
-        Number(finding.figure),
+        Count(finding.figure),
         Text(" "),
         Text(kind.before()),
         Text(" "),
-        Number(finding.of),
+        Count(finding.of),
         Text(kind.after()),
         Text(", "),
         Share(own),
@@ -327,7 +329,7 @@ fn put_others(paper: &mut Paper, tasks: u64) -> Result<(), AllocError>
     if tasks > 1 {
         paper.put(&[
             Text(" The same holds of "),
-            Number(tasks - 1),
+            Count(tasks - 1),
             Text(" more of its place."),
         ])
     } else {
@@ -412,7 +414,7 @@ fn put_all_odd(
     let all = signs.findings.as_slice().len();
     paper.put(&[
         Class(Tag::Span, "count"),
-        Number(count(all)),
+        Count(count(all)),
         Close(Tag::Span),
         Close(Tag::H2),
         Class(Tag::Ul, "odd"),

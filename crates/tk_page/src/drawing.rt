@@ -16,7 +16,7 @@ use crate::tasks::put_tasks;
 use crate::waiting::any_waits_from_last_wake;
 use std::alloc::{AllocError, Global};
 use tk_ids::Dropped;
-use tk_paper::Part::{Class, Close, Number, Span, Start, Text};
+use tk_paper::Part::{Class, Close, Count, Span, Start, Text};
 use tk_paper::{Paper, Tag};
 use tk_series::Limited;
 use tk_sites::Sums;
@@ -45,7 +45,7 @@ fn put_fact(
 {
     paper.put(&[
         Start(Tag::B),
-        Number(number),
+        Count(number),
         Close(Tag::B),
         Text(if number == 1 { one } else { many }),
     ])
@@ -200,7 +200,7 @@ pub(crate) fn put_page(
     put_odd(paper, scale, signs, history, tables)?;
     put_sites(paper, alloc, came(history, tables), sites)?;
     put_tasks(paper, alloc, scale, signs, history, tables)?;
-    put_resources(paper, alloc, tables)?;
+    put_resources(paper, alloc, scale, tables)?;
     paper.put(&[Close(Tag::Main)])?;
     Ok(())
 }

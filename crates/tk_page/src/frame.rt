@@ -2,7 +2,7 @@
 
 /// What stands before the page's text.
 pub const HEAD: &str = "<!DOCTYPE html>
-<html lang=\"en\"><head><meta charset=\"utf-8\"><meta http-equiv=\"Content-Security-Policy\" content=\"default-src 'none'; style-src 'sha256-7atmh8VTk2PJoyEU9B0Bt8xPeoiEY8YmwVQ3X2+4vlw='; script-src 'sha256-HZS74/1q0eCEr5DaaArE+dPQ9wGcX7Me9yjAskZ2z3Y='\"><meta name=\"viewport\" content=\"width=device-width, initial-scale=1\"><meta name=\"color-scheme\" content=\"light dark\"><title>taskscope</title><style>:root{--bg:#fff;--ink:#1a2027;--dim:#5a6672;--rule:#d5dce3;--card:#f6f8fa;--idle:#e6ebf0;--busy:#1f6fb8;--wait:#a85a00;--wake:#7b8794;--own:#b5179e;--bad:#c62828;--link:#0b5cad}
+<html lang=\"en\"><head><meta charset=\"utf-8\"><meta http-equiv=\"Content-Security-Policy\" content=\"default-src 'none'; style-src 'sha256-Dd3MNHN1aCx5EL+aY6sHfVjr7a85wwAIE8kKPaJX1ls='; script-src 'sha256-rDwe+I2GqaEPaCHsVv7SSe1W3ocGplb5+aTSg9+3Osc='\"><meta name=\"viewport\" content=\"width=device-width, initial-scale=1\"><meta name=\"color-scheme\" content=\"light dark\"><title>taskscope</title><style>:root{--bg:#fff;--ink:#1a2027;--dim:#5a6672;--rule:#d5dce3;--card:#f6f8fa;--idle:#e6ebf0;--busy:#1f6fb8;--wait:#a85a00;--wake:#7b8794;--own:#b5179e;--bad:#c62828;--link:#0b5cad}
 @media (prefers-color-scheme:dark){:root{--bg:#11161c;--ink:#e4e9ee;--dim:#9aa7b4;--rule:#2b353f;--card:#19212a;--idle:#25303b;--busy:#4fa3e8;--wait:#ffa53d;--wake:#8796a5;--own:#f06fd8;--bad:#ff6b61;--link:#7fc0ff}}
 *{box-sizing:border-box}
 body{margin:0;background:var(--bg);color:var(--ink);font:15px/1.45 system-ui,'Segoe UI','DejaVu Sans',sans-serif}
@@ -58,7 +58,7 @@ svg.bar{float:left;margin-top:6px;width:52px;height:9px;background:var(--idle);b
 .res{border:1px solid var(--rule);border-radius:4px;padding:10px 14px;margin-bottom:10px}
 dl{display:flex;flex-wrap:wrap;gap:2px 22px;margin:2px 0}dl div{display:flex;gap:6px}dt{color:var(--dim)}dd{margin:0;font-weight:600;font-variant-numeric:tabular-nums}
 summary{cursor:pointer}
-@media print{:root{--bg:#fff;--ink:#000;--dim:#444;--rule:#bbb;--card:#f4f4f4;--idle:#e6ebf0;--busy:#1f6fb8;--wait:#a85a00;--wake:#7b8794;--own:#b5179e;--bad:#c62828}*{print-color-adjust:exact;-webkit-print-color-adjust:exact}.controls{display:none}tr,li,.res{break-inside:avoid}thead th{position:static}.do,.legend,.lead,.controls,caption,h3,small,.badge{font-size:inherit}body{font-size:11px}header,main{padding:0;max-width:none}table{font-size:10.5px}.course{min-width:0}@page{size:landscape;margin:12mm}}
+@media print{:root{--bg:#fff;--ink:#000;--dim:#444;--rule:#bbb;--card:#f4f4f4;--idle:#e6ebf0;--busy:#1f6fb8;--wait:#a85a00;--wake:#7b8794;--own:#b5179e;--bad:#c62828}*{print-color-adjust:exact;-webkit-print-color-adjust:exact}.controls,#step{display:none}tr,li,.res{break-inside:avoid}thead th{position:static}.do,.legend,.lead,.controls,caption,h3,small,.badge{font-size:inherit}body{font-size:11px}header,main{padding:0;max-width:none}table{font-size:10.5px}.course{min-width:0}@page{size:landscape;margin:12mm}}
 .note{flex-basis:100%;margin:0;color:var(--dim)}
 .now{max-width:1392px;width:calc(100% - 48px);margin:14px auto 0;border:2px solid var(--bad);border-radius:6px;padding:8px 16px}
 .now .tag{background:var(--bad);color:var(--bg);border-radius:4px;padding:1px 8px;font-weight:700;font-size:12px;text-transform:uppercase}
@@ -68,9 +68,12 @@ ul.odd h3 small{font-weight:400;margin-left:4px}
 .badges{line-height:1.5}
 .controls{visibility:hidden}.live .controls{visibility:visible}
 td dl{margin:0}
+.in{min-width:230px;font-size:12px;font-weight:400;color:var(--dim)}
+#step{position:absolute;z-index:2;max-width:420px;background:var(--ink);color:var(--bg);border-radius:4px;padding:3px 9px;font-size:13px;pointer-events:none}
+.at{fill:var(--ink);fill-opacity:.18;pointer-events:none}svg[tabindex]:focus-visible{outline:2px solid var(--link);outline-offset:1px}
 @media(max-width:700px){header,main{padding:0 12px}.scroll{overflow:visible}.scroll.wide{overflow-x:auto}#table,#table caption,#table thead,#table tbody,#table th,#table td{display:block}#table thead tr{display:none}#table thead tr.sum{display:block}tr.sum td:last-child{display:none}.lead{text-align:left}
 #table tbody tr{display:grid;grid-template-columns:repeat(3,1fr);padding:6px 0;border-bottom:1px solid var(--rule)}#table tbody tr[hidden]{display:none}#table tbody th,#table tbody td{border:0;padding:2px 4px;min-width:0;max-width:none}
-#table tbody th{grid-column:1/3}#table tbody td:nth-child(2){text-align:right}#table tbody .course{grid-column:1/-1;width:auto}#table tbody td:nth-child(n+7){display:none}#table tbody .num{text-align:left}svg.bar{display:none}
+#table tbody th{grid-column:1/3}#table tbody td:nth-child(2){text-align:right}#table tbody .course{grid-column:1/-1;width:auto}#table tbody td:nth-child(n+7){display:none}#table tbody .num{text-align:left}svg.bar{display:none}.in{min-width:0}
 #table tbody td:nth-child(4)::before{content:'busy '}#table tbody td:nth-child(5)::before{content:'waiting '}#table tbody td:nth-child(6)::before{content:'a poll '}}
 </style></head><body>
 ";
@@ -156,5 +159,83 @@ only.checked = asked.has('odd');
 sorted(table, asked.get('sort'));
 sorted(sites, asked.get('places'));
 show();
+const watched = Number(table.dataset.v), unit = Math.floor(watched / 1000) + 1;
+const grouped = (n) => n < 10000 ? String(n) : String(n).replace(/(?!^)(?=([0-9]{3})+$)/g, String.fromCharCode(0x202f));
+const tenths = (n, few) => n < few ? (n / 10).toFixed(1) : grouped(Math.floor(n / 10));
+const time = (ns) => {
+  const [word, size] = [['s', 1e9], ['ms', 1e6], [String.fromCharCode(181) + 's', 1e3]].find((one) => ns >= one[1]) || ['ns', 1];
+  return (size > 1 ? tenths(Math.floor(ns * 10 / size), 1000) : grouped(ns)) + ' ' + word;
+};
+const moment = (x, wide) => {
+  if (x === 0 || x >= wide) return x === 0 ? '0' : time(watched);
+  for (let size = 1e20; size >= 1; size /= 10) {
+    const round = Math.ceil(x * unit / size) * size;
+    if (round < (x + 1) * unit) return time(round);
+  }
+  return time(x * unit);
+};
+const share = (n) => tenths(n, 100) + ' %';
+const told = (strip, step) => {
+  const name = strip.closest('tr').querySelector('.name');
+  if (!name) return grouped(Math.floor(step[1] / 1000)) + '.' + Math.floor(step[1] % 1000 / 100) + ' tasks waited';
+  const own = step[4] ? ', ' + grouped(step[4]) + ' of its own' : '';
+  return name.textContent + ': busy ' + share(step[1]) + ', waiting ' + share(step[2]) + ', ' + grouped(step[3]) + (step[3] === 1 ? ' wake' : ' wakes') + own;
+};
+const tip = document.createElement('p'), mark = document.createElementNS('http://www.w3.org/2000/svg', 'rect');
+tip.id = 'step';
+tip.hidden = true;
+tip.setAttribute('role', 'status');
+document.body.append(tip);
+mark.setAttribute('class', 'at');
+mark.setAttribute('height', '100%');
+const strips = () => [...table.querySelectorAll('svg[data-steps]')].filter((strip) => strip.dataset.steps && strip.getClientRects().length);
+const steps = (strip) => strip.dataset.steps.split(';').slice(0, -1).map((step) => step.split(',').map(Number));
+const wide = (strip) => strip.viewBox.baseVal.width;
+const at = (strip, x) => steps(strip).findLastIndex((step) => step[0] <= x);
+const hide = () => { tip.hidden = true; mark.remove(); };
+const tell = (strip, i) => {
+  const all = steps(strip), step = all[i], end = wide(strip), to = i + 1 < all.length ? all[i + 1][0] : end;
+  if (!step) return hide();
+  mark.setAttribute('x', step[0]);
+  mark.setAttribute('width', to - step[0]);
+  strip.append(mark);
+  tip.textContent = moment(step[0], end) + ' to ' + moment(to, end) + ': ' + told(strip, step);
+  tip.hidden = false;
+  const box = strip.getBoundingClientRect(), most = document.documentElement.clientWidth - tip.offsetWidth - 8;
+  tip.style.left = scrollX + Math.max(8, Math.min(box.left + box.width * step[0] / end, most)) + 'px';
+  tip.style.top = scrollY + (box.bottom + tip.offsetHeight + 8 > innerHeight ? box.top - tip.offsetHeight - 4 : box.bottom + 4) + 'px';
+};
+let reached = 0;
+const reach = (strip) => {
+  for (const other of table.querySelectorAll('svg[tabindex]')) other.setAttribute('tabindex', '-1');
+  strip.setAttribute('tabindex', '0');
+  strip.focus();
+};
+for (const strip of table.querySelectorAll('svg[data-steps]')) {
+  strip.setAttribute('tabindex', '-1');
+  const point = (event) => {
+    const box = strip.getBoundingClientRect();
+    tell(strip, at(strip, (event.clientX - box.left) / box.width * wide(strip)));
+  };
+  strip.addEventListener('pointermove', point);
+  strip.addEventListener('pointerdown', point);
+  strip.addEventListener('pointerleave', hide);
+  strip.addEventListener('blur', hide);
+  strip.addEventListener('focus', () => { if (strip.matches(':focus-visible')) tell(strip, Math.max(0, at(strip, reached))); });
+  strip.addEventListener('keydown', (event) => {
+    const all = steps(strip), i = Math.max(0, at(strip, reached)), rows = strips(), row = rows.indexOf(strip);
+    const go = { ArrowLeft: i - 1, ArrowRight: i + 1, Home: 0, End: all.length - 1 }[event.key];
+    const next = { ArrowUp: rows[row - 1], ArrowDown: rows[row + 1] }[event.key];
+    if (event.key === 'Escape') hide();
+    if (next) reach(next);
+    if (go !== undefined) {
+      const to = Math.max(0, Math.min(go, all.length - 1));
+      reached = all[to][0];
+      tell(strip, to);
+    }
+    if (next || go !== undefined) event.preventDefault();
+  });
+}
+if (strips()[0]) strips()[0].setAttribute('tabindex', '0');
 </script></body></html>
 ";

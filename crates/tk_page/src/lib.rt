@@ -11,6 +11,7 @@ mod drawing;
 mod figures;
 mod frame;
 mod history;
+mod idle;
 pub mod laws;
 mod oddities;
 mod ranks;
@@ -21,6 +22,7 @@ mod strips;
 mod tasks;
 mod track;
 mod tracks;
+mod values;
 mod view;
 mod waiting;
 

@@ -6,11 +6,13 @@ ghost use Rattle.tk_page.specs.Places as places;
 ghost use Rattle.tk_paper.specs.Pieces.{Writes};
 
 use crate::badges::start_section;
-use crate::figures::{count, front};
+use crate::figures::{Scale, count, front};
+use crate::idle::put_waiters;
+use crate::values::{put_unit, put_value};
 use std::alloc::{AllocError, Global};
 use tk_core::{OpRow, ResourceRow};
-use tk_ids::{AttrInfo, AttrValue, Name, TaskId};
-use tk_paper::Part::{Class, Close, End, Number, Open, Span, Start, Text, With, WithNumber};
+use tk_ids::{AttrInfo, AttrValue, TaskId};
+use tk_paper::Part::{Class, Close, Count, End, Number, Open, Span, Start, Text, With, WithNumber};
 use tk_paper::{Attr, Paper, Tag};
 use tk_report::op_state;
 use tk_stream::{Op, Resource, Tables};
@@ -25,35 +27,6 @@ fn put_whole(paper: &mut Paper, words: &'static str, parts: (u64, u64)) -> Resul
     ensures { OnOk result (Writes paper.old paper.new (spec.whole words.now parts)) }
 {
     paper.put(&[Text(words), Number(parts.0), Text("."), Number(parts.1)])
-}
-
-// An attribute's number below zero has a sign.
-fn sign_of(number: i64) -> &'static str
-    ensures { result.now ≡ spec.sign_of number }
-{
-    if number < 0 { "-" } else { "" }
-}
-
-fn put_value(paper: &mut Paper, value: AttrValue) -> Result<(), AllocError>
-    ensures { OnOk result (Writes paper.old paper.new (spec.value_of value)) }
-{
-    match value {
-        AttrValue::U64(number) => paper.put(&[Number(number)]),
-        AttrValue::Bool(true) => paper.put(&[Text("true")]),
-        AttrValue::Bool(false) => paper.put(&[Text("false")]),
-        AttrValue::I64(number) => {
-            paper.put(&[Text(sign_of(number)), Number(number.unsigned_abs())])
-        }
-    }
-}
-
-fn put_unit(paper: &mut Paper, unit: &Option<Name>) -> Result<(), AllocError>
-    ensures { OnOk result (Writes paper.old paper.new (spec.unit unit.now)) }
-{
-    match unit {
-        Some(unit) => paper.put(&[Text(" "), Text(unit.as_str())]),
-        None => paper.put(&[]),
-    }
 }
 
 fn put_attr(paper: &mut Paper, attr: &AttrInfo, value: AttrValue) -> Result<(), AllocError>
@@ -199,7 +172,7 @@ fn put_op_numbers(paper: &mut Paper, row: &OpRow) -> Result<(), AllocError>
         WithNumber(Attr::DataV, row.polls),
         With(Attr::Class, "num"),
         End,
-        Number(row.polls),
+        Count(row.polls),
         Close(Tag::Td),
         Class(Tag::Td, "num"),
         Span(row.busy),
@@ -282,7 +255,7 @@ pub(crate) fn put_more(
     paper.put(&[
         Class(Tag::P, "more"),
         Text("and "),
-        Number(count(all - shown)),
+        Count(count(all - shown)),
         Text(words),
         Close(Tag::P),
     ])
@@ -305,9 +278,9 @@ fn put_op_counts(paper: &mut Paper, all: usize, live: usize) -> Result<(), Alloc
     paper.put(&[
         Start(Tag::Details),
         Start(Tag::Summary),
-        Number(count(all)),
+        Count(count(all)),
         Text(op_words(all)),
-        Number(count(live)),
+        Count(count(live)),
         Text(" open"),
         Close(Tag::Summary),
     ])
@@ -407,9 +380,9 @@ fn put_polls(paper: &mut Paper, polls: (u64, u64)) -> Result<(), AllocError>
     paper.put(&[
         Start(Tag::P),
         Text("poll operations: "),
-        Number(polls.0),
+        Count(polls.0),
         Text(" ready, "),
-        Number(polls.1),
+        Count(polls.1),
         Text(" pending"),
         Close(Tag::P),
     ])
@@ -418,10 +391,11 @@ fn put_polls(paper: &mut Paper, polls: (u64, u64)) -> Result<(), AllocError>
 fn put_resource(
     paper: &mut Paper,
     alloc: Global,
+    scale: Scale,
     tables: &Tables,
     resource: &Resource,
 ) -> Result<(), AllocError>
-    ensures { OnOk result (Writes paper.old paper.new (spec.resource tables.now resource.now)) }
+    ensures { OnOk result (Writes paper.old paper.new (spec.resource scale tables.now resource.now)) }
 {
     put_resource_name(paper, resource)?;
     put_resource_parent(paper, resource)?;
@@ -431,6 +405,7 @@ fn put_resource(
         resource.info.attrs.as_slice(),
         resource.row.attrs.list().as_slice(),
     )?;
+    put_waiters(paper, alloc, scale, tables, resource)?;
     put_polls(paper, tables.poll_counts(resource.info.id))?;
     put_ops(paper, alloc, tables, resource)?;
     paper.put(&[Close(Tag::Article)])?;
@@ -440,14 +415,15 @@ fn put_resource(
 fn put_resource_at(
     paper: &mut Paper,
     alloc: Global,
+    scale: Scale,
     tables: &Tables,
     place: usize,
 ) -> Result<(), AllocError>
     ensures { OnOk result (Writes paper.old paper.new
-        (option_map_or (spec.resource tables.now) (slice_get tables.now.resources place) [])) }
+        (option_map_or (spec.resource scale tables.now) (slice_get tables.now.resources place) [])) }
 {
     match tables.resource_at(place) {
-        Some(resource) => put_resource(paper, alloc, tables, resource),
+        Some(resource) => put_resource(paper, alloc, scale, tables, resource),
         None => paper.put(&[]),
     }
 }
@@ -455,13 +431,14 @@ fn put_resource_at(
 fn put_some_resources(
     paper: &mut Paper,
     alloc: Global,
+    scale: Scale,
     tables: &Tables,
     shown: usize,
 ) -> Result<(), AllocError>
-    ensures { OnOk result (Writes paper.old paper.new (flat_map (spec.resource tables.now) (take shown tables.now.resources))) }
+    ensures { OnOk result (Writes paper.old paper.new (flat_map (spec.resource scale tables.now) (take shown tables.now.resources))) }
 {
     for place in 0..shown {
-        put_resource_at(paper, alloc, tables, place)?;
+        put_resource_at(paper, alloc, scale, tables, place)?;
     }
     Ok(())
 }
@@ -469,15 +446,16 @@ fn put_some_resources(
 fn put_all_resources(
     paper: &mut Paper,
     alloc: Global,
+    scale: Scale,
     tables: &Tables,
     all: usize,
 ) -> Result<(), AllocError>
     requires { all ≡ length tables.now.resources }
-    ensures { OnOk result (Writes paper.old paper.new (spec.all_resources tables.now)) }
+    ensures { OnOk result (Writes paper.old paper.new (spec.all_resources scale tables.now)) }
 {
     start_section(paper, "resources", "Resources and their operations")?;
     paper.put(&[Close(Tag::H2)])?;
-    put_some_resources(paper, alloc, tables, all.min(RESOURCES))?;
+    put_some_resources(paper, alloc, scale, tables, all.min(RESOURCES))?;
     put_more(paper, all, RESOURCES, " more")?;
     paper.put(&[Close(Tag::Section)])?;
     Ok(())
@@ -487,14 +465,15 @@ fn put_all_resources(
 pub(crate) fn put_resources(
     paper: &mut Paper,
     alloc: Global,
+    scale: Scale,
     tables: &Tables,
 ) -> Result<(), AllocError>
-    ensures { OnOk result (Writes paper.old paper.new (spec.resources_section tables.now)) }
+    ensures { OnOk result (Writes paper.old paper.new (spec.resources_section scale tables.now)) }
 {
     let all = tables.resource_count();
     if all == 0 {
         paper.put(&[])
     } else {
-        put_all_resources(paper, alloc, tables, all)
+        put_all_resources(paper, alloc, scale, tables, all)
     }
 }

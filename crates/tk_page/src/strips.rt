@@ -1,5 +1,5 @@
 //! Strips: a course of time, drawn.
-ghost use Rattle.std.specs.Prelude.{◌≡◌, ◌<◌, [], OnOk, IfOk};
+ghost use Rattle.std.specs.Prelude.{◌≡◌, ◌<◌, [], OnOk, IfOk, flat_map};
 ghost use Rattle.tk_page.specs.Figures as figures;
 ghost use Rattle.tk_page.specs.Strips as spec;
 ghost use Rattle.tk_paper.specs.Pieces.{Writes};
@@ -220,6 +220,45 @@ fn open_drawing(
     ])
 }
 
+// Puts what is read of a step: where it begins, the busy and the waiting share of its time, its wakes, and those of its own.
+fn put_reading(paper: &mut Paper, scale: Scale, step: &Step) -> Result<(), AllocError>
+    ensures { OnOk result (Writes paper.old paper.new (spec.reading scale step.now)) }
+{
+    let time = step.time();
+    let (busy, sched) = (share(step.busy, time), share(step.sched, time));
+    paper.put(&[
+        Number(scale.x(step.from)),
+        Text(","),
+        Number(busy),
+        Text(","),
+        Number(sched),
+        Text(","),
+        Number(step.wakes),
+        Text(","),
+        Number(step.own),
+        Text(";"),
+    ])
+}
+
+fn put_each_reading(paper: &mut Paper, scale: Scale, steps: &[Step]) -> Result<(), AllocError>
+    ensures { OnOk result (Writes paper.old paper.new (flat_map (spec.reading scale) steps.now)) }
+{
+    for step in steps {
+        put_reading(paper, scale, step)?;
+    }
+    Ok(())
+}
+
+// Puts what a script tells of the steps of a strip.
+fn put_readings(paper: &mut Paper, scale: Scale, steps: &[Step]) -> Result<(), AllocError>
+    ensures { OnOk result (Writes paper.old paper.new (spec.readings scale steps.now)) }
+{
+    paper.put(&[Value(Attr::DataSteps)])?;
+    put_each_reading(paper, scale, steps)?;
+    paper.put(&[Quote])?;
+    Ok(())
+}
+
 // What a strip says to who can't see it.
 fn put_words(paper: &mut Paper, scale: Scale, task: &Task, last: Sample) -> Result<(), AllocError>
     ensures { OnOk result (Writes paper.old paper.new (spec.words scale task.now last)) }
@@ -299,6 +338,7 @@ fn put_strip_of(
     ensures { OnOk result (Writes paper.old paper.new (spec.strip_of scale task.now last steps.now lost)) }
 {
     open_drawing(paper, "strip", scale, HIGH)?;
+    put_readings(paper, scale, steps)?;
     put_words(paper, scale, task, last)?;
     put_alive(paper, scale, &task.row)?;
     put_lost_if(paper, scale, &task.row, lost)?;
@@ -353,10 +393,12 @@ pub(crate) fn height_of(steps: &[Step]) -> Height
         next = next.max(waited.min(most));
         most = most.max(waited);
     }
-    let stands_out = next > 0 && most / STANDS_OUT > next;
+    // Nothing is cut below one task.
+    let low = next.max(1000);
+    let stands_out = next > 0 && most / STANDS_OUT > low;
     Height {
         most,
-        top: if stands_out { next } else { most },
+        top: if stands_out { low } else { most },
     }
 }
 
@@ -378,6 +420,36 @@ fn put_sum_words(paper: &mut Paper, height: Height) -> Result<(), AllocError>
         With(Attr::Class, "wait"),
         Value(Attr::D),
     ])
+}
+
+// Puts what is read of a step of all tasks: where it begins, and how many waited.
+fn put_sum_reading(paper: &mut Paper, scale: Scale, step: &Step) -> Result<(), AllocError>
+    ensures { OnOk result (Writes paper.old paper.new (spec.sum_reading scale step.now)) }
+{
+    paper.put(&[
+        Number(scale.x(step.from)),
+        Text(","),
+        Number(waited_in(step)),
+        Text(";"),
+    ])
+}
+
+fn put_each_sum_reading(paper: &mut Paper, scale: Scale, steps: &[Step]) -> Result<(), AllocError>
+    ensures { OnOk result (Writes paper.old paper.new (flat_map (spec.sum_reading scale) steps.now)) }
+{
+    for step in steps {
+        put_sum_reading(paper, scale, step)?;
+    }
+    Ok(())
+}
+
+fn put_sum_readings(paper: &mut Paper, scale: Scale, steps: &[Step]) -> Result<(), AllocError>
+    ensures { OnOk result (Writes paper.old paper.new (spec.sum_readings scale steps.now)) }
+{
+    paper.put(&[Value(Attr::DataSteps)])?;
+    put_each_sum_reading(paper, scale, steps)?;
+    paper.put(&[Quote])?;
+    Ok(())
 }
 
 fn sum_box(scale: Scale, step: &Step, top: u64) -> Area
@@ -416,6 +488,7 @@ pub(crate) fn put_sum(
     ensures { OnOk result (Writes paper.old paper.new (spec.sum_drawing scale height steps.now)) }
 {
     open_drawing(paper, "total", scale, SUM_HIGH)?;
+    put_sum_readings(paper, scale, steps)?;
     put_sum_words(paper, height)?;
     put_sum_boxes(paper, scale, steps, height.top)?;
     paper.put(&[Quote, End, Close(Tag::Path), Close(Tag::Svg)])?;

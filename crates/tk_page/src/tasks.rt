@@ -8,6 +8,7 @@ ghost use Rattle.tk_paper.specs.Pieces.{Writes};
 use crate::badges::{put_badges, start_section};
 use crate::figures::{Scale, each, front, share};
 use crate::history::History;
+use crate::idle::put_awaited;
 use crate::oddities::Signs;
 use crate::ranks::{Rank, ranks_of};
 use crate::resources::put_more;
@@ -17,7 +18,8 @@ use std::alloc::{AllocError, Global};
 use tk_core::TaskRow;
 use tk_ids::TaskKind;
 use tk_paper::Part::{
-    Class, Close, End, Mean, Number, Open, Quote, Share, Span, Start, Text, Value, With, WithNumber,
+    Class, Close, Count, End, Mean, Number, Open, Quote, Share, Span, Start, Text, Value, With,
+    WithNumber,
 };
 use tk_paper::{Attr, Paper, Tag};
 use tk_stream::{Tables, Task};
@@ -75,6 +77,11 @@ fn put_controls(paper: &mut Paper) -> Result<(), AllocError>
         With(Attr::Id, "shown"),
         With(Attr::Role, "status"),
         End,
+        Close(Tag::Span),
+        Start(Tag::Span),
+        Text(
+            "The head of a column sorts by it. Point at a strip to read a step, or press Tab and the arrows.",
+        ),
         Close(Tag::Span),
         Close(Tag::P),
     ])
@@ -293,7 +300,7 @@ pub(crate) fn put_number(paper: &mut Paper, number: u64) -> Result<(), AllocErro
         WithNumber(Attr::DataV, number),
         With(Attr::Class, "num"),
         End,
-        Number(number),
+        Count(number),
         Close(Tag::Td),
     ])
 }
@@ -393,13 +400,15 @@ fn put_task(
     alloc: Global,
     scale: Scale,
     signs: &Signs,
+    tables: &Tables,
     task: &Task,
     samples: &[Sample],
 ) -> Result<(), AllocError>
-    ensures { OnOk result (Writes paper.old paper.new (spec.row_of scale signs.now samples.now task.now)) }
+    ensures { OnOk result (Writes paper.old paper.new (spec.row_of scale signs.now tables.now samples.now task.now)) }
 {
     put_name(paper, task, signs.has_any(task))?;
     put_badges(paper, signs, task)?;
+    put_awaited(paper, alloc, scale, tables, task)?;
     put_state(paper, &task.row)?;
     put_strip(paper, alloc, scale, task, samples)?;
     paper.put(&[Close(Tag::Td)])?;
@@ -419,12 +428,12 @@ fn put_row(
     place: usize,
 ) -> Result<(), AllocError>
     ensures { OnOk result (Writes paper.old paper.new
-        (option_map_or (spec.row scale signs.now (courses_of history.now)) (slice_get tables.now.tasks place) [])) }
+        (option_map_or (spec.row scale signs.now (courses_of history.now) tables.now) (slice_get tables.now.tasks place) [])) }
 {
     match tables.task_at(place) {
         Some(task) => {
             let course = history.of(task.info.id.value())?;
-            put_task(paper, alloc, scale, signs, task, course.kept())
+            put_task(paper, alloc, scale, signs, tables, task, course.kept())
         }
         None => paper.put(&[]),
     }
@@ -440,7 +449,7 @@ fn put_rows(
     ranks: &[Rank],
 ) -> Result<(), AllocError>
     ensures { OnOk result (Writes paper.old paper.new
-        (flat_map (spec.row_at scale signs.now (courses_of history.now) tables.now.tasks) ranks.now)) }
+        (flat_map (spec.row_at scale signs.now (courses_of history.now) tables.now) ranks.now)) }
 {
     for rank in ranks {
         put_row(paper, alloc, scale, signs, history, tables, rank.place)?;
@@ -454,11 +463,12 @@ fn put_caption(paper: &mut Paper, watched: u64) -> Result<(), AllocError>
     paper.put(&[
         Open(Tag::Table),
         With(Attr::Id, "table"),
+        WithNumber(Attr::DataV, watched),
         End,
         Start(Tag::Caption),
         Text("Each row is a task; its strip is its course of time from 0 to "),
         Span(watched),
-        Text(". The head of a column sorts by it."),
+        Text("."),
         Close(Tag::Caption),
         Start(Tag::Thead),
     ])

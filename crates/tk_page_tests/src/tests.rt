@@ -79,6 +79,70 @@ fn a_row_has_the_numbers_of_its_task(rt: HostRuntime) {
     assert!(rt; shows(rt.alloc(), POLLED, CELLS, "<script>alert"));
 }
 
+// The step of its strip: from the left on, 20 % busy, 50 % waiting, 9 wakes, 4 of its own.
+#[test]
+fn a_strip_has_the_numbers_of_its_steps(rt: HostRuntime) {
+    let strip = "preserveAspectRatio=\"none\" data-steps=\"0,200,500,9,4;\" role=\"img\"";
+    assert!(rt; shows(rt.alloc(), POLLED, strip, "data-steps=\"\""));
+    let all = "preserveAspectRatio=\"none\" data-steps=\"0,500;\" role=\"img\"";
+    assert!(rt; shows(rt.alloc(), POLLED, all, "data-steps=\"\""));
+}
+
+// A task that polled an operation on a semaphore at 40, which is 30 from the left. It is woken or not, and the semaphore has so many permits.
+fn waits(alloc: Global, woken: bool, permits: u64) -> Result<String, AllocError> {
+    format!(in alloc;
+        "{{\"dropped\":[0,0,0],\"new_ops\":[{{\"attrs\":[[\"wants\",null,\"i64\"]],\"id\":1099511627777,\"parent\":null,\"resource\":1099511627777,\"source\":\"Semaphore::acquire\"}}],\"new_resources\":[{{\"attrs\":[[\"permits\",\"MB\",\"u64\"]],\"id\":1099511627777,\"kind\":\"Sync\",\"loc\":[\"script\",2,1],\"parent\":null,\"type\":\"Semaphore\"}}],\"new_tasks\":[{{\"id\":1099511627778,\"kind\":\"spawn\",\"loc\":[\"script\",1,1],\"name\":\"writer\"}}],\"now\":50,\"op_stats\":[{{\"attrs\":[[-12345]],\"busy\":5,\"created\":30,\"dropped\":null,\"first_poll\":40,\"handles\":1,\"id\":1099511627777,\"last_ended\":45,\"last_started\":40,\"polling\":false,\"polls\":1,\"task\":1099511627778}}],\"poll_counts\":[],\"resource_stats\":[{{\"attrs\":[{permits}],\"created\":20,\"dropped\":null,\"handles\":2,\"id\":1099511627777}}],\"seq\":1,\"snapshot\":false,\"task_stats\":[{{\"busy\":5,\"clones\":1,\"created\":10,\"dropped\":null,\"drops\":0,\"first_poll\":40,\"handles\":1,\"id\":1099511627778,\"last_ended\":45,\"last_started\":40,\"last_wake\":null,\"polling\":false,\"polls\":1,\"sched\":30,\"scheduled\":{woken},\"self_wakes\":0,\"wakes\":0}}],\"v\":1}}\n"
+    )
+}
+
+// Whether the page of such a stream has this text, and not that one.
+fn waits_show(alloc: Global, woken: bool, permits: u64, text: &str, not: &str) -> bool {
+    match waits(alloc, woken, permits) {
+        Ok(stream) => shows(alloc, stream.as_bytes(), text, not),
+        Err(_) => false,
+    }
+}
+
+#[test]
+fn an_idle_task_says_what_it_waits_for(rt: HostRuntime) {
+    let odd = "</small><div class=\"badges\"";
+    let awaited =
+        "<div class=\"in\">in Semaphore::acquire, wants -12\u{202f}345 · Semaphore 1.1, permits 0 MB · since 30 ns</div></th>";
+    assert!(rt; waits_show(rt.alloc(), false, 0, awaited, odd));
+    assert!(rt; waits_show(rt.alloc(), true, 0, "Semaphore::acquire", "class=\"in\""));
+}
+
+#[test]
+fn a_resource_says_who_waits_for_it(rt: HostRuntime) {
+    let waiter =
+        "<div class=\"in\"><a href=\"#t1099511627778\">writer</a> waits in Semaphore::acquire, wants -12\u{202f}345 · since 30 ns</div><p>poll operations: 0 ready, 0 pending</p>";
+    assert!(rt; waits_show(rt.alloc(), false, 0, waiter, "class=\"more\""));
+}
+
+// Whether a page shows so many permits like this.
+fn shows_permits(alloc: Global, permits: u64, digits: &str) -> Result<bool, AllocError> {
+    let text = format!(in alloc; "<dt>permits</dt><dd>{digits} MB</dd>")?;
+    Ok(waits_show(alloc, false, permits, text.as_str(), "class=\"more\""))
+}
+
+#[test]
+fn digits_stand_in_groups_of_three(rt: HostRuntime) {
+    for (permits, digits) in [
+        (9999u64, "9999"),
+        (10_000, "10\u{202f}000"),
+        (123_456, "123\u{202f}456"),
+        (
+            u64::MAX,
+            "18\u{202f}446\u{202f}744\u{202f}073\u{202f}709\u{202f}551\u{202f}615",
+        ),
+    ] {
+        assert!(rt;
+            shows_permits(rt.alloc(), permits, digits) == Ok(true),
+            "{permits}"
+        );
+    }
+}
+
 #[test]
 fn a_stream_without_lines_has_a_page_without_items(rt: HostRuntime) {
     let none =

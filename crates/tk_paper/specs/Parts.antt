@@ -1,5 +1,5 @@
 -- How the parts of a page stand in its text.
-use Rattle.std.specs.Prelude.{ℕ, ◌+◌, ◌-◌, ◌/◌, ◌%◌, ◌^◌, min, nat_lt, nat_le, if◌then◌else◌, Option, Some, None, List, [], ◌∷◌, ◌++◌, codes, decimal, map, flat_map}
+use Rattle.std.specs.Prelude.{ℕ, ◌/◌, ◌%◌, ◌==◌, nat_lt, nat_le, if◌then◌else◌, Option, Some, None, List, [], ◌∷◌, ◌++◌, codes, decimal, length, map, flat_map}
 use Rattle.tk_paper.specs.Escaping.{after_byte, escaped}
 use Rattle.tk_paper.specs.Marks.{place_after, mark_text}
 use Rattle.tk_paper.specs.declared.marks.Attr.{Attr}
@@ -14,6 +14,28 @@ use Rattle.tk_paper.specs.declared.paper.Part.TheVariants as parts
 -- a number's digits
 abbrev pub number_of : ℕ → List ℕ
 number_of n = escaped (decimal n)
+
+-- a narrow no-break space, in UTF-8
+abbrev pub gap : List ℕ
+gap = 226 ∷ 128 ∷ 175 ∷ []
+
+-- what stands before a digit: a gap, if it and those behind it are a number of threes
+abbrev pub gap_before : ℕ → List ℕ
+gap_before left = if left % 3 == 0 then gap else []
+
+-- digits, each with what stands before it
+abbrev pub with_gaps : List ℕ → List ℕ
+with_gaps [] = []
+with_gaps (d ∷ ds) = gap_before (length (d ∷ ds)) ++ d ∷ with_gaps ds
+
+-- digits in groups of three, from the last on: no gap stands before the first
+abbrev pub grouped : List ℕ → List ℕ
+grouped [] = []
+grouped (d ∷ ds) = d ∷ with_gaps ds
+
+-- a number as people read it: from five digits on in groups of three
+abbrev pub count_of : ℕ → List ℕ
+count_of n = escaped (if nat_lt n 10000 then decimal n else grouped (decimal n))
 
 -- an attribute with its value
 abbrev pub attr_of : Attr → List ℕ → List ℕ
@@ -34,31 +56,28 @@ class_of tag class = mark_text (marks.Open tag) ++ (attr_of attrs.Class class ++
 -- a number of tenths of a unit: with the digit after the point where it is below this
 abbrev pub tenths_of : ℕ → ℕ → List ℕ → List ℕ
 tenths_of few tenths unit =
-    if nat_lt tenths few then number_of (tenths / 10) ++ (escaped (codes ".") ++ (number_of (tenths % 10) ++ escaped unit)) else number_of (tenths / 10) ++ escaped unit
+    if nat_lt tenths few then count_of (tenths / 10) ++ (escaped (codes ".") ++ (number_of (tenths % 10) ++ escaped unit)) else count_of (tenths / 10) ++ escaped unit
 
 -- a share in thousandths, in percent: below 10 % with one digit after the point
 abbrev pub share_text : ℕ → List ℕ
 share_text share = tenths_of 100 share (codes " %")
 
--- a time in nanoseconds, to the nearest of so many
-abbrev pub nearest : ℕ → ℕ → ℕ
-nearest ns unit = min (ns + unit / 2) (2 ^ 64 - 1) / unit
-
--- a time in nanoseconds, in the greatest unit of which it has one: to the nearest tenth, with the digit after the point below 100
+-- a time in nanoseconds, in the greatest unit of which it has one: rounded down to a tenth, with the digit after the point below 100
 abbrev pub span_text : ℕ → List ℕ
 span_text ns =
-    if nat_le 1000000000 ns then tenths_of 1000 (nearest ns 100000000) (codes " s") else
-    (if nat_le 1000000 ns then tenths_of 1000 (nearest ns 100000) (codes " ms") else
-    (if nat_le 1000 ns then tenths_of 1000 (nearest ns 100) (32 ∷ 194 ∷ 181 ∷ 115 ∷ []) else number_of ns ++ escaped (codes " ns")))
+    if nat_le 1000000000 ns then tenths_of 1000 (ns / 100000000) (codes " s") else
+    (if nat_le 1000000 ns then tenths_of 1000 (ns / 100000) (codes " ms") else
+    (if nat_le 1000 ns then tenths_of 1000 (ns / 100) (32 ∷ 194 ∷ 181 ∷ 115 ∷ []) else number_of ns ++ escaped (codes " ns")))
 
 -- a number of thousandths, rounded down to one digit after the point
 abbrev pub mean_text : ℕ → List ℕ
-mean_text mean = number_of (mean / 1000) ++ (escaped (codes ".") ++ number_of (mean % 1000 / 100))
+mean_text mean = count_of (mean / 1000) ++ (escaped (codes ".") ++ number_of (mean % 1000 / 100))
 
 -- a part of a page: as `Part`, with the bytes of its texts
 pub data Bit : Type 0 where
   text : List ℕ → Bit
   number : ℕ → Bit
+  count : ℕ → Bit
   share : ℕ → Bit
   span : ℕ → Bit
   mean : ℕ → Bit
@@ -76,6 +95,7 @@ pub data Bit : Type 0 where
 abbrev pub bit_of : Part → Bit
 bit_of (parts.Text t) = text t.now
 bit_of (parts.Number n) = number n
+bit_of (parts.Count n) = count n
 bit_of (parts.Share n) = share n
 bit_of (parts.Span n) = span n
 bit_of (parts.Mean n) = mean n
@@ -93,6 +113,7 @@ bit_of parts.Quote = quote
 abbrev pub bit_text : Bit → List ℕ
 bit_text (text t) = escaped t
 bit_text (number n) = number_of n
+bit_text (count n) = count_of n
 bit_text (share n) = share_text n
 bit_text (span n) = span_text n
 bit_text (mean n) = mean_text n
@@ -136,6 +157,7 @@ after_class tag place = after_mark marks.End (after_attr attrs.Class (after_mark
 abbrev pub after_bit : Bit → Option Place → Option Place
 after_bit (text t) place = after_text place
 after_bit (number n) place = after_text place
+after_bit (count n) place = after_text place
 after_bit (share n) place = after_text place
 after_bit (span n) place = after_text place
 after_bit (mean n) place = after_text place

@@ -8,16 +8,21 @@ use itoa::Buffer;
 use std::alloc::{AllocError, Global};
 use std::marker::Model;
 
+// A narrow no-break space.
+const GAP: &str = "\u{202f}";
+
 /// A part of a page. A text may be anyone's: it stands escaped.
 #[derive(Clone, Copy)]
 pub enum Part<'a> {
     /// A text.
     Text(&'a str),
-    /// A number.
+    /// A number's digits, as in an id or in a drawing.
     Number(u64),
+    /// A number that people read: from five digits on in groups of three.
+    Count(u64),
     /// A share in thousandths, shown in percent.
     Share(u64),
-    /// A time in nanoseconds, shown in its unit.
+    /// A time in nanoseconds, shown in its unit, rounded down.
     Span(u64),
     /// A number of thousandths, shown with one digit after the point.
     Mean(u64),
@@ -99,11 +104,18 @@ fn after_text(place: Option<Place>) -> Option<Place>
     after_byte(place?)
 }
 
+// What stands before a digit, of which and those behind it there are so many.
+fn gap_before(left: usize) -> &'static str
+    ensures { result.now ≡ places.gap_before left }
+{
+    if left % 3 == 0 { GAP } else { "" }
+}
+
 impl Paper {
     ghost use Rattle.tk_paper.specs.Pieces.{Puts, Writes};
     ghost use Rattle.tk_paper.specs.Escaping.{Woven, escaped, escaped_byte, no_paper};
     ghost use Rattle.tk_paper.specs.Marks.{mark_text};
-    ghost use Rattle.tk_paper.specs.Parts.{attr_of, after_attr, after_bit, after_class, after_mark, after_start, after_text, bit_of, bit_text, class_of, mean_text, number_attr_of, number_of, share_text, span_text, start_of, tenths_of};
+    ghost use Rattle.tk_paper.specs.Parts.{attr_of, after_attr, after_bit, after_class, after_mark, after_start, after_text, bit_of, bit_text, class_of, count_of, grouped, mean_text, number_attr_of, number_of, share_text, span_text, start_of, tenths_of, with_gaps};
 
     /// No text.
     pub fn new(alloc: Global) -> Paper
@@ -150,6 +162,43 @@ impl Paper {
         Ok(())
     }
 
+    // Puts digits, with a gap before each that begins a group. A number has at most twenty.
+    fn with_gaps(&mut self, digits: &[u8]) -> Result<(), AllocError>
+        ensures { OnOk result (Puts self.old self.new (escaped (with_gaps digits.now)) after_text) }
+    {
+        let [digit, rest @ ..] = digits else {
+            return self.text("");
+        };
+        self.text(gap_before(digits.len()))?;
+        self.byte(*digit)?;
+        self.with_gaps(rest)?;
+        Ok(())
+    }
+
+    // Puts digits in groups of three.
+    fn grouped(&mut self, digits: &[u8]) -> Result<(), AllocError>
+        ensures { OnOk result (Puts self.old self.new (escaped (grouped digits.now)) after_text) }
+    {
+        let [digit, rest @ ..] = digits else {
+            return self.text("");
+        };
+        self.byte(*digit)?;
+        self.with_gaps(rest)?;
+        Ok(())
+    }
+
+    fn count(&mut self, number: u64) -> Result<(), AllocError>
+        ensures { OnOk result (Puts self.old self.new (count_of number) after_text) }
+    {
+        let mut buffer = Buffer::new();
+        let digits = buffer.format(number);
+        if number < 10_000 {
+            self.text(digits)
+        } else {
+            self.grouped(digits.as_bytes())
+        }
+    }
+
     fn attr(&mut self, attr: Attr, value: &str) -> Result<(), AllocError>
         ensures { OnOk result (Puts self.old self.new (attr_of attr value.now) (after_attr attr)) }
     {
@@ -189,7 +238,7 @@ impl Paper {
     fn tenths(&mut self, few: u64, tenths: u64, unit: &str) -> Result<(), AllocError>
         ensures { OnOk result (Puts self.old self.new (tenths_of few tenths unit.now) after_text) }
     {
-        self.number(tenths / 10)?;
+        self.count(tenths / 10)?;
         if tenths < few {
             self.text(".")?;
             self.number(tenths % 10)?;
@@ -208,11 +257,11 @@ impl Paper {
         ensures { OnOk result (Puts self.old self.new (span_text ns) after_text) }
     {
         if ns >= 1_000_000_000 {
-            self.tenths(1000, ns.saturating_add(50_000_000) / 100_000_000, " s")
+            self.tenths(1000, ns / 100_000_000, " s")
         } else if ns >= 1_000_000 {
-            self.tenths(1000, ns.saturating_add(50_000) / 100_000, " ms")
+            self.tenths(1000, ns / 100_000, " ms")
         } else if ns >= 1_000 {
-            self.tenths(1000, ns.saturating_add(50) / 100, " µs")
+            self.tenths(1000, ns / 100, " µs")
         } else {
             self.number(ns)?;
             self.text(" ns")?;
@@ -223,7 +272,7 @@ impl Paper {
     fn mean(&mut self, mean: u64) -> Result<(), AllocError>
         ensures { OnOk result (Puts self.old self.new (mean_text mean) after_text) }
     {
-        self.number(mean / 1000)?;
+        self.count(mean / 1000)?;
         self.text(".")?;
         self.number(mean % 1000 / 100)?;
         Ok(())
@@ -235,6 +284,7 @@ impl Paper {
         match *part {
             Part::Text(text) => self.text(text),
             Part::Number(number) => self.number(number),
+            Part::Count(number) => self.count(number),
             Part::Share(share) => self.share(share),
             Part::Span(ns) => self.span(ns),
             Part::Mean(mean) => self.mean(mean),

@@ -46,7 +46,7 @@ all_joined p (x ∷ xs) ys a b =
 -- ---- the places of tasks
 
 -- the place of a task is among these
-abbrev is_placed : List (List ℕ) → Task → Bool
+abbrev pub is_placed : List (List ℕ) → Task → Bool
 is_placed names t = is_seen names (site_of t.info)
 
 -- so it is of one that is found
@@ -127,7 +127,7 @@ there_seen ns (t ∷ tasks) all =
     let parts = both (is_seen ns (site_of t.info)) (list_all (is_placed ns) tasks) all in
     ap₂ (λ a b. a && b) parts.0 (there_seen ns tasks parts.1)
 
-warned_seen : (ns : List (List ℕ)) (tables : TablesView) (ws : List AnyWarning) → list_all (is_placed ns) tables.tasks ≡ true
+pub warned_seen : (ns : List (List ℕ)) (tables : TablesView) (ws : List AnyWarning) → list_all (is_placed ns) tables.tasks ≡ true
     → list_all (λ (x : List ℕ × Sums). is_seen ns x.0) (flat_map (warned_entries tables) ws) ≡ true
 warned_seen ns tables [] all = refl
 warned_seen ns tables (w ∷ ws) all =

@@ -33,7 +33,7 @@ all-kept P p (x ∷ xs) all = by (p x) (all-kept P p xs all.1)
     by false rest = rest
 
 -- those that came are found by their ids
-found : (t others : TablesView) → IsDistinct nat_eq (map task_id t.tasks) → AreThere t (tasks_beside t others)
+pub found : (t others : TablesView) → IsDistinct nat_eq (map task_id t.tasks) → AreThere t (tasks_beside t others)
 found t others once = all-kept _ (λ (x : Task). not (has_task others x.info.id)) t.tasks (own task_id t.tasks once)
 
 -- of those that left stands what they were

@@ -1,4 +1,6 @@
 pub mod ChangeLemmas
+pub mod TimesLemmas
+pub mod TimedLemmas
 pub mod LineLemmas
 pub mod ViewLemmas
 pub mod WarnLemmas
@@ -6,3 +8,5 @@ pub mod OneLemmas
 pub mod CameLemmas
 pub mod SumLemmas
 pub mod TotalLemmas
+pub mod TimedTotals
+pub mod TimedNames

@@ -22,11 +22,11 @@ use Rattle.tk_sites.proofs.SumLemmas.{all_added}
 -- ---- sums over lists
 
 -- numbers that are the same add up to the same
-sum-same : {A : Type 0} (f g : A → ℕ) → ((x : A) → f x ≡ g x) → (xs : List A) → sum_by f xs ≡ sum_by g xs
+pub sum-same : {A : Type 0} (f g : A → ℕ) → ((x : A) → f x ≡ g x) → (xs : List A) → sum_by f xs ≡ sum_by g xs
 sum-same f g same [] = refl
 sum-same f g same (x ∷ xs) = sum_by-cons f x xs ∙ ap₂ (λ a b. a + b) (same x) (sum-same f g same xs) ∙ sym (sum_by-cons g x xs)
 
-sum-none : {A : Type 0} (xs : List A) → sum_by (λ (x : A). 0) xs ≡ 0
+pub sum-none : {A : Type 0} (xs : List A) → sum_by (λ (x : A). 0) xs ≡ 0
 sum-none [] = refl
 sum-none {A} (x ∷ xs) =
     let rest = sum-none xs in

@@ -6,6 +6,12 @@ pub mod Warned
 pub mod Sums
 -- The places of a stream's tasks
 pub mod Sites
+-- How long the polls of a place's tasks ran, and how long they waited
+pub mod Times
+-- The histograms of a stream's tasks by place
+pub mod TimedSites
+-- What stands below a place
+pub mod Below
 -- The text of places
 pub mod Lines
 -- One place, with its tasks
@@ -14,6 +20,8 @@ pub mod One
 pub mod Views
 -- What the laws say of places
 pub mod Laws
+-- What the laws say of the histograms of places
+pub mod TimedLaws
 -- Inner: no public clause cites this
 pub mod Inner
 -- Inner: what is added of the tasks that a line changed

@@ -1,5 +1,5 @@
 -- The text of places: a line for each, and a line for each kind of warning of its tasks.
-use Rattle.std.specs.Prelude.{ℕ, ◌+◌, Option, Some, None, List, [], ◌∷◌, ◌++◌, codes, decimal}
+use Rattle.std.specs.Prelude.{ℕ, ◌+◌, ◌-◌, Option, Some, None, List, [], ◌∷◌, ◌++◌, codes, decimal}
 use Rattle.std.specs.Option.{option_map_or}
 use Rattle.tk_ids.specs.Ids.{id_text}
 use Rattle.tk_series.specs.Limited.{LimitedView}
@@ -7,7 +7,9 @@ use Rattle.tk_stream.specs.Tables.{TablesView}
 use Rattle.tk_report.specs.Report.{heading, line}
 use Rattle.tk_report.specs.declared.view.View.{View}
 use Rattle.tk_report.specs.declared.view.View.TheVariants.{Report, Lint}
+use Rattle.tk_sites.specs.Below.{below}
 use Rattle.tk_sites.specs.declared.sums.Sums.{Sums}
+use Rattle.tk_sites.specs.declared.times.SiteTimes.{SiteTimes}
 use Rattle.tk_sites.specs.declared.warned.Warned.{Warned}
 
 -- how many tasks are in each state, and how many have left
@@ -41,6 +43,10 @@ abbrev pub site_line : ℕ → List ℕ × Sums → List ℕ
 site_line number x = line (codes "place")
     ((decimal number ∷ codes "tasks" ∷ decimal x.1.tasks ∷ []) ++ (state_words x.1 ++ (count_words x.1 ++ (time_words x.1 ++ place_words x.0))))
 
+-- the same, and below it the place's histograms, where they are shown
+abbrev pub timed_line : Option (LimitedView SiteTimes) → ℕ → List ℕ × Sums → List ℕ
+timed_line times number x = site_line number x ++ below times (number - 1)
+
 -- the line of those tasks of a place that have a warning of one kind, if there are any: how many, the first, and last the place
 abbrev pub warned_line : ℕ → List ℕ → List ℕ → Warned → List ℕ
 warned_line number kind site w = option_map_or (λ task. line (codes "warn-place")
@@ -62,7 +68,7 @@ numbered text n (x ∷ xs) = text n x ++ numbered text (n + 1) xs
 
 -- the place of all tasks that are of none by itself
 abbrev pub more_site : List ℕ
-more_site = codes "- at - name (more)"
+more_site = codes "- at - name (others)"
 
 -- what takes all that found no room among places, as one more
 abbrev pub more_of : Option Sums → List (List ℕ × Sums)
@@ -83,7 +89,7 @@ abbrev pub first_line : TablesView → Option Sums → List ℕ
 first_line tables None = heading tables
 first_line tables (Some rest) = heading_with tables rest.tasks
 
--- what is written of places: a first line, a line for each place, and their warnings; or these alone
-abbrev pub sites_text : View → TablesView → LimitedView Sums → List ℕ
-sites_text Report tables sites = first_line tables sites.rest ++ (numbered site_line 1 (listed sites) ++ numbered warned_lines 1 (listed sites))
-sites_text Lint tables sites = numbered warned_lines 1 (listed sites)
+-- what is written of places: a first line, the lines of each place, and their warnings; or these alone
+abbrev pub sites_text : View → TablesView → LimitedView Sums → Option (LimitedView SiteTimes) → List ℕ
+sites_text Report tables sites times = first_line tables sites.rest ++ (numbered (timed_line times) 1 (listed sites) ++ numbered warned_lines 1 (listed sites))
+sites_text Lint tables sites times = numbered warned_lines 1 (listed sites)

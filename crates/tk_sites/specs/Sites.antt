@@ -7,7 +7,7 @@ use Rattle.tk_client.specs.Changes.{tasks_beside}
 use Rattle.tk_client.specs.declared.any_warnings.AnyWarning.{AnyWarning}
 use Rattle.tk_series.specs.Limited.{LimitedView, limited}
 use Rattle.tk_sites.specs.Site.{room, site_of}
-use Rattle.tk_sites.specs.Sums.{came, left, plus, there, warned}
+use Rattle.tk_sites.specs.Sums.{came, left, plus, there, there_until, warned}
 use Rattle.tk_sites.specs.Warned.{one_warning, warned_task}
 use Rattle.tk_sites.specs.declared.sums.Sums.{Sums}
 
@@ -20,6 +20,10 @@ left_entry t = (site_of t.info, left t.row)
 
 abbrev pub there_entry : Task → List ℕ × Sums
 there_entry t = (site_of t.info, there t.row)
+
+-- of one that is there, with what lasts at a moment
+abbrev pub until_entry : ℕ → Task → List ℕ × Sums
+until_entry now t = (site_of t.info, there_until now t.row)
 
 -- and of a warning about a task of these tables
 abbrev pub warned_entries : TablesView → AnyWarning → List (List ℕ × Sums)
@@ -43,3 +47,7 @@ entries_of shown tables warnings =
 -- who is warned of. They stand in the order in which a first task of each came; past the room that there is, all are one
 abbrev pub sites_of : List TablesView → TablesView → List AnyWarning → LimitedView Sums
 sites_of shown tables warnings = limited room plus (entries_of shown tables warnings)
+
+-- the same places, with what lasts at the moment of these tables, and without warnings
+abbrev pub sites_until : List TablesView → TablesView → LimitedView Sums
+sites_until shown tables = limited room plus (changes_since empty_tables shown ++ map (until_entry tables.now) tables.tasks)

@@ -1,6 +1,8 @@
 -- What is added up of the tasks of a place.
-use Rattle.std.specs.Prelude.{ℕ, ◌+◌, Bool, ◌&&◌, not, is_some, if◌then◌else◌}
+use Rattle.std.specs.Prelude.{ℕ, ◌+◌, Bool, ◌&&◌, not, is_some, unwrap_or, if◌then◌else◌}
+use Rattle.tk_core.specs.Lasting.{busy_until, sched_until}
 use Rattle.tk_core.specs.Lists.{capped}
+use Rattle.tk_core.specs.Task.{waited_of}
 use Rattle.tk_core.specs.declared.task.row.TaskRow.{TaskRow}
 use Rattle.tk_sites.specs.declared.sums.Sums.{Sums}
 use Rattle.tk_sites.specs.declared.warned.Warnings.{Warnings}
@@ -26,12 +28,17 @@ nothing = record {
   drops = 0;
   busy = 0;
   sched = 0;
+  waited = 0;
   warnings = no_warnings;
 }
 
 -- of a task that came
 abbrev pub came : Sums
 came = record nothing { tasks = 1 }
+
+-- how long a task waited: all of it where that is counted, and otherwise each wait since its last wake
+abbrev pub waited_by : TaskRow → ℕ
+waited_by x = unwrap_or (waited_of x) x.sched
 
 -- what the row of a task says, its state aside
 abbrev pub counted : TaskRow → Sums
@@ -43,6 +50,7 @@ counted x = record nothing {
   drops = x.drops;
   busy = x.busy;
   sched = x.sched;
+  waited = waited_by x;
 }
 
 -- what a task that has left had come to
@@ -57,6 +65,10 @@ there x = record (counted x) {
   polling = one_if (not (is_some x.dropped) && x.polling);
   closed = one_if (is_some x.dropped);
 }
+
+-- the same, with what lasts at a moment: a poll that runs, and waiting that goes on
+abbrev pub there_until : ℕ → TaskRow → Sums
+there_until now x = record (there x) { busy = busy_until x now; waited = sched_until x now }
 
 -- of a warning
 abbrev pub warned : Warnings → Sums
@@ -78,5 +90,6 @@ plus a b = record {
   drops = capped (a.drops + b.drops);
   busy = capped (a.busy + b.busy);
   sched = capped (a.sched + b.sched);
+  waited = capped (a.waited + b.waited);
   warnings = both_warnings a.warnings b.warnings;
 }

@@ -12,42 +12,44 @@ ghost use Rattle.tk_sites.specs.Warned.{one_warning, warned_task as task_of};
 ghost use Rattle.tk_sites.specs.declared.sums.Sums.{Sums as SumsView};
 
 use crate::site::site_of;
-use crate::sums::{Sums, came, left, there, warned};
+use crate::sums::{Sums, left, there, there_until, warned};
 use crate::warned::{Warnings, warned_task};
 use std::alloc::{AllocError, Global};
 use tk_client::{AnyWarning, LeftTask};
 use tk_ids::TaskId;
-use tk_series::Limited;
+use tk_series::{Added, Limited};
 use tk_stream::{Tables, Task};
 
-fn add_came_one(
-    sites: &mut Limited<Sums>,
+fn add_came_one<V: Added>(
+    sites: &mut Limited<V>,
     alloc: Global,
     tables: &Tables,
     id: TaskId,
+    came: V,
 ) -> Result<(), AllocError>
     ensures { OnOk result (sites.new ≡ option_map_or
-        (λ t. with_one sums.plus (site t.info) sums.came sites.old) (task_with id tables.now.tasks) sites.old) }
+        (λ t. with_one V.plus (site t.info) came sites.old) (task_with id tables.now.tasks) sites.old) }
 {
     match tables.task(id) {
-        Some(task) => sites.add(site_of(alloc, &task.info)?, came()),
+        Some(task) => sites.add(site_of(alloc, &task.info)?, came),
         None => Ok(()),
     }
 }
 
-/// Adds the tasks that came to these tables.
-pub(crate) fn add_came(
-    sites: &mut Limited<Sums>,
+/// Adds the tasks that came to these tables, of each of which a place has the same.
+pub(crate) fn add_came<V: Added>(
+    sites: &mut Limited<V>,
     alloc: Global,
     tables: &Tables,
     ids: &[TaskId],
+    came: V,
 ) -> Result<(), AllocError>
-    ensures { (before : List (List ℕ × SumsView)) (tasks : List TaskView) → sites.old ≡ limited room sums.plus before
+    ensures { (before : List (List ℕ × V)) (tasks : List TaskView) → sites.old ≡ limited room V.plus before
         → ids.now ≡ map task_id tasks → AreThere tables.now tasks
-        → OnOk result (sites.new ≡ limited room sums.plus (before ++ map spec.came_entry tasks)) }
+        → OnOk result (sites.new ≡ limited room V.plus (before ++ map (λ t. (site t.info, came)) tasks)) }
 {
     for id in ids {
-        add_came_one(sites, alloc, tables, *id)?;
+        add_came_one(sites, alloc, tables, *id, came)?;
     }
     Ok(())
 }
@@ -99,6 +101,39 @@ pub(crate) fn add_there(
 {
     for place in 0..tables.task_count() {
         add_there_at(sites, alloc, tables, place)?;
+    }
+    Ok(())
+}
+
+fn add_until_at(
+    sites: &mut Limited<Sums>,
+    alloc: Global,
+    tables: &Tables,
+    place: usize,
+) -> Result<(), AllocError>
+    ensures { OnOk result (sites.new ≡ option_map_or
+        (λ t. with_one sums.plus (site t.info) (sums.there_until tables.now.now t.row) sites.old) (slice_get tables.now.tasks place) sites.old) }
+{
+    match tables.task_at(place) {
+        Some(task) => sites.add(
+            site_of(alloc, &task.info)?,
+            there_until(&task.row, tables.now()),
+        ),
+        None => Ok(()),
+    }
+}
+
+/// Adds the tasks that are there, with what lasts at the moment of these tables.
+pub(crate) fn add_until(
+    sites: &mut Limited<Sums>,
+    alloc: Global,
+    tables: &Tables,
+) -> Result<(), AllocError>
+    ensures { (before : List (List ℕ × SumsView)) → sites.old ≡ limited room sums.plus before
+        → OnOk result (sites.new ≡ limited room sums.plus (before ++ map (spec.until_entry tables.now.now) tables.now.tasks)) }
+{
+    for place in 0..tables.task_count() {
+        add_until_at(sites, alloc, tables, place)?;
     }
     Ok(())
 }

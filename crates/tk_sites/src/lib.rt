@@ -2,11 +2,13 @@
 //!
 //! - [`view_sites`], [`SitesView`]: reads a stream to its end, and writes a line for each place, or the warnings by place, or one place with its tasks.
 //! - [`Sites`]: what watches a stream's lines for it. [`Sums`], [`Warnings`], [`Warned`]: what is added up of a place.
+//! - [`TimedSites`]: what watches them for histograms by place. [`SiteTimes`], [`Histogram`]: what is added up of these.
 //! - [`laws`]: what places add up to, and that their numbers stay.
 //! - [`site_of`]: the place of a task, as it is written.
 #![tactic(auto)]
 
 mod adding;
+mod below;
 pub mod laws;
 mod lines;
 mod one;
@@ -14,12 +16,18 @@ mod site;
 mod sites;
 mod sites_view;
 mod sums;
+mod timed_sites;
+mod times;
+mod timing;
 mod view;
 mod warned;
 
+pub use lines::more_site;
 pub use site::site_of;
 pub use sites::Sites;
 pub use sites_view::SitesView;
 pub use sums::Sums;
+pub use timed_sites::TimedSites;
+pub use times::{Histogram, SiteTimes};
 pub use view::view_sites;
 pub use warned::{Warned, Warnings};

@@ -6,7 +6,9 @@ ghost use Rattle.tk_report.specs.Pieces.{Puts, spaced};
 ghost use Rattle.tk_report.specs.Report as report;
 ghost use Rattle.tk_sites.specs.Lines as spec;
 
+use crate::below::put_below;
 use crate::sums::Sums;
+use crate::times::SiteTimes;
 use crate::warned::{Warned, Warnings};
 use std::alloc::{AllocError, Global};
 use tk_ids::{Dropped, TaskId};
@@ -21,9 +23,16 @@ pub(crate) fn put(out: &mut Vec<u8>, text: &[u8]) -> Result<(), AllocError>
 }
 
 // The place of all tasks that are of none by itself.
-pub(crate) const MORE: &str = "- at - name (more)";
+pub(crate) const MORE: &str = "- at - name (others)";
 
-// The first line where each place stands by itself.
+/// The text of the one place more, of all tasks that are of none by itself.
+pub fn more_site() -> &'static str
+    ensures { result.now ≡ spec.more_site }
+{
+    MORE
+}
+
+// The first line if each place stands by itself.
 fn heading(alloc: Global, tables: &Tables) -> Result<String, AllocError>
     ensures { IfOk result (λ text. string_bytes text ≡ report.heading tables.now) }
 {
@@ -36,7 +45,7 @@ fn heading(alloc: Global, tables: &Tables) -> Result<String, AllocError>
     format!(in alloc; "now {now} dropped {tasks} {resources} {ops}\n")
 }
 
-// And where so many tasks are of no place by itself.
+// And if so many tasks are of no place by itself.
 fn heading_with(alloc: Global, tables: &Tables, more: u64) -> Result<String, AllocError>
     ensures { IfOk result (λ text. string_bytes text ≡ spec.heading_with tables.now more) }
 {
@@ -116,7 +125,7 @@ fn put_site(out: &mut Vec<u8>, site: &[u8]) -> Result<(), AllocError>
     put(out, b"\n")
 }
 
-pub(crate) fn put_line(
+fn put_line(
     out: &mut Vec<u8>,
     alloc: Global,
     number: u64,
@@ -133,53 +142,81 @@ pub(crate) fn put_line(
     Ok(())
 }
 
-// Puts the line of the place that stands there.
+/// Puts the line of a place, and its histograms below it, if they are shown.
+pub(crate) fn put_timed_line(
+    out: &mut Vec<u8>,
+    alloc: Global,
+    times: &Option<Limited<SiteTimes>>,
+    number: u64,
+    site: &[u8],
+    sums: &Sums,
+) -> Result<(), AllocError>
+    ensures { OnOk result (Puts out.old.items out.new.items (spec.timed_line times.now number (site.now, sums.now))) }
+{
+    put_line(out, alloc, number, site, sums)?;
+    put_below(out, alloc, times, number.saturating_sub(1) as usize)?;
+    Ok(())
+}
+
+// Puts the lines of the place that stands there.
 fn put_line_at(
     out: &mut Vec<u8>,
     alloc: Global,
     sites: &Limited<Sums>,
+    times: &Option<Limited<SiteTimes>>,
     at: usize,
 ) -> Result<(), AllocError>
     requires { at + 1 < 2 ^ 64 }
     ensures { OnOk result (Puts out.old.items out.new.items
-        (option_map_or (spec.site_line (at + 1)) (slice_get sites.now.first at) [])) }
+        (option_map_or (spec.timed_line times.now (at + 1)) (slice_get sites.now.first at) [])) }
 {
     match sites.at(at) {
-        Some((site, sums)) => put_line(out, alloc, at as u64 + 1, site, &sums),
+        Some((site, sums)) => put_timed_line(out, alloc, times, at as u64 + 1, site, &sums),
         None => Ok(()),
     }
 }
 
-fn put_own_lines(out: &mut Vec<u8>, alloc: Global, sites: &Limited<Sums>) -> Result<(), AllocError>
-    ensures { OnOk result (Puts out.old.items out.new.items (spec.numbered spec.site_line 1 sites.now.first)) }
+fn put_own_lines(
+    out: &mut Vec<u8>,
+    alloc: Global,
+    sites: &Limited<Sums>,
+    times: &Option<Limited<SiteTimes>>,
+) -> Result<(), AllocError>
+    ensures { OnOk result (Puts out.old.items out.new.items (spec.numbered (spec.timed_line times.now) 1 sites.now.first)) }
 {
     for at in 0..sites.len() {
-        put_line_at(out, alloc, sites, at)?;
+        put_line_at(out, alloc, sites, times, at)?;
     }
     Ok(())
 }
 
-// Puts the line of the one place more, if there is one.
+// Puts the lines of the one place more, if there is one.
 fn put_more_line(
     out: &mut Vec<u8>,
     alloc: Global,
+    times: &Option<Limited<SiteTimes>>,
     number: u64,
     rest: Option<Sums>,
 ) -> Result<(), AllocError>
     ensures { OnOk result (Puts out.old.items out.new.items
-        (option_map_or (λ sums. spec.site_line number (spec.more_site, sums)) rest [])) }
+        (option_map_or (λ sums. spec.timed_line times.now number (spec.more_site, sums)) rest [])) }
 {
     match rest {
-        Some(sums) => put_line(out, alloc, number, MORE.as_bytes(), &sums),
+        Some(sums) => put_timed_line(out, alloc, times, number, MORE.as_bytes(), &sums),
         None => Ok(()),
     }
 }
 
-fn put_lines(out: &mut Vec<u8>, alloc: Global, sites: &Limited<Sums>) -> Result<(), AllocError>
-    ensures { OnOk result (Puts out.old.items out.new.items (spec.numbered spec.site_line 1 (spec.listed sites.now))) }
+fn put_lines(
+    out: &mut Vec<u8>,
+    alloc: Global,
+    sites: &Limited<Sums>,
+    times: &Option<Limited<SiteTimes>>,
+) -> Result<(), AllocError>
+    ensures { OnOk result (Puts out.old.items out.new.items (spec.numbered (spec.timed_line times.now) 1 (spec.listed sites.now))) }
 {
-    put_own_lines(out, alloc, sites)?;
-    put_more_line(out, alloc, sites.len() as u64 + 1, sites.rest())?;
+    put_own_lines(out, alloc, sites, times)?;
+    put_more_line(out, alloc, times, sites.len() as u64 + 1, sites.rest())?;
     Ok(())
 }
 
@@ -316,17 +353,19 @@ fn put_all_warnings(
     Ok(())
 }
 
-// The first line, and a line for each place.
+// The first line, and the lines of each place.
 fn put_report(
     out: &mut Vec<u8>,
     alloc: Global,
     tables: &Tables,
     sites: &Limited<Sums>,
+    times: &Option<Limited<SiteTimes>>,
 ) -> Result<(), AllocError>
-    ensures { OnOk result (Puts out.old.items out.new.items (spec.first_line tables.now sites.now.rest ++ spec.numbered spec.site_line 1 (spec.listed sites.now))) }
+    ensures { OnOk result (Puts out.old.items out.new.items
+        (spec.first_line tables.now sites.now.rest ++ spec.numbered (spec.timed_line times.now) 1 (spec.listed sites.now))) }
 {
     put(out, first_line(alloc, tables, sites.rest())?.as_bytes())?;
-    put_lines(out, alloc, sites)?;
+    put_lines(out, alloc, sites, times)?;
     Ok(())
 }
 
@@ -336,12 +375,13 @@ pub(crate) fn text_of(
     view: View,
     tables: &Tables,
     sites: &Limited<Sums>,
+    times: &Option<Limited<SiteTimes>>,
 ) -> Result<Vec<u8>, AllocError>
-    ensures { IfOk result (λ text. text.items ≡ spec.sites_text view tables.now sites.now) }
+    ensures { IfOk result (λ text. text.items ≡ spec.sites_text view tables.now sites.now times.now) }
 {
     let mut text = Vec::new(alloc);
     match view {
-        View::Report => put_report(&mut text, alloc, tables, sites)?,
+        View::Report => put_report(&mut text, alloc, tables, sites, times)?,
         View::Lint => {}
     }
     put_all_warnings(&mut text, alloc, sites)?;

@@ -1,17 +1,19 @@
 //! One place, with its tasks.
-ghost use Rattle.std.specs.Prelude.{◌≡◌, ◌-◌, [], None, IfOk, OnOk, flat_map, slice_get, string_bytes, if◌then◌else◌};
+ghost use Rattle.std.specs.Prelude.{◌≡◌, ◌-◌, [], None, IfOk, OnOk, flat_map, is_some, slice_get, string_bytes, if◌then◌else◌};
 ghost use Rattle.std.specs.Option.{option_map_or};
 ghost use Rattle.tk_report.specs.Pieces.{Puts};
-ghost use Rattle.tk_report.specs.Report as report;
+ghost use Rattle.tk_report.specs.Timed as report;
 ghost use Rattle.tk_sites.specs.Lines as lines;
 ghost use Rattle.tk_sites.specs.One as spec;
 
-use crate::lines::{MORE, first_line, put, put_line, put_warnings, text_of};
+use crate::lines::{MORE, first_line, put, put_timed_line, put_warnings, text_of};
 use crate::site::site_of;
 use crate::sites_view::SitesView;
 use crate::sums::Sums;
+use crate::times::SiteTimes;
 use std::alloc::{AllocError, Global};
-use tk_report::put_task;
+use tk_client::Times;
+use tk_report::put_task_lines;
 use tk_series::Limited;
 use tk_stream::{Tables, Task};
 
@@ -31,20 +33,27 @@ fn is_of(
     }
 }
 
-fn line_of(alloc: Global, task: &Task) -> Result<String, AllocError>
-    ensures { IfOk result (λ text. string_bytes text ≡ report.task_line task.now) }
+fn lines_of(alloc: Global, times: &Times, shown: bool, task: &Task) -> Result<String, AllocError>
+    ensures { IfOk result (λ text. string_bytes text ≡ report.task_lines shown times.now task.now) }
 {
-    let mut line = String::new(alloc);
-    put_task(&mut line, task)?;
-    Ok(line)
+    let mut lines = String::new(alloc);
+    put_task_lines(&mut lines, times, shown, task)?;
+    Ok(lines)
 }
 
-// Puts the line of a task where it is of a place.
-fn put_if(out: &mut Vec<u8>, alloc: Global, task: &Task, is: bool) -> Result<(), AllocError>
-    ensures { OnOk result (Puts out.old.items out.new.items (if is then report.task_line task.now else [])) }
+// Puts the lines of a task if it is of a place.
+fn put_if(
+    out: &mut Vec<u8>,
+    alloc: Global,
+    times: &Times,
+    shown: bool,
+    task: &Task,
+    is: bool,
+) -> Result<(), AllocError>
+    ensures { OnOk result (Puts out.old.items out.new.items (if is then report.task_lines shown times.now task.now else [])) }
 {
     if is {
-        put(out, line_of(alloc, task)?.as_bytes())
+        put(out, lines_of(alloc, times, shown, task)?.as_bytes())
     } else {
         Ok(())
     }
@@ -55,12 +64,14 @@ fn put_task_of(
     alloc: Global,
     sites: &Limited<Sums>,
     index: usize,
+    times: &Times,
+    shown: bool,
     task: &Task,
 ) -> Result<(), AllocError>
-    ensures { OnOk result (Puts out.old.items out.new.items (spec.line_if (spec.is_of sites.now.first index) task.now)) }
+    ensures { OnOk result (Puts out.old.items out.new.items (spec.lines_if (spec.is_of sites.now.first index) shown times.now task.now)) }
 {
     let is = is_of(alloc, sites, index, task)?;
-    put_if(out, alloc, task, is)
+    put_if(out, alloc, times, shown, task, is)
 }
 
 fn put_task_at(
@@ -69,13 +80,15 @@ fn put_task_at(
     sites: &Limited<Sums>,
     index: usize,
     tables: &Tables,
+    times: &Times,
+    shown: bool,
     at: usize,
 ) -> Result<(), AllocError>
     ensures { OnOk result (Puts out.old.items out.new.items
-        (option_map_or (spec.line_if (spec.is_of sites.now.first index)) (slice_get tables.now.tasks at) [])) }
+        (option_map_or (spec.lines_if (spec.is_of sites.now.first index) shown times.now) (slice_get tables.now.tasks at) [])) }
 {
     match tables.task_at(at) {
-        Some(task) => put_task_of(out, alloc, sites, index, task),
+        Some(task) => put_task_of(out, alloc, sites, index, times, shown, task),
         None => Ok(()),
     }
 }
@@ -87,11 +100,14 @@ fn put_tasks(
     sites: &Limited<Sums>,
     index: usize,
     tables: &Tables,
+    times: &Times,
+    shown: bool,
 ) -> Result<(), AllocError>
-    ensures { OnOk result (Puts out.old.items out.new.items (flat_map (spec.line_if (spec.is_of sites.now.first index)) tables.now.tasks)) }
+    ensures { OnOk result (Puts out.old.items out.new.items
+        (flat_map (spec.lines_if (spec.is_of sites.now.first index) shown times.now) tables.now.tasks)) }
 {
     for at in 0..tables.task_count() {
-        put_task_at(out, alloc, sites, index, tables, at)?;
+        put_task_at(out, alloc, sites, index, tables, times, shown, at)?;
     }
     Ok(())
 }
@@ -102,14 +118,17 @@ fn put_place(
     sites: &Limited<Sums>,
     number: u64,
     tables: &Tables,
+    own: &Times,
+    times: &Option<Limited<SiteTimes>>,
     site: &[u8],
     sums: &Sums,
 ) -> Result<(), AllocError>
     ensures { OnOk result (Puts out.old.items out.new.items
-        (spec.place_text (spec.is_of sites.now.first (number - 1)) number tables.now (site.now, sums.now))) }
+        (spec.place_text (spec.is_of sites.now.first (number - 1)) number tables.now own.now times.now (site.now, sums.now))) }
 {
-    put_line(out, alloc, number, site, sums)?;
-    put_tasks(out, alloc, sites, number.saturating_sub(1) as usize, tables)?;
+    let index = number.saturating_sub(1) as usize;
+    put_timed_line(out, alloc, times, number, site, sums)?;
+    put_tasks(out, alloc, sites, index, tables, own, times.is_some())?;
     put_warnings(out, alloc, number, site, sums)?;
     Ok(())
 }
@@ -121,15 +140,19 @@ fn put_more(
     sites: &Limited<Sums>,
     number: u64,
     tables: &Tables,
+    own: &Times,
+    times: &Option<Limited<SiteTimes>>,
 ) -> Result<(), AllocError>
     requires { slice_get sites.now.first (number - 1) ≡ None }
     ensures { OnOk result (Puts out.old.items out.new.items
-        (option_map_or (spec.place_text (spec.is_of sites.now.first (number - 1)) number tables.now) (slice_get (lines.listed sites.now) (number - 1)) [])) }
+        (option_map_or (spec.place_text (spec.is_of sites.now.first (number - 1)) number tables.now own.now times.now)
+        (slice_get (lines.listed sites.now) (number - 1)) [])) }
 {
     match sites.rest() {
         Some(sums) => {
             if number.saturating_sub(1) as usize == sites.len() {
-                put_place(out, alloc, sites, number, tables, MORE.as_bytes(), &sums)
+                let site = MORE.as_bytes();
+                put_place(out, alloc, sites, number, tables, own, times, site, &sums)
             } else {
                 Ok(())
             }
@@ -145,13 +168,16 @@ fn put_numbered(
     sites: &Limited<Sums>,
     number: u64,
     tables: &Tables,
+    own: &Times,
+    times: &Option<Limited<SiteTimes>>,
 ) -> Result<(), AllocError>
     ensures { OnOk result (Puts out.old.items out.new.items
-        (option_map_or (spec.place_text (spec.is_of sites.now.first (number - 1)) number tables.now) (slice_get (lines.listed sites.now) (number - 1)) [])) }
+        (option_map_or (spec.place_text (spec.is_of sites.now.first (number - 1)) number tables.now own.now times.now)
+        (slice_get (lines.listed sites.now) (number - 1)) [])) }
 {
     match sites.at(number.saturating_sub(1) as usize) {
-        Some((site, sums)) => put_place(out, alloc, sites, number, tables, site, &sums),
-        None => put_more(out, alloc, sites, number, tables),
+        Some((site, sums)) => put_place(out, alloc, sites, number, tables, own, times, site, &sums),
+        None => put_more(out, alloc, sites, number, tables, own, times),
     }
 }
 
@@ -159,30 +185,34 @@ fn one_text(
     alloc: Global,
     number: u64,
     tables: &Tables,
+    own: &Times,
     sites: &Limited<Sums>,
+    times: &Option<Limited<SiteTimes>>,
 ) -> Result<Vec<u8>, AllocError>
-    ensures { IfOk result (λ text. text.items ≡ spec.one_text number tables.now sites.now) }
+    ensures { IfOk result (λ text. text.items ≡ spec.one_text number tables.now own.now sites.now times.now) }
 {
     let mut text = Vec::new(alloc);
     put(
         &mut text,
         first_line(alloc, tables, sites.rest())?.as_bytes(),
     )?;
-    put_numbered(&mut text, alloc, sites, number, tables)?;
+    put_numbered(&mut text, alloc, sites, number, tables, own, times)?;
     Ok(text)
 }
 
-/// What is written of the places of tables, by such a view.
+/// What is written of the places of tables, by such a view: with the histograms of places, if they are shown, and then also with those of tasks.
 pub(crate) fn written(
     alloc: Global,
     view: SitesView,
     tables: &Tables,
+    own: &Times,
     sites: &Limited<Sums>,
+    times: &Option<Limited<SiteTimes>>,
 ) -> Result<Vec<u8>, AllocError>
-    ensures { IfOk result (λ text. text.items ≡ spec.written view tables.now sites.now) }
+    ensures { IfOk result (λ text. text.items ≡ spec.written view tables.now own.now sites.now times.now) }
 {
     match view {
-        SitesView::All(view) => text_of(alloc, view, tables, sites),
-        SitesView::One(number) => one_text(alloc, number, tables, sites),
+        SitesView::All(view) => text_of(alloc, view, tables, sites, times),
+        SitesView::One(number) => one_text(alloc, number, tables, own, sites, times),
     }
 }

@@ -1,15 +1,15 @@
 //! The places of a stream, line by line.
 
-use crate::adding::{add_came, add_left, add_there, add_warnings};
-use crate::sums::Sums;
+use crate::adding::{add_came, add_left, add_there, add_until, add_warnings};
+use crate::sums::{Sums, came};
 use std::alloc::{AllocError, Global};
 use tk_client::{AnyWarning, Change, Times};
 use tk_reading::Observes;
 use tk_series::Limited;
 use tk_stream::Tables;
 
-// How many places stand by themselves.
-const ROOM: usize = 4096;
+/// How many places stand by themselves.
+pub(crate) const ROOM: usize = 4096;
 
 /// What came to a stream's tables and left them so far, by place.
 #[derive(Drop)]
@@ -24,7 +24,7 @@ impl Sites {
     ghost use Rattle.tk_client.specs.Changes.{Leads};
     ghost use Rattle.tk_reading.specs.Shown.{last_shown};
     ghost use Rattle.tk_sites.specs.Inner.{Follows};
-    ghost use Rattle.tk_sites.specs.Sites.{sites_of};
+    ghost use Rattle.tk_sites.specs.Sites.{sites_of, sites_until};
 
     /// Of no lines yet.
     pub fn new(alloc: Global) -> Sites
@@ -36,14 +36,15 @@ impl Sites {
         }
     }
 
-    // Takes the tables after a line, which changed this in those before it.
-    fn note(&mut self, tables: &Tables, change: &Change) -> Result<(), AllocError>
+    /// Takes the tables after a line, which changed this in those before it.
+    pub fn note(&mut self, tables: &Tables, change: &Change) -> Result<(), AllocError>
         ensures { (shown : List TablesView) → Leads (last_shown empty_tables shown) tables.now change.now → Follows shown self.old
             → OnOk result (Follows (shown ++ tables.now ∷ []) self.new) }
     {
         // Whoever counts tables' tasks learns that none stands twice.
         tables.task_count();
-        add_came(&mut self.changes, self.alloc, tables, change.came())?;
+        let one = came();
+        add_came(&mut self.changes, self.alloc, tables, change.came(), one)?;
         add_left(&mut self.changes, self.alloc, change.left())?;
         Ok(())
     }
@@ -61,6 +62,16 @@ impl Sites {
         let mut sites = self.changes.copy()?;
         add_there(&mut sites, self.alloc, tables)?;
         add_warnings(&mut sites, self.alloc, tables, warnings)?;
+        Ok(sites)
+    }
+
+    /// The same, with what lasts at the moment of these tables: polls that run, and waiting that goes on. Nobody is warned of.
+    pub fn sums_until(&self, tables: &Tables) -> Result<Limited<Sums>, AllocError>
+        ensures { (shown : List TablesView) → Follows shown self.now
+            → IfOk result (λ sites. sites ≡ sites_until shown tables.now) }
+    {
+        let mut sites = self.changes.copy()?;
+        add_until(&mut sites, self.alloc, tables)?;
         Ok(sites)
     }
 }

@@ -33,8 +33,10 @@ pub struct Sums {
     pub drops: u64,
     /// How long their ended polls ran, in nanoseconds.
     pub busy: u64,
-    /// How long they waited, scheduled, in nanoseconds.
+    /// How long they waited, scheduled, in nanoseconds: since their last wakes alone.
     pub sched: u64,
+    /// How long they waited, in nanoseconds: all of it if a task counts that, and otherwise since its last wake.
+    pub waited: u64,
     /// How many of them are warned of.
     pub warnings: Warnings,
 }
@@ -61,6 +63,7 @@ impl Added for Sums {
             drops: self.drops.saturating_add(more.drops),
             busy: self.busy.saturating_add(more.busy),
             sched: self.sched.saturating_add(more.sched),
+            waited: self.waited.saturating_add(more.waited),
             warnings: self.warnings.with(more.warnings),
         }
     }
@@ -89,6 +92,7 @@ fn nothing() -> Sums
         drops: 0,
         busy: 0,
         sched: 0,
+        waited: 0,
         warnings: Warnings::none(),
     }
 }
@@ -100,6 +104,16 @@ pub(crate) fn came() -> Sums
     Sums {
         tasks: 1,
         ..nothing()
+    }
+}
+
+// How long a task waited.
+fn waited_by(row: &TaskRow) -> u64
+    ensures { result ≡ spec.waited_by row.now }
+{
+    match row.waited() {
+        Some(waited) => waited,
+        None => row.sched,
     }
 }
 
@@ -115,6 +129,7 @@ fn counted(row: &TaskRow) -> Sums
         drops: row.drops,
         busy: row.busy,
         sched: row.sched,
+        waited: waited_by(row),
         ..nothing()
     }
 }
@@ -140,6 +155,19 @@ pub(crate) fn there(row: &TaskRow) -> Sums
         polling: one_if(open && row.polling),
         closed: one_if(!open),
         ..counted(row)
+    }
+}
+
+/// The same, with what lasts at this moment: a poll that runs, and waiting that goes on.
+pub(crate) fn there_until(row: &TaskRow, now: u64) -> Sums
+    ensures { result ≡ spec.there_until now row.now }
+{
+    let busy = row.busy_until(now);
+    let waited = row.sched_until(now);
+    Sums {
+        busy,
+        waited,
+        ..there(row)
     }
 }
 

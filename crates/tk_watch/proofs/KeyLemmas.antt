@@ -1,5 +1,5 @@
 -- The steps of a watch at keys.
-use Rattle.std.proofs.Common.{◌≡◌, ℕ, List, [], ◌∷◌, ◌++◌, Bool, true, false, not, Option, Some, None, Ok, Err, refl, ap, sym, ◌∙◌, subst, ⊎_elim, inl, inr, append_assoc, append-nil, true≢false}
+use Rattle.std.proofs.Common.{◌≡◌, ℕ, ◌-◌, List, [], ◌∷◌, ◌++◌, Bool, true, false, not, Option, Some, None, Ok, Err, refl, ap, sym, ◌∙◌, subst, ⊎_elim, inl, inr, append_assoc, append-nil, true≢false, arith}
 use Rattle.std.specs.Io.KnownBytes.{Appends}
 use Rattle.std.specs.List.{fold, list_all}
 use Rattle.std.specs.Prelude.{is_some}
@@ -19,10 +19,10 @@ use Rattle.tk_reading.specs.Taken.{HasTaken}
 use Rattle.tk_reading.proofs.ReadLemmas.{begins}
 use Rattle.tk_stream.specs.Sent.{IsCut}
 use Rattle.tk_stream.specs.Tables.{TablesView}
-use Rattle.tk_watch.specs.Keyed.{Coming, IsOver, Loses, Standing, WatchesKeys, after, asked_after, at_first, broken, drawn, drawn_at, drawn_from, due, key, piece, shown_of, standing, is_no_key, text_of}
+use Rattle.tk_watch.specs.Keyed.{Coming, IsOver, Loses, Standing, WatchesKeys, after, asked_after, at_first, behind_in, broken, drawn, drawn_at, drawn_from, due, key, piece, shown_of, standing, is_no_key, text_at, text_of}
 use Rattle.tk_watch.specs.Course.{Sees}
 use Rattle.tk_watch.specs.Drawing.{Sends, SendsBefore}
-use Rattle.tk_watch.specs.Keying.{Goes, Holds, IsFirst, Keying, SendsAt, Shows, Stands, held_then, holding, pressed_after, screen_after}
+use Rattle.tk_watch.specs.Keying.{Goes, Holds, IsFirst, Keying, SendsAt, Shows, Stands, held_then, holding, pressed_after, screen_after, screen_held}
 use Rattle.tk_watch.specs.Odd.{odd_in, seen_in}
 use Rattle.tk_watch.specs.Watching.{TakesTo}
 use Rattle.tk_watch.specs.declared.drawing.Screen.{Screen}
@@ -65,19 +65,19 @@ none_more screen events e none = drawn_more screen events e ∙ ap (λ t. drawn 
 -- ---- a pause
 
 stays_from : (screen : Screen) (s : Standing) (more : List Coming) → s.asked.paused ≡ true → list_all is_no_key more ≡ true
-    → text_of screen (fold (after screen) s more) ≡ text_of screen s
-stays_from screen s [] paused none = refl
-stays_from screen s (piece p ∷ more) paused none =
-    stays_from screen (after screen s (piece p)) more paused none
-    ∙ ap (λ b. asked_screen screen.canvas screen.query (odd_in screen.lints (shown_of b s.shown (s.bytes ++ p))) s.asked (tables_in (outcome_of (shown_of b s.shown (s.bytes ++ p))))) paused
-stays_from screen s (key k ∷ more) paused none = absurd (true≢false (sym none))
-stays_from screen s (due ∷ more) paused none = stays_from screen s more paused none
-stays_from screen s (broken ∷ more) paused none = stays_from screen s more paused none
+    → (n : ℕ) → text_at n screen (fold (after screen) s more) ≡ text_at n screen s
+stays_from screen s [] paused none n = refl
+stays_from screen s (piece p ∷ more) paused none n =
+    stays_from screen (after screen s (piece p)) more paused none n
+    ∙ ap (λ b. asked_screen screen.canvas screen.query (odd_in screen.lints (shown_of b s.shown (s.bytes ++ p))) s.asked n (tables_in (outcome_of (shown_of b s.shown (s.bytes ++ p))))) paused
+stays_from screen s (key k ∷ more) paused none n = absurd (true≢false (sym none))
+stays_from screen s (due ∷ more) paused none n = stays_from screen s more paused none n
+stays_from screen s (broken ∷ more) paused none n = stays_from screen s more paused none n
 
 pub paused_stays : (screen : Screen) (events more : List Coming) → (standing screen events).asked.paused ≡ true → list_all is_no_key more ≡ true
-    → text_of screen (standing screen (events ++ more)) ≡ text_of screen (standing screen events)
-paused_stays screen events more paused none =
-    ap (text_of screen) (fold-append (after screen) (at_first screen) events more) ∙ stays_from screen (standing screen events) more paused none
+    → (n : ℕ) → text_at n screen (standing screen (events ++ more)) ≡ text_at n screen (standing screen events)
+paused_stays screen events more paused none n =
+    ap (text_at n screen) (fold-append (after screen) (at_first screen) events more) ∙ stays_from screen (standing screen events) more paused none n
 
 -- ---- what is held
 
@@ -106,21 +106,26 @@ held_new false old now h p n e = absurd (true≢false (sym p))
 
 -- what is shown of what is held
 pub held_is : (screen : Screen) (st : Standing) (s : Session) (h : Held) → Shows screen.lints st s → s.held ≡ Some h
-    → asked_screen screen.canvas screen.query h.odd s.asked h.tables ≡ text_of screen st
+    → screen_held screen h s ≡ text_of screen st
 held_is screen st s h shows is =
     let holds : Holds screen.lints st.asked.paused st.shown st.bytes (Some h) = subst (Holds screen.lints st.asked.paused st.shown st.bytes) is shows.holds in
-    ap (λ o. asked_screen screen.canvas screen.query o s.asked h.tables) holds.2
-    ∙ ap (λ t. asked_screen screen.canvas screen.query (odd_in screen.lints st.shown) s.asked t) holds.1
-    ∙ ap (λ a. asked_screen screen.canvas screen.query (odd_in screen.lints st.shown) a (tables_in (outcome_of st.shown))) shows.asked
+    let now = s.course.client.start.tables.now in
+    ap (λ o. asked_screen screen.canvas screen.query o s.asked (now - h.tables.now) h.tables) holds.2
+    ∙ ap (λ (t : TablesView). asked_screen screen.canvas screen.query (odd_in screen.lints st.shown) s.asked (now - t.now) t) holds.1
+    ∙ ap (λ (t : TablesView). asked_screen screen.canvas screen.query (odd_in screen.lints st.shown) s.asked (t.now - (tables_in (outcome_of st.shown)).now) (tables_in (outcome_of st.shown))) (sym shows.tables)
+    ∙ ap (λ a. asked_screen screen.canvas screen.query (odd_in screen.lints st.shown) a (behind_in st) (tables_in (outcome_of st.shown))) shows.asked
 
 -- or of what a client has come to
 pub none_is : (screen : Screen) (st : Standing) (s : Session) → Shows screen.lints st s → s.held ≡ None
     → screen_after screen (seen_in st.bytes) s.asked s.course.client.start.tables ≡ text_of screen st
 none_is screen st s shows is =
     let holds : Holds screen.lints st.asked.paused st.shown st.bytes None = subst (Holds screen.lints st.asked.paused st.shown st.bytes) is shows.holds in
+    let same : 0 ≡ behind_in st =
+    subst (λ b. 0 ≡ (tables_in (outcome_of b)).now - (tables_in (outcome_of st.shown)).now) holds.1 (omega arith) in
     ap (screen_after screen (seen_in st.bytes) s.asked) (sym shows.tables)
-    ∙ ap (λ b. asked_screen screen.canvas screen.query (odd_in screen.lints b) s.asked (tables_in (outcome_of b))) (sym holds.1)
-    ∙ ap (λ a. asked_screen screen.canvas screen.query (odd_in screen.lints st.shown) a (tables_in (outcome_of st.shown))) shows.asked
+    ∙ ap (λ b. asked_screen screen.canvas screen.query (odd_in screen.lints b) s.asked 0 (tables_in (outcome_of b))) (sym holds.1)
+    ∙ ap (λ n. asked_screen screen.canvas screen.query (odd_in screen.lints st.shown) s.asked n (tables_in (outcome_of st.shown))) same
+    ∙ ap (λ a. asked_screen screen.canvas screen.query (odd_in screen.lints st.shown) a (behind_in st) (tables_in (outcome_of st.shown))) shows.asked
 
 -- what keys ask for, while what is held is shown
 pub held_pressed : (screen : Screen) (st : Standing) (s : Session) (h : Held) (k : ℕ) → Shows screen.lints st s → s.held ≡ Some h

@@ -10,9 +10,11 @@ use Rattle.tk_fault.specs.declared.fault.AppFault.{AppFault}
 use Rattle.tk_fault.specs.declared.fault.AppFault.TheVariants as faults
 use Rattle.tk_odd.specs.declared.limits.Limits.{Limits}
 use Rattle.tk_frame.specs.Findings.{OddView}
+use Rattle.tk_frame.specs.Places.{PlaceRow}
 use Rattle.tk_odd.specs.Diagnosis.{standing_of}
 use Rattle.tk_odd.specs.Findings.{Placed, findings_of}
 use Rattle.tk_odd.specs.Inner.{Follows}
+use Rattle.tk_sites.specs.Inner.{Follows as FollowsSites}
 use Rattle.tk_reading.specs.Fronts.{IsFront, Rise, last_lines, lines_in, tables_in}
 use Rattle.tk_reading.specs.Outcomes.{outcome_of}
 use Rattle.tk_reading.specs.Reads.{StopsAfter, TakesMore}
@@ -22,14 +24,10 @@ use Rattle.tk_reading.proofs.FrontLemmas.{front_few, last_more}
 use Rattle.tk_reading.proofs.ShownLemmas.{shown-append, shown_count}
 use Rattle.tk_stream.specs.Tables.{TablesView}
 use Rattle.tk_watch.specs.Course.{Sees, first_or, span_to}
-use Rattle.tk_watch.specs.Odd.{first_moment, odd_after, seen_in}
+use Rattle.tk_watch.specs.Odd.{first_moment, odd_after, places_after, seen_in}
 use Rattle.tk_watch.specs.Watching.{TakesTo}
 use Rattle.tk_watch.specs.declared.seen.Course.{Course}
 use Rattle.tk_watch.specs.declared.seen.Seen.{Seen}
-
--- findings, and the time that lines span
-abbrev pub odd_with : List Placed → Option ℕ → OddView
-odd_with findings span = record { findings = findings; span = span; long = 100000000 }
 
 -- ---- the lines that are applied
 
@@ -105,21 +103,31 @@ first_more (t ∷ ts) tables = refl
 
 -- a line more was seen
 pub sees_more : {E : Type 0} (lints : LintsView) (shown : List TablesView) (tables : TablesView) (old new : Seen) (result : Result (Unit {0}) E) → Sees lints shown old
-    → OnOk result (Follows (shown ++ tables ∷ []) new.diagnosis) → new.diagnosis.limits ≡ old.diagnosis.limits → new.first ≡ first_or old.first tables.now
+    → Follows (shown ++ tables ∷ []) new.diagnosis → new.diagnosis.limits ≡ old.diagnosis.limits → new.first ≡ first_or old.first tables.now
+    → OnOk result (FollowsSites (shown ++ tables ∷ []) new.sites)
     → OnOk result (Sees lints (shown ++ tables ∷ []) new)
-sees_more lints shown tables old new (Ok done) s follows limits first = record {
+sees_more lints shown tables old new (Ok done) s follows limits first sites = record {
   follows = follows;
   limits = limits ∙ s.limits;
   first = first ∙ ap (λ (o : Option ℕ). first_or o tables.now) s.first ∙ first_more shown tables;
+  sites = sites;
 }
-sees_more lints shown tables old new (Err e) s follows limits first = tt
+sees_more lints shown tables old new (Err e) s follows limits first sites = tt
 
--- what is odd about tables to which its lines came
-pub odd_is : (lints : LintsView) (shown : List TablesView) (seen : Seen) (tables : TablesView) (findings : List Placed) (span : Option ℕ) → Sees lints shown seen
-    → findings ≡ findings_of seen.diagnosis.limits (standing_of seen.diagnosis.limits shown) tables → span ≡ span_to tables.now seen.first
-    → odd_with findings span ≡ odd_after lints shown tables
-odd_is lints shown seen tables findings span s found spans =
-    ap₂ odd_with (found ∙ ap (λ (l : Limits). findings_of l (standing_of l shown) tables) s.limits) (spans ∙ ap (span_to tables.now) s.first)
+-- findings, places, and the time that lines span
+abbrev pub odd_with : List Placed → List PlaceRow → Option ℕ → OddView
+odd_with findings places span = record { findings = findings; places = places; span = span; long = 100000000 }
+
+odd_same : (f g : List Placed) (p q : List PlaceRow) (s t : Option ℕ) → f ≡ g → p ≡ q → s ≡ t → odd_with f p s ≡ odd_with g q t
+odd_same f g p q s t a b c = ap (λ (x : List Placed). odd_with x p s) a ∙ ap (λ (x : List PlaceRow). odd_with g x s) b ∙ ap (odd_with g q) c
+
+-- what is odd about tables to which its lines came, and their places
+pub odd_is : (lints : LintsView) (shown : List TablesView) (seen : Seen) (tables : TablesView) (findings : List Placed) (places : List PlaceRow) (span : Option ℕ)
+    → Sees lints shown seen
+    → findings ≡ findings_of seen.diagnosis.limits (standing_of seen.diagnosis.limits shown) tables → places ≡ places_after lints shown tables → span ≡ span_to tables.now seen.first
+    → odd_with findings places span ≡ odd_after lints shown tables
+odd_is lints shown seen tables findings places span s found placed spans =
+    odd_same findings _ places _ span _ (found ∙ ap (λ (l : Limits). findings_of l (standing_of l shown) tables) s.limits) placed (spans ∙ ap (span_to tables.now) s.first)
 
 -- it has seen the tables of what was shown after each line
 abbrev pub sees_in : LintsView → List Timed → Seen → Type 0

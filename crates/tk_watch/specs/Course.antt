@@ -4,6 +4,7 @@ use Rattle.std.specs.Option.{option_map}
 use Rattle.tk_client.specs.Warnings.{LintsView}
 use Rattle.tk_reading.specs.Taken.{first}
 use Rattle.tk_odd.specs.Inner.{Follows}
+use Rattle.tk_sites.specs.Inner.{Follows as FollowsSites}
 use Rattle.tk_stream.specs.Tables.{TablesView}
 use Rattle.tk_watch.specs.Odd.{first_moment, limits_of}
 use Rattle.tk_watch.specs.declared.seen.Course.{Course}
@@ -14,6 +15,7 @@ pub record Sees (lints : LintsView) (shown : List TablesView) (seen : Seen) : Ty
   pub follows : Follows shown seen.diagnosis
   pub limits : seen.diagnosis.limits ≡ limits_of lints
   pub first : seen.first ≡ first_moment shown
+  pub sites : FollowsSites shown seen.sites
 
 -- how long the time is from a first moment to another
 abbrev pub span_to : ℕ → Option ℕ → Option ℕ

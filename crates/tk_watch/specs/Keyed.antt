@@ -1,5 +1,5 @@
 -- What is written of a stream that is watched by a person at keys.
-use Rattle.std.specs.Prelude.{◌≡◌, ◌⊎◌, ℕ, ◌≤◌, List, [], ◌∷◌, ◌++◌, take, Bool, true, false, Option, Some, None, Result, Ok, Err, if◌then◌else◌}
+use Rattle.std.specs.Prelude.{◌≡◌, ◌⊎◌, ℕ, ◌≤◌, ◌-◌, List, [], ◌∷◌, ◌++◌, take, Bool, true, false, Option, Some, None, Result, Ok, Err, if◌then◌else◌}
 use Rattle.std.specs.Io.KnownBytes.{Appends}
 use Rattle.std.specs.List.{fold}
 use Rattle.tk_client.specs.declared.fault.Fault.{Fault}
@@ -96,9 +96,16 @@ quits screen events = (standing screen events).asked.quits
 
 -- ---- what is drawn
 
--- the screen of what stands: what keys asked for of the tables that the shown bytes come to, and of what is odd about all of these bytes
+-- how far what is shown lies behind what came, by the moments of their last lines
+abbrev pub behind_in : Standing → ℕ
+behind_in s = (tables_in (outcome_of s.bytes)).now - (tables_in (outcome_of s.shown)).now
+
+-- the screen of what stands, so far behind: what keys asked for of the tables that the shown bytes come to, and of what is odd about all of these bytes
+abbrev pub text_at : ℕ → Screen → Standing → List ℕ
+text_at behind screen s = asked_screen screen.canvas screen.query (odd_in screen.lints s.shown) s.asked behind (tables_in (outcome_of s.shown))
+
 abbrev pub text_of : Screen → Standing → List ℕ
-text_of screen s = asked_screen screen.canvas screen.query (odd_in screen.lints s.shown) s.asked (tables_in (outcome_of s.shown))
+text_of screen s = text_at (behind_in s) screen s
 
 -- what is written as this comes: where a screen is due, that of what stands
 abbrev pub drawn_at : Screen → Standing → Coming → List ℕ

@@ -1,5 +1,5 @@
 -- How far a watch at keys has come. Inner: no public clause cites this.
-use Rattle.std.specs.Prelude.{◌≡◌, ℕ, List, Bool, true, false, Option, Some, None, is_some, if◌then◌else◌, Result, Ok, Err}
+use Rattle.std.specs.Prelude.{◌≡◌, ◌-◌, ℕ, List, Bool, true, false, Option, Some, None, is_some, if◌then◌else◌, Result, Ok, Err}
 use Rattle.std.specs.Io.KnownBytes.{Appends}
 use Rattle.tk_client.specs.Warnings.{LintsView}
 use Rattle.tk_fault.specs.declared.fault.AppFault.{AppFault}
@@ -21,7 +21,12 @@ use Rattle.tk_watch.specs.declared.session.Session.{Session}
 
 -- the screen that keys ask for of tables to which these lines came
 abbrev pub screen_after : Screen → List TablesView → Asked → TablesView → List ℕ
-screen_after screen shown asked tables = asked_screen screen.canvas screen.query (odd_after screen.lints shown tables) asked tables
+screen_after screen shown asked tables = asked_screen screen.canvas screen.query (odd_after screen.lints shown tables) asked 0 tables
+
+-- the screen of what is held, so far behind what came
+abbrev pub screen_held : Screen → Held → Session → List ℕ
+screen_held screen held s =
+    asked_screen screen.canvas screen.query held.odd s.asked (s.course.client.start.tables.now - held.tables.now) held.tables
 
 -- what keys ask for once a key was pressed, while tables are shown to which these lines came
 abbrev pub pressed_after : Screen → List TablesView → Asked → TablesView → ℕ → Asked

@@ -3,12 +3,14 @@ use Rattle.std.specs.Prelude.{ℕ, ◌-◌, List, [], ◌∷◌, take, Option, S
 use Rattle.std.specs.Option.{option_map}
 use Rattle.tk_client.specs.Warnings.{LintsView}
 use Rattle.tk_frame.specs.Findings.{OddView}
+use Rattle.tk_frame.specs.Places.{PlaceRow, places_in}
 use Rattle.tk_odd.specs.declared.limits.Limits.{Limits}
 use Rattle.tk_odd.specs.Diagnosis.{standing_of}
 use Rattle.tk_odd.specs.Findings.{findings_of}
 use Rattle.tk_reading.specs.Fronts.{lines_in, tables_in}
 use Rattle.tk_reading.specs.Outcomes.{outcome_of}
 use Rattle.tk_reading.specs.Shown.{shown_of}
+use Rattle.tk_sites.specs.Sites.{sites_until}
 use Rattle.tk_stream.specs.Tables.{TablesView}
 
 -- how much is too much: a poll of 100 milliseconds is a long one
@@ -24,10 +26,16 @@ abbrev pub first_moment : List TablesView → Option ℕ
 first_moment [] = None
 first_moment (t ∷ ts) = Some t.now
 
--- what is odd about tables to which these lines came
+-- the places of tables to which these lines came: what their tasks came to, those that have left among them, with what lasts; and what is known of those
+-- that held up others
+abbrev pub places_after : LintsView → List TablesView → TablesView → List PlaceRow
+places_after lints shown tables = places_in (sites_until shown tables) (standing_of (limits_of lints) shown).places.0
+
+-- what is odd about tables to which these lines came, and their places
 abbrev pub odd_after : LintsView → List TablesView → TablesView → OddView
 odd_after lints shown tables = record {
   findings = findings_of (limits_of lints) (standing_of (limits_of lints) shown) tables;
+  places = places_after lints shown tables;
   span = option_map (λ from. tables.now - from) (first_moment shown);
   long = (limits_of lints).long;
 }

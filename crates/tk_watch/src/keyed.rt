@@ -158,8 +158,7 @@ fn step<S: Source, W: Write>(
         → spec.Goes screen.now given (S.to_come source.new) result session.new old (W.contents writer.new) }
     ensures few { session.new.lines ≤ session.old.lines + 65536 }
 {
-    let paused = session.asked.paused;
-    match source.next(room, paused) {
+    match source.next(room) {
         Some(event) => take_event(session, alloc, writer, screen, event, room),
         None => Ok(false),
     }
@@ -187,7 +186,7 @@ fn watch_by<S: Source, W: Write>(
 }
 
 /// Watches a stream at keys: takes what comes, and draws the screen that keys have asked for whenever one is due, until a key asks to
-/// quit, or nothing more comes. While it is paused, the tables and findings are shown that were when the pause began.
+/// quit, or nothing more comes. While it is paused, the tables and findings are shown that were when the pause began, and how far they lie behind.
 ///
 /// Each screen is made whole before its first byte is written.
 ///

@@ -1,16 +1,18 @@
 //! What a watch keeps of the lines that came.
-ghost use Rattle.std.specs.Prelude.{◌≡◌, [], IfOk, List};
+ghost use Rattle.std.specs.Prelude.{◌≡◌, [], IfOk, List, map};
 ghost use Rattle.tk_client.specs.Warnings.{LintsView};
 ghost use Rattle.tk_reading.specs.Taken.{first};
 ghost use Rattle.tk_stream.specs.Tables.{TablesView};
 ghost use Rattle.tk_watch.specs.Course as spec;
-ghost use Rattle.tk_watch.specs.Odd.{odd_after};
+ghost use Rattle.tk_frame.specs.Places.{row_of};
+ghost use Rattle.tk_watch.specs.Odd.{odd_after, places_after};
 
 use std::alloc::{AllocError, Global};
 use tk_client::{Change, Client, Lints, Times};
-use tk_frame::Odd;
+use tk_frame::{Odd, Place, places_of};
 use tk_odd::{Diagnosis, Limits};
 use tk_reading::{MAX_LINE, Observes};
+use tk_sites::Sites;
 use tk_stream::Tables;
 
 // How long a poll is that is a long one, in nanoseconds: 100 ms.
@@ -22,6 +24,7 @@ pub(crate) struct Seen {
     // The moment of the first line, where one came.
     first: Option<u64>,
     diagnosis: Diagnosis,
+    sites: Sites,
 }
 
 impl Seen {
@@ -37,6 +40,7 @@ impl Seen {
         Ok(Seen {
             first: None,
             diagnosis,
+            sites: Sites::new(alloc),
         })
     }
 
@@ -50,22 +54,32 @@ impl Seen {
         }
     }
 
-    /// What is odd about the tables of the last line.
+    // The places of the tables of the last line, in their order.
+    fn places(&self, alloc: Global, tables: &Tables) -> Result<Vec<Place>, AllocError>
+        ensures { (lints : LintsView) (shown : List TablesView) → spec.Sees lints shown self.now
+            → IfOk result (λ places. map row_of places.items ≡ places_after lints shown tables.now) }
+    {
+        let sites = self.sites.sums_until(tables)?;
+        let places = places_of(alloc, &sites, self.diagnosis.held())?;
+        Ok(places)
+    }
+
+    /// What is odd about the tables of the last line, and their places.
     pub fn odd(&self, alloc: Global, tables: &Tables) -> Result<Odd, AllocError>
         ensures { (lints : LintsView) (shown : List TablesView) → spec.Sees lints shown self.now
             → IfOk result (λ odd. odd ≡ odd_after lints shown tables.now) }
     {
         let span = self.span_to(tables.now());
-        match self.diagnosis.findings(alloc, tables) {
-            Ok(findings) => Ok(Odd::new(findings, span, LONG_POLL)),
-            Err(error) => Err(error),
-        }
+        let findings = self.diagnosis.findings(alloc, tables)?;
+        let places = self.places(alloc, tables)?;
+        Ok(Odd::new(findings, places, span, LONG_POLL))
     }
 
     // Keeps the moment of the first line.
     fn mark(&mut self, now: u64)
         ensures first { self.new.first ≡ spec.first_or self.old.first now }
         ensures diagnosis { self.new.diagnosis ≡ self.old.diagnosis }
+        ensures sites { self.new.sites ≡ self.old.sites }
     {
         if self.first.is_none() {
             self.first = Some(now);
@@ -81,7 +95,8 @@ impl Observes for Seen {
 
     fn line(&mut self, tables: &Tables, _times: &Times, change: &Change) -> Result<(), AllocError> {
         self.mark(tables.now());
-        self.diagnosis.note(tables, change)
+        self.diagnosis.note(tables, change)?;
+        self.sites.note(tables, change)
     }
 }
 

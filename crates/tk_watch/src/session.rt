@@ -34,17 +34,19 @@ pub(crate) struct Session {
     pub held: Option<Held>,
 }
 
+// The screen of tables that lie so many nanoseconds behind what came.
 fn text_by(
     alloc: Global,
     tables: &Tables,
     odd: &Odd,
     screen: &Screen<'_>,
     asked: &Asked,
+    behind: u64,
 ) -> Result<Vec<u8>, AllocError>
-    ensures { IfOk result (λ text. text.items ≡ asked_screen screen.now.canvas screen.now.query odd.now asked.now tables.now) }
+    ensures { IfOk result (λ text. text.items ≡ asked_screen screen.now.canvas screen.now.query odd.now asked.now behind tables.now) }
 {
     let canvas = asked.canvas(screen.canvas);
-    let lines = asked_frame(alloc, canvas, tables, odd, &screen.query, asked)?;
+    let lines = asked_frame(alloc, canvas, tables, odd, &screen.query, asked, behind)?;
     let mut text = Vec::new(alloc);
     put_screen(&mut text, canvas, lines.as_slice())?;
     Ok(text)
@@ -61,9 +63,30 @@ fn text_of_course(
         → IfOk result (λ text. text.items ≡ spec.screen_after screen.now shown asked.now course.now.client.start.tables) }
 {
     match course.odd(alloc) {
-        Ok(odd) => text_by(alloc, course.tables(), &odd, screen, asked),
+        Ok(odd) => text_by(alloc, course.tables(), &odd, screen, asked, 0),
         Err(error) => Err(error),
     }
+}
+
+// The screen of what is held.
+fn text_of_held(
+    session: &Session,
+    held: &Held,
+    alloc: Global,
+    screen: &Screen<'_>,
+) -> Result<Vec<u8>, AllocError>
+    ensures { IfOk result (λ text. text.items ≡ spec.screen_held screen.now held.now session.now) }
+{
+    let now = session.course.tables().now();
+    let behind = now.saturating_sub(held.tables.now());
+    text_by(
+        alloc,
+        &held.tables,
+        &held.odd,
+        screen,
+        &session.asked,
+        behind,
+    )
 }
 
 fn text_of(session: &Session, alloc: Global, screen: &Screen<'_>) -> Result<Vec<u8>, AllocError>
@@ -71,7 +94,7 @@ fn text_of(session: &Session, alloc: Global, screen: &Screen<'_>) -> Result<Vec<
         → IfOk result (λ text. text.items ≡ screen_of screen.now st) }
 {
     match &session.held {
-        Some(held) => text_by(alloc, &held.tables, &held.odd, screen, &session.asked),
+        Some(held) => text_of_held(session, held, alloc, screen),
         None => text_of_course(&session.course, alloc, screen, &session.asked),
     }
 }

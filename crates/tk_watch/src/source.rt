@@ -23,8 +23,7 @@ pub trait Source {
     ghost to_come: { Self → Option (List Coming) } = { λ _. None };
 
     /// What comes next, or that nothing more comes: nobody can press a key any more. The bytes of a piece stand at the front of the room.
-    /// While a watch is paused, pieces change nothing on its screen.
-    fn next(&mut self, room: &mut [u8], is_paused: bool) -> Option<Event>
+    fn next(&mut self, room: &mut [u8]) -> Option<Event>
         ensures within { IsWithin result (length room.new) }
         ensures gives { Gives (to_come self.old) (to_come self.new) result room.new };
 }

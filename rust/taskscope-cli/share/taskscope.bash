@@ -3,7 +3,7 @@ _taskscope() {
     local word=${COMP_WORDS[COMP_CWORD]} before=${COMP_WORDS[COMP_CWORD-1]} all=
     COMPREPLY=()
     if [ "$COMP_CWORD" -eq 1 ]; then
-        COMPREPLY=($(compgen -W 'run view lint page watch metrics demo help --help --version' -- "$word"))
+        COMPREPLY=($(compgen -W 'run view lint page watch metrics compare demo help --help --version' -- "$word"))
         return
     fi
     case ${COMP_WORDS[1]}:$before in
@@ -20,27 +20,36 @@ _taskscope() {
     lint:--by) return ;;
     page:--self-wake-percent) return ;;
     page:--never-yielded-ns) return ;;
+    page:--long-poll) return ;;
+    page:--title) return ;;
     watch:--self-wake-percent) return ;;
     watch:--never-yielded-ns) return ;;
-    watch:--sort) COMPREPLY=($(compgen -W 'busy sched polls wakes self-wakes' -- "$word")); return ;;
+    watch:--sort) COMPREPLY=($(compgen -W 'busy sched polls wakes self-wakes held-up' -- "$word")); return ;;
     watch:--rows) return ;;
     watch:--filter) return ;;
+    watch:--by) return ;;
     watch:--every) return ;;
     metrics:--self-wake-percent) return ;;
     metrics:--never-yielded-ns) return ;;
     metrics:--by) return ;;
     metrics:--every) return ;;
     metrics:--series) return ;;
+    compare:--self-wake-percent) return ;;
+    compare:--never-yielded-ns) return ;;
+    compare:--long-poll) return ;;
+    compare:--more-than) return ;;
+    compare:--at-least) return ;;
     esac
     case ${COMP_WORDS[1]} in
     run) all='--explain --help' ;;
     view) all='--self-wake-percent --never-yielded-ns --long-poll --long-wait --findings --by --times --place --explain --help' ;;
     lint) all='--self-wake-percent --never-yielded-ns --long-poll --long-wait --findings --by --explain --help' ;;
-    page) all='--self-wake-percent --never-yielded-ns --help' ;;
-    watch) all='--self-wake-percent --never-yielded-ns --sort --rows --filter --resources --every --follow --keys --plain --help' ;;
+    page) all='--self-wake-percent --never-yielded-ns --long-poll --title --help' ;;
+    watch) all='--self-wake-percent --never-yielded-ns --sort --rows --filter --resources --by --every --follow --keys --plain --help' ;;
     metrics) all='--self-wake-percent --never-yielded-ns --by --to --every --follow --series --help' ;;
+    compare) all='--self-wake-percent --never-yielded-ns --long-poll --more-than --at-least --help' ;;
     demo) all='--help' ;;
-    help) all='run view lint page watch metrics demo help' ;;
+    help) all='run view lint page watch metrics compare demo help' ;;
     esac
     case $word in
     -*) COMPREPLY=($(compgen -W "$all" -- "$word")) ;;

@@ -33,7 +33,7 @@ impl Extent {
             "view" | "lint" => Extent::Now,
             "metrics" if has(words, "--to") => Extent::Always,
             "metrics" => Extent::Now,
-            "page" | "run" => Extent::UntilEnd,
+            "page" | "run" | "compare" => Extent::UntilEnd,
             "watch" => Extent::Always,
             _ => return None,
         })
@@ -45,8 +45,8 @@ fn has(words: &[OsString], option: &str) -> bool {
     words.iter().any(|word| word.to_string_lossy().split('=').next() == Some(option))
 }
 
-/// Options of `watch` and `metrics` whose value may be a word of its own.
-const WITH_VALUE: [&str; 9] = [
+/// Options of `watch`, `metrics`, `page` and `compare` whose value may be a word of its own.
+const WITH_VALUE: [&str; 13] = [
     "--self-wake-percent",
     "--never-yielded-ns",
     "--sort",
@@ -56,6 +56,10 @@ const WITH_VALUE: [&str; 9] = [
     "--by",
     "--to",
     "--series",
+    "--long-poll",
+    "--title",
+    "--more-than",
+    "--at-least",
 ];
 
 /// Where a stream is that others write.
@@ -92,9 +96,15 @@ fn names_in(words: &[OsString]) -> impl Iterator<Item = (usize, &OsString)> {
     })
 }
 
+/// How many names stand before that of the stream that is read as standard input: `compare` has the earlier stream first, which is a file.
+fn earlier_names(words: &[OsString]) -> usize {
+    usize::from(words.get(1).map_or(false, |command| command == "compare"))
+}
+
 /// The first word that names a socket, or else the file that is to be followed; and its place. A file that is none, as a pipe, is left to the program.
 fn named_in(words: &[OsString]) -> Option<(usize, Source)> {
-    let socket = names_in(words).find_map(|(place, word)| Some((place, Source::Socket(Address::of(word)?))));
+    let mut names = names_in(words).skip(earlier_names(words));
+    let socket = names.find_map(|(place, word)| Some((place, Source::Socket(Address::of(word)?))));
     socket.or_else(|| {
         let (place, word) = names_in(words).next().filter(|_| has(words, "--follow"))?;
         let path = Path::new(word);
@@ -118,7 +128,15 @@ pub fn take_stream(words: &mut Vec<OsString>) -> Result<bool, String> {
     if matches!(source, Source::File(_)) {
         words.retain(|word| word != "--follow");
     }
+    name_page(words, &source);
     Ok(matches!(source, Source::Socket(_)))
+}
+
+/// A page that has no other title is named by the address of its stream, as the program names one by its file.
+fn name_page(words: &mut Vec<OsString>, source: &Source) {
+    if words.get(1).map_or(false, |command| command == "page") && !has(words, "--title") {
+        words.insert(2, format!("--title={source}").into());
+    }
 }
 
 /// Has a child write the lines, which ends with this process.
@@ -197,6 +215,7 @@ mod tests {
             ("taskscope lint --long-poll 5 unix:s", Some(Extent::Now)),
             ("taskscope lint --long-wait 5 unix:s", Some(Extent::Now)),
             ("taskscope page unix:s", Some(Extent::UntilEnd)),
+            ("taskscope compare a.stream unix:s", Some(Extent::UntilEnd)),
             ("taskscope watch --keys unix:s", Some(Extent::Always)),
             ("taskscope metrics unix:s", Some(Extent::Now)),
             ("taskscope metrics --to numbers.prom unix:s", Some(Extent::Always)),
@@ -220,6 +239,11 @@ mod tests {
             ("taskscope metrics --to unix:s", None),
             ("taskscope view s", None),
             ("taskscope unix:s", None),
+            ("taskscope page --title tcp:a unix:s", unix(4)),
+            ("taskscope compare a.stream unix:s", unix(3)),
+            ("taskscope compare --at-least 5 a.stream unix:s", unix(5)),
+            ("taskscope compare unix:s", None),
+            ("taskscope compare unix:s b.stream", None),
         ];
         for (text, socket) in cases {
             assert_eq!(named_in(&words(text)), socket, "{text}");
@@ -244,10 +268,28 @@ mod tests {
     }
 
     #[test]
+    fn a_page_has_the_name_of_its_address() {
+        let cases = [
+            ("taskscope page", "taskscope page --title=unix:s"),
+            ("taskscope page --long-poll 5", "taskscope page --title=unix:s --long-poll 5"),
+            ("taskscope page --title a", "taskscope page --title a"),
+            ("taskscope page --title=a", "taskscope page --title=a"),
+            ("taskscope view", "taskscope view"),
+        ];
+        for (text, wanted) in cases {
+            let mut named = words(text);
+            name_page(&mut named, &Source::Socket(Address::Unix("s".into())));
+            assert_eq!(named, words(wanted), "{text}");
+        }
+    }
+
+    #[test]
     fn each_option_with_a_value_is_known() {
         for help in [
             include_str!("../../../tests/program/watch-help.txt"),
             include_str!("../../../tests/program/metrics-help.txt"),
+            include_str!("../../../tests/program/page-help.txt"),
+            include_str!("../../../tests/program/compare-help.txt"),
         ] {
             let options =
                 help.lines().map(str::trim_start).filter(|line| line.starts_with("--") && line.ends_with('>'));

@@ -69,10 +69,11 @@ fn serve(request: &Request) -> Result<(), String> {
     let recordings =
         Recordings::start(request.address.clone()).map_err(|error| format!("Read {}: {error}", request.address))?;
     println!("http://{place}/");
+    let title: Arc<str> = request.address.to_string().into();
     for stream in listener.incoming().flatten() {
-        let recordings = Arc::clone(&recordings);
+        let (recordings, title) = (Arc::clone(&recordings), Arc::clone(&title));
         // One that can't be answered has gone.
-        thread::spawn(move || drop(answer(stream, &recordings)));
+        thread::spawn(move || drop(answer(stream, &recordings, &title)));
     }
     Ok(())
 }
@@ -123,28 +124,28 @@ const TEXT: &str = "text/plain; charset=utf-8";
 /// An answer's status, type and bytes.
 struct Answer(&'static str, &'static str, Vec<u8>);
 
-fn answer_to(question: &Question, recordings: &Recordings) -> Answer {
+fn answer_to(question: &Question, recordings: &Recordings, title: &str) -> Answer {
     if !question.is_for_this_machine() {
         return Answer("403 Forbidden", TEXT, b"This host is none of this machine.\n".to_vec());
     }
-    let (command, kind) = match question.path.as_str() {
-        "/" => ("page", "text/html; charset=utf-8"),
-        "/report" => ("view", TEXT),
-        "/lint" => ("lint", TEXT),
-        "/metrics" => ("metrics", "text/plain; version=0.0.4; charset=utf-8"),
+    let (words, kind) = match question.path.as_str() {
+        "/" => (vec!["page", "--title", title], "text/html; charset=utf-8"),
+        "/report" => (vec!["view"], TEXT),
+        "/lint" => (vec!["lint"], TEXT),
+        "/metrics" => (vec!["metrics"], "text/plain; version=0.0.4; charset=utf-8"),
         "/stream" => return Answer("200 OK", "application/x-ndjson", recordings.bytes()),
         _ => return Answer("404 Not Found", TEXT, b"/ /report /lint /metrics /stream\n".to_vec()),
     };
-    match made_by(command, recordings.bytes()) {
+    match made_by(&words, recordings.bytes()) {
         Ok(text) => Answer("200 OK", kind, text),
         Err(error) => Answer("500 Internal Server Error", TEXT, format!("{error}\n").into_bytes()),
     }
 }
 
-fn answer(mut stream: TcpStream, recordings: &Recordings) -> io::Result<()> {
+fn answer(mut stream: TcpStream, recordings: &Recordings, title: &str) -> io::Result<()> {
     stream.set_read_timeout(Some(PATIENCE))?;
     stream.set_write_timeout(Some(PATIENCE))?;
-    let Answer(status, kind, body) = answer_to(&Question::read(&stream)?, recordings);
+    let Answer(status, kind, body) = answer_to(&Question::read(&stream)?, recordings, title);
     write!(
         stream,
         "HTTP/1.1 {status}\r\nContent-Type: {kind}\r\nContent-Length: {}\r\nCache-Control: no-store\r\n\
@@ -154,10 +155,10 @@ fn answer(mut stream: TcpStream, recordings: &Recordings) -> io::Result<()> {
     stream.write_all(&body)
 }
 
-/// What a command of this program writes of a stream.
-fn made_by(command: &str, stream: Vec<u8>) -> io::Result<Vec<u8>> {
+/// What this program writes of a stream by a command's words.
+fn made_by(words: &[&str], stream: Vec<u8>) -> io::Result<Vec<u8>> {
     let mut child = Command::new(env::current_exe()?)
-        .arg(command)
+        .args(words)
         .stdin(Stdio::piped())
         .stdout(Stdio::piped())
         .stderr(Stdio::piped())

@@ -26,6 +26,10 @@ pub(super) const SECOND: &[u8] =
 pub(super) const THIRD: &[u8] =
     b"{\"dropped\":[0,0,0],\"gone_ops\":[],\"gone_resources\":[],\"gone_tasks\":[1099511627777],\"new_ops\":[],\"new_resources\":[],\"new_tasks\":[],\"now\":15,\"op_stats\":[],\"poll_counts\":[],\"resource_stats\":[],\"seq\":3,\"snapshot\":false,\"task_stats\":[],\"v\":2}\n";
 
+// A task that has closed, and leaves with the last line: these three lines.
+pub(super) const CLOSED: &[u8] =
+    b"{\"dropped\":[0,0,0],\"gone_ops\":[],\"gone_resources\":[],\"gone_tasks\":[],\"new_ops\":[],\"new_resources\":[],\"new_tasks\":[{\"id\":1099511627777,\"kind\":\"spawn\",\"loc\":[\"script\",2,1],\"name\":\"a\"}],\"now\":6,\"op_stats\":[],\"poll_counts\":[],\"resource_stats\":[],\"seq\":1,\"snapshot\":false,\"task_stats\":[{\"busy\":0,\"clones\":0,\"created\":1,\"dropped\":5,\"drops\":0,\"first_poll\":null,\"handles\":1,\"id\":1099511627777,\"last_ended\":null,\"last_started\":null,\"last_wake\":null,\"polling\":false,\"polls\":0,\"sched\":0,\"scheduled\":false,\"self_wakes\":0,\"wakes\":0}],\"v\":2}\n{\"dropped\":[0,0,0],\"gone_ops\":[],\"gone_resources\":[],\"gone_tasks\":[],\"new_ops\":[],\"new_resources\":[],\"new_tasks\":[],\"now\":14,\"op_stats\":[],\"poll_counts\":[],\"resource_stats\":[],\"seq\":2,\"snapshot\":false,\"task_stats\":[],\"v\":2}\n{\"dropped\":[0,0,0],\"gone_ops\":[],\"gone_resources\":[],\"gone_tasks\":[1099511627777],\"new_ops\":[],\"new_resources\":[],\"new_tasks\":[],\"now\":15,\"op_stats\":[],\"poll_counts\":[],\"resource_stats\":[],\"seq\":3,\"snapshot\":false,\"task_stats\":[],\"v\":2}\n";
+
 // A task is made 199 ms after the first line, and waits: a line at 200000006.
 pub(super) const LATER: &[u8] =
     b"{\"dropped\":[0,0,0],\"gone_ops\":[],\"gone_resources\":[],\"gone_tasks\":[],\"new_ops\":[],\"new_resources\":[],\"new_tasks\":[{\"id\":1099511627778,\"kind\":\"spawn\",\"loc\":[\"script\",3,1],\"name\":\"b\"}],\"now\":200000006,\"op_stats\":[],\"poll_counts\":[],\"resource_stats\":[],\"seq\":2,\"snapshot\":false,\"task_stats\":[{\"busy\":0,\"clones\":0,\"created\":199000006,\"dropped\":null,\"drops\":0,\"first_poll\":null,\"handles\":1,\"id\":1099511627778,\"last_ended\":null,\"last_started\":null,\"last_wake\":null,\"polling\":false,\"polls\":0,\"sched\":0,\"scheduled\":true,\"self_wakes\":0,\"wakes\":0}],\"v\":2}\n";
@@ -106,6 +110,7 @@ pub(super) struct Asked {
     pub sort: Column,
     pub filter: &'static [u8],
     pub resources: bool,
+    pub by_place: bool,
     pub canvas: Canvas,
 }
 
@@ -114,6 +119,7 @@ pub(super) const PLAIN: Asked = Asked {
     sort: Column::Busy,
     filter: b"",
     resources: false,
+    by_place: false,
     canvas: Canvas::Plain,
 };
 
@@ -134,6 +140,7 @@ pub(super) fn comes_to<R: Read, W: Write>(
             filter: asked.filter,
             typed: Typed::none(),
             resources: asked.resources,
+            by_place: asked.by_place,
         },
         lints: Lints::default(),
         canvas: asked.canvas,

@@ -59,7 +59,7 @@ fn event_of(comes: Comes, room: &mut [u8]) -> Event
 }
 
 impl Source for Given<'_> {
-    fn next(&mut self, room: &mut [u8], _is_paused: bool) -> Option<Event> {
+    fn next(&mut self, room: &mut [u8]) -> Option<Event> {
         let comes = self.events.get(self.next).copied()?;
         self.next = self.next.saturating_add(1);
         Some(event_of(comes, room))
@@ -85,6 +85,7 @@ fn draws_on(
             filter: b"",
             typed: Typed::none(),
             resources: false,
+            by_place: false,
         },
         lints: Lints::default(),
         canvas,
@@ -145,6 +146,101 @@ fn a_task_above_is_chosen_again_and_other_keys_change_nothing(rt: HostRuntime) {
     assert!(rt; draws(rt.alloc(), &events, "", ODD_BY_BUSY, 6));
     let capitals = [Bytes(ODD), key(b'B'), DUE];
     assert!(rt; draws(rt.alloc(), &capitals, "", ODD_BY_BUSY, 3));
+}
+
+// By how long others waited, of which none did: then by how long its own tasks waited.
+const BY_PLACE: &str = "by place, sorted by held-up  ? shows the keys
+now 1.0 s  tasks 2: 1 polling, 0 scheduled, 1 idle, 0 closed  findings 3
+ 1 NOW     resize 1.2 has never yielded, for 1.0 s (never-yielded, script:2:1)
+ 2 NOW     main 1.1 can be woken by nobody, for 999.9 ms (lost-waker, script:1:1)
+ 3 NOW     main 1.1 wakes itself, 66% of its wakes (self-wakes, script:1:1)
+ PLACE           NAME       OPEN WAIT      RAN  LONGEST  POLLS   WAITED  HELD UP
+>script:1:1      main          1    0    20 ns        -      2   100 ns        -
+ script:2:1      resize        1    0    1.0 s        -      1    50 ns        -
+2 of 2 places
+
+";
+
+const PLACES_BY_BUSY: &str = "by place, sorted by busy  ? shows the keys
+now 1.0 s  tasks 2: 1 polling, 0 scheduled, 1 idle, 0 closed  findings 3
+ 1 NOW     resize 1.2 has never yielded, for 1.0 s (never-yielded, script:2:1)
+ 2 NOW     main 1.1 can be woken by nobody, for 999.9 ms (lost-waker, script:1:1)
+ 3 NOW     main 1.1 wakes itself, 66% of its wakes (self-wakes, script:1:1)
+ PLACE           NAME       OPEN WAIT      RAN  LONGEST  POLLS   WAITED  HELD UP
+ script:2:1      resize        1    0    1.0 s        -      1    50 ns        -
+>script:1:1      main          1    0    20 ns        -      2   100 ns        -
+2 of 2 places
+
+";
+
+#[test]
+fn a_key_shows_places_and_tasks_again(rt: HostRuntime) {
+    let events = [Bytes(ODD), key(b'j'), key(b'g'), DUE, key(b'g'), DUE];
+    let both = format!(in rt.alloc(); "{BY_PLACE}{ODD_BY_BUSY}").expect(&rt, "memory");
+    assert!(rt; draws(rt.alloc(), &events, "", both.as_str(), 6));
+}
+
+#[test]
+fn places_are_sorted_and_chosen(rt: HostRuntime) {
+    let events = [
+        Bytes(ODD),
+        key(b'g'),
+        key(b'b'),
+        key(b'j'),
+        DUE,
+        key(b'k'),
+        key(b'h'),
+        DUE,
+    ];
+    let both = format!(in rt.alloc(); "{PLACES_BY_BUSY}{BY_PLACE}").expect(&rt, "memory");
+    assert!(rt; draws(rt.alloc(), &events, "", both.as_str(), 8));
+    let second = [Bytes(ODD), key(b'g'), key(b'b'), key(b'j'), key(b'j'), DUE];
+    assert!(rt; draws(rt.alloc(), &second, "", PLACES_BY_BUSY, 6));
+}
+
+const PLACE_OPENED: &str = "by place, sorted by held-up  ? shows the keys
+ PLACE           NAME       OPEN WAIT      RAN  LONGEST  POLLS   WAITED  HELD UP
+ script:1:1      main          1    0    20 ns        -      2   100 ns        -
+ 2 NOW     main 1.1 can be woken by nobody, for 999.9 ms (lost-waker, script:1:1)
+  keep a waker of it until the wake
+ 3 NOW     main 1.1 wakes itself, 66% of its wakes (self-wakes, script:1:1)
+  let an event or a timer wake it
+  TASK STATE         BUSY    SCHED  POLLS  WAKES SELF LOCATION        NAME                 KIND
+   1.1 idle         20 ns   100 ns      2      3  66% script:1:1      main                 spawn
+
+";
+
+#[test]
+fn enter_shows_all_of_the_chosen_place(rt: HostRuntime) {
+    let events = [Bytes(ODD), key(b'g'), key(b'\n'), DUE];
+    assert!(rt; draws(rt.alloc(), &events, "", PLACE_OPENED, 4));
+    let back = [Bytes(ODD), key(b'g'), key(b'\r'), key(b'\r'), DUE];
+    assert!(rt; draws(rt.alloc(), &back, "", BY_PLACE, 5));
+}
+
+const PLACES_FILTERED: &str = "by place, sorted by held-up  /t:2_  ? shows the keys
+now 1.0 s  tasks 2: 1 polling, 0 scheduled, 1 idle, 0 closed  findings 3
+ 1 NOW     resize 1.2 has never yielded, for 1.0 s (never-yielded, script:2:1)
+ 2 NOW     main 1.1 can be woken by nobody, for 999.9 ms (lost-waker, script:1:1)
+ 3 NOW     main 1.1 wakes itself, 66% of its wakes (self-wakes, script:1:1)
+ PLACE           NAME       OPEN WAIT      RAN  LONGEST  POLLS   WAITED  HELD UP
+>script:2:1      resize        1    0    1.0 s        -      1    50 ns        -
+1 of 1 places
+
+";
+
+#[test]
+fn a_text_names_places(rt: HostRuntime) {
+    let typed = [
+        Bytes(ODD),
+        key(b'g'),
+        key(b'/'),
+        key(b't'),
+        key(b':'),
+        key(b'2'),
+        DUE,
+    ];
+    assert!(rt; draws(rt.alloc(), &typed, "", PLACES_FILTERED, 7));
 }
 
 const LEAST_FIRST: &str = "sorted by busy, least first  ? shows the keys
@@ -271,6 +367,7 @@ self-wakes   2
 self share   66%
 last wake    999.9 ms ago
 sched        100 ns
+waiting      -
 clones       1
 drops        1
 handles      2
@@ -326,13 +423,15 @@ s      sorts them by how long they waited, scheduled
 p      sorts them by how many polls of them started
 w      sorts them by how often they were woken
 o      sorts them by how often they woke themselves
+h      sorts places by how long others waited while their tasks ran
 v      sorts them the other way round
 j, k   chooses the task below, or above, as arrows do
 d, u   goes a page down, or up, as Page Down and Page Up do
 <, >   chooses the first task, or the last, as Home and End do
-Enter  shows all of the chosen task, or not any more
+Enter  shows all of the chosen task or place, or not any more
 1..9   shows the task of the finding that has this number
 /      shows only tasks that a text names, by their name or their file; Enter ends it
+g      shows places, or tasks again
 r      shows resources and async operations, or not any more
 space  pauses, or goes on
 ?      shows this, or not any more
@@ -346,7 +445,7 @@ fn a_key_shows_the_keys(rt: HostRuntime) {
     assert!(rt; draws(rt.alloc(), &events, "", KEYS, 3));
 }
 
-// The screens of the first line, of the same in a pause, and of the second line.
+// The screens of the first line, of the same in a pause, before and after the second line came, and of that.
 const PAUSED: &str = "sorted by busy  ? shows the keys
 now 6 ns  tasks 1: 0 polling, 0 scheduled, 0 idle, 1 closed  findings 0
 no finding now; who holds up others can't be seen: the lines span 0 ns, and it takes at least 100.0 ms
@@ -354,6 +453,12 @@ no finding now; who holds up others can't be seen: the lines span 0 ns, and it t
 0 of 0 tasks
 
 sorted by busy  paused  ? shows the keys
+now 6 ns  tasks 1: 0 polling, 0 scheduled, 0 idle, 1 closed  findings 0
+no finding now; who holds up others can't be seen: the lines span 0 ns, and it takes at least 100.0 ms
+  TASK STATE         BUSY    SCHED  POLLS  WAKES SELF LOCATION        NAME                 KIND
+0 of 0 tasks
+
+sorted by busy  paused, 8 ns behind  ? shows the keys
 now 6 ns  tasks 1: 0 polling, 0 scheduled, 0 idle, 1 closed  findings 0
 no finding now; who holds up others can't be seen: the lines span 0 ns, and it takes at least 100.0 ms
   TASK STATE         BUSY    SCHED  POLLS  WAKES SELF LOCATION        NAME                 KIND
@@ -373,12 +478,13 @@ fn in_a_pause_what_was_shown_stays(rt: HostRuntime) {
         Bytes(FIRST),
         DUE,
         key(b' '),
+        DUE,
         Bytes(SECOND),
         DUE,
         key(b' '),
         DUE,
     ];
-    assert!(rt; draws(rt.alloc(), &events, "", PAUSED, 7));
+    assert!(rt; draws(rt.alloc(), &events, "", PAUSED, 8));
 }
 
 #[test]
@@ -418,6 +524,7 @@ fn ends<R: Threads + Wait + Clock + Copy + Send + Sync + Drop + 'static>(
             filter: b"",
             typed: Typed::none(),
             resources: false,
+            by_place: false,
         },
         lints: Lints::default(),
         canvas: Canvas::Plain,

@@ -1,6 +1,6 @@
 //! Screens, as they are read.
 
-use super::given::{Asked, Few, ODD, PLAIN, SEMAPHORE, comes_to};
+use super::given::{Asked, CLOSED, Few, ODD, PLAIN, SEMAPHORE, comes_to};
 use std::alloc::Global;
 use tk_frame::Column;
 use tk_screen::{Canvas, Size};
@@ -81,6 +81,7 @@ fn a_screen_is_read_as_text(rt: HostRuntime) {
         sort: Column::Wakes,
         filter: b"",
         resources: true,
+        by_place: false,
         canvas: Canvas::Plain,
     };
     assert!(rt; shows(rt.alloc(), ODD, PLAIN, ODD_SCREEN));
@@ -99,10 +100,32 @@ fn tasks_are_sorted_and_filtered(rt: HostRuntime) {
             sort,
             filter,
             resources: false,
+            by_place: false,
             canvas: Canvas::Plain,
         };
         assert!(rt; ends_with(rt.alloc(), asked, end));
     }
+}
+
+// What a place's one task came to, which has left.
+const LEFT_SCREEN: &str = "now 15 ns  tasks 0: 0 polling, 0 scheduled, 0 idle, 0 closed  findings 0
+no finding now; who holds up others can't be seen: the lines span 9 ns, and it takes at least 100.0 ms
+ PLACE           NAME       OPEN WAIT      RAN  LONGEST  POLLS   WAITED  HELD UP
+ script:2:1      a             0    0     0 ns        -      0     0 ns        -
+1 of 1 places
+
+";
+
+#[test]
+fn what_left_stays_in_its_place(rt: HostRuntime) {
+    let asked = Asked {
+        sort: Column::HeldUp,
+        filter: b"",
+        resources: false,
+        by_place: true,
+        canvas: Canvas::Plain,
+    };
+    assert!(rt; shows(rt.alloc(), CLOSED, asked, LEFT_SCREEN));
 }
 
 fn on_terminal(alloc: Global, lines: usize, colors: bool, wanted: &str) -> bool {
@@ -110,6 +133,7 @@ fn on_terminal(alloc: Global, lines: usize, colors: bool, wanted: &str) -> bool 
         sort: Column::Busy,
         filter: b"",
         resources: false,
+        by_place: false,
         canvas: Canvas::Terminal {
             size: Size { columns: 20, lines },
             colors,

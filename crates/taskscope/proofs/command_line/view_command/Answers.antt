@@ -1,13 +1,9 @@
-use Rattle.std.proofs.Common.{ap₂, ◌∙◌, ◌||◌}
-use Rattle.clap.specs.Simple.{with_rule}
+use Rattle.std.proofs.Common.{ap, ◌∙◌}
+use Rattle.taskscope.specs.Requests.{with_lints}
 use Rattle.taskscope.proofs.command_line.view_command.Goals as goal
 
 pub returns-clause-ok : goal.returns-clause-ok
-returns-clause-ok c =
-    let percent = c.in_ok-arg.ensures.shape c.number_arg-percent.ensures.local ∙ ap₂ with_rule c.in_ok-reading_command.ensures.ok c.number_arg-percent.ensures.rule in
-    c.in_ok-arg-2.ensures.shape c.number_arg-limit.ensures.local ∙ ap₂ with_rule percent c.number_arg-limit.ensures.rule
+returns-clause-ok c = c.in_ok-with_lints.ensures.ok ∙ ap with_lints c.in_ok-reading.ensures.ok
 
 pub returns-clause-local : goal.returns-clause-local
-returns-clause-local c =
-    let percent = c.in_ok-arg.ensures.globals ∙ ap₂ (λ a b. a || b) c.in_ok-reading_command.ensures.local c.number_arg-percent.ensures.local in
-    c.in_ok-arg-2.ensures.globals ∙ ap₂ (λ a b. a || b) percent c.number_arg-limit.ensures.local
+returns-clause-local c = c.in_ok-with_lints.ensures.local c.in_ok-reading.ensures.local

@@ -1,10 +1,10 @@
 use Rattle.std.proofs.Common.{◌≡◌, [], ◌∷◌, length, subst, ◌∙◌, ap}
 use Rattle.tk_screen.specs.Texts.{Puts}
 use Rattle.tk_screen.proofs.PutLemmas.{both}
-use Rattle.tk_frame.specs.Frames.{items_part, tasks_part, table_part}
+use Rattle.tk_frame.specs.Frames.{main_part}
 use Rattle.tk_frame.specs.Lines.{head_text, plain}
 use Rattle.tk_frame.specs.Pages.{page_of}
-use Rattle.tk_frame.specs.Queries.{shown_count, top_tasks}
+use Rattle.tk_frame.specs.Queries.{rows_count}
 use Rattle.tk_frame.specs.States.{states_of}
 use Rattle.tk_frame.proofs.lines.push_all.Goals as goal
 
@@ -12,12 +12,11 @@ pub returns : goal.returns
 returns c =
     let tables = c.args.tables.now in
     let query = c.args.query.now in
-    let page_is : c.page_of-page.result ≡ page_of c.args.rows 0 (shown_count query tables) = c.page_of-page.ensures ∙ ap (page_of c.args.rows 0) c.shown_count.ensures in
-    let top_is : c.items.result.now ≡ top_tasks query c.page_of-page.result.to tables = c.items.ensures ∙ c.in_ok-states.ensures.top in
-    let head : Puts c.args.lines.now.items c.push_head.new.lines.items (plain (head_text tables (states_of tables.tasks) (length c.args.odd.now.findings)) ∷ []) =
-    subst (λ s. Puts c.args.lines.now.items c.push_head.new.lines.items (plain (head_text tables s (length c.args.odd.now.findings)) ∷ [])) c.in_ok-states.ensures.states
-    (subst (λ n. Puts c.args.lines.now.items c.push_head.new.lines.items (plain (head_text tables c.in_ok-states.states n) ∷ [])) c.count.ensures c.in_ok-push_head.ensures) in
-    let table : Puts c.push_findings.new.lines.items c.push_table.new.lines.items (tasks_part query tables (page_of c.args.rows 0 (shown_count query tables))) =
-    subst (λ p. Puts c.push_findings.new.lines.items c.push_table.new.lines.items (tasks_part query tables p)) page_is
-    (subst (λ xs. Puts c.push_findings.new.lines.items c.push_table.new.lines.items (table_part tables xs c.page_of-page.result)) top_is c.in_ok-push_table.ensures) in
+    let odd = c.args.odd.now in
+    let page_is : c.page_of-page.result ≡ page_of c.args.rows 0 (rows_count query tables odd) = c.page_of-page.ensures ∙ ap (page_of c.args.rows 0) c.rows_count.ensures in
+    let head : Puts c.args.lines.now.items c.push_head.new.lines.items (plain (head_text tables (states_of tables.tasks) (length odd.findings)) ∷ []) =
+    subst (λ s. Puts c.args.lines.now.items c.push_head.new.lines.items (plain (head_text tables s (length odd.findings)) ∷ [])) c.states_in.ensures
+    (subst (λ n. Puts c.args.lines.now.items c.push_head.new.lines.items (plain (head_text tables c.states_in.result n) ∷ [])) c.count.ensures c.in_ok-push_head.ensures) in
+    let table : Puts c.push_findings.new.lines.items c.push_main.new.lines.items (main_part query tables odd (page_of c.args.rows 0 (rows_count query tables odd))) =
+    subst (λ p. Puts c.push_findings.new.lines.items c.push_main.new.lines.items (main_part query tables odd p)) page_is c.in_ok-push_main.ensures in
     both head (both c.in_ok-push_findings.ensures (both table c.in_ok-push_items.ensures))

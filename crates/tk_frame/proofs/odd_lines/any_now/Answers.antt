@@ -1,4 +1,4 @@
-use Rattle.std.proofs.Common.{sym, ◌∙◌, arith}
+use Rattle.std.proofs.Common.{sym, arith}
 use Rattle.tk_frame.proofs.FindingLemmas.{none_now, now_at}
 use Rattle.tk_frame.proofs.odd_lines.any_now.Goals as goal
 

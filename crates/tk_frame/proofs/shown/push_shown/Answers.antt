@@ -1,4 +1,4 @@
-use Rattle.std.proofs.Common.{◌≡◌, ℕ, List, OnOk, subst, sym, ap, ◌∙◌}
+use Rattle.std.proofs.Common.{◌≡◌, OnOk, subst, sym, ap, ◌∙◌}
 use Rattle.tk_screen.specs.Texts.{Puts}
 use Rattle.tk_frame.specs.Keys.{query_by}
 use Rattle.tk_frame.specs.Pages.{table_rows}

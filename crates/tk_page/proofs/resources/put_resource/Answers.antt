@@ -8,5 +8,6 @@ returns c =
     (then c.in_ok-put_resource_parent.ensures
     (then c.in_ok-put.ensures
     (then c.in_ok-put_attrs.ensures
+    (then c.in_ok-put_waiters.ensures
     (then c.in_ok-put_polls.ensures
-    (then c.in_ok-put_ops.ensures c.in_ok-put-2.ensures))))))
+    (then c.in_ok-put_ops.ensures c.in_ok-put-2.ensures)))))))

@@ -7,4 +7,4 @@ loop-place-init c = nothing c.args.paper.now
 
 pub loop-place-preserved : goal.loop-place-preserved
 loop-place-preserved c =
-    next_put (resource c.args.tables.now) c.args.tables.now.resources c.loop-place.place c.loop-place.invariant c.in_ok-put_resource_at.ensures
+    next_put (resource c.args.scale c.args.tables.now) c.args.tables.now.resources c.loop-place.place c.loop-place.invariant c.in_ok-put_resource_at.ensures

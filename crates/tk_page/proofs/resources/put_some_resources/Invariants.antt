@@ -6,4 +6,4 @@ use Rattle.tk_page.proofs.resources.put_some_resources.Given as goal
 
 -- the resources so far
 abbrev pub invariant-loop-place : goal.invariant-loop-place
-invariant-loop-place l = Writes l.initial.paper l.paper (flat_map (spec.resource l.tables) (take l.place l.tables.resources))
+invariant-loop-place l = Writes l.initial.paper l.paper (flat_map (spec.resource l.scale l.tables) (take l.place l.tables.resources))

@@ -11,6 +11,6 @@ returns-in_ok-course-in-Some c =
     let history = c.args.history.now in
     let old = c.args.paper.now in
     let new = c.put_task.new.paper in
-    let h = subst (λ xs. OnOk c.put_task.result (Writes old new (row_of c.args.scale c.args.signs.now xs c.in-Some.task.now)))
+    let h = subst (λ xs. OnOk c.put_task.result (Writes old new (row_of c.args.scale c.args.signs.now c.args.tables.now xs c.in-Some.task.now)))
     (c.kept.ensures ∙ c.in_ok-course-in-Some.ensures ∙ ap (kept_of history) c.value.ensures.value) c.put_task.ensures in
-    subst (λ o. OnOk c.put_task.result (Writes old new (option_map_or (row c.args.scale c.args.signs.now (courses_of history)) o []))) c.in-Some.ensures h
+    subst (λ o. OnOk c.put_task.result (Writes old new (option_map_or (row c.args.scale c.args.signs.now (courses_of history) c.args.tables.now) o []))) c.in-Some.ensures h

@@ -13,5 +13,5 @@ loop-rank-init c = nothing c.args.paper.now
 pub loop-rank-preserved : goal.loop-rank-preserved
 loop-rank-preserved c =
     let zero : Rank = record { calm = false; below = 0; place = 0 } in
-    next_of (row_at c.args.scale c.args.signs.now (courses_of c.args.history.now) c.args.tables.now.tasks) c.args.ranks.now c.loop-rank.rank-index zero (omega arith) c.loop-rank.invariant
+    next_of (row_at c.args.scale c.args.signs.now (courses_of c.args.history.now) c.args.tables.now) c.args.ranks.now c.loop-rank.rank-index zero (omega arith) c.loop-rank.invariant
     (c.in_ok-put_row.ensures)

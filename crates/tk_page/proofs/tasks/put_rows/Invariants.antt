@@ -7,4 +7,4 @@ use Rattle.tk_page.proofs.tasks.put_rows.Given as goal
 
 -- the rows so far
 abbrev pub invariant-loop-rank : goal.invariant-loop-rank
-invariant-loop-rank l = Writes l.initial.paper l.paper (flat_map (row_at l.scale l.signs (courses_of l.history) l.tables.tasks) (take l.rank-index l.ranks))
+invariant-loop-rank l = Writes l.initial.paper l.paper (flat_map (row_at l.scale l.signs (courses_of l.history) l.tables) (take l.rank-index l.ranks))

@@ -6,7 +6,8 @@ returns c =
     rw (c.has_any.ensures) at
     (then c.in_ok-put_name.ensures
     (then c.in_ok-put_badges.ensures
+    (then c.in_ok-put_awaited.ensures
     (then c.in_ok-put_state.ensures
     (then c.in_ok-put_strip.ensures
     (then c.in_ok-put.ensures
-    (then c.in_ok-put_numbers.ensures c.in_ok-put-2.ensures))))))
+    (then c.in_ok-put_numbers.ensures c.in_ok-put-2.ensures)))))))

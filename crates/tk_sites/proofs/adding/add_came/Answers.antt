@@ -6,8 +6,6 @@ use Rattle.tk_stream.specs.declared.tables.task.Task.{Task}
 use Rattle.tk_sites.specs.Adding.{AreThere}
 use Rattle.tk_series.specs.Limited.{limited, with_one}
 use Rattle.tk_sites.specs.Site.{room, site_of}
-use Rattle.tk_sites.specs.Sites.{came_entry}
-use Rattle.tk_sites.specs.Sums.{came, plus}
 use Rattle.tk_series.proofs.FoldLemmas.{item_more, items_all}
 use Rattle.tk_sites.proofs.adding.add_came.Goals as goal
 
@@ -18,10 +16,10 @@ at-place tables (t ∷ tasks) zero d there lt = there.0
 at-place tables (t ∷ tasks) (suc i) d there lt = at-place tables tasks i d there.1 (omega (arith, lt))
 
 pub loop-id-init : goal.loop-id-init
-loop-id-init c = λ before tasks is ids there. is ∙ ap (limited room plus) (sym (append-nil before))
+loop-id-init g c = λ before tasks is ids there. is ∙ ap (limited room g.V.Added.plus) (sym (append-nil before))
 
 pub loop-id-preserved : goal.loop-id-preserved
-loop-id-preserved c = λ before tasks is ids there.
+loop-id-preserved g c = λ before tasks is ids there.
     let i = c.loop-id.id-index in
     let id : ℕ = c.id-item.result in
     let there-now = c.args.tables.now.tasks in
@@ -30,10 +28,10 @@ loop-id-preserved c = λ before tasks is ids there.
     ∙ ap (λ (ns : List ℕ). task_with (get_or ns i id) there-now) ids
     ∙ at-place c.args.tables.now tasks i id there (subst (λ (ns : List ℕ). i < length ns) ids c.loop-id-test.true) in
     c.in_ok-add_came_one.ensures
-    ∙ ap₂ (λ o s. option_map_or (λ (t : Task). with_one plus (site_of t.info) came s) o s) here (c.loop-id.invariant before tasks is ids there)
-    ∙ sym (item_more room plus came_entry before tasks i)
+    ∙ ap₂ (λ o s. option_map_or (λ (t : Task). with_one g.V.Added.plus (site_of t.info) c.args.came s) o s) here (c.loop-id.invariant before tasks is ids there)
+    ∙ sym (item_more room g.V.Added.plus (λ (t : Task). (site_of t.info, c.args.came)) before tasks i)
 
 pub returns : goal.returns
-returns c = λ before tasks is ids there.
+returns g c = λ before tasks is ids there.
     c.loop-id.invariant before tasks is ids there
-    ∙ items_all room plus came_entry before tasks c.loop-id.id-index _ (ap length ids ∙ length-map tasks task_id) c.loop-id-test.false
+    ∙ items_all room g.V.Added.plus (λ (t : Task). (site_of t.info, c.args.came)) before tasks c.loop-id.id-index _ (ap length ids ∙ length-map tasks task_id) c.loop-id-test.false

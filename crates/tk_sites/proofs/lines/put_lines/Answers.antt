@@ -1,7 +1,7 @@
 use Rattle.std.proofs.Common.{◌+◌, subst, []}
 use Rattle.std.specs.Option.{option_map_or}
 use Rattle.tk_report.specs.Pieces.{Puts}
-use Rattle.tk_sites.specs.Lines.{more_site, site_line}
+use Rattle.tk_sites.specs.Lines.{more_site, timed_line}
 use Rattle.tk_sites.specs.declared.sums.Sums.{Sums}
 use Rattle.tk_sites.proofs.LineLemmas.{listed_put}
 use Rattle.tk_sites.proofs.lines.put_lines.Goals as goal
@@ -11,6 +11,6 @@ returns c =
     let sites = c.args.sites.now in
     let mid = c.put_own_lines.new.out.items in
     let end = c.put_more_line.new.out.items in
-    listed_put site_line sites c.in_ok-put_own_lines.ensures
-    (subst (λ n. Puts mid end (option_map_or (λ (s : Sums). site_line (n + 1) (more_site, s)) sites.rest [])) c.len.ensures.len
-    (subst (λ o. Puts mid end (option_map_or (λ (s : Sums). site_line (c.len.result + 1) (more_site, s)) o [])) c.rest.ensures c.in_ok-put_more_line.ensures))
+    listed_put (timed_line c.args.times.now) sites c.in_ok-put_own_lines.ensures
+    (subst (λ n. Puts mid end (option_map_or (λ (s : Sums). timed_line c.args.times.now (n + 1) (more_site, s)) sites.rest [])) c.len.ensures.len
+    (subst (λ o. Puts mid end (option_map_or (λ (s : Sums). timed_line c.args.times.now (c.len.result + 1) (more_site, s)) o [])) c.rest.ensures c.in_ok-put_more_line.ensures))

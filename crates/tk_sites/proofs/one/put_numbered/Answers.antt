@@ -11,7 +11,7 @@ pub returns-in-Some : goal.returns-in-Some
 returns-in-Some c =
     let sites = c.args.sites.now in
     let index = c.args.number - 1 in
-    let text = place_text (is_of sites.first index) c.args.number c.args.tables.now in
+    let text = place_text (is_of sites.first index) c.args.number c.args.tables.now c.args.own.now c.args.times.now in
     let place : List ℕ × Sums = (c.in-Some.site.now, c.in-Some.sums) in
     let own : Some place ≡ slice_get sites.first index = c.in-Some.ensures ∙ ap (slice_get sites.first) c.saturating_sub.ensures in
     let found : slice_get (listed sites) index ≡ Some place = there_first sites.first (more_of sites.rest) index place (sym own) in

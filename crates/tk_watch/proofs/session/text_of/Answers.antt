@@ -5,7 +5,7 @@ use Rattle.tk_watch.proofs.session.text_of.Goals as goal
 
 pub returns-in-Some : goal.returns-in-Some
 returns-in-Some c = λ st s.
-    subst (λ (t : List ℕ). IfOk c.text_by.result (λ text. text.items ≡ t)) (held_is c.args.screen.now st c.args.session.now c.in-Some.held s c.in-Some.is) c.text_by.ensures
+    subst (λ (t : List ℕ). IfOk c.text_of_held.result (λ text. text.items ≡ t)) (held_is c.args.screen.now st c.args.session.now c.in-Some.held s c.in-Some.is) c.text_of_held.ensures
 
 pub returns-in-None : goal.returns-in-None
 returns-in-None c = λ st s.

@@ -7,6 +7,6 @@ use Rattle.tk_watch.proofs.session.text_of_course.Goals as goal
 pub returns-in-Ok : goal.returns-in-Ok
 returns-in-Ok c = λ shown s.
     let screen = c.args.screen.now in
-    subst (λ (o : OddView). IfOk c.text_by.result (λ text. text.items ≡ asked_screen screen.canvas screen.query o c.args.asked.now c.args.course.now.client.start.tables))
+    subst (λ (o : OddView). IfOk c.text_by.result (λ text. text.items ≡ asked_screen screen.canvas screen.query o c.args.asked.now 0 c.args.course.now.client.start.tables))
     (c.in-Ok.ensures screen.lints shown s)
-    (subst (λ (t : TablesView). IfOk c.text_by.result (λ text. text.items ≡ asked_screen screen.canvas screen.query c.in-Ok.odd c.args.asked.now t)) c.tables.ensures c.text_by.ensures)
+    (subst (λ (t : TablesView). IfOk c.text_by.result (λ text. text.items ≡ asked_screen screen.canvas screen.query c.in-Ok.odd c.args.asked.now 0 t)) c.tables.ensures c.text_by.ensures)

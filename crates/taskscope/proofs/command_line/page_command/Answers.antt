@@ -1,0 +1,13 @@
+use Rattle.std.proofs.Common.{ap₂, ◌∙◌, ◌||◌}
+use Rattle.clap.specs.Simple.{with_rule}
+use Rattle.taskscope.proofs.command_line.page_command.Goals as goal
+
+pub returns-clause-ok : goal.returns-clause-ok
+returns-clause-ok c =
+    let polls = c.in_ok-arg.ensures.shape c.span_arg-long_poll.ensures.local ∙ ap₂ with_rule c.in_ok-view_command.ensures.ok c.span_arg-long_poll.ensures.rule in
+    c.in_ok-arg-2.ensures.shape c.text_arg-title.ensures.local ∙ ap₂ with_rule polls c.text_arg-title.ensures.rule
+
+pub returns-clause-local : goal.returns-clause-local
+returns-clause-local c =
+    let polls = c.in_ok-arg.ensures.globals ∙ ap₂ (λ a b. a || b) c.in_ok-view_command.ensures.local c.span_arg-long_poll.ensures.local in
+    c.in_ok-arg-2.ensures.globals ∙ ap₂ (λ a b. a || b) polls c.text_arg-title.ensures.local

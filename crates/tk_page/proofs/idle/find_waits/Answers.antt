@@ -1,0 +1,19 @@
+use Rattle.std.proofs.Common.{◌∙◌, ap, sym, arith}
+use Rattle.tk_page.specs.Idle.{waits_at}
+use Rattle.tk_page.proofs.LoopLemmas.{found_next, found_same, past_end}
+use Rattle.tk_page.proofs.idle.find_waits.Goals.{in-Some+then-waits_at+in_ok-push, in-Some+else-waits_at, in_default}
+use Rattle.tk_page.proofs.idle.find_waits.Goals as goal
+
+pub loop-place-preserved : goal.loop-place-preserved
+loop-place-preserved c =
+    let xs = c.args.tables.now.ops in
+    let i = c.loop-place.place in
+    elim c.match-op_at.branch [
+      | in-Some+then-waits_at+in_ok-push w ↦
+          found_next (λ t. t.now) (waits_at c.args.tables.now.tasks c.args.resource.now) xs i w.in-Some.op c.loop-place.found.items c.match-op_at.found.items w.in-Some.ensures
+          (sym w.waits_at.ensures ∙ w.if-waits_at.true) c.loop-place.invariant (ap (λ v. v.items) w.found-is ∙ w.in_ok-push.ensures.items)
+      | in-Some+else-waits_at w ↦
+          found_same (λ t. t.now) (waits_at c.args.tables.now.tasks c.args.resource.now) xs i w.in-Some.op.now c.loop-place.found.items c.match-op_at.found.items w.in-Some.ensures
+          (sym w.waits_at.ensures ∙ w.if-waits_at.false) c.loop-place.invariant (ap (λ v. v.items) w.found-is)
+      | in_default w ↦ absurd (omega (arith, past_end xs i w.in_default.ensures))
+    ]
