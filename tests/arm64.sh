@@ -56,7 +56,8 @@ over_arm64() {
 writes_the_same() {
     over_arm64 "$root/rust/taskscope-cli" build --release --locked && printf '#!/bin/sh\nexec qemu-aarch64-static "%s" "$@"\n' \
         "$work/target/$target/release/taskscope" > "$work/taskscope" && chmod +x "$work/taskscope" &&
-        TASKSCOPE=$work/taskscope "$root/tests/examples.sh"
+        # A comparison takes twenty times as long under qemu.
+        TASKSCOPE=$work/taskscope COMPARED_PAIRS=20 "$root/tests/examples.sh"
 }
 
 # A copy, since the workspace has members that need more packages.
